@@ -1,0 +1,4 @@
+pub mod Choices
+pub mod ThreadRows
+pub mod MutexRows
+pub mod Kept

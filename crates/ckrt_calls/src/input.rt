@@ -1,0 +1,54 @@
+//! The console's input.
+ghost use Rattle.std.specs.Prelude.{◌≡◌, ◌+◌, ◌≤◌, ◌++◌, [], length, IfOk};
+
+use circular_buffer::HeapCircularBuffer;
+use std::alloc::{AllocError, Global};
+use std::marker::Model;
+
+/// How many bytes of input may wait to be read. This project's choice.
+pub const INPUT_LIMIT: usize = 4_096;
+
+/// The bytes of input that no thread has read yet, first one first: at most [`INPUT_LIMIT`].
+/// Its memory is taken by [`InputQueue::new`] alone.
+#[derive(Drop)]
+pub struct InputQueue {
+    bytes: HeapCircularBuffer<u8>,
+}
+
+impl Model for InputQueue {
+    ghost use Rattle.std.specs.Prelude.{ℕ, List, length, ◌≡◌, ◌≤◌};
+    ghost use Rattle.ckrt_calls.specs.declared.input.TheConstants.{INPUT_LIMIT};
+
+    ghost Value = { List ℕ };
+
+    ghost view = { λ q. q.bytes.items };
+
+    ghost invariant = { λ q. (q.bytes.capacity ≡ INPUT_LIMIT) × (length q.bytes.items ≤ INPUT_LIMIT) };
+}
+
+impl InputQueue {
+    /// An empty queue. The only error is that the memory for it is refused.
+    pub fn new(alloc: Global) -> Result<Self, AllocError>
+        ensures { IfOk result (λ queue. queue ≡ []) }
+    {
+        Ok(InputQueue {
+            bytes: HeapCircularBuffer::with_capacity(alloc, INPUT_LIMIT)?,
+        })
+    }
+
+    /// How many bytes wait to be read, at most [`INPUT_LIMIT`].
+    pub fn len(&self) -> usize
+        ensures len { result ≡ length self.now }
+        ensures within { result ≤ INPUT_LIMIT }
+    {
+        self.bytes.len()
+    }
+
+    /// Appends bytes. There must be room for them.
+    pub fn append(&mut self, bytes: &[u8])
+        requires { length self.old + length bytes.now ≤ INPUT_LIMIT }
+        ensures { self.new ≡ self.old ++ bytes.now }
+    {
+        self.bytes.fill_from_slice(bytes);
+    }
+}

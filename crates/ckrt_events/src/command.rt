@@ -1,0 +1,73 @@
+ghost use Rattle.std.specs.Prelude.{IsTrue, ◌↔◌, ◌≡◌};
+
+use crate::event::Event;
+use thiserror::Error;
+
+/// What a line asks of the service.
+#[derive(Clone, Debug, Drop, PartialEq, Eq)]
+pub enum Command {
+    /// One event.
+    Submit(Event),
+    /// The next ready thread goes onto a hart, which then executes: the hart, 0 to 7, and the steps at most, 1 to 65,535.
+    Auto(u8, u16),
+    /// What was accepted becomes durable, by the journal.
+    Commit,
+    /// What was accepted becomes durable, by a copy of the whole machine. No line asks for it yet.
+    Checkpoint,
+    /// The end of the service.
+    Quit,
+    /// A line without words, which has no reply.
+    Blank,
+}
+
+impl Command {
+    ghost use Rattle.ckrt_events.specs.Line.{IsInRangeCommand};
+
+    /// Whether each field is in its range.
+    pub fn in_range(&self) -> bool
+        ensures { IsTrue result ↔ IsInRangeCommand self.now }
+    {
+        match self {
+            Command::Submit(event) => event.in_range(),
+            Command::Auto(hart, steps) => *hart <= 7 && 1 <= *steps,
+            Command::Commit | Command::Checkpoint | Command::Quit | Command::Blank => true,
+        }
+    }
+}
+
+/// Why a line has no meaning. Its text is its name.
+#[derive(Clone, Copy, Debug, PartialEq, Eq, Error)]
+pub enum LineFault {
+    /// The first word is no command's, or the count of words isn't that command's.
+    #[error("Unknown")]
+    Unknown,
+    /// A number has a byte that is no decimal digit.
+    #[error("Number")]
+    Number,
+    /// The bytes of input aren't pairs of hexadecimal digits.
+    #[error("Hex")]
+    Hex,
+    /// A number, or the count of the bytes of input, is out of its range.
+    #[error("Range")]
+    Range,
+    /// The line has more bytes than [`crate::LINE_LIMIT`].
+    #[error("TooLong")]
+    TooLong,
+}
+
+impl LineFault {
+    ghost use Rattle.ckrt_events.specs.Line.{code_of};
+
+    /// The number by which a reply names the fault, 31 to 35.
+    pub fn code(self) -> u8
+        ensures { result ≡ code_of self }
+    {
+        match self {
+            LineFault::Unknown => 31,
+            LineFault::Number => 32,
+            LineFault::Hex => 33,
+            LineFault::Range => 34,
+            LineFault::TooLong => 35,
+        }
+    }
+}

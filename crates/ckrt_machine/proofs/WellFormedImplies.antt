@@ -1,0 +1,60 @@
+-- What well-formed tables imply for a program.
+use Rattle.std.proofs.Common.{◌≡◌, ℕ, ◌+◌, ◌≤◌, cond, Bool, true, false, is_some, is_none, Option, Some, None, List, [], ◌∷◌, IfSome, refl, arith}
+use Rattle.std.specs.List.{find, list_all}
+use Rattle.std.proofs.lemmas.Bool.Decides.{nat_tests}
+use Rattle.ckrt_thread.specs.declared.records.Wait.{Wait}
+use Rattle.ckrt_thread.specs.declared.records.Object.TheVariants as object
+use Rattle.ckrt_thread.specs.declared.records.Reason.{Reason}
+use Rattle.ckrt_thread.specs.declared.records.Reason.TheVariants as reason
+use Rattle.ckrt_thread.specs.Waits.{is_for, is_of, is_reason_for}
+use Rattle.ckrt_thread.specs.State.{count_of, first_waiter, is_live, is_waiting}
+use Rattle.ckrt_thread.proofs.Known.{if_on_hart}
+use Rattle.ckrt_mutex.specs.declared.address_map.Entry.{Entry}
+use Rattle.ckrt_mutex.specs.declared.records.Mutex.{Mutex}
+use Rattle.ckrt_mutex.specs.Mutex.{mutex_at, is_owned}
+use Rattle.ckrt_mutex.specs.Rows.{mutex_rule, mutex_of}
+use Rattle.ckrt_mutex.specs.WellFormed.{meets, meets_at, waits_at_owned}
+use Rattle.ckrt_calls.specs.declared.table.Tables.{Tables}
+use Rattle.ckrt_calls.specs.WellFormed.{IsWellFormed}
+use Rattle.ckrt_machine.specs.Steps.{hart_of}
+
+-- who waits to lock or to retake a mutex waits at one that is owned
+at_owned_by : (a : ℕ) (ms : List (Entry Mutex)) (w : Wait) (r : Reason) → w.reason ≡ r → is_reason_for (object.Mutex a) r ≡ true → meets_at waits_at_owned ms (mutex_of r) w ≡ true → is_owned (mutex_at a ms) ≡ true
+at_owned_by a ms w reason.Input e f h = absurd (cc)
+at_owned_by a ms w reason.Sleep e f h = absurd (cc)
+at_owned_by a ms w (reason.Join i) e f h = absurd (cc)
+at_owned_by a ms w (reason.Lock m) e f h =
+    let same : a ≡ m = grind (arith, nat_tests) in
+    rw same (rw e at h)
+at_owned_by a ms w (reason.Retake m v) e f h =
+    let same : a ≡ m = grind (arith, nat_tests) in
+    rw same (rw e at h)
+at_owned_by a ms w (reason.Condition c m) e f h = absurd (cc)
+at_owned_by a ms w (reason.Barrier b) e f h = absurd (cc)
+at_owned_by a ms w (reason.Read l) e f h = absurd (cc)
+at_owned_by a ms w (reason.Write l) e f h = absurd (cc)
+
+first_at_owned : (a : ℕ) (ms : List (Entry Mutex)) (ws : List Wait) (w : Wait) → find (is_for (object.Mutex a)) ws ≡ Some w → list_all (meets waits_at_owned ms) ws ≡ true → is_owned (mutex_at a ms) ≡ true
+first_at_owned a ms [] w e h = absurd (cc)
+first_at_owned a ms (v ∷ ws) w e h = grind (arith, nat_tests, first_at_owned a ms ws w, at_owned_by a ms v v.reason refl)
+
+owned_not_none : (o : Option ℕ) → is_some o ≡ true → is_none o ≡ false
+owned_not_none None e = absurd (cc)
+owned_not_none (Some t) e = refl
+
+not_admissible : (a : ℕ) (s : Tables) (o : Option Wait) → first_waiter (object.Mutex a) s.threads ≡ o → IsWellFormed s → IfSome o (λ w. (mutex_rule a).is_admissible (mutex_at a s.mutexes) w ≡ false)
+not_admissible a s None e h = tt
+not_admissible a s (Some w) e h = owned_not_none (mutex_at a s.mutexes).owner (first_at_owned a s.mutexes s.threads.waits w e h.mutexes.nobody_waits_at_a_free_mutex)
+
+pub no_admissible_wait : (s : Tables) (a : ℕ) → IsWellFormed s → IfSome (first_waiter (object.Mutex a) s.threads) (λ w. (mutex_rule a).is_admissible (mutex_at a s.mutexes) w ≡ false)
+no_admissible_wait s a h = not_admissible a s (first_waiter (object.Mutex a) s.threads) refl h
+
+at_most : (n k : ℕ) (b : Bool) → n + k ≤ cond b 1 0 → n ≤ 1
+at_most n k true l = omega arith
+at_most n k false l = omega arith
+
+pub waits_once : (s : Tables) (t : ℕ) → IsWellFormed s → count_of (is_of t) s.threads.waits ≤ 1
+waits_once s t h = at_most _ _ (is_live s.threads t) (h.threads.placed t)
+
+pub ready_on_hart : (s : Tables) (n : ℕ) → IsWellFormed s → IfSome (hart_of s n) (λ t. (is_live s.threads t ≡ true) × (is_waiting s.threads t ≡ false))
+ready_on_hart s n h = if_on_hart s.threads n (hart_of s n) refl h.threads

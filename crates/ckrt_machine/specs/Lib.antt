@@ -1,0 +1,6 @@
+pub mod Bursts
+pub mod Steps
+pub mod Runs
+pub mod Refusals
+pub mod Plans
+pub mod Events

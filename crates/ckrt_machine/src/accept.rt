@@ -1,0 +1,96 @@
+//! Which events are refused.
+ghost use Rattle.std.specs.Prelude.{◌≡◌, ℕ};
+ghost use Rattle.ckrt_events.specs.declared.event.Event.TheVariants.{Place, Run, Input, Eof, Tick};
+ghost use Rattle.ckrt_machine.specs.Refusals.{refusal_in, running_refusal};
+
+use crate::event::Refusal;
+use crate::hart::{RUN_OUTPUT, is_running};
+use arrayvec::ArrayVec;
+use ckrt_calls::{INPUT_LIMIT, Tables};
+use ckrt_events::Event;
+
+/// How many bytes of output may be held.
+const OUTPUT_LIMIT: usize = 16_384;
+/// The clock, which counts ticks, stays below this.
+const CLOCK_END: u64 = 1 << 63;
+
+/// The first reason to refuse the event where so many bytes of output are held, if there is one.
+pub fn refusal(tables: &Tables, held: usize, event: &Event) -> Option<Refusal>
+    ensures { result ≡ refusal_in held event.now tables.now }
+{
+    if is_running(tables) {
+        running_refusal(tables, held, event)
+    } else {
+        Some(Refusal::Ended)
+    }
+}
+
+/// The same while the program runs.
+fn running_refusal(tables: &Tables, held: usize, event: &Event) -> Option<Refusal>
+    ensures { result ≡ running_refusal held event.now tables.now }
+{
+    match event {
+        Event::Place(hart, thread) => place_refusal(tables, *hart, *thread),
+        Event::Run(hart, _) => run_refusal(tables, held, *hart),
+        Event::Input(bytes) => input_refusal(tables, bytes),
+        Event::Eof => eof_refusal(tables),
+        Event::Tick(ticks) => tick_refusal(tables, *ticks),
+    }
+}
+
+fn place_refusal(tables: &Tables, hart: u8, thread: u8) -> Option<Refusal>
+    ensures { (held : ℕ) → result ≡ running_refusal held (Place hart thread) tables.now }
+{
+    if usize::from(hart) >= tables.threads.hart_count() {
+        return Some(Refusal::NoSuchHart);
+    }
+    if tables.threads.thread(u32::from(thread)).is_none() {
+        return Some(Refusal::NoSuchThread);
+    }
+    if !tables.threads.is_ready(thread) {
+        return Some(Refusal::NotReady);
+    }
+    None
+}
+
+fn run_refusal(tables: &Tables, held: usize, hart: u8) -> Option<Refusal>
+    ensures { (limit : ℕ) → result ≡ running_refusal held (Run hart limit) tables.now }
+{
+    if usize::from(hart) >= tables.threads.hart_count() {
+        return Some(Refusal::NoSuchHart);
+    }
+    if tables.threads.on_hart(usize::from(hart)).is_none() {
+        return Some(Refusal::HartIdle);
+    }
+    if held > OUTPUT_LIMIT - RUN_OUTPUT {
+        return Some(Refusal::OutputFull);
+    }
+    None
+}
+
+fn input_refusal(tables: &Tables, bytes: &ArrayVec<u8, 64>) -> Option<Refusal>
+    ensures { (held : ℕ) → result ≡ running_refusal held (Input bytes.now) tables.now }
+{
+    if tables.closed {
+        return Some(Refusal::InputClosed);
+    }
+    if tables.input.len() + bytes.len() > INPUT_LIMIT {
+        return Some(Refusal::InputFull);
+    }
+    None
+}
+
+fn eof_refusal(tables: &Tables) -> Option<Refusal>
+    ensures { (held : ℕ) → result ≡ running_refusal held Eof tables.now }
+{
+    tables.closed.then_some(Refusal::InputClosed)
+}
+
+fn tick_refusal(tables: &Tables, ticks: u32) -> Option<Refusal>
+    ensures { (held : ℕ) → result ≡ running_refusal held (Tick ticks) tables.now }
+{
+    if tables.clock >= CLOCK_END - u64::from(ticks) {
+        return Some(Refusal::ClockEnd);
+    }
+    None
+}

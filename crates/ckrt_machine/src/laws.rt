@@ -1,0 +1,28 @@
+//! Laws of states and of the plain fold. Each is the contract of a function with an empty body.
+ghost use Rattle.std.specs.Prelude.{◌≡◌, ◌≤◌, ◌++◌, ◌∷◌, [], ℕ, List, IfSome, true, false};
+ghost use Rattle.ckrt_thread.specs.declared.records.Object.TheVariants.{Mutex};
+ghost use Rattle.ckrt_thread.specs.Waits.{is_of};
+ghost use Rattle.ckrt_thread.specs.State.{count_of, first_waiter, is_live, is_waiting};
+ghost use Rattle.ckrt_mutex.specs.Mutex.{mutex_at};
+ghost use Rattle.ckrt_mutex.specs.Rows.{mutex_rule};
+ghost use Rattle.ckrt_calls.specs.declared.table.Tables.{Tables};
+ghost use Rattle.ckrt_calls.specs.WellFormed.{IsWellFormed};
+ghost use Rattle.ckrt_events.specs.declared.event.Event.{Event};
+ghost use Rattle.ckrt_machine.specs.Steps.{State, hart_of};
+ghost use Rattle.ckrt_machine.specs.Events.{AllAccepted, IsAccepted, fold, output_of, step};
+
+/// One more event is applied behind the others: its effect is that of a step on what they left, its
+/// bytes follow theirs, and where they are accepted and it is, all are.
+pub fn folds_on()
+    ensures state { (es : List Event) (e : Event) (s : State) → (fold (es ++ e ∷ []) s).state ≡ (step e (fold es s).state).state }
+    ensures output { (es : List Event) (e : Event) (s : State) → output_of (es ++ e ∷ []) s ≡ output_of es s ++ (step e (fold es s).state).output }
+    ensures accepted { (es : List Event) (e : Event) (s : State) → AllAccepted es s → IsAccepted e (fold es s).state → AllAccepted (es ++ e ∷ []) s }
+{}
+
+/// What well-formed tables imply, in plain words: nobody is left waiting at a free mutex, no thread
+/// waits twice, and who is on a hart has not ended and waits for nothing.
+pub fn well_formed_implies()
+    ensures mutexes { (s : Tables) (a : ℕ) → IsWellFormed s → IfSome (first_waiter (Mutex a) s.threads) (λ w. (mutex_rule a).is_admissible (mutex_at a s.mutexes) w ≡ false) }
+    ensures waits { (s : Tables) (t : ℕ) → IsWellFormed s → count_of (is_of t) s.threads.waits ≤ 1 }
+    ensures harts { (s : Tables) (h : ℕ) → IsWellFormed s → IfSome (hart_of s h) (λ t. (is_live s.threads t ≡ true) × (is_waiting s.threads t ≡ false)) }
+{}

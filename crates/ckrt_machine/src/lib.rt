@@ -1,0 +1,15 @@
+//! A machine: harts, the threads of a program, and its memory. It goes on by events alone, so the
+//! same events always lead to the same state and the same output.
+#![tactic(auto)]
+
+mod accept;
+mod burst;
+mod event;
+mod hart;
+mod laws;
+mod machine;
+mod plan;
+
+pub use event::{Answer, How, Refusal};
+pub use laws::{folds_on, well_formed_implies};
+pub use machine::Machine;

@@ -1,0 +1,155 @@
+//! The machine.
+ghost use Rattle.std.specs.Prelude.{◌≡◌, ◌<◌, ◌≤◌, ◌*◌, ◌-◌, ◌↔◌, [], length, None, Some, IfOk, IsErrOf, MatchResult};
+ghost use Rattle.ckrt_memory.specs.declared.MemoryError.TheVariants.{ImageTooLong};
+ghost use Rattle.ckrt_calls.specs.WellFormed.{IsWellFormed};
+ghost use Rattle.ckrt_events.specs.Bytes.{IsInRange};
+ghost use Rattle.ckrt_machine.specs.Events.{fresh, step, refusal_of, planned};
+
+use crate::accept::refusal;
+use crate::event::{Answer, Refusal};
+use crate::hart::{place, run};
+use crate::plan::plan;
+use arrayvec::ArrayVec;
+use ckrt_calls::{Status, Tables, close_input, take_input, tick};
+use ckrt_events::Event;
+use ckrt_memory::{Memory, MemoryError};
+use ckrt_rv32i::Bus;
+use std::alloc::Global;
+use std::marker::Model;
+
+/// A program that runs: its memory, its threads on the harts, and what else its calls work on. It
+/// changes by events alone. All room is taken by [`Machine::new`].
+#[derive(Drop)]
+pub struct Machine {
+    memory: Memory,
+    tables: Tables,
+    output: ArrayVec<u8, 1024>,
+}
+
+impl Model for Machine {
+    ghost use Rattle.ckrt_calls.specs.WellFormed.{IsWellFormed};
+    ghost use Rattle.ckrt_machine.specs.Events.{Machine};
+
+    ghost Value = { Machine };
+
+    ghost view = { λ m. record { state = record { bytes = m.memory; tables = m.tables }; output = m.output.items } };
+
+    ghost invariant = { λ m. IsWellFormed m.tables };
+}
+
+impl Machine {
+    /// A program that begins: thread 1, ready, with the image at the start of page 1, and idle
+    /// harts. `pages` counts page 0 too, which is never valid: 16 to 1,024; `harts` is 1 to 8.
+    pub fn new(alloc: Global, pages: u32, harts: usize, image: &[u8]) -> Result<Self, MemoryError>
+        requires pages { (16 ≤ pages) × (pages ≤ 1024) }
+        requires harts { (1 ≤ harts) × (harts ≤ 8) }
+        ensures fresh { IfOk result (λ m. m.state ≡ fresh pages harts image.now) }
+        ensures output { IfOk result (λ m. m.output ≡ []) }
+        ensures well_formed { IfOk result (λ m. IsWellFormed m.state.tables) }
+        ensures too_long { IsErrOf result ImageTooLong ↔ (4096 * (pages - 1) < length image.now) }
+    {
+        let memory = Memory::new(alloc, pages, image)?;
+        let tables = Tables::new(alloc, pages, harts)?;
+        Ok(Machine {
+            memory,
+            tables,
+            output: ArrayVec::new(),
+        })
+    }
+
+    /// What holds of every machine: its tables are well-formed, and its memory is below 4 MiB.
+    pub fn known(&self)
+        ensures well_formed { IsWellFormed self.now.state.tables }
+        ensures memory { length self.now.state.bytes < 4194304 }
+    {
+        self.memory.known();
+    }
+
+    /// Whether the program runs, and else how it ended.
+    pub fn status(&self) -> Status
+        ensures { result ≡ self.now.state.tables.status }
+    {
+        self.tables.status
+    }
+
+    /// The tables.
+    pub fn tables(&self) -> &Tables
+        ensures tables { result.now ≡ self.now.state.tables }
+        ensures well_formed { IsWellFormed result.now }
+    {
+        &self.tables
+    }
+
+    /// The memory.
+    pub fn memory(&self) -> &Memory
+        ensures { result.now ≡ self.now.state.bytes }
+    {
+        &self.memory
+    }
+
+    /// The bytes that the last step put, at most 1,024.
+    pub fn last_output(&self) -> &[u8]
+        ensures output { result.now ≡ self.now.output }
+        ensures within { length result.now ≤ 1024 }
+    {
+        self.output.as_slice()
+    }
+
+    /// Whether the event is accepted where `held` bytes of output aren't confirmed yet, and else
+    /// the first reason to refuse it.
+    pub fn accept(&self, held: usize, event: &Event) -> Result<(), Refusal>
+        ensures refusal { MatchResult result (λ _. refusal_of held event.now self.now.state ≡ None) (λ refusal. refusal_of held event.now self.now.state ≡ Some refusal) }
+        ensures accepted { IfOk result (λ _. refusal_of 0 event.now self.now.state ≡ None) }
+    {
+        match refusal(&self.tables, held, event) {
+            Some(refusal) => Err(refusal),
+            None => Ok(()),
+        }
+    }
+
+    /// Applies an event that is accepted, whatever output is held.
+    pub fn step(&mut self, event: &Event) -> Answer
+        requires in_range { IsInRange event.now }
+        requires accepted { refusal_of 0 event.now self.old.state ≡ None }
+        ensures step { record { state = self.new.state; answer = result; output = self.new.output } ≡ step event.now self.old.state }
+        ensures well_formed { IsWellFormed self.new.state.tables }
+        ensures follows { ⟦<Memory as Bus>⟧.Follows self.old.state.bytes self.new.state.bytes }
+    {
+        self.output.clear();
+        match event {
+            Event::Place(hart, thread) => {
+                place(&mut self.tables, *hart, *thread);
+                Answer::Placed
+            }
+            Event::Run(hart, limit) => {
+                let limit = u32::from(*limit);
+                let (left, how) = run(
+                    &mut self.memory,
+                    &mut self.tables,
+                    &mut self.output,
+                    usize::from(*hart),
+                    limit,
+                );
+                Answer::Ran(limit - left, how)
+            }
+            Event::Input(bytes) => {
+                take_input(&mut self.tables, bytes.as_slice());
+                Answer::Taken(bytes.len() as u32)
+            }
+            Event::Eof => {
+                close_input(&mut self.tables);
+                Answer::Closed
+            }
+            Event::Tick(ticks) => Answer::Ticked(tick(&mut self.tables, *ticks)),
+        }
+    }
+
+    /// The thread to put onto the hart next, if there is one: the least ready id on no hart that is
+    /// above the id of who is on the hart (0 if it is idle), else the least such id at all. None
+    /// where the program has ended or the machine has no such hart.
+    pub fn planned(&self, hart: u8) -> Option<u8>
+        ensures { result ≡ planned hart self.now.state.tables }
+    {
+        plan(&self.tables, hart)
+    }
+}

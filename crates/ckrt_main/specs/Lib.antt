@@ -1,0 +1,4 @@
+pub mod View
+pub mod Replies
+pub mod Transcript
+pub mod Service

@@ -1,0 +1,6 @@
+pub mod AddressMap
+pub mod Granting
+pub mod InUse
+pub mod Rows
+pub mod Table
+pub mod WellFormed

@@ -1,0 +1,7 @@
+use Rattle.std.proofs.Common.{sym, ◌∙◌}
+use Rattle.ckrt_mutex.proofs.WellFormed.{room_of_not_full}
+use Rattle.ckrt_mutex.proofs.mutexes.Mutexes.set_kind.Goals as goal
+
+pub put-requires-clause-room : goal.put-requires-clause-room
+put-requires-clause-room c =
+    room_of_not_full c.args.address c.args.threads.now c.args.self.now c.known.ensures.table c.requires.few (sym c.is_full.ensures ∙ c.if-is_full.false)

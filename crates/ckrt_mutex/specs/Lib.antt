@@ -1,0 +1,5 @@
+pub mod AddressMap
+pub mod InUse
+pub mod Mutex
+pub mod Rows
+pub mod WellFormed

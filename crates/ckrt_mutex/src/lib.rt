@@ -1,0 +1,12 @@
+//! Mutexes of a guest program, over its table of threads (POSIX.1-2017, pthread_mutex_init, pthread_mutex_lock and
+//! their companions).
+#![tactic(auto)]
+
+mod address_map;
+mod in_use;
+mod mutexes;
+mod records;
+
+pub use address_map::Entry;
+pub use mutexes::Mutexes;
+pub use records::{Kind, Mutex};

@@ -1,0 +1,351 @@
+//! The calls on mutexes.
+ghost use Rattle.std.specs.Prelude.{◌≡◌, ◌<◌, ◌≤◌, length, true, false, []};
+ghost use Rattle.ckrt_thread.specs.State.{is_live, is_waiting};
+ghost use Rattle.ckrt_mutex.specs.AddressMap.{has_room};
+ghost use Rattle.ckrt_mutex.specs.Mutex.{mutex_at, put, free, is_proper, is_available, is_owned, IsTable};
+ghost use Rattle.ckrt_mutex.specs.Rows.{init_row, destroy_row, lock_row, trylock_row, taken, unlock_row, released, retake_row, used_count, is_full, is_busy};
+ghost use Rattle.ckrt_mutex.specs.WellFormed.{IsWellFormedWith, can_retake};
+ghost use Rattle.ckrt_mutex.specs.declared.records.Kind.TheVariants.{Normal};
+
+use crate::address_map::{Entry, get, remove, store};
+use crate::in_use::{is_full, is_named_by_wait};
+use crate::records::{Kind, Mutex};
+use arrayvec::ArrayVec;
+use ckrt_thread::{
+    CallResult, EAGAIN, EBUSY, EDEADLK, EINVAL, EPERM, Object, Reason, RetakeResult, Threads,
+};
+use std::marker::Model;
+
+/// The mutexes of a program, by their addresses. An address at which no mutex was initialised has a free normal one.
+/// At most 256 are in use: owned, or not normal, or named by a wait.
+#[derive(Drop)]
+pub struct Mutexes {
+    table: ArrayVec<Entry<Mutex>, 256>,
+}
+
+impl Model for Mutexes {
+    ghost use Rattle.std.specs.Prelude.{List};
+    ghost use Rattle.ckrt_mutex.specs.declared.address_map.Entry.{Entry};
+    ghost use Rattle.ckrt_mutex.specs.declared.records.Mutex.{Mutex};
+    ghost use Rattle.ckrt_mutex.specs.Mutex.{IsTable};
+
+    ghost Value = { List (Entry Mutex) };
+
+    ghost view = { λ a. a.table.items };
+
+    ghost invariant = { λ a. IsTable a.table.items };
+}
+
+impl Mutexes {
+    /// Each mutex is free and normal.
+    pub fn new() -> Self
+        ensures { result ≡ [] }
+    {
+        Mutexes {
+            table: ArrayVec::new(),
+        }
+    }
+
+    /// What always holds of the table.
+    pub fn known(&self)
+        ensures table { IsTable self.now }
+        ensures size { length self.now ≤ 256 }
+    {
+        let _ = self.table.as_slice();
+    }
+
+    /// The mutex at an address.
+    #[tactic(auto, using(crate::proofs::Table::proper_at))]
+    pub fn mutex(&self, address: u32) -> Mutex
+        ensures mutex { result ≡ mutex_at address self.now }
+        ensures proper { is_proper result ≡ true }
+    {
+        get(self.table.as_slice(), address).unwrap_or(Mutex::free(Kind::Normal))
+    }
+
+    /// Whether the mutex is not in use, and 256 others are.
+    pub fn is_full(&self, threads: &Threads, address: u32) -> bool
+        ensures { result ≡ is_full address threads.now self.now }
+    {
+        is_full(threads, self.table.as_slice(), address)
+    }
+
+    /// Whether the mutex is owned, or named by a wait.
+    fn is_busy(&self, threads: &Threads, address: u32) -> bool
+        ensures { result ≡ is_busy address threads.now self.now }
+    {
+        self.mutex(address).is_owned() || is_named_by_wait(threads, address)
+    }
+
+    /// The mutex at an address becomes this one.
+    fn put(&mut self, address: u32, mutex: Mutex)
+        requires room { has_room 256 address self.old ≡ true }
+        requires proper { is_proper mutex ≡ true }
+        ensures { self.new ≡ put address mutex self.old }
+    {
+        if mutex.is_plain() {
+            remove(&mut self.table, address);
+        } else {
+            store(&mut self.table, address, mutex);
+        }
+    }
+
+    /// The mutex at an address is free and normal from now on.
+    fn forget(&mut self, address: u32)
+        ensures { self.new ≡ put address (free Normal) self.old }
+    {
+        remove(&mut self.table, address);
+    }
+
+    /// Initialises a mutex of a kind, 0 normal, 1 recursive or 2 error-checking (POSIX.1-2017, pthread_mutex_init).
+    /// Another kind is EINVAL; a mutex that is owned or named by a wait is EBUSY; a kind other than normal is EAGAIN
+    /// where 256 other mutexes are in use; else 0.
+    pub fn init(&mut self, threads: &mut Threads, address: u32, kind: u32) -> CallResult
+        requires well_formed { IsWellFormedWith threads.old self.old }
+        ensures well_formed { IsWellFormedWith threads.new self.new }
+        ensures result { result ≡ (init_row address kind threads.old self.old).result }
+        ensures threads { threads.new ≡ (init_row address kind threads.old self.old).threads }
+        ensures mutexes { self.new ≡ (init_row address kind threads.old self.old).mutexes }
+    {
+        self.set_kind(threads, address, kind)
+    }
+
+    /// The row of `init`.
+    fn set_kind(&mut self, threads: &mut Threads, address: u32, kind: u32) -> CallResult
+        requires few { used_count threads.old self.old ≤ 256 }
+        ensures result { result ≡ (init_row address kind threads.old self.old).result }
+        ensures threads { threads.new ≡ (init_row address kind threads.old self.old).threads }
+        ensures mutexes { self.new ≡ (init_row address kind threads.old self.old).mutexes }
+    {
+        let Some(kind) = Kind::from_number(kind) else {
+            return CallResult::Done(EINVAL);
+        };
+        if self.is_busy(threads, address) {
+            return CallResult::Done(EBUSY);
+        }
+        if matches!(kind, Kind::Normal) {
+            self.forget(address);
+            return CallResult::Done(0);
+        }
+        if self.is_full(threads, address) {
+            return CallResult::Done(EAGAIN);
+        }
+        self.known();
+        self.put(address, Mutex::free(kind));
+        CallResult::Done(0)
+    }
+
+    /// Destroys a mutex, which is free and normal again (POSIX.1-2017, pthread_mutex_destroy). One that is owned or
+    /// named by a wait is EBUSY; else 0.
+    pub fn destroy(&mut self, threads: &mut Threads, address: u32) -> CallResult
+        requires well_formed { IsWellFormedWith threads.old self.old }
+        ensures well_formed { IsWellFormedWith threads.new self.new }
+        ensures result { result ≡ (destroy_row address threads.old self.old).result }
+        ensures threads { threads.new ≡ (destroy_row address threads.old self.old).threads }
+        ensures mutexes { self.new ≡ (destroy_row address threads.old self.old).mutexes }
+    {
+        self.forget_idle(threads, address)
+    }
+
+    /// The row of `destroy`.
+    fn forget_idle(&mut self, threads: &mut Threads, address: u32) -> CallResult
+        ensures result { result ≡ (destroy_row address threads.old self.old).result }
+        ensures threads { threads.new ≡ (destroy_row address threads.old self.old).threads }
+        ensures mutexes { self.new ≡ (destroy_row address threads.old self.old).mutexes }
+    {
+        if self.is_busy(threads, address) {
+            return CallResult::Done(EBUSY);
+        }
+        self.forget(address);
+        CallResult::Done(0)
+    }
+
+    /// A mutex that is available to the thread is locked once more.
+    fn take(&mut self, threads: &Threads, mutex: Mutex, thread: u8, address: u32) -> CallResult
+        requires id { (0 < thread) × (thread ≤ 64) }
+        requires few { used_count threads.now self.old ≤ 256 }
+        requires mutex { mutex ≡ mutex_at address self.old }
+        requires proper { is_proper mutex ≡ true }
+        requires available { is_available thread mutex ≡ true }
+        ensures result { result ≡ (taken mutex thread address threads.now self.old).result }
+        ensures mutexes { self.new ≡ (taken mutex thread address threads.now self.old).mutexes }
+    {
+        if mutex.count >= 65535 || self.is_full(threads, address) {
+            return CallResult::Done(EAGAIN);
+        }
+        self.known();
+        self.put(address, Mutex::owned(mutex.kind, thread, mutex.count + 1));
+        CallResult::Done(0)
+    }
+
+    /// Locks a mutex, or waits for it (POSIX.1-2017, pthread_mutex_lock). EAGAIN where it is free and 256 others are
+    /// in use, or where it is recursive and the thread has locked it 65,535 times; EDEADLK where it is error-checking
+    /// and the thread's own; else 0, now or when the wait ends.
+    pub fn lock(&mut self, threads: &mut Threads, thread: u8, address: u32) -> CallResult
+        requires live { is_live threads.old thread ≡ true }
+        requires free { is_waiting threads.old thread ≡ false }
+        requires well_formed { IsWellFormedWith threads.old self.old }
+        ensures well_formed { IsWellFormedWith threads.new self.new }
+        ensures result { result ≡ (lock_row thread address threads.old self.old).result }
+        ensures threads { threads.new ≡ (lock_row thread address threads.old self.old).threads }
+        ensures mutexes { self.new ≡ (lock_row thread address threads.old self.old).mutexes }
+    {
+        threads.known_live(thread);
+        self.take_or_wait(threads, thread, address)
+    }
+
+    /// The row of `lock`.
+    fn take_or_wait(&mut self, threads: &mut Threads, thread: u8, address: u32) -> CallResult
+        requires live { is_live threads.old thread ≡ true }
+        requires free { is_waiting threads.old thread ≡ false }
+        requires few { used_count threads.old self.old ≤ 256 }
+        ensures result { result ≡ (lock_row thread address threads.old self.old).result }
+        ensures threads { threads.new ≡ (lock_row thread address threads.old self.old).threads }
+        ensures mutexes { self.new ≡ (lock_row thread address threads.old self.old).mutexes }
+    {
+        threads.known_live(thread);
+        let mutex = self.mutex(address);
+        if mutex.is_available_to(thread) {
+            return self.take(threads, mutex, thread, address);
+        }
+        if mutex.is_owned_by(thread) && matches!(mutex.kind, Kind::ErrorCheck) {
+            return CallResult::Done(EDEADLK);
+        }
+        threads.block(thread, Reason::Lock(address), None);
+        CallResult::Blocked
+    }
+
+    /// Locks a mutex where that needs no wait (POSIX.1-2017, pthread_mutex_trylock). EAGAIN as `lock`; EBUSY where it
+    /// is owned, unless it is recursive and the thread's own; else 0.
+    pub fn trylock(&mut self, threads: &mut Threads, thread: u8, address: u32) -> CallResult
+        requires live { is_live threads.old thread ≡ true }
+        requires free { is_waiting threads.old thread ≡ false }
+        requires well_formed { IsWellFormedWith threads.old self.old }
+        ensures well_formed { IsWellFormedWith threads.new self.new }
+        ensures result { result ≡ (trylock_row thread address threads.old self.old).result }
+        ensures threads { threads.new ≡ (trylock_row thread address threads.old self.old).threads }
+        ensures mutexes { self.new ≡ (trylock_row thread address threads.old self.old).mutexes }
+    {
+        threads.known_live(thread);
+        self.take_or_refuse(threads, thread, address)
+    }
+
+    /// The row of `trylock`.
+    fn take_or_refuse(&mut self, threads: &mut Threads, thread: u8, address: u32) -> CallResult
+        requires live { is_live threads.old thread ≡ true }
+        requires few { used_count threads.old self.old ≤ 256 }
+        ensures result { result ≡ (trylock_row thread address threads.old self.old).result }
+        ensures threads { threads.new ≡ (trylock_row thread address threads.old self.old).threads }
+        ensures mutexes { self.new ≡ (trylock_row thread address threads.old self.old).mutexes }
+    {
+        threads.known_live(thread);
+        let mutex = self.mutex(address);
+        if !mutex.is_available_to(thread) {
+            return CallResult::Done(EBUSY);
+        }
+        self.take(threads, mutex, thread, address)
+    }
+
+    /// Unlocks a mutex once (POSIX.1-2017, pthread_mutex_unlock). EPERM where it is not the thread's own; else 0. One
+    /// that the thread has locked no more often goes at once to the thread that waits longest for it, whose wait ends.
+    pub fn unlock(&mut self, threads: &mut Threads, thread: u8, address: u32) -> CallResult
+        requires live { is_live threads.old thread ≡ true }
+        requires well_formed { IsWellFormedWith threads.old self.old }
+        ensures well_formed { IsWellFormedWith threads.new self.new }
+        ensures result { result ≡ (unlock_row thread address threads.old self.old).result }
+        ensures threads { threads.new ≡ (unlock_row thread address threads.old self.old).threads }
+        ensures mutexes { self.new ≡ (unlock_row thread address threads.old self.old).mutexes }
+    {
+        threads.known();
+        self.give_up(threads, thread, address)
+    }
+
+    /// The row of `unlock`.
+    fn give_up(&mut self, threads: &mut Threads, thread: u8, address: u32) -> CallResult
+        requires live { is_live threads.old thread ≡ true }
+        ensures result { result ≡ (unlock_row thread address threads.old self.old).result }
+        ensures threads { threads.new ≡ (unlock_row thread address threads.old self.old).threads }
+        ensures mutexes { self.new ≡ (unlock_row thread address threads.old self.old).mutexes }
+    {
+        threads.known_live(thread);
+        self.known();
+        let mutex = self.mutex(address);
+        if !mutex.is_owned_by(thread) {
+            return CallResult::Done(EPERM);
+        }
+        if mutex.count > 1 {
+            self.put(address, Mutex::owned(mutex.kind, thread, mutex.count - 1));
+        } else {
+            self.hand_over(threads, mutex.kind, address);
+        }
+        CallResult::Done(0)
+    }
+
+    /// The mutex is given up, and the thread that waits longest for it has it at once.
+    #[tactic(auto, using(crate::proofs::Granting::grants_none, crate::proofs::Granting::grants_first))]
+    fn hand_over(&mut self, threads: &mut Threads, kind: Kind, address: u32)
+        requires { has_room 256 address self.old ≡ true }
+        ensures threads { threads.new ≡ (released kind address threads.old self.old).threads }
+        ensures mutexes { self.new ≡ (released kind address threads.old self.old).mutexes }
+    {
+        let Some(wait) = threads.first_waiter(Object::Mutex(address)) else {
+            self.put(address, Mutex::free(kind));
+            return;
+        };
+        self.put(address, Mutex::owned(kind, wait.thread, 1));
+        threads.wake(wait.thread, wait.result());
+    }
+
+    /// Locks a mutex again for a thread whose wait at a condition has just been taken away, with the result that the
+    /// wait is to end with (POSIX.1-2017, pthread_cond_wait). Where the mutex is available the thread has it, and the
+    /// result in x10; else it waits at the end of the mutex's queue.
+    pub fn retake(
+        &mut self,
+        threads: &mut Threads,
+        thread: u8,
+        address: u32,
+        outcome: RetakeResult,
+    ) -> CallResult
+        requires live { is_live threads.old thread ≡ true }
+        requires free { is_waiting threads.old thread ≡ false }
+        requires well_formed { IsWellFormedWith threads.old self.old }
+        requires room { is_full address threads.old self.old ≡ false }
+        requires count { can_retake thread (mutex_at address self.old) ≡ true }
+        ensures well_formed { IsWellFormedWith threads.new self.new }
+        ensures result { result ≡ (retake_row thread address outcome threads.old self.old).result }
+        ensures threads { threads.new ≡ (retake_row thread address outcome threads.old self.old).threads }
+        ensures mutexes { self.new ≡ (retake_row thread address outcome threads.old self.old).mutexes }
+    {
+        threads.known_live(thread);
+        self.take_again(threads, thread, address, outcome)
+    }
+
+    /// The row of `retake`.
+    fn take_again(
+        &mut self,
+        threads: &mut Threads,
+        thread: u8,
+        address: u32,
+        outcome: RetakeResult,
+    ) -> CallResult
+        requires live { is_live threads.old thread ≡ true }
+        requires free { is_waiting threads.old thread ≡ false }
+        requires few { used_count threads.old self.old ≤ 256 }
+        requires room { is_full address threads.old self.old ≡ false }
+        requires count { can_retake thread (mutex_at address self.old) ≡ true }
+        ensures result { result ≡ (retake_row thread address outcome threads.old self.old).result }
+        ensures threads { threads.new ≡ (retake_row thread address outcome threads.old self.old).threads }
+        ensures mutexes { self.new ≡ (retake_row thread address outcome threads.old self.old).mutexes }
+    {
+        threads.known_live(thread);
+        self.known();
+        let left = self.mutex(address);
+        if left.is_available_to(thread) {
+            self.put(address, Mutex::owned(left.kind, thread, left.count + 1));
+            threads.set_result(thread, outcome.code());
+            return CallResult::Done(outcome.code());
+        }
+        threads.block(thread, Reason::Retake(address, outcome), None);
+        CallResult::Blocked
+    }
+}

@@ -1,0 +1,70 @@
+//! The registers of a hart.
+ghost use Rattle.std.specs.Prelude.{◌≡◌, ◌<◌, replicate};
+ghost use Rattle.ckrt_rv32i.specs.Registers.{Registers, get, put};
+
+use std::marker::Model;
+
+/// The pc and the registers x0 to x31, words each. x0 is always 0.
+#[derive(Clone, Copy, Debug, PartialEq, Eq)]
+pub struct Regs {
+    pc: u32,
+    x: [u32; 32],
+}
+
+impl Model for Regs {
+    ghost use Rattle.std.specs.Prelude.{slice_index, ◌≡◌};
+    ghost use Rattle.ckrt_rv32i.specs.Registers.{Registers};
+
+    ghost Value = { Registers };
+
+    ghost view = { λ r. record { pc = r.pc; x = r.x } };
+
+    ghost invariant = { λ r. slice_index r.x 0 ≡ 0 };
+
+    ghost inverse = { λ h. record { pc = h.pc; x = h.x } };
+}
+
+impl Regs {
+    /// This pc, and 0 in each register.
+    pub fn new(pc: u32) -> Self
+        ensures { result ≡ record { pc = pc; x = replicate 32 0 } }
+    {
+        Regs { pc, x: [0; 32] }
+    }
+
+    /// The address of the instruction that is executed next.
+    #[inline(always)]
+    pub fn pc(&self) -> u32
+        ensures { result ≡ self.now.pc }
+    {
+        self.pc
+    }
+
+    /// Puts an address into the pc; `execute` requires a multiple of 4.
+    #[inline(always)]
+    pub fn set_pc(&mut self, pc: u32)
+        ensures { self.new ≡ record self.old { pc = pc } }
+    {
+        self.pc = pc;
+    }
+
+    /// What a register holds. `register` is 0 to 31.
+    #[inline(always)]
+    pub fn get(&self, register: u8) -> u32
+        requires { register < 32 }
+        ensures { result ≡ get self.now register }
+    {
+        self.x[register as usize]
+    }
+
+    /// Puts a value into a register; x0 stays 0. `register` is 0 to 31.
+    #[inline(always)]
+    pub fn put(&mut self, register: u8, value: u32)
+        requires { register < 32 }
+        ensures { self.new ≡ record self.old { x = put self.old register value } }
+    {
+        if register != 0 {
+            self.x[register as usize] = value;
+        }
+    }
+}

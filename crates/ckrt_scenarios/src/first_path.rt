@@ -1,0 +1,115 @@
+//! One guest thread, from lines to replies.
+
+use crate::service::{SMALL, expect_replies, image_of};
+use ckrt_main::{Config, ServeFault, serve_image};
+use ckrt_memory::{Memory, MemoryError};
+use std::test::Fail;
+
+/// Puts an A and exits with status 0.
+const SIX_WORDS: [u32; 6] = [
+    0x04100513, 0x00200893, 0x00000073, 0x00000513, 0x00100893, 0x00000073,
+];
+
+/// Puts its argument for ever.
+const PUTS_FOR_EVER: [u32; 3] = [0x00200893, 0x00000073, 0xffdff06f];
+
+#[test]
+fn first_run(rt: HostRuntime) -> Result<(), Fail> {
+    expect_replies(
+        &rt,
+        &SIX_WORDS,
+        b"place 0 1\nrun 0 6\ncommit\nquit\n",
+        b"ok 1 placed\nok 2 ran 6 end\nack 2\nout 0 41\n",
+    )
+}
+
+#[test]
+fn empty_image_faults(rt: HostRuntime) -> Result<(), Fail> {
+    expect_replies(
+        &rt,
+        &[],
+        b"place 0 1\nrun 0 1\nrun 0 1\n",
+        b"ok 1 placed\nok 2 ran 1 end\nno 1 Ended\n",
+    )
+}
+
+#[test]
+fn refusals_in_their_order(rt: HostRuntime) -> Result<(), Fail> {
+    expect_replies(
+        &rt,
+        &SIX_WORDS,
+        b"run 0 5\nplace 3 1\nplace 0 2\nplace 0 1\nplace 0 1\n",
+        b"no 5 HartIdle\nno 2 NoSuchHart\nno 3 NoSuchThread\nok 1 placed\nno 4 NotReady\n",
+    )
+}
+
+#[test]
+fn held_output_fills(rt: HostRuntime) -> Result<(), Fail> {
+    let mut lines = Vec::new(rt.alloc());
+    lines.extend_from_slice(b"place 0 1\n")?;
+    let mut want = Vec::new(rt.alloc());
+    want.extend_from_slice(b"ok 1 placed\n")?;
+    for count in 2..18 {
+        lines.extend_from_slice(b"run 0 65535\n")?;
+        let reply = format!(in rt.alloc(); "ok {count} ran 2048 on\n")?;
+        want.extend_from_slice(reply.as_bytes())?;
+    }
+    lines.extend_from_slice(b"run 0 65535\n")?;
+    want.extend_from_slice(b"no 9 OutputFull\n")?;
+    expect_replies(&rt, &PUTS_FOR_EVER, lines.as_slice(), want.as_slice())
+}
+
+#[test]
+fn image_limits(rt: HostRuntime) -> Result<(), Fail> {
+    let longest = vec![in rt.alloc(); 0u8; 61_440]?;
+    assert!(rt; Memory::new(rt.alloc(), 16, longest.as_slice()).is_ok());
+    let longer = vec![in rt.alloc(); 0u8; 61_441]?;
+    let refused = matches!(
+        Memory::new(rt.alloc(), 16, longer.as_slice()),
+        Err(MemoryError::ImageTooLong)
+    );
+    assert!(rt; refused);
+    Ok(())
+}
+
+#[test]
+fn refused_before_a_byte_is_read(rt: HostRuntime) -> Result<(), Fail> {
+    let longer = vec![in rt.alloc(); 0u8; 61_441]?;
+    let image = image_of(rt.alloc(), &SIX_WORDS)?;
+    let cases = [
+        (longer.as_slice(), SMALL),
+        (image.as_slice(), Config { pages: 15, ..SMALL }),
+        (
+            image.as_slice(),
+            Config {
+                pages: 1_025,
+                ..SMALL
+            },
+        ),
+        (image.as_slice(), Config { harts: 0, ..SMALL }),
+        (image.as_slice(), Config { harts: 9, ..SMALL }),
+        (
+            image.as_slice(),
+            Config {
+                journal: 4_097,
+                ..SMALL
+            },
+        ),
+        (
+            image.as_slice(),
+            Config {
+                journal: 0,
+                ..SMALL
+            },
+        ),
+    ];
+    for (image, config) in cases {
+        let mut reader: &[u8] = b"place 0 1\n";
+        let mut writer = Vec::new(rt.alloc());
+        let done = serve_image(rt.alloc(), image, config, &mut reader, &mut writer);
+        assert_eq!(rt; done, Err(ServeFault::Format));
+        assert_eq!(rt; reader.len(), 10);
+        assert!(rt; writer.is_empty());
+    }
+    Ok(())
+}

@@ -1,0 +1,13 @@
+//! Tests that cross crates. Nothing else stands here.
+#![tactic(auto)]
+
+#[cfg(test)]
+mod contention;
+#[cfg(test)]
+mod first_path;
+#[cfg(test)]
+mod input;
+#[cfg(test)]
+mod service;
+#[cfg(test)]
+mod threads;

@@ -1,0 +1,48 @@
+//! A service from lines to replies, for the other tests.
+
+use ckrt_main::{Config, serve_image};
+use std::alloc::Global;
+use std::process::Abort;
+use std::test::Fail;
+
+/// 16 pages, 1 hart, and a journal of 4,096 bytes.
+pub const SMALL: Config = Config {
+    pages: 16,
+    harts: 1,
+    journal: 4_096,
+};
+
+/// An image of these words, little-endian.
+pub fn image_of(alloc: Global, words: &[u32]) -> Result<Vec<u8>, Fail> {
+    let mut image = Vec::new(alloc);
+    for word in words {
+        image.extend_from_slice(&word.to_le_bytes())?;
+    }
+    Ok(image)
+}
+
+/// What a service of the image writes for these lines.
+pub fn replies(
+    alloc: Global,
+    words: &[u32],
+    config: Config,
+    lines: &[u8],
+) -> Result<Vec<u8>, Fail> {
+    let image = image_of(alloc, words)?;
+    let mut reader = lines;
+    let mut writer = Vec::new(alloc);
+    serve_image(alloc, image.as_slice(), config, &mut reader, &mut writer)?;
+    Ok(writer)
+}
+
+/// A service of the image with the small configuration writes this for these lines.
+pub fn expect_replies<R: Abort + AllocGlobal>(
+    rt: &R,
+    words: &[u32],
+    lines: &[u8],
+    want: &[u8],
+) -> Result<(), Fail> {
+    let told = replies(rt.alloc(), words, SMALL, lines)?;
+    assert_eq!(rt; told.as_slice(), want);
+    Ok(())
+}

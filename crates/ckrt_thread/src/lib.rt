@@ -1,0 +1,21 @@
+//! Threads, harts and the one list of waits: the `pthread_create`, `pthread_join`, `pthread_detach` and
+//! `pthread_exit` pages of POSIX.1-2017, and what the objects of a program need to block and wake threads.
+#![tactic(auto)]
+
+mod abi;
+mod errors;
+mod harts;
+mod laws;
+mod records;
+mod slots;
+mod table;
+mod waits;
+
+pub use abi::{PROGRAM_START, RETURN_GATE, UNWIND_GATE};
+pub use errors::{EAGAIN, EBUSY, EDEADLK, EINVAL, ENOSYS, EPERM, ESRCH, ETIMEDOUT};
+pub use laws::{first_of_queue, grants_every_admissible};
+pub use records::{
+    CallResult, Live, MAX_HARTS, MAX_THREADS, MOMENT_END, Object, Reason, RetakeResult, Thread,
+    ThreadId, Wait,
+};
+pub use table::Threads;

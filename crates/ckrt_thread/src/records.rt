@@ -1,0 +1,139 @@
+//! What the tables hold.
+
+use crate::errors::ETIMEDOUT;
+use ckrt_rv32i::Regs;
+
+/// The number of a thread, 1 to 64.
+pub type ThreadId = u8;
+
+/// How many threads there may be at a time.
+pub const MAX_THREADS: usize = 64;
+
+/// How many harts there may be.
+pub const MAX_HARTS: usize = 8;
+
+/// Every moment of the clock is below this: 2^63 ticks.
+pub const MOMENT_END: u64 = 0x8000_0000_0000_0000;
+
+/// A thread that has not ended.
+#[derive(Clone, Copy, Debug, Drop)]
+pub struct Live {
+    /// Its registers. The pc is a multiple of 4.
+    pub regs: Regs,
+    /// Whether the program began with it.
+    pub initial: bool,
+    /// Whether its number is free again as soon as it ends.
+    pub detached: bool,
+}
+
+/// What a number of the table stands for.
+#[derive(Clone, Copy, Debug, Drop)]
+pub enum Thread {
+    /// It ended with a value, and nobody has joined it.
+    Ended(u32),
+    /// It has not ended.
+    Live(Live),
+}
+
+/// What a thread gets whose condition wait is over, once it has its mutex again.
+#[derive(Clone, Copy, Debug, Drop, PartialEq, Eq)]
+pub enum RetakeResult {
+    /// It was signalled, and gets 0.
+    Done,
+    /// Its deadline came, and it gets `ETIMEDOUT`.
+    TimedOut,
+}
+
+impl RetakeResult {
+    ghost use Rattle.std.specs.Prelude.{◌≡◌};
+    ghost use Rattle.ckrt_thread.specs.Waits.{retake_code};
+
+    /// The number that goes to x10: 0 or `ETIMEDOUT`.
+    pub fn code(self) -> u32
+        ensures { result ≡ retake_code self }
+    {
+        match self {
+            RetakeResult::Done => 0,
+            RetakeResult::TimedOut => ETIMEDOUT,
+        }
+    }
+}
+
+/// Why a thread waits.
+#[derive(Clone, Copy, Debug, Default, Drop)]
+pub enum Reason {
+    /// For a byte of the console's input.
+    #[default]
+    Input,
+    /// For its deadline.
+    Sleep,
+    /// For the end of a thread.
+    Join(ThreadId),
+    /// For a mutex, by its address.
+    Lock(u32),
+    /// For a mutex, by its address, after a condition wait; and what it gets with the mutex.
+    Retake(u32, RetakeResult),
+    /// For a signal: the addresses of a condition and of its mutex.
+    Condition(u32, u32),
+    /// For the others at a barrier, by its address.
+    Barrier(u32),
+    /// To read under a read-write lock, by its address.
+    Read(u32),
+    /// To write under a read-write lock, by its address.
+    Write(u32),
+}
+
+/// One entry of the list of waits.
+#[derive(Clone, Copy, Debug, Default, Drop)]
+pub struct Wait {
+    /// Who waits.
+    pub thread: ThreadId,
+    /// Why.
+    pub reason: Reason,
+    /// The moment at which the wait ends at the latest, in ticks of the clock and below 2^63. Timed waits for a mutex
+    /// or a condition have one, sleeps have one, and no other wait has.
+    pub deadline: Option<u64>,
+}
+
+impl Wait {
+    ghost use Rattle.std.specs.Prelude.{◌≡◌};
+    ghost use Rattle.ckrt_thread.specs.Granting.{wait_result};
+
+    /// What goes to x10 when the thread gets what it waited for.
+    pub fn result(&self) -> u32
+        ensures { result ≡ wait_result self.now.reason }
+    {
+        match self.reason {
+            Reason::Retake(_, result) => result.code(),
+            _ => 0,
+        }
+    }
+}
+
+/// What a thread may wait for.
+#[derive(Clone, Copy, Debug, Drop)]
+pub enum Object {
+    /// The console's input.
+    Input,
+    /// The end of a thread.
+    End(ThreadId),
+    /// A mutex, by its address.
+    Mutex(u32),
+    /// A condition, by its address.
+    Condition(u32),
+    /// A barrier, by its address.
+    Barrier(u32),
+    /// A read-write lock, by its address.
+    RwLock(u32),
+}
+
+/// What a call of the guest does to its thread.
+#[derive(Clone, Copy, Debug, Drop, PartialEq, Eq)]
+pub enum CallResult {
+    /// The value that goes to x10. A second value is in x11 already.
+    Done(u32),
+    /// The thread waits, and is off its hart. x10 stays until the wait ends.
+    Blocked,
+    /// The thread went to a routine, or ended.
+    Moved,
+}

@@ -1,0 +1,423 @@
+//! The table of threads.
+ghost use Rattle.std.specs.Prelude.{◌≡◌, ◌+◌, ◌≤◌, ◌<◌, length, slice_get, IfSome, IfOk, true, false, Some, None};
+ghost use Rattle.std.specs.Option.{option_flatten};
+ghost use Rattle.ckrt_thread.specs.Abi.{A0, A1};
+ghost use Rattle.ckrt_thread.specs.State.{IsWellFormed, thread_of, is_live, is_live_thread, is_any_live, is_initial, is_detached, regs_of, is_waiting, is_ready, first_waiter, is_joined, free_place, places, joiners, is_aligned, is_aligned_slot, fresh, with_thread_regs, set_word, with_slot, off_hart, placed_on, may_wait, blocked, unwaited, woken};
+ghost use Rattle.ckrt_thread.specs.Rows.{create_row, join_row, detach_row, finished};
+
+use crate::abi::{A0, A1};
+use crate::errors::{EAGAIN, EDEADLK, EINVAL, ESRCH};
+use crate::harts::{harts_any, take_off};
+use crate::records::{
+    CallResult, Live, MAX_HARTS, MAX_THREADS, Object, Reason, Thread, ThreadId, Wait,
+};
+use crate::slots::{
+    any_live, first_thread, free_slot, is_live_slot, new_thread, set_regs_of, set_word_of,
+};
+use crate::waits::{first_for, take_out, waits_any};
+use arrayvec::ArrayVec;
+use ckrt_rv32i::Regs;
+use std::alloc::{AllocError, Global};
+use std::marker::Model;
+
+/// The slots of the table: one for each thread's number, and slot 0, which stays empty.
+const SLOTS: usize = MAX_THREADS + 1;
+
+/// The threads of a program by number, the list of waits in order of the start of waiting, and who is on which hart.
+/// Only `new` takes memory.
+#[derive(Drop)]
+pub struct Threads {
+    table: Vec<Option<Thread>>,
+    waits: ArrayVec<Wait, MAX_THREADS>,
+    harts: [Option<ThreadId>; MAX_HARTS],
+    hart_count: usize,
+}
+
+impl Model for Threads {
+    ghost use Rattle.ckrt_thread.specs.State.{State, IsWellFormed};
+
+    ghost Value = { State };
+
+    ghost view = { λ a. record { threads = a.table.items; waits = a.waits.items; harts = a.harts; hart_count = a.hart_count } };
+
+    ghost invariant = { λ a. IsWellFormed (record { threads = a.table.items; waits = a.waits.items; harts = a.harts; hart_count = a.hart_count }) };
+}
+
+impl Threads {
+    /// The threads of a program that begins: thread 1 alone, ready, with its stack pointer at `stack`, on `harts` idle
+    /// harts, at most 8.
+    pub fn new(alloc: Global, stack: u32, harts: usize) -> Result<Self, AllocError>
+        requires { harts ≤ 8 }
+        ensures { IfOk result (λ threads. threads ≡ fresh stack harts) }
+    {
+        let mut table = Vec::from_array(alloc, [None; SLOTS])?;
+        table[1] = Some(first_thread(stack));
+        Ok(Threads {
+            table,
+            waits: ArrayVec::new(),
+            harts: [None; MAX_HARTS],
+            hart_count: harts,
+        })
+    }
+
+    /// What always holds of the threads, for a proof.
+    pub fn known(&self)
+        ensures { IsWellFormed self.now }
+    {
+        let _ = &self.table;
+    }
+
+    /// That the number of a thread that has not ended is 1 to 64, for a proof.
+    pub fn known_live(&self, thread: ThreadId)
+        requires { is_live self.now thread ≡ true }
+        ensures { (0 < thread) × (thread ≤ 64) }
+    {
+        let _ = &self.table;
+    }
+
+    // Questions.
+
+    /// How many harts there are.
+    pub fn hart_count(&self) -> usize
+        ensures { result ≡ self.now.hart_count }
+    {
+        self.hart_count
+    }
+
+    /// What stands for the number: a thread, or nothing.
+    pub fn thread(&self, id: u32) -> Option<Thread>
+        ensures thread { result ≡ thread_of self.now id }
+        ensures number { IfSome result (λ _. (0 < id) × (id ≤ 64)) }
+        ensures aligned { is_aligned_slot result ≡ true }
+    {
+        self.table.get(id as usize).copied().flatten()
+    }
+
+    /// The registers of a thread that has not ended.
+    pub fn regs(&self, thread: ThreadId) -> Option<Regs>
+        ensures regs { result ≡ regs_of (thread_of self.now thread) }
+        ensures aligned { IfSome result (λ regs. is_aligned regs ≡ true) }
+    {
+        match self.table.get(thread as usize) {
+            Some(Some(Thread::Live(live))) => Some(live.regs),
+            _ => None,
+        }
+    }
+
+    /// Whether there is such a thread, and it has not ended.
+    fn is_live(&self, thread: ThreadId) -> bool
+        ensures { result ≡ is_live self.now thread }
+    {
+        match self.table.get(thread as usize) {
+            Some(slot) => is_live_slot(slot),
+            None => false,
+        }
+    }
+
+    /// Whether the thread is detached.
+    fn is_detached(&self, thread: ThreadId) -> bool
+        ensures { result ≡ is_detached (thread_of self.now thread) }
+    {
+        match self.table.get(thread as usize) {
+            Some(Some(Thread::Live(live))) => live.detached,
+            _ => false,
+        }
+    }
+
+    /// Whether some thread has not ended.
+    pub fn is_any_live(&self) -> bool
+        ensures { result ≡ is_any_live self.now }
+    {
+        any_live(self.table.as_slice())
+    }
+
+    /// Whether the thread has not ended, does not wait, and is on no hart.
+    pub fn is_ready(&self, thread: ThreadId) -> bool
+        ensures { result ≡ is_ready self.now thread }
+    {
+        self.is_live(thread)
+            && !waits_any(self.waits.as_slice(), thread)
+            && !harts_any(self.harts.as_slice(), thread)
+    }
+
+    /// Who is on the hart. That thread has not ended and does not wait.
+    pub fn on_hart(&self, hart: usize) -> Option<ThreadId>
+        ensures on { result ≡ option_flatten (slice_get self.now.harts hart) }
+        ensures ready { IfSome result (λ t. (is_live self.now t ≡ true) × (is_waiting self.now t ≡ false)) }
+    {
+        self.known();
+        self.who_on(hart)
+    }
+
+    /// Who is on the hart.
+    fn who_on(&self, hart: usize) -> Option<ThreadId>
+        ensures { result ≡ option_flatten (slice_get self.now.harts hart) }
+    {
+        self.harts.get(hart).copied().flatten()
+    }
+
+    /// How many waits there are.
+    pub fn wait_count(&self) -> usize
+        ensures count { result ≡ length self.now.waits }
+        ensures few { result ≤ 64 }
+    {
+        self.waits.len()
+    }
+
+    /// The wait at a place of the list, from 0 in order of the start of waiting.
+    pub fn wait_at(&self, place: usize) -> Wait
+        requires { place < length self.now.waits }
+        ensures { slice_get self.now.waits place ≡ Some result }
+    {
+        self.waits[place]
+    }
+
+    /// The wait that has waited longest for the object.
+    #[tactic(auto, using(crate::proofs::WaitLemmas::found_waits))]
+    pub fn first_waiter(&self, object: Object) -> Option<Wait>
+        ensures first { result ≡ first_waiter object self.now }
+        ensures waiting { IfSome result (λ w. is_waiting self.now w.thread ≡ true) }
+        ensures thread { IfSome result (λ w. (0 < w.thread) × (w.thread ≤ 64)) }
+    {
+        first_for(self.waits.as_slice(), object)
+    }
+
+    /// Whether a thread joins this one.
+    fn is_joined(&self, thread: ThreadId) -> bool
+        ensures { result ≡ is_joined thread self.now }
+    {
+        self.first_waiter(Object::End(thread)).is_some()
+    }
+
+    // Changes that the calls and the objects are made of.
+
+    /// The registers of a thread that has not ended become these.
+    pub fn set_regs(&mut self, thread: ThreadId, regs: &Regs)
+        requires live { is_live self.old thread ≡ true }
+        requires aligned { is_aligned regs.now ≡ true }
+        ensures { self.new ≡ with_thread_regs thread regs.now self.old }
+    {
+        set_regs_of(&mut self.table, thread, regs);
+    }
+
+    /// A value goes to a register of a thread. One that has ended keeps what it is.
+    fn set_word(&mut self, thread: ThreadId, register: u8, value: u32)
+        requires thread { thread ≤ 64 }
+        requires register { register < 32 }
+        ensures { self.new ≡ set_word thread register value self.old }
+    {
+        set_word_of(&mut self.table, thread, register, value);
+    }
+
+    /// A result goes to x10 of a thread. One that has ended keeps what it is.
+    pub fn set_result(&mut self, thread: ThreadId, value: u32)
+        requires { thread ≤ 64 }
+        ensures { self.new ≡ set_word thread A0 value self.old }
+    {
+        self.set_word(thread, A0, value);
+    }
+
+    /// The second value of a call goes to x11 of a thread. One that has ended keeps what it is.
+    pub fn set_second_result(&mut self, thread: ThreadId, value: u32)
+        requires { thread ≤ 64 }
+        ensures { self.new ≡ set_word thread A1 value self.old }
+    {
+        self.set_word(thread, A1, value);
+    }
+
+    /// A thread that is ready goes onto a hart. Who was there goes off, and stays ready.
+    pub fn place(&mut self, hart: usize, thread: ThreadId)
+        requires hart { hart < self.old.hart_count }
+        requires ready { is_ready self.old thread ≡ true }
+        ensures { self.new ≡ placed_on hart thread self.old }
+    {
+        let _ = &self.table;
+        self.harts[hart] = Some(thread);
+    }
+
+    /// The thread is on no hart.
+    fn leave(&mut self, thread: ThreadId)
+        ensures { self.new ≡ off_hart thread self.old }
+    {
+        take_off(&mut self.harts, thread);
+    }
+
+    /// The thread waits from now on, behind all others, and is off its hart.
+    pub fn block(&mut self, thread: ThreadId, reason: Reason, deadline: Option<u64>)
+        requires live { is_live self.old thread ≡ true }
+        requires free { is_waiting self.old thread ≡ false }
+        requires allowed { may_wait thread reason deadline self.old ≡ true }
+        ensures { self.new ≡ blocked thread reason deadline self.old }
+    {
+        let wait = Wait {
+            thread,
+            reason,
+            deadline,
+        };
+        self.waits.push(wait);
+        take_off(&mut self.harts, wait.thread);
+    }
+
+    /// The thread's wait ends, and it gets this result in x10.
+    pub fn wake(&mut self, thread: ThreadId, value: u32)
+        requires { is_waiting self.old thread ≡ true }
+        ensures { self.new ≡ woken thread value self.old }
+    {
+        self.known();
+        self.take_wait(thread);
+        self.set_result(thread, value);
+    }
+
+    /// The thread's wait ends, if it waits, and x10 stays.
+    pub fn take_wait(&mut self, thread: ThreadId)
+        ensures { self.new ≡ unwaited thread self.old }
+    {
+        take_out(&mut self.waits, thread);
+    }
+
+    /// The number stands for this from now on. Nobody may join it, and where it is no thread that has not ended, it
+    /// may be at no place.
+    fn set_slot(&mut self, id: ThreadId, slot: Option<Thread>)
+        requires number { (0 < id) × (id ≤ 64) }
+        requires free { is_live_thread slot ≡ false → places self.old id ≡ 0 }
+        requires unjoined { joiners self.old id ≡ 0 }
+        requires initial { is_initial slot ≡ true → is_initial (thread_of self.old id) ≡ true }
+        requires aligned { is_aligned_slot slot ≡ true }
+        ensures { self.new ≡ with_slot id slot self.old }
+    {
+        self.table[id as usize] = slot;
+    }
+
+    // Calls.
+
+    /// The least free number, less 1.
+    fn free_place(&self) -> Option<usize>
+        ensures place { result ≡ free_place self.now }
+        ensures number { IfSome result (λ i. i < 64) }
+        ensures free { IfSome result (λ i. places self.now (i + 1) ≡ 0) }
+        ensures unjoined { IfSome result (λ i. joiners self.now (i + 1) ≡ 0) }
+    {
+        free_slot(self.table.as_slice())
+    }
+
+    /// `pthread_create`: a thread with the least free number, which goes to x11 of the caller. It begins at `start`
+    /// with `arg` in x10 and its stack pointer at `stack`. `EINVAL` where `start` is no multiple of 4 or `detached`
+    /// neither 0 nor 1, then `EAGAIN` where no number is free.
+    pub fn create(
+        &mut self,
+        by: ThreadId,
+        start: u32,
+        arg: u32,
+        stack: u32,
+        detached: u32,
+    ) -> CallResult
+        requires { is_live self.old by ≡ true }
+        ensures result { result ≡ (create_row by start arg stack detached self.old).result }
+        ensures threads { self.new ≡ (create_row by start arg stack detached self.old).threads }
+    {
+        if start % 4 != 0 || detached > 1 {
+            return CallResult::Done(EINVAL);
+        }
+        let Some(place) = self.free_place() else {
+            return CallResult::Done(EAGAIN);
+        };
+        self.known_live(by);
+        let id = place as ThreadId + 1;
+        self.set_slot(id, Some(new_thread(start, arg, stack, detached == 1)));
+        self.set_second_result(by, id as u32);
+        CallResult::Done(0)
+    }
+
+    /// `pthread_join`: the thread's value in x11, once it has ended; its number is free then. `EDEADLK` for oneself,
+    /// then `ESRCH` where there is no such thread, then `EINVAL` where it is detached or joined already.
+    pub fn join(&mut self, by: ThreadId, id: u32) -> CallResult
+        requires live { is_live self.old by ≡ true }
+        requires free { is_waiting self.old by ≡ false }
+        ensures result { result ≡ (join_row by id self.old).result }
+        ensures threads { self.new ≡ (join_row by id self.old).threads }
+    {
+        if id == by as u32 {
+            return CallResult::Done(EDEADLK);
+        }
+        self.known();
+        self.known_live(by);
+        let Some(thread) = self.thread(id) else {
+            return CallResult::Done(ESRCH);
+        };
+        let number = id as ThreadId;
+        match thread {
+            Thread::Ended(value) => {
+                self.set_slot(number, None);
+                self.set_second_result(by, value);
+                CallResult::Done(0)
+            }
+            Thread::Live(live) => {
+                if live.detached || self.is_joined(number) {
+                    return CallResult::Done(EINVAL);
+                }
+                self.block(by, Reason::Join(number), None);
+                CallResult::Blocked
+            }
+        }
+    }
+
+    /// `pthread_detach`: the thread's number is free as soon as it has ended. `ESRCH` where there is no such thread,
+    /// then `EINVAL` where it is detached or joined already.
+    pub fn detach(&mut self, id: u32) -> CallResult
+        ensures result { result ≡ (detach_row id self.old).result }
+        ensures threads { self.new ≡ (detach_row id self.old).threads }
+    {
+        self.known();
+        let Some(thread) = self.thread(id) else {
+            return CallResult::Done(ESRCH);
+        };
+        let number = id as ThreadId;
+        match thread {
+            Thread::Ended(_value) => {
+                self.set_slot(number, None);
+                CallResult::Done(0)
+            }
+            Thread::Live(live) => {
+                if live.detached || self.is_joined(number) {
+                    return CallResult::Done(EINVAL);
+                }
+                self.set_slot(
+                    number,
+                    Some(Thread::Live(Live {
+                        regs: live.regs,
+                        initial: live.initial,
+                        detached: true,
+                    })),
+                );
+                CallResult::Done(0)
+            }
+        }
+    }
+
+    /// `pthread_exit`: the thread, which does not wait, ends with a value and is off its hart. Who joins it gets 0 and
+    /// the value in x11; its number is free then, and where it is detached.
+    pub fn finish(&mut self, thread: ThreadId, value: u32)
+        requires live { is_live self.old thread ≡ true }
+        requires free { is_waiting self.old thread ≡ false }
+        ensures { self.new ≡ finished thread value self.old }
+    {
+        self.known_live(thread);
+        self.leave(thread);
+        self.known();
+        match self.first_waiter(Object::End(thread)) {
+            Some(wait) => {
+                self.wake(wait.thread, 0);
+                self.set_second_result(wait.thread, value);
+                self.set_slot(thread, None);
+            }
+            None => {
+                let left = if self.is_detached(thread) {
+                    None
+                } else {
+                    Some(Thread::Ended(value))
+                };
+                self.set_slot(thread, left);
+            }
+        }
+    }
+}

@@ -1,0 +1,56 @@
+//! Scans of the list of waits.
+ghost use Rattle.std.specs.Prelude.{◌≡◌};
+ghost use Rattle.std.specs.List.{position, find, list_any};
+ghost use Rattle.ckrt_thread.specs.Waits.{is_for, is_of, without};
+
+use crate::records::{MAX_THREADS, Object, Reason, ThreadId, Wait};
+use arrayvec::ArrayVec;
+
+/// Whether a wait is for the object.
+fn waits_for(wait: &Wait, object: Object) -> bool
+    ensures { result ≡ is_for object wait.now }
+{
+    match (object, wait.reason) {
+        (Object::Input, Reason::Input) => true,
+        (Object::End(id), Reason::Join(target)) => id == target,
+        (Object::Mutex(address), Reason::Lock(mutex)) => address == mutex,
+        (Object::Mutex(address), Reason::Retake(mutex, _)) => address == mutex,
+        (Object::Condition(address), Reason::Condition(condition, _)) => address == condition,
+        (Object::Barrier(address), Reason::Barrier(barrier)) => address == barrier,
+        (Object::RwLock(address), Reason::Read(lock)) => address == lock,
+        (Object::RwLock(address), Reason::Write(lock)) => address == lock,
+        _ => false,
+    }
+}
+
+/// The first wait for the object.
+pub fn first_for(waits: &[Wait], object: Object) -> Option<Wait>
+    ensures { result ≡ find (is_for object) waits.now }
+{
+    waits.iter().copied().find(|wait| waits_for(wait, object))
+}
+
+/// The place of the thread's wait.
+fn place_of(waits: &[Wait], thread: ThreadId) -> Option<usize>
+    ensures { result ≡ position (is_of thread) waits.now }
+{
+    waits.iter().position(|wait| thread == wait.thread)
+}
+
+/// Whether the thread waits.
+pub fn waits_any(waits: &[Wait], thread: ThreadId) -> bool
+    ensures { result ≡ list_any (is_of thread) waits.now }
+{
+    waits.iter().any(|wait| thread == wait.thread)
+}
+
+/// Takes the thread's wait out of the list, if there is one.
+#[tactic(auto, using(crate::proofs::WaitLemmas::taken_out, crate::proofs::WaitLemmas::not_there))]
+pub fn take_out(waits: &mut ArrayVec<Wait, MAX_THREADS>, thread: ThreadId)
+    ensures { waits.new.items ≡ without thread waits.old.items }
+{
+    let Some(place) = place_of(waits.as_slice(), thread) else {
+        return;
+    };
+    waits.remove(place);
+}

@@ -1,0 +1,78 @@
+//! Compares the processor with outside vectors: random programs as an emulator ran them, and words as a
+//! disassembler read them. Prints how many agree.
+#![tactic(auto)]
+
+use anyhow::{Context, Result, ensure};
+use ckrt_main::{Config, serve_image};
+use ckrt_rv32i::{decode, encode};
+use std::alloc::Global;
+use std::fs;
+
+/// What drives a program: all of it in one Run.
+const LINES: &[u8] = b"place 0 1\nrun 0 65535\ncommit\n";
+
+/// The machine that the emulator's runs were taken for.
+const CONFIG: Config = Config {
+    pages: 16,
+    harts: 1,
+    journal: 4_096,
+};
+
+/// The console's bytes in a text of replies: the last words of the lines `out OFFSET HEX`.
+fn console_of(alloc: Global, replies: &str) -> Result<String> {
+    let mut console = String::new(alloc);
+    for line in replies.lines() {
+        if let Some(rest) = line.strip_prefix("out ") {
+            let (_, bytes) = rest.split_once(' ').context("an out line has no bytes")?;
+            console.push_str(bytes)?;
+        }
+    }
+    Ok(console)
+}
+
+/// Runs an image, and gives its console in hexadecimal.
+fn console(alloc: Global, image: &[u8]) -> Result<String> {
+    let mut lines = LINES;
+    let mut replies = Vec::new(alloc);
+    serve_image(alloc, image, CONFIG, &mut lines, &mut replies)?;
+    let replies = String::from_utf8(replies)?;
+    console_of(alloc, replies.as_str())
+}
+
+/// Whether the program of a line `NAME IMAGE CONSOLE` puts what the line says.
+fn agrees(alloc: Global, line: &str) -> Result<bool> {
+    let mut words = line.split_whitespace();
+    let _name = words.next();
+    let image = words.next().context("a program has no image")?;
+    let want = words.next().context("a program has no console")?;
+    let image = hex::decode(alloc, image)?;
+    Ok(console(alloc, image.as_slice())?.as_str() == want)
+}
+
+/// Whether a line `WORD TEXT` has a text exactly where the word is an instruction, and gives the word back.
+fn reads(line: &str) -> Result<bool> {
+    let (word, text) = line.split_once(' ').context("a word has no text")?;
+    let word = u32::from_str_radix(word, 16)?;
+    Ok(match decode(word) {
+        Some(instr) => text != "-" && encode(&instr) == word,
+        None => text == "-",
+    })
+}
+
+fn main(rt: HostRuntime) -> Result<()> {
+    let programs = fs::read_to_string(&rt, "programs.txt")?;
+    let mut count = 0u64;
+    for line in programs.lines() {
+        ensure!(agrees(rt.alloc(), line)?, "another console: {line}");
+        count = count.wrapping_add(1);
+    }
+    println!(rt; "{count} programs agree")?;
+    let words = fs::read_to_string(&rt, "texts.txt")?;
+    let mut count = 0u64;
+    for line in words.lines() {
+        ensure!(reads(line)?, "another reading: {line}");
+        count = count.wrapping_add(1);
+    }
+    println!(rt; "{count} words agree")?;
+    Ok(())
+}
