@@ -1,11 +1,11 @@
-"""Runs two programs on the same guests, alternating, and prints medians and their ratio."""
+"""Runs two programs on the same guests, alternating, and prints the best rate of each and their ratio."""
 import os
 import re
 import statistics
 import subprocess
 import sys
 
-ROUNDS = 5
+ROUNDS = 7
 THREADED = {"matmul-big": 4}
 
 
@@ -28,7 +28,7 @@ def compare(plain, machine, path, harts):
         machine_rates.append(rate)
         if harts == 1 and said != put:
             sys.exit(f"{path}: the consoles differ")
-    return statistics.median(plain_rates), statistics.median(machine_rates)
+    return max(plain_rates), max(machine_rates)
 
 
 def main():

@@ -1,5 +1,5 @@
 -- Each call keeps the rules of the tables.
-use Rattle.std.proofs.Common.{◌≡◌, ℕ, Bool, true, false, Option, Some, None, List, refl, subst, ◌∙◌}
+use Rattle.std.proofs.Common.{◌≡◌, ◌%◌, ℕ, Bool, true, false, Option, Some, None, List, refl, subst, ◌∙◌}
 use Rattle.ckrt_rv32i.specs.Registers.{Registers}
 use Rattle.ckrt_rv32i.specs.Registers.{get}
 use Rattle.ckrt_thread.specs.State as threads
@@ -42,6 +42,7 @@ changed t s z ms m k l n = (let h = m.well_formed in let runs = m.running in rec
   clock = h.clock;
   input = h.input;
   fault = λ u pc c f. absurd (cc);
+  fault_pc = λ u pc c f. absurd (cc);
 })
 
 -- the program exits
@@ -53,6 +54,7 @@ well_formed_exited s v h = record {
   clock = h.clock;
   input = h.input;
   fault = λ u pc c f. absurd (cc);
+  fault_pc = λ u pc c f. absurd (cc);
 }
 
 -- a thread ended, and perhaps the program
@@ -65,6 +67,7 @@ ended false t s z n m k l = (let h = m.well_formed in record {
   clock = h.clock;
   input = h.input;
   fault = λ u pc c f. absurd (cc);
+  fault_pc = λ u pc c f. absurd (cc);
 })
 
 kept_end : (t v : ℕ) (s : Tables) → MayCall t s → threads.IsWellFormed (finished t v s.threads) → IsWellFormed (thread_ended t v s)
@@ -113,15 +116,17 @@ well_formed_change f t s h k =
       clock = h.clock;
       input = h.input;
       fault = λ u pc c e. kept_at is_live_thread f s.threads.threads t u (live_change f) ∙ h.fault u pc c e;
+      fault_pc = h.fault_pc;
     }
 
 -- a thread that has not ended faults
-pub well_formed_fault : (t pc : ℕ) (c : Cause) (s : Tables) → threads.is_live s.threads t ≡ true → IsWellFormed s → IsWellFormed (record s { status = Faulted t pc c })
-well_formed_fault t pc c s l h = record {
+pub well_formed_fault : (t pc : ℕ) (c : Cause) (s : Tables) → threads.is_live s.threads t ≡ true → pc % 4 ≡ 0 → IsWellFormed s → IsWellFormed (record s { status = Faulted t pc c })
+well_formed_fault t pc c s l a h = record {
   threads = h.threads;
   mutexes = h.mutexes;
   running = λ e. absurd (cc);
   clock = h.clock;
   input = h.input;
   fault = λ u q d e. (let same : t ≡ u = cc in subst (λ (x : ℕ). threads.is_live s.threads x ≡ true) same l);
+  fault_pc = λ u q d e. (let same : pc ≡ q = cc in subst (λ (x : ℕ). x % 4 ≡ 0) same a);
 }

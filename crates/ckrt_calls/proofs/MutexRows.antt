@@ -1,5 +1,5 @@
 -- What the rows of mutexes keep.
-use Rattle.std.proofs.Common.{◌≡◌, ℕ, Bool, true, false, Option, Some, None, List, refl, ◌||◌, ◌&&◌, not, nat_lt, nat_le, length}
+use Rattle.std.proofs.Common.{◌≡◌, ℕ, true, Option, Some, None, List, refl, ◌||◌, ◌&&◌, not, nat_lt, nat_le, length}
 use Rattle.ckrt_thread.specs.declared.records.Reason.TheVariants as reason
 use Rattle.ckrt_thread.specs.State.{State, is_any_live}
 use Rattle.ckrt_mutex.specs.declared.address_map.Entry.{Entry}

@@ -10,9 +10,8 @@ use Rattle.ckrt_thread.specs.declared.records.Wait.{Wait}
 use Rattle.ckrt_thread.specs.declared.records.Reason.TheVariants as reason
 use Rattle.ckrt_thread.specs.declared.records.Object.TheVariants as object
 use Rattle.ckrt_thread.specs.Waits.{without}
-use Rattle.ckrt_thread.specs.State.{State, is_live_thread, is_live, is_any_live, is_joined, is_detached, thread_of, free_place, first_waiter, change_live, change_thread, with_slot, off_hart, blocked, woken}
+use Rattle.ckrt_thread.specs.State.{State, is_live_thread, is_live, is_any_live, is_joined, is_detached, thread_of, free_place, first_waiter, change_live, change_thread, with_slot, off_hart, blocked}
 use Rattle.ckrt_thread.specs.Rows.{After, new_thread, create_at, create_row, join_at, join_row, detach_at, detach_row, end_with, finished}
-use Rattle.ckrt_thread.specs.declared.records.Object.{Object}
 use Rattle.ckrt_thread.specs.Granting.{GrantRule, grant, grant_up_to}
 use Rattle.ckrt_thread.proofs.SlotLemmas.{live_change}
 use Rattle.ckrt_calls.proofs.Choices.{choice}

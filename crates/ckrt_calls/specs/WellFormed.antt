@@ -1,5 +1,5 @@
 -- Which tables a program may have: the rules of its parts, and those that join the parts. Where no page is named they are this project's choice.
-use Rattle.std.specs.Prelude.{◌≡◌, ◌<◌, ◌≤◌, ◌^◌, ℕ, true, length}
+use Rattle.std.specs.Prelude.{◌≡◌, ◌%◌, ◌<◌, ◌≤◌, ◌^◌, ℕ, true, length}
 use Rattle.ckrt_rv32i.specs.declared.execution.Cause.{Cause}
 use Rattle.ckrt_thread.specs.State as thread
 use Rattle.ckrt_mutex.specs.WellFormed as mutex
@@ -18,5 +18,6 @@ pub record IsWellFormed (s : Tables) : Type 0 where
   pub clock : s.clock < 2 ^ 63
   -- no more input waits than the queue holds
   pub input : length s.input ≤ INPUT_LIMIT
-  -- a thread that faulted has not ended
+  -- a thread that faulted has not ended, and the pc of its fault is a multiple of 4
   pub fault : (t pc : ℕ) (cause : Cause) → s.status ≡ Faulted t pc cause → thread.is_live s.threads t ≡ true
+  pub fault_pc : (t pc : ℕ) (cause : Cause) → s.status ≡ Faulted t pc cause → pc % 4 ≡ 0

@@ -10,7 +10,7 @@ use arrayvec::ArrayVec;
 /// How many bytes a line may have, its end not counted.
 pub const LINE_LIMIT: usize = 160;
 
-/// The meaning of a line, its end left off. A line that is too long is told first; then an unknown first word or a wrong count of
+/// The meaning of a line, its end left off. A line that is too long is reported first; then an unknown first word or a wrong count of
 /// words; then the arguments' faults from left to right. A line without words is `Blank`.
 pub fn parse_command(line: &[u8]) -> Result<Command, LineFault>
     ensures value { result ≡ command_of line.now }
@@ -129,7 +129,7 @@ fn tick(args: &[u8]) -> Result<Command, LineFault>
     Ok(Command::Submit(Event::Tick(ticks)))
 }
 
-/// Bytes of input, as pairs of hexadecimal digits. The whole line's digits have room, so that too many bytes are told only once
+/// Bytes of input, as pairs of hexadecimal digits. The whole line's digits have room, so that too many bytes are reported only once
 /// all of them are found to be digits.
 fn input(args: &[u8]) -> Result<Command, LineFault>
     requires { length args.now ≤ LINE_LIMIT }

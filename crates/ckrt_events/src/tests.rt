@@ -56,7 +56,7 @@ fn lines_have_their_commands(rt: HostRuntime) -> Result<(), Fail> {
 }
 
 #[test]
-fn faults_of_lines_are_told_in_order(rt: HostRuntime) {
+fn faults_of_lines_come_in_order(rt: HostRuntime) {
     for (line, fault) in [
         (b"jump".as_slice(), LineFault::Unknown),
         (b"checkpoint", LineFault::Unknown),

@@ -48,7 +48,7 @@ pub(crate) fn next_word(line: &[u8]) -> Option<(&[u8], &[u8])>
     Some(rest.split_at(len))
 }
 
-/// The decimal number that a word writes, of any length, where it is from `low` to `high`. A byte that is no digit is told before a
+/// The decimal number that a word writes, of any length, where it is from `low` to `high`. A byte that is no digit is reported before a
 /// number out of range.
 pub(crate) fn number(word: &[u8], low: u32, high: u32) -> Result<u32, LineFault>
     ensures value { result ≡ number_in low high word.now }

@@ -1,5 +1,5 @@
 -- No instruction stands at the gates.
-use Rattle.std.proofs.Common.{◌≡◌, ℕ, ◌+◌, ◌<◌, ◌≤◌, ◌%◌, ◌&&◌, ◌==◌, nat_le, List, length, Bool, true, false, ap, arith, cond}
+use Rattle.std.proofs.Common.{◌≡◌, ℕ, ◌<◌, ◌≤◌, List, length, false, ap, arith, cond}
 use Rattle.std.proofs.lemmas.Bool.Decides.{nat_tests}
 use Rattle.ckrt_memory.specs.Pages.{IsMemorySize}
 use Rattle.ckrt_rv32i.specs.Registers.{Registers}

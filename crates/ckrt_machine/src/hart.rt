@@ -76,6 +76,7 @@ fn runner(tables: &Tables, hart: usize) -> (u8, Live)
 
 /// A fault ends the program: thread, pc and cause stay in its status.
 fn fault(tables: &mut Tables, thread: u8, regs: &Regs, cause: Cause)
+    requires aligned { regs.now.pc % 4 ≡ 0 }
     requires live { is_live tables.old.threads thread ≡ true }
     requires well_formed { IsWellFormed tables.old }
     ensures well_formed { IsWellFormed tables.new }
@@ -139,6 +140,7 @@ fn end_burst(
     thread: u8,
     regs: &Regs,
 ) -> Option<u8>
+    requires aligned { regs.now.pc % 4 ≡ 0 }
     requires live { is_live tables.old.threads thread ≡ true }
     requires free { is_waiting tables.old.threads thread ≡ false }
     requires id { thread ≤ 64 }

@@ -107,7 +107,7 @@ impl Machine {
         }
     }
 
-    /// Applies an event that is accepted, whatever output is held.
+    /// Applies an event that would be accepted if no output were held.
     pub fn step(&mut self, event: &Event) -> Answer
         requires in_range { IsInRange event.now }
         requires accepted { refusal_of 0 event.now self.old.state ≡ None }

@@ -1,5 +1,5 @@
 -- Lines as they come, byte by byte.
-use Rattle.std.proofs.Common.{◌≡◌, ℕ, suc, ◌+◌, ◌-◌, ◌<◌, ◌≤◌, ◌&&◌, Bool, true, false, not, cond, ◌≢◌, subst, List, [], ◌∷◌, ◌++◌, length, take, drop, get_or, refl, sym, ◌∙◌, ap, arith, append_assoc, append-nil, length-append, length-take-le, zero, Option, Some, None, inl, inr, Err, Ok, Result}
+use Rattle.std.proofs.Common.{◌≡◌, ℕ, suc, ◌-◌, ◌<◌, ◌≤◌, ◌&&◌, Bool, true, false, not, cond, ◌≢◌, subst, List, [], ◌∷◌, ◌++◌, length, take, get_or, refl, sym, ◌∙◌, ap, arith, append_assoc, append-nil, length-append, length-take-le, Option, Some, None, inl, inr, Err, Ok, Result}
 use Rattle.std.specs.Prelude.{◌==◌, nat_lt, OnOk}
 use Rattle.std.specs.List.{slice_split, onto_first}
 use Rattle.std.specs.Str.Lines.{lines, lines_of_parts, strip_carriage_return}
@@ -9,12 +9,11 @@ use Rattle.std.proofs.lemmas.Bool.{lt-ltb, eqb-true}
 use Rattle.std.proofs.lemmas.Bool.Decides.{nat_tests}
 use Rattle.ckrt_events.specs.declared.event.Event.{Event}
 use Rattle.ckrt_events.specs.Line.{command_of}
-use Rattle.ckrt_events.specs.declared.command.LineFault.{LineFault}
 use Rattle.ckrt_events.specs.declared.command.LineFault.TheVariants.{TooLong}
 use Rattle.ckrt_main.specs.declared.fault.ServeFault.{ServeFault}
 use Rattle.ckrt_main.specs.View.{View}
 use Rattle.ckrt_main.specs.Replies.{no_line, line_fault_text}
-use Rattle.ckrt_main.specs.Transcript.{Transcript, transcript, reply, view_after, preceded_by, unless_quit, followed_by, respond, respond_all, output}
+use Rattle.ckrt_main.specs.Transcript.{Transcript, transcript, view_after, preceded_by, unless_quit, followed_by, respond, respond_all, output}
 use Rattle.ckrt_main.specs.Service.{is_open, rest_of, Consumed, ConsumedLast, ServedSoFar, Served}
 use Rattle.ckrt_main.proofs.OutputLemmas.{Appends-append, Appends-nothing, Consumes-append}
 

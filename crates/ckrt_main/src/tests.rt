@@ -104,7 +104,7 @@ fn answers_byte_by_byte(rt: HostRuntime) -> Result<(), Fail> {
 }
 
 #[test]
-fn a_reader_that_fails_is_told(rt: HostRuntime) -> Result<(), Fail> {
+fn a_fault_of_the_reader_is_answered(rt: HostRuntime) -> Result<(), Fail> {
     // in the middle of `commit`
     let (reply, done) = served(&rt, ROW, Some(16), 1_000);
     assert_eq!(rt; done, Err(ServeFault::Read));
@@ -116,7 +116,7 @@ fn a_reader_that_fails_is_told(rt: HostRuntime) -> Result<(), Fail> {
 }
 
 #[test]
-fn a_writer_that_fails_is_told(rt: HostRuntime) -> Result<(), Fail> {
+fn a_fault_of_the_writer_is_answered(rt: HostRuntime) -> Result<(), Fail> {
     // in the middle of the line of output
     let (reply, done) = served(&rt, ROW, None, 36);
     assert_eq!(rt; done, Err(ServeFault::Write));

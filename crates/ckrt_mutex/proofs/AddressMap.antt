@@ -1,5 +1,5 @@
 -- Where an address has its entry, and what a change of the map leaves.
-use Rattle.std.proofs.Common.{◌≡◌, ℕ, zero, suc, ◌+◌, ◌≤◌, ◌<◌, eqb, Bool, true, false, cond, if◌then◌else◌, nat_lt, not, ◌&&◌, List, [], ◌∷◌, length, Some, None, Option, refl, ◌∙◌, arith, get_or, set, slice_get, slice_index_or, slice_set}
+use Rattle.std.proofs.Common.{◌≡◌, ℕ, zero, suc, ◌≤◌, ◌<◌, eqb, Bool, true, false, if◌then◌else◌, nat_lt, List, [], ◌∷◌, length, Some, None, Option, refl, ◌∙◌, arith, get_or, slice_get, slice_index_or, slice_set}
 use Rattle.std.specs.Prelude.{unwrap_or}
 use Rattle.std.specs.List.{remove, insert, list_all, refill}
 use Rattle.std.specs.List.Sorted.{IsPartitionPoint, IsPartitionedBy}

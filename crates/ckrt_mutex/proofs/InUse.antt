@@ -1,9 +1,9 @@
 -- How many addresses are in use.
-use Rattle.std.proofs.Common.{◌≡◌, ℕ, zero, suc, ◌+◌, ◌≤◌, ◌<◌, nat_eq, Bool, true, false, cond, ◌||◌, not, List, [], ◌∷◌, ◌++◌, length, map, Option, Some, None, is_some, refl, sym, ap, ◌∙◌, arith, slice_get, drop}
+use Rattle.std.proofs.Common.{◌≡◌, ℕ, zero, suc, ◌+◌, ◌-◌, ◌≤◌, ◌<◌, nat_eq, Bool, true, false, cond, ◌||◌, not, List, [], ◌∷◌, ◌++◌, length, map, Option, Some, None, is_some, refl, sym, ap, ◌∙◌, arith, slice_get, drop}
 use Rattle.std.specs.List.{list_any, filter_map, cons_option, IsDistinct, AllByRecursion}
 use Rattle.std.specs.Set.{distinct_count, unique_keys, is_member}
 use Rattle.std.proofs.lemmas.Bool.Decides.{nat_tests}
-use Rattle.std.proofs.lemmas.List.{drop_all}
+use Rattle.std.proofs.lemmas.List.{drop_all, length-drop}
 use Rattle.std.proofs.lemmas.List.Folds.{list_any-append}
 use Rattle.std.proofs.lemmas.Map.Made.{length-le_from_is_member}
 use Rattle.std.proofs.lemmas.Cmp.{nat_eq_equiv}
@@ -144,3 +144,11 @@ module _ {T : Type 0} (name_of : Wait → Option ℕ) where
   fewer_after limit a ws vs es few u h n =
       let le = distinct_le (a ∷ addresses_in_use name_of vs es) (addresses_in_use name_of ws es) (λ q m. grind (arith, nat_tests, h q, u, m)) in
       grind (arith, nat_tests, le, distinct_cons a (addresses_in_use name_of vs es))
+
+  -- where the waits from a place on are too few to make up what the limit lacks, fewer are in use
+  pub count_short : (limit count place : ℕ) (ws : List Wait) (es : List (Entry T)) → is_rising es ≡ true → place ≤ length ws
+      → count + count_in_use name_of (drop place ws) es ≡ count_in_use name_of ws es + length es → count + (length ws - place) < limit → count_in_use name_of ws es < limit
+  count_short limit count place ws es h l c f =
+      let left = count_le (drop place ws) es h in
+      let size : length (drop place ws) ≡ length ws - place = length-drop place ws in
+      omega (arith, left, size, c, f)

@@ -1,6 +1,5 @@
 -- Each row keeps threads and mutexes well-formed together.
-use Rattle.std.proofs.Common.{◌≡◌, ℕ, zero, suc, ◌+◌, ◌-◌, ◌≤◌, ◌<◌, nat_lt, nat_le, Bool, true, false, if◌then◌else◌, ◌||◌, ◌&&◌, not, List, Option, Some, None, is_none, is_some, refl, sym, ap, ◌∙◌, arith, IfSome}
-use Rattle.std.specs.List.{list_any, list_all}
+use Rattle.std.proofs.Common.{◌≡◌, ℕ, ◌+◌, ◌≤◌, ◌<◌, nat_lt, nat_le, Bool, true, false, if◌then◌else◌, ◌||◌, ◌&&◌, not, List, Option, Some, None, is_none, is_some, refl, arith}
 use Rattle.std.proofs.lemmas.Bool.Decides.{nat_tests}
 use Rattle.ckrt_thread.specs.declared.records.RetakeResult.{RetakeResult}
 use Rattle.ckrt_thread.specs.declared.records.Wait.{Wait}
@@ -8,14 +7,14 @@ use Rattle.ckrt_thread.specs.declared.records.Reason.TheVariants as reason
 use Rattle.ckrt_thread.specs.declared.records.Object.TheVariants as object
 use Rattle.ckrt_thread.specs.Waits.{is_for, is_of, retake_code}
 use Rattle.ckrt_thread.specs.State.{State, woken, first_waiter, is_waiting, set_word, IsWellFormed}
-use Rattle.ckrt_thread.specs.Granting.{wait_result, grant_waiters}
+use Rattle.ckrt_thread.specs.Granting.{wait_result}
 use Rattle.ckrt_thread.proofs.Known.{found_range}
 use Rattle.ckrt_mutex.specs.declared.address_map.Entry.{Entry}
 use Rattle.ckrt_mutex.specs.declared.records.Kind.{Kind}
 use Rattle.ckrt_mutex.specs.declared.records.Kind.TheVariants.{Normal, Recursive, ErrorCheck}
 use Rattle.ckrt_mutex.specs.declared.records.Mutex.{Mutex}
-use Rattle.ckrt_mutex.specs.Mutex.{free, owned, is_owned, is_owner, is_thread, is_available, is_normal, is_recursive, is_errorcheck, is_proper, is_proper_count, mutex_at, put}
-use Rattle.ckrt_mutex.specs.Rows.{After, mutex_rule, is_named, is_full, is_busy, used_count, kind_of, init_kind, init_row, destroy_row, taken, lock_of, lock_row, trylock_of, trylock_row, released, unlock_of, unlock_row, retake_of, retake_row}
+use Rattle.ckrt_mutex.specs.Mutex.{free, is_owned, is_owner, is_thread, is_available, is_normal, is_recursive, is_errorcheck, is_proper_count, mutex_at, put}
+use Rattle.ckrt_mutex.specs.Rows.{After, is_named, is_full, is_busy, used_count, kind_of, init_kind, init_row, destroy_row, taken, lock_row, trylock_row, released, unlock_row, retake_row}
 use Rattle.ckrt_mutex.specs.WellFormed.{can_retake, IsWellFormedWith}
 use Rattle.ckrt_mutex.proofs.Table.{either, owned_by_some, proper_at, proper_locked, proper_once}
 use Rattle.ckrt_mutex.proofs.Granting.{grants_none, grants_first}

@@ -1,5 +1,5 @@
 -- The table of mutexes after a change.
-use Rattle.std.proofs.Common.{◌≡◌, ℕ, zero, suc, ◌+◌, ◌-◌, ◌≤◌, ◌<◌, eqb, Bool, true, false, cond, if◌then◌else◌, not, ◌&&◌, ◌||◌, List, Option, Some, None, is_none, is_some, length, refl, sym, ap, ◌∙◌, arith}
+use Rattle.std.proofs.Common.{◌≡◌, ℕ, zero, suc, ◌+◌, ◌-◌, ◌≤◌, ◌<◌, eqb, Bool, true, false, if◌then◌else◌, not, ◌&&◌, ◌||◌, List, Option, Some, None, is_none, is_some, refl, ap, arith}
 use Rattle.std.specs.Prelude.{unwrap_or}
 use Rattle.std.proofs.lemmas.Bool.Decides.{nat_tests}
 use Rattle.ckrt_mutex.specs.declared.address_map.Entry.{Entry}

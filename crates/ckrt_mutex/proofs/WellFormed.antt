@@ -1,5 +1,5 @@
 -- What keeps threads and mutexes well-formed together.
-use Rattle.std.proofs.Common.{length, ◌≡◌, ℕ, ◌+◌, ◌-◌, ◌≤◌, ◌<◌, ◌==◌, nat_eq, nat_lt, nat_le, Bool, true, false, cond, if◌then◌else◌, eqb, eqb-true, ◌||◌, ◌++◌, ◌&&◌, not, zero, suc, List, [], ◌∷◌, Option, Some, None, is_none, refl, sym, ap, ◌∙◌, arith, IfSome}
+use Rattle.std.proofs.Common.{◌≡◌, ℕ, ◌-◌, ◌≤◌, ◌<◌, ◌==◌, nat_eq, Bool, true, false, eqb, eqb-true, ◌||◌, not, List, [], ◌∷◌, Option, Some, None, refl, ap, ◌∙◌, arith}
 use Rattle.std.specs.List.{list_any, list_all, find}
 use Rattle.std.proofs.lemmas.Bool.Decides.{nat_tests}
 use Rattle.std.proofs.lemmas.List.Folds.{list_any-append, list_all-append}
@@ -7,25 +7,20 @@ use Rattle.ckrt_thread.specs.declared.records.Wait.{Wait}
 use Rattle.ckrt_thread.specs.declared.records.Reason.{Reason}
 use Rattle.ckrt_thread.specs.declared.records.Reason.TheVariants as reason
 use Rattle.ckrt_thread.specs.declared.records.Object.TheVariants as object
-use Rattle.ckrt_thread.specs.declared.records.CallResult.TheVariants.{Done, Blocked}
 use Rattle.ckrt_thread.specs.Waits.{is_for, is_reason_for, is_of, without}
-use Rattle.ckrt_thread.specs.State.{State, blocked, woken, first_waiter, is_waiting, set_word, IsWellFormed, count_of, unwaited}
-use Rattle.ckrt_thread.specs.Granting.{wait_result, grant_waiters}
+use Rattle.ckrt_thread.specs.State.{State, blocked, IsWellFormed, count_of, unwaited}
 use Rattle.ckrt_thread.proofs.Counting.{count_of_some}
-use Rattle.ckrt_thread.proofs.Known.{found_range}
 use Rattle.ckrt_mutex.specs.declared.address_map.Entry.{Entry}
 use Rattle.ckrt_mutex.specs.declared.records.Kind.{Kind}
-use Rattle.ckrt_mutex.specs.declared.records.Kind.TheVariants.{Normal}
 use Rattle.ckrt_mutex.specs.declared.records.Mutex.{Mutex}
-use Rattle.ckrt_mutex.specs.AddressMap.{has_entry, has_room, removed, stored}
-use Rattle.ckrt_mutex.specs.InUse.{addresses_in_use, is_in_use, count_in_use}
-use Rattle.ckrt_mutex.specs.Mutex.{free, owned, is_owned, is_owner, is_thread, is_available, is_normal, is_recursive, is_errorcheck, is_plain, is_proper, is_proper_count, mutex_at, put, IsTable}
-use Rattle.ckrt_mutex.specs.Rows.{After, unchanged, named, names, mutex_of, is_name, is_named, is_used, used_count, is_full, is_busy, kind_of, init_kind, init_row, destroy_row, taken, lock_of, lock_row, trylock_of, trylock_row, mutex_rule, released, unlock_of, unlock_row, retake_of, retake_row}
-use Rattle.ckrt_mutex.specs.WellFormed.{is_lock, is_retake, is_condition, waits_at_owned, relocks_normal, retakes_of_another, can_retake, can_wake, meets_at, meets, AllMeet, IsWellFormedWith}
+use Rattle.ckrt_mutex.specs.AddressMap.{has_entry, has_room, removed}
+use Rattle.ckrt_mutex.specs.InUse.{addresses_in_use}
+use Rattle.ckrt_mutex.specs.Mutex.{free, owned, is_owned, is_owner, is_thread, is_proper, mutex_at, put, IsTable}
+use Rattle.ckrt_mutex.specs.Rows.{named, names, mutex_of, is_name, is_used, used_count, is_full}
+use Rattle.ckrt_mutex.specs.WellFormed.{is_lock, is_retake, waits_at_owned, relocks_normal, retakes_of_another, can_retake, can_wake, meets_at, meets, AllMeet, IsWellFormedWith}
 use Rattle.ckrt_mutex.proofs.AddressMap.{entry_removed, entry_stored}
 use Rattle.ckrt_mutex.proofs.InUse.{any_in_use, room_in_use, few_kept, fewer_after, distinct_le}
-use Rattle.ckrt_mutex.proofs.Table.{mutex_put, table_put, either, owned_entry, owned_by_some, proper_at, proper_locked, proper_unlocked, proper_once}
-use Rattle.ckrt_mutex.proofs.Granting.{grants_none, grants_first}
+use Rattle.ckrt_mutex.proofs.Table.{mutex_put, table_put, either, owned_entry, proper_at, proper_unlocked}
 
 -- HOW MANY ARE IN USE
 

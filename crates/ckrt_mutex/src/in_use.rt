@@ -1,5 +1,5 @@
 //! Which mutexes are in use, and how many.
-ghost use Rattle.std.specs.Prelude.{◌≡◌, ◌<◌, ◌≤◌, length, drop, true, nat_eq, cond};
+ghost use Rattle.std.specs.Prelude.{◌≡◌, ◌<◌, ◌≤◌, length, drop, true, nat_eq, nat_le, cond};
 ghost use Rattle.std.specs.List.{list_any};
 ghost use Rattle.ckrt_mutex.specs.AddressMap.{is_rising};
 ghost use Rattle.ckrt_mutex.specs.InUse.{is_in_use, is_new};
@@ -95,28 +95,29 @@ fn new_at(threads: &Threads, entries: &[Entry<Mutex>], place: usize) -> usize
     }
 }
 
-/// How many mutexes are in use.
+/// Whether 256 mutexes are in use. Once the waits that are left are too few for that, it looks at none of them.
 #[tactic(auto, using(crate::proofs::InUse::count_at, crate::proofs::InUse::count_done))]
-fn count_in_use(threads: &Threads, entries: &[Entry<Mutex>]) -> usize
+fn are_limit_in_use(threads: &Threads, entries: &[Entry<Mutex>]) -> bool
     requires rising { is_rising entries.now ≡ true }
     requires size { length entries.now ≤ 256 }
-    ensures { result ≡ used_count threads.now entries.now }
+    ensures { result ≡ nat_le 256 (used_count threads.now entries.now) }
 {
+    let waits = threads.wait_count();
     let mut count = entries.len();
-    for place in 0..threads.wait_count() {
+    for place in 0..waits {
+        if count + (waits - place) < LIMIT {
+            return false;
+        }
         count += new_at(threads, entries, place);
     }
-    count
+    LIMIT <= count
 }
 
-/// Whether the mutex is not in use, and 256 others are. It counts them only where entries and waits could be so many.
-#[tactic(auto, using(crate::proofs::InUse::count_le))]
+/// Whether the mutex is not in use, and 256 others are.
 pub fn is_full(threads: &Threads, entries: &[Entry<Mutex>], address: u32) -> bool
     requires rising { is_rising entries.now ≡ true }
     requires size { length entries.now ≤ 256 }
     ensures { result ≡ is_full address threads.now entries.now }
 {
-    LIMIT <= entries.len() + threads.wait_count()
-        && !is_in_use_from(threads, 0, entries, address)
-        && LIMIT <= count_in_use(threads, entries)
+    are_limit_in_use(threads, entries) && !is_in_use_from(threads, 0, entries, address)
 }

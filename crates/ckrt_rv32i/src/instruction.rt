@@ -113,7 +113,7 @@ pub enum Instr {
         rs1: u8,
         offset: i32,
     },
-    /// JAL: jumps by an even offset of 13 bits if the condition holds.
+    /// A branch: jumps by an even offset of 13 bits if the condition holds of `rs1` and `rs2`.
     Branch {
         condition: Condition,
         rs1: u8,

@@ -86,8 +86,8 @@ fn same_total_under_each_schedule(rt: HostRuntime) -> Result<(), Fail> {
             journal: 1_048_576,
         };
         let lines = schedule(rt.alloc(), harts, steps, rounds)?;
-        let told = replies(rt.alloc(), &COUNTERS, config, lines.as_slice())?;
-        assert!(rt; puts_80(told.as_slice()), "{harts} harts, {steps} steps");
+        let text = replies(rt.alloc(), &COUNTERS, config, lines.as_slice())?;
+        assert!(rt; puts_80(text.as_slice()), "{harts} harts, {steps} steps");
     }
     Ok(())
 }

@@ -2,11 +2,15 @@
 #![tactic(auto)]
 
 #[cfg(test)]
+mod calls;
+#[cfg(test)]
 mod contention;
 #[cfg(test)]
 mod first_path;
 #[cfg(test)]
 mod input;
+#[cfg(test)]
+mod mutexes;
 #[cfg(test)]
 mod service;
 #[cfg(test)]

@@ -42,7 +42,7 @@ pub fn expect_replies<R: Abort + AllocGlobal>(
     lines: &[u8],
     want: &[u8],
 ) -> Result<(), Fail> {
-    let told = replies(rt.alloc(), words, SMALL, lines)?;
-    assert_eq!(rt; told.as_slice(), want);
+    let text = replies(rt.alloc(), words, SMALL, lines)?;
+    assert_eq!(rt; text.as_slice(), want);
     Ok(())
 }

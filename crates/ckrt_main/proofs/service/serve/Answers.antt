@@ -1,7 +1,6 @@
-use Rattle.std.proofs.Common.{◌≡◌, ◌<◌, ◌+◌, ℕ, List, ◌++◌, ◌∷◌, [], Bool, true, false, length, take, drop, get_or, arith, rules, subst, sym, ap, ◌∙◌, Option, refl}
-use Rattle.std.specs.Io.KnownBytes.{Consumes, IsAtEnd}
-use Rattle.ckrt_main.specs.View.{View}
-use Rattle.ckrt_main.specs.Service.{Consumed, ConsumedLast, is_open, ServedSoFar}
+use Rattle.std.proofs.Common.{◌≡◌, ◌<◌, ℕ, List, [], true, false, length, take, arith, subst, refl}
+use Rattle.std.specs.Io.KnownBytes.{Consumes}
+use Rattle.ckrt_main.specs.Service.{ConsumedLast}
 use Rattle.ckrt_main.proofs.LineLemmas.{ServedSoFar-start, ServedSoFar-more, ServedSoFar-kept, Consumed-nothing, Served-quit, Served-end}
 use Rattle.ckrt_main.proofs.service.serve.Goals as goal
 use Rattle.ckrt_main.proofs.service.serve.Goals.{in-Ok+in_ok-take_bytes-in-Ok+else-branch, in-Err+else-ne}

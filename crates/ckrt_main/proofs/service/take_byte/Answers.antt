@@ -1,12 +1,10 @@
-use Rattle.std.proofs.Common.{◌≡◌, ℕ, List, ◌++◌, ◌∷◌, [], Bool, true, false, length, arith, rules, subst, sym, ap, ◌∙◌}
+use Rattle.std.proofs.Common.{◌≡◌, ℕ, List, false, length, arith, sym, ap, ◌∙◌}
 use Rattle.std.specs.Prelude.{◌==◌}
-use Rattle.std.specs.Io.KnownBytes.{Appends}
 use Rattle.std.specs.Str.Lines.{strip_carriage_return}
 use Rattle.std.proofs.lemmas.Bool.{eqb-true}
 use Rattle.std.proofs.lemmas.Bool.Decides.{nat_tests}
 use Rattle.ckrt_events.specs.Line.{command_of}
 use Rattle.ckrt_main.specs.Transcript.{respond}
-use Rattle.ckrt_main.specs.Service.{Consumed, is_open}
 use Rattle.ckrt_main.proofs.LineLemmas.{Consumed-newline, Consumed-byte, Consumed-full, is_open-more}
 use Rattle.ckrt_main.proofs.service.take_byte.Goals as goal
 

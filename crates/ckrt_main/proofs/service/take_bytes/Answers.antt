@@ -1,7 +1,7 @@
-use Rattle.std.proofs.Common.{◌≡◌, ◌<◌, ◌+◌, ℕ, List, ◌++◌, ◌∷◌, [], Bool, true, false, length, take, drop, get_or, arith, rules, subst, sym, ap, ◌∙◌, Option}
+use Rattle.std.proofs.Common.{◌<◌, ◌+◌, ℕ, List, ◌∷◌, [], Bool, false, length, take, drop, get_or, arith, Option}
 use Rattle.std.proofs.lemmas.List.{take_more, take-append-drop}
 use Rattle.ckrt_main.specs.View.{View}
-use Rattle.ckrt_main.specs.Service.{Consumed, is_open}
+use Rattle.ckrt_main.specs.Service.{Consumed}
 use Rattle.ckrt_main.proofs.LineLemmas.{Consumed-more, Consumed-quit, Consumed-nothing}
 use Rattle.ckrt_main.proofs.service.take_bytes.Goals as goal
 

@@ -1,5 +1,4 @@
-use Rattle.std.proofs.Common.{◌≡◌, ◌≤◌, ◌<◌, ◌+◌, ◌-◌, ℕ, List, ◌++◌, length, take, drop, min, arith, rules, append_assoc, sym, ap, ◌∙◌, length-take, length-drop}
-use Rattle.std.specs.Io.KnownBytes.{Appends}
+use Rattle.std.proofs.Common.{◌≡◌, ◌≤◌, ◌<◌, ◌+◌, ◌-◌, ℕ, List, ◌++◌, length, take, drop, min, arith, append_assoc, sym, ap, ◌∙◌, length-take, length-drop}
 use Rattle.ckrt_main.specs.View.{View, released_output}
 use Rattle.ckrt_main.specs.Replies.{out_line, out_lines}
 use Rattle.ckrt_main.specs.Transcript.{output}

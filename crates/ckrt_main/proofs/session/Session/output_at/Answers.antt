@@ -1,4 +1,4 @@
-use Rattle.std.proofs.Common.{◌≡◌, ◌≤◌, ◌+◌, ◌-◌, ℕ, min, take, drop, arith, rules, ap, ◌∙◌}
+use Rattle.std.proofs.Common.{◌≡◌, ◌≤◌, ◌+◌, ◌-◌, min, take, drop, arith, ap, ◌∙◌}
 use Rattle.ckrt_main.specs.View.{View, released_output}
 use Rattle.ckrt_main.proofs.OutputLemmas.{out_bytes}
 use Rattle.ckrt_main.proofs.session.Session.output_at.Goals as goal

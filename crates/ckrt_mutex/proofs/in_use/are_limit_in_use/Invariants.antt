@@ -1,7 +1,7 @@
 use Rattle.std.proofs.Common.{◌≡◌, ◌≤◌, ◌+◌, drop, length}
 use Rattle.ckrt_mutex.specs.InUse.{count_in_use}
 use Rattle.ckrt_mutex.specs.Rows.{named}
-use Rattle.ckrt_mutex.proofs.in_use.count_in_use.Given as goal
+use Rattle.ckrt_mutex.proofs.in_use.are_limit_in_use.Given as goal
 
 abbrev pub invariant-loop-place : goal.invariant-loop-place
 invariant-loop-place l = record {

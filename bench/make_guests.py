@@ -1,0 +1,157 @@
+"""Writes the guests that measure calls: locks-4.bin, plain-4.bin (the same without its calls) and locks-crowded.bin.
+
+Each of four threads makes ROUNDS rounds of: lock, eight additions, unlock. In plain-4 an addition stands in the place
+of each ECALL. In locks-crowded 200 other mutexes are owned and 60 threads wait for one of them.
+"""
+import os
+import struct
+
+ROUNDS = 400_000
+
+
+class Program:
+    """Words at addresses from 0x1000 on, with labels."""
+
+    def __init__(self):
+        self.words = []
+        self.labels = {}
+
+    def label(self, name):
+        self.labels[name] = len(self.words)
+
+    def emit(self, word):
+        self.words.append(word)
+
+    def addi(self, rd, rs1, imm):
+        self.emit(lambda at: (imm & 0xFFF) << 20 | rs1 << 15 | rd << 7 | 0x13)
+
+    def lui(self, rd, imm):
+        self.emit(lambda at: imm << 12 | rd << 7 | 0x37)
+
+    def bne(self, rs1, rs2, name):
+        def word(at):
+            offset = 4 * (self.labels[name] - at)
+            return (
+                (offset >> 12 & 1) << 31
+                | (offset >> 5 & 0x3F) << 25
+                | rs2 << 20
+                | rs1 << 15
+                | 1 << 12
+                | (offset >> 1 & 15) << 8
+                | (offset >> 11 & 1) << 7
+                | 0x63
+            )
+
+        self.emit(word)
+
+    def address(self, rd, name):
+        self.lui(rd, 1)
+        self.emit(lambda at: (4 * self.labels[name]) << 20 | rd << 15 | rd << 7 | 0x13)
+
+    def constant(self, rd, value):
+        self.lui(rd, (value + 0x800) >> 12)
+        self.addi(rd, rd, value - ((value + 0x800) >> 12 << 12))
+
+    def ecall(self):
+        self.emit(lambda at: 0x73)
+
+    def call(self, number):
+        self.addi(17, 0, number)
+        self.ecall()
+
+    def returns(self):
+        self.emit(lambda at: 1 << 15 | 0x67)
+
+    def image(self):
+        return b"".join(struct.pack("<I", word(at)) for at, word in enumerate(self.words))
+
+
+def create(program, count, name):
+    """The running thread creates `count` threads that begin at a label."""
+    program.addi(8, 0, count)
+    program.label("create " + name)
+    program.address(10, name)
+    for register in (11, 12, 13):
+        program.addi(register, 0, 0)
+    program.call(10)
+    program.addi(8, 8, -1)
+    program.bne(8, 0, "create " + name)
+
+
+def worker(program, with_calls):
+    """Rounds of lock, additions and unlock; then the thread ends."""
+    program.label("worker")
+    program.constant(6, ROUNDS)
+    program.label("round")
+    for number in (22, 25):
+        program.lui(10, 5)
+        if with_calls:
+            program.call(number)
+        else:
+            program.addi(17, 0, number)
+            program.addi(7, 7, 1)
+        for _ in range(4):
+            program.addi(7, 7, 1)
+    program.addi(6, 6, -1)
+    program.bne(6, 0, "round")
+    program.returns()
+
+
+def four(with_calls):
+    program = Program()
+    create(program, 3, "worker")
+    worker_start(program)
+    worker(program, with_calls)
+    return program.image()
+
+
+def worker_start(program):
+    """The initial thread detaches itself from the end of the program: it works, and then ends as a thread."""
+    program.address(1, "last")
+    program.emit(lambda at: jump(at, program.labels["worker"]))
+    program.label("last")
+    program.addi(10, 0, 0)
+    program.call(13)
+
+
+def jump(at, target):
+    offset = 4 * (target - at)
+    return (
+        (offset >> 20 & 1) << 31
+        | (offset >> 1 & 0x3FF) << 21
+        | (offset >> 11 & 1) << 20
+        | (offset >> 12 & 0xFF) << 12
+        | 0x6F
+    )
+
+
+def crowded():
+    program = Program()
+    # 200 mutexes at 0x8000, 0x8004, .., owned by the initial thread
+    program.lui(9, 8)
+    program.addi(8, 0, 200)
+    program.label("own")
+    program.addi(10, 9, 0)
+    program.call(22)
+    program.addi(9, 9, 4)
+    program.addi(8, 8, -1)
+    program.bne(8, 0, "own")
+    create(program, 60, "waiter")
+    create(program, 3, "worker")
+    worker_start(program)
+    program.label("waiter")
+    program.lui(10, 8)
+    program.call(22)
+    program.returns()
+    worker(program, True)
+    return program.image()
+
+
+def main():
+    guests = os.path.join(os.path.dirname(os.path.abspath(__file__)), "guests")
+    for name, image in (("locks-4", four(True)), ("plain-4", four(False)), ("locks-crowded", crowded())):
+        with open(os.path.join(guests, name + ".bin"), "wb") as file:
+            file.write(image)
+
+
+main()

@@ -1,0 +1,75 @@
+//! Calls of the guest, made on the tables of a program by hand.
+ghost use Rattle.std.specs.Prelude.{◌≡◌, ◌%◌, ◌≤◌, true, false, IfOk};
+ghost use Rattle.ckrt_thread.specs.State.{is_live, is_waiting};
+ghost use Rattle.ckrt_calls.specs.declared.table.Status.TheVariants.{Running};
+ghost use Rattle.ckrt_calls.specs.WellFormed.{IsWellFormed};
+
+use ckrt_calls::{Status, Tables, call};
+use ckrt_rv32i::Regs;
+use ckrt_thread::CallResult;
+use std::alloc::Global;
+use std::process::Abort;
+use std::test::Fail;
+
+/// The registers of a thread become these.
+fn arm(tables: &mut Tables, thread: u8, regs: &Regs)
+    requires live { is_live tables.old.threads thread ≡ true }
+    requires free { is_waiting tables.old.threads thread ≡ false }
+    requires aligned { regs.now.pc % 4 ≡ 0 }
+    requires running { tables.old.status ≡ Running }
+    requires well_formed { IsWellFormed tables.old }
+    ensures live { is_live tables.new.threads thread ≡ true }
+    ensures free { is_waiting tables.new.threads thread ≡ false }
+    ensures running { tables.new.status ≡ Running }
+    ensures well_formed { IsWellFormed tables.new }
+{
+    tables.threads.set_regs(thread, regs);
+    tables.threads.known();
+}
+
+/// Makes the call of this number with these arguments as a thread that is ready.
+pub fn call_as<R: Abort>(
+    rt: &R,
+    tables: &mut Tables,
+    thread: u8,
+    number: u32,
+    arguments: [u32; 4],
+) -> CallResult
+    requires { IsWellFormed tables.old }
+    ensures { IsWellFormed tables.new }
+{
+    assert!(rt; tables.threads.is_ready(thread));
+    assert!(rt; tables.status == Status::Running);
+    let mut regs = tables
+        .threads
+        .regs(thread)
+        .expect(rt, "the thread is ready");
+    regs.put(10, arguments[0]);
+    regs.put(11, arguments[1]);
+    regs.put(12, arguments[2]);
+    regs.put(13, arguments[3]);
+    regs.put(17, number);
+    arm(tables, thread, &regs);
+    let (result, _) = call(tables, thread);
+    result
+}
+
+/// Thread 1 creates threads 2 to `last`.
+fn create_threads<R: Abort>(rt: &R, tables: &mut Tables, last: u32)
+    requires { IsWellFormed tables.old }
+    ensures { IsWellFormed tables.new }
+{
+    for _id in 1..last {
+        let made = call_as(rt, tables, 1, 10, [0x1000, 7, 0x8000, 0]);
+        assert_eq!(rt; made, CallResult::Done(0));
+    }
+}
+
+/// The tables of a program of 16 pages and 1 hart, with threads 1 to `last`.
+pub fn tables_with<R: Abort>(rt: &R, alloc: Global, last: u32) -> Result<Tables, Fail>
+    ensures { IfOk result IsWellFormed }
+{
+    let mut tables = Tables::new(alloc, 16, 1)?;
+    create_threads(rt, &mut tables, last);
+    Ok(tables)
+}
