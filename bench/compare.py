@@ -1,4 +1,7 @@
-"""Runs two programs on the same guests, alternating, and prints the best rate of each and their ratio."""
+"""Runs two programs on the same guests, alternating, and prints the best rate of each and their ratio.
+
+At the end, without names of guests: what a call costs.
+"""
 import os
 import re
 import statistics
@@ -6,12 +9,15 @@ import subprocess
 import sys
 
 ROUNDS = 7
-THREADED = {"matmul-big": 4}
+# Guests with threads, and their harts: the plain interpreter has no threads, so they have no ratio.
+THREADED = {"locks-4": 4, "locks-crowded": 4, "matmul-big": 4, "plain-4": 4}
+# Two calls in a round, eight rounds' worth of steps beside them: see make_guests.py.
+CALLS = 2 * 4 * 400_000
 
 
 def rate_of(command):
     """The console and the steps a second of processor time of one run."""
-    done = subprocess.run(command, capture_output=True, check=True)
+    done = subprocess.run(command, capture_output=True, check=False)
     text = done.stderr.decode()
     if found := re.search(r"steps (\d+) nanoseconds (\d+)", text):
         return done.stdout, int(found[1]) / (int(found[2]) / 1e9)
@@ -19,16 +25,37 @@ def rate_of(command):
     return done.stdout, int(found[1]) / float(found[2])
 
 
-def compare(plain, machine, path, harts):
+def machine_rate(machine, path, harts):
+    """The console and the rate of one run on the machine, whether the guest ends or not."""
+    return rate_of([machine, path, "64", str(harts), "65535"])
+
+
+def compare(plain, machine, path):
+    """The best rates of both on a guest of one thread, alternating."""
     plain_rates, machine_rates = [], []
     for _ in range(ROUNDS):
         said, rate = rate_of([plain, path, "64"])
         plain_rates.append(rate)
-        put, rate = rate_of([machine, path, "64", str(harts), "65535"])
+        put, rate = machine_rate(machine, path, 1)
         machine_rates.append(rate)
-        if harts == 1 and said != put:
+        if said != put:
             sys.exit(f"{path}: the consoles differ")
     return max(plain_rates), max(machine_rates)
+
+
+def seconds_of(machine, path, steps):
+    """The least processor time of a guest with threads, by its rate."""
+    return steps / max(machine_rate(machine, path, 4)[1] for _ in range(ROUNDS))
+
+
+def calls(machine, guests):
+    """What a lock or an unlock costs, in plain instructions of the same run."""
+    steps = 4 * 400_000 * 16
+    plain = seconds_of(machine, os.path.join(guests, "plain-4.bin"), steps)
+    print(f"a plain instruction: {plain / steps * 1e9:.1f} ns")
+    for name in ("locks-4", "locks-crowded"):
+        cost = (seconds_of(machine, os.path.join(guests, name + ".bin"), steps) - plain) / CALLS
+        print(f"a call in {name}: {cost * 1e9:.0f} ns, {cost * steps / plain:.0f} plain instructions")
 
 
 def main():
@@ -37,16 +64,18 @@ def main():
     print(f"{'guest':14} {'plain Msteps/s':>15} {'machine Msteps/s':>17} {'ratio':>6}")
     ratios = []
     for name in names:
-        harts = THREADED.get(name, 1)
-        base, ours = compare(plain, machine, os.path.join(guests, name + ".bin"), harts)
-        # the plain interpreter has no threads, so a guest with threads has no ratio
-        ratio = ours / base if harts == 1 else None
-        if ratio:
-            ratios.append(ratio)
-        shown = f"{ratio:6.2f}" if ratio else "     -"
-        print(f"{name:14} {base / 1e6 if ratio else 0:15.0f} {ours / 1e6:17.0f} {shown}")
+        path = os.path.join(guests, name + ".bin")
+        if name in THREADED:
+            rate = max(machine_rate(machine, path, THREADED[name])[1] for _ in range(ROUNDS))
+            print(f"{name:14} {'-':>15} {rate / 1e6:17.0f} {'-':>6}")
+            continue
+        base, ours = compare(plain, machine, path)
+        ratios.append(ours / base)
+        print(f"{name:14} {base / 1e6:15.0f} {ours / 1e6:17.0f} {ours / base:6.2f}")
     if ratios:
         print(f"geometric mean of the ratios: {statistics.geometric_mean(ratios):.2f}")
+    if not sys.argv[4:]:
+        calls(machine, guests)
 
 
 main()

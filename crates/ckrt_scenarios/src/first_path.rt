@@ -23,6 +23,21 @@ fn first_run(rt: HostRuntime) -> Result<(), Fail> {
     )
 }
 
+/// Compares 0 with the immediate -1 as unsigned numbers, puts the answer and exits.
+const COMPARES: [u32; 6] = [
+    0xfff03513, 0x00200893, 0x00000073, 0x00000513, 0x00100893, 0x00000073,
+];
+
+#[test]
+fn sltiu_compares_the_extended_immediate(rt: HostRuntime) -> Result<(), Fail> {
+    expect_replies(
+        &rt,
+        &COMPARES,
+        b"place 0 1\nrun 0 6\ncommit\n",
+        b"ok 1 placed\nok 2 ran 6 end\nack 2\nout 0 01\n",
+    )
+}
+
 #[test]
 fn empty_image_faults(rt: HostRuntime) -> Result<(), Fail> {
     expect_replies(
