@@ -1,56 +1,79 @@
 -- What the rows of mutexes keep.
-use Rattle.std.proofs.Common.{◌≡◌, ℕ, true, Option, Some, None, List, refl, ◌||◌, ◌&&◌, not, nat_lt, nat_le, length}
+use Rattle.std.proofs.Common.{◌≡◌, ℕ, false, Option, Some, None, List, refl, ◌||◌, ◌&&◌, not, nat_lt, nat_le, length}
 use Rattle.ckrt_thread.specs.declared.records.Reason.TheVariants as reason
-use Rattle.ckrt_thread.specs.State.{State, is_any_live}
+use Rattle.ckrt_thread.specs.declared.records.RetakeResult.{RetakeResult}
+use Rattle.ckrt_thread.specs.Abi.{A0}
+use Rattle.ckrt_thread.specs.Waits.{is_moment, retake_code}
+use Rattle.ckrt_thread.specs.State.{State, blocked, woken, set_word}
 use Rattle.ckrt_mutex.specs.declared.address_map.Entry.{Entry}
 use Rattle.ckrt_mutex.specs.declared.records.Mutex.{Mutex}
 use Rattle.ckrt_mutex.specs.declared.records.Kind.{Kind}
 use Rattle.ckrt_mutex.specs.Mutex.{mutex_at, is_available, is_owner, is_errorcheck, is_normal, free}
 use Rattle.ckrt_mutex.specs.WellFormed.{IsWellFormedWith}
-use Rattle.ckrt_mutex.specs.Rows.{After, is_full, is_busy, kind_of, taken, lock_of, lock_row, trylock_of, trylock_row, mutex_rule, unlock_of, unlock_row, destroy_row, init_kind, init_row}
+use Rattle.ckrt_mutex.specs.Rows.{After, is_full, is_busy, kind_of, taken, taken_or, waiting, waiting_until, lock_row, timedlock_row, trylock_row, mutex_rule, unlock_of, unlock_row, retake_of, retake_row, destroy_row, init_kind, init_row}
 use Rattle.ckrt_mutex.proofs.WellFormed.{well_formed_same, well_formed_unwaited, well_formed_unnamed}
-use Rattle.ckrt_calls.proofs.Choices.{choice}
-use Rattle.ckrt_calls.proofs.ThreadRows.{IsWaitRule, any_live_granted}
+use Rattle.ckrt_cond.specs.WellFormed as conditions
+use Rattle.ckrt_cond.proofs.Waits.{conditions_fewer, conditions_unwaited, conditions_other}
+use Rattle.ckrt_calls.proofs.Choices.{choice, choice_else}
+use Rattle.ckrt_calls.proofs.ThreadRows.{IsWaitRule, kept_granted}
 
--- SOME THREAD HAS NOT ENDED
+-- WHAT HOLDS OF THE THREADS before a row holds after it, where the wait that the row may begin or end keeps it
 
-abbrev AnyLive : After → Type 0
-AnyLive r = is_any_live r.threads ≡ true
+module _ (P : State → Type 0) where
+  abbrev Holds : After → Type 0
+  Holds r = P r.threads
 
-any_live_taken : (m : Mutex) (t a : ℕ) (s : State) (ms : List (Entry Mutex)) → is_any_live s ≡ true → AnyLive (taken m t a s ms)
-any_live_taken m t a s ms h = choice AnyLive (nat_le 65535 m.count || is_full a s ms) _ _ h h
+  kept_taken : (m : Mutex) (t a : ℕ) (s : State) (ms : List (Entry Mutex)) → P s → Holds (taken m t a s ms)
+  kept_taken m t a s ms h = choice Holds (nat_le 65535 m.count || is_full a s ms) _ _ h h
 
-any_live_lock_of : (m : Mutex) (t a : ℕ) (s : State) (ms : List (Entry Mutex)) → is_any_live s ≡ true → AnyLive (lock_of m t a s ms)
-any_live_lock_of m t a s ms h = choice AnyLive (is_available t m) _ _ (any_live_taken m t a s ms h) (choice AnyLive (is_owner t m && is_errorcheck m.kind) _ _ h h)
+  kept_taken_or : (wait : After) (m : Mutex) (t a : ℕ) (s : State) (ms : List (Entry Mutex)) → Holds wait → P s → Holds (taken_or wait m t a s ms)
+  kept_taken_or wait m t a s ms w h = choice Holds (is_available t m) _ _ (kept_taken m t a s ms h) (choice Holds (is_owner t m && is_errorcheck m.kind) _ _ h w)
 
-pub any_live_lock : (t a : ℕ) (s : State) (ms : List (Entry Mutex)) → is_any_live s ≡ true → AnyLive (lock_row t a s ms)
-any_live_lock t a s ms h = any_live_lock_of (mutex_at a ms) t a s ms h
+  pub kept_lock : (t a : ℕ) (s : State) (ms : List (Entry Mutex)) → P (blocked t (reason.Lock a) None s) → P s → Holds (lock_row t a s ms)
+  kept_lock t a s ms w h = kept_taken_or (waiting t a None s ms) (mutex_at a ms) t a s ms w h
 
-any_live_trylock_of : (m : Mutex) (t a : ℕ) (s : State) (ms : List (Entry Mutex)) → is_any_live s ≡ true → AnyLive (trylock_of m t a s ms)
-any_live_trylock_of m t a s ms h = choice AnyLive (is_available t m) _ _ (any_live_taken m t a s ms h) h
+  -- a deadline lies ahead of the clock
+  pub kept_timedlock : (t a moment clock : ℕ) (s : State) (ms : List (Entry Mutex)) → (nat_le moment clock ≡ false → P (blocked t (reason.Lock a) (Some moment) s)) → P s → Holds (timedlock_row t a moment clock s ms)
+  kept_timedlock t a moment clock s ms w h =
+      kept_taken_or (waiting_until t a moment clock s ms) (mutex_at a ms) t a s ms (choice Holds (not (is_moment moment)) _ _ h (choice_else Holds (nat_le moment clock) _ _ h w)) h
 
-pub any_live_trylock : (t a : ℕ) (s : State) (ms : List (Entry Mutex)) → is_any_live s ≡ true → AnyLive (trylock_row t a s ms)
-any_live_trylock t a s ms h = any_live_trylock_of (mutex_at a ms) t a s ms h
+  pub kept_trylock : (t a : ℕ) (s : State) (ms : List (Entry Mutex)) → P s → Holds (trylock_row t a s ms)
+  kept_trylock t a s ms h = choice Holds (is_available t (mutex_at a ms)) _ _ (kept_taken (mutex_at a ms) t a s ms h) h
 
-any_live_unlock_of : (m : Mutex) (t a : ℕ) (s : State) (ms : List (Entry Mutex)) → is_any_live s ≡ true → AnyLive (unlock_of m t a s ms)
-any_live_unlock_of m t a s ms h =
-    choice AnyLive (not (is_owner t m)) _ _ h (choice AnyLive (nat_lt 1 m.count) _ _ h (any_live_granted (mutex_rule a) (length s.waits) (free m.kind) s h))
+  kept_unlock_of : (m : Mutex) (t a : ℕ) (s : State) (ms : List (Entry Mutex)) → ((u v : ℕ) (z : State) → P z → P (woken u v z)) → P s → Holds (unlock_of m t a s ms)
+  kept_unlock_of m t a s ms e h =
+      choice Holds (not (is_owner t m)) _ _ h (choice Holds (nat_lt 1 m.count) _ _ h (kept_granted (mutex_rule a) P e (length s.waits) (free m.kind) s h))
 
-pub any_live_unlock : (t a : ℕ) (s : State) (ms : List (Entry Mutex)) → is_any_live s ≡ true → AnyLive (unlock_row t a s ms)
-any_live_unlock t a s ms h = any_live_unlock_of (mutex_at a ms) t a s ms h
+  pub kept_unlock : (t a : ℕ) (s : State) (ms : List (Entry Mutex)) → ((u v : ℕ) (z : State) → P z → P (woken u v z)) → P s → Holds (unlock_row t a s ms)
+  kept_unlock t a s ms e h = kept_unlock_of (mutex_at a ms) t a s ms e h
 
-pub any_live_destroy : (a : ℕ) (s : State) (ms : List (Entry Mutex)) → is_any_live s ≡ true → AnyLive (destroy_row a s ms)
-any_live_destroy a s ms h = choice AnyLive (is_busy a s ms) _ _ h h
+  kept_retake_of : (m : Mutex) (t a : ℕ) (r : RetakeResult) (s : State) (ms : List (Entry Mutex)) → P (set_word t A0 (retake_code r) s) → P (blocked t (reason.Retake a r) None s) → Holds (retake_of m t a r s ms)
+  kept_retake_of m t a r s ms h w = choice Holds (is_available t m) _ _ h w
 
-any_live_init_kind : (o : Option Kind) (a : ℕ) (s : State) (ms : List (Entry Mutex)) → is_any_live s ≡ true → AnyLive (init_kind o a s ms)
-any_live_init_kind None a s ms h = h
-any_live_init_kind (Some k) a s ms h = choice AnyLive (is_busy a s ms) _ _ h (choice AnyLive (not (is_normal k) && is_full a s ms) _ _ h h)
+  pub kept_retake : (t a : ℕ) (r : RetakeResult) (s : State) (ms : List (Entry Mutex)) → P (set_word t A0 (retake_code r) s) → P (blocked t (reason.Retake a r) None s) → Holds (retake_row t a r s ms)
+  kept_retake t a r s ms h w = kept_retake_of (mutex_at a ms) t a r s ms h w
 
-pub any_live_init : (a k : ℕ) (s : State) (ms : List (Entry Mutex)) → is_any_live s ≡ true → AnyLive (init_row a k s ms)
-any_live_init a k s ms h = any_live_init_kind (kind_of k) a s ms h
+  pub kept_destroy : (a : ℕ) (s : State) (ms : List (Entry Mutex)) → P s → Holds (destroy_row a s ms)
+  kept_destroy a s ms h = choice Holds (is_busy a s ms) _ _ h h
 
--- THE RULES THAT JOIN WAITS AND MUTEXES
+  kept_init_kind : (o : Option Kind) (a : ℕ) (s : State) (ms : List (Entry Mutex)) → P s → Holds (init_kind o a s ms)
+  kept_init_kind None a s ms h = h
+  kept_init_kind (Some k) a s ms h = choice Holds (is_busy a s ms) _ _ h (choice Holds (not (is_normal k) && is_full a s ms) _ _ h h)
 
+  pub kept_init : (a k : ℕ) (s : State) (ms : List (Entry Mutex)) → P s → Holds (init_row a k s ms)
+  kept_init a k s ms h = kept_init_kind (kind_of k) a s ms h
+
+-- THE RULES OF WAITS
+
+-- one for conditions
+pub condition_rule : IsWaitRule conditions.IsWellFormed
+condition_rule = record {
+  same_waits = λ s z e h. conditions_fewer s z (λ f x. rw e at x) h;
+  unwaited = λ t s z e h. conditions_unwaited t s z e h;
+  joining = λ t id s h. conditions_other t (reason.Join id) None s (λ c a. refl) h;
+}
+
+-- and one for mutexes
 pub wait_rule : (ms : List (Entry Mutex)) → IsWaitRule (λ s. IsWellFormedWith s ms)
 wait_rule ms = record {
   same_waits = λ s z e h. well_formed_same s z ms e h;

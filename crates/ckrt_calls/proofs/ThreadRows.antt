@@ -1,18 +1,22 @@
 -- What the rows of threads keep.
 use Rattle.std.proofs.Common.{◌≡◌, ℕ, zero, suc, Bool, true, false, Option, Some, None, List, [], ◌∷◌, refl, sym, ap, ◌∙◌, arith, ◌||◌, ◌==◌, not, ◌%◌, nat_lt, slice_get, slice_set}
-use Rattle.std.specs.List.{list_any}
+use Rattle.std.specs.List.{list_any, list_all}
 use Rattle.std.specs.Option.{option_flatten}
 use Rattle.std.proofs.lemmas.Bool.Decides.{nat_tests}
+use Rattle.std.proofs.lemmas.List.Folds.{list_all-append}
 use Rattle.ckrt_thread.specs.declared.records.Thread.{Thread}
 use Rattle.ckrt_thread.specs.declared.records.Thread.TheVariants as thread
 use Rattle.ckrt_thread.specs.declared.records.Live.{Live}
 use Rattle.ckrt_thread.specs.declared.records.Wait.{Wait}
+use Rattle.ckrt_thread.specs.declared.records.Reason.{Reason}
 use Rattle.ckrt_thread.specs.declared.records.Reason.TheVariants as reason
 use Rattle.ckrt_thread.specs.declared.records.Object.TheVariants as object
 use Rattle.ckrt_thread.specs.Waits.{without}
-use Rattle.ckrt_thread.specs.State.{State, is_live_thread, is_live, is_any_live, is_joined, is_detached, thread_of, free_place, first_waiter, change_live, change_thread, with_slot, off_hart, blocked}
+use Rattle.ckrt_thread.specs.State.{State, is_live_thread, is_live, is_any_live, is_joined, is_detached, thread_of, free_place, first_waiter, change_live, change_thread, with_slot, off_hart, blocked, woken, with_word}
 use Rattle.ckrt_thread.specs.Rows.{After, new_thread, create_at, create_row, join_at, join_row, detach_at, detach_row, end_with, finished}
-use Rattle.ckrt_thread.specs.Granting.{GrantRule, grant, grant_up_to}
+use Rattle.ckrt_thread.specs.Granting.{GrantRule, grant, grant_up_to, wait_result}
+use Rattle.ckrt_thread.specs.Abi.{A0}
+use Rattle.ckrt_thread.proofs.WaitLemmas.{list_all-without}
 use Rattle.ckrt_thread.proofs.SlotLemmas.{live_change}
 use Rattle.ckrt_calls.proofs.Choices.{choice}
 
@@ -58,15 +62,31 @@ any_live_detach_at (Some (thread.Live l)) i s e h = choice AnyLive (l.detached |
 pub any_live_detach : (i : ℕ) (s : State) → is_any_live s ≡ true → AnyLive (detach_row i s)
 any_live_detach i s h = any_live_detach_at (thread_of s i) i s refl h
 
-module _ {O : Type 0} (rule : GrantRule O) where
-  any_live_grant : (n : ℕ) (w : Option Wait) (o : O) (s : State) → ((p : O) (z : State) → is_any_live z ≡ true → is_any_live (grant_up_to rule n p z).1 ≡ true) → is_any_live s ≡ true → is_any_live (grant rule (grant_up_to rule n) w o s).1 ≡ true
-  any_live_grant n None o s more h = h
-  any_live_grant n (Some w) o s more h = choice (λ (r : O × State). is_any_live r.1 ≡ true) (rule.is_admissible o w) _ _ (more _ _ (any_live_change _ w.thread s.threads h)) h
+-- grants keep what the end of a wait keeps
+module _ {O : Type 0} (rule : GrantRule O) (P : State → Type 0) (ends : (t v : ℕ) (s : State) → P s → P (woken t v s)) where
+  kept_grant : (n : ℕ) (w : Option Wait) (o : O) (s : State) → ((p : O) (z : State) → P z → P (grant_up_to rule n p z).1) → P s → P (grant rule (grant_up_to rule n) w o s).1
+  kept_grant n None o s more h = h
+  kept_grant n (Some w) o s more h = choice (λ (r : O × State). P r.1) (rule.is_admissible o w) _ _ (more _ _ (ends w.thread (wait_result w.reason) s h)) h
 
-  -- grants end no thread
-  pub any_live_granted : (n : ℕ) (o : O) (s : State) → is_any_live s ≡ true → is_any_live (grant_up_to rule n o s).1 ≡ true
-  any_live_granted zero o s h = h
-  any_live_granted (suc n) o s h = any_live_grant n (first_waiter rule.object s) o s (λ p z k. any_live_granted n p z k) h
+  pub kept_granted : (n : ℕ) (o : O) (s : State) → P s → P (grant_up_to rule n o s).1
+  kept_granted zero o s h = h
+  kept_granted (suc n) o s h = kept_grant n (first_waiter rule.object s) o s (λ p z k. kept_granted n p z k) h
+
+-- who gets what it waited for has not ended
+pub any_live_woken : (t v : ℕ) (s : State) → is_any_live s ≡ true → is_any_live (woken t v s) ≡ true
+any_live_woken t v s h = any_live_change (with_word A0 v) t s.threads h
+
+-- THE WAITS
+
+-- each wait passes the test
+abbrev pub AllWaits : (Wait → Bool) → State → Type 0
+AllWaits f s = list_all f s.waits ≡ true
+
+pub all_woken : (f : Wait → Bool) (t v : ℕ) (s : State) → AllWaits f s → AllWaits f (woken t v s)
+all_woken f t v s h = list_all-without f t s.waits h
+
+pub all_blocked : (f : Wait → Bool) (t : ℕ) (r : Reason) (d : Option ℕ) (s : State) → f (record { thread = t; reason = r; deadline = d }) ≡ true → AllWaits f s → AllWaits f (blocked t r d s)
+all_blocked f t r d s e h = grind (arith, nat_tests, list_all-append f s.waits (record { thread = t; reason = r; deadline = d } ∷ []))
 
 -- RULES ON WAITS
 
@@ -75,6 +95,14 @@ pub record IsWaitRule (P : State → Type 0) : Type 0 where
   pub same_waits : (s z : State) → z.waits ≡ s.waits → P s → P z
   pub unwaited : (t : ℕ) (s z : State) → z.waits ≡ without t s.waits → P s → P z
   pub joining : (t id : ℕ) (s : State) → P s → P (blocked t (reason.Join id) None s)
+
+-- a test of each wait, which one for the end of a thread passes
+pub all_rule : (f : Wait → Bool) → ((t id : ℕ) → f (record { thread = t; reason = reason.Join id; deadline = None }) ≡ true) → IsWaitRule (AllWaits f)
+all_rule f j = record {
+  same_waits = λ s z e h. rw e h;
+  unwaited = λ t s z e h. rw e (list_all-without f t s.waits h);
+  joining = λ t id s h. all_blocked f t (reason.Join id) None s (j t id) h;
+}
 
 module _ {P : State → Type 0} (rule : IsWaitRule P) where
   kept_create_at : (o : Option ℕ) (t a b c : ℕ) (d : Bool) (s : State) → P s → P (create_at o t a b c d s).threads

@@ -1,13 +1,23 @@
 -- The table of calls, and what input and time do to the tables.
-use Rattle.std.specs.Prelude.{ℕ, ◌+◌, ◌*◌, ◌%◌, ◌==◌, Bool, true, false, if◌then◌else◌, Option, Some, None, List, [], ◌++◌}
+use Rattle.std.specs.Prelude.{ℕ, ◌+◌, ◌*◌, ◌/◌, ◌%◌, ◌^◌, ◌==◌, nat_le, not, Bool, true, false, if◌then◌else◌, Option, Some, None, List, [], ◌∷◌, ◌++◌, length}
 use Rattle.ckrt_rv32i.specs.Registers.{Registers}
 use Rattle.ckrt_rv32i.specs.Registers.{get}
 use Rattle.ckrt_thread.specs.declared.records.CallResult.{CallResult}
-use Rattle.ckrt_thread.specs.declared.records.CallResult.TheVariants.{Done, Moved}
-use Rattle.ckrt_thread.specs.Errors.{ENOSYS}
+use Rattle.ckrt_thread.specs.declared.records.CallResult.TheVariants.{Done, Blocked, Moved}
+use Rattle.ckrt_thread.specs.declared.records.Wait.{Wait}
+use Rattle.ckrt_thread.specs.declared.records.Reason.{Reason}
+use Rattle.ckrt_thread.specs.declared.records.Reason.TheVariants as reason
+use Rattle.ckrt_thread.specs.declared.records.RetakeResult.TheVariants as retake
+use Rattle.ckrt_thread.specs.declared.records.Object.TheVariants as object
+use Rattle.ckrt_thread.specs.Abi.{A1}
+use Rattle.ckrt_thread.specs.Errors.{EINVAL, ENOSYS, ETIMEDOUT}
+use Rattle.ckrt_thread.specs.Waits.{is_moment}
+use Rattle.ckrt_thread.specs.Deadlines.{due_waits}
+use Rattle.ckrt_thread.specs.Granting.{queue_of}
 use Rattle.ckrt_thread.specs.State as thread
 use Rattle.ckrt_thread.specs.Rows as rows
 use Rattle.ckrt_mutex.specs.Rows as mutex
+use Rattle.ckrt_cond.specs.Rows as condition
 use Rattle.ckrt_calls.specs.declared.number.Call.{Call}
 use Rattle.ckrt_calls.specs.declared.number.Call.TheVariants as call
 use Rattle.ckrt_calls.specs.declared.table.Status.{Status}
@@ -18,24 +28,80 @@ use Rattle.ckrt_calls.specs.declared.table.Tables.{Tables}
 abbrev pub fresh : ℕ → ℕ → Tables
 fresh pages harts = record { threads = thread.fresh (4096 * pages) harts; mutexes = []; clock = 0; input = []; closed = false; status = Running }
 
--- INPUT AND TIME (this project's choice)
+-- INPUT (this project's choice)
 
--- bytes of input come: they are read after those that wait
+-- what getc answers where no byte is left and no more comes (after POSIX.1-2017, getchar: EOF)
+abbrev pub END_OF_INPUT : ℕ
+END_OF_INPUT = 0xFFFF_FFFF
+
+-- the bytes that no thread has read, and the threads
+pub record Fed : Type 0 where
+  pub input : List ℕ
+  pub threads : thread.State
+
+-- who waits longest for input gets the first byte b
+abbrev pub feed_first : (thread.State → Fed) → Option Wait → List ℕ → ℕ → thread.State → Fed
+feed_first more None bytes b z = record { input = bytes; threads = z }
+feed_first more (Some w) bytes b z = more (thread.woken w.thread b z)
+
+-- while a byte is left and a thread waits for input, it gets the byte
+abbrev pub feed : List ℕ → thread.State → Fed
+feed [] z = record { input = []; threads = z }
+feed (b ∷ bs) z = feed_first (feed bs) (thread.first_waiter object.Input z) (b ∷ bs) b z
+
+abbrev pub with_fed : Tables → Fed → Tables
+with_fed s f = record s { input = f.input; threads = f.threads }
+
+-- bytes of input come: they are read after those that no thread has read
 abbrev pub input_taken : List ℕ → Tables → Tables
-input_taken bytes s = record s { input = s.input ++ bytes }
+input_taken bytes s = with_fed s (feed (s.input ++ bytes) s.threads)
 
--- no more input comes
+-- these waits end one after another, each with this result
+abbrev pub all_woken : ℕ → List Wait → thread.State → thread.State
+all_woken v [] z = z
+all_woken v (w ∷ ws) z = all_woken v ws (thread.woken w.thread v z)
+
+-- no more input comes, and each thread that waits for it learns so
 abbrev pub input_closed : Tables → Tables
-input_closed s = record s { closed = true }
+input_closed s = record s { closed = true; threads = all_woken END_OF_INPUT (queue_of object.Input s.threads) s.threads }
+
+-- TIME
+
+-- the tables after a wait has ended with this result
+abbrev pub woken : ℕ → ℕ → Tables → Tables
+woken t v s = record s { threads = thread.woken t v s.threads }
+
+-- a thread that waited at a condition has its mutex again, or waits for it (POSIX.1-2017, pthread_cond_timedwait)
+abbrev pub retaken : mutex.After → Tables → Tables
+retaken r s = record s { threads = r.threads; mutexes = r.mutexes }
+
+-- A due wait ends: a sleep with 0 (POSIX.1-2017, clock_nanosleep), a condition wait with its mutex and ETIMEDOUT, and a
+-- wait for a mutex with ETIMEDOUT (pthread_mutex_timedlock). No other wait has a deadline.
+abbrev pub timed_out : Reason → ℕ → Tables → Tables
+timed_out reason.Sleep t s = woken t 0 s
+timed_out (reason.Condition c m) t s = retaken (condition.resume_row t m retake.TimedOut s.threads s.mutexes) s
+timed_out _ t s = woken t ETIMEDOUT s
+
+-- these waits end one after another
+abbrev pub all_timed_out : List Wait → Tables → Tables
+all_timed_out [] s = s
+all_timed_out (w ∷ ws) s = all_timed_out ws (timed_out w.reason w.thread s)
 
 -- what the passing of time leaves, and how many waits it ended
 pub record Ticked : Type 0 where
   pub tables : Tables
   pub ended : ℕ
 
--- k ticks pass; no call waits for a moment
+-- the clock stands at this moment, and each wait that is due then ends, in order of deadline and then of thread
+abbrev pub at_moment : ℕ → Tables → Ticked
+at_moment now s = record {
+  tables = record (all_timed_out (due_waits now s.threads.waits) s) { clock = now };
+  ended = length (due_waits now s.threads.waits);
+}
+
+-- k ticks pass
 abbrev pub ticked : ℕ → Tables → Ticked
-ticked k s = record { tables = record s { clock = s.clock + k }; ended = 0 }
+ticked k s = at_moment (s.clock + k) s
 
 -- CALLS
 
@@ -50,6 +116,9 @@ abbrev pub call_of : ℕ → Option Call
 call_of n =
     if n == 1 then Some call.Exit
     else if n == 2 then Some call.Putc
+    else if n == 3 then Some call.Getc
+    else if n == 4 then Some call.Clock
+    else if n == 5 then Some call.SleepUntil
     else if n == 10 then Some call.Create
     else if n == 11 then Some call.Join
     else if n == 12 then Some call.Detach
@@ -59,7 +128,14 @@ call_of n =
     else if n == 21 then Some call.MutexDestroy
     else if n == 22 then Some call.MutexLock
     else if n == 23 then Some call.MutexTryLock
+    else if n == 24 then Some call.MutexTimedLock
     else if n == 25 then Some call.MutexUnlock
+    else if n == 30 then Some call.ConditionInit
+    else if n == 31 then Some call.ConditionDestroy
+    else if n == 32 then Some call.ConditionWait
+    else if n == 33 then Some call.ConditionTimedWait
+    else if n == 34 then Some call.ConditionSignal
+    else if n == 35 then Some call.ConditionBroadcast
     else None
 
 -- a result alone
@@ -70,9 +146,33 @@ done v s = record { result = Done v; put = None; tables = s }
 abbrev pub by_threads : Tables → rows.After → After
 by_threads s r = record { result = r.result; put = None; tables = record s { threads = r.threads } }
 
--- what a row of the mutexes does to the tables
+-- what a row of the mutexes or the conditions does to the tables
 abbrev pub by_mutexes : Tables → mutex.After → After
 by_mutexes s r = record { result = r.result; put = None; tables = record s { threads = r.threads; mutexes = r.mutexes } }
+
+-- the thread that calls waits
+abbrev pub waits : ℕ → Reason → Option ℕ → Tables → After
+waits t r d s = record { result = Blocked; put = None; tables = record s { threads = thread.blocked t r d s.threads } }
+
+-- the first byte of the input, END_OF_INPUT where it has ended, else the thread waits for a byte
+abbrev pub getc_of : List ℕ → ℕ → Tables → After
+getc_of [] t s = if s.closed then done END_OF_INPUT s else waits t reason.Input None s
+getc_of (b ∷ bs) t s = done b (record s { input = bs })
+
+-- the clock in two words: the low one, and the high one in x11
+abbrev pub clock_row : ℕ → Tables → After
+clock_row t s = done (s.clock % 2 ^ 32) (record s { threads = thread.set_word t A1 (s.clock / 2 ^ 32) s.threads })
+
+-- a moment in two words
+abbrev pub moment_of : ℕ → ℕ → ℕ
+moment_of low high = low + 2 ^ 32 * high
+
+-- a moment out of range is EINVAL; one that the clock has reached needs no wait
+abbrev pub sleep_row : ℕ → ℕ → Tables → After
+sleep_row t moment s =
+    if not (is_moment moment) then done EINVAL s
+    else (if nat_le moment s.clock then done 0 s
+    else waits t reason.Sleep (Some moment) s)
 
 -- the status after a thread ended: with the last one the program exits with 0 (POSIX.1-2017, pthread_exit)
 abbrev pub status_with : Bool → Status → Status
@@ -89,6 +189,12 @@ abbrev pub row : Call → ℕ → Registers → Tables → After
 row call.Exit t r s = record { result = Moved; put = None; tables = record s { status = Exited (get r 10) } }
 -- this project's choice: the low byte goes to the console
 row call.Putc t r s = record { result = Done 0; put = Some (get r 10 % 256); tables = s }
+-- POSIX.1-2017, getchar, on the console's input; that a thread waits for a byte is this project's choice
+row call.Getc t r s = getc_of s.input t s
+-- POSIX.1-2017, clock_gettime, in ticks
+row call.Clock t r s = clock_row t s
+-- POSIX.1-2017, clock_nanosleep with TIMER_ABSTIME, in ticks; without signals
+row call.SleepUntil t r s = sleep_row t (moment_of (get r 10) (get r 11)) s
 -- POSIX.1-2017, pthread_create
 row call.Create t r s = by_threads s (rows.create_row t (get r 10) (get r 11) (get r 12) (get r 13) s.threads)
 -- POSIX.1-2017, pthread_join
@@ -107,8 +213,22 @@ row call.MutexDestroy t r s = by_mutexes s (mutex.destroy_row (get r 10) s.threa
 row call.MutexLock t r s = by_mutexes s (mutex.lock_row t (get r 10) s.threads s.mutexes)
 -- POSIX.1-2017, pthread_mutex_trylock
 row call.MutexTryLock t r s = by_mutexes s (mutex.trylock_row t (get r 10) s.threads s.mutexes)
+-- POSIX.1-2017, pthread_mutex_timedlock
+row call.MutexTimedLock t r s = by_mutexes s (mutex.timedlock_row t (get r 10) (moment_of (get r 11) (get r 12)) s.clock s.threads s.mutexes)
 -- POSIX.1-2017, pthread_mutex_unlock
 row call.MutexUnlock t r s = by_mutexes s (mutex.unlock_row t (get r 10) s.threads s.mutexes)
+-- POSIX.1-2017, pthread_cond_init
+row call.ConditionInit t r s = by_mutexes s (condition.init_row (get r 10) s.threads s.mutexes)
+-- POSIX.1-2017, pthread_cond_destroy
+row call.ConditionDestroy t r s = by_mutexes s (condition.destroy_row (get r 10) s.threads s.mutexes)
+-- POSIX.1-2017, pthread_cond_wait
+row call.ConditionWait t r s = by_mutexes s (condition.wait_row t (get r 10) (get r 11) s.threads s.mutexes)
+-- POSIX.1-2017, pthread_cond_timedwait
+row call.ConditionTimedWait t r s = by_mutexes s (condition.timedwait_row t (get r 10) (get r 11) (moment_of (get r 12) (get r 13)) s.clock s.threads s.mutexes)
+-- POSIX.1-2017, pthread_cond_signal
+row call.ConditionSignal t r s = by_mutexes s (condition.signal_row (get r 10) s.threads s.mutexes)
+-- POSIX.1-2017, pthread_cond_broadcast
+row call.ConditionBroadcast t r s = by_mutexes s (condition.broadcast_row (get r 10) s.threads s.mutexes)
 
 -- a number that is in no row answers ENOSYS
 abbrev pub row_or_unknown : Option Call → ℕ → Registers → Tables → After

@@ -6,8 +6,10 @@ ghost use Rattle.ckrt_calls.specs.declared.table.Status.TheVariants.{Running};
 ghost use Rattle.ckrt_calls.specs.Table.{row, called};
 ghost use Rattle.ckrt_calls.specs.WellFormed.{IsWellFormed};
 
+use crate::console::getc;
 use crate::number::Call;
 use crate::table::{Status, Tables, end_thread};
+use crate::time::{clock, moment_of, sleep_until};
 use ckrt_rv32i::Regs;
 use ckrt_thread::{CallResult, ENOSYS, ThreadId};
 
@@ -70,6 +72,9 @@ fn perform(
             (CallResult::Moved, None)
         }
         Call::Putc => (CallResult::Done(0), Some((a % 256) as u8)),
+        Call::Getc => (getc(tables, thread), None),
+        Call::Clock => (clock(tables, thread), None),
+        Call::SleepUntil => (sleep_until(tables, thread, moment_of(a, b)), None),
         Call::Create => (
             tables
                 .threads
@@ -87,6 +92,41 @@ fn perform(
         Call::MutexDestroy => (tables.mutexes.destroy(&mut tables.threads, a), None),
         Call::MutexLock => (tables.mutexes.lock(&mut tables.threads, thread, a), None),
         Call::MutexTryLock => (tables.mutexes.trylock(&mut tables.threads, thread, a), None),
+        Call::MutexTimedLock => {
+            let moment = moment_of(b, regs.get(12));
+            let clock = tables.clock;
+            let mutexes = &mut tables.mutexes;
+            let result = mutexes.timedlock(&mut tables.threads, thread, a, moment, clock);
+            (result, None)
+        }
         Call::MutexUnlock => (tables.mutexes.unlock(&mut tables.threads, thread, a), None),
+        Call::ConditionInit => (
+            ckrt_cond::init(&mut tables.threads, &mut tables.mutexes, a),
+            None,
+        ),
+        Call::ConditionDestroy => (
+            ckrt_cond::destroy(&mut tables.threads, &mut tables.mutexes, a),
+            None,
+        ),
+        Call::ConditionWait => (
+            ckrt_cond::wait(&mut tables.threads, &mut tables.mutexes, thread, a, b),
+            None,
+        ),
+        Call::ConditionTimedWait => {
+            let moment = moment_of(regs.get(12), regs.get(13));
+            let clock = tables.clock;
+            let threads = &mut tables.threads;
+            let mutexes = &mut tables.mutexes;
+            let result = ckrt_cond::timedwait(threads, mutexes, thread, a, b, moment, clock);
+            (result, None)
+        }
+        Call::ConditionSignal => (
+            ckrt_cond::signal(&mut tables.threads, &mut tables.mutexes, a),
+            None,
+        ),
+        Call::ConditionBroadcast => (
+            ckrt_cond::broadcast(&mut tables.threads, &mut tables.mutexes, a),
+            None,
+        ),
     }
 }

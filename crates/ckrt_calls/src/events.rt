@@ -1,12 +1,18 @@
 //! What comes from outside: input, its end, and time.
 ghost use Rattle.std.specs.Prelude.{◌≡◌, ◌≤◌, ◌<◌, ◌+◌, ◌^◌, length};
-ghost use Rattle.ckrt_calls.specs.Table.{input_taken, input_closed, ticked};
+ghost use Rattle.ckrt_thread.specs.declared.records.Object.TheVariants.{Input};
+ghost use Rattle.ckrt_thread.specs.Granting.{queue_of};
+ghost use Rattle.ckrt_calls.specs.Table.{END_OF_INPUT, input_taken, input_closed, all_woken, ticked, feed};
 ghost use Rattle.ckrt_calls.specs.WellFormed.{IsWellFormed};
 
-use crate::input::INPUT_LIMIT;
+use crate::console::END_OF_INPUT;
+use crate::due::end_due_waits;
+use crate::input::{INPUT_LIMIT, InputQueue};
 use crate::table::Tables;
+use ckrt_thread::{Object, Threads};
 
-/// Bytes of input come, and wait to be read. There must be room for them: at most [`INPUT_LIMIT`] wait.
+/// Bytes of input come. There must be room for them: at most [`INPUT_LIMIT`] may be left unread. While a byte is left
+/// and a thread waits for one, who waits longest gets the first.
 pub fn take_input(tables: &mut Tables, bytes: &[u8])
     requires room { length tables.old.input + length bytes.now ≤ INPUT_LIMIT }
     requires well_formed { IsWellFormed tables.old }
@@ -14,18 +20,48 @@ pub fn take_input(tables: &mut Tables, bytes: &[u8])
     ensures tables { tables.new ≡ input_taken bytes.now tables.old }
 {
     tables.input.append(bytes);
+    feed_readers(&mut tables.threads, &mut tables.input);
+    tables.threads.known();
 }
 
-/// No more input comes.
+/// While a byte is left and a thread waits for one, who waits longest gets the first.
+#[tactic(auto, using(crate::proofs::Readers::feed_none, crate::proofs::Readers::feed_some, crate::proofs::Readers::feed_empty))]
+fn feed_readers(threads: &mut Threads, input: &mut InputQueue)
+    ensures threads { threads.new ≡ (feed input.old threads.old).threads }
+    ensures input { input.new ≡ (feed input.old threads.old).input }
+{
+    while let Some(wait) = threads.first_waiter(Object::Input) {
+        let Some(byte) = input.pop_first() else {
+            return;
+        };
+        threads.wake(wait.thread, u32::from(byte));
+    }
+}
+
+/// No more input comes: each thread that waits for it reads [`END_OF_INPUT`].
 pub fn close_input(tables: &mut Tables)
     requires well_formed { IsWellFormed tables.old }
     ensures well_formed { IsWellFormed tables.new }
     ensures tables { tables.new ≡ input_closed tables.old }
 {
     tables.closed = true;
+    end_readers(&mut tables.threads);
+    tables.threads.known();
 }
 
-/// Some ticks pass, up to a moment below 2^63. Answers how many waits ended: none, since no call waits for a moment.
+/// Each thread that waits for input reads [`END_OF_INPUT`], in order of waiting.
+#[tactic(auto, using(crate::proofs::Readers::one_woken, crate::proofs::Readers::none_woken, crate::proofs::Readers::one_fewer))]
+fn end_readers(threads: &mut Threads)
+    ensures { threads.new ≡ all_woken END_OF_INPUT (queue_of Input threads.old) threads.old }
+{
+    while let Some(wait) = threads.first_waiter(Object::Input) {
+        threads.known();
+        threads.wake(wait.thread, END_OF_INPUT);
+    }
+}
+
+/// Some ticks pass, up to a moment below 2^63. Each wait whose deadline comes ends, in order of deadline and then of
+/// thread; answers how many.
 pub fn tick(tables: &mut Tables, ticks: u32) -> u32
     requires clock { tables.old.clock + ticks < 2 ^ 63 }
     requires well_formed { IsWellFormed tables.old }
@@ -33,6 +69,8 @@ pub fn tick(tables: &mut Tables, ticks: u32) -> u32
     ensures tables { tables.new ≡ (ticked ticks tables.old).tables }
     ensures ended { result ≡ (ticked ticks tables.old).ended }
 {
-    tables.clock += ticks as u64;
-    0
+    let now = tables.clock + ticks as u64;
+    let ended = end_due_waits(tables, now);
+    tables.clock = now;
+    ended
 }

@@ -1,5 +1,5 @@
 //! The console's input.
-ghost use Rattle.std.specs.Prelude.{◌≡◌, ◌+◌, ◌≤◌, ◌++◌, [], length, IfOk};
+ghost use Rattle.std.specs.Prelude.{◌≡◌, ◌+◌, ◌≤◌, ◌++◌, [], length, drop, slice_get, IfOk};
 
 use circular_buffer::HeapCircularBuffer;
 use std::alloc::{AllocError, Global};
@@ -42,6 +42,14 @@ impl InputQueue {
         ensures within { result ≤ INPUT_LIMIT }
     {
         self.bytes.len()
+    }
+
+    /// The first byte, which the queue doesn't have any more, if there is one.
+    pub fn pop_first(&mut self) -> Option<u8>
+        ensures byte { result ≡ slice_get self.old 0 }
+        ensures rest { self.new ≡ drop 1 self.old }
+    {
+        self.bytes.pop_front()
     }
 
     /// Appends bytes. There must be room for them.

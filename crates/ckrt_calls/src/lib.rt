@@ -2,12 +2,16 @@
 #![tactic(auto)]
 
 mod calls;
+mod console;
+mod due;
 mod events;
 mod input;
 mod number;
 mod table;
+mod time;
 
 pub use calls::call;
+pub use console::END_OF_INPUT;
 pub use events::{close_input, take_input, tick};
 pub use input::{INPUT_LIMIT, InputQueue};
 pub use number::Call;

@@ -9,6 +9,12 @@ pub enum Call {
     Exit,
     /// 2 (byte): a byte goes to the console.
     Putc,
+    /// 3: the first byte of the console's input. 0xFFFFFFFF where it has ended; else the thread waits for one.
+    Getc,
+    /// 4: the clock in ticks, the low word in x10 and the high word in x11.
+    Clock,
+    /// 5 (low, high): waits for a moment of the clock.
+    SleepUntil,
     /// 10 (start, argument, stack, detached): a thread begins. Its id goes to x11.
     Create,
     /// 11 (id): waits for the end of a thread. Its value goes to x11.
@@ -27,8 +33,22 @@ pub enum Call {
     MutexLock,
     /// 23 (mutex): locks a mutex where that needs no wait.
     MutexTryLock,
+    /// 24 (mutex, low, high): locks a mutex, or waits for it until a moment of the clock.
+    MutexTimedLock,
     /// 25 (mutex): unlocks a mutex once.
     MutexUnlock,
+    /// 30 (condition): a condition is initialised.
+    ConditionInit,
+    /// 31 (condition): a condition is destroyed.
+    ConditionDestroy,
+    /// 32 (condition, mutex): unlocks a mutex once and waits at a condition; then locks the mutex again.
+    ConditionWait,
+    /// 33 (condition, mutex, low, high): the same, until a moment of the clock at the latest.
+    ConditionTimedWait,
+    /// 34 (condition): who waits longest at a condition waits no more.
+    ConditionSignal,
+    /// 35 (condition): nobody waits at a condition any more.
+    ConditionBroadcast,
 }
 
 impl Call {
@@ -39,6 +59,9 @@ impl Call {
         match number {
             1 => Some(Call::Exit),
             2 => Some(Call::Putc),
+            3 => Some(Call::Getc),
+            4 => Some(Call::Clock),
+            5 => Some(Call::SleepUntil),
             10 => Some(Call::Create),
             11 => Some(Call::Join),
             12 => Some(Call::Detach),
@@ -48,7 +71,14 @@ impl Call {
             21 => Some(Call::MutexDestroy),
             22 => Some(Call::MutexLock),
             23 => Some(Call::MutexTryLock),
+            24 => Some(Call::MutexTimedLock),
             25 => Some(Call::MutexUnlock),
+            30 => Some(Call::ConditionInit),
+            31 => Some(Call::ConditionDestroy),
+            32 => Some(Call::ConditionWait),
+            33 => Some(Call::ConditionTimedWait),
+            34 => Some(Call::ConditionSignal),
+            35 => Some(Call::ConditionBroadcast),
             _ => None,
         }
     }

@@ -1,8 +1,11 @@
 pub mod Disk
 pub mod Failing
+pub mod FileCalls
 pub mod FileDisk
 pub mod History
 pub mod Marked
+pub mod MemoryFile
 pub mod Stop
 pub mod Stopping
+pub mod SystemFile
 pub mod Transfer

@@ -12,8 +12,8 @@ pub struct DeviceFault;
 /// A fixed number of bytes, which are read and written by offset. A range that was written is pending until a sync
 /// answers Ok, and a stop may leave any bytes there.
 ///
-/// The clauses on bytes and on what a stop may leave are those of an honest disk. Those on size, failures, calls and
-/// the named stop hold of every disk.
+/// A disk is honest up to now where its calls so far have kept the model. The clauses on bytes and on what a stop may
+/// leave are those of calls after which it is. Those on size, failures, calls and the named stop hold of every disk.
 pub trait Disk {
     /// The number of its bytes.
     ghost size: { Self → ℕ };
@@ -39,7 +39,7 @@ pub trait Disk {
     /// The call at which the disk is to stop, if it names one; 0 is never.
     ghost named_stop: { Self → Option ℕ };
 
-    /// Whether the laws on bytes and images hold of it.
+    /// Whether its calls up to now have kept the model, so that the laws on bytes and images hold of it.
     ghost is_honest: { Self → Type 0 };
 
     /// What a kind of disk says of a read beside the model: the disk before it, the offset, the buffer before and
@@ -59,11 +59,11 @@ pub trait Disk {
     /// Reads the bytes from the offset `at` on. A read that fails changes nothing on the disk.
     fn read(&mut self, at: usize, buf: &mut [u8]) -> Result<(), DeviceFault>
         requires { at + length buf.old ≤ size self.old }
-        ensures bytes { OnOk result (is_honest self.old → buf.new ≡ take (length buf.old) (drop at (content self.old))) }
-        ensures content { is_honest self.old → content self.new ≡ content self.old }
-        ensures pending { is_honest self.old → (i : ℕ) → (pending self.new i ↔ pending self.old i) }
-        ensures time { is_honest self.old → Elapses (moment self.old) (moment self.new) (left_since self.old) (left_since self.new) (λ _. ⊥) }
-        ensures honest { is_honest self.new ↔ is_honest self.old }
+        ensures bytes { OnOk result (is_honest self.new → buf.new ≡ take (length buf.old) (drop at (content self.old))) }
+        ensures content { is_honest self.new → content self.new ≡ content self.old }
+        ensures pending { is_honest self.new → (i : ℕ) → (pending self.new i ↔ pending self.old i) }
+        ensures time { is_honest self.new → Elapses (moment self.old) (moment self.new) (left_since self.old) (left_since self.new) (λ _. ⊥) }
+        ensures honest { is_honest self.new → is_honest self.old }
         ensures size { size self.new ≡ size self.old }
         ensures failures { CountsFault (failures self.old) (failures self.new) result }
         ensures calls { calls self.new ≡ calls self.old }
@@ -75,11 +75,11 @@ pub trait Disk {
     /// that fails may leave any bytes in the pending ranges.
     fn write(&mut self, at: usize, bytes: &[u8]) -> Result<(), DeviceFault>
         requires { at + length bytes.now ≤ size self.old }
-        ensures written { OnOk result (is_honest self.old → IsOverwritten (content self.old) at bytes.now (content self.new)) }
-        ensures torn { OnErr result (is_honest self.old → IsImage (content self.old) (pending self.new) (content self.new)) }
-        ensures pending { is_honest self.old → (i : ℕ) → (pending self.new i ↔ (pending self.old i ⊎ IsWithin at (length bytes.now) i)) }
-        ensures time { is_honest self.old → Elapses (moment self.old) (moment self.new) (left_since self.old) (left_since self.new) (IsImage (content self.old) (pending self.new)) }
-        ensures honest { is_honest self.new ↔ is_honest self.old }
+        ensures written { OnOk result (is_honest self.new → IsOverwritten (content self.old) at bytes.now (content self.new)) }
+        ensures torn { OnErr result (is_honest self.new → IsImage (content self.old) (pending self.new) (content self.new)) }
+        ensures pending { is_honest self.new → (i : ℕ) → (pending self.new i ↔ (pending self.old i ⊎ IsWithin at (length bytes.now) i)) }
+        ensures time { is_honest self.new → Elapses (moment self.old) (moment self.new) (left_since self.old) (left_since self.new) (IsImage (content self.old) (pending self.new)) }
+        ensures honest { is_honest self.new → is_honest self.old }
         ensures size { size self.new ≡ size self.old }
         ensures failures { CountsFault (failures self.old) (failures self.new) result }
         ensures calls { calls self.new ≡ calls self.old + 1 }
@@ -90,12 +90,12 @@ pub trait Disk {
     /// Makes what was written durable: after Ok nothing is pending. A sync that fails may leave any bytes in the
     /// pending ranges.
     fn sync(&mut self) -> Result<(), DeviceFault>
-        ensures nothing_pending { OnOk result (is_honest self.old → (i : ℕ) → ¬ pending self.new i) }
-        ensures content { OnOk result (is_honest self.old → content self.new ≡ content self.old) }
-        ensures torn { OnErr result (is_honest self.old → IsImage (content self.old) (pending self.old) (content self.new)) }
-        ensures pending { OnErr result (is_honest self.old → (i : ℕ) → (pending self.new i ↔ pending self.old i)) }
-        ensures time { is_honest self.old → Elapses (moment self.old) (moment self.new) (left_since self.old) (left_since self.new) (IsImage (content self.old) (pending self.old)) }
-        ensures honest { is_honest self.new ↔ is_honest self.old }
+        ensures nothing_pending { OnOk result (is_honest self.new → (i : ℕ) → ¬ pending self.new i) }
+        ensures content { OnOk result (is_honest self.new → content self.new ≡ content self.old) }
+        ensures torn { OnErr result (is_honest self.new → IsImage (content self.old) (pending self.old) (content self.new)) }
+        ensures pending { OnErr result (is_honest self.new → (i : ℕ) → (pending self.new i ↔ pending self.old i)) }
+        ensures time { is_honest self.new → Elapses (moment self.old) (moment self.new) (left_since self.old) (left_since self.new) (IsImage (content self.old) (pending self.old)) }
+        ensures honest { is_honest self.new → is_honest self.old }
         ensures size { size self.new ≡ size self.old }
         ensures failures { CountsFault (failures self.old) (failures self.new) result }
         ensures calls { calls self.new ≡ calls self.old + 1 }

@@ -8,8 +8,9 @@ ghost use Rattle.ckrt_disk.specs.Stop.{named_none};
 use crate::disk::{DeviceFault, Disk};
 use crate::history::History;
 use crate::positioned::PositionedFile;
+use crate::system_file::{Holds, SystemFile};
 use crate::transfer::Transfer;
-use std::fs::{Files, OpenFile, OpenOptions};
+use std::fs::{File, Files, OpenOptions};
 use std::io;
 
 /// A disk over a file whose length at opening is its size. Nothing is written beyond that length. It is honest where
@@ -42,16 +43,23 @@ impl<F: PositionedFile> FileDisk<F> {
             failures: 0,
         }
     }
+}
 
-    /// Opens the file at `path` to read and write it. A missing file, a directory and what else the system refuses
-    /// are its errors.
-    pub fn open<R: Files<File = F>>(rt: &R, path: &str) -> io::Result<FileDisk<F>>
-    where
-        F: OpenFile,
+impl<H: Holds> FileDisk<SystemFile<H>> {
+    /// Opens the file at `path` to read and write it; its length in bytes is the disk's size. A missing file, a directory
+    /// and what else the system refuses are its errors. The disk is honest exactly where `H` names as many bytes at
+    /// opening.
+    pub fn open<R: Files<File = File>>(rt: &R, path: &str) -> io::Result<FileDisk<SystemFile<H>>>
+        ensures honest { IfOk result (λ disk. ⟦<FileDisk<SystemFile<H>> as Disk>⟧.is_honest disk ↔ (length (H.held 0) ≡ ⟦<FileDisk<SystemFile<H>> as Disk>⟧.size disk)) }
+        ensures content { IfOk result (λ disk. ⟦<FileDisk<SystemFile<H>> as Disk>⟧.content disk ≡ H.held 0) }
+        ensures pending { IfOk result (λ disk. (i : ℕ) → (⟦<FileDisk<SystemFile<H>> as Disk>⟧.pending disk i ↔ H.unsettled i)) }
+        ensures calls { IfOk result (λ disk. ⟦<FileDisk<SystemFile<H>> as Disk>⟧.calls disk ≡ 0) }
+        ensures failures { IfOk result (λ disk. ⟦<FileDisk<SystemFile<H>> as Disk>⟧.failures disk ≡ 0) }
+        ensures named_stop { IfOk result (λ disk. ⟦<FileDisk<SystemFile<H>> as Disk>⟧.named_stop disk ≡ None) }
     {
         let file = OpenOptions::new().read(true).write(true).open(rt, path)?;
         let size = file.metadata()?.len() as usize;
-        Ok(FileDisk::new(file, size))
+        Ok(FileDisk::new(SystemFile::new(file), size))
     }
 }
 
@@ -66,11 +74,11 @@ fn read_on<F: PositionedFile>(
     requires place { done ≤ length buf.old }
     requires small { at + length buf.old < 2 ^ 64 }
     ensures bound { IfOk result (λ next. next ≤ length buf.old) }
-    ensures bytes { IfOk result (λ next. F.keeps_model file.old → take done buf.old ≡ take done (drop at (F.content file.old)) → take next buf.new ≡ take next (drop at (F.content file.old))) }
-    ensures content { F.keeps_model file.old → F.content file.new ≡ F.content file.old }
-    ensures pending { F.keeps_model file.old → (i : ℕ) → (F.pending file.new i ↔ F.pending file.old i) }
+    ensures bytes { IfOk result (λ next. F.keeps_model file.new → take done buf.old ≡ take done (drop at (F.content file.old)) → take next buf.new ≡ take next (drop at (F.content file.old))) }
+    ensures content { F.keeps_model file.new → F.content file.new ≡ F.content file.old }
+    ensures pending { F.keeps_model file.new → (i : ℕ) → (F.pending file.new i ↔ F.pending file.old i) }
     ensures len { F.len file.new ≡ F.len file.old }
-    ensures keeps_model { F.keeps_model file.new ↔ F.keeps_model file.old }
+    ensures keeps_model { F.keeps_model file.new → F.keeps_model file.old }
 {
     match file.read_some(at + done, &mut buf[done..]) {
         Transfer::Done(n) => Ok(done + n),
@@ -82,11 +90,11 @@ fn read_on<F: PositionedFile>(
 // Reads until the buffer is full. A file that ends before is a fault.
 fn read_all<F: PositionedFile>(file: &mut F, at: usize, buf: &mut [u8]) -> Result<(), DeviceFault>
     requires { at + length buf.old < 2 ^ 64 }
-    ensures bytes { OnOk result (F.keeps_model file.old → buf.new ≡ take (length buf.old) (drop at (F.content file.old))) }
-    ensures content { F.keeps_model file.old → F.content file.new ≡ F.content file.old }
-    ensures pending { F.keeps_model file.old → (i : ℕ) → (F.pending file.new i ↔ F.pending file.old i) }
+    ensures bytes { OnOk result (F.keeps_model file.new → buf.new ≡ take (length buf.old) (drop at (F.content file.old))) }
+    ensures content { F.keeps_model file.new → F.content file.new ≡ F.content file.old }
+    ensures pending { F.keeps_model file.new → (i : ℕ) → (F.pending file.new i ↔ F.pending file.old i) }
     ensures len { F.len file.new ≡ F.len file.old }
-    ensures keeps_model { F.keeps_model file.new ↔ F.keeps_model file.old }
+    ensures keeps_model { F.keeps_model file.new → F.keeps_model file.old }
 {
     let mut done = 0;
     for _ in 0..u64::MAX {
@@ -109,11 +117,11 @@ fn write_on<F: PositionedFile>(
     requires place { done ≤ length bytes.now }
     requires small { at + length bytes.now < 2 ^ 64 }
     ensures bound { IfOk result (λ next. next ≤ length bytes.now) }
-    ensures written { IfOk result (λ next. (start : List ℕ) → F.keeps_model file.old → at + length bytes.now ≤ F.len file.old → at + length bytes.now ≤ length start → IsOverwritten start at (take done bytes.now) (F.content file.old) → IsOverwritten start at (take next bytes.now) (F.content file.new)) }
-    ensures torn { OnErr result (F.keeps_model file.old → IsImage (F.content file.old) (F.pending file.new) (F.content file.new)) }
-    ensures pending { F.keeps_model file.old → (i : ℕ) → (F.pending file.new i ↔ (F.pending file.old i ⊎ IsWithin (at + done) (length bytes.now - done) i)) }
+    ensures written { IfOk result (λ next. (start : List ℕ) → F.keeps_model file.new → at + length bytes.now ≤ F.len file.old → at + length bytes.now ≤ length start → IsOverwritten start at (take done bytes.now) (F.content file.old) → IsOverwritten start at (take next bytes.now) (F.content file.new)) }
+    ensures torn { OnErr result (F.keeps_model file.new → IsImage (F.content file.old) (F.pending file.new) (F.content file.new)) }
+    ensures pending { F.keeps_model file.new → (i : ℕ) → (F.pending file.new i ↔ (F.pending file.old i ⊎ IsWithin (at + done) (length bytes.now - done) i)) }
     ensures len { F.len file.new ≡ F.len file.old }
-    ensures keeps_model { F.keeps_model file.new ↔ F.keeps_model file.old }
+    ensures keeps_model { F.keeps_model file.new → F.keeps_model file.old }
 {
     let (_, rest) = bytes.split_at(done);
     match file.write_some(at + done, rest) {
@@ -126,11 +134,11 @@ fn write_on<F: PositionedFile>(
 // Writes until all bytes are written.
 fn write_all<F: PositionedFile>(file: &mut F, at: usize, bytes: &[u8]) -> Result<(), DeviceFault>
     requires { at + length bytes.now < 2 ^ 64 }
-    ensures written { OnOk result (F.keeps_model file.old → at + length bytes.now ≤ F.len file.old → IsOverwritten (F.content file.old) at bytes.now (F.content file.new)) }
-    ensures torn { OnErr result (F.keeps_model file.old → at + length bytes.now ≤ F.len file.old → IsImage (F.content file.old) (F.pending file.new) (F.content file.new)) }
-    ensures pending { F.keeps_model file.old → (i : ℕ) → (F.pending file.new i ↔ (F.pending file.old i ⊎ IsWithin at (length bytes.now) i)) }
+    ensures written { OnOk result (F.keeps_model file.new → at + length bytes.now ≤ F.len file.old → IsOverwritten (F.content file.old) at bytes.now (F.content file.new)) }
+    ensures torn { OnErr result (F.keeps_model file.new → at + length bytes.now ≤ F.len file.old → IsImage (F.content file.old) (F.pending file.new) (F.content file.new)) }
+    ensures pending { F.keeps_model file.new → (i : ℕ) → (F.pending file.new i ↔ (F.pending file.old i ⊎ IsWithin at (length bytes.now) i)) }
     ensures len { F.len file.new ≡ F.len file.old }
-    ensures keeps_model { F.keeps_model file.new ↔ F.keeps_model file.old }
+    ensures keeps_model { F.keeps_model file.new → F.keeps_model file.old }
 {
     let mut done = 0;
     for turn in 0..u64::MAX {

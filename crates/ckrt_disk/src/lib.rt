@@ -4,15 +4,19 @@
 //! stop at any moment may leave, and what may be counted on.
 #![tactic(auto)]
 
+mod calls;
 mod disk;
 mod failing;
 mod file;
+mod file_call;
 mod history;
 mod marked_bytes;
 mod memory;
+mod memory_file;
 mod positioned;
 mod stopping;
 mod synced;
+mod system_file;
 #[cfg(test)]
 mod tests;
 mod transfer;
@@ -20,8 +24,11 @@ mod transfer;
 pub use disk::{DeviceFault, Disk};
 pub use failing::FailingDisk;
 pub use file::FileDisk;
+pub use file_call::FileCall;
 pub use memory::MemoryDisk;
+pub use memory_file::MemoryFile;
 pub use positioned::PositionedFile;
 pub use stopping::StoppingDisk;
 pub use synced::write_synced;
+pub use system_file::{Holds, SystemFile};
 pub use transfer::Transfer;

@@ -1,8 +1,7 @@
 //! Harts: threads go onto them, and they run.
 ghost use Rattle.std.specs.Prelude.{◌≡◌, ◌<◌, ◌≤◌, ◌-◌, ◌%◌, ℕ, List, length, true, false, Some, None, IsSome, IsNone, IfSome};
-ghost use Rattle.ckrt_thread.specs.State.{is_live, is_ready, is_waiting, placed_on, thread_of};
+ghost use Rattle.ckrt_thread.specs.State.{is_live, is_ready, is_waiting, placed_on};
 ghost use Rattle.ckrt_thread.specs.declared.records.CallResult.TheVariants.{Done};
-ghost use Rattle.ckrt_thread.specs.declared.records.Thread.TheVariants as thread;
 ghost use Rattle.ckrt_calls.specs.declared.table.Status.TheVariants.{Running, Faulted};
 ghost use Rattle.ckrt_calls.specs.Table as calls;
 ghost use Rattle.ckrt_calls.specs.WellFormed.{IsWellFormed};
@@ -16,7 +15,7 @@ use arrayvec::ArrayVec;
 use ckrt_calls::{Status, Tables, call, end_thread};
 use ckrt_memory::Memory;
 use ckrt_rv32i::{Bus, Cause, Outcome, Regs};
-use ckrt_thread::{CallResult, Live, RETURN_GATE, Thread, UNWIND_GATE};
+use ckrt_thread::{CallResult, RETURN_GATE, UNWIND_GATE};
 
 /// How many bytes a run puts at most.
 pub const RUN_OUTPUT: usize = 1_024;
@@ -57,21 +56,18 @@ fn stop(tables: &Tables, hart: usize, output: &ArrayVec<u8, 1024>) -> Option<How
 }
 
 /// Who is on the hart, which isn't idle.
-fn runner(tables: &Tables, hart: usize) -> (u8, Live)
+fn runner(tables: &Tables, hart: usize) -> u8
     requires { IsSome (hart_of tables.now hart) }
-    ensures on { hart_of tables.now hart ≡ Some result.0 }
-    ensures live { thread_of tables.now.threads result.0 ≡ Some (thread.Live result.1) }
-    ensures aligned { result.1.regs.pc % 4 ≡ 0 }
-    ensures id { result.0 ≤ 64 }
-    ensures free { is_waiting tables.now.threads result.0 ≡ false }
+    ensures on { hart_of tables.now hart ≡ Some result }
+    ensures live { is_live tables.now.threads result ≡ true }
+    ensures id { result ≤ 64 }
+    ensures free { is_waiting tables.now.threads result ≡ false }
 {
     let Some(thread) = tables.threads.on_hart(hart) else {
         unreachable!()
     };
-    let Some(Thread::Live(live)) = tables.threads.thread(u32::from(thread)) else {
-        unreachable!()
-    };
-    (thread, live)
+    tables.threads.known_live(thread);
+    thread
 }
 
 /// A fault ends the program: thread, pc and cause stay in its status.
@@ -207,7 +203,9 @@ fn turn(
     ensures follows { ⟦<Memory as Bus>⟧.Follows memory.old memory.new }
     ensures run { run_on limit hart (record { bytes = memory.old; tables = tables.old }) output.old.items ≡ stopped (run_on result.0) result.1 result.0 hart (record { bytes = memory.new; tables = tables.new }) output.new.items }
 {
-    let (thread, live) = runner(tables, hart);
+    let thread = runner(tables, hart);
+    let live = tables.threads.live(thread);
+    let initial = live.initial;
     let mut regs = live.regs;
     memory.known();
     let (left, outcome) = burst(memory, &mut regs, limit);
@@ -215,7 +213,7 @@ fn turn(
     if left == 0 {
         return (0, Some(How::On));
     }
-    let put = end_burst(tables, outcome, live.initial, thread, &regs);
+    let put = end_burst(tables, outcome, initial, thread, &regs);
     put_byte(output, put);
     (left - 1, stop(tables, hart, output))
 }

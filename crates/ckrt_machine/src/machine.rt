@@ -57,6 +57,20 @@ impl Machine {
         })
     }
 
+    /// The program that has this memory and these tables. It takes no memory of its own.
+    pub fn from_parts(memory: Memory, tables: Tables) -> Machine
+        requires { IsWellFormed tables }
+        ensures state { result.state ≡ record { bytes = memory; tables = tables } }
+        ensures output { result.output ≡ [] }
+    {
+        let output = ArrayVec::new();
+        Machine {
+            memory,
+            tables,
+            output,
+        }
+    }
+
     /// What holds of every machine: its tables are well-formed, and its memory is below 4 MiB.
     pub fn known(&self)
         ensures well_formed { IsWellFormed self.now.state.tables }

@@ -37,7 +37,7 @@ module _ {T : Type 0} where
       let rest = place_of_point a es i (omega arith) ((λ k d _ below. p.0 (suc k) d (omega arith) (omega arith)), (λ k d from below. p.1 (suc k) d (omega arith) (omega arith))) in
       grind (arith, nat_tests)
 
-  above_no_entry : (n a : ℕ) (es : List (Entry T)) → a ≤ n → are_above n es ≡ true → has_entry a es ≡ false
+  pub above_no_entry : (n a : ℕ) (es : List (Entry T)) → a ≤ n → are_above n es ≡ true → has_entry a es ≡ false
   above_no_entry n a [] l h = refl
   above_no_entry n a (e ∷ es) l h = grind (arith, nat_tests, above_no_entry n a es)
 
@@ -138,7 +138,7 @@ module _ {T : Type 0} where
   above_stored n a v [] l h = grind (arith, nat_tests)
   above_stored n a v (e ∷ es) l h = grind (arith, nat_tests, above_stored n a v es)
 
-  above_weaker : (n k : ℕ) (es : List (Entry T)) → k ≤ n → are_above n es ≡ true → are_above k es ≡ true
+  pub above_weaker : (n k : ℕ) (es : List (Entry T)) → k ≤ n → are_above n es ≡ true → are_above k es ≡ true
   above_weaker n k [] l h = refl
   above_weaker n k (e ∷ es) l h = grind (arith, nat_tests, above_weaker n k es)
 

@@ -3,4 +3,5 @@ pub mod Granting
 pub mod InUse
 pub mod Rows
 pub mod Table
+pub mod Kept
 pub mod WellFormed

@@ -5,7 +5,7 @@ use Rattle.ckrt_thread.specs.declared.records.RetakeResult.{RetakeResult}
 use Rattle.ckrt_thread.specs.declared.records.Wait.{Wait}
 use Rattle.ckrt_thread.specs.declared.records.Reason.TheVariants as reason
 use Rattle.ckrt_thread.specs.declared.records.Object.TheVariants as object
-use Rattle.ckrt_thread.specs.Waits.{is_for, is_of, retake_code}
+use Rattle.ckrt_thread.specs.Waits.{is_for, is_of, retake_code, is_moment}
 use Rattle.ckrt_thread.specs.State.{State, woken, first_waiter, is_waiting, set_word, IsWellFormed}
 use Rattle.ckrt_thread.specs.Granting.{wait_result}
 use Rattle.ckrt_thread.proofs.Known.{found_range}
@@ -14,7 +14,7 @@ use Rattle.ckrt_mutex.specs.declared.records.Kind.{Kind}
 use Rattle.ckrt_mutex.specs.declared.records.Kind.TheVariants.{Normal, Recursive, ErrorCheck}
 use Rattle.ckrt_mutex.specs.declared.records.Mutex.{Mutex}
 use Rattle.ckrt_mutex.specs.Mutex.{free, is_owned, is_owner, is_thread, is_available, is_normal, is_recursive, is_errorcheck, is_proper_count, mutex_at, put}
-use Rattle.ckrt_mutex.specs.Rows.{After, is_named, is_full, is_busy, used_count, kind_of, init_kind, init_row, destroy_row, taken, lock_row, trylock_row, released, unlock_row, retake_row}
+use Rattle.ckrt_mutex.specs.Rows.{After, is_named, is_full, is_busy, used_count, kind_of, init_kind, init_row, destroy_row, taken, taken_or, waiting, waiting_until, lock_row, timedlock_row, trylock_row, released, unlock_row, retake_row}
 use Rattle.ckrt_mutex.specs.WellFormed.{can_retake, IsWellFormedWith}
 use Rattle.ckrt_mutex.proofs.Table.{either, owned_by_some, proper_at, proper_locked, proper_once}
 use Rattle.ckrt_mutex.proofs.Granting.{grants_none, grants_first}
@@ -79,13 +79,24 @@ relock : (o n : Bool) (k : Kind) → (n || (o && is_recursive k)) ≡ false → 
 relock true n k v e = kind_left k (grind (arith, nat_tests)) e
 relock false n k v e = refl
 
-pub well_formed_lock : (t a : ℕ) (s : State) (ms : List (Entry Mutex)) → IsWellFormedWith s ms → (0 < t) × (t ≤ 64) → is_waiting s t ≡ false → IsKept (lock_row t a s ms)
-well_formed_lock t a s ms h id w =
+-- where a thread would wait, it may wait with or without a deadline
+well_formed_taken_or : (wait : After) (t a : ℕ) (s : State) (ms : List (Entry Mutex)) → IsWellFormedWith s ms → (0 < t) × (t ≤ 64) → is_waiting s t ≡ false
+    → (((d : Option ℕ) → IsKept (waiting t a d s ms)) → IsKept wait) → IsKept (taken_or wait (mutex_at a ms) t a s ms)
+well_formed_taken_or wait t a s ms h id w k =
     let m = mutex_at a ms in
     either IsKept (is_available t m) _ _ (λ v. well_formed_taken t a s ms h id w v) (λ v.
     either IsKept (is_owner t m && is_errorcheck m.kind) _ _ (λ _. h) (λ e.
     let o = not_available_owned t m v in
-    well_formed_blocked (reason.Lock a) t None s ms a refl (owned_not_full a s ms o) h o (relock (is_owner t m) (is_none m.owner) m.kind v e) refl refl))
+    k (λ d. well_formed_blocked (reason.Lock a) t d s ms a refl (owned_not_full a s ms o) h o (relock (is_owner t m) (is_none m.owner) m.kind v e) refl refl)))
+
+pub well_formed_lock : (t a : ℕ) (s : State) (ms : List (Entry Mutex)) → IsWellFormedWith s ms → (0 < t) × (t ≤ 64) → is_waiting s t ≡ false → IsKept (lock_row t a s ms)
+well_formed_lock t a s ms h id w = well_formed_taken_or (waiting t a None s ms) t a s ms h id w (λ k. k None)
+
+pub well_formed_timedlock : (t a moment clock : ℕ) (s : State) (ms : List (Entry Mutex)) → IsWellFormedWith s ms → (0 < t) × (t ≤ 64) → is_waiting s t ≡ false → IsKept (timedlock_row t a moment clock s ms)
+well_formed_timedlock t a moment clock s ms h id w =
+    well_formed_taken_or (waiting_until t a moment clock s ms) t a s ms h id w (λ k.
+    either IsKept (not (is_moment moment)) _ _ (λ _. h) (λ _.
+    either IsKept (nat_le moment clock) _ _ (λ _. h) (λ _. k (Some moment))))
 
 pub well_formed_trylock : (t a : ℕ) (s : State) (ms : List (Entry Mutex)) → IsWellFormedWith s ms → (0 < t) × (t ≤ 64) → is_waiting s t ≡ false → IsKept (trylock_row t a s ms)
 well_formed_trylock t a s ms h id w =

@@ -13,7 +13,7 @@ use Rattle.ckrt_mutex.proofs.AddressMap.{lookup_all, lookup_removed, lookup_stor
 pub proper_at : (a : ℕ) (ms : List (Entry Mutex)) → IsTable ms → is_proper (mutex_at a ms) ≡ true
 proper_at a ms t = lookup_all is_proper a ms (free Normal) t.proper refl
 
-plain_is : (k : Kind) (n : ℕ) (o : Option ℕ) → (is_normal k && is_none o) ≡ true → is_proper_count k n o ≡ true → free Normal ≡ record { kind = k; owner = o; count = n }
+pub plain_is : (k : Kind) (n : ℕ) (o : Option ℕ) → (is_normal k && is_none o) ≡ true → is_proper_count k n o ≡ true → free Normal ≡ record { kind = k; owner = o; count = n }
 plain_is Normal zero None p c = refl
 plain_is Normal (suc n) None p c = absurd (grind (arith, nat_tests))
 plain_is Normal n (Some t) p c = absurd (cc)

@@ -70,7 +70,7 @@ waits_once s t k = grind (arith, nat_tests, k.placed t)
 abbrev pub IsAmong : List Wait → List Wait → Type 0
 IsAmong vs ws = (f : Wait → Bool) → list_all f ws ≡ true → list_all f vs ≡ true
 
-any_among : (vs ws : List Wait) → IsAmong vs ws → (f : Wait → Bool) → list_any f vs ≡ true → list_any f ws ≡ true
+pub any_among : (vs ws : List Wait) → IsAmong vs ws → (f : Wait → Bool) → list_any f vs ≡ true → list_any f ws ≡ true
 any_among vs ws among f h = grind (arith, nat_tests, all_not f ws, among (λ w. not (f w)), none_of_all f vs)
 
 -- THE RULES for waits, after a mutex has become another
@@ -106,7 +106,7 @@ well_formed_change a m s z ms p h c few among q k1 k2 k3 k4 = record {
   condition_waiters_can_retake = all_meet_put can_wake a m ms h.table c p k4 z.waits q (among (meets can_wake ms) h.condition_waiters_can_retake);
 }
 
-used_put : (a q : ℕ) (m : Mutex) (s z : State) (ms : List (Entry Mutex)) → IsAmong z.waits s.waits → is_used q z (put a m ms) ≡ true → (nat_eq q a || is_used q s ms) ≡ true
+pub used_put : (a q : ℕ) (m : Mutex) (s z : State) (ms : List (Entry Mutex)) → IsAmong z.waits s.waits → is_used q z (put a m ms) ≡ true → (nat_eq q a || is_used q s ms) ≡ true
 used_put a q m s z ms among u =
     grind (arith, nat_tests, any_in_use named q z.waits (put a m ms), any_in_use named q s.waits ms, entry_put a q m ms, any_among z.waits s.waits among (names q))
 
@@ -253,7 +253,7 @@ found_all : (p f : Wait → Bool) (ws : List Wait) (w : Wait) → find p ws ≡ 
 found_all p f [] w e h = absurd (cc)
 found_all p f (v ∷ ws) w e h = grind (arith, nat_tests, found_all p f ws w)
 
-found_any : (p f : Wait → Bool) (ws : List Wait) (w : Wait) → find p ws ≡ Some w → f w ≡ true → list_any f ws ≡ true
+pub found_any : (p f : Wait → Bool) (ws : List Wait) (w : Wait) → find p ws ≡ Some w → f w ≡ true → list_any f ws ≡ true
 found_any p f [] w e h = absurd (cc)
 found_any p f (v ∷ ws) w e h = grind (arith, nat_tests, found_any p f ws w)
 

@@ -1,6 +1,6 @@
 -- A mutex, and the table of mutexes (POSIX.1-2017, pthread_mutex_init and pthread_mutexattr_settype).
 use Rattle.std.specs.Prelude.{ℕ, ◌==◌, ◌≡◌, nat_lt, nat_le, Bool, true, false, ◌&&◌, ◌||◌, not, if◌then◌else◌, List, Option, Some, None, is_none, is_some, unwrap_or}
-use Rattle.std.specs.List.{list_all}
+use Rattle.std.specs.List.{list_all, filter}
 use Rattle.ckrt_mutex.specs.declared.address_map.Entry.{Entry}
 use Rattle.ckrt_mutex.specs.declared.records.Kind.{Kind}
 use Rattle.ckrt_mutex.specs.declared.records.Kind.TheVariants.{Normal, Recursive, ErrorCheck}
@@ -68,6 +68,19 @@ mutex_at a ms = unwrap_or (lookup a ms) (free Normal)
 -- the table after the mutex at an address has become this one
 abbrev pub put : ℕ → Mutex → List (Entry Mutex) → List (Entry Mutex)
 put a m ms = if is_plain m then removed a ms else stored a m ms
+
+-- an entry says what no entry doesn't say where its mutex isn't free and normal
+abbrev pub is_kept : Entry Mutex → Bool
+is_kept e = not (is_plain e.value)
+
+abbrev pub kept : List (Entry Mutex) → List (Entry Mutex)
+kept es = filter is_kept es
+
+-- Entries of which some may be of free normal mutexes: such an entry stays until its room is needed (this project's
+-- choice), and the table is what is kept of them.
+pub record AreEntries (es : List (Entry Mutex)) : Type 0 where
+  pub rising : is_rising es ≡ true
+  pub proper : list_all (λ e. is_proper e.value) es ≡ true
 
 pub record IsTable (ms : List (Entry Mutex)) : Type 0 where
   pub rising : is_rising ms ≡ true

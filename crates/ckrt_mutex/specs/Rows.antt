@@ -9,14 +9,14 @@ use Rattle.ckrt_thread.specs.declared.records.CallResult.{CallResult}
 use Rattle.ckrt_thread.specs.declared.records.CallResult.TheVariants.{Done, Blocked}
 use Rattle.ckrt_thread.specs.State.{State, blocked, set_word}
 use Rattle.ckrt_thread.specs.Granting.{GrantRule, grant_waiters}
-use Rattle.ckrt_thread.specs.Waits.{retake_code}
+use Rattle.ckrt_thread.specs.Waits.{retake_code, is_moment}
 use Rattle.ckrt_thread.specs.declared.records.RetakeResult.{RetakeResult}
 use Rattle.ckrt_thread.specs.Abi.{A0}
 use Rattle.ckrt_mutex.specs.declared.address_map.Entry.{Entry}
 use Rattle.ckrt_mutex.specs.declared.records.Kind.{Kind}
 use Rattle.ckrt_mutex.specs.declared.records.Kind.TheVariants.{Normal, Recursive, ErrorCheck}
 use Rattle.ckrt_mutex.specs.declared.records.Mutex.{Mutex}
-use Rattle.ckrt_thread.specs.Errors.{EPERM, EAGAIN, EBUSY, EINVAL, EDEADLK}
+use Rattle.ckrt_thread.specs.Errors.{EPERM, EAGAIN, EBUSY, EINVAL, EDEADLK, ETIMEDOUT}
 use Rattle.ckrt_mutex.specs.InUse.{is_in_use, count_in_use}
 use Rattle.ckrt_mutex.specs.Mutex.{free, owned, is_owned, is_owner, is_available, is_normal, is_errorcheck, mutex_at, put}
 
@@ -98,15 +98,37 @@ taken m t a s ms =
     if nat_le 65535 m.count || is_full a s ms then unchanged (Done EAGAIN) s ms
     else (record { result = Done 0; threads = s; mutexes = put a (owned m.kind t (m.count + 1)) ms })
 
--- An error-checking mutex finds the deadlock of an owner that locks it again; a normal one has it.
-abbrev pub lock_of : Mutex → ℕ → ℕ → State → List (Entry Mutex) → After
-lock_of m t a s ms =
+-- An error-checking mutex finds the deadlock of an owner that locks it again; a normal one has it. `wait` is what comes
+-- of it where the thread would have to wait.
+abbrev pub taken_or : After → Mutex → ℕ → ℕ → State → List (Entry Mutex) → After
+taken_or wait m t a s ms =
     if is_available t m then taken m t a s ms
     else (if is_owner t m && is_errorcheck m.kind then unchanged (Done EDEADLK) s ms
-    else (record { result = Blocked; threads = blocked t (reason.Lock a) None s; mutexes = ms }))
+    else wait)
+
+-- the thread waits for the mutex, until the deadline at the latest if there is one
+abbrev pub waiting : ℕ → ℕ → Option ℕ → State → List (Entry Mutex) → After
+waiting t a d s ms = record { result = Blocked; threads = blocked t (reason.Lock a) d s; mutexes = ms }
+
+abbrev pub lock_of : Mutex → ℕ → ℕ → State → List (Entry Mutex) → After
+lock_of m t a s ms = taken_or (waiting t a None s ms) m t a s ms
 
 abbrev pub lock_row : ℕ → ℕ → State → List (Entry Mutex) → After
 lock_row t a s ms = lock_of (mutex_at a ms) t a s ms
+
+-- TIMEDLOCK. POSIX.1-2017, pthread_mutex_timedlock: as lock; where that would wait, a moment out of range is EINVAL, and
+-- one that the clock has reached ETIMEDOUT.
+abbrev pub waiting_until : ℕ → ℕ → ℕ → ℕ → State → List (Entry Mutex) → After
+waiting_until t a moment clock s ms =
+    if not (is_moment moment) then unchanged (Done EINVAL) s ms
+    else (if nat_le moment clock then unchanged (Done ETIMEDOUT) s ms
+    else waiting t a (Some moment) s ms)
+
+abbrev pub timedlock_of : Mutex → ℕ → ℕ → ℕ → ℕ → State → List (Entry Mutex) → After
+timedlock_of m t a moment clock s ms = taken_or (waiting_until t a moment clock s ms) m t a s ms
+
+abbrev pub timedlock_row : ℕ → ℕ → ℕ → ℕ → State → List (Entry Mutex) → After
+timedlock_row t a moment clock s ms = timedlock_of (mutex_at a ms) t a moment clock s ms
 
 abbrev pub trylock_of : Mutex → ℕ → ℕ → State → List (Entry Mutex) → After
 trylock_of m t a s ms = if is_available t m then taken m t a s ms else unchanged (Done EBUSY) s ms

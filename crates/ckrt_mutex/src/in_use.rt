@@ -97,7 +97,7 @@ fn new_at(threads: &Threads, entries: &[Entry<Mutex>], place: usize) -> usize
 
 /// Whether 256 mutexes are in use. Once the waits that are left are too few for that, it looks at none of them.
 #[tactic(auto, using(crate::proofs::InUse::count_at, crate::proofs::InUse::count_done))]
-fn are_limit_in_use(threads: &Threads, entries: &[Entry<Mutex>]) -> bool
+pub fn are_limit_in_use(threads: &Threads, entries: &[Entry<Mutex>]) -> bool
     requires rising { is_rising entries.now ≡ true }
     requires size { length entries.now ≤ 256 }
     ensures { result ≡ nat_le 256 (used_count threads.now entries.now) }

@@ -3,6 +3,7 @@
 #![tactic(auto)]
 
 mod address_map;
+mod entries;
 mod in_use;
 mod mutexes;
 mod records;

@@ -3,21 +3,24 @@ ghost use Rattle.std.specs.Prelude.{◌≡◌, ◌<◌, ◌≤◌, length, true,
 ghost use Rattle.ckrt_thread.specs.State.{is_live, is_waiting};
 ghost use Rattle.ckrt_mutex.specs.AddressMap.{has_room};
 ghost use Rattle.ckrt_mutex.specs.Mutex.{mutex_at, put, free, is_proper, is_available, is_owned, IsTable};
-ghost use Rattle.ckrt_mutex.specs.Rows.{init_row, destroy_row, lock_row, trylock_row, taken, unlock_row, released, retake_row, used_count, is_full, is_busy};
+ghost use Rattle.ckrt_mutex.specs.Rows.{init_row, destroy_row, lock_row, timedlock_row, trylock_row, taken, unlock_row, released, retake_row, used_count, is_full, is_busy};
 ghost use Rattle.ckrt_mutex.specs.WellFormed.{IsWellFormedWith, can_retake};
 ghost use Rattle.ckrt_mutex.specs.declared.records.Kind.TheVariants.{Normal};
 
-use crate::address_map::{Entry, get, remove, store};
-use crate::in_use::{is_full, is_named_by_wait};
+use crate::address_map::{Entry, remove};
+use crate::entries::{kept_of, mutex_of, put_entry};
+use crate::in_use::{are_limit_in_use, is_full, is_named_by_wait};
 use crate::records::{Kind, Mutex};
 use arrayvec::ArrayVec;
 use ckrt_thread::{
-    CallResult, EAGAIN, EBUSY, EDEADLK, EINVAL, EPERM, Object, Reason, RetakeResult, Threads,
+    CallResult, EAGAIN, EBUSY, EDEADLK, EINVAL, EPERM, ETIMEDOUT, MOMENT_END, Object, Reason,
+    RetakeResult, Threads,
 };
 use std::marker::Model;
 
 /// The mutexes of a program, by their addresses. An address at which no mutex was initialised has a free normal one.
-/// At most 256 are in use: owned, or not normal, or named by a wait.
+/// At most 256 are in use: owned, or not normal, or named by a wait. A mutex that becomes free and normal keeps its entry
+/// until the room is needed, so that no other entry moves while it is locked and unlocked.
 #[derive(Drop)]
 pub struct Mutexes {
     table: ArrayVec<Entry<Mutex>, 256>,
@@ -27,13 +30,13 @@ impl Model for Mutexes {
     ghost use Rattle.std.specs.Prelude.{List};
     ghost use Rattle.ckrt_mutex.specs.declared.address_map.Entry.{Entry};
     ghost use Rattle.ckrt_mutex.specs.declared.records.Mutex.{Mutex};
-    ghost use Rattle.ckrt_mutex.specs.Mutex.{IsTable};
+    ghost use Rattle.ckrt_mutex.specs.Mutex.{AreEntries, kept};
 
     ghost Value = { List (Entry Mutex) };
 
-    ghost view = { λ a. a.table.items };
+    ghost view = { λ a. kept a.table.items };
 
-    ghost invariant = { λ a. IsTable a.table.items };
+    ghost invariant = { λ a. AreEntries a.table.items };
 }
 
 impl Mutexes {
@@ -55,19 +58,22 @@ impl Mutexes {
     }
 
     /// The mutex at an address.
-    #[tactic(auto, using(crate::proofs::Table::proper_at))]
     pub fn mutex(&self, address: u32) -> Mutex
         ensures mutex { result ≡ mutex_at address self.now }
         ensures proper { is_proper result ≡ true }
     {
-        get(self.table.as_slice(), address).unwrap_or(Mutex::free(Kind::Normal))
+        mutex_of(self.table.as_slice(), address)
     }
 
     /// Whether the mutex is not in use, and 256 others are.
     pub fn is_full(&self, threads: &Threads, address: u32) -> bool
         ensures { result ≡ is_full address threads.now self.now }
     {
-        is_full(threads, self.table.as_slice(), address)
+        let entries = self.table.as_slice();
+        if !are_limit_in_use(threads, entries) {
+            return false;
+        }
+        is_full(threads, kept_of(entries).as_slice(), address)
     }
 
     /// Whether the mutex is owned, or named by a wait.
@@ -83,11 +89,7 @@ impl Mutexes {
         requires proper { is_proper mutex ≡ true }
         ensures { self.new ≡ put address mutex self.old }
     {
-        if mutex.is_plain() {
-            remove(&mut self.table, address);
-        } else {
-            store(&mut self.table, address, mutex);
-        }
+        put_entry(&mut self.table, address, mutex);
     }
 
     /// The mutex at an address is free and normal from now on.
@@ -208,10 +210,67 @@ impl Mutexes {
         if mutex.is_available_to(thread) {
             return self.take(threads, mutex, thread, address);
         }
-        if mutex.is_owned_by(thread) && matches!(mutex.kind, Kind::ErrorCheck) {
+        if mutex.finds_deadlock_of(thread) {
             return CallResult::Done(EDEADLK);
         }
         threads.block(thread, Reason::Lock(address), None);
+        CallResult::Blocked
+    }
+
+    /// Locks a mutex, or waits for it until a moment at the latest (POSIX.1-2017, pthread_mutex_timedlock). As `lock`;
+    /// where that would wait, EINVAL where the moment is 2^63 or above, then ETIMEDOUT where the clock has reached it.
+    /// Moment and clock are in ticks.
+    pub fn timedlock(
+        &mut self,
+        threads: &mut Threads,
+        thread: u8,
+        address: u32,
+        moment: u64,
+        clock: u64,
+    ) -> CallResult
+        requires live { is_live threads.old thread ≡ true }
+        requires free { is_waiting threads.old thread ≡ false }
+        requires well_formed { IsWellFormedWith threads.old self.old }
+        ensures well_formed { IsWellFormedWith threads.new self.new }
+        ensures result { result ≡ (timedlock_row thread address moment clock threads.old self.old).result }
+        ensures threads { threads.new ≡ (timedlock_row thread address moment clock threads.old self.old).threads }
+        ensures mutexes { self.new ≡ (timedlock_row thread address moment clock threads.old self.old).mutexes }
+    {
+        threads.known_live(thread);
+        self.take_or_wait_until(threads, thread, address, moment, clock)
+    }
+
+    /// The row of `timedlock`.
+    fn take_or_wait_until(
+        &mut self,
+        threads: &mut Threads,
+        thread: u8,
+        address: u32,
+        moment: u64,
+        clock: u64,
+    ) -> CallResult
+        requires live { is_live threads.old thread ≡ true }
+        requires free { is_waiting threads.old thread ≡ false }
+        requires few { used_count threads.old self.old ≤ 256 }
+        ensures result { result ≡ (timedlock_row thread address moment clock threads.old self.old).result }
+        ensures threads { threads.new ≡ (timedlock_row thread address moment clock threads.old self.old).threads }
+        ensures mutexes { self.new ≡ (timedlock_row thread address moment clock threads.old self.old).mutexes }
+    {
+        threads.known_live(thread);
+        let mutex = self.mutex(address);
+        if mutex.is_available_to(thread) {
+            return self.take(threads, mutex, thread, address);
+        }
+        if mutex.finds_deadlock_of(thread) {
+            return CallResult::Done(EDEADLK);
+        }
+        if moment >= MOMENT_END {
+            return CallResult::Done(EINVAL);
+        }
+        if moment <= clock {
+            return CallResult::Done(ETIMEDOUT);
+        }
+        threads.block(thread, Reason::Lock(address), Some(moment));
         CallResult::Blocked
     }
 

@@ -1,6 +1,6 @@
 //! A mutex.
-ghost use Rattle.std.specs.Prelude.{◌≡◌, Some, None};
-ghost use Rattle.ckrt_mutex.specs.Mutex.{free, owned, is_owned, is_owner, is_available, is_plain};
+ghost use Rattle.std.specs.Prelude.{◌≡◌, ◌&&◌, Some, None};
+ghost use Rattle.ckrt_mutex.specs.Mutex.{free, owned, is_owned, is_owner, is_available, is_errorcheck, is_plain};
 ghost use Rattle.ckrt_mutex.specs.Rows.{kind_of};
 
 /// What becomes of a thread that locks a mutex that it owns (POSIX.1-2017, pthread_mutexattr_settype).
@@ -84,6 +84,13 @@ impl Mutex {
         ensures { result ≡ is_available thread self.now }
     {
         self.owner.is_none() || (self.is_owned_by(thread) && matches!(self.kind, Kind::Recursive))
+    }
+
+    /// Whether this thread owns the mutex, and is told so where it locks it again.
+    pub fn finds_deadlock_of(&self, thread: u8) -> bool
+        ensures { result ≡ (is_owner thread self.now && is_errorcheck self.now.kind) }
+    {
+        self.is_owned_by(thread) && matches!(self.kind, Kind::ErrorCheck)
     }
 
     /// Whether the mutex is free and normal, as each that has no entry in the table.

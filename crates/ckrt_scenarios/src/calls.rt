@@ -4,7 +4,7 @@ ghost use Rattle.ckrt_thread.specs.State.{is_live, is_waiting};
 ghost use Rattle.ckrt_calls.specs.declared.table.Status.TheVariants.{Running};
 ghost use Rattle.ckrt_calls.specs.WellFormed.{IsWellFormed};
 
-use ckrt_calls::{Status, Tables, call};
+use ckrt_calls::{Status, Tables, call, tick};
 use ckrt_rv32i::Regs;
 use ckrt_thread::CallResult;
 use std::alloc::Global;
@@ -52,6 +52,15 @@ pub fn call_as<R: Abort>(
     arm(tables, thread, &regs);
     let (result, _) = call(tables, thread);
     result
+}
+
+/// Some ticks pass; answers how many waits ended.
+pub fn tick_by<R: Abort>(rt: &R, tables: &mut Tables, ticks: u32) -> u32
+    requires { IsWellFormed tables.old }
+    ensures { IsWellFormed tables.new }
+{
+    assert!(rt; tables.clock < 0x1000_0000_0000);
+    tick(tables, ticks)
 }
 
 /// Thread 1 creates threads 2 to `last`.

@@ -11,14 +11,14 @@ const INIT: u32 = 20;
 
 const DESTROY: u32 = 21;
 
-const LOCK: u32 = 22;
+pub const LOCK: u32 = 22;
 
 const TRYLOCK: u32 = 23;
 
-const UNLOCK: u32 = 25;
+pub const UNLOCK: u32 = 25;
 
 /// The call on the mutex at this address answers this.
-fn answers<R: Abort>(
+pub fn answers<R: Abort>(
     rt: &R,
     tables: &mut Tables,
     thread: u8,
@@ -56,7 +56,7 @@ fn kinds(rt: HostRuntime) -> Result<(), Fail> {
 }
 
 /// Thread 1 locks 256 mutexes.
-fn lock_256<R: Abort>(rt: &R, tables: &mut Tables)
+pub fn lock_256<R: Abort>(rt: &R, tables: &mut Tables)
     requires { IsWellFormed tables.old }
     ensures { IsWellFormed tables.new }
 {

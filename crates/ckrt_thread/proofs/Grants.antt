@@ -1,12 +1,13 @@
 -- Queues and granting.
-use Rattle.std.proofs.Common.{◌≡◌, ℕ, zero, suc, ◌<◌, Bool, true, false, cond, List, [], ◌∷◌, length, Option, Some, None, refl, arith, slice_get}
+use Rattle.std.proofs.Common.{◌≡◌, ℕ, zero, suc, ◌+◌, ◌≤◌, ◌<◌, Bool, true, false, cond, List, [], ◌∷◌, length, Option, Some, None, refl, arith, slice_get}
 use Rattle.std.specs.List.{find, filter}
 use Rattle.std.proofs.lemmas.Bool.Decides.{nat_tests}
 use Rattle.ckrt_thread.specs.declared.records.Wait.{Wait}
 use Rattle.ckrt_thread.specs.declared.records.Object.{Object}
-use Rattle.ckrt_thread.specs.Waits.{is_for}
-use Rattle.ckrt_thread.specs.State.{State, first_waiter, woken}
+use Rattle.ckrt_thread.specs.Waits.{is_for, is_of, without}
+use Rattle.ckrt_thread.specs.State.{State, IsWellFormed, count_of, first_waiter, woken}
 use Rattle.ckrt_thread.specs.Granting.{GrantRule, queue_of, grant, grant_up_to, grant_waiters, has_admissible_waiter, is_first_admissible, wait_result}
+use Rattle.ckrt_thread.proofs.Counting.{count_of_some}
 use Rattle.ckrt_thread.proofs.WaitLemmas.{found_waits, length-without}
 
 find_first : (p : Wait → Bool) (ws : List Wait) → find p ws ≡ slice_get (filter p ws) 0
@@ -15,6 +16,28 @@ find_first p (w ∷ ws) = grind (arith, nat_tests, find_first p ws)
 
 pub first_of_queue : (o : Object) (s : State) → first_waiter o s ≡ slice_get (queue_of o s) 0
 first_of_queue o s = find_first (is_for o) s.waits
+
+-- the rest of a queue, when its first has been taken out
+
+queue_step : (p : Wait → Bool) (v w : Wait) (ws : List Wait) → find p (v ∷ ws) ≡ Some w → count_of (is_of w.thread) (v ∷ ws) ≤ 1 → (find p ws ≡ Some w → count_of (is_of w.thread) ws ≤ 1 → filter p ws ≡ w ∷ filter p (without w.thread ws)) → filter p (v ∷ ws) ≡ w ∷ filter p (without w.thread (v ∷ ws))
+queue_step p v w ws e c i =
+    let f = found_waits p ws w in
+    let some = count_of_some (is_of w.thread) ws in
+    grind (arith, nat_tests, f, some, i)
+
+queue_from : (p : Wait → Bool) (ws : List Wait) (w : Wait) → find p ws ≡ Some w → count_of (is_of w.thread) ws ≤ 1 → filter p ws ≡ w ∷ filter p (without w.thread ws)
+queue_from p [] w e c = absurd (cc)
+queue_from p (v ∷ ws) w e c = queue_step p v w ws e c (queue_from p ws w)
+
+no_queue : (p : Wait → Bool) (ws : List Wait) → find p ws ≡ None → filter p ws ≡ []
+no_queue p [] e = refl
+no_queue p (v ∷ ws) e = grind (arith, nat_tests, no_queue p ws)
+
+pub queue_rest : (o : Object) (s : State) (w : Wait) (v : ℕ) → first_waiter o s ≡ Some w → IsWellFormed s → queue_of o s ≡ w ∷ queue_of o (woken w.thread v s)
+queue_rest o s w v e h = queue_from (is_for o) s.waits w e (grind (arith, nat_tests, h.placed w.thread))
+
+pub empty_queue : (o : Object) (s : State) → first_waiter o s ≡ None → queue_of o s ≡ []
+empty_queue o s e = no_queue (is_for o) s.waits e
 
 -- GRANTING ENDS ONLY WHERE THE FIRST WAITER IS NOT ADMISSIBLE
 

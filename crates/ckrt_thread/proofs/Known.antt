@@ -9,7 +9,7 @@ use Rattle.ckrt_thread.specs.declared.records.Thread.TheVariants as thread
 use Rattle.ckrt_thread.specs.declared.records.Wait.{Wait}
 use Rattle.ckrt_thread.specs.declared.records.Object.TheVariants as object
 use Rattle.ckrt_thread.specs.Waits.{is_of, is_for}
-use Rattle.ckrt_thread.specs.State.{State, IsWellFormed, thread_of, is_live, is_live_thread, is_waiting, is_ready, is_joined, holds, places, joiners, off_hart, woken, set_word, first_waiter, free_place}
+use Rattle.ckrt_thread.specs.State.{State, IsWellFormed, thread_of, is_live, is_live_thread, is_waiting, is_ready, is_joined, holds, count_of, places, joiners, off_hart, woken, set_word, first_waiter, free_place}
 use Rattle.ckrt_thread.proofs.Counting.{count_of_none, count_of_some, none_of_count}
 use Rattle.ckrt_thread.proofs.WaitLemmas.{ids, apart, ids_distinct, ids_any, found_waits, count_of-find, count_of-without, count_of-without_found}
 use Rattle.ckrt_thread.proofs.SlotLemmas.{live_below, free_slot_none}
@@ -32,6 +32,10 @@ waiting_range s t h w = live_range s t h (waiting_live s t h w)
 
 pub waiting_index : (s : State) (t : ℕ) → IsWellFormed s → is_waiting s t ≡ true → t < 65
 waiting_index s t h w = live_index s t h (waiting_live s t h w)
+
+-- nobody waits twice
+pub waits_at_most_once : (s : State) (t : ℕ) → IsWellFormed s → count_of (is_of t) s.waits ≤ 1
+waits_at_most_once s t h = grind (arith, nat_tests, h.placed t)
 
 -- who has the first of some waits is a thread
 pub found_range : (s : State) (p : Wait → Bool) → IsWellFormed s → IfSome (find p s.waits) (λ w. (0 < w.thread) × (w.thread ≤ 64))

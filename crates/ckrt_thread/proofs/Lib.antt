@@ -1,7 +1,9 @@
 pub mod Counting
 pub mod WaitLemmas
+pub mod Marks
 pub mod SlotLemmas
 pub mod HartLemmas
 pub mod Known
 pub mod Changes
 pub mod Grants
+pub mod DueWaits

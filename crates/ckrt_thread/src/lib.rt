@@ -3,12 +3,14 @@
 #![tactic(auto)]
 
 mod abi;
+mod deadlines;
 mod errors;
 mod harts;
 mod laws;
 mod records;
 mod slots;
 mod table;
+mod wait_list;
 mod waits;
 
 pub use abi::{PROGRAM_START, RETURN_GATE, UNWIND_GATE};

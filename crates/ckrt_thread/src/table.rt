@@ -1,11 +1,16 @@
 //! The table of threads.
 ghost use Rattle.std.specs.Prelude.{◌≡◌, ◌+◌, ◌≤◌, ◌<◌, length, slice_get, IfSome, IfOk, true, false, Some, None};
+ghost use Rattle.std.specs.List.{find};
 ghost use Rattle.std.specs.Option.{option_flatten};
 ghost use Rattle.ckrt_thread.specs.Abi.{A0, A1};
 ghost use Rattle.ckrt_thread.specs.State.{IsWellFormed, thread_of, is_live, is_live_thread, is_any_live, is_initial, is_detached, regs_of, is_waiting, is_ready, first_waiter, is_joined, free_place, places, joiners, is_aligned, is_aligned_slot, fresh, with_thread_regs, set_word, with_slot, off_hart, placed_on, may_wait, blocked, unwaited, woken};
+ghost use Rattle.ckrt_thread.specs.Deadlines.{earliest_due};
+ghost use Rattle.ckrt_thread.specs.Waits.{is_of};
+ghost use Rattle.ckrt_thread.specs.declared.records.Thread.TheVariants as slots;
 ghost use Rattle.ckrt_thread.specs.Rows.{create_row, join_row, detach_row, finished};
 
 use crate::abi::{A0, A1};
+use crate::deadlines::earliest_due;
 use crate::errors::{EAGAIN, EDEADLK, EINVAL, ESRCH};
 use crate::harts::{harts_any, take_off};
 use crate::records::{
@@ -14,8 +19,8 @@ use crate::records::{
 use crate::slots::{
     any_live, first_thread, free_slot, is_live_slot, new_thread, set_regs_of, set_word_of,
 };
-use crate::waits::{first_for, take_out, waits_any};
-use arrayvec::ArrayVec;
+use crate::wait_list::WaitList;
+use crate::waits::first_for;
 use ckrt_rv32i::Regs;
 use std::alloc::{AllocError, Global};
 use std::marker::Model;
@@ -28,7 +33,7 @@ const SLOTS: usize = MAX_THREADS + 1;
 #[derive(Drop)]
 pub struct Threads {
     table: Vec<Option<Thread>>,
-    waits: ArrayVec<Wait, MAX_THREADS>,
+    waits: WaitList,
     harts: [Option<ThreadId>; MAX_HARTS],
     hart_count: usize,
 }
@@ -38,9 +43,9 @@ impl Model for Threads {
 
     ghost Value = { State };
 
-    ghost view = { λ a. record { threads = a.table.items; waits = a.waits.items; harts = a.harts; hart_count = a.hart_count } };
+    ghost view = { λ a. record { threads = a.table.items; waits = a.waits; harts = a.harts; hart_count = a.hart_count } };
 
-    ghost invariant = { λ a. IsWellFormed (record { threads = a.table.items; waits = a.waits.items; harts = a.harts; hart_count = a.hart_count }) };
+    ghost invariant = { λ a. IsWellFormed (record { threads = a.table.items; waits = a.waits; harts = a.harts; hart_count = a.hart_count }) };
 }
 
 impl Threads {
@@ -54,7 +59,7 @@ impl Threads {
         table[1] = Some(first_thread(stack));
         Ok(Threads {
             table,
-            waits: ArrayVec::new(),
+            waits: WaitList::new(),
             harts: [None; MAX_HARTS],
             hart_count: harts,
         })
@@ -91,6 +96,18 @@ impl Threads {
         ensures aligned { is_aligned_slot result ≡ true }
     {
         self.table.get(id as usize).copied().flatten()
+    }
+
+    /// A thread that has not ended.
+    pub fn live(&self, thread: ThreadId) -> &Live
+        requires { is_live self.now thread ≡ true }
+        ensures thread { thread_of self.now thread ≡ Some (slots.Live result.now) }
+        ensures aligned { is_aligned result.now.regs ≡ true }
+    {
+        let Some(Thread::Live(live)) = &self.table[thread as usize] else {
+            unreachable!()
+        };
+        live
     }
 
     /// The registers of a thread that has not ended.
@@ -135,8 +152,8 @@ impl Threads {
     pub fn is_ready(&self, thread: ThreadId) -> bool
         ensures { result ≡ is_ready self.now thread }
     {
-        self.is_live(thread)
-            && !waits_any(self.waits.as_slice(), thread)
+        !self.waits.is_waiting(thread)
+            && self.is_live(thread)
             && !harts_any(self.harts.as_slice(), thread)
     }
 
@@ -169,7 +186,7 @@ impl Threads {
         requires { place < length self.now.waits }
         ensures { slice_get self.now.waits place ≡ Some result }
     {
-        self.waits[place]
+        self.waits.as_slice()[place]
     }
 
     /// The wait that has waited longest for the object.
@@ -180,6 +197,14 @@ impl Threads {
         ensures thread { IfSome result (λ w. (0 < w.thread) × (w.thread ≤ 64)) }
     {
         first_for(self.waits.as_slice(), object)
+    }
+
+    /// The due wait that ends first at this moment: by deadline, then by thread.
+    pub fn earliest_due(&self, now: u64) -> Option<Wait>
+        ensures first { result ≡ earliest_due now self.now.waits }
+        ensures found { IfSome result (λ w. (find (is_of w.thread) self.now.waits ≡ Some w) × (is_live self.now w.thread ≡ true)) }
+    {
+        earliest_due(self.waits.as_slice(), now)
     }
 
     /// Whether a thread joins this one.
@@ -272,7 +297,7 @@ impl Threads {
     pub fn take_wait(&mut self, thread: ThreadId)
         ensures { self.new ≡ unwaited thread self.old }
     {
-        take_out(&mut self.waits, thread);
+        self.waits.take_out(thread);
     }
 
     /// The number stands for this from now on. Nobody may join it, and where it is no thread that has not ended, it

@@ -1,6 +1,7 @@
 //! Scans of the list of waits.
 ghost use Rattle.std.specs.Prelude.{◌≡◌};
-ghost use Rattle.std.specs.List.{position, find, list_any};
+ghost use Rattle.std.specs.List.{position, find};
+ghost use Rattle.ckrt_thread.specs.declared.records.Object.TheVariants.{Mutex};
 ghost use Rattle.ckrt_thread.specs.Waits.{is_for, is_of, without};
 
 use crate::records::{MAX_THREADS, Object, Reason, ThreadId, Wait};
@@ -23,11 +24,35 @@ fn waits_for(wait: &Wait, object: Object) -> bool
     }
 }
 
-/// The first wait for the object.
+/// Whether a wait is for the mutex.
+fn waits_for_mutex(wait: &Wait, address: u32) -> bool
+    ensures { result ≡ is_for (Mutex address) wait.now }
+{
+    match wait.reason {
+        Reason::Lock(mutex) => address == mutex,
+        Reason::Retake(mutex, _) => address == mutex,
+        _ => false,
+    }
+}
+
+/// The first wait for the mutex.
+fn first_for_mutex(waits: &[Wait], address: u32) -> Option<Wait>
+    ensures { result ≡ find (is_for (Mutex address)) waits.now }
+{
+    waits
+        .iter()
+        .copied()
+        .find(|wait| waits_for_mutex(wait, address))
+}
+
+/// The first wait for the object. Mutexes are asked for most often: their scan has no other object's tests.
 pub fn first_for(waits: &[Wait], object: Object) -> Option<Wait>
     ensures { result ≡ find (is_for object) waits.now }
 {
-    waits.iter().copied().find(|wait| waits_for(wait, object))
+    match object {
+        Object::Mutex(address) => first_for_mutex(waits, address),
+        _ => waits.iter().copied().find(|wait| waits_for(wait, object)),
+    }
 }
 
 /// The place of the thread's wait.
@@ -35,13 +60,6 @@ fn place_of(waits: &[Wait], thread: ThreadId) -> Option<usize>
     ensures { result ≡ position (is_of thread) waits.now }
 {
     waits.iter().position(|wait| thread == wait.thread)
-}
-
-/// Whether the thread waits.
-pub fn waits_any(waits: &[Wait], thread: ThreadId) -> bool
-    ensures { result ≡ list_any (is_of thread) waits.now }
-{
-    waits.iter().any(|wait| thread == wait.thread)
 }
 
 /// Takes the thread's wait out of the list, if there is one.

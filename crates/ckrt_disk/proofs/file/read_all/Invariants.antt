@@ -4,9 +4,9 @@ use Rattle.ckrt_disk.proofs.file.read_all.Given as goal
 abbrev pub invariant-loop : goal.invariant-loop
 invariant-loop g l = record {
   bound : l.done ≤ length l.buf;
-  keeps_model : g.F.PositionedFile.keeps_model l.file ↔ g.F.PositionedFile.keeps_model l.fn.file;
+  keeps_model : g.F.PositionedFile.keeps_model l.file → g.F.PositionedFile.keeps_model l.fn.file;
   len : g.F.PositionedFile.len l.file ≡ g.F.PositionedFile.len l.fn.file;
-  content : g.F.PositionedFile.keeps_model l.fn.file → g.F.PositionedFile.content l.file ≡ g.F.PositionedFile.content l.fn.file;
-  pending : g.F.PositionedFile.keeps_model l.fn.file → (i : ℕ) → (g.F.PositionedFile.pending l.file i ↔ g.F.PositionedFile.pending l.fn.file i);
-  bytes : g.F.PositionedFile.keeps_model l.fn.file → take l.done l.buf ≡ take l.done (drop l.at (g.F.PositionedFile.content l.fn.file));
+  content : g.F.PositionedFile.keeps_model l.file → g.F.PositionedFile.content l.file ≡ g.F.PositionedFile.content l.fn.file;
+  pending : g.F.PositionedFile.keeps_model l.file → (i : ℕ) → (g.F.PositionedFile.pending l.file i ↔ g.F.PositionedFile.pending l.fn.file i);
+  bytes : g.F.PositionedFile.keeps_model l.file → take l.done l.buf ≡ take l.done (drop l.at (g.F.PositionedFile.content l.fn.file));
 }

@@ -5,9 +5,9 @@ use Rattle.ckrt_disk.proofs.file.write_all.Given as goal
 abbrev pub invariant-loop-turn : goal.invariant-loop-turn
 invariant-loop-turn g l = record {
   bound : l.done ≤ length l.bytes;
-  keeps_model : g.F.PositionedFile.keeps_model l.file ↔ g.F.PositionedFile.keeps_model l.fn.file;
+  keeps_model : g.F.PositionedFile.keeps_model l.file → g.F.PositionedFile.keeps_model l.fn.file;
   len : g.F.PositionedFile.len l.file ≡ g.F.PositionedFile.len l.fn.file;
   started : 0 < l.done → 0 < l.turn;
-  pending : g.F.PositionedFile.keeps_model l.fn.file → (i : ℕ) → (g.F.PositionedFile.pending l.file i ↔ (g.F.PositionedFile.pending l.fn.file i ⊎ (IsWithin l.at (length l.bytes) i × (0 < l.turn))));
-  written : g.F.PositionedFile.keeps_model l.fn.file → l.at + length l.bytes ≤ g.F.PositionedFile.len l.fn.file → IsOverwritten (g.F.PositionedFile.content l.fn.file) l.at (take l.done l.bytes) (g.F.PositionedFile.content l.file);
+  pending : g.F.PositionedFile.keeps_model l.file → (i : ℕ) → (g.F.PositionedFile.pending l.file i ↔ (g.F.PositionedFile.pending l.fn.file i ⊎ (IsWithin l.at (length l.bytes) i × (0 < l.turn))));
+  written : g.F.PositionedFile.keeps_model l.file → l.at + length l.bytes ≤ g.F.PositionedFile.len l.fn.file → IsOverwritten (g.F.PositionedFile.content l.fn.file) l.at (take l.done l.bytes) (g.F.PositionedFile.content l.file);
 }

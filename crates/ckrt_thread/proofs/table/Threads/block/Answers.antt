@@ -1,10 +1,9 @@
-use Rattle.std.proofs.Common.{rules}
 use Rattle.ckrt_thread.proofs.Known.{waits_room}
 use Rattle.ckrt_thread.proofs.Changes.{well_formed_blocked}
 use Rattle.ckrt_thread.proofs.table.Threads.block.Goals as goal
 
 pub push-requires : goal.push-requires
-push-requires c = (search rules, waits_room _ c.args.thread c.self.invariant (rw (← c.self.view_is) at c.requires.live) (rw (← c.self.view_is) at c.requires.free))
+push-requires c = waits_room _ c.args.thread c.self.invariant (rw (← c.self.view_is) at c.requires.live) (rw (← c.self.view_is) at c.requires.free)
 
 pub invariant_of-self : goal.invariant_of-self
 invariant_of-self c =

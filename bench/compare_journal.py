@@ -1,0 +1,83 @@
+"""Runs the proved journal and its plain twin alternating, and prints medians.
+
+Appends, to a file of 1,048,576 bytes in the folder of the third word: the median of all appends of each program, and
+the ratio of the two programs' medians in each round, of which the median and the quartiles are printed. A round takes
+a few milliseconds, so that a disk that is slow for a while is slow for both. Decoding: the medians of all readings of a
+full journal in memory.
+"""
+import os
+import re
+import statistics
+import subprocess
+import sys
+
+ROUNDS = 60
+APPENDS = 12
+# The first appends to a file that was just made are slow in both, and not counted.
+WARM_UP = 2
+READINGS = 5
+SIZE = 1_048_576
+
+
+def run(command):
+    """What a run writes to standard output, and to standard error."""
+    done = subprocess.run(command, capture_output=True, check=True, text=True)
+    return done.stdout, done.stderr
+
+
+def append_times(program, path, size):
+    """The nanoseconds of each append to a new file, and the file's bytes after them."""
+    with open(path, "wb") as file:
+        file.write(bytes(SIZE))
+        file.flush()
+        os.fsync(file.fileno())
+    text = run([program, "append", path, str(size), str(WARM_UP + APPENDS)])[1]
+    with open(path, "rb") as file:
+        held = file.read()
+    os.remove(path)
+    return [int(word) for word in text.split()[WARM_UP:]], held
+
+
+def appends(programs, folder, size):
+    """The median microseconds of an append of at most `size` bytes of events for each program, and the rounds' ratios."""
+    times = ([], [])
+    ratios = []
+    for turn in range(ROUNDS):
+        taken = {}
+        for k in (0, 1) if turn % 2 == 0 else (1, 0):
+            taken[k] = append_times(programs[k], os.path.join(folder, f"journal_{k}.img"), size)
+            times[k].extend(taken[k][0])
+        if taken[0][1] != taken[1][1]:
+            sys.exit("the two journals differ")
+        ratios.append(statistics.median(taken[1][0]) / statistics.median(taken[0][0]))
+    return [statistics.median(t) / 1e3 for t in times], statistics.quantiles(ratios, n=4)
+
+
+def decoding(programs):
+    """The median nanoseconds of reading and of decoding a full journal for each program, and its count of events."""
+    times = [([], []), ([], [])]
+    said = ["", ""]
+    for turn in range(ROUNDS):
+        for k in (0, 1) if turn % 2 == 0 else (1, 0):
+            said[k], text = run([programs[k], "decode", str(READINGS)])
+            for reading, rest in re.findall(r"reading (\d+) decoding (\d+)", text):
+                times[k][0].append(int(reading))
+                times[k][1].append(int(rest))
+    if said[0] != said[1]:
+        sys.exit("the two count other events")
+    return [[statistics.median(t) for t in pair] for pair in times], int(said[0].split()[1])
+
+
+def main():
+    plain, proved, folder = sys.argv[1:4]
+    programs = [plain, proved]
+    for size in (7, 4096):
+        (base, ours), (low, middle, high) = appends(programs, folder, size)
+        print(f"append of at most {size} bytes: plain {base:.1f} us, proved {ours:.1f} us, ratio {middle:.3f} ({low:.3f} to {high:.3f})")
+    ((_, base), (reading, rest)), events = decoding(programs)
+    print(f"{events} events: plain {events / base * 1e3:.0f} million a second")
+    print(f"proved: read_chain {events / reading * 1e3:.0f}, decode_events and its iterator {events / rest * 1e3:.0f}, both {events / (reading + rest) * 1e3:.0f}")
+    print(f"both beside the plain loop: {(reading + rest) / base:.2f} times its time")
+
+
+main()

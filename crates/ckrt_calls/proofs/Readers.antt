@@ -1,0 +1,183 @@
+-- Input, and who waits for it.
+use Rattle.std.proofs.Common.{◌≡◌, ℕ, ◌+◌, ◌≤◌, ◌<◌, Bool, true, false, not, List, [], ◌∷◌, ◌++◌, length, drop, slice_get, Option, Some, None, ◌⊎◌, inl, inr, refl, sym, ap, subst, ◌∙◌, arith, length-append}
+use Rattle.std.specs.List.{list_all, find}
+use Rattle.std.proofs.lemmas.Bool.Decides.{nat_tests}
+use Rattle.ckrt_rv32i.specs.declared.execution.Cause.{Cause}
+use Rattle.ckrt_thread.specs.declared.records.Wait.{Wait}
+use Rattle.ckrt_thread.specs.declared.records.Object.TheVariants as object
+use Rattle.ckrt_thread.specs.Abi.{A0}
+use Rattle.ckrt_thread.specs.Waits.{is_for, without}
+use Rattle.ckrt_thread.specs.Granting.{queue_of}
+use Rattle.ckrt_thread.specs.State as threads
+use Rattle.ckrt_thread.specs.State.{State, first_waiter, woken, is_waiting, is_live, is_live_thread, is_any_live, with_word}
+use Rattle.ckrt_thread.proofs.WaitLemmas.{length-without}
+use Rattle.ckrt_thread.proofs.Changes.{well_formed_word, well_formed_without}
+use Rattle.ckrt_thread.proofs.Grants.{first_of_queue, queue_rest, empty_queue}
+use Rattle.ckrt_thread.proofs.SlotLemmas.{kept_at, live_change}
+use Rattle.ckrt_mutex.specs.WellFormed.{IsWellFormedWith}
+use Rattle.ckrt_calls.specs.declared.input.TheConstants.{INPUT_LIMIT}
+use Rattle.ckrt_calls.specs.declared.table.Tables.{Tables}
+use Rattle.ckrt_calls.specs.Table.{Fed, feed, feed_first, with_fed, input_taken, input_closed, all_woken, END_OF_INPUT}
+use Rattle.ckrt_calls.specs.WellFormed.{IsWellFormed, lies_ahead, lacks_input, may_be_read}
+use Rattle.ckrt_calls.proofs.ThreadRows as rows
+use Rattle.ckrt_calls.proofs.ThreadRows.{AllWaits, any_live_woken}
+use Rattle.ckrt_calls.proofs.MutexRows.{wait_rule}
+use Rattle.ckrt_calls.proofs.Kept.{conditions_woken}
+use Rattle.ckrt_cond.specs.WellFormed as conditions
+
+-- FEEDING
+
+pub feed_none : (bs : List ℕ) (z : State) → first_waiter object.Input z ≡ None → feed bs z ≡ record { input = bs; threads = z }
+feed_none [] z e = refl
+feed_none (b ∷ bs) z e = ap (λ o. feed_first (feed bs) o (b ∷ bs) b z) e
+
+pub feed_some : (bs : List ℕ) (b : ℕ) (w : Wait) (z : State) → slice_get bs 0 ≡ Some b → first_waiter object.Input z ≡ Some w → feed bs z ≡ feed (drop 1 bs) (woken w.thread b z)
+feed_some [] b w z e f = absurd (cc)
+feed_some (c ∷ bs) b w z e f =
+    let same : c ≡ b = cc in
+    let rest : drop 1 (c ∷ bs) ≡ bs = grind (arith, nat_tests) in
+    ap (λ o. feed_first (feed bs) o (c ∷ bs) c z) f ∙ rw (rest, same) refl
+
+pub feed_empty : (bs : List ℕ) (z : State) → slice_get bs 0 ≡ None → feed bs z ≡ record { input = drop 1 bs; threads = z }
+feed_empty [] z e = (let rest : drop 1 (let ns : List ℕ = [] in ns) ≡ [] = grind (arith, nat_tests) in rw rest refl)
+feed_empty (c ∷ bs) z e = absurd (cc)
+
+-- what the end of a wait keeps, feeding and the end of the input keep
+module _ (P : State → Type 0) (ends : (t v : ℕ) (s : State) → P s → P (woken t v s)) where
+  kept_first : (o : Option Wait) (bs bytes : List ℕ) (b : ℕ) (z : State) → ((y : State) → P y → P (feed bs y).threads) → P z → P (feed_first (feed bs) o bytes b z).threads
+  kept_first None bs bytes b z more h = h
+  kept_first (Some w) bs bytes b z more h = more (woken w.thread b z) (ends w.thread b z h)
+
+  pub kept_feed : (bs : List ℕ) (z : State) → P z → P (feed bs z).threads
+  kept_feed [] z h = h
+  kept_feed (b ∷ bs) z h = kept_first (first_waiter object.Input z) bs (b ∷ bs) b z (λ y k. kept_feed bs y k) h
+
+  pub kept_all_woken : (v : ℕ) (ws : List Wait) (z : State) → P z → P (all_woken v ws z)
+  kept_all_woken v [] z h = h
+  kept_all_woken v (w ∷ ws) z h = kept_all_woken v ws (woken w.thread v z) (ends w.thread v z h)
+
+less_first : (o : Option Wait) (bs : List ℕ) (b : ℕ) (z : State) → ((y : State) → length (feed bs y).input ≤ length bs) → length (feed_first (feed bs) o (b ∷ bs) b z).input ≤ length (b ∷ bs)
+less_first None bs b z more = omega arith
+less_first (Some w) bs b z more = (let m = more (woken w.thread b z) in omega arith)
+
+less_input : (bs : List ℕ) (z : State) → length (feed bs z).input ≤ length bs
+less_input [] z = omega arith
+less_input (b ∷ bs) z = less_first (first_waiter object.Input z) bs b z (λ y. less_input bs y)
+
+abbrev IsFed : Fed → Type 0
+IsFed f = (f.input ≡ []) ⊎ (first_waiter object.Input f.threads ≡ None)
+
+fed_first : (o : Option Wait) (bs bytes : List ℕ) (b : ℕ) (z : State) → first_waiter object.Input z ≡ o → ((y : State) → IsFed (feed bs y)) → IsFed (feed_first (feed bs) o bytes b z)
+fed_first None bs bytes b z e more = inr e
+fed_first (Some w) bs bytes b z e more = more (woken w.thread b z)
+
+-- either no byte is left or nobody waits for one
+fed : (bs : List ℕ) (z : State) → IsFed (feed bs z)
+fed [] z = inl refl
+fed (b ∷ bs) z = fed_first (first_waiter object.Input z) bs (b ∷ bs) b z refl (λ y. fed bs y)
+
+-- WHO WAITS FOR INPUT
+
+-- nobody waits for input
+abbrev NoReader : State → Type 0
+NoReader z = AllWaits (λ w. not (is_for object.Input w)) z
+
+no_first : (ws : List Wait) → find (is_for object.Input) ws ≡ None → list_all (λ w. not (is_for object.Input w)) ws ≡ true
+no_first [] e = refl
+no_first (w ∷ ws) e = grind (arith, nat_tests, no_first ws)
+
+lacks_any : (input : List ℕ) (closed : Bool) (ws : List Wait) → list_all (λ w. not (is_for object.Input w)) ws ≡ true → list_all (lacks_input input closed) ws ≡ true
+lacks_any input closed [] h = refl
+lacks_any input closed (w ∷ ws) h = grind (arith, nat_tests, lacks_any input closed ws)
+
+lacks_all : (ws : List Wait) → list_all (lacks_input [] false) ws ≡ true
+lacks_all [] = refl
+lacks_all (w ∷ ws) = grind (arith, nat_tests, lacks_all ws)
+
+lacks_none : (input : List ℕ) (closed : Bool) (ws : List Wait) → may_be_read input closed ≡ true → list_all (lacks_input input closed) ws ≡ true → list_all (λ w. not (is_for object.Input w)) ws ≡ true
+lacks_none input closed [] m h = refl
+lacks_none input closed (w ∷ ws) m h = grind (arith, nat_tests, lacks_none input closed ws m)
+
+closed_readable : (input : List ℕ) → may_be_read input true ≡ true
+closed_readable [] = refl
+closed_readable (b ∷ bs) = refl
+
+all_woken_waits : (f : Wait → Bool) (t v : ℕ) (z : State) → AllWaits f z → AllWaits f (woken t v z)
+all_woken_waits f t v z h = rows.all_woken f t v z h
+
+readers_fed : (f : Fed) → IsFed f → AllWaits (lacks_input f.input false) f.threads
+readers_fed f (inl e) = rw e (lacks_all f.threads.waits)
+readers_fed f (inr e) = lacks_any f.input false f.threads.waits (no_first f.threads.waits e)
+
+-- after feeding, who waits for input has none to read
+readers_after : (closed : Bool) (input bs : List ℕ) (z : State) → AllWaits (lacks_input input closed) z → AllWaits (lacks_input (feed bs z).input closed) (feed bs z).threads
+readers_after false input bs z h = readers_fed (feed bs z) (fed bs z)
+readers_after true input bs z h =
+    lacks_any (feed bs z).input true (feed bs z).threads.waits
+    (kept_feed NoReader (λ t v y k. rows.all_woken (λ w. not (is_for object.Input w)) t v y k) bs z (lacks_none input true z.waits (closed_readable input) h))
+
+-- WHAT A WAIT'S END KEEPS
+
+pub live_woken : (u t v : ℕ) (z : State) → is_live z u ≡ true → is_live (woken t v z) u ≡ true
+live_woken u t v z h = kept_at is_live_thread (with_word A0 v) z.threads t u (live_change (with_word A0 v)) ∙ h
+
+pub joined_woken : (s : Tables) (t v : ℕ) (z : State) → IsWellFormedWith z s.mutexes → IsWellFormedWith (woken t v z) s.mutexes
+joined_woken s t v z h = (let rule = wait_rule s.mutexes in rule.unwaited t z (woken t v z) refl h)
+
+-- bytes of input came
+pub well_formed_input : (bytes : List ℕ) (s z : Tables) → z ≡ input_taken bytes s → length s.input + length bytes ≤ INPUT_LIMIT → IsWellFormed s → threads.IsWellFormed z.threads → IsWellFormed z
+well_formed_input bytes s z i n h k =
+    rw i (record {
+      threads = rw i at k;
+      mutexes = kept_feed (λ y. IsWellFormedWith y s.mutexes) (joined_woken s) (s.input ++ bytes) s.threads h.mutexes;
+      conditions = kept_feed conditions.IsWellFormed conditions_woken (s.input ++ bytes) s.threads h.conditions;
+      running = λ e. kept_feed (λ y. is_any_live y ≡ true) any_live_woken (s.input ++ bytes) s.threads (h.running e);
+      deadlines = λ e. kept_feed (AllWaits (lies_ahead s.clock)) (rows.all_woken (lies_ahead s.clock)) (s.input ++ bytes) s.threads (h.deadlines e);
+      readers = readers_after s.closed s.input (s.input ++ bytes) s.threads h.readers;
+      clock = h.clock;
+      input = (let l = less_input (s.input ++ bytes) s.threads in let m = length-append s.input bytes in omega arith);
+      fault = λ u pc c e. kept_feed (λ y. is_live y u ≡ true) (live_woken u) (s.input ++ bytes) s.threads (h.fault u pc c e);
+      fault_pc = h.fault_pc;
+    })
+
+-- THE END OF INPUT
+
+pub well_formed_woken : (s : State) (t v : ℕ) → threads.IsWellFormed s → threads.IsWellFormed (woken t v s)
+well_formed_woken s t v h = well_formed_word (record s { waits = without t s.waits }) t A0 v (well_formed_without s t h)
+
+pub one_fewer : (t v : ℕ) (z : State) → is_waiting z t ≡ true → length (woken t v z).waits < length z.waits
+one_fewer t v z h = (let l = length-without t z.waits h in omega arith)
+
+-- one thread that waits for input learns of its end
+pub one_woken : (w : Wait) (z : State) → first_waiter object.Input z ≡ Some w → threads.IsWellFormed z → all_woken END_OF_INPUT (queue_of object.Input z) z ≡ all_woken END_OF_INPUT (queue_of object.Input (woken w.thread END_OF_INPUT z)) (woken w.thread END_OF_INPUT z)
+one_woken w z e h = ap (λ q. all_woken END_OF_INPUT q z) (queue_rest object.Input z w END_OF_INPUT e h)
+
+pub none_woken : (z : State) → first_waiter object.Input z ≡ None → all_woken END_OF_INPUT (queue_of object.Input z) z ≡ z
+none_woken z e = ap (λ q. all_woken END_OF_INPUT q z) (empty_queue object.Input z e)
+
+first_is : (q : List Wait) (z : State) → queue_of object.Input z ≡ q → first_waiter object.Input z ≡ slice_get q 0
+first_is q z e = first_of_queue object.Input z ∙ ap (λ p. slice_get p 0) e
+
+rest_is : (w : Wait) (q : List Wait) (z : State) → queue_of object.Input z ≡ w ∷ q → threads.IsWellFormed z → queue_of object.Input (woken w.thread END_OF_INPUT z) ≡ q
+rest_is w q z e h = (let r = queue_rest object.Input z w END_OF_INPUT (first_is (w ∷ q) z e) h in cc)
+
+-- nobody waits for input then
+none_left : (q : List Wait) (z : State) → queue_of object.Input z ≡ q → threads.IsWellFormed z → first_waiter object.Input (all_woken END_OF_INPUT q z) ≡ None
+none_left [] z e h = first_is [] z e
+none_left (w ∷ q) z e h = none_left q (woken w.thread END_OF_INPUT z) (rest_is w q z e h) (well_formed_woken z w.thread END_OF_INPUT h)
+
+pub well_formed_closed : (s z : Tables) → z ≡ input_closed s → IsWellFormed s → threads.IsWellFormed z.threads → IsWellFormed z
+well_formed_closed s z i h k =
+    let q = queue_of object.Input s.threads in
+    rw i (record {
+      threads = rw i at k;
+      mutexes = kept_all_woken (λ y. IsWellFormedWith y s.mutexes) (joined_woken s) END_OF_INPUT q s.threads h.mutexes;
+      conditions = kept_all_woken conditions.IsWellFormed conditions_woken END_OF_INPUT q s.threads h.conditions;
+      running = λ e. kept_all_woken (λ y. is_any_live y ≡ true) any_live_woken END_OF_INPUT q s.threads (h.running e);
+      deadlines = λ e. kept_all_woken (AllWaits (lies_ahead s.clock)) (rows.all_woken (lies_ahead s.clock)) END_OF_INPUT q s.threads (h.deadlines e);
+      readers = lacks_any s.input true (all_woken END_OF_INPUT q s.threads).waits (no_first (all_woken END_OF_INPUT q s.threads).waits (none_left q s.threads refl h.threads));
+      clock = h.clock;
+      input = h.input;
+      fault = λ u pc c e. kept_all_woken (λ y. is_live y u ≡ true) (live_woken u) END_OF_INPUT q s.threads (h.fault u pc c e);
+      fault_pc = h.fault_pc;
+    })

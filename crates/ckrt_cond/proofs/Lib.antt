@@ -1,0 +1,4 @@
+pub mod Waits
+pub mod Released
+pub mod Rows
+pub mod Kept

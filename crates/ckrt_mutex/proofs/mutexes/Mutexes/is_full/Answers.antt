@@ -1,0 +1,13 @@
+use Rattle.std.proofs.Common.{sym, ◌∙◌}
+use Rattle.ckrt_mutex.specs.Mutex.{is_kept}
+use Rattle.ckrt_mutex.proofs.Kept.{not_full_kept, rising_part}
+use Rattle.ckrt_mutex.proofs.mutexes.Mutexes.is_full.Goals as goal
+
+pub returns-then-not-are_limit_in_use : goal.returns-then-not-are_limit_in_use
+returns-then-not-are_limit_in_use c =
+    rw (← c.self.view_is)
+    (sym (not_full_kept c.args.address c.args.threads.now c.self.inside.table.items (rw c.as_slice-entries.ensures.value at (sym c.are_limit_in_use.ensures ∙ c.if-not-are_limit_in_use.true))))
+
+pub is_full-requires-clause-rising : goal.is_full-requires-clause-rising
+is_full-requires-clause-rising c =
+    rw (c.as_slice.ensures.value, c.kept_of.ensures, c.as_slice-entries.ensures.value) (rising_part is_kept c.self.inside.table.items c.self.invariant.rising)

@@ -1,0 +1,58 @@
+//! The entries of a table of mutexes. Some may be of free normal mutexes, which the table doesn't have: `kept` says
+//! what it has.
+ghost use Rattle.std.specs.Prelude.{◌≡◌, ◌≤◌, length, true};
+ghost use Rattle.ckrt_mutex.specs.AddressMap.{has_room, is_rising};
+ghost use Rattle.ckrt_mutex.specs.Mutex.{mutex_at, put, kept, is_proper, AreEntries};
+
+use crate::address_map::{Entry, get, store};
+use crate::records::{Kind, Mutex};
+use arrayvec::ArrayVec;
+
+/// The mutex at an address: free and normal where there is no entry.
+pub fn mutex_of(entries: &[Entry<Mutex>], address: u32) -> Mutex
+    requires { is_rising entries.now ≡ true }
+    ensures { result ≡ mutex_at address entries.now }
+{
+    get(entries, address).unwrap_or(Mutex::free(Kind::Normal))
+}
+
+/// The entries without those of free normal mutexes.
+pub fn kept_of(entries: &[Entry<Mutex>]) -> ArrayVec<Entry<Mutex>, 256>
+    requires { length entries.now ≤ 256 }
+    ensures { result.items ≡ kept entries.now }
+{
+    let mut left: ArrayVec<Entry<Mutex>, 256> = ArrayVec::new();
+    for entry in entries {
+        if !entry.value.is_plain() {
+            left.push(*entry);
+        }
+    }
+    left
+}
+
+/// Where the room is used up, the entries of free normal mutexes go. Then there is room for an entry of the address.
+#[tactic(auto, using(crate::proofs::Kept::kept_twice, crate::proofs::Kept::entries_kept))]
+fn make_room(entries: &mut ArrayVec<Entry<Mutex>, 256>, address: u32)
+    requires entries { AreEntries entries.old.items }
+    requires room { has_room 256 address (kept entries.old.items) ≡ true }
+    ensures entries { AreEntries entries.new.items }
+    ensures room { has_room 256 address entries.new.items ≡ true }
+    ensures kept { kept entries.new.items ≡ kept entries.old.items }
+{
+    if entries.is_full() {
+        let left = kept_of(entries.as_slice());
+        *entries = left;
+    }
+}
+
+/// The mutex at an address becomes this one.
+pub fn put_entry(entries: &mut ArrayVec<Entry<Mutex>, 256>, address: u32, mutex: Mutex)
+    requires entries { AreEntries entries.old.items }
+    requires room { has_room 256 address (kept entries.old.items) ≡ true }
+    requires proper { is_proper mutex ≡ true }
+    ensures entries { AreEntries entries.new.items }
+    ensures kept { kept entries.new.items ≡ put address mutex (kept entries.old.items) }
+{
+    make_room(entries, address);
+    store(entries, address, mutex);
+}

@@ -1,0 +1,8 @@
+pub mod ReplayLemmas
+mod PendingLemmas
+mod SubmitLemmas
+pub mod SessionLemmas
+mod GrowthLemmas
+pub mod CommitLemmas
+mod FormatLemmas
+mod OpeningLemmas
