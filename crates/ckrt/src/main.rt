@@ -1,40 +1,44 @@
-//! Checkpoint and restart of pthread programs: serves the stored image in memory, on standard input and output.
+//! Checkpoint and restart of pthread programs: does what its words ask for, on standard input, output and error.
 #![tactic(auto)]
 
-use ckrt_main::{Config, serve_image};
-use std::io;
+use ckrt_jobs::run_words;
+use std::env;
+use std::io::{self, ErrorKind};
 use std::process::ExitCode;
 
-/// The stored image prints the letter `A`, and exits with 0.
-const IMAGE: [u8; 24] = [
-    0x13, 0x05, 0x10, 0x04, // addi x10, x0, 65
-    0x93, 0x08, 0x20, 0x00, // addi x17, x0, 2 (putc)
-    0x73, 0x00, 0x00, 0x00, // ecall
-    0x13, 0x05, 0x00, 0x00, // addi x10, x0, 0
-    0x93, 0x08, 0x10, 0x00, // addi x17, x0, 1 (exit)
-    0x73, 0x00, 0x00, 0x00, // ecall
-];
+/// The job of these words on the standard streams; the answer is the program's status.
+fn run(rt: &HostRuntime, words: &[&str]) -> u8 {
+    run_words(
+        rt,
+        rt.alloc(),
+        words,
+        &mut rt.reader(),
+        &mut io::writer(rt),
+        &mut rt.stderr(),
+    )
+}
 
-/// The machine of the stored image.
-const CONFIG: Config = Config {
-    pages: 16,
-    harts: 1,
-    journal: 4_096,
-};
+/// The job of the arguments behind the program's name.
+fn run_arguments(rt: &HostRuntime) -> io::Result<u8> {
+    let arguments: Vec<String> = env::args(rt)?.collect(rt.alloc())?;
+    let words: Vec<&str> = arguments
+        .iter()
+        .skip(1)
+        .map(|word| word.as_str())
+        .collect(rt.alloc())?;
+    Ok(run(rt, &words))
+}
 
 fn main(rt: HostRuntime) -> ExitCode {
-    let done = serve_image(
-        rt.alloc(),
-        &IMAGE,
-        CONFIG,
-        &mut rt.reader(),
-        &mut io::writer(&rt),
-    );
-    match done {
-        Ok(()) => ExitCode::SUCCESS,
-        Err(fault) => {
-            let _ = eprintln!(rt; "ckrt: {fault}");
+    match run_arguments(&rt) {
+        Ok(status) => ExitCode::from(status),
+        Err(error) if error.kind() == ErrorKind::OutOfMemory => {
+            let _ = eprintln!(rt; "ckrt: OutOfMemory");
             ExitCode::FAILURE
+        }
+        Err(_) => {
+            let _ = eprintln!(rt; "error: an argument isn't text\n");
+            ExitCode::from(run(&rt, &["--help"]))
         }
     }
 }

@@ -5,7 +5,7 @@ use Rattle.ckrt_thread.specs.declared.records.RetakeResult.{RetakeResult}
 use Rattle.ckrt_thread.specs.Abi.{A0}
 use Rattle.ckrt_thread.specs.Waits.{is_moment, retake_code}
 use Rattle.ckrt_thread.specs.State.{State, blocked, woken, set_word}
-use Rattle.ckrt_mutex.specs.declared.address_map.Entry.{Entry}
+use Rattle.ckrt_objects.specs.declared.address_map.Entry.{Entry}
 use Rattle.ckrt_mutex.specs.declared.records.Mutex.{Mutex}
 use Rattle.ckrt_mutex.specs.declared.records.Kind.{Kind}
 use Rattle.ckrt_mutex.specs.Mutex.{mutex_at, is_available, is_owner, is_errorcheck, is_normal, free}

@@ -1,27 +1,27 @@
 -- Input, and who waits for it.
-use Rattle.std.proofs.Common.{◌≡◌, ℕ, ◌+◌, ◌≤◌, ◌<◌, Bool, true, false, not, List, [], ◌∷◌, ◌++◌, length, drop, slice_get, Option, Some, None, ◌⊎◌, inl, inr, refl, sym, ap, subst, ◌∙◌, arith, length-append}
+use Rattle.std.proofs.Common.{◌≡◌, ℕ, ◌+◌, ◌≤◌, Bool, true, false, not, List, [], ◌∷◌, ◌++◌, length, drop, slice_get, Option, Some, None, ◌⊎◌, inl, inr, refl, ap, ◌∙◌, arith, length-append}
 use Rattle.std.specs.List.{list_all, find}
 use Rattle.std.proofs.lemmas.Bool.Decides.{nat_tests}
-use Rattle.ckrt_rv32i.specs.declared.execution.Cause.{Cause}
 use Rattle.ckrt_thread.specs.declared.records.Wait.{Wait}
 use Rattle.ckrt_thread.specs.declared.records.Object.TheVariants as object
 use Rattle.ckrt_thread.specs.Abi.{A0}
-use Rattle.ckrt_thread.specs.Waits.{is_for, without}
+use Rattle.ckrt_thread.specs.Waits.{is_for}
 use Rattle.ckrt_thread.specs.Granting.{queue_of}
 use Rattle.ckrt_thread.specs.State as threads
-use Rattle.ckrt_thread.specs.State.{State, first_waiter, woken, is_waiting, is_live, is_live_thread, is_any_live, with_word}
-use Rattle.ckrt_thread.proofs.WaitLemmas.{length-without}
-use Rattle.ckrt_thread.proofs.Changes.{well_formed_word, well_formed_without}
-use Rattle.ckrt_thread.proofs.Grants.{first_of_queue, queue_rest, empty_queue}
+use Rattle.ckrt_thread.specs.State.{State, first_waiter, woken, all_woken, is_waiting, is_live, is_live_thread, is_any_live, with_word}
+use Rattle.ckrt_thread.proofs.Grants.{first_of_queue}
+use Rattle.ckrt_thread.proofs.Waking.{kept_all_woken}
 use Rattle.ckrt_thread.proofs.SlotLemmas.{kept_at, live_change}
 use Rattle.ckrt_mutex.specs.WellFormed.{IsWellFormedWith}
 use Rattle.ckrt_calls.specs.declared.input.TheConstants.{INPUT_LIMIT}
 use Rattle.ckrt_calls.specs.declared.table.Tables.{Tables}
-use Rattle.ckrt_calls.specs.Table.{Fed, feed, feed_first, with_fed, input_taken, input_closed, all_woken, END_OF_INPUT}
+use Rattle.ckrt_calls.specs.Table.{Fed, feed, feed_first, input_taken, input_closed, END_OF_INPUT}
 use Rattle.ckrt_calls.specs.WellFormed.{IsWellFormed, lies_ahead, lacks_input, may_be_read}
 use Rattle.ckrt_calls.proofs.ThreadRows as rows
 use Rattle.ckrt_calls.proofs.ThreadRows.{AllWaits, any_live_woken}
 use Rattle.ckrt_calls.proofs.MutexRows.{wait_rule}
+use Rattle.ckrt_calls.proofs.Queues as queues
+use Rattle.ckrt_calls.proofs.Queues.{SameQueues, barriers_same, locks_same}
 use Rattle.ckrt_calls.proofs.Kept.{conditions_woken}
 use Rattle.ckrt_cond.specs.WellFormed as conditions
 
@@ -42,7 +42,7 @@ pub feed_empty : (bs : List ℕ) (z : State) → slice_get bs 0 ≡ None → fee
 feed_empty [] z e = (let rest : drop 1 (let ns : List ℕ = [] in ns) ≡ [] = grind (arith, nat_tests) in rw rest refl)
 feed_empty (c ∷ bs) z e = absurd (cc)
 
--- what the end of a wait keeps, feeding and the end of the input keep
+-- what the end of a wait keeps, feeding keeps
 module _ (P : State → Type 0) (ends : (t v : ℕ) (s : State) → P s → P (woken t v s)) where
   kept_first : (o : Option Wait) (bs bytes : List ℕ) (b : ℕ) (z : State) → ((y : State) → P y → P (feed bs y).threads) → P z → P (feed_first (feed bs) o bytes b z).threads
   kept_first None bs bytes b z more h = h
@@ -51,10 +51,6 @@ module _ (P : State → Type 0) (ends : (t v : ℕ) (s : State) → P s → P (w
   pub kept_feed : (bs : List ℕ) (z : State) → P z → P (feed bs z).threads
   kept_feed [] z h = h
   kept_feed (b ∷ bs) z h = kept_first (first_waiter object.Input z) bs (b ∷ bs) b z (λ y k. kept_feed bs y k) h
-
-  pub kept_all_woken : (v : ℕ) (ws : List Wait) (z : State) → P z → P (all_woken v ws z)
-  kept_all_woken v [] z h = h
-  kept_all_woken v (w ∷ ws) z h = kept_all_woken v ws (woken w.thread v z) (ends w.thread v z h)
 
 less_first : (o : Option Wait) (bs : List ℕ) (b : ℕ) (z : State) → ((y : State) → length (feed bs y).input ≤ length bs) → length (feed_first (feed bs) o (b ∷ bs) b z).input ≤ length (b ∷ bs)
 less_first None bs b z more = omega arith
@@ -131,6 +127,8 @@ well_formed_input bytes s z i n h k =
       threads = rw i at k;
       mutexes = kept_feed (λ y. IsWellFormedWith y s.mutexes) (joined_woken s) (s.input ++ bytes) s.threads h.mutexes;
       conditions = kept_feed conditions.IsWellFormed conditions_woken (s.input ++ bytes) s.threads h.conditions;
+      barriers = barriers_same s.threads (feed (s.input ++ bytes) s.threads).threads s.barriers (λ o p. queues.fed o p (s.input ++ bytes) s.threads h.threads) h.barriers;
+      rwlocks = locks_same s.threads (feed (s.input ++ bytes) s.threads).threads s.rwlocks (λ o p. queues.fed o p (s.input ++ bytes) s.threads h.threads) h.rwlocks;
       running = λ e. kept_feed (λ y. is_any_live y ≡ true) any_live_woken (s.input ++ bytes) s.threads (h.running e);
       deadlines = λ e. kept_feed (AllWaits (lies_ahead s.clock)) (rows.all_woken (lies_ahead s.clock)) (s.input ++ bytes) s.threads (h.deadlines e);
       readers = readers_after s.closed s.input (s.input ++ bytes) s.threads h.readers;
@@ -142,40 +140,22 @@ well_formed_input bytes s z i n h k =
 
 -- THE END OF INPUT
 
-pub well_formed_woken : (s : State) (t v : ℕ) → threads.IsWellFormed s → threads.IsWellFormed (woken t v s)
-well_formed_woken s t v h = well_formed_word (record s { waits = without t s.waits }) t A0 v (well_formed_without s t h)
+-- where nobody is in the queue nobody waits for input
+none_in_queue : (z : State) → queue_of object.Input z ≡ [] → first_waiter object.Input z ≡ None
+none_in_queue z e = first_of_queue object.Input z ∙ ap (λ q. slice_get q 0) e
 
-pub one_fewer : (t v : ℕ) (z : State) → is_waiting z t ≡ true → length (woken t v z).waits < length z.waits
-one_fewer t v z h = (let l = length-without t z.waits h in omega arith)
-
--- one thread that waits for input learns of its end
-pub one_woken : (w : Wait) (z : State) → first_waiter object.Input z ≡ Some w → threads.IsWellFormed z → all_woken END_OF_INPUT (queue_of object.Input z) z ≡ all_woken END_OF_INPUT (queue_of object.Input (woken w.thread END_OF_INPUT z)) (woken w.thread END_OF_INPUT z)
-one_woken w z e h = ap (λ q. all_woken END_OF_INPUT q z) (queue_rest object.Input z w END_OF_INPUT e h)
-
-pub none_woken : (z : State) → first_waiter object.Input z ≡ None → all_woken END_OF_INPUT (queue_of object.Input z) z ≡ z
-none_woken z e = ap (λ q. all_woken END_OF_INPUT q z) (empty_queue object.Input z e)
-
-first_is : (q : List Wait) (z : State) → queue_of object.Input z ≡ q → first_waiter object.Input z ≡ slice_get q 0
-first_is q z e = first_of_queue object.Input z ∙ ap (λ p. slice_get p 0) e
-
-rest_is : (w : Wait) (q : List Wait) (z : State) → queue_of object.Input z ≡ w ∷ q → threads.IsWellFormed z → queue_of object.Input (woken w.thread END_OF_INPUT z) ≡ q
-rest_is w q z e h = (let r = queue_rest object.Input z w END_OF_INPUT (first_is (w ∷ q) z e) h in cc)
-
--- nobody waits for input then
-none_left : (q : List Wait) (z : State) → queue_of object.Input z ≡ q → threads.IsWellFormed z → first_waiter object.Input (all_woken END_OF_INPUT q z) ≡ None
-none_left [] z e h = first_is [] z e
-none_left (w ∷ q) z e h = none_left q (woken w.thread END_OF_INPUT z) (rest_is w q z e h) (well_formed_woken z w.thread END_OF_INPUT h)
-
-pub well_formed_closed : (s z : Tables) → z ≡ input_closed s → IsWellFormed s → threads.IsWellFormed z.threads → IsWellFormed z
-well_formed_closed s z i h k =
+pub well_formed_closed : (s z : Tables) → z ≡ input_closed s → IsWellFormed s → threads.IsWellFormed z.threads → queue_of object.Input z.threads ≡ [] → IsWellFormed z
+well_formed_closed s z i h k none =
     let q = queue_of object.Input s.threads in
     rw i (record {
       threads = rw i at k;
       mutexes = kept_all_woken (λ y. IsWellFormedWith y s.mutexes) (joined_woken s) END_OF_INPUT q s.threads h.mutexes;
       conditions = kept_all_woken conditions.IsWellFormed conditions_woken END_OF_INPUT q s.threads h.conditions;
+      barriers = barriers_same s.threads (all_woken END_OF_INPUT q s.threads) s.barriers (λ o p. queues.readers_woken o p END_OF_INPUT s.threads h.threads) h.barriers;
+      rwlocks = locks_same s.threads (all_woken END_OF_INPUT q s.threads) s.rwlocks (λ o p. queues.readers_woken o p END_OF_INPUT s.threads h.threads) h.rwlocks;
       running = λ e. kept_all_woken (λ y. is_any_live y ≡ true) any_live_woken END_OF_INPUT q s.threads (h.running e);
       deadlines = λ e. kept_all_woken (AllWaits (lies_ahead s.clock)) (rows.all_woken (lies_ahead s.clock)) END_OF_INPUT q s.threads (h.deadlines e);
-      readers = lacks_any s.input true (all_woken END_OF_INPUT q s.threads).waits (no_first (all_woken END_OF_INPUT q s.threads).waits (none_left q s.threads refl h.threads));
+      readers = lacks_any s.input true (all_woken END_OF_INPUT q s.threads).waits (no_first (all_woken END_OF_INPUT q s.threads).waits (none_in_queue (all_woken END_OF_INPUT q s.threads) (rw i at none)));
       clock = h.clock;
       input = h.input;
       fault = λ u pc c e. kept_all_woken (λ y. is_live y u ≡ true) (live_woken u) END_OF_INPUT q s.threads (h.fault u pc c e);

@@ -1,27 +1,23 @@
 -- Waits whose deadlines come.
-use Rattle.std.proofs.Common.{◌≡◌, ℕ, zero, suc, ◌+◌, ◌-◌, ◌≤◌, ◌<◌, ◌^◌, Bool, true, false, ◌&&◌, not, List, [], ◌∷◌, ◌++◌, length, Option, Some, None, refl, sym, ap, subst, ◌∙◌, arith}
+use Rattle.std.proofs.Common.{◌≡◌, ℕ, ◌<◌, ◌^◌, true, ◌&&◌, List, [], ◌∷◌, ◌++◌, length, Option, Some, None, is_some, refl, sym, ap, ◌∙◌, arith}
 use Rattle.std.specs.List.{list_all, list_any, find}
 use Rattle.std.proofs.lemmas.Bool.Decides.{nat_tests}
 use Rattle.ckrt_thread.specs.declared.records.Wait.{Wait}
 use Rattle.ckrt_thread.specs.declared.records.Reason.{Reason}
 use Rattle.ckrt_thread.specs.declared.records.Reason.TheVariants as reason
 use Rattle.ckrt_thread.specs.declared.records.RetakeResult.TheVariants as retake
-use Rattle.ckrt_thread.specs.Abi.{A0}
 use Rattle.ckrt_thread.specs.Errors.{ETIMEDOUT}
 use Rattle.ckrt_thread.specs.Waits.{is_of, without}
-use Rattle.ckrt_thread.specs.Deadlines.{due_waits, earliest_due}
+use Rattle.ckrt_thread.specs.Deadlines.{due_waits, earliest_due, is_reached}
 use Rattle.ckrt_thread.specs.State as threads
 use Rattle.ckrt_thread.specs.State.{State, woken, unwaited, blocked, set_word, count_of, is_live, is_live_thread, is_any_live, is_waiting, with_word}
-use Rattle.ckrt_thread.proofs.Counting.{count_of-append, none_of_count}
 use Rattle.ckrt_thread.proofs.WaitLemmas.{found_waits}
-use Rattle.ckrt_thread.proofs.Known.{live_range, waiting_live}
-use Rattle.ckrt_thread.proofs.SlotLemmas.{kept_at, live_change}
+use Rattle.ckrt_thread.proofs.Known.{live_range}
 use Rattle.ckrt_thread.proofs.DueWaits.{earliest_is_due, due_rest, due_more}
-use Rattle.ckrt_mutex.specs.Mutex.{mutex_at}
-use Rattle.ckrt_mutex.specs.Rows.{After, is_full, retake_row}
-use Rattle.ckrt_mutex.specs.WellFormed.{IsWellFormedWith, can_retake}
+use Rattle.ckrt_mutex.specs.Rows.{After}
+use Rattle.ckrt_mutex.specs.WellFormed.{IsWellFormedWith}
 use Rattle.ckrt_mutex.proofs.Rows.{well_formed_retake}
-use Rattle.ckrt_mutex.proofs.WellFormed.{found_any}
+use Rattle.ckrt_objects.proofs.Waits.{found_any}
 use Rattle.ckrt_calls.specs.declared.table.Tables.{Tables}
 use Rattle.ckrt_calls.specs.Table.{timed_out, all_timed_out}
 use Rattle.ckrt_calls.specs.WellFormed.{IsWellFormed, lies_ahead, lacks_input}
@@ -29,6 +25,7 @@ use Rattle.ckrt_calls.proofs.ThreadRows as rows
 use Rattle.ckrt_calls.proofs.ThreadRows.{AllWaits, all_blocked, any_live_woken, any_live_change}
 use Rattle.ckrt_calls.proofs.MutexRows as mutex
 use Rattle.ckrt_calls.proofs.MutexRows.{wait_rule}
+use Rattle.ckrt_calls.proofs.Queues.{SameQueues, barriers_same, locks_same, timed_ended, timed_resumed}
 use Rattle.ckrt_calls.proofs.Kept.{retake_any_live, resume_all, conditions_woken}
 use Rattle.ckrt_calls.proofs.Readers.{live_woken, joined_woken}
 use Rattle.ckrt_cond.specs.Rows.{resume_row}
@@ -41,11 +38,13 @@ pub found_waiting : (s : State) (w : Wait) → find (is_of w.thread) s.waits ≡
 found_waiting s w e = found_waits (is_of w.thread) s.waits w e
 
 -- its wait ends
-pub well_formed_ended_wait : (t v : ℕ) (s : Tables) → IsWellFormed s → threads.IsWellFormed (woken t v s.threads) → IsWellFormed (record s { threads = woken t v s.threads })
-well_formed_ended_wait t v s h k = record {
+well_formed_ended_wait : (t v : ℕ) (s : Tables) → IsWellFormed s → SameQueues s.threads (woken t v s.threads) → threads.IsWellFormed (woken t v s.threads) → IsWellFormed (record s { threads = woken t v s.threads })
+well_formed_ended_wait t v s h same k = record {
   threads = k;
   mutexes = joined_woken s t v s.threads h.mutexes;
   conditions = conditions_woken t v s.threads h.conditions;
+  barriers = barriers_same s.threads (woken t v s.threads) s.barriers same h.barriers;
+  rwlocks = locks_same s.threads (woken t v s.threads) s.rwlocks same h.rwlocks;
   running = λ e. any_live_woken t v s.threads (h.running e);
   deadlines = λ e. rows.all_woken (lies_ahead s.clock) t v s.threads (h.deadlines e);
   readers = rows.all_woken (lacks_input s.input s.closed) t v s.threads h.readers;
@@ -79,12 +78,14 @@ resumed_mutexes t a s h m =
     well_formed_retake t a retake.TimedOut (unwaited t s.threads) s.mutexes (rule.unwaited t s.threads (unwaited t s.threads) refl h.mutexes)
     (live_range s.threads t h.threads live) (resume_free t s.threads h.threads) (resume_room t a s.threads m s.mutexes h.mutexes) (resume_count t a s.threads m s.mutexes h.mutexes)
 
-well_formed_resumed : (t a : ℕ) (s : Tables) → IsWellFormed s → may_resume t a s.threads ≡ true
+well_formed_resumed : (t a : ℕ) (s : Tables) → IsWellFormed s → may_resume t a s.threads ≡ true → SameQueues s.threads (Resumed t a s).threads
     → threads.IsWellFormed (Resumed t a s).threads → IsWellFormed (record s { threads = (Resumed t a s).threads; mutexes = (Resumed t a s).mutexes })
-well_formed_resumed t a s h m k = record {
+well_formed_resumed t a s h m same k = record {
   threads = k;
   mutexes = resumed_mutexes t a s h m;
   conditions = conditions_resume t a retake.TimedOut s.threads s.mutexes h.conditions;
+  barriers = barriers_same s.threads (Resumed t a s).threads s.barriers same h.barriers;
+  rwlocks = locks_same s.threads (Resumed t a s).threads s.rwlocks same h.rwlocks;
   running = λ x. retake_any_live t a retake.TimedOut (unwaited t s.threads) s.mutexes (h.running x);
   deadlines = λ x. resume_all (lies_ahead s.clock) retake.TimedOut (λ u b. refl) t a s.threads s.mutexes (h.deadlines x);
   readers = resume_all (lacks_input s.input s.closed) retake.TimedOut (λ u b. refl) t a s.threads s.mutexes h.readers;
@@ -96,20 +97,24 @@ well_formed_resumed t a s h m k = record {
 
 -- A DUE WAIT ENDS
 
-module _ (w : Wait) (s : Tables) (h : IsWellFormed s) (e : find (is_of w.thread) s.threads.waits ≡ Some w) where
+module _ (w : Wait) (s : Tables) (h : IsWellFormed s) (e : find (is_of w.thread) s.threads.waits ≡ Some w) (d : is_some w.deadline ≡ true) where
   timed_out_by : (r : Reason) → w.reason ≡ r → threads.IsWellFormed (timed_out r w.thread s).threads → IsWellFormed (timed_out r w.thread s)
-  timed_out_by reason.Sleep i k = well_formed_ended_wait w.thread 0 s h k
-  timed_out_by (reason.Condition c a) i k = well_formed_resumed w.thread a s h (found_resumes w c a s.threads e i) k
-  timed_out_by reason.Input i k = well_formed_ended_wait w.thread ETIMEDOUT s h k
-  timed_out_by (reason.Join j) i k = well_formed_ended_wait w.thread ETIMEDOUT s h k
-  timed_out_by (reason.Lock a) i k = well_formed_ended_wait w.thread ETIMEDOUT s h k
-  timed_out_by (reason.Retake a v) i k = well_formed_ended_wait w.thread ETIMEDOUT s h k
-  timed_out_by (reason.Barrier b) i k = well_formed_ended_wait w.thread ETIMEDOUT s h k
-  timed_out_by (reason.Read l) i k = well_formed_ended_wait w.thread ETIMEDOUT s h k
-  timed_out_by (reason.Write l) i k = well_formed_ended_wait w.thread ETIMEDOUT s h k
+  timed_out_by reason.Sleep i k = well_formed_ended_wait w.thread 0 s h (timed_ended w s.threads h.threads e d 0) k
+  timed_out_by (reason.Condition c a) i k = well_formed_resumed w.thread a s h (found_resumes w c a s.threads e i) (timed_resumed w s.threads h.threads e d a s.mutexes) k
+  timed_out_by reason.Input i k = well_formed_ended_wait w.thread ETIMEDOUT s h (timed_ended w s.threads h.threads e d ETIMEDOUT) k
+  timed_out_by (reason.Join j) i k = well_formed_ended_wait w.thread ETIMEDOUT s h (timed_ended w s.threads h.threads e d ETIMEDOUT) k
+  timed_out_by (reason.Lock a) i k = well_formed_ended_wait w.thread ETIMEDOUT s h (timed_ended w s.threads h.threads e d ETIMEDOUT) k
+  timed_out_by (reason.Retake a v) i k = well_formed_ended_wait w.thread ETIMEDOUT s h (timed_ended w s.threads h.threads e d ETIMEDOUT) k
+  timed_out_by (reason.Barrier b) i k = well_formed_ended_wait w.thread ETIMEDOUT s h (timed_ended w s.threads h.threads e d ETIMEDOUT) k
+  timed_out_by (reason.Read l) i k = well_formed_ended_wait w.thread ETIMEDOUT s h (timed_ended w s.threads h.threads e d ETIMEDOUT) k
+  timed_out_by (reason.Write l) i k = well_formed_ended_wait w.thread ETIMEDOUT s h (timed_ended w s.threads h.threads e d ETIMEDOUT) k
 
-pub well_formed_timed_out : (w : Wait) (s z : Tables) → z ≡ timed_out w.reason w.thread s → IsWellFormed s → find (is_of w.thread) s.threads.waits ≡ Some w → threads.IsWellFormed z.threads → IsWellFormed z
-well_formed_timed_out w s z i h e k = rw i (timed_out_by w s h e w.reason refl (rw i at k))
+pub well_formed_timed_out : (w : Wait) (s z : Tables) → z ≡ timed_out w.reason w.thread s → IsWellFormed s → find (is_of w.thread) s.threads.waits ≡ Some w → is_some w.deadline ≡ true → threads.IsWellFormed z.threads → IsWellFormed z
+well_formed_timed_out w s z i h e d k = rw i (timed_out_by w s h e d w.reason refl (rw i at k))
+
+reached_timed : (now : ℕ) (d : Option ℕ) → is_reached now d ≡ true → is_some d ≡ true
+reached_timed now None h = absurd (cc)
+reached_timed now (Some d) h = refl
 
 -- THE OTHER DUE WAITS stay as they were
 
@@ -129,6 +134,10 @@ due_after now t s (reason.Retake a v) = refl
 due_after now t s (reason.Barrier b) = refl
 due_after now t s (reason.Read l) = refl
 due_after now t s (reason.Write l) = refl
+
+-- what is due has a deadline
+pub due_timed : (now : ℕ) (ws : List Wait) (w : Wait) → earliest_due now ws ≡ Some w → is_some w.deadline ≡ true
+due_timed now ws w f = reached_timed now w.deadline (earliest_is_due now ws w f)
 
 pub due_first : (now : ℕ) (w : Wait) (s z : Tables) → z ≡ timed_out w.reason w.thread s → earliest_due now s.threads.waits ≡ Some w → find (is_of w.thread) s.threads.waits ≡ Some w → due_waits now s.threads.waits ≡ w ∷ due_waits now z.threads.waits
 due_first now w s z i f e =
@@ -152,6 +161,8 @@ well_formed_clock now s h l a = record {
   threads = h.threads;
   mutexes = h.mutexes;
   conditions = h.conditions;
+  barriers = h.barriers;
+  rwlocks = h.rwlocks;
   running = h.running;
   deadlines = λ e. a;
   readers = h.readers;

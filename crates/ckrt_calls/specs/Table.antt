@@ -18,6 +18,8 @@ use Rattle.ckrt_thread.specs.State as thread
 use Rattle.ckrt_thread.specs.Rows as rows
 use Rattle.ckrt_mutex.specs.Rows as mutex
 use Rattle.ckrt_cond.specs.Rows as condition
+use Rattle.ckrt_barrier.specs.Rows as barrier
+use Rattle.ckrt_rwlock.specs.Rows as rwlock
 use Rattle.ckrt_calls.specs.declared.number.Call.{Call}
 use Rattle.ckrt_calls.specs.declared.number.Call.TheVariants as call
 use Rattle.ckrt_calls.specs.declared.table.Status.{Status}
@@ -26,7 +28,7 @@ use Rattle.ckrt_calls.specs.declared.table.Tables.{Tables}
 
 -- the tables that a program begins with
 abbrev pub fresh : ℕ → ℕ → Tables
-fresh pages harts = record { threads = thread.fresh (4096 * pages) harts; mutexes = []; clock = 0; input = []; closed = false; status = Running }
+fresh pages harts = record { threads = thread.fresh (4096 * pages) harts; mutexes = []; barriers = []; rwlocks = []; clock = 0; input = []; closed = false; status = Running }
 
 -- INPUT (this project's choice)
 
@@ -56,14 +58,9 @@ with_fed s f = record s { input = f.input; threads = f.threads }
 abbrev pub input_taken : List ℕ → Tables → Tables
 input_taken bytes s = with_fed s (feed (s.input ++ bytes) s.threads)
 
--- these waits end one after another, each with this result
-abbrev pub all_woken : ℕ → List Wait → thread.State → thread.State
-all_woken v [] z = z
-all_woken v (w ∷ ws) z = all_woken v ws (thread.woken w.thread v z)
-
 -- no more input comes, and each thread that waits for it learns so
 abbrev pub input_closed : Tables → Tables
-input_closed s = record s { closed = true; threads = all_woken END_OF_INPUT (queue_of object.Input s.threads) s.threads }
+input_closed s = record s { closed = true; threads = thread.all_woken END_OF_INPUT (queue_of object.Input s.threads) s.threads }
 
 -- TIME
 
@@ -136,6 +133,16 @@ call_of n =
     else if n == 33 then Some call.ConditionTimedWait
     else if n == 34 then Some call.ConditionSignal
     else if n == 35 then Some call.ConditionBroadcast
+    else if n == 40 then Some call.BarrierInit
+    else if n == 41 then Some call.BarrierDestroy
+    else if n == 42 then Some call.BarrierWait
+    else if n == 50 then Some call.RwLockInit
+    else if n == 51 then Some call.RwLockDestroy
+    else if n == 52 then Some call.RwLockRdLock
+    else if n == 53 then Some call.RwLockTryRdLock
+    else if n == 54 then Some call.RwLockWrLock
+    else if n == 55 then Some call.RwLockTryWrLock
+    else if n == 56 then Some call.RwLockUnlock
     else None
 
 -- a result alone
@@ -149,6 +156,14 @@ by_threads s r = record { result = r.result; put = None; tables = record s { thr
 -- what a row of the mutexes or the conditions does to the tables
 abbrev pub by_mutexes : Tables → mutex.After → After
 by_mutexes s r = record { result = r.result; put = None; tables = record s { threads = r.threads; mutexes = r.mutexes } }
+
+-- what a row of the barriers does to the tables
+abbrev pub by_barriers : Tables → barrier.After → After
+by_barriers s r = record { result = r.result; put = None; tables = record s { threads = r.threads; barriers = r.barriers } }
+
+-- what a row of the read-write locks does to the tables
+abbrev pub by_rwlocks : Tables → rwlock.After → After
+by_rwlocks s r = record { result = r.result; put = None; tables = record s { threads = r.threads; rwlocks = r.locks } }
 
 -- the thread that calls waits
 abbrev pub waits : ℕ → Reason → Option ℕ → Tables → After
@@ -229,6 +244,26 @@ row call.ConditionTimedWait t r s = by_mutexes s (condition.timedwait_row t (get
 row call.ConditionSignal t r s = by_mutexes s (condition.signal_row (get r 10) s.threads s.mutexes)
 -- POSIX.1-2017, pthread_cond_broadcast
 row call.ConditionBroadcast t r s = by_mutexes s (condition.broadcast_row (get r 10) s.threads s.mutexes)
+-- POSIX.1-2017, pthread_barrier_init
+row call.BarrierInit t r s = by_barriers s (barrier.init_row (get r 10) (get r 11) s.threads s.barriers)
+-- POSIX.1-2017, pthread_barrier_destroy
+row call.BarrierDestroy t r s = by_barriers s (barrier.destroy_row (get r 10) s.threads s.barriers)
+-- POSIX.1-2017, pthread_barrier_wait
+row call.BarrierWait t r s = by_barriers s (barrier.wait_row t (get r 10) s.threads s.barriers)
+-- POSIX.1-2017, pthread_rwlock_init
+row call.RwLockInit t r s = by_rwlocks s (rwlock.init_row (get r 10) s.threads s.rwlocks)
+-- POSIX.1-2017, pthread_rwlock_destroy
+row call.RwLockDestroy t r s = by_rwlocks s (rwlock.destroy_row (get r 10) s.threads s.rwlocks)
+-- POSIX.1-2017, pthread_rwlock_rdlock
+row call.RwLockRdLock t r s = by_rwlocks s (rwlock.rdlock_row t (get r 10) s.threads s.rwlocks)
+-- POSIX.1-2017, pthread_rwlock_tryrdlock
+row call.RwLockTryRdLock t r s = by_rwlocks s (rwlock.tryrdlock_row t (get r 10) s.threads s.rwlocks)
+-- POSIX.1-2017, pthread_rwlock_wrlock
+row call.RwLockWrLock t r s = by_rwlocks s (rwlock.wrlock_row t (get r 10) s.threads s.rwlocks)
+-- POSIX.1-2017, pthread_rwlock_trywrlock
+row call.RwLockTryWrLock t r s = by_rwlocks s (rwlock.trywrlock_row t (get r 10) s.threads s.rwlocks)
+-- POSIX.1-2017, pthread_rwlock_unlock
+row call.RwLockUnlock t r s = by_rwlocks s (rwlock.unlock_row t (get r 10) s.threads s.rwlocks)
 
 -- a number that is in no row answers ENOSYS
 abbrev pub row_or_unknown : Option Call → ℕ → Registers → Tables → After

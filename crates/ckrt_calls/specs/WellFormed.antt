@@ -9,6 +9,8 @@ use Rattle.ckrt_thread.specs.Deadlines.{is_ahead}
 use Rattle.ckrt_thread.specs.State as thread
 use Rattle.ckrt_mutex.specs.WellFormed as mutex
 use Rattle.ckrt_cond.specs.WellFormed as condition
+use Rattle.ckrt_barrier.specs.WellFormed as barrier
+use Rattle.ckrt_rwlock.specs.WellFormed as rwlock
 use Rattle.ckrt_calls.specs.declared.input.TheConstants.{INPUT_LIMIT}
 use Rattle.ckrt_calls.specs.declared.table.Status.TheVariants.{Running, Faulted}
 use Rattle.ckrt_calls.specs.declared.table.Tables.{Tables}
@@ -32,6 +34,10 @@ pub record IsWellFormed (s : Tables) : Type 0 where
   pub mutexes : mutex.IsWellFormedWith s.threads s.mutexes
   -- the rules of waits at conditions
   pub conditions : condition.IsWellFormed s.threads
+  -- the rules of barriers, and those that join them with waits
+  pub barriers : barrier.IsWellFormedWith s.threads s.barriers
+  -- the rules of read-write locks, and those that join them with waits
+  pub rwlocks : rwlock.IsWellFormedWith s.threads s.rwlocks
   -- a program that runs has a thread that has not ended (POSIX.1-2017, pthread_exit: the process exits with its last thread)
   pub running : s.status ≡ Running → thread.is_any_live s.threads ≡ true
   -- while the program runs the clock has reached no deadline

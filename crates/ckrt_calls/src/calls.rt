@@ -128,5 +128,21 @@ fn perform(
             ckrt_cond::broadcast(&mut tables.threads, &mut tables.mutexes, a),
             None,
         ),
+        Call::BarrierInit => (tables.barriers.init(&tables.threads, a, b), None),
+        Call::BarrierDestroy => (tables.barriers.destroy(&tables.threads, a), None),
+        Call::BarrierWait => (tables.barriers.wait(&mut tables.threads, thread, a), None),
+        Call::RwLockInit => (tables.rwlocks.init(&mut tables.threads, a), None),
+        Call::RwLockDestroy => (tables.rwlocks.destroy(&mut tables.threads, a), None),
+        Call::RwLockRdLock => (tables.rwlocks.rdlock(&mut tables.threads, thread, a), None),
+        Call::RwLockTryRdLock => (
+            tables.rwlocks.tryrdlock(&mut tables.threads, thread, a),
+            None,
+        ),
+        Call::RwLockWrLock => (tables.rwlocks.wrlock(&mut tables.threads, thread, a), None),
+        Call::RwLockTryWrLock => (
+            tables.rwlocks.trywrlock(&mut tables.threads, thread, a),
+            None,
+        ),
+        Call::RwLockUnlock => (tables.rwlocks.unlock(&mut tables.threads, thread, a), None),
     }
 }

@@ -1,5 +1,5 @@
 //! Waits whose deadlines come.
-ghost use Rattle.std.specs.Prelude.{◌≡◌, ◌≤◌, Some, true, length};
+ghost use Rattle.std.specs.Prelude.{◌≡◌, ◌≤◌, Some, true, length, is_some};
 ghost use Rattle.std.specs.List.{find, list_all};
 ghost use Rattle.ckrt_thread.specs.Waits.{is_of};
 ghost use Rattle.ckrt_thread.specs.Deadlines.{due_waits};
@@ -33,9 +33,10 @@ fn time_out(tables: &mut Tables, wait: &Wait)
     }
 }
 
-/// The same, where tables that were well-formed stay so.
+/// The same for a wait that has a deadline: tables that were well-formed stay so.
 fn end_wait(tables: &mut Tables, wait: &Wait)
     requires found { find (is_of wait.now.thread) tables.old.threads.waits ≡ Some wait.now }
+    requires timed { is_some wait.now.deadline ≡ true }
     requires well_formed { IsWellFormed tables.old }
     ensures well_formed { IsWellFormed tables.new }
     ensures tables { tables.new ≡ timed_out wait.now.reason wait.now.thread tables.old }

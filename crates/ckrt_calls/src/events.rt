@@ -1,8 +1,6 @@
 //! What comes from outside: input, its end, and time.
 ghost use Rattle.std.specs.Prelude.{◌≡◌, ◌≤◌, ◌<◌, ◌+◌, ◌^◌, length};
-ghost use Rattle.ckrt_thread.specs.declared.records.Object.TheVariants.{Input};
-ghost use Rattle.ckrt_thread.specs.Granting.{queue_of};
-ghost use Rattle.ckrt_calls.specs.Table.{END_OF_INPUT, input_taken, input_closed, all_woken, ticked, feed};
+ghost use Rattle.ckrt_calls.specs.Table.{END_OF_INPUT, input_taken, input_closed, ticked, feed};
 ghost use Rattle.ckrt_calls.specs.WellFormed.{IsWellFormed};
 
 use crate::console::END_OF_INPUT;
@@ -45,19 +43,8 @@ pub fn close_input(tables: &mut Tables)
     ensures tables { tables.new ≡ input_closed tables.old }
 {
     tables.closed = true;
-    end_readers(&mut tables.threads);
+    tables.threads.wake_all(Object::Input, END_OF_INPUT);
     tables.threads.known();
-}
-
-/// Each thread that waits for input reads [`END_OF_INPUT`], in order of waiting.
-#[tactic(auto, using(crate::proofs::Readers::one_woken, crate::proofs::Readers::none_woken, crate::proofs::Readers::one_fewer))]
-fn end_readers(threads: &mut Threads)
-    ensures { threads.new ≡ all_woken END_OF_INPUT (queue_of Input threads.old) threads.old }
-{
-    while let Some(wait) = threads.first_waiter(Object::Input) {
-        threads.known();
-        threads.wake(wait.thread, END_OF_INPUT);
-    }
 }
 
 /// Some ticks pass, up to a moment below 2^63. Each wait whose deadline comes ends, in order of deadline and then of

@@ -49,6 +49,26 @@ pub enum Call {
     ConditionSignal,
     /// 35 (condition): nobody waits at a condition any more.
     ConditionBroadcast,
+    /// 40 (barrier, count): so many threads are to meet at a barrier.
+    BarrierInit,
+    /// 41 (barrier): a barrier is destroyed.
+    BarrierDestroy,
+    /// 42 (barrier): waits at a barrier until all have come.
+    BarrierWait,
+    /// 50 (lock): a read-write lock is initialised.
+    RwLockInit,
+    /// 51 (lock): a read-write lock is destroyed.
+    RwLockDestroy,
+    /// 52 (lock): locks a read-write lock to read, or waits for it.
+    RwLockRdLock,
+    /// 53 (lock): locks a read-write lock to read where that needs no wait.
+    RwLockTryRdLock,
+    /// 54 (lock): locks a read-write lock to write, or waits for it.
+    RwLockWrLock,
+    /// 55 (lock): locks a read-write lock to write where that needs no wait.
+    RwLockTryWrLock,
+    /// 56 (lock): gives up a read-write lock once.
+    RwLockUnlock,
 }
 
 impl Call {
@@ -79,6 +99,16 @@ impl Call {
             33 => Some(Call::ConditionTimedWait),
             34 => Some(Call::ConditionSignal),
             35 => Some(Call::ConditionBroadcast),
+            40 => Some(Call::BarrierInit),
+            41 => Some(Call::BarrierDestroy),
+            42 => Some(Call::BarrierWait),
+            50 => Some(Call::RwLockInit),
+            51 => Some(Call::RwLockDestroy),
+            52 => Some(Call::RwLockRdLock),
+            53 => Some(Call::RwLockTryRdLock),
+            54 => Some(Call::RwLockWrLock),
+            55 => Some(Call::RwLockTryWrLock),
+            56 => Some(Call::RwLockUnlock),
             _ => None,
         }
     }

@@ -6,8 +6,10 @@ ghost use Rattle.ckrt_calls.specs.Table.{fresh, thread_ended};
 ghost use Rattle.ckrt_calls.specs.WellFormed.{IsWellFormed};
 
 use crate::input::InputQueue;
+use ckrt_barrier::Barriers;
 use ckrt_mutex::Mutexes;
 use ckrt_rv32i::Cause;
+use ckrt_rwlock::RwLocks;
 use ckrt_thread::{ThreadId, Threads};
 use std::alloc::{AllocError, Global};
 
@@ -27,6 +29,8 @@ pub struct Tables {
     /// The threads, and the harts with them.
     pub threads: Threads,
     pub mutexes: Mutexes,
+    pub barriers: Barriers,
+    pub rwlocks: RwLocks,
     /// The time in ticks, below 2^63.
     pub clock: u64,
     /// The input that no thread has read yet.
@@ -48,10 +52,14 @@ impl Tables {
         let threads = Threads::new(alloc, 4096 * pages, harts)?;
         threads.known();
         let mutexes = Mutexes::new();
+        let barriers = Barriers::new();
+        let rwlocks = RwLocks::new();
         let input = InputQueue::new(alloc)?;
         Ok(Tables {
             threads,
             mutexes,
+            barriers,
+            rwlocks,
             clock: 0,
             input,
             closed: false,

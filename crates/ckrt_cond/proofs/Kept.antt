@@ -9,23 +9,23 @@ use Rattle.ckrt_thread.specs.declared.records.RetakeResult.{RetakeResult}
 use Rattle.ckrt_thread.specs.declared.records.RetakeResult.TheVariants as retake
 use Rattle.ckrt_thread.specs.declared.records.CallResult.TheVariants.{Done}
 use Rattle.ckrt_thread.specs.Abi.{A0}
-use Rattle.ckrt_thread.specs.Waits.{is_moment, retake_code}
+use Rattle.ckrt_thread.specs.Waits.{is_for, is_moment, retake_code}
 use Rattle.ckrt_thread.specs.State as threads
 use Rattle.ckrt_thread.specs.State.{State, is_live, is_waiting, first_waiter, unwaited, blocked}
 use Rattle.ckrt_thread.proofs.Known.{live_range}
 use Rattle.ckrt_thread.proofs.Grants.{first_of_queue}
 use Rattle.ckrt_thread.proofs.Changes as changes
-use Rattle.ckrt_mutex.specs.declared.address_map.Entry.{Entry}
+use Rattle.ckrt_objects.specs.declared.address_map.Entry.{Entry}
 use Rattle.ckrt_mutex.specs.declared.records.Mutex.{Mutex}
 use Rattle.ckrt_mutex.specs.Mutex.{is_available, mutex_at}
 use Rattle.ckrt_mutex.specs.Rows.{After, unchanged, unlock_row, retake_row}
 use Rattle.ckrt_mutex.specs.WellFormed.{IsWellFormedWith}
-use Rattle.ckrt_mutex.proofs.Table.{either}
+use Rattle.ckrt_objects.proofs.Waits.{either, queue_last}
 use Rattle.ckrt_mutex.proofs.Rows.{well_formed_unlock, well_formed_retake}
 use Rattle.ckrt_mutex.proofs.WellFormed.{well_formed_blocked, well_formed_unwaited}
 use Rattle.ckrt_cond.specs.Rows.{waiters, has_waiters, init_row, destroy_row, wait_refusal, released_then, waiting_at, wait_row, timedwait_row, resume_row, woken_from, all_woken, signal_row, broadcast_row}
 use Rattle.ckrt_cond.specs.WellFormed.{IsWellFormed, HasReleased}
-use Rattle.ckrt_cond.proofs.Waits.{queue_last, conditions_fewer, conditions_waiting}
+use Rattle.ckrt_cond.proofs.Waits.{conditions_fewer, conditions_waiting}
 use Rattle.ckrt_cond.proofs.Released.{may_begin, release_live, release_free, release_any, release_room, release_count, release_other}
 use Rattle.ckrt_cond.proofs.Rows.{conditions_retake, conditions_resume, resume_live, resume_free, resume_room, resume_count, first_may_resume, is_first_condition, queue_resumed}
 
@@ -88,7 +88,7 @@ module _ (t c a : ℕ) (s : State) (ms : List (Entry Mutex)) (k : threads.IsWell
 
 -- a thread that began to wait is the last of the queue
 pub queue_waiting : (t c a : ℕ) (d : Option ℕ) (s z : State) → waiters c z ≡ waiters c s → waiters c (blocked t (reason.Condition c a) d z) ≡ waiters c s ++ (record { thread = t; reason = reason.Condition c a; deadline = d }) ∷ []
-queue_waiting t c a d s z e = queue_last c z.waits (record { thread = t; reason = reason.Condition c a; deadline = d }) (grind (arith, nat_tests)) ∙ ap (λ l. l ++ (record { thread = t; reason = reason.Condition c a; deadline = d }) ∷ []) e
+queue_waiting t c a d s z e = queue_last (is_for (object.Condition c)) z.waits (record { thread = t; reason = reason.Condition c a; deadline = d }) (grind (arith, nat_tests)) ∙ ap (λ l. l ++ (record { thread = t; reason = reason.Condition c a; deadline = d }) ∷ []) e
 
 -- SIGNAL AND BROADCAST
 
@@ -99,11 +99,11 @@ threads_retake t a r s ms k l n =
     (λ _. changes.well_formed_word s t A0 (retake_code r) k)
     (λ _. changes.well_formed_blocked s t (reason.Retake a r) None k l n refl)
 
-record IsWoken (c : ℕ) (s : State) (w : Wait) (r : After) : Type 0 where
-  threads : threads.IsWellFormed r.threads
-  mutexes : IsWellFormedWith r.threads r.mutexes
-  conditions : IsWellFormed r.threads
-  queue : waiters c s ≡ w ∷ waiters c r.threads
+pub record IsWoken (c : ℕ) (s : State) (w : Wait) (r : After) : Type 0 where
+  pub threads : threads.IsWellFormed r.threads
+  pub mutexes : IsWellFormedWith r.threads r.mutexes
+  pub conditions : IsWellFormed r.threads
+  pub queue : waiters c s ≡ w ∷ waiters c r.threads
 
 module _ (c : ℕ) (s : State) (ms : List (Entry Mutex)) (w : Wait) (k : threads.IsWellFormed s) (h : IsWellFormedWith s ms) (g : IsWellFormed s) (e : first_waiter (object.Condition c) s ≡ Some w) where
   woken_with : (a : ℕ) → w.reason ≡ reason.Condition c a → IsWoken c s w (resume_row w.thread a retake.Done s ms)
@@ -123,10 +123,10 @@ module _ (c : ℕ) (s : State) (ms : List (Entry Mutex)) (w : Wait) (k : threads
   woken_for : (a : ℕ) → w.reason ≡ reason.Condition c a → IsWoken c s w (woken_from w.reason w.thread s ms)
   woken_for a i = subst (λ r. IsWoken c s w (woken_from r w.thread s ms)) (sym i) (woken_with a i)
 
-  woken : IsWoken c s w (woken_from w.reason w.thread s ms)
+  pub woken : IsWoken c s w (woken_from w.reason w.thread s ms)
   woken = (let i = is_first_condition c s w e in woken_for i.0 i.1)
 
-first_is : (c : ℕ) (s : State) (w : Wait) (ws : List Wait) → waiters c s ≡ w ∷ ws → first_waiter (object.Condition c) s ≡ Some w
+pub first_is : (c : ℕ) (s : State) (w : Wait) (ws : List Wait) → waiters c s ≡ w ∷ ws → first_waiter (object.Condition c) s ≡ Some w
 first_is c s w ws e = first_of_queue (object.Condition c) s ∙ ap (λ l. slice_get l 0) e
 
 all_kept : (c : ℕ) (ws : List Wait) (s : State) (ms : List (Entry Mutex)) → waiters c s ≡ ws → threads.IsWellFormed s → IsWellFormedWith s ms → IsWellFormed s → IsKept (all_woken ws s ms)

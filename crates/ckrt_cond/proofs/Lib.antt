@@ -2,3 +2,4 @@ pub mod Waits
 pub mod Released
 pub mod Rows
 pub mod Kept
+pub mod Elsewhere

@@ -1,31 +1,32 @@
 -- What the release of one level of a mutex leaves: its thread can wait, and can retake it.
-use Rattle.std.proofs.Common.{◌≡◌, ℕ, ◌-◌, ◌≤◌, ◌<◌, nat_lt, eqb, eqb-true, if◌then◌else◌, Bool, true, false, not, ◌&&◌, List, ◌∷◌, Option, Some, None, refl, ap, ◌∙◌, arith}
+use Rattle.std.proofs.Common.{◌≡◌, ℕ, ◌-◌, ◌≤◌, ◌<◌, nat_lt, eqb, eqb-true, if◌then◌else◌, Bool, true, false, not, ◌&&◌, List, ◌∷◌, Option, Some, None, refl, ap, arith}
 use Rattle.std.specs.List.{list_any}
 use Rattle.std.proofs.lemmas.Bool.Decides.{nat_tests}
 use Rattle.ckrt_thread.specs.declared.records.Wait.{Wait}
 use Rattle.ckrt_thread.specs.declared.records.Object.TheVariants as object
 use Rattle.ckrt_thread.specs.declared.records.CallResult.TheVariants.{Done}
 use Rattle.ckrt_thread.specs.Waits.{is_of, is_for}
-use Rattle.ckrt_thread.specs.State.{State, IsWellFormed, is_live, is_live_thread, is_waiting, first_waiter, with_word, woken}
+use Rattle.ckrt_thread.specs.State.{State, IsWellFormed, is_live, is_waiting, first_waiter, woken}
 use Rattle.ckrt_thread.specs.Granting.{wait_result}
-use Rattle.ckrt_thread.proofs.SlotLemmas.{kept_at, live_change}
-use Rattle.ckrt_thread.proofs.Known.{found_range}
+use Rattle.ckrt_thread.proofs.Known.{found_range, waits_at_most_once}
 use Rattle.ckrt_thread.proofs.WaitLemmas.{found_waits}
-use Rattle.ckrt_mutex.specs.declared.address_map.Entry.{Entry}
+use Rattle.ckrt_objects.specs.declared.address_map.Entry.{Entry}
 use Rattle.ckrt_mutex.specs.declared.records.Kind.{Kind}
 use Rattle.ckrt_mutex.specs.declared.records.Kind.TheVariants.{Normal, Recursive, ErrorCheck}
 use Rattle.ckrt_mutex.specs.declared.records.Mutex.{Mutex}
 use Rattle.ckrt_mutex.specs.Mutex.{free, owned, is_owner, is_thread, is_recursive, is_proper, is_proper_count, mutex_at, put, IsTable}
-use Rattle.ckrt_mutex.specs.InUse.{addresses_in_use}
+use Rattle.ckrt_objects.specs.InUse.{addresses_in_use}
 use Rattle.ckrt_mutex.specs.Rows.{After, named, is_used, used_count, is_full, released, unlock_row}
 use Rattle.ckrt_mutex.specs.WellFormed.{can_retake, IsWellFormedWith}
-use Rattle.ckrt_mutex.proofs.InUse.{any_in_use, distinct_le, distinct_cons}
-use Rattle.ckrt_mutex.proofs.Table.{either, mutex_put, owned_by_some, owned_entry, proper_at, proper_once, proper_unlocked}
+use Rattle.ckrt_objects.proofs.InUse.{any_in_use, distinct_le, distinct_cons}
+use Rattle.ckrt_mutex.proofs.Table.{mutex_put, owned_by_some, owned_entry, proper_at, proper_once, proper_unlocked}
 use Rattle.ckrt_mutex.proofs.Granting.{grants_none, grants_first}
-use Rattle.ckrt_mutex.proofs.WellFormed.{IsAmong, all_without, used_put, waits_once}
+use Rattle.ckrt_mutex.proofs.WellFormed.{used_put}
 use Rattle.ckrt_thread.specs.Errors.{EPERM, EINVAL}
 use Rattle.ckrt_cond.specs.Rows.{waiters, is_with_other, has_other_mutex, wait_refusal}
-use Rattle.ckrt_cond.proofs.Waits.{none_without, any_without, found_holds, queue_elsewhere, mutex_not_condition}
+use Rattle.ckrt_objects.proofs.Granting.{live_woken}
+use Rattle.ckrt_objects.proofs.Waits.{either, IsAmong, none_without, any_without, found_holds, queue_elsewhere, among_without}
+use Rattle.ckrt_cond.proofs.Waits.{mutex_not_condition}
 
 -- the three ways of a release: the thread has the mutex still; nobody waits for it; the first who waits has it
 module _ (P : After → Type 0) (t a : ℕ) (s : State) (ms : List (Entry Mutex)) where
@@ -45,9 +46,6 @@ module _ (P : After → Type 0) (t a : ℕ) (s : State) (ms : List (Entry Mutex)
       let m = mutex_at a ms in
       either P (not (is_owner t m)) _ _ (λ n. absurd (grind (arith, nat_tests, o, n)))
       (λ _. either P (nat_lt 1 m.count) _ _ (λ l. less (grind (arith, nat_tests, l))) (λ _. handed m.kind (first_waiter (object.Mutex a) s) refl none some))
-
-pub live_woken : (t u v : ℕ) (s : State) → is_live s t ≡ true → is_live (woken u v s) t ≡ true
-live_woken t u v s h = kept_at is_live_thread (with_word 10 v) s.threads u t (live_change (with_word 10 v)) ∙ h
 
 module _ (t a : ℕ) (s : State) (ms : List (Entry Mutex)) (o : is_owner t (mutex_at a ms) ≡ true) where
   pub release_live : is_live s t ≡ true → is_live (unlock_row t a s ms).threads t ≡ true
@@ -80,7 +78,7 @@ pub release_queue : (t c a : ℕ) (s : State) (ms : List (Entry Mutex)) → IsWe
 release_queue t c a s ms k o =
     let p = is_for (object.Mutex a) in
     release_ways (λ r. waiters c r.threads ≡ waiters c s) t a s ms o (λ _. refl) refl
-    (λ w e. queue_elsewhere p (is_for (object.Condition c)) s.waits w e (mutex_not_condition a c w.reason (found_holds p s.waits w e)) (waits_once s w.thread k))
+    (λ w e. queue_elsewhere p (is_for (object.Condition c)) s.waits w e (mutex_not_condition a c w.reason (found_holds p s.waits w e)) (waits_at_most_once s w.thread k))
 
 -- where a mutex that was in use becomes another, it is in use still, or fewer are
 pub not_full_put : (a : ℕ) (m : Mutex) (s z : State) (ms : List (Entry Mutex)) → used_count s ms ≤ 256 → is_used a s ms ≡ true → IsAmong z.waits s.waits → is_full a z (put a m ms) ≡ false
@@ -119,7 +117,7 @@ module _ (t a : ℕ) (s : State) (ms : List (Entry Mutex)) (o : is_owner t (mute
       release_ways (λ r. is_full a r.threads r.mutexes ≡ false) t a s ms o
       (λ _. not_full_put a (owned (mutex_at a ms).kind t ((mutex_at a ms).count - 1)) s s ms few used_owned (λ f x. x))
       (not_full_put a (free (mutex_at a ms).kind) s s ms few used_owned (λ f x. x))
-      (λ w _. not_full_put a (owned (mutex_at a ms).kind w.thread 1) s (woken w.thread (wait_result w.reason) s) ms few used_owned (λ f x. all_without f w.thread s.waits x))
+      (λ w _. not_full_put a (owned (mutex_at a ms).kind w.thread 1) s (woken w.thread (wait_result w.reason) s) ms few used_owned (among_without w.thread s.waits))
 
   -- what is left of the mutex can be locked once more by the thread, where the thread owns it still
   pub release_count : IsWellFormed s → is_waiting s t ≡ false → can_retake t (mutex_at a (unlock_row t a s ms).mutexes) ≡ true

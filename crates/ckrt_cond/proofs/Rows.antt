@@ -12,17 +12,19 @@ use Rattle.ckrt_thread.specs.declared.records.CallResult.TheVariants.{Done}
 use Rattle.ckrt_thread.specs.Waits.{is_of, is_for}
 use Rattle.ckrt_thread.specs.State as threads
 use Rattle.ckrt_thread.specs.State.{State, is_live, is_waiting, first_waiter, unwaited}
-use Rattle.ckrt_thread.proofs.Known.{waiting_live}
-use Rattle.ckrt_mutex.specs.declared.address_map.Entry.{Entry}
+use Rattle.ckrt_thread.proofs.Grants.{queue_rest}
+use Rattle.ckrt_thread.proofs.Known.{waiting_live, waits_at_most_once}
+use Rattle.ckrt_objects.specs.declared.address_map.Entry.{Entry}
 use Rattle.ckrt_mutex.specs.declared.records.Mutex.{Mutex}
 use Rattle.ckrt_mutex.specs.Mutex.{is_available, mutex_at}
-use Rattle.ckrt_mutex.specs.Rows.{After, unchanged, is_full, retake_row}
+use Rattle.ckrt_mutex.specs.Rows.{After, named, unchanged, is_full, retake_row}
 use Rattle.ckrt_mutex.specs.WellFormed.{IsWellFormedWith, can_retake}
-use Rattle.ckrt_mutex.proofs.Table.{either}
-use Rattle.ckrt_mutex.proofs.WellFormed.{waits_once, not_full_after, can_retake_after, found_any}
+use Rattle.ckrt_objects.proofs.Changes.{not_full_after}
+use Rattle.ckrt_objects.proofs.Waits.{either, found, found_any, found_holds, gone, queue_other}
+use Rattle.ckrt_mutex.proofs.WellFormed.{can_retake_after}
 use Rattle.ckrt_cond.specs.Rows.{waiters, resume_row, signal_row, broadcast_row}
 use Rattle.ckrt_cond.specs.WellFormed.{IsWellFormed, is_at_condition_with, may_resume}
-use Rattle.ckrt_cond.proofs.Waits.{gone, found, found_holds, at_condition, no_waiters, queue_first, queue_other, conditions_fewer, conditions_unwaited, conditions_other}
+use Rattle.ckrt_cond.proofs.Waits.{at_condition, no_waiters, conditions_fewer, conditions_unwaited, conditions_other}
 
 -- RETAKE begins no wait at a condition, and ends none
 
@@ -35,7 +37,7 @@ conditions_retake t a r s ms h =
 pub queue_retake : (c t a : ℕ) (r : RetakeResult) (s : State) (ms : List (Entry Mutex)) → waiters c (retake_row t a r s ms).threads ≡ waiters c s
 queue_retake c t a r s ms =
     either {X = After} (λ x. waiters c x.threads ≡ waiters c s) (is_available t (mutex_at a ms)) _ _
-    (λ _. refl) (λ _. queue_other c s.waits (record { thread = t; reason = reason.Retake a r; deadline = None }) refl)
+    (λ _. refl) (λ _. queue_other (is_for (object.Condition c)) s.waits (record { thread = t; reason = reason.Retake a r; deadline = None }) refl)
 
 -- WHO MAY RESUME can retake its mutex, once its wait has been taken away
 
@@ -77,7 +79,7 @@ module _ (t a : ℕ) (s : State) (may : may_resume t a s ≡ true) where
   pub resume_room : (ms : List (Entry Mutex)) → IsWellFormedWith s ms → is_full a (unwaited t s) ms ≡ false
   resume_room ms h =
       let e = ending t a s may in
-      subst (λ u. is_full a (unwaited u s) ms ≡ false) (sym e.thread) (not_full_after (is_wait_of t a) s ms e.wait a h.at_most_256_in_use e.first (rw e.why refl))
+      subst (λ u. is_full a (unwaited u s) ms ≡ false) (sym e.thread) (not_full_after named 256 a (is_wait_of t a) s.waits ms e.wait h.at_most_256_in_use e.first (rw e.why refl))
 
   pub resume_count : (ms : List (Entry Mutex)) → IsWellFormedWith s ms → can_retake t (mutex_at a ms) ≡ true
   resume_count ms h =
@@ -85,7 +87,7 @@ module _ (t a : ℕ) (s : State) (may : may_resume t a s ≡ true) where
       subst (λ u. can_retake u (mutex_at a ms) ≡ true) (sym e.thread) (can_retake_after (is_wait_of t a) s ms e.wait a e.at h e.first e.why)
 
 pub resume_free : (t : ℕ) (s : State) → threads.IsWellFormed s → is_waiting (unwaited t s) t ≡ false
-resume_free t s k = gone t s.waits (waits_once s t k)
+resume_free t s k = gone t s.waits (waits_at_most_once s t k)
 
 pub conditions_resume : (t a : ℕ) (r : RetakeResult) (s : State) (ms : List (Entry Mutex)) → IsWellFormed s → IsWellFormed (resume_row t a r s ms).threads
 conditions_resume t a r s ms h = conditions_retake t a r (unwaited t s) ms (conditions_unwaited t s (unwaited t s) refl h)
@@ -99,7 +101,7 @@ first_may_resume c b a s w e r = found_any (is_for (object.Condition c)) (is_wai
 pub queue_resumed : (c a : ℕ) (s : State) (ms : List (Entry Mutex)) (w : Wait) → threads.IsWellFormed s → first_waiter (object.Condition c) s ≡ Some w
     → waiters c s ≡ w ∷ waiters c (resume_row w.thread a retake.Done s ms).threads
 queue_resumed c a s ms w k e =
-    queue_first (is_for (object.Condition c)) s.waits w e (waits_once s w.thread k) ∙ ap (λ l. w ∷ l) (sym (queue_retake c w.thread a retake.Done (unwaited w.thread s) ms))
+    queue_rest (object.Condition c) s w 0 e k ∙ ap (λ l. w ∷ l) (sym (queue_retake c w.thread a retake.Done (unwaited w.thread s) ms))
 
 pub is_first_condition : (c : ℕ) (s : State) (w : Wait) → first_waiter (object.Condition c) s ≡ Some w → (b : ℕ) × (w.reason ≡ reason.Condition c b)
 is_first_condition c s w e = at_condition c w.reason (found_holds (is_for (object.Condition c)) s.waits w e)

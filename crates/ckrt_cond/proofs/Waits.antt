@@ -1,67 +1,24 @@
 -- Waits at conditions: what the first of a queue says of all, and what a change of the list keeps.
-use Rattle.std.proofs.Common.{◌≡◌, ℕ, ◌≤◌, ◌==◌, eqb-true, Bool, true, false, ◌&&◌, ◌||◌, List, [], ◌∷◌, ◌++◌, Option, Some, None, refl, sym, ap, ◌∙◌, arith}
-use Rattle.std.specs.List.{list_any, find, filter}
+use Rattle.std.proofs.Common.{◌≡◌, ℕ, ◌==◌, eqb-true, Bool, true, false, ◌&&◌, ◌||◌, List, [], ◌∷◌, Option, Some, None, refl, sym, ap, ◌∙◌, arith}
+use Rattle.std.specs.List.{list_any, find}
 use Rattle.std.proofs.lemmas.Bool.Decides.{nat_tests}
 use Rattle.std.proofs.lemmas.List.Folds.{list_any-append}
 use Rattle.ckrt_thread.specs.declared.records.Wait.{Wait}
 use Rattle.ckrt_thread.specs.declared.records.Reason.{Reason}
 use Rattle.ckrt_thread.specs.declared.records.Reason.TheVariants as reason
 use Rattle.ckrt_thread.specs.declared.records.Object.TheVariants as object
-use Rattle.ckrt_thread.specs.Waits.{is_for, is_reason_for, is_of, without}
-use Rattle.ckrt_thread.specs.State.{State, first_waiter, count_of, blocked}
-use Rattle.ckrt_thread.proofs.Counting.{count_of_some}
-use Rattle.ckrt_thread.proofs.WaitLemmas.{found_waits}
-use Rattle.ckrt_mutex.proofs.WellFormed.{found_any}
+use Rattle.ckrt_thread.specs.Waits.{is_for, is_reason_for, without}
+use Rattle.ckrt_thread.specs.State.{State, first_waiter, blocked}
+use Rattle.ckrt_thread.proofs.Grants.{empty_queue}
+use Rattle.ckrt_objects.proofs.Waits.{any_without, found_any, found_holds}
 use Rattle.ckrt_cond.specs.Rows.{waiters, is_with_other, has_other_mutex}
 use Rattle.ckrt_cond.specs.WellFormed.{is_with, is_waited_with, IsWellFormed}
 
--- A LIST with a wait taken out
-
-pub any_without : (f : Wait → Bool) (t : ℕ) (ws : List Wait) → list_any f (without t ws) ≡ true → list_any f ws ≡ true
-any_without f t [] h = h
-any_without f t (w ∷ ws) h = grind (arith, nat_tests, any_without f t ws)
-
-pub none_without : (f : Wait → Bool) (t : ℕ) (ws : List Wait) → list_any f ws ≡ false → list_any f (without t ws) ≡ false
-none_without f t [] h = h
-none_without f t (w ∷ ws) h = grind (arith, nat_tests, none_without f t ws)
-
--- a thread that waits once does not wait after that
-pub gone : (t : ℕ) (ws : List Wait) → count_of (is_of t) ws ≤ 1 → list_any (is_of t) (without t ws) ≡ false
-gone t [] c = refl
-gone t (w ∷ ws) c = grind (arith, nat_tests, gone t ws, count_of_some (is_of t) ws)
-
--- a wait that passes a test, where some wait does
-pub found : (p : Wait → Bool) (ws : List Wait) → list_any p ws ≡ true → (w : Wait) × ((find p ws ≡ Some w) × (p w ≡ true))
-found p [] h = absurd (cc)
-found p (w ∷ ws) h =
-    elim (p w) as (λ b. p w ≡ b → (v : Wait) × ((find p (w ∷ ws) ≡ Some v) × (p v ≡ true))) [
-      | true ↦ λ e. (w, (grind (arith, nat_tests), e))
-      | false ↦ λ e. let r = found p ws (grind (arith, nat_tests)) in (r.0, (grind (arith, nat_tests, r.1.0), r.1.1))
-    ] refl
-
-pub found_holds : (p : Wait → Bool) (ws : List Wait) (w : Wait) → find p ws ≡ Some w → p w ≡ true
-found_holds p [] w e = absurd (cc)
-found_holds p (v ∷ ws) w e = grind (arith, nat_tests, found_holds p ws w)
-
--- THE QUEUE of a condition
-
-no_queue : (p : Wait → Bool) (ws : List Wait) → find p ws ≡ None → filter p ws ≡ []
-no_queue p [] e = refl
-no_queue p (w ∷ ws) e = grind (arith, nat_tests, no_queue p ws)
-
+-- nobody is in the queue of a condition where it has no first
 pub no_waiters : (c : ℕ) (s : State) → first_waiter (object.Condition c) s ≡ None → waiters c s ≡ []
-no_waiters c s e = no_queue (is_for (object.Condition c)) s.waits e
+no_waiters c s e = empty_queue (object.Condition c) s e
 
--- the first of a queue, and then the queue without it
-pub queue_first : (p : Wait → Bool) (ws : List Wait) (w : Wait) → find p ws ≡ Some w → count_of (is_of w.thread) ws ≤ 1 → filter p ws ≡ w ∷ filter p (without w.thread ws)
-queue_first p [] w e l = absurd (cc)
-queue_first p (v ∷ ws) w e l = grind (arith, nat_tests, queue_first p ws w, found_waits p ws w, count_of_some (is_of w.thread) ws)
-
--- the end of a wait for something else leaves the queue
-pub queue_elsewhere : (q p : Wait → Bool) (ws : List Wait) (w : Wait) → find q ws ≡ Some w → p w ≡ false → count_of (is_of w.thread) ws ≤ 1 → filter p (without w.thread ws) ≡ filter p ws
-queue_elsewhere q p [] w e n l = refl
-queue_elsewhere q p (v ∷ ws) w e n l = grind (arith, nat_tests, queue_elsewhere q p ws w, found_waits q ws w, count_of_some (is_of w.thread) ws)
-
+-- who waits for a mutex waits at no condition
 pub mutex_not_condition : (a c : ℕ) (r : Reason) → is_reason_for (object.Mutex a) r ≡ true → is_reason_for (object.Condition c) r ≡ false
 mutex_not_condition a c (reason.Condition d b) h = absurd (cc)
 mutex_not_condition a c reason.Input h = refl
@@ -72,16 +29,6 @@ mutex_not_condition a c (reason.Retake m v) h = refl
 mutex_not_condition a c (reason.Barrier e) h = refl
 mutex_not_condition a c (reason.Read l) h = refl
 mutex_not_condition a c (reason.Write l) h = refl
-
--- a wait at the condition goes to the end of the queue
-pub queue_last : (c : ℕ) (ws : List Wait) (w : Wait) → is_for (object.Condition c) w ≡ true → filter (is_for (object.Condition c)) (ws ++ w ∷ []) ≡ filter (is_for (object.Condition c)) ws ++ w ∷ []
-queue_last c [] w h = grind (arith, nat_tests)
-queue_last c (v ∷ ws) w h = grind (arith, nat_tests, queue_last c ws w h)
-
--- a wait for something else is in no queue of a condition
-pub queue_other : (c : ℕ) (ws : List Wait) (w : Wait) → is_for (object.Condition c) w ≡ false → filter (is_for (object.Condition c)) (ws ++ w ∷ []) ≡ filter (is_for (object.Condition c)) ws
-queue_other c [] w n = grind (arith, nat_tests)
-queue_other c (v ∷ ws) w n = grind (arith, nat_tests, queue_other c ws w n)
 
 -- ONE MUTEX for the waiters of a condition
 

@@ -13,7 +13,7 @@ use Rattle.ckrt_thread.specs.Errors.{EPERM, EBUSY, EINVAL}
 use Rattle.ckrt_thread.specs.Waits.{is_moment}
 use Rattle.ckrt_thread.specs.State.{State, first_waiter, unwaited, blocked}
 use Rattle.ckrt_thread.specs.Granting.{queue_of}
-use Rattle.ckrt_mutex.specs.declared.address_map.Entry.{Entry}
+use Rattle.ckrt_objects.specs.declared.address_map.Entry.{Entry}
 use Rattle.ckrt_mutex.specs.declared.records.Mutex.{Mutex}
 use Rattle.ckrt_mutex.specs.Mutex.{is_owner, mutex_at}
 use Rattle.ckrt_mutex.specs.Rows.{After, unchanged, unlock_row, retake_row}

@@ -9,7 +9,7 @@ use Rattle.ckrt_thread.specs.declared.records.Reason.TheVariants as reason
 use Rattle.ckrt_thread.specs.Waits.{is_for, is_of, is_reason_for}
 use Rattle.ckrt_thread.specs.State.{count_of, first_waiter, is_live, is_waiting}
 use Rattle.ckrt_thread.proofs.Known.{if_on_hart}
-use Rattle.ckrt_mutex.specs.declared.address_map.Entry.{Entry}
+use Rattle.ckrt_objects.specs.declared.address_map.Entry.{Entry}
 use Rattle.ckrt_mutex.specs.declared.records.Mutex.{Mutex}
 use Rattle.ckrt_mutex.specs.Mutex.{mutex_at, is_owned}
 use Rattle.ckrt_mutex.specs.Rows.{mutex_rule, mutex_of}

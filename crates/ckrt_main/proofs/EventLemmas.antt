@@ -1,93 +1,17 @@
 -- What an event gets and puts.
-use Rattle.std.proofs.Common.{◌≡◌, ℕ, zero, suc, ◌+◌, ◌-◌, ◌<◌, ◌≤◌, Bool, true, false, cond, ◌++◌, length, refl, arith, length-append, Option, Some, None}
-use Rattle.std.specs.Prelude.{nat_lt, nat_le, is_none, IfSome, ◌&&◌, ◌||◌}
-use Rattle.std.proofs.lemmas.Bool.Decides.{nat_tests}
+use Rattle.std.proofs.Common.{◌≡◌, ℕ, zero, suc, ◌+◌, ◌-◌, ◌<◌, ◌≤◌, Bool, true, false, cond, refl, arith, Option, Some, None}
+use Rattle.std.specs.Prelude.{nat_lt, is_none, IfSome, ◌&&◌}
 use Rattle.ckrt_events.specs.declared.event.Event.{Event}
-use Rattle.ckrt_events.specs.declared.event.Event.TheVariants.{Place, Run, Input, Eof, Tick}
-use Rattle.ckrt_events.specs.Bytes.{encoding_of}
+use Rattle.ckrt_events.specs.declared.event.Event.TheVariants.{Place, Run}
 use Rattle.ckrt_thread.specs.State as threads
 use Rattle.ckrt_calls.specs.declared.table.Tables.{Tables}
-use Rattle.ckrt_machine.specs.declared.event.Refusal.{Refusal}
-use Rattle.ckrt_machine.specs.declared.event.Refusal.TheVariants.{Ended, NoSuchHart, HartIdle, OutputFull}
-use Rattle.ckrt_machine.specs.Steps.{State, hart_of}
+use Rattle.ckrt_machine.specs.Steps.{hart_of}
 use Rattle.ckrt_machine.specs.Runs.{is_running}
 use Rattle.ckrt_machine.specs.Plans.{ready_from, least_ready, or_else, or_zero, next_ready, planned}
-use Rattle.ckrt_machine.specs.Events.{step, refusal_of}
-use Rattle.ckrt_main.specs.declared.fault.SubmitFault.{SubmitFault}
-use Rattle.ckrt_main.specs.declared.fault.SubmitFault.TheVariants.{BatchFull, JournalFull, CountersUsed}
-use Rattle.ckrt_main.specs.View.{View}
-use Rattle.ckrt_main.specs.View as view
-use Rattle.ckrt_main.specs.Transcript.{Transcript, submitted, submit, followed_by, unless_refused, run_planned}
-
--- OUTPUT THAT IS HELD
-
-run_refusal : (running nohart idle full : Bool) → (cond running (cond nohart (Some NoSuchHart) (cond idle (Some HartIdle) (cond full (Some OutputFull) None))) (Some Ended)) ≡ None → full ≡ false
-run_refusal true true idle full h = cc
-run_refusal true false true full h = cc
-run_refusal true false false true h = cc
-run_refusal true false false false h = refl
-run_refusal false nohart idle full h = cc
-
-below : (a b : ℕ) → nat_lt a b ≡ false → b ≤ a
-below a b h = grind (arith, nat_tests)
-
--- the output of an event that isn't refused has its place
-output_fits : (held : ℕ) (e : Event) (s : State) → held ≤ 16384 → refusal_of held e s ≡ None → length (step e s).output ≤ 1024 → held + length (step e s).output ≤ 16384
-output_fits held (Place h t) s le accepted few = omega arith
-output_fits held (Run h n) s le accepted few =
-    let room : held + 1024 ≤ 16384 = below 16384 (held + 1024) (run_refusal (is_running s.tables.status) (nat_le s.tables.threads.hart_count h) (is_none (hart_of s.tables h)) (nat_lt 16384 (held + 1024)) accepted) in
-    omega arith
-output_fits held (Input bytes) s le accepted few = omega arith
-output_fits held Eof s le accepted few = omega arith
-output_fits held (Tick k) s le accepted few = omega arith
-
-first_none : (o : Option Refusal) (p : Option SubmitFault) → view.first_refusal o p ≡ None → o ≡ None
-first_none None p h = refl
-first_none (Some refusal) p h = cc
-
--- what a session accepts has its place in the held output
-pub accepted_fits : (v : View) (e : Event) → length v.held ≤ 16384 → view.refusal_of v e ≡ None → length (step e v.state).output ≤ 1024 → length v.held + length (step e v.state).output ≤ 16384
-accepted_fits v e le none few = output_fits (length v.held) e v.state le (first_none (refusal_of (length v.held) e v.state) (view.shortage_of v (length (encoding_of e))) none) few
-
-shortage_tests : (batch journal counters : Bool) → cond batch (Some BatchFull) (cond journal (Some JournalFull) (cond counters (Some CountersUsed) None)) ≡ None → (batch ≡ false) × (journal ≡ false) × (counters ≡ false)
-shortage_tests true journal counters h = cc
-shortage_tests false true counters h = cc
-shortage_tests false false true h = cc
-shortage_tests false false false h = (refl, refl, refl)
-
-neither : (x y : Bool) → (x || y) ≡ false → (x ≡ false) × (y ≡ false)
-neither true y h = cc
-neither false y h = (refl, h)
-
-shortage_none : (o : Option Refusal) (p : Option SubmitFault) → view.first_refusal o p ≡ None → p ≡ None
-shortage_none None p h = h
-shortage_none (Some refusal) p h = cc
-
-under : (a b : ℕ) → nat_le a b ≡ false → b < a
-under a b h = grind (arith, nat_tests)
-
--- a session stays within its bounds
-pub bounds_kept : (v : View) (e : Event) → view.IsWithinBounds v → view.refusal_of v e ≡ None → length (step e v.state).output ≤ 1024 → view.IsWithinBounds (view.after_event v e)
-bounds_kept v e bounds none few =
-    let n : ℕ = length (encoding_of e) in
-    let tests = shortage_tests (nat_lt 4096 (v.pending + length (encoding_of e))) (nat_lt v.room (3 + v.pending + length (encoding_of e))) (view.counters_used v) (shortage_none (refusal_of (length v.held) e v.state) (view.shortage_of v (length (encoding_of e))) none) in
-    let counters = neither (nat_le 4611686018427387904 (v.count + 1)) (nat_le 4611686018427387904 (v.confirmed + length v.held + 1024)) tests.2 in
-    let batch : v.pending + length (encoding_of e) ≤ 4096 = below 4096 (v.pending + length (encoding_of e)) tests.0 in
-    let journal : 3 + v.pending + length (encoding_of e) ≤ v.room = below v.room (3 + v.pending + length (encoding_of e)) tests.1 in
-    let count : v.count + 1 < 4611686018427387904 = under 4611686018427387904 (v.count + 1) counters.0 in
-    let output : v.confirmed + length v.held + 1024 < 4611686018427387904 = under 4611686018427387904 (v.confirmed + length v.held + 1024) counters.1 in
-    let fits = accepted_fits v e bounds.held none few in
-    let len : length (v.held ++ (step e v.state).output) ≡ length v.held + length (step e v.state).output = length-append v.held (step e v.state).output in
-    record {
-      count = omega arith;
-      pending = omega arith;
-      room = bounds.room;
-      batch_fits = λ _. omega arith;
-      held = omega arith;
-      confirmed = bounds.confirmed;
-      released = omega (arith, bounds.released);
-      output = omega arith;
-    }
+use Rattle.ckrt_recovery.specs.declared.fault.SubmitFault.{SubmitFault}
+use Rattle.ckrt_recovery.specs.View.{View}
+use Rattle.ckrt_recovery.specs.View as view
+use Rattle.ckrt_recovery.specs.Transcript.{Transcript, submitted, submit, followed_by, unless_refused, run_planned}
 
 -- PLANNED THREADS
 
@@ -122,7 +46,7 @@ planned_in_range h s = some_in (planned h s) (λ u e. guarded_in (is_running s.s
 
 -- EVENTS ONE AFTER ANOTHER
 
-submitted_goes_on : (v : View) (e : Event) (o : Option SubmitFault) → (submitted v e o).quit ≡ false
+pub submitted_goes_on : (v : View) (e : Event) (o : Option SubmitFault) → (submitted v e o).quit ≡ false
 submitted_goes_on v e None = refl
 submitted_goes_on v e (Some fault) = refl
 
@@ -140,14 +64,6 @@ refused_alone v e None more h = cc
 refused_alone v e (Some fault) more h = refl
 
 -- an accepted event goes before what follows
-pub accepted_before : (v : View) (e : Event) (o : Option SubmitFault) (more : View → Transcript) → is_none o ≡ true → unless_refused v e o more ≡ followed_by (submitted v e o) more
+pub accepted_before : (v : View) (e : Event) (o : Option SubmitFault) (more : View → Transcript) → o ≡ None → unless_refused v e o more ≡ followed_by (submitted v e o) more
 accepted_before v e None more h = refl
 accepted_before v e (Some fault) more h = cc
-
-pub accepted_text : (v : View) (e : Event) (o : Option SubmitFault) (more : View → Transcript) → is_none o ≡ true → (unless_refused v e o more).text ≡ (submitted v e o).text ++ (more (submitted v e o).view).text
-accepted_text v e None more h = refl
-accepted_text v e (Some fault) more h = cc
-
-pub accepted_view : (v : View) (e : Event) (o : Option SubmitFault) (more : View → Transcript) → is_none o ≡ true → (unless_refused v e o more).view ≡ (more (submitted v e o).view).view
-accepted_view v e None more h = refl
-accepted_view v e (Some fault) more h = cc

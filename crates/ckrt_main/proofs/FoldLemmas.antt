@@ -10,10 +10,10 @@ use Rattle.ckrt_events.specs.declared.command.LineFault.TheVariants.{Unknown}
 use Rattle.ckrt_events.specs.Line.{command_of}
 use Rattle.ckrt_machine.specs.Steps.{State}
 use Rattle.ckrt_machine.specs.Events.{fold, step, planned}
-use Rattle.ckrt_main.specs.declared.fault.SubmitFault.{SubmitFault}
-use Rattle.ckrt_main.specs.View.{View, refusal_of, committed, confirmed_to}
-use Rattle.ckrt_main.specs.Replies.{no_line, line_fault_text, ack_line}
-use Rattle.ckrt_main.specs.Transcript.{Transcript, written, preceded_by, unless_quit, followed_by, submitted, submit, unless_refused, run_planned, output, commit, respond, respond_all, transcript, accepted_events, view_after}
+use Rattle.ckrt_recovery.specs.declared.fault.SubmitFault.{SubmitFault}
+use Rattle.ckrt_recovery.specs.View.{View, refusal_of, committed, confirmed_to}
+use Rattle.ckrt_recovery.specs.Replies.{no_line, line_fault_text, ack_line}
+use Rattle.ckrt_recovery.specs.Transcript.{Transcript, written, preceded_by, unless_quit, followed_by, submitted, submit, unless_refused, run_planned, output, commit, respond, respond_all, transcript, accepted_events, view_after}
 
 -- the events of a transcript lead from the session before it to the session after it
 record Leads (v : View) (t : Transcript) : Type 0 where

@@ -1,5 +1,8 @@
 pub mod OutputLemmas
+pub mod AcceptLemmas
+pub mod ResponseLemmas
 pub mod LineLemmas
+pub mod HearLemmas
 pub mod EventLemmas
-pub mod HexLemmas
+pub mod FreshLemmas
 pub mod FoldLemmas

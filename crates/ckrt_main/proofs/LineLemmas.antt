@@ -1,21 +1,20 @@
 -- Lines as they come, byte by byte.
-use Rattle.std.proofs.Common.{◌≡◌, ℕ, suc, ◌-◌, ◌<◌, ◌≤◌, ◌&&◌, Bool, true, false, not, cond, ◌≢◌, subst, List, [], ◌∷◌, ◌++◌, length, take, get_or, refl, sym, ◌∙◌, ap, arith, append_assoc, append-nil, length-append, length-take-le, Option, Some, None, inl, inr, Err, Ok, Result}
-use Rattle.std.specs.Prelude.{◌==◌, nat_lt, OnOk}
+use Rattle.std.proofs.Common.{◌≡◌, ℕ, suc, ◌-◌, ◌<◌, ◌≤◌, ◌&&◌, Bool, true, false, not, cond, ◌≢◌, subst, List, [], ◌∷◌, ◌++◌, length, take, get_or, refl, sym, ◌∙◌, ap, arith, append_assoc, append-nil, length-append, length-take-le, Option, inl, inr, Err}
+use Rattle.std.specs.Prelude.{◌==◌, nat_lt}
 use Rattle.std.specs.List.{slice_split, onto_first}
 use Rattle.std.specs.Str.Lines.{lines, lines_of_parts, strip_carriage_return}
-use Rattle.std.specs.Io.KnownBytes.{Appends, Consumes, IsAtEnd, Keeps}
+use Rattle.std.specs.Io.KnownBytes.{Appends, Consumes, IsAtEnd}
 use Rattle.std.specs.Io.BufRead.{drop_through}
 use Rattle.std.proofs.lemmas.Bool.{lt-ltb, eqb-true}
 use Rattle.std.proofs.lemmas.Bool.Decides.{nat_tests}
 use Rattle.ckrt_events.specs.declared.event.Event.{Event}
 use Rattle.ckrt_events.specs.Line.{command_of}
 use Rattle.ckrt_events.specs.declared.command.LineFault.TheVariants.{TooLong}
-use Rattle.ckrt_main.specs.declared.fault.ServeFault.{ServeFault}
-use Rattle.ckrt_main.specs.View.{View}
-use Rattle.ckrt_main.specs.Replies.{no_line, line_fault_text}
-use Rattle.ckrt_main.specs.Transcript.{Transcript, transcript, view_after, preceded_by, unless_quit, followed_by, respond, respond_all, output}
-use Rattle.ckrt_main.specs.Service.{is_open, rest_of, Consumed, ConsumedLast, ServedSoFar, Served}
-use Rattle.ckrt_main.proofs.OutputLemmas.{Appends-append, Appends-nothing, Consumes-append}
+use Rattle.ckrt_recovery.specs.View.{View}
+use Rattle.ckrt_recovery.specs.Replies.{no_line, line_fault_text}
+use Rattle.ckrt_recovery.specs.Transcript.{Transcript, transcript, view_after, preceded_by, unless_quit, followed_by, respond, respond_all, output}
+use Rattle.ckrt_main.specs.Service.{is_open, rest_of, Follows, Consumed, ServedSoFar, Served}
+use Rattle.ckrt_main.proofs.OutputLemmas.{Appends-append, Appends-nothing}
 
 not_and : (x y : Bool) → (not x && y) ≡ true → (x ≡ false) × (y ≡ true)
 not_and true y h = cc
@@ -118,105 +117,79 @@ preceded-nothing : (x : List ℕ) (es : List Event) (w : View) (quit : Bool) →
 preceded-nothing x es w quit = rw (append-nil x, append-nil es) refl
 
 -- one step after another
-pub Consumed-more : (a b c : Option (List ℕ)) (v : View) (line bs : List ℕ) (w : View) (rest : List ℕ) (x : List ℕ) (u : View) (last : List ℕ) (quit : Bool) → Consumed a b v line bs w rest false → Consumed b c w rest x u last quit → Consumed a c v line (bs ++ x) u last quit
-Consumed-more a b c v line bs w rest x u last quit p q = record {
+pub Consumed-more : (a b c : Option (List ℕ)) (v : View) (line bs : List ℕ) (w : View) (rest : List ℕ) (x : List ℕ) (u : View) (last : List ℕ) (quit : Bool) (es fs : List Event) → Consumed a b v line bs w rest false es → Consumed b c w rest x u last quit fs → Consumed a c v line (bs ++ x) u last quit (es ++ fs)
+Consumed-more a b c v line bs w rest x u last quit es fs p q = record {
   text = p.text ++ q.text;
-  events = p.events ++ q.events;
   written = Appends-append a b c p.text q.text p.written q.written;
-  goes_on = λ more. ap (λ (l : List ℕ). respond_all (lines (line ++ l)) v) (append_assoc bs x more) ∙ (p.goes_on (x ++ more) ∙ (ap (preceded_by p.text p.events) (q.goes_on more) ∙ preceded-preceded p.text p.events q.text q.events (rest_of quit u last more)));
+  goes_on = λ more. ap (λ (l : List ℕ). respond_all (lines (line ++ l)) v) (append_assoc bs x more) ∙ (p.goes_on (x ++ more) ∙ (ap (preceded_by p.text es) (q.goes_on more) ∙ preceded-preceded p.text es q.text fs (rest_of quit u last more)));
 }
 
+-- what a line feed makes of what follows
+pub respond-newline : (v : View) (line more : List ℕ) → is_open line ≡ true → respond_all (lines (line ++ (10 ∷ [] ++ more))) v ≡ followed_by (respond (command_of (strip_carriage_return line)) v) (respond_all (lines more))
+respond-newline v line more o = ap (λ (ls : List (List ℕ)). respond_all ls v) (lines-newline line more o)
+
 -- a line feed
-pub Consumed-newline : (a b : Option (List ℕ)) (v : View) (line : List ℕ) (w : View) (quit : Bool) (t : Transcript) → is_open line ≡ true → respond (command_of (strip_carriage_return line)) v ≡ t
-    → quit ≡ t.quit → Appends a b t.text → w ≡ t.view → Consumed a b v line (10 ∷ []) w [] quit
-Consumed-newline a b v line w quit t o e hq written hw = record {
-  text = t.text;
-  events = t.events;
-  written = written;
-  goes_on = λ more. ap (λ (ls : List (List ℕ)). respond_all ls v) (lines-newline line more o) ∙ (ap (λ (s : Transcript). followed_by s (respond_all (lines more))) e ∙ rw (hq, hw) refl);
+pub Consumed-newline : (a b : Option (List ℕ)) (v : View) (line : List ℕ) (w : View) (quit : Bool) (es : List Event) → is_open line ≡ true → quit ≡ (respond (command_of (strip_carriage_return line)) v).quit
+    → Follows (respond (command_of (strip_carriage_return line)) v) a b es w → Consumed a b v line (10 ∷ []) w [] quit es
+Consumed-newline a b v line w quit es o hq is = record {
+  text = (respond (command_of (strip_carriage_return line)) v).text;
+  written = is.written;
+  goes_on = λ more. respond-newline v line more o ∙ rw (hq, is.view, is.all) refl;
 }
 
 -- another byte, where there is room for it
-pub Consumed-byte : (a : Option (List ℕ)) (v : View) (line : List ℕ) (b : ℕ) → Consumed a a v line (b ∷ []) v (line ++ b ∷ []) false
+pub Consumed-byte : (a : Option (List ℕ)) (v : View) (line : List ℕ) (b : ℕ) → Consumed a a v line (b ∷ []) v (line ++ b ∷ []) false []
 Consumed-byte a v line b = record {
   text = [];
-  events = [];
   written = Appends-nothing a;
   goes_on = λ more. ap (λ (l : List ℕ). respond_all (lines l) v) (sym (append_assoc line (b ∷ []) more));
 }
 
 -- and where there is none
-pub Consumed-full : (a : Option (List ℕ)) (v : View) (line : List ℕ) (b : ℕ) → is_open line ≡ true → length line ≡ 162 → (b == 10) ≡ false → Consumed a a v line (b ∷ []) v line false
+pub Consumed-full : (a : Option (List ℕ)) (v : View) (line : List ℕ) (b : ℕ) → is_open line ≡ true → length line ≡ 162 → (b == 10) ≡ false → Consumed a a v line (b ∷ []) v line false []
 Consumed-full a v line b o h e = record {
   text = [];
-  events = [];
   written = Appends-nothing a;
   goes_on = λ more. respond-full v line b more o (omega arith) e;
 }
 
-pub Consumed-nothing : (a : Option (List ℕ)) (v : View) (line : List ℕ) → Consumed a a v line [] v line false
-Consumed-nothing a v line = record { text = []; events = []; written = Appends-nothing a; goes_on = λ more. refl }
+pub Consumed-nothing : (a : Option (List ℕ)) (v : View) (line : List ℕ) → Consumed a a v line [] v line false []
+Consumed-nothing a v line = record { text = []; written = Appends-nothing a; goes_on = λ more. refl }
 
 -- what follows a line quit
-pub Consumed-quit : (a b : Option (List ℕ)) (v : View) (line bs : List ℕ) (w : View) (rest x : List ℕ) → Consumed a b v line bs w rest true → Consumed a b v line (bs ++ x) w rest true
-Consumed-quit a b v line bs w rest x p = record {
+pub Consumed-quit : (a b : Option (List ℕ)) (v : View) (line bs : List ℕ) (w : View) (rest x : List ℕ) (es : List Event) → Consumed a b v line bs w rest true es → Consumed a b v line (bs ++ x) w rest true es
+Consumed-quit a b v line bs w rest x es p = record {
   text = p.text;
-  events = p.events;
   written = p.written;
   goes_on = λ more. ap (λ (l : List ℕ). respond_all (lines (line ++ l)) v) (append_assoc bs x more) ∙ p.goes_on (x ++ more);
 }
 
-pub ConsumedLast-nothing : (a : Option (List ℕ)) (v : View) (line : List ℕ) → length line ≡ 0 → ConsumedLast a a v line v
-ConsumedLast-nothing a v (x ∷ line) none = absurd (omega arith)
-ConsumedLast-nothing a v [] none = record { text = []; events = []; quit = false; written = Appends-nothing a; ends = refl }
-
-pub ConsumedLast-line : (a b : Option (List ℕ)) (v : View) (line : List ℕ) (w : View) (t : Transcript) → is_open line ≡ true → length line ≢ 0 → respond (command_of line) v ≡ t
-    → Appends a b t.text → w ≡ t.view → ConsumedLast a b v line w
-ConsumedLast-line a b v [] w t o some e written hw = absurd (some refl)
-ConsumedLast-line a b v (x ∷ line) w t o some e written hw = record {
-  text = t.text;
-  events = t.events;
-  quit = t.quit;
-  written = written;
-  ends = ap (λ (ls : List (List ℕ)). respond_all ls v) (lines-open x line o) ∙ (ap (λ (s : Transcript). followed_by s (respond_all [])) e ∙ (ap (preceded_by t.text t.events) (nothing_more t.quit t.view) ∙ (preceded-nothing t.text t.events t.view t.quit ∙ rw hw refl)));
-}
+-- a last line is all
+pub respond-last : (v : View) (line : List ℕ) → is_open line ≡ true → length line ≢ 0 → respond_all (lines line) v ≡ respond (command_of line) v
+respond-last v [] o some = absurd (some refl)
+respond-last v (x ∷ line) o some =
+    let t : Transcript = respond (command_of (x ∷ line)) v in
+    ap (λ (ls : List (List ℕ)). respond_all ls v) (lines-open x line o) ∙ (ap (preceded_by t.text t.events) (nothing_more t.quit t.view) ∙ preceded-nothing t.text t.events t.view t.quit)
 
 -- the beginning
-pub ServedSoFar-start : (a b r : Option (List ℕ)) (v : View) → Appends a b (output v).text → ServedSoFar a b r r v (output v).view [] false
-ServedSoFar-start a b r v h = record { read = []; consumed = consumes_nothing r; text = (output v).text; events = []; written = h; goes_on = λ more. refl }
-  where
-    consumes_nothing : (r : Option (List ℕ)) → Consumes r r []
-    consumes_nothing None = tt
-    consumes_nothing (Some s) = refl
+pub ServedSoFar-start : (a b : Option (List ℕ)) (v w : View) (es : List Event) → Follows (output v) a b es w → ServedSoFar a b v [] w [] false es
+ServedSoFar-start a b v w es is = record { text = (output v).text; written = is.written; goes_on = λ more. rw (is.view, is.all) refl }
 
 -- a piece more
-pub ServedSoFar-more : (a b c r s t : Option (List ℕ)) (v w : View) (rest x : List ℕ) (u : View) (last : List ℕ) (quit : Bool) → ServedSoFar a b r s v w rest false → Consumes s t x → Consumed b c w rest x u last quit → ServedSoFar a c r t v u last quit
-ServedSoFar-more a b c r s t v w rest x u last quit p got q = record {
-  read = p.read ++ x;
-  consumed = Consumes-append r s t p.read x p.consumed got;
+pub ServedSoFar-more : (a b c : Option (List ℕ)) (v : View) (read : List ℕ) (w : View) (rest x : List ℕ) (u : View) (last : List ℕ) (quit : Bool) (es fs : List Event) → ServedSoFar a b v read w rest false es → Consumed b c w rest x u last quit fs → ServedSoFar a c v (read ++ x) u last quit (es ++ fs)
+ServedSoFar-more a b c v read w rest x u last quit es fs p q = record {
   text = p.text ++ q.text;
-  events = p.events ++ q.events;
   written = Appends-append a b c p.text q.text p.written q.written;
-  goes_on = λ more. ap (transcript v) (append_assoc p.read x more) ∙ (p.goes_on (x ++ more) ∙ (ap (preceded_by p.text p.events) (q.goes_on more) ∙ preceded-preceded p.text p.events q.text q.events (rest_of quit u last more)));
+  goes_on = λ more. ap (transcript v) (append_assoc read x more) ∙ (p.goes_on (x ++ more) ∙ (ap (preceded_by p.text es) (q.goes_on more) ∙ preceded-preceded p.text es q.text fs (rest_of quit u last more)));
 }
 
-consumed_kept : (r s t : Option (List ℕ)) (x : List ℕ) → Consumes r s x → Keeps s t → Consumes r t x
-consumed_kept None s t x p k = tt
-consumed_kept (Some l) None t x p k = absurd p
-consumed_kept (Some l) (Some m) None x p k = absurd k
-consumed_kept (Some l) (Some m) (Some n) x p k = p ∙ ap (λ (y : List ℕ). x ++ y) (sym k)
-
--- a read that failed took nothing
-pub ServedSoFar-kept : (a b r s t : Option (List ℕ)) (v w : View) (rest : List ℕ) (quit : Bool) → ServedSoFar a b r s v w rest quit → Keeps s t → ServedSoFar a b r t v w rest quit
-ServedSoFar-kept a b r s t v w rest quit p k = record { read = p.read; consumed = consumed_kept r s t p.read p.consumed k; text = p.text; events = p.events; written = p.written; goes_on = p.goes_on }
-
 -- a whole service that a line quit ends
-pub Served-quit : (a b r s : Option (List ℕ)) (v w : View) (rest : List ℕ) → ServedSoFar a b r s v w rest true → (served : Served a b r s v) × (w ≡ view_after v served.read)
-Served-quit a b r s v w rest p =
-    let e : transcript v p.read ≡ record { text = p.text; events = p.events; view = w; quit = true } = ap (transcript v) (sym (append-nil p.read)) ∙ (p.goes_on [] ∙ preceded-nothing p.text p.events w true) in (
+pub Served-quit : (a b r s : Option (List ℕ)) (v : View) (read : List ℕ) (w : View) (rest : List ℕ) (es : List Event) → Consumes r s read → ServedSoFar a b v read w rest true es → (served : Served a b r s v) × (w ≡ view_after v served.read)
+Served-quit a b r s v read w rest es consumed p =
+    let e : transcript v read ≡ record { text = p.text; events = es; view = w; quit = true } = ap (transcript v) (sym (append-nil read)) ∙ (p.goes_on [] ∙ preceded-nothing p.text es w true) in (
       record {
-        read = p.read;
-        consumed = p.consumed;
+        read = read;
+        consumed = consumed;
         written = subst (Appends a b) (sym (ap (λ (t : Transcript). t.text) e)) p.written;
         ended = inr (ap (λ (t : Transcript). t.quit) e);
       },
@@ -224,21 +197,15 @@ Served-quit a b r s v w rest p =
     )
 
 -- and one that the input's end ends
-pub Served-end : (a b c r s : Option (List ℕ)) (v w : View) (rest : List ℕ) (u : View) → ServedSoFar a b r s v w rest false → ConsumedLast b c w rest u → IsAtEnd s → (served : Served a c r s v) × (u ≡ view_after v served.read)
-Served-end a b c r s v w rest u p q end =
-    let last : respond_all (lines (rest ++ [])) w ≡ record { text = q.text; events = q.events; view = u; quit = q.quit } = ap (λ (l : List ℕ). respond_all (lines l) w) (append-nil rest) ∙ q.ends in
-    let e : transcript v p.read ≡ record { text = p.text ++ q.text; events = p.events ++ q.events; view = u; quit = q.quit } =
-    ap (transcript v) (sym (append-nil p.read)) ∙ (p.goes_on [] ∙ ap (preceded_by p.text p.events) last) in (
+pub Served-end : (a b c r s : Option (List ℕ)) (v : View) (read : List ℕ) (w : View) (rest : List ℕ) (u : View) (es fs : List Event) → Consumes r s read → ServedSoFar a b v read w rest false es → Follows (respond_all (lines rest) w) b c fs u → IsAtEnd s → (served : Served a c r s v) × (u ≡ view_after v served.read)
+Served-end a b c r s v read w rest u es fs consumed p q end =
+    let last : Transcript = respond_all (lines rest) w in
+    let e : transcript v read ≡ preceded_by p.text es (respond_all (lines rest) w) = ap (transcript v) (sym (append-nil read)) ∙ (p.goes_on [] ∙ ap (λ (l : List ℕ). preceded_by p.text es (respond_all (lines l) w)) (append-nil rest)) in (
       record {
-        read = p.read;
-        consumed = p.consumed;
-        written = subst (Appends a c) (sym (ap (λ (t : Transcript). t.text) e)) (Appends-append a b c p.text q.text p.written q.written);
+        read = read;
+        consumed = consumed;
+        written = subst (Appends a c) (sym (ap (λ (t : Transcript). t.text) e)) (Appends-append a b c p.text last.text p.written q.written);
         ended = inl end;
       },
-      sym (ap (λ (t : Transcript). t.view) e),
+      q.view ∙ sym (ap (λ (t : Transcript). t.view) e),
     )
-
--- without the session after it
-pub Served-alone : (result : Result (Unit {0}) ServeFault) (a b r s : Option (List ℕ)) (v w u : View) → v ≡ w → OnOk result ((served : Served a b r s v) × (u ≡ view_after v served.read)) → OnOk result (Served a b r s w)
-Served-alone (Ok x) a b r s v w u e h = subst (Served a b r s) e h.0
-Served-alone (Err fault) a b r s v w u e h = tt

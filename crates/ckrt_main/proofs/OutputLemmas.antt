@@ -1,9 +1,9 @@
 -- Lines of output, one after another, and a writer that takes text after text.
-use Rattle.std.proofs.Common.{◌≡◌, ℕ, suc, ◌+◌, ◌-◌, ◌/◌, ◌<◌, ◌≤◌, List, [], ◌++◌, length, take, drop, refl, sym, ◌∙◌, ap, arith, append_assoc, append-nil, length-drop, length-take, length-take-le, take_all, inl, inr, take-take, drop-drop, min, Option, Some, None}
+use Rattle.std.proofs.Common.{◌≡◌, ℕ, suc, ◌+◌, ◌-◌, ◌/◌, ◌<◌, ◌≤◌, List, [], ◌++◌, length, take, drop, refl, sym, ◌∙◌, ap, subst, arith, append_assoc, append-nil, length-drop, take_all, inl, inr, min, Option, Some, None}
 use Rattle.std.proofs.lemmas.Bool.Decides.{leb_tells}
-use Rattle.std.proofs.lemmas.List.{drop-take, drop_all}
+use Rattle.std.proofs.lemmas.List.{drop_all}
 use Rattle.std.specs.Io.KnownBytes.{Appends, Consumes, Keeps}
-use Rattle.ckrt_main.specs.Replies.{out_line, out_lines}
+use Rattle.ckrt_recovery.specs.Replies.{out_line, out_lines}
 
 pub Appends-append : (a b c : Option (List ℕ)) (x y : List ℕ) → Appends a b x → Appends b c y → Appends a c (x ++ y)
 Appends-append None b c x y p q = tt
@@ -34,35 +34,14 @@ out_lines-first offset bytes lt =
     let count : (length bytes + 63) / 64 ≡ suc ((length (drop 64 bytes) + 63) / 64) = omega arith in
     rw count refl
 
-take_least : (m n : ℕ) (xs : List ℕ) → take m (take n xs) ≡ take (min m n) xs
-take_least m n xs = elim (leb_tells m n) [
-  | inl p ↦ let h : m ≤ n = omega (arith, p.1) in let e : min m n ≡ m = omega arith in take-take m n xs h ∙ ap (λ (k : ℕ). take k xs) (sym e)
-  | inr p ↦ let h : n ≤ m = omega (arith, p.1) in let e : min m n ≡ n = omega arith in let len : length (take n xs) ≤ m = omega (arith, length-take n xs) in take_all m (take n xs) len ∙ ap (λ (k : ℕ). take k xs) (sym e)
-]
-
--- the bytes from s on, before e, as far as n of them
-pub out_bytes : (line held : List ℕ) (i s e : ℕ) → s ≤ e → line ≡ take (i - s) (drop s held) → i ≤ min e (s + 64) → min e (s + 64) ≤ i → line ≡ take 64 (drop s (take e held))
-out_bytes line held i s e se h up low =
-    let end : e ≡ s + (e - s) = omega arith in
-    let cut : drop s (take (s + (e - s)) held) ≡ take (e - s) (drop s held) = drop-take s (e - s) held in
-    let cut2 : drop s (take e held) ≡ take (e - s) (drop s held) = ap (λ (k : ℕ). drop s (take k held)) end ∙ cut in
-    let shape : take 64 (take (e - s) (drop s held)) ≡ take (min 64 (e - s)) (drop s held) = take_least 64 (e - s) (drop s held) in
-    let count : i - s ≡ min 64 (e - s) = omega arith in
-    h ∙ (ap (λ (k : ℕ). take k (drop s held)) count ∙ (sym shape ∙ sym (ap (take 64) cut2)))
-
-drop_count : (ys : List ℕ) → drop 64 ys ≡ drop (length (take 64 ys)) ys
-drop_count ys = elim (leb_tells 64 (length ys)) [
-  | inl p ↦ let h : 64 ≤ length ys = omega (arith, p.1) in ap (λ (k : ℕ). drop k ys) (sym (length-take-le 64 ys h))
-  | inr p ↦ let h : length ys ≤ 64 = omega (arith, p.1) in let e : length (take 64 ys) ≡ length ys = omega (arith, length-take 64 ys) in drop_all 64 ys h ∙ sym (drop_all (length (take 64 ys)) ys (omega arith))
-]
-
 -- the next line of output
-pub out_lines-step : (c at : ℕ) (o : List ℕ) → c ≤ at → at - c < length o → out_lines at (drop (at - c) o) ≡ out_line at (take 64 (drop (at - c) o)) ++ out_lines (at + length (take 64 (drop (at - c) o))) (drop (at + length (take 64 (drop (at - c) o)) - c) o)
-out_lines-step c at o le lt =
-    let ys : List ℕ = drop (at - c) o in
-    let some : 0 < length (drop (at - c) o) = omega (arith, length-drop (at - c) o) in
-    let n : ℕ = length (take 64 (drop (at - c) o)) in
-    let count : length (take 64 (drop (at - c) o)) ≡ min 64 (length o - (at - c)) = length-take 64 (drop (at - c) o) ∙ ap (min 64) (length-drop (at - c) o) in
-    let place : at + length (take 64 (drop (at - c) o)) - c ≡ (at - c) + length (take 64 (drop (at - c) o)) = omega arith in
-    let rest : drop 64 (drop (at - c) o) ≡ drop (at + length (take 64 (drop (at - c) o)) - c) o = drop_count (drop (at - c) o) ∙ (drop-drop (length (take 64 (drop (at - c) o))) (at - c) o ∙ ap (λ (k : ℕ). drop k o) (sym place)) in
-    out_lines-first at (drop (at - c) o) some ∙ ap (λ (l : List ℕ). out_line at (take 64 (drop (at - c) o)) ++ out_lines (at + length (take 64 (drop (at - c) o))) l) rest
+pub out_lines-next : (at count : ℕ) (rest : List ℕ) → count ≡ min (length rest) 64 → 0 < length rest → out_lines at rest ≡ out_line at (take count rest) ++ out_lines (at + length (take count rest)) (drop count rest)
+out_lines-next at count rest is some = elim (leb_tells 64 (length rest)) [
+  | inl p ↦ let same : count ≡ 64 = omega (arith, p.1, is) in subst (λ n. out_lines at rest ≡ out_line at (take n rest) ++ out_lines (at + length (take n rest)) (drop n rest)) (sym same) (out_lines-first at rest some)
+  | inr p ↦
+      let short : length rest ≤ 64 = omega (arith, p.1) in
+      let all : length rest ≤ count = omega (arith, p.1, is) in
+      let front : take 64 rest ≡ take count rest = take_all 64 rest short ∙ sym (take_all count rest all) in
+      let back : drop 64 rest ≡ drop count rest = drop_all 64 rest short ∙ sym (drop_all count rest all) in
+      out_lines-first at rest some ∙ (ap (λ (l : List ℕ). out_line at l ++ out_lines (at + length l) (drop 64 rest)) front ∙ ap (λ (l : List ℕ). out_line at (take count rest) ++ out_lines (at + length (take count rest)) l) back)
+]

@@ -1,4 +1,1 @@
-pub mod View
-pub mod Replies
-pub mod Transcript
 pub mod Service

@@ -1,22 +1,4 @@
-use ckrt_machine::Refusal;
 use thiserror::Error;
-
-/// Why a session refuses an event.
-#[derive(Clone, Copy, Debug, PartialEq, Eq, Error)]
-pub enum SubmitFault {
-    /// The machine refuses it.
-    #[error("Refused")]
-    Refused(Refusal),
-    /// The batch of events that aren't committed has no place for it.
-    #[error("BatchFull")]
-    BatchFull,
-    /// The journal has no place for the batch with it.
-    #[error("JournalFull")]
-    JournalFull,
-    /// The counts of events and of output bytes are at their end.
-    #[error("CountersUsed")]
-    CountersUsed,
-}
 
 /// Why a service ended early.
 #[derive(Clone, Copy, Debug, PartialEq, Eq, Error)]

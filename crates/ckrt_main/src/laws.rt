@@ -1,8 +1,8 @@
 //! Laws of transcripts. Each is the contract of a function with an empty body.
 ghost use Rattle.std.specs.Prelude.{◌≡◌, ◌+◌, ℕ, List, length};
 ghost use Rattle.ckrt_machine.specs.Events.{fold};
-ghost use Rattle.ckrt_main.specs.View.{View};
-ghost use Rattle.ckrt_main.specs.Transcript.{accepted_events, view_after};
+ghost use Rattle.ckrt_recovery.specs.View.{View};
+ghost use Rattle.ckrt_recovery.specs.Transcript.{accepted_events, view_after};
 
 /// The accepted events of a transcript are all that happened to the machine: the session goes on from
 /// their plain fold, and has counted each of them once.

@@ -1,17 +1,17 @@
 //! The service of a session: lines of text in, replies and output out.
 #![tactic(auto)]
 
-mod config;
 mod fault;
+mod in_memory;
 mod laws;
 mod replies;
 mod service;
-mod session;
 
-pub use config::Config;
+pub use ckrt_recovery::Config;
 pub use fault::ServeFault;
+pub use in_memory::serve_image;
 pub use laws::transcript_folds_events;
-pub use service::serve_image;
+pub use service::serve;
 
 #[cfg(test)]
 mod tests;

@@ -2,12 +2,12 @@
 ghost use Rattle.std.specs.Prelude.{◌≡◌, ◌≤◌, ◌+◌, ◌*◌, ◌++◌, [], length, decimal, codes};
 ghost use Rattle.arrayvec.specs.ArrayVec.{array_vec_len};
 ghost use Rattle.hex.specs.Hex.{encode_lower};
-ghost use Rattle.ckrt_main.specs.Replies.{ok_line, ack_line, no_line, out_line, refusal_text, submit_fault_text, line_fault_text, answer_text, how_text};
+ghost use Rattle.ckrt_recovery.specs.Replies.{ok_line, ack_line, no_line, out_line, refusal_text, submit_fault_text, commit_fault_text, line_fault_text, answer_text, how_text};
 
-use crate::fault::SubmitFault;
 use arrayvec::ArrayVec;
 use ckrt_events::LineFault;
 use ckrt_machine::{Answer, How, Refusal};
+use ckrt_recovery::{CommitFault, SubmitFault};
 
 /// The longest line is one of output: `out `, an offset of at most 20 digits, a space, 128 digits and a line feed.
 pub const REPLY_BYTES: usize = 192;
@@ -130,10 +130,22 @@ pub fn refused_event(fault: SubmitFault) -> Reply
     ensures { result.items ≡ no_line (submit_fault_text fault) }
 {
     let text = match fault {
+        SubmitFault::Failed => b"21 Failed".as_slice(),
         SubmitFault::Refused(refusal) => refusal_text(refusal),
         SubmitFault::BatchFull => b"22 BatchFull".as_slice(),
         SubmitFault::JournalFull => b"23 JournalFull".as_slice(),
         SubmitFault::CountersUsed => b"24 CountersUsed".as_slice(),
+    };
+    no(text)
+}
+
+/// The reply to a commit that the session refused, or whose disk failed.
+pub fn refused_commit(fault: CommitFault) -> Reply
+    ensures { result.items ≡ no_line (commit_fault_text fault) }
+{
+    let text = match fault {
+        CommitFault::Failed => b"21 Failed".as_slice(),
+        CommitFault::Device => b"25 Device".as_slice(),
     };
     no(text)
 }

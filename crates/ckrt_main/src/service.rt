@@ -1,23 +1,26 @@
 //! Lines in, replies and output out.
-ghost use Rattle.std.specs.Prelude.{◌≡◌, ◌∷◌, ◌↔◌, ◌⊎◌, [], true, is_none, Some, Ok, IfOk, IfErr, OnOk, OnErr, IsErrOf};
-ghost use Rattle.std.specs.Str.Lines.{strip_carriage_return};
+ghost use Rattle.std.specs.Prelude.{◌≡◌, ◌≤◌, ◌<◌, ◌+◌, ◌^◌, ◌∷◌, ◌↔◌, ◌⊎◌, [], true, false, length, is_none, Some, Ok, IfOk, IfErr, IfSome, OnOk, OnErr, IsErrOf};
+ghost use Rattle.std.specs.Str.Lines.{lines, strip_carriage_return};
 ghost use Rattle.std.specs.Io.KnownBytes.{Appends};
+ghost use Rattle.ckrt_disk.specs.Disk.{HasFailed};
 ghost use Rattle.ckrt_events.specs.Bytes.{IsInRange};
 ghost use Rattle.ckrt_events.specs.Line.{command_of};
 ghost use Rattle.ckrt_events.specs.declared.event.Event.TheVariants.{Place, Run};
 ghost use Rattle.ckrt_events.specs.declared.command.Command.TheVariants.{Auto};
-ghost use Rattle.ckrt_main.specs.Transcript as transcript;
-ghost use Rattle.ckrt_main.specs.Transcript.{view_after};
-ghost use Rattle.ckrt_main.specs.View.{refusal_of, fresh, is_refused};
-ghost use Rattle.ckrt_main.specs.Service.{is_open, Consumed, ConsumedLast, IsStartFault, Served};
+ghost use Rattle.ckrt_machine.specs.Events as machine;
+ghost use Rattle.ckrt_recovery.specs.Parts.{parts_of};
+ghost use Rattle.ckrt_recovery.specs.Replies.{out_lines, no_line, commit_fault_text};
+ghost use Rattle.ckrt_recovery.specs.Transcript as transcript;
+ghost use Rattle.ckrt_recovery.specs.Transcript.{view_after};
+ghost use Rattle.ckrt_recovery.specs.View.{view_of, submit_refusal};
+ghost use Rattle.ckrt_main.specs.Service.{is_open, Responds, Interrupted, Heard, HeardPart, Hears, Served};
 
-use crate::config::Config;
 use crate::fault::ServeFault;
-use crate::replies;
-use crate::session::Session;
+use crate::replies::{self, OUTPUT_BYTES};
 use arrayvec::ArrayVec;
+use ckrt_disk::Disk;
 use ckrt_events::{Command, Event, LineFault, parse_command};
-use std::alloc::Global;
+use ckrt_recovery::{CommitFault, Session};
 use std::io::{ErrorKind, Read, Write};
 
 /// What is kept of a line: a byte past its limit of 160, and a carriage return.
@@ -35,34 +38,51 @@ fn write_reply<W: Write>(writer: &mut W, text: &[u8]) -> Result<(), ServeFault>
     Ok(())
 }
 
-/// Writes the released output, and then confirms it; where the writer fails nothing is confirmed.
-fn write_output<W: Write>(session: &mut Session, writer: &mut W) -> Result<(), ServeFault>
-    ensures text { OnOk result (Appends (W.contents writer.old) (W.contents writer.new) (transcript.output session.old).text) }
-    ensures view { OnOk result (session.new ≡ (transcript.output session.old).view) }
-    ensures unconfirmed { OnErr result (session.new ≡ session.old) }
+/// Writes output as lines of at most 64 bytes, from its offset on.
+fn write_lines<W: Write>(writer: &mut W, offset: u64, bytes: &[u8]) -> Result<(), ServeFault>
+    requires { offset + length bytes.now < 2 ^ 64 }
+    ensures ok { OnOk result (Appends (W.contents writer.old) (W.contents writer.new) (out_lines offset bytes.now)) }
     ensures err { IfErr result (λ e. e ≡ ServeFault.Write) }
 {
-    let mut at = session.confirmed();
-    let end = session.released();
-    while at < end {
-        let bytes = session.output_at(at);
-        write_reply(writer, &replies::out(at, &bytes))?;
-        at += bytes.len() as u64;
+    let mut at = offset;
+    let mut rest = bytes;
+    while !rest.is_empty() {
+        let (line, more) = rest.split_at(rest.len().min(OUTPUT_BYTES));
+        write_reply(writer, &replies::out(at, line))?;
+        at += line.len() as u64;
+        rest = more;
     }
-    session.confirm(end);
+    Ok(())
+}
+
+/// Writes the released output, and then confirms it; where the writer fails nothing is confirmed.
+fn write_output<W: Write, D: Disk>(
+    session: &mut Session<D>,
+    writer: &mut W,
+) -> Result<(), ServeFault>
+    ensures ok { OnOk result (Responds (transcript.output (view_of session.old)) (W.contents writer.old) (W.contents writer.new) session.old session.new) }
+    ensures unchanged { OnErr result (parts_of session.new ≡ parts_of session.old) }
+    ensures failed { session.new.failed ≡ session.old.failed }
+    ensures err { IfErr result (λ e. e ≡ ServeFault.Write) }
+{
+    let released = session.released();
+    let (offset, bytes) = session.take_output();
+    write_lines(writer, offset, bytes)?;
+    session.confirm(released);
     Ok(())
 }
 
 /// Hands an event to the session, writes the reply, and answers whether the event was accepted.
-fn submit<W: Write>(
-    session: &mut Session,
+fn submit<W: Write, D: Disk>(
+    session: &mut Session<D>,
     writer: &mut W,
     event: &Event,
 ) -> Result<bool, ServeFault>
     requires { IsInRange event.now }
-    ensures accepted { IfOk result (λ accepted. accepted ≡ is_none (refusal_of session.old event.now)) }
-    ensures text { OnOk result (Appends (W.contents writer.old) (W.contents writer.new) (transcript.submit event.now session.old).text) }
-    ensures view { OnOk result (session.new ≡ (transcript.submit event.now session.old).view) }
+    ensures accepted { IfOk result (λ accepted. accepted ≡ is_none (submit_refusal session.old event.now)) }
+    ensures text { OnOk result (Appends (W.contents writer.old) (W.contents writer.new) (transcript.submitted (view_of session.old) event.now (submit_refusal session.old event.now)).text) }
+    ensures ok { OnOk result (Responds (transcript.submit event.now (view_of session.old)) (W.contents writer.old) (W.contents writer.new) session.old session.new) }
+    ensures interrupted { OnErr result (Interrupted (transcript.submit event.now (view_of session.old)) session.old session.new) }
     ensures unconfirmed { session.new.confirmed ≡ session.old.confirmed }
     ensures err { IfErr result (λ e. e ≡ ServeFault.Write) }
 {
@@ -79,8 +99,8 @@ fn submit<W: Write>(
 }
 
 /// Places a thread onto a hart, and runs the hart unless that was refused.
-fn place_and_run<W: Write>(
-    session: &mut Session,
+fn place_and_run<W: Write, D: Disk>(
+    session: &mut Session<D>,
     writer: &mut W,
     hart: u8,
     thread: u8,
@@ -88,8 +108,8 @@ fn place_and_run<W: Write>(
 ) -> Result<(), ServeFault>
     requires place { IsInRange (Place hart thread) }
     requires run { IsInRange (Run hart steps) }
-    ensures text { OnOk result (Appends (W.contents writer.old) (W.contents writer.new) (transcript.run_planned (Some thread) hart steps session.old).text) }
-    ensures view { OnOk result (session.new ≡ (transcript.run_planned (Some thread) hart steps session.old).view) }
+    ensures ok { OnOk result (Responds (transcript.run_planned (Some thread) hart steps (view_of session.old)) (W.contents writer.old) (W.contents writer.new) session.old session.new) }
+    ensures interrupted { OnErr result (Interrupted (transcript.run_planned (Some thread) hart steps (view_of session.old)) session.old session.new) }
     ensures unconfirmed { session.new.confirmed ≡ session.old.confirmed }
     ensures err { IfErr result (λ e. e ≡ ServeFault.Write) }
 {
@@ -99,20 +119,29 @@ fn place_and_run<W: Write>(
     Ok(())
 }
 
+/// The thread to place onto a hart next, 1 to 64.
+#[tactic(auto, using(crate::proofs::EventLemmas::planned_in_range))]
+fn planned<D: Disk>(session: &Session<D>, hart: u8) -> Option<u8>
+    ensures planned { result ≡ machine.planned hart session.now.machine.state.tables }
+    ensures in_range { IfSome result (λ thread. (1 ≤ thread) × (thread ≤ 64)) }
+{
+    session.machine().planned(hart)
+}
+
 /// Places the planned thread onto a hart, if there is one, and runs the hart unless that was refused.
-fn run_planned<W: Write>(
-    session: &mut Session,
+fn run_planned<W: Write, D: Disk>(
+    session: &mut Session<D>,
     writer: &mut W,
     hart: u8,
     steps: u16,
 ) -> Result<(), ServeFault>
     requires { IsInRange (Run hart steps) }
-    ensures text { OnOk result (Appends (W.contents writer.old) (W.contents writer.new) (transcript.respond (Ok (Auto hart steps)) session.old).text) }
-    ensures view { OnOk result (session.new ≡ (transcript.respond (Ok (Auto hart steps)) session.old).view) }
+    ensures ok { OnOk result (Responds (transcript.respond (Ok (Auto hart steps)) (view_of session.old)) (W.contents writer.old) (W.contents writer.new) session.old session.new) }
+    ensures interrupted { OnErr result (Interrupted (transcript.respond (Ok (Auto hart steps)) (view_of session.old)) session.old session.new) }
     ensures unconfirmed { session.new.confirmed ≡ session.old.confirmed }
     ensures err { IfErr result (λ e. e ≡ ServeFault.Write) }
 {
-    match session.planned(hart) {
+    match planned(session, hart) {
         Some(thread) => place_and_run(session, writer, hart, thread, steps),
         None => {
             submit(session, writer, &Event::Run(hart, steps))?;
@@ -122,23 +151,36 @@ fn run_planned<W: Write>(
 }
 
 /// Commits the events so far, acknowledges them, and writes the released output.
-fn commit<W: Write>(session: &mut Session, writer: &mut W) -> Result<(), ServeFault>
-    ensures text { OnOk result (Appends (W.contents writer.old) (W.contents writer.new) (transcript.commit session.old).text) }
-    ensures view { OnOk result (session.new ≡ (transcript.commit session.old).view) }
+fn commit<W: Write, D: Disk>(session: &mut Session<D>, writer: &mut W) -> Result<(), ServeFault>
+    ensures ok { OnOk result (Responds (transcript.commit (view_of session.old)) (W.contents writer.old) (W.contents writer.new) session.old session.new) }
+    ensures refused { OnOk result (session.old.failed ≡ true → Appends (W.contents writer.old) (W.contents writer.new) (no_line (commit_fault_text CommitFault.Failed))) }
+    ensures device { OnOk result (session.old.failed ≡ false → session.new.failed ≡ true → Appends (W.contents writer.old) (W.contents writer.new) (no_line (commit_fault_text CommitFault.Device))) }
+    ensures interrupted { OnErr result (Interrupted (transcript.commit (view_of session.old)) session.old session.new) }
     ensures unconfirmed { OnErr result (session.new.confirmed ≡ session.old.confirmed) }
     ensures err { IfErr result (λ e. e ≡ ServeFault.Write) }
 {
-    let count = session.commit();
-    write_reply(writer, &replies::ack(count))?;
-    write_output(session, writer)
+    match session.commit() {
+        Ok(count) => {
+            write_reply(writer, &replies::ack(count))?;
+            write_output(session, writer)?;
+            Ok(())
+        }
+        Err(fault) => {
+            write_reply(writer, &replies::refused_commit(fault))?;
+            Ok(())
+        }
+    }
 }
 
 /// Does what a line says, and answers whether it was `quit`.
-#[tactic(auto, using(crate::proofs::EventLemmas::planned_goes_on))]
-fn respond<W: Write>(session: &mut Session, writer: &mut W, line: &[u8]) -> Result<bool, ServeFault>
-    ensures quit { IfOk result (λ quit. quit ≡ (transcript.respond (command_of line.now) session.old).quit) }
-    ensures text { OnOk result (Appends (W.contents writer.old) (W.contents writer.new) (transcript.respond (command_of line.now) session.old).text) }
-    ensures view { OnOk result (session.new ≡ (transcript.respond (command_of line.now) session.old).view) }
+fn respond<W: Write, D: Disk>(
+    session: &mut Session<D>,
+    writer: &mut W,
+    line: &[u8],
+) -> Result<bool, ServeFault>
+    ensures quit { IfOk result (λ quit. quit ≡ (transcript.respond (command_of line.now) (view_of session.old)).quit) }
+    ensures ok { OnOk result (Responds (transcript.respond (command_of line.now) (view_of session.old)) (W.contents writer.old) (W.contents writer.new) session.old session.new) }
+    ensures interrupted { OnErr result (Interrupted (transcript.respond (command_of line.now) (view_of session.old)) session.old session.new) }
     ensures unconfirmed { OnErr result (session.new.confirmed ≡ session.old.confirmed) }
     ensures err { IfErr result (λ e. e ≡ ServeFault.Write) }
 {
@@ -171,15 +213,16 @@ fn without_carriage_return(line: &[u8]) -> &[u8]
 }
 
 /// Takes a byte of input, and answers whether it ended a line `quit`.
-fn take_byte<W: Write>(
-    session: &mut Session,
+fn take_byte<W: Write, D: Disk>(
+    session: &mut Session<D>,
     writer: &mut W,
     line: &mut Line,
     byte: u8,
 ) -> Result<bool, ServeFault>
     requires { is_open line.old.items ≡ true }
     ensures open { OnOk result (is_open line.new.items ≡ true) }
-    ensures consumed { IfOk result (λ quit. Consumed (W.contents writer.old) (W.contents writer.new) session.old line.old.items (byte ∷ []) session.new line.new.items quit) }
+    ensures heard { IfOk result (λ quit. Heard (W.contents writer.old) (W.contents writer.new) line.old.items (byte ∷ []) session.old session.new line.new.items quit) }
+    ensures interrupted { OnErr result (HeardPart line.old.items (byte ∷ []) session.old session.new) }
     ensures err { IfErr result (λ e. e ≡ ServeFault.Write) }
 {
     if byte == b'\n' {
@@ -195,15 +238,16 @@ fn take_byte<W: Write>(
 }
 
 /// Takes bytes of input up to a line `quit`, and answers whether there was one.
-fn take_bytes<W: Write>(
-    session: &mut Session,
+fn take_bytes<W: Write, D: Disk>(
+    session: &mut Session<D>,
     writer: &mut W,
     line: &mut Line,
     bytes: &[u8],
 ) -> Result<bool, ServeFault>
     requires { is_open line.old.items ≡ true }
     ensures open { OnOk result (is_open line.new.items ≡ true) }
-    ensures consumed { IfOk result (λ quit. Consumed (W.contents writer.old) (W.contents writer.new) session.old line.old.items bytes.now session.new line.new.items quit) }
+    ensures heard { IfOk result (λ quit. Heard (W.contents writer.old) (W.contents writer.new) line.old.items bytes.now session.old session.new line.new.items quit) }
+    ensures interrupted { OnErr result (HeardPart line.old.items bytes.now session.old session.new) }
     ensures err { IfErr result (λ e. e ≡ ServeFault.Write) }
 {
     for byte in bytes {
@@ -215,9 +259,14 @@ fn take_bytes<W: Write>(
 }
 
 /// Takes the end of the input, with the last line before it, which counts if it isn't empty.
-fn take_end<W: Write>(session: &mut Session, writer: &mut W, line: &[u8]) -> Result<(), ServeFault>
+fn take_end<W: Write, D: Disk>(
+    session: &mut Session<D>,
+    writer: &mut W,
+    line: &[u8],
+) -> Result<(), ServeFault>
     requires { is_open line.now ≡ true }
-    ensures ok { OnOk result (ConsumedLast (W.contents writer.old) (W.contents writer.new) session.old line.now session.new) }
+    ensures ok { OnOk result (Responds (transcript.respond_all (lines line.now) (view_of session.old)) (W.contents writer.old) (W.contents writer.new) session.old session.new) }
+    ensures interrupted { OnErr result (Interrupted (transcript.respond_all (lines line.now) (view_of session.old)) session.old session.new) }
     ensures err { IfErr result (λ e. e ≡ ServeFault.Write) }
 {
     if line.is_empty() {
@@ -227,13 +276,14 @@ fn take_end<W: Write>(session: &mut Session, writer: &mut W, line: &[u8]) -> Res
     Ok(())
 }
 
-/// Answers the lines of a reader, up to its end or a line `quit`.
-pub fn serve<R: Read, W: Write>(
+/// Writes the output that isn't confirmed, and then answers the lines of a reader, up to its end or a line `quit`.
+fn serve_lines<R: Read, W: Write, D: Disk>(
     reader: &mut R,
     writer: &mut W,
-    session: &mut Session,
+    session: &mut Session<D>,
 ) -> Result<(), ServeFault>
-    ensures ok { OnOk result ((served : Served (W.contents writer.old) (W.contents writer.new) (R.remaining reader.old) (R.remaining reader.new) session.old) × (session.new ≡ view_after session.old served.read)) }
+    ensures ok { OnOk result (session.old.failed ≡ false → ¬ HasFailed (D.failures session.old.disk) (D.failures session.new.disk) → (served : Served (W.contents writer.old) (W.contents writer.new) (R.remaining reader.old) (R.remaining reader.new) (view_of session.old)) × (view_of session.new ≡ view_after (view_of session.old) served.read)) }
+    ensures heard { Hears (R.remaining reader.old) (R.remaining reader.new) session.old session.new }
     ensures err { IfErr result (λ e. (e ≡ ServeFault.Read) ⊎ (e ≡ ServeFault.Write)) }
 {
     write_output(session, writer)?;
@@ -260,21 +310,23 @@ pub fn serve<R: Read, W: Write>(
     Err(ServeFault::Read)
 }
 
-/// Runs an image on a new machine, and answers the lines of a reader, up to its end or a line `quit`.
+/// Writes the committed output that isn't confirmed, and then answers the lines of a reader, up to its end or a line `quit`.
 ///
-/// The machine, its journal's counts and its output are in memory alone. Takes all memory before it reads or writes.
-pub fn serve_image<R: Read, W: Write>(
-    alloc: Global,
-    image: &[u8],
-    config: Config,
+/// Each line gets its reply before the next is read, and what a commit releases is written behind its `ack` and then
+/// confirmed. Nothing is committed but by a line `commit`. After a commit that the disk failed the lines go on: events
+/// and commits are then refused as `21 Failed`. Where the writer fails nothing more is confirmed.
+pub fn serve<R: Read, W: Write, D: Disk>(
     reader: &mut R,
     writer: &mut W,
+    session: &mut Session<D>,
 ) -> Result<(), ServeFault>
-    ensures ok { OnOk result (Served (W.contents writer.old) (W.contents writer.new) (R.remaining reader.old) (R.remaining reader.new) (fresh config image.now)) }
-    ensures format { IsErrOf result ServeFault.Format ↔ (is_refused config image.now ≡ true) }
-    ensures unread { IfErr result (λ e. IsStartFault e → reader.new ≡ reader.old) }
-    ensures unwritten { IfErr result (λ e. IsStartFault e → writer.new ≡ writer.old) }
+    ensures ok { OnOk result (session.old.failed ≡ false → ¬ HasFailed (D.failures session.old.disk) (D.failures session.new.disk) → (served : Served (W.contents writer.old) (W.contents writer.new) (R.remaining reader.old) (R.remaining reader.new) (view_of session.old)) × (view_of session.new ≡ view_after (view_of session.old) served.read)) }
+    ensures heard { Hears (R.remaining reader.old) (R.remaining reader.new) session.old session.new }
+    ensures failed { session.new.failed ≡ true → (session.old.failed ≡ true) ⊎ HasFailed (D.failures session.old.disk) (D.failures session.new.disk) }
+    ensures honest { D.is_honest session.new.disk → D.is_honest session.old.disk }
+    ensures size { D.size session.new.disk ≡ D.size session.old.disk }
+    ensures named_stop { D.named_stop session.new.disk ≡ D.named_stop session.old.disk }
+    ensures err { IfErr result (λ e. (e ≡ ServeFault.Read) ⊎ (e ≡ ServeFault.Write)) }
 {
-    let mut session = Session::new(alloc, image, config)?;
-    serve(reader, writer, &mut session)
+    serve_lines(reader, writer, session)
 }

@@ -1,53 +1,17 @@
 -- Entries of free normal mutexes say nothing: what is kept of a map without them.
-use Rattle.std.proofs.Common.{◌≡◌, ℕ, ◌≤◌, ◌<◌, nat_lt, nat_le, Bool, true, false, cond, not, List, [], ◌∷◌, length, Some, refl, sym, ap, ◌∙◌, arith}
+use Rattle.std.proofs.Common.{◌≡◌, ℕ, ◌≤◌, ◌<◌, nat_lt, nat_le, Bool, true, false, cond, not, List, [], ◌∷◌, Some, refl, sym, ap, ◌∙◌, arith}
 use Rattle.std.specs.Prelude.{unwrap_or}
-use Rattle.std.specs.List.{filter, list_all}
 use Rattle.std.proofs.lemmas.Bool.Decides.{nat_tests}
 use Rattle.ckrt_thread.specs.State.{State}
-use Rattle.ckrt_mutex.specs.declared.address_map.Entry.{Entry}
+use Rattle.ckrt_objects.specs.declared.address_map.Entry.{Entry}
 use Rattle.ckrt_mutex.specs.declared.records.Kind.TheVariants.{Normal}
 use Rattle.ckrt_mutex.specs.declared.records.Mutex.{Mutex}
-use Rattle.ckrt_mutex.specs.AddressMap.{is_at, has_entry, lookup, removed, stored, are_above, is_rising}
-use Rattle.ckrt_mutex.specs.InUse.{addresses_in_use}
+use Rattle.ckrt_objects.specs.AddressMap.{is_at, lookup, removed, stored, are_above, is_rising}
 use Rattle.ckrt_mutex.specs.Mutex.{free, is_plain, is_proper, mutex_at, put, is_kept, kept, AreEntries, IsTable}
 use Rattle.ckrt_mutex.specs.Rows.{named, used_count, is_full}
-use Rattle.ckrt_mutex.proofs.AddressMap.{above_no_entry, above_weaker, no_lookup, not_removed, rising_removed, rising_stored, all_removed, all_stored}
-use Rattle.ckrt_mutex.proofs.InUse.{any_in_use, distinct_le}
+use Rattle.ckrt_objects.proofs.AddressMap.{above_no_entry, above_weaker, no_lookup, not_removed, rising_removed, rising_stored, all_removed, all_stored}
+use Rattle.ckrt_objects.proofs.Parts.{above_part, rising_part, all_part, part_all, part_twice, no_entry_part, removed_part, count_part}
 use Rattle.ckrt_mutex.proofs.Table.{plain_is}
-
--- A PART of a map
-
-module _ {T : Type 0} (p : Entry T → Bool) where
-  above_part : (n : ℕ) (es : List (Entry T)) → are_above n es ≡ true → are_above n (filter p es) ≡ true
-  above_part n [] h = refl
-  above_part n (e ∷ es) h = grind (arith, nat_tests, above_part n es)
-
-  pub rising_part : (es : List (Entry T)) → is_rising es ≡ true → is_rising (filter p es) ≡ true
-  rising_part [] h = refl
-  rising_part (e ∷ es) h = grind (arith, nat_tests, rising_part es, above_part e.address es)
-
-  pub all_part : (q : Entry T → Bool) (es : List (Entry T)) → list_all q es ≡ true → list_all q (filter p es) ≡ true
-  all_part q [] h = refl
-  all_part q (e ∷ es) h = grind (arith, nat_tests, all_part q es)
-
-  pub part_all : (es : List (Entry T)) → list_all p (filter p es) ≡ true
-  part_all [] = refl
-  part_all (e ∷ es) = grind (arith, nat_tests, part_all es)
-
-  pub part_twice : (es : List (Entry T)) → filter p (filter p es) ≡ filter p es
-  part_twice [] = refl
-  part_twice (e ∷ es) = grind (arith, nat_tests, part_twice es)
-
-  pub length_part : (es : List (Entry T)) → length (filter p es) ≤ length es
-  length_part [] = omega arith
-  length_part (e ∷ es) = grind (arith, nat_tests, length_part es)
-
-  pub entry_part : (a : ℕ) (es : List (Entry T)) → has_entry a (filter p es) ≡ true → has_entry a es ≡ true
-  entry_part a [] h = h
-  entry_part a (e ∷ es) h = grind (arith, nat_tests, entry_part a es)
-
-  no_entry_part : (n a : ℕ) (es : List (Entry T)) → a ≤ n → are_above n es ≡ true → has_entry a (filter p es) ≡ false
-  no_entry_part n a es l h = above_no_entry n a (filter p es) l (above_part n es h)
 
 -- WHAT IS KEPT
 
@@ -174,11 +138,7 @@ stored_kept a m (e ∷ es) h =
     stored_first a m e es (nat_lt e.address a) (is_at a e) refl refl (grind (arith, nat_tests)) (stored_kept a m es (grind (arith, nat_tests)))
 
 pub removed_kept : (a : ℕ) (es : List (Entry Mutex)) → is_rising es ≡ true → kept (removed a es) ≡ removed a (kept es)
-removed_kept a [] h = refl
-removed_kept a (e ∷ es) h =
-    let none = not_removed a (kept es) in
-    let above = no_entry_part is_kept e.address a es in
-    grind (arith, nat_tests, removed_kept a es, none, above)
+removed_kept a es h = removed_part is_kept a es h
 
 pub entries_stored : (a : ℕ) (m : Mutex) (es : List (Entry Mutex)) → is_proper m ≡ true → AreEntries es → AreEntries (stored a m es)
 entries_stored a m es c h = record { rising = rising_stored a m es h.rising; proper = all_stored (λ e. is_proper e.value) a m es c h.proper }
@@ -189,9 +149,7 @@ entries_removed a es h = record { rising = rising_removed a es h.rising; proper 
 -- HOW MANY ARE IN USE
 
 pub count_kept : (s : State) (es : List (Entry Mutex)) → used_count s (kept es) ≤ used_count s es
-count_kept s es =
-    distinct_le (addresses_in_use named s.waits (kept es)) (addresses_in_use named s.waits es)
-    (λ q h. grind (arith, nat_tests, any_in_use named q s.waits es, any_in_use named q s.waits (kept es), entry_part is_kept q es, h))
+count_kept s es = count_part is_kept named s.waits es
 
 pub not_full_kept : (a : ℕ) (s : State) (es : List (Entry Mutex)) → nat_le 256 (used_count s es) ≡ false → is_full a s (kept es) ≡ false
 not_full_kept a s es h = grind (arith, nat_tests, count_kept s es, h)

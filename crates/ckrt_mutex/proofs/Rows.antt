@@ -5,20 +5,21 @@ use Rattle.ckrt_thread.specs.declared.records.RetakeResult.{RetakeResult}
 use Rattle.ckrt_thread.specs.declared.records.Wait.{Wait}
 use Rattle.ckrt_thread.specs.declared.records.Reason.TheVariants as reason
 use Rattle.ckrt_thread.specs.declared.records.Object.TheVariants as object
-use Rattle.ckrt_thread.specs.Waits.{is_for, is_of, retake_code, is_moment}
+use Rattle.ckrt_thread.specs.Waits.{is_for, is_of, without, retake_code, is_moment}
 use Rattle.ckrt_thread.specs.State.{State, woken, first_waiter, is_waiting, set_word, IsWellFormed}
 use Rattle.ckrt_thread.specs.Granting.{wait_result}
-use Rattle.ckrt_thread.proofs.Known.{found_range}
-use Rattle.ckrt_mutex.specs.declared.address_map.Entry.{Entry}
+use Rattle.ckrt_thread.proofs.Known.{found_range, waits_at_most_once}
+use Rattle.ckrt_objects.proofs.Waits.{either, all_not, find_none, gone, among_without}
+use Rattle.ckrt_objects.specs.declared.address_map.Entry.{Entry}
 use Rattle.ckrt_mutex.specs.declared.records.Kind.{Kind}
 use Rattle.ckrt_mutex.specs.declared.records.Kind.TheVariants.{Normal, Recursive, ErrorCheck}
 use Rattle.ckrt_mutex.specs.declared.records.Mutex.{Mutex}
 use Rattle.ckrt_mutex.specs.Mutex.{free, is_owned, is_owner, is_thread, is_available, is_normal, is_recursive, is_errorcheck, is_proper_count, mutex_at, put}
 use Rattle.ckrt_mutex.specs.Rows.{After, is_named, is_full, is_busy, used_count, kind_of, init_kind, init_row, destroy_row, taken, taken_or, waiting, waiting_until, lock_row, timedlock_row, trylock_row, released, unlock_row, retake_row}
 use Rattle.ckrt_mutex.specs.WellFormed.{can_retake, IsWellFormedWith}
-use Rattle.ckrt_mutex.proofs.Table.{either, owned_by_some, proper_at, proper_locked, proper_once}
+use Rattle.ckrt_mutex.proofs.Table.{owned_by_some, proper_at, proper_locked, proper_once}
 use Rattle.ckrt_mutex.proofs.Granting.{grants_none, grants_first}
-use Rattle.ckrt_mutex.proofs.WellFormed.{owned_not_full, few_put, few_removed, well_formed_owned, well_formed_free, well_formed_less, well_formed_blocked, waits_once, gone, all_not, find_none, all_without, none_sought}
+use Rattle.ckrt_mutex.proofs.WellFormed.{owned_not_full, few_put, few_removed, well_formed_owned, well_formed_free, well_formed_less, well_formed_blocked, none_sought}
 
 abbrev IsKept : After → Type 0
 IsKept r = IsWellFormedWith r.threads r.mutexes
@@ -114,7 +115,7 @@ well_formed_released_to (Some w) k a s ms e th h f =
     let id = first_range s a w th e in
     rw (grants_first a k s w e)
     (well_formed_owned a k 1 w.thread s (woken w.thread (wait_result w.reason) s) ms h (proper_once k w.thread id.0 id.1) f
-    (λ g x. all_without g w.thread s.waits x) (gone w.thread s.waits (waits_once s w.thread th)))
+    (among_without w.thread s.waits) (all_not (is_of w.thread) (without w.thread s.waits) (gone w.thread s.waits (waits_at_most_once s w.thread th))))
 
 not_not : (b : Bool) → not b ≡ false → b ≡ true
 not_not true h = refl

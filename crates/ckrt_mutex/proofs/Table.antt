@@ -2,13 +2,14 @@
 use Rattle.std.proofs.Common.{◌≡◌, ℕ, zero, suc, ◌+◌, ◌-◌, ◌≤◌, ◌<◌, eqb, Bool, true, false, if◌then◌else◌, not, ◌&&◌, ◌||◌, List, Option, Some, None, is_none, is_some, refl, ap, arith}
 use Rattle.std.specs.Prelude.{unwrap_or}
 use Rattle.std.proofs.lemmas.Bool.Decides.{nat_tests}
-use Rattle.ckrt_mutex.specs.declared.address_map.Entry.{Entry}
+use Rattle.ckrt_objects.specs.declared.address_map.Entry.{Entry}
+use Rattle.ckrt_objects.proofs.Waits.{either}
 use Rattle.ckrt_mutex.specs.declared.records.Kind.{Kind}
 use Rattle.ckrt_mutex.specs.declared.records.Kind.TheVariants.{Normal, Recursive, ErrorCheck}
 use Rattle.ckrt_mutex.specs.declared.records.Mutex.{Mutex}
-use Rattle.ckrt_mutex.specs.AddressMap.{lookup, has_entry, has_room, removed, stored}
+use Rattle.ckrt_objects.specs.AddressMap.{lookup, has_entry, has_room, removed, stored}
 use Rattle.ckrt_mutex.specs.Mutex.{free, owned, is_owned, is_owner, is_thread, is_available, is_normal, is_recursive, is_plain, is_proper, is_proper_count, mutex_at, put, IsTable}
-use Rattle.ckrt_mutex.proofs.AddressMap.{lookup_all, lookup_removed, lookup_stored, rising_removed, rising_stored, all_removed, all_stored, no_lookup}
+use Rattle.ckrt_objects.proofs.AddressMap.{lookup_all, lookup_removed, lookup_stored, rising_removed, rising_stored, all_removed, all_stored, no_lookup}
 
 pub proper_at : (a : ℕ) (ms : List (Entry Mutex)) → IsTable ms → is_proper (mutex_at a ms) ≡ true
 proper_at a ms t = lookup_all is_proper a ms (free Normal) t.proper refl
@@ -33,11 +34,6 @@ removed_at a b m ms p t c = rw (lookup_removed a b ms t.rising) (removed_to (eqb
 
 stored_at : (a b : ℕ) (m : Mutex) (ms : List (Entry Mutex)) → unwrap_or (lookup b (stored a m ms)) (free Normal) ≡ (if eqb a b then m else mutex_at b ms)
 stored_at a b m ms = rw (lookup_stored a b m ms) (stored_to (eqb a b) (lookup b ms) m)
-
--- either way of a choice
-pub either : {X : Type 0} (P : X → Type 0) (b : Bool) (x y : X) → (b ≡ true → P x) → (b ≡ false → P y) → P (if b then x else y)
-either P true x y p q = p refl
-either P false x y p q = q refl
 
 -- each mutex after one has become another
 pub mutex_put : (a b : ℕ) (m : Mutex) (ms : List (Entry Mutex)) → IsTable ms → is_proper m ≡ true → mutex_at b (put a m ms) ≡ (if eqb a b then m else mutex_at b ms)

@@ -1,82 +1,40 @@
 -- What keeps threads and mutexes well-formed together.
-use Rattle.std.proofs.Common.{◌≡◌, ℕ, ◌-◌, ◌≤◌, ◌<◌, ◌==◌, nat_eq, Bool, true, false, eqb, eqb-true, ◌||◌, not, List, [], ◌∷◌, Option, Some, None, refl, ap, ◌∙◌, arith}
-use Rattle.std.specs.List.{list_any, list_all, find}
+use Rattle.std.proofs.Common.{◌≡◌, ℕ, ◌-◌, ◌≤◌, ◌<◌, ◌==◌, nat_eq, Bool, true, false, eqb, eqb-true, ◌||◌, not, List, [], ◌∷◌, Option, Some, None, refl, arith}
+use Rattle.std.specs.List.{list_all, find}
 use Rattle.std.proofs.lemmas.Bool.Decides.{nat_tests}
-use Rattle.std.proofs.lemmas.List.Folds.{list_any-append, list_all-append}
+use Rattle.std.proofs.lemmas.List.Folds.{list_all-append}
 use Rattle.ckrt_thread.specs.declared.records.Wait.{Wait}
 use Rattle.ckrt_thread.specs.declared.records.Reason.{Reason}
 use Rattle.ckrt_thread.specs.declared.records.Reason.TheVariants as reason
 use Rattle.ckrt_thread.specs.declared.records.Object.TheVariants as object
 use Rattle.ckrt_thread.specs.Waits.{is_for, is_reason_for, is_of, without}
-use Rattle.ckrt_thread.specs.State.{State, blocked, IsWellFormed, count_of, unwaited}
-use Rattle.ckrt_thread.proofs.Counting.{count_of_some}
-use Rattle.ckrt_mutex.specs.declared.address_map.Entry.{Entry}
+use Rattle.ckrt_thread.specs.State.{State, blocked}
+use Rattle.ckrt_objects.specs.declared.address_map.Entry.{Entry}
 use Rattle.ckrt_mutex.specs.declared.records.Kind.{Kind}
 use Rattle.ckrt_mutex.specs.declared.records.Mutex.{Mutex}
-use Rattle.ckrt_mutex.specs.AddressMap.{has_entry, has_room, removed}
-use Rattle.ckrt_mutex.specs.InUse.{addresses_in_use}
+use Rattle.ckrt_objects.specs.AddressMap.{has_entry, removed}
+use Rattle.ckrt_objects.specs.InUse.{is_name, names, is_named}
 use Rattle.ckrt_mutex.specs.Mutex.{free, owned, is_owned, is_owner, is_thread, is_proper, mutex_at, put, IsTable}
-use Rattle.ckrt_mutex.specs.Rows.{named, names, mutex_of, is_name, is_used, used_count, is_full}
+use Rattle.ckrt_mutex.specs.Rows.{named, mutex_of, is_used, used_count, is_full}
 use Rattle.ckrt_mutex.specs.WellFormed.{is_lock, is_retake, waits_at_owned, relocks_normal, retakes_of_another, can_retake, can_wake, meets_at, meets, AllMeet, IsWellFormedWith}
-use Rattle.ckrt_mutex.proofs.AddressMap.{entry_removed, entry_stored}
-use Rattle.ckrt_mutex.proofs.InUse.{any_in_use, room_in_use, few_kept, fewer_after, distinct_le}
-use Rattle.ckrt_mutex.proofs.Table.{mutex_put, table_put, either, owned_entry, proper_at, proper_unlocked}
+use Rattle.ckrt_objects.proofs.AddressMap.{entry_removed, entry_stored}
+use Rattle.ckrt_objects.proofs.Changes.{not_full, used_not_full, entry_in_use, count_removed, few_appended, count_unnamed, count_among}
+use Rattle.ckrt_objects.proofs.InUse.{any_in_use, few_kept}
+use Rattle.ckrt_objects.proofs.Waits.{either, all_true, IsAmong, any_among, among_without, found_all}
+use Rattle.ckrt_mutex.proofs.Table.{mutex_put, table_put, owned_entry, proper_at, proper_unlocked}
 
 -- HOW MANY ARE IN USE
 
-not_full : (a : ℕ) (s : State) (ms : List (Entry Mutex)) → is_full a s ms ≡ false → is_used a s ms ≡ false → used_count s ms < 256
-not_full a s ms f u = grind (arith, nat_tests)
-
-pub room_of_not_full : (a : ℕ) (s : State) (ms : List (Entry Mutex)) → IsTable ms → used_count s ms ≤ 256 → is_full a s ms ≡ false → has_room 256 a ms ≡ true
-room_of_not_full a s ms t few f = room_in_use named 256 a s.waits ms t.rising few (not_full a s ms f)
-
 pub owned_not_full : (a : ℕ) (s : State) (ms : List (Entry Mutex)) → is_owned (mutex_at a ms) ≡ true → is_full a s ms ≡ false
-owned_not_full a s ms o = grind (arith, nat_tests, owned_entry a ms o, any_in_use named a s.waits ms)
+owned_not_full a s ms o = used_not_full named 256 a s.waits ms (entry_in_use named a s.waits ms (owned_entry a ms o))
 
 entry_put : (a q : ℕ) (m : Mutex) (es : List (Entry Mutex)) → has_entry q (put a m es) ≡ true → (nat_eq q a || has_entry q es) ≡ true
 entry_put a q m es h = grind (arith, nat_tests, entry_removed a q es, entry_stored a q m es)
 
--- WAITS that pass a test
-
-pub all_not : {X : Type 0} (p : X → Bool) (xs : List X) → list_any p xs ≡ false → list_all (λ x. not (p x)) xs ≡ true
-all_not p [] h = refl
-all_not p (x ∷ xs) h = grind (arith, nat_tests, all_not p xs)
-
-none_of_all : {X : Type 0} (p : X → Bool) (xs : List X) → list_all (λ x. not (p x)) xs ≡ true → list_any p xs ≡ false
-none_of_all p [] h = refl
-none_of_all p (x ∷ xs) h = grind (arith, nat_tests, none_of_all p xs)
-
-all_any : {X : Type 0} (xs : List X) → list_all (λ x. true) xs ≡ true
-all_any [] = refl
-all_any (x ∷ xs) = all_any xs
-
-pub find_none : (p : Wait → Bool) (ws : List Wait) → find p ws ≡ None → list_all (λ w. not (p w)) ws ≡ true
-find_none p [] e = refl
-find_none p (w ∷ ws) e = grind (arith, nat_tests, find_none p ws)
-
-pub all_without : (p : Wait → Bool) (t : ℕ) (ws : List Wait) → list_all p ws ≡ true → list_all p (without t ws) ≡ true
-all_without p t [] h = refl
-all_without p t (w ∷ ws) h = grind (arith, nat_tests, all_without p t ws)
-
--- a thread that waits once does not wait after that
-pub gone : (t : ℕ) (ws : List Wait) → count_of (is_of t) ws ≤ 1 → list_all (λ w. not (is_of t w)) (without t ws) ≡ true
-gone t [] c = refl
-gone t (w ∷ ws) c = grind (arith, nat_tests, gone t ws, all_not (is_of t) ws, count_of_some (is_of t) ws)
-
-pub waits_once : (s : State) (t : ℕ) → IsWellFormed s → count_of (is_of t) s.waits ≤ 1
-waits_once s t k = grind (arith, nat_tests, k.placed t)
-
--- the waits of z are some of those of s
-abbrev pub IsAmong : List Wait → List Wait → Type 0
-IsAmong vs ws = (f : Wait → Bool) → list_all f ws ≡ true → list_all f vs ≡ true
-
-pub any_among : (vs ws : List Wait) → IsAmong vs ws → (f : Wait → Bool) → list_any f vs ≡ true → list_any f ws ≡ true
-any_among vs ws among f h = grind (arith, nat_tests, all_not f ws, among (λ w. not (f w)), none_of_all f vs)
-
 -- THE RULES for waits, after a mutex has become another
 
 module _ (rule : Mutex → Wait → Bool) (a : ℕ) (m : Mutex) (ms : List (Entry Mutex)) (t : IsTable ms) (c : is_proper m ≡ true)
-    (p : Wait → Bool) (kept : (w : Wait) → p w ≡ true → names a w ≡ true → rule (mutex_at a ms) w ≡ true → rule m w ≡ true) where
+    (p : Wait → Bool) (kept : (w : Wait) → p w ≡ true → names named a w ≡ true → rule (mutex_at a ms) w ≡ true → rule m w ≡ true) where
   meets_put : (o : Option ℕ) (w : Wait) → o ≡ named w → p w ≡ true → meets_at rule ms o w ≡ true → meets_at rule (put a m ms) o w ≡ true
   meets_put None w e q h = refl
   meets_put (Some b) w e q h =
@@ -91,7 +49,7 @@ module _ (rule : Mutex → Wait → Bool) (a : ℕ) (m : Mutex) (ms : List (Entr
 
 -- what a change of the mutex at an address keeps of a rule, for the waits that pass p
 abbrev Keeps : (Mutex → Wait → Bool) → ℕ → Mutex → List (Entry Mutex) → (Wait → Bool) → Type 0
-Keeps rule a m ms p = (w : Wait) → p w ≡ true → names a w ≡ true → rule (mutex_at a ms) w ≡ true → rule m w ≡ true
+Keeps rule a m ms p = (w : Wait) → p w ≡ true → names named a w ≡ true → rule (mutex_at a ms) w ≡ true → rule m w ≡ true
 
 -- the mutex at an address becomes another, and some waits may end
 well_formed_change : (a : ℕ) (m : Mutex) (s z : State) (ms : List (Entry Mutex)) (p : Wait → Bool) → IsWellFormedWith s ms → is_proper m ≡ true
@@ -108,19 +66,13 @@ well_formed_change a m s z ms p h c few among q k1 k2 k3 k4 = record {
 
 pub used_put : (a q : ℕ) (m : Mutex) (s z : State) (ms : List (Entry Mutex)) → IsAmong z.waits s.waits → is_used q z (put a m ms) ≡ true → (nat_eq q a || is_used q s ms) ≡ true
 used_put a q m s z ms among u =
-    grind (arith, nat_tests, any_in_use named q z.waits (put a m ms), any_in_use named q s.waits ms, entry_put a q m ms, any_among z.waits s.waits among (names q))
+    grind (arith, nat_tests, any_in_use named q z.waits (put a m ms), any_in_use named q s.waits ms, entry_put a q m ms, any_among z.waits s.waits among (names named q))
 
 pub few_put : (a : ℕ) (m : Mutex) (s z : State) (ms : List (Entry Mutex)) → used_count s ms ≤ 256 → is_full a s ms ≡ false → IsAmong z.waits s.waits → used_count z (put a m ms) ≤ 256
-few_put a m s z ms few f among = few_kept named 256 a s.waits z.waits ms (put a m ms) few (not_full a s ms f) (λ q u. used_put a q m s z ms among u)
-
-used_removed : (a q : ℕ) (s : State) (ms : List (Entry Mutex)) → is_used q s (removed a ms) ≡ true → is_used q s ms ≡ true
-used_removed a q s ms u =
-    grind (arith, nat_tests, any_in_use named q s.waits (removed a ms), any_in_use named q s.waits ms, entry_removed a q ms)
+few_put a m s z ms few f among = few_kept named 256 a s.waits z.waits ms (put a m ms) few (not_full named 256 a s.waits ms f) (λ q u. used_put a q m s z ms among u)
 
 pub few_removed : (a : ℕ) (s : State) (ms : List (Entry Mutex)) → used_count s ms ≤ 256 → used_count s (removed a ms) ≤ 256
-few_removed a s ms few =
-    let le = distinct_le (addresses_in_use named s.waits (removed a ms)) (addresses_in_use named s.waits ms) (λ q u. used_removed a q s ms u) in
-    omega (arith, le, few)
+few_removed a s ms few = omega (arith, count_removed named a s.waits s.waits ms (λ f h. h), few)
 
 -- a mutex becomes a thread's that does not wait
 pub well_formed_owned : (a : ℕ) (k : Kind) (n t : ℕ) (s z : State) (ms : List (Entry Mutex)) → IsWellFormedWith s ms → is_proper (owned k t n) ≡ true → is_full a s ms ≡ false
@@ -152,7 +104,7 @@ sought_named a (reason.Barrier b) n h = absurd (cc)
 sought_named a (reason.Read l) n h = absurd (cc)
 sought_named a (reason.Write l) n h = absurd (cc)
 
-pub none_sought : (a : ℕ) (ws : List Wait) → list_any (names a) ws ≡ false → list_all (λ w. not (is_for (object.Mutex a) w)) ws ≡ true
+pub none_sought : (a : ℕ) (ws : List Wait) → is_named named a ws ≡ false → list_all (λ w. not (is_for (object.Mutex a) w)) ws ≡ true
 none_sought a [] h = refl
 none_sought a (w ∷ ws) h = grind (arith, nat_tests, none_sought a ws, for_names a w.reason)
 
@@ -173,31 +125,14 @@ pub well_formed_less : (a t : ℕ) (s : State) (ms : List (Entry Mutex)) → IsW
 well_formed_less a t s ms h o l f =
     let m = mutex_at a ms in
     let n = owned m.kind t (m.count - 1) in
-    well_formed_change a n s s ms (λ _. true) h (proper_unlocked m t (proper_at a ms h.table) o l) (few_put a n s s ms h.at_most_256_in_use f (λ g x. x)) (λ g x. x) (all_any s.waits)
+    well_formed_change a n s s ms (λ _. true) h (proper_unlocked m t (proper_at a ms h.table) o l) (few_put a n s s ms h.at_most_256_in_use f (λ g x. x)) (λ g x. x) (all_true s.waits)
     (λ w _ _ _. grind (arith, nat_tests)) (λ w _ _ r. grind (arith, nat_tests, same_thread t w.thread m.owner o)) (λ w _ _ r. grind (arith, nat_tests, same_thread t w.thread m.owner o)) (λ w _ _ r. grind (arith, nat_tests, same_thread t w.thread m.owner o))
-
-or_false : (b : Bool) → (b || false) ≡ b
-or_false true = refl
-or_false false = refl
 
 -- A THREAD WAITS from now on, or no longer
 
 module _ (r : Reason) (t : ℕ) (d : Option ℕ) (s : State) (ms : List (Entry Mutex)) where
-  names_blocked : (q : ℕ) → list_any (names q) (blocked t r d s).waits ≡ (list_any (names q) s.waits || is_name q (mutex_of r))
-  names_blocked q = list_any-append (names q) s.waits (record { thread = t; reason = r; deadline = d } ∷ []) ∙ ap (λ b. list_any (names q) s.waits || b) (or_false (is_name q (mutex_of r)))
-
   meets_blocked : (rule : Mutex → Wait → Bool) → meets rule ms (record { thread = t; reason = r; deadline = d }) ≡ true → AllMeet rule s ms → AllMeet rule (blocked t r d s) ms
   meets_blocked rule n h = grind (arith, nat_tests, list_all-append (meets rule ms) s.waits (record { thread = t; reason = r; deadline = d } ∷ []), h, n)
-
-  used_blocked : (a q : ℕ) → mutex_of r ≡ Some a → is_used q (blocked t r d s) ms ≡ true → (nat_eq q a || is_used q s ms) ≡ true
-  used_blocked a q e u =
-      let n : list_any (names q) (blocked t r d s).waits ≡ (list_any (names q) s.waits || nat_eq q a) = rw e at (names_blocked q) in
-      grind (arith, nat_tests, any_in_use named q (blocked t r d s).waits ms, any_in_use named q s.waits ms, n, u)
-
-  used_unnamed : (q : ℕ) → mutex_of r ≡ None → is_used q (blocked t r d s) ms ≡ true → is_used q s ms ≡ true
-  used_unnamed q e u =
-      let n : list_any (names q) (blocked t r d s).waits ≡ (list_any (names q) s.waits || false) = rw e at (names_blocked q) in
-      grind (arith, nat_tests, any_in_use named q (blocked t r d s).waits ms, any_in_use named q s.waits ms, n, u)
 
   -- a wait that names a mutex, and meets the rules
   pub well_formed_blocked : (a : ℕ) → mutex_of r ≡ Some a → is_full a s ms ≡ false → IsWellFormedWith s ms
@@ -207,7 +142,7 @@ module _ (r : Reason) (t : ℕ) (d : Option ℕ) (s : State) (ms : List (Entry M
       → can_wake (mutex_at a ms) (record { thread = t; reason = r; deadline = d }) ≡ true → IsWellFormedWith (blocked t r d s) ms
   well_formed_blocked a e f h k1 k2 k3 k4 = record {
     table = h.table;
-    at_most_256_in_use = few_kept named 256 a s.waits (blocked t r d s).waits ms ms h.at_most_256_in_use (not_full a s ms f) (λ q u. used_blocked a q e u);
+    at_most_256_in_use = few_appended named 256 a s.waits (record { thread = t; reason = r; deadline = d }) ms e h.at_most_256_in_use f;
     nobody_waits_at_a_free_mutex = meets_blocked waits_at_owned (rw e k1) h.nobody_waits_at_a_free_mutex;
     only_a_normal_mutex_waits_for_its_owner = meets_blocked relocks_normal (rw e k2) h.only_a_normal_mutex_waits_for_its_owner;
     nobody_retakes_its_own_mutex = meets_blocked retakes_of_another (rw e k3) h.nobody_retakes_its_own_mutex;
@@ -218,21 +153,17 @@ module _ (r : Reason) (t : ℕ) (d : Option ℕ) (s : State) (ms : List (Entry M
   pub well_formed_unnamed : mutex_of r ≡ None → IsWellFormedWith s ms → IsWellFormedWith (blocked t r d s) ms
   well_formed_unnamed e h = record {
     table = h.table;
-    at_most_256_in_use = (let le = distinct_le (addresses_in_use named (blocked t r d s).waits ms) (addresses_in_use named s.waits ms) (λ q u. used_unnamed q e u) in omega (arith, le, h.at_most_256_in_use));
+    at_most_256_in_use = (let le = count_unnamed named s.waits (record { thread = t; reason = r; deadline = d }) ms e in omega (arith, le, h.at_most_256_in_use));
     nobody_waits_at_a_free_mutex = meets_blocked waits_at_owned (rw e refl) h.nobody_waits_at_a_free_mutex;
     only_a_normal_mutex_waits_for_its_owner = meets_blocked relocks_normal (rw e refl) h.only_a_normal_mutex_waits_for_its_owner;
     nobody_retakes_its_own_mutex = meets_blocked retakes_of_another (rw e refl) h.nobody_retakes_its_own_mutex;
     condition_waiters_can_retake = meets_blocked can_wake (rw e refl) h.condition_waiters_can_retake;
   }
 
-used_among : (q : ℕ) (s z : State) (ms : List (Entry Mutex)) → IsAmong z.waits s.waits → is_used q z ms ≡ true → is_used q s ms ≡ true
-used_among q s z ms among u =
-    grind (arith, nat_tests, any_in_use named q z.waits ms, any_in_use named q s.waits ms, any_among z.waits s.waits among (names q))
-
 well_formed_fewer : (s z : State) (ms : List (Entry Mutex)) → IsAmong z.waits s.waits → IsWellFormedWith s ms → IsWellFormedWith z ms
 well_formed_fewer s z ms among h = record {
   table = h.table;
-  at_most_256_in_use = (let le = distinct_le (addresses_in_use named z.waits ms) (addresses_in_use named s.waits ms) (λ q u. used_among q s z ms among u) in omega (arith, le, h.at_most_256_in_use));
+  at_most_256_in_use = (let le = count_among named z.waits s.waits ms among in omega (arith, le, h.at_most_256_in_use));
   nobody_waits_at_a_free_mutex = among (meets waits_at_owned ms) h.nobody_waits_at_a_free_mutex;
   only_a_normal_mutex_waits_for_its_owner = among (meets relocks_normal ms) h.only_a_normal_mutex_waits_for_its_owner;
   nobody_retakes_its_own_mutex = among (meets retakes_of_another ms) h.nobody_retakes_its_own_mutex;
@@ -245,31 +176,9 @@ well_formed_same s z ms e h = well_formed_fewer s z ms (λ f x. rw e x) h
 
 -- a wait has ended
 pub well_formed_unwaited : (t : ℕ) (s z : State) (ms : List (Entry Mutex)) → z.waits ≡ without t s.waits → IsWellFormedWith s ms → IsWellFormedWith z ms
-well_formed_unwaited t s z ms e h = well_formed_fewer s z ms (λ f x. rw e (all_without f t s.waits x)) h
+well_formed_unwaited t s z ms e h = well_formed_fewer s z ms (λ f x. rw e (among_without t s.waits f x)) h
 
 -- A CONDITION WAITER whose wait has been taken away can retake its mutex
-
-found_all : (p f : Wait → Bool) (ws : List Wait) (w : Wait) → find p ws ≡ Some w → list_all f ws ≡ true → f w ≡ true
-found_all p f [] w e h = absurd (cc)
-found_all p f (v ∷ ws) w e h = grind (arith, nat_tests, found_all p f ws w)
-
-pub found_any : (p f : Wait → Bool) (ws : List Wait) (w : Wait) → find p ws ≡ Some w → f w ≡ true → list_any f ws ≡ true
-found_any p f [] w e h = absurd (cc)
-found_any p f (v ∷ ws) w e h = grind (arith, nat_tests, found_any p f ws w)
-
-used_named : (a : ℕ) (s : State) (ms : List (Entry Mutex)) → list_any (names a) s.waits ≡ true → is_used a s ms ≡ true
-used_named a s ms n = grind (arith, nat_tests, any_in_use named a s.waits ms)
-
--- the mutex that a wait named can be had again
-pub not_full_after : (p : Wait → Bool) (s : State) (ms : List (Entry Mutex)) (w : Wait) (a : ℕ) → used_count s ms ≤ 256 → find p s.waits ≡ Some w → named w ≡ Some a
-    → is_full a (unwaited w.thread s) ms ≡ false
-not_full_after p s ms w a few e n =
-    let z = unwaited w.thread s in
-    let own : names a w ≡ true = rw n (grind (arith, nat_tests)) in
-    let used = used_named a s ms (found_any p (names a) s.waits w e own) in
-    let fewer : is_used a z ms ≡ false → used_count z ms < 256 =
-    λ u. fewer_after named 256 a s.waits z.waits ms few used (λ q x. used_among q s z ms (λ f y. all_without f w.thread s.waits y) x) u in
-    grind (arith, nat_tests, fewer)
 
 pub can_retake_after : (p : Wait → Bool) (s : State) (ms : List (Entry Mutex)) (w : Wait) (a b : ℕ) → IsWellFormedWith s ms → find p s.waits ≡ Some w → w.reason ≡ reason.Condition b a
     → can_retake w.thread (mutex_at a ms) ≡ true

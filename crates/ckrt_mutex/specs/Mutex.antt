@@ -1,11 +1,11 @@
 -- A mutex, and the table of mutexes (POSIX.1-2017, pthread_mutex_init and pthread_mutexattr_settype).
 use Rattle.std.specs.Prelude.{ℕ, ◌==◌, ◌≡◌, nat_lt, nat_le, Bool, true, false, ◌&&◌, ◌||◌, not, if◌then◌else◌, List, Option, Some, None, is_none, is_some, unwrap_or}
 use Rattle.std.specs.List.{list_all, filter}
-use Rattle.ckrt_mutex.specs.declared.address_map.Entry.{Entry}
+use Rattle.ckrt_objects.specs.declared.address_map.Entry.{Entry}
 use Rattle.ckrt_mutex.specs.declared.records.Kind.{Kind}
 use Rattle.ckrt_mutex.specs.declared.records.Kind.TheVariants.{Normal, Recursive, ErrorCheck}
 use Rattle.ckrt_mutex.specs.declared.records.Mutex.{Mutex}
-use Rattle.ckrt_mutex.specs.AddressMap.{lookup, removed, stored, is_rising}
+use Rattle.ckrt_objects.specs.AddressMap.{lookup, removed, stored, is_rising}
 
 abbrev pub is_normal : Kind → Bool
 is_normal Normal = true

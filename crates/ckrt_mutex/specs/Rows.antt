@@ -1,6 +1,5 @@
 -- What the calls on mutexes do. The thread t makes the call, a is the mutex's address.
-use Rattle.std.specs.Prelude.{ℕ, ◌+◌, ◌-◌, ◌==◌, nat_lt, nat_le, Bool, false, ◌&&◌, ◌||◌, not, if◌then◌else◌, List, Option, Some, None, is_none}
-use Rattle.std.specs.List.{list_any}
+use Rattle.std.specs.Prelude.{ℕ, ◌+◌, ◌-◌, ◌==◌, nat_lt, nat_le, Bool, ◌&&◌, ◌||◌, not, if◌then◌else◌, List, Option, Some, None, is_none}
 use Rattle.ckrt_thread.specs.declared.records.Wait.{Wait}
 use Rattle.ckrt_thread.specs.declared.records.Reason.{Reason}
 use Rattle.ckrt_thread.specs.declared.records.Reason.TheVariants as reason
@@ -12,12 +11,12 @@ use Rattle.ckrt_thread.specs.Granting.{GrantRule, grant_waiters}
 use Rattle.ckrt_thread.specs.Waits.{retake_code, is_moment}
 use Rattle.ckrt_thread.specs.declared.records.RetakeResult.{RetakeResult}
 use Rattle.ckrt_thread.specs.Abi.{A0}
-use Rattle.ckrt_mutex.specs.declared.address_map.Entry.{Entry}
+use Rattle.ckrt_objects.specs.declared.address_map.Entry.{Entry}
 use Rattle.ckrt_mutex.specs.declared.records.Kind.{Kind}
 use Rattle.ckrt_mutex.specs.declared.records.Kind.TheVariants.{Normal, Recursive, ErrorCheck}
 use Rattle.ckrt_mutex.specs.declared.records.Mutex.{Mutex}
 use Rattle.ckrt_thread.specs.Errors.{EPERM, EAGAIN, EBUSY, EINVAL, EDEADLK, ETIMEDOUT}
-use Rattle.ckrt_mutex.specs.InUse.{is_in_use, count_in_use}
+use Rattle.ckrt_objects.specs.InUse as in_use
 use Rattle.ckrt_mutex.specs.Mutex.{free, owned, is_owned, is_owner, is_available, is_normal, is_errorcheck, mutex_at, put}
 
 -- what a call answers and leaves
@@ -41,25 +40,19 @@ mutex_of _ = None
 abbrev pub named : Wait → Option ℕ
 named w = mutex_of w.reason
 
-abbrev pub is_name : ℕ → Option ℕ → Bool
-is_name a None = false
-is_name a (Some b) = a == b
-
-abbrev pub names : ℕ → Wait → Bool
-names a w = is_name a (named w)
-
+-- whether a wait names the mutex
 abbrev pub is_named : ℕ → State → Bool
-is_named a s = list_any (names a) s.waits
+is_named a s = in_use.is_named named a s.waits
 
 abbrev pub is_used : ℕ → State → List (Entry Mutex) → Bool
-is_used a s ms = is_in_use named a s.waits ms
+is_used a s ms = in_use.is_in_use named a s.waits ms
 
 abbrev pub used_count : State → List (Entry Mutex) → ℕ
-used_count s ms = count_in_use named s.waits ms
+used_count s ms = in_use.count_in_use named s.waits ms
 
 -- it is not in use, and 256 others are
 abbrev pub is_full : ℕ → State → List (Entry Mutex) → Bool
-is_full a s ms = not (is_used a s ms) && nat_le 256 (used_count s ms)
+is_full a s ms = in_use.is_full named 256 a s.waits ms
 
 -- owned, or named by a wait
 abbrev pub is_busy : ℕ → State → List (Entry Mutex) → Bool

@@ -1,12 +1,12 @@
 //! The entries of a table of mutexes. Some may be of free normal mutexes, which the table doesn't have: `kept` says
 //! what it has.
 ghost use Rattle.std.specs.Prelude.{◌≡◌, ◌≤◌, length, true};
-ghost use Rattle.ckrt_mutex.specs.AddressMap.{has_room, is_rising};
+ghost use Rattle.ckrt_objects.specs.AddressMap.{has_room, is_rising};
 ghost use Rattle.ckrt_mutex.specs.Mutex.{mutex_at, put, kept, is_proper, AreEntries};
 
-use crate::address_map::{Entry, get, store};
 use crate::records::{Kind, Mutex};
 use arrayvec::ArrayVec;
+use ckrt_objects::{Entry, get, store};
 
 /// The mutex at an address: free and normal where there is no entry.
 pub fn mutex_of(entries: &[Entry<Mutex>], address: u32) -> Mutex

@@ -2,12 +2,9 @@
 //! their companions).
 #![tactic(auto)]
 
-mod address_map;
 mod entries;
-mod in_use;
 mod mutexes;
 mod records;
 
-pub use address_map::Entry;
 pub use mutexes::Mutexes;
 pub use records::{Kind, Mutex};

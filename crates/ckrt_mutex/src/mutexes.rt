@@ -1,22 +1,24 @@
 //! The calls on mutexes.
 ghost use Rattle.std.specs.Prelude.{◌≡◌, ◌<◌, ◌≤◌, length, true, false, []};
 ghost use Rattle.ckrt_thread.specs.State.{is_live, is_waiting};
-ghost use Rattle.ckrt_mutex.specs.AddressMap.{has_room};
+ghost use Rattle.ckrt_objects.specs.AddressMap.{has_room};
 ghost use Rattle.ckrt_mutex.specs.Mutex.{mutex_at, put, free, is_proper, is_available, is_owned, IsTable};
 ghost use Rattle.ckrt_mutex.specs.Rows.{init_row, destroy_row, lock_row, timedlock_row, trylock_row, taken, unlock_row, released, retake_row, used_count, is_full, is_busy};
 ghost use Rattle.ckrt_mutex.specs.WellFormed.{IsWellFormedWith, can_retake};
 ghost use Rattle.ckrt_mutex.specs.declared.records.Kind.TheVariants.{Normal};
 
-use crate::address_map::{Entry, remove};
 use crate::entries::{kept_of, mutex_of, put_entry};
-use crate::in_use::{are_limit_in_use, is_full, is_named_by_wait};
 use crate::records::{Kind, Mutex};
 use arrayvec::ArrayVec;
+use ckrt_objects::{Entry, are_limit_in_use, is_full, is_named_by_wait, remove};
 use ckrt_thread::{
     CallResult, EAGAIN, EBUSY, EDEADLK, EINVAL, EPERM, ETIMEDOUT, MOMENT_END, Object, Reason,
     RetakeResult, Threads,
 };
 use std::marker::Model;
+
+/// How many mutexes may be in use.
+const LIMIT: usize = 256;
 
 /// The mutexes of a program, by their addresses. An address at which no mutex was initialised has a free normal one.
 /// At most 256 are in use: owned, or not normal, or named by a wait. A mutex that becomes free and normal keeps its entry
@@ -28,7 +30,7 @@ pub struct Mutexes {
 
 impl Model for Mutexes {
     ghost use Rattle.std.specs.Prelude.{List};
-    ghost use Rattle.ckrt_mutex.specs.declared.address_map.Entry.{Entry};
+    ghost use Rattle.ckrt_objects.specs.declared.address_map.Entry.{Entry};
     ghost use Rattle.ckrt_mutex.specs.declared.records.Mutex.{Mutex};
     ghost use Rattle.ckrt_mutex.specs.Mutex.{AreEntries, kept};
 
@@ -70,17 +72,17 @@ impl Mutexes {
         ensures { result ≡ is_full address threads.now self.now }
     {
         let entries = self.table.as_slice();
-        if !are_limit_in_use(threads, entries) {
+        if !are_limit_in_use(threads, entries, LIMIT) {
             return false;
         }
-        is_full(threads, kept_of(entries).as_slice(), address)
+        is_full(threads, kept_of(entries).as_slice(), address, LIMIT)
     }
 
     /// Whether the mutex is owned, or named by a wait.
     fn is_busy(&self, threads: &Threads, address: u32) -> bool
         ensures { result ≡ is_busy address threads.now self.now }
     {
-        self.mutex(address).is_owned() || is_named_by_wait(threads, address)
+        self.mutex(address).is_owned() || is_named_by_wait::<Mutex>(threads, address)
     }
 
     /// The mutex at an address becomes this one.

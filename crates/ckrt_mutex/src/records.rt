@@ -3,6 +3,9 @@ ghost use Rattle.std.specs.Prelude.{◌≡◌, ◌&&◌, Some, None};
 ghost use Rattle.ckrt_mutex.specs.Mutex.{free, owned, is_owned, is_owner, is_available, is_errorcheck, is_plain};
 ghost use Rattle.ckrt_mutex.specs.Rows.{kind_of};
 
+use ckrt_objects::Named;
+use ckrt_thread::{Reason, Wait};
+
 /// What becomes of a thread that locks a mutex that it owns (POSIX.1-2017, pthread_mutexattr_settype).
 #[derive(Clone, Copy, Debug, Default, Drop, PartialEq, Eq)]
 pub enum Kind {
@@ -98,5 +101,20 @@ impl Mutex {
         ensures { result ≡ is_plain self.now }
     {
         matches!(self.kind, Kind::Normal) && self.owner.is_none()
+    }
+}
+
+impl Named for Mutex {
+    ghost use Rattle.ckrt_mutex.specs.Rows.{named};
+
+    ghost named = { named };
+
+    fn named_by(wait: &Wait) -> Option<u32> {
+        match wait.reason {
+            Reason::Lock(address) => Some(address),
+            Reason::Retake(address, _) => Some(address),
+            Reason::Condition(_, address) => Some(address),
+            _ => None,
+        }
     }
 }

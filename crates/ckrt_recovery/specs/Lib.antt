@@ -6,5 +6,7 @@ pub mod Represents
 pub mod Opening
 pub mod View
 pub mod Parts
+pub mod Replies
+pub mod Transcript
 pub mod Fields
 pub mod Format

@@ -32,7 +32,7 @@ pub(crate) const FRESH_TABLES_SIZE: usize = 170;
 
 impl Config {
     /// The bytes of the guest's memory: page 0 has none.
-    pub(crate) fn memory_size(&self) -> usize
+    pub fn memory_size(&self) -> usize
         requires { is_valid self.now ≡ true }
         ensures { result ≡ memory_size self.now }
     {
@@ -48,7 +48,7 @@ impl Config {
     }
 
     /// The bytes that a disk needs: the superblock, two areas, two journals.
-    pub(crate) fn size_needed(&self) -> usize
+    pub fn size_needed(&self) -> usize
         requires { is_valid self.now ≡ true }
         ensures { result ≡ size_needed self.now }
     {

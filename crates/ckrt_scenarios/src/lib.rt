@@ -2,6 +2,8 @@
 #![tactic(auto)]
 
 #[cfg(test)]
+mod barriers;
+#[cfg(test)]
 mod calls;
 #[cfg(test)]
 mod conditions;
@@ -19,6 +21,8 @@ mod mutexes;
 mod power_loss;
 #[cfg(test)]
 mod recovery;
+#[cfg(test)]
+mod rwlocks;
 #[cfg(test)]
 mod service;
 #[cfg(test)]

@@ -218,7 +218,7 @@ const READERS: [u32; 41] = [
 ];
 
 /// Rounds of `auto` on each hart with this many steps, then these lines and a commit.
-fn rounds(
+pub fn rounds(
     lines: &mut Vec<u8>,
     alloc: Global,
     harts: u32,
@@ -238,7 +238,7 @@ fn rounds(
 }
 
 /// What the guest puts to the console for these lines, in hexadecimal digits.
-fn console(alloc: Global, words: &[u32], harts: u32, lines: &[u8]) -> Result<Vec<u8>, Fail> {
+pub fn console(alloc: Global, words: &[u32], harts: u32, lines: &[u8]) -> Result<Vec<u8>, Fail> {
     let config = Config {
         pages: 16,
         harts,
@@ -258,7 +258,7 @@ fn console(alloc: Global, words: &[u32], harts: u32, lines: &[u8]) -> Result<Vec
 }
 
 /// Harts, steps in a row, and rounds.
-const SCHEDULES: [(u32, u32, u32); 5] = [
+pub const SCHEDULES: [(u32, u32, u32); 5] = [
     (1, 3, 1200),
     (1, 50, 150),
     (2, 7, 400),

@@ -6,4 +6,5 @@ pub mod HartLemmas
 pub mod Known
 pub mod Changes
 pub mod Grants
+pub mod Waking
 pub mod DueWaits

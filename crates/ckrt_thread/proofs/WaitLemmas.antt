@@ -1,6 +1,6 @@
 -- The list of waits: a wait found, and a wait taken out.
 use Rattle.std.proofs.Common.{◌≡◌, ℕ, zero, suc, ◌+◌, ◌≤◌, ◌<◌, Bool, true, false, cond, eqb, List, [], ◌∷◌, length, map, Some, None, refl, ap, arith, ◌||◌}
-use Rattle.std.specs.List.{position, remove, list_any, list_all, find, IsDistinct, AllByRecursion}
+use Rattle.std.specs.List.{position, remove, list_any, list_all, find, filter, IsDistinct, AllByRecursion}
 use Rattle.std.proofs.lemmas.Bool.Decides.{nat_tests}
 use Rattle.std.proofs.lemmas.List.Recursion.{is_position_or_len}
 use Rattle.ckrt_thread.specs.declared.records.Wait.{Wait}
@@ -65,6 +65,11 @@ length-without t (w ∷ ws) h = grind (arith, nat_tests, length-without t ws)
 pub list_all-without : (p : Wait → Bool) (t : ℕ) (ws : List Wait) → list_all p ws ≡ true → list_all p (without t ws) ≡ true
 list_all-without p t [] h = refl
 list_all-without p t (w ∷ ws) h = grind (arith, nat_tests, list_all-without p t ws)
+
+-- a part of the list is no longer than the list
+pub length-part : (p : Wait → Bool) (ws : List Wait) → length (filter p ws) ≤ length ws
+length-part p [] = omega arith
+length-part p (w ∷ ws) = grind (arith, nat_tests, length-part p ws)
 
 -- the threads that wait
 abbrev pub ids : List Wait → List ℕ

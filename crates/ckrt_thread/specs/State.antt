@@ -217,3 +217,8 @@ woken t v s = record {
   harts = s.harts;
   hart_count = s.hart_count;
 }
+
+-- these waits end one after another, each with this result
+abbrev pub all_woken : ℕ → List Wait → State → State
+all_woken v [] s = s
+all_woken v (w ∷ ws) s = all_woken v ws (woken w.thread v s)

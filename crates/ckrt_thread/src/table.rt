@@ -1,10 +1,11 @@
 //! The table of threads.
-ghost use Rattle.std.specs.Prelude.{◌≡◌, ◌+◌, ◌≤◌, ◌<◌, length, slice_get, IfSome, IfOk, true, false, Some, None};
+ghost use Rattle.std.specs.Prelude.{◌≡◌, ◌+◌, ◌≤◌, ◌<◌, length, slice_get, IfSome, IfOk, true, false, Some, None, []};
 ghost use Rattle.std.specs.List.{find};
 ghost use Rattle.std.specs.Option.{option_flatten};
 ghost use Rattle.ckrt_thread.specs.Abi.{A0, A1};
-ghost use Rattle.ckrt_thread.specs.State.{IsWellFormed, thread_of, is_live, is_live_thread, is_any_live, is_initial, is_detached, regs_of, is_waiting, is_ready, first_waiter, is_joined, free_place, places, joiners, is_aligned, is_aligned_slot, fresh, with_thread_regs, set_word, with_slot, off_hart, placed_on, may_wait, blocked, unwaited, woken};
+ghost use Rattle.ckrt_thread.specs.State.{IsWellFormed, thread_of, is_live, is_live_thread, is_any_live, is_initial, is_detached, regs_of, is_waiting, is_ready, first_waiter, is_joined, free_place, places, joiners, is_aligned, is_aligned_slot, fresh, with_thread_regs, set_word, with_slot, off_hart, placed_on, may_wait, blocked, unwaited, woken, all_woken};
 ghost use Rattle.ckrt_thread.specs.Deadlines.{earliest_due};
+ghost use Rattle.ckrt_thread.specs.Granting.{queue_of};
 ghost use Rattle.ckrt_thread.specs.Waits.{is_of};
 ghost use Rattle.ckrt_thread.specs.declared.records.Thread.TheVariants as slots;
 ghost use Rattle.ckrt_thread.specs.Rows.{create_row, join_row, detach_row, finished};
@@ -20,7 +21,7 @@ use crate::slots::{
     any_live, first_thread, free_slot, is_live_slot, new_thread, set_regs_of, set_word_of,
 };
 use crate::wait_list::WaitList;
-use crate::waits::first_for;
+use crate::waits::{count_for, first_for};
 use ckrt_rv32i::Regs;
 use std::alloc::{AllocError, Global};
 use std::marker::Model;
@@ -199,6 +200,14 @@ impl Threads {
         first_for(self.waits.as_slice(), object)
     }
 
+    /// How many wait for the object.
+    pub fn waiter_count(&self, object: Object) -> usize
+        ensures count { result ≡ length (queue_of object self.now) }
+        ensures few { result ≤ 64 }
+    {
+        count_for(self.waits.as_slice(), object)
+    }
+
     /// The due wait that ends first at this moment: by deadline, then by thread.
     pub fn earliest_due(&self, now: u64) -> Option<Wait>
         ensures first { result ≡ earliest_due now self.now.waits }
@@ -291,6 +300,18 @@ impl Threads {
         self.known();
         self.take_wait(thread);
         self.set_result(thread, value);
+    }
+
+    /// All who wait for the object get this result in x10, in order of the start of waiting, and their waits end.
+    #[tactic(auto, using(crate::proofs::Waking::first_woken, crate::proofs::Waking::none_woken, crate::proofs::Grants::empty_queue))]
+    pub fn wake_all(&mut self, object: Object, value: u32)
+        ensures woken { self.new ≡ all_woken value (queue_of object self.old) self.old }
+        ensures queue { queue_of object self.new ≡ [] }
+    {
+        while let Some(wait) = self.first_waiter(object) {
+            self.known();
+            self.wake(wait.thread, value);
+        }
     }
 
     /// The thread's wait ends, if it waits, and x10 stays.

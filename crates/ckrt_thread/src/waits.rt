@@ -1,6 +1,6 @@
 //! Scans of the list of waits.
-ghost use Rattle.std.specs.Prelude.{◌≡◌};
-ghost use Rattle.std.specs.List.{position, find};
+ghost use Rattle.std.specs.Prelude.{◌≡◌, length};
+ghost use Rattle.std.specs.List.{position, find, filter};
 ghost use Rattle.ckrt_thread.specs.declared.records.Object.TheVariants.{Mutex};
 ghost use Rattle.ckrt_thread.specs.Waits.{is_for, is_of, without};
 
@@ -53,6 +53,13 @@ pub fn first_for(waits: &[Wait], object: Object) -> Option<Wait>
         Object::Mutex(address) => first_for_mutex(waits, address),
         _ => waits.iter().copied().find(|wait| waits_for(wait, object)),
     }
+}
+
+/// How many waits are for the object.
+pub fn count_for(waits: &[Wait], object: Object) -> usize
+    ensures { result ≡ length (filter (is_for object) waits.now) }
+{
+    waits.iter().filter(|wait| waits_for(wait, object)).count()
 }
 
 /// The place of the thread's wait.

@@ -1,7 +1,7 @@
-use Rattle.std.proofs.Common.{◌≡◌, ◌+◌, ◌<◌, length, Some, sym, ap, ◌∙◌, arith, refl}
+use Rattle.std.proofs.Common.{◌≡◌, length, sym, ap, ◌∙◌, arith, refl}
 use Rattle.ckrt_thread.specs.Deadlines.{due_waits}
 use Rattle.ckrt_thread.proofs.DueWaits.{length_due, none_due, nothing_first}
-use Rattle.ckrt_calls.proofs.Ticks.{due_first, ends_first, ends_none}
+use Rattle.ckrt_calls.proofs.Ticks.{due_first, due_timed, ends_first, ends_none}
 use Rattle.ckrt_calls.proofs.due.end_due_waits.Goals as goal
 
 pub loop-round-init : goal.loop-round-init
@@ -50,3 +50,6 @@ pub returns-clause-ended : goal.returns-clause-ended
 returns-clause-ended c =
     let none : length (due_waits c.args.now c.loop-round.tables.threads.waits) ≡ 0 = omega (arith, c.loop-round.invariant.left) in
     omega (arith, c.loop-round.invariant.counted, none)
+
+pub end_wait-requires-clause-timed : goal.end_wait-requires-clause-timed
+end_wait-requires-clause-timed c = due_timed c.args.now c.loop-round.tables.threads.waits c.in-Some.wait (sym c.in-Some.ensures.first)

@@ -5,5 +5,5 @@ use Rattle.ckrt_calls.proofs.events.close_input.Goals as goal
 
 pub returns-clause-well_formed : goal.returns-clause-well_formed
 returns-clause-well_formed c =
-    rw c.end_readers.ensures
-    (well_formed_closed c.args.tables.now (input_closed c.args.tables.now) refl c.requires.well_formed (rw c.end_readers.ensures at c.known.ensures))
+    rw c.wake_all.ensures.woken
+    (well_formed_closed c.args.tables.now (input_closed c.args.tables.now) refl c.requires.well_formed (rw c.wake_all.ensures.woken at c.known.ensures) (rw c.wake_all.ensures.woken at c.wake_all.ensures.queue))

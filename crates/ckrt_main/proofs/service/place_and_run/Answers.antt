@@ -1,29 +1,26 @@
-use Rattle.std.proofs.Common.{◌≡◌, true, sym, ap, ◌∙◌, subst}
-use Rattle.std.specs.Prelude.{is_none}
-use Rattle.std.specs.Io.KnownBytes.{Appends}
+use Rattle.std.proofs.Common.{sym}
 use Rattle.ckrt_events.specs.declared.event.Event.TheVariants.{Place, Run}
-use Rattle.ckrt_main.specs.View.{View, refusal_of}
-use Rattle.ckrt_main.specs.Transcript.{submit}
-use Rattle.ckrt_main.proofs.EventLemmas.{accepted_text, accepted_view}
-use Rattle.ckrt_main.proofs.OutputLemmas.{Appends-append}
+use Rattle.ckrt_recovery.specs.Transcript.{submit}
+use Rattle.ckrt_main.proofs.ResponseLemmas.{on_err, accepted_then, accepted_interrupted, refused_then, interrupted_before}
 use Rattle.ckrt_main.proofs.service.place_and_run.Goals as goal
 
-pub returns-in_ok-submit-2-clause-text : goal.returns-in_ok-submit-2-clause-text
-returns-in_ok-submit-2-clause-text g c =
-    let a = g.W.Write.contents c.args.writer.now in
-    let b = g.W.Write.contents c.submit.new.writer in
-    let d = g.W.Write.contents c.submit-then-branch.new.writer in
-    let v = c.args.session.now in
-    let place = Place c.args.hart c.args.thread in
-    let run = Run c.args.hart c.args.steps in
-    let yes : is_none (refusal_of c.args.session.now (Place c.args.hart c.args.thread)) ≡ true = sym c.in_ok-submit.ensures.accepted ∙ c.if-branch.true in
-    let last = subst (λ (w : View). Appends (g.W.Write.contents c.submit.new.writer) (g.W.Write.contents c.submit-then-branch.new.writer) (submit (Run c.args.hart c.args.steps) w).text) c.in_ok-submit.ensures.view c.in_ok-submit-2.ensures.text in
-    subst (Appends a d) (sym (accepted_text v place (refusal_of v place) (submit run) yes)) (Appends-append a b d (submit place v).text (submit run (submit place v).view).text c.in_ok-submit.ensures.text last)
+pub returns-in_err-submit-clause-interrupted : goal.returns-in_err-submit-clause-interrupted
+returns-in_err-submit-clause-interrupted g c = on_err _ _ (interrupted_before (Place c.args.hart c.args.thread) (submit (Run c.args.hart c.args.steps)) c.args.session.now c.submit.new.session c.in_err-submit.ensures.interrupted)
 
-pub returns-in_ok-submit-2-clause-view : goal.returns-in_ok-submit-2-clause-view
-returns-in_ok-submit-2-clause-view g c =
-    let v = c.args.session.now in
-    let place = Place c.args.hart c.args.thread in
-    let run = Run c.args.hart c.args.steps in
-    let yes : is_none (refusal_of c.args.session.now (Place c.args.hart c.args.thread)) ≡ true = sym c.in_ok-submit.ensures.accepted ∙ c.if-branch.true in
-    c.in_ok-submit-2.ensures.view ∙ (ap (λ (w : View). (submit (Run c.args.hart c.args.steps) w).view) c.in_ok-submit.ensures.view ∙ sym (accepted_view v place (refusal_of v place) (submit run) yes))
+pub returns-in_err-submit-2-clause-interrupted : goal.returns-in_err-submit-2-clause-interrupted
+returns-in_err-submit-2-clause-interrupted g c =
+    let accepted = rw c.if-branch.true at c.in_ok-submit.ensures.accepted in
+    on_err _ _ (accepted_interrupted (Place c.args.hart c.args.thread) (submit (Run c.args.hart c.args.steps)) (g.W.Write.contents c.args.writer.now) (g.W.Write.contents c.submit.new.writer) c.args.session.now c.submit.new.session c.submit-then-branch.new.session
+    (sym accepted) c.in_ok-submit.ensures.ok c.in_err-submit-2.ensures.interrupted)
+
+pub returns-in_ok-submit-2-clause-ok : goal.returns-in_ok-submit-2-clause-ok
+returns-in_ok-submit-2-clause-ok g c =
+    let accepted = rw c.if-branch.true at c.in_ok-submit.ensures.accepted in
+    accepted_then (Place c.args.hart c.args.thread) (submit (Run c.args.hart c.args.steps)) (g.W.Write.contents c.args.writer.now) (g.W.Write.contents c.submit.new.writer) (g.W.Write.contents c.submit-then-branch.new.writer) c.args.session.now c.submit.new.session c.submit-then-branch.new.session
+    (sym accepted) c.in_ok-submit.ensures.ok c.in_ok-submit-2.ensures.ok
+
+pub returns-else-branch-clause-ok : goal.returns-else-branch-clause-ok
+returns-else-branch-clause-ok g c =
+    let accepted = rw c.if-branch.false at c.in_ok-submit.ensures.accepted in
+    refused_then (Place c.args.hart c.args.thread) (submit (Run c.args.hart c.args.steps)) (g.W.Write.contents c.args.writer.now) (g.W.Write.contents c.submit.new.writer) c.args.session.now c.submit.new.session
+    (sym accepted) c.in_ok-submit.ensures.ok

@@ -1,32 +1,43 @@
-use Rattle.std.proofs.Common.{◌≡◌, ◌≤◌, ◌<◌, ◌+◌, ◌-◌, ℕ, List, ◌++◌, length, take, drop, min, arith, append_assoc, sym, ap, ◌∙◌, length-take, length-drop}
-use Rattle.ckrt_main.specs.View.{View, released_output}
-use Rattle.ckrt_main.specs.Replies.{out_line, out_lines}
-use Rattle.ckrt_main.specs.Transcript.{output}
-use Rattle.ckrt_main.proofs.OutputLemmas.{out_lines-step, Appends-append}
+use Rattle.std.proofs.Common.{◌≤◌, ◌∙◌, ◌-◌, drop, ap, subst, arith}
+use Rattle.std.specs.Io.KnownBytes.{Appends}
+use Rattle.ckrt_recovery.specs.Parts.{Parts}
+use Rattle.ckrt_recovery.specs.Replies.{out_lines}
+use Rattle.ckrt_recovery.specs.View.{view_of, confirmed_to}
+use Rattle.ckrt_main.proofs.AcceptLemmas.{accepts_confirmed}
+use Rattle.ckrt_main.proofs.ResponseLemmas.{responds_output}
 use Rattle.ckrt_main.proofs.service.write_output.Goals as goal
 
-step : (v : View) (at n : ℕ) (out more : List ℕ) → v.confirmed ≤ at → at < v.released → v.released ≤ v.confirmed + length v.held
-    → n ≡ length (take 64 (drop (at - v.confirmed) (released_output v))) → more ≡ out_line at (take 64 (drop (at - v.confirmed) (released_output v)))
-    → out ++ out_lines at (drop (at - v.confirmed) (released_output v)) ≡ (output v).text
-    → (at + n ≤ v.released) × ((out ++ more) ++ out_lines (at + n) (drop (at + n - v.confirmed) (released_output v)) ≡ (output v).text)
-step v at n out more from lt above hn hmore h =
-    let all : length (released_output v) ≡ min (v.released - v.confirmed) (length v.held) = length-take (v.released - v.confirmed) v.held in
-    let left : at - v.confirmed < length (released_output v) = omega arith in
-    let some : length (take 64 (drop (at - v.confirmed) (released_output v))) ≡ min 64 (length (drop (at - v.confirmed) (released_output v))) = length-take 64 (drop (at - v.confirmed) (released_output v)) in
-    let rest : length (drop (at - v.confirmed) (released_output v)) ≡ length (released_output v) - (at - v.confirmed) = length-drop (at - v.confirmed) (released_output v) in
-    let next : more ++ out_lines (at + n) (drop (at + n - v.confirmed) (released_output v)) ≡ out_lines at (drop (at - v.confirmed) (released_output v)) = rw (hn, hmore) (sym (out_lines-step v.confirmed at (released_output v) from left)) in
-    (omega arith, append_assoc out more (out_lines (at + n) (drop (at + n - v.confirmed) (released_output v))) ∙ (ap (λ (l : List ℕ). out ++ l) next ∙ h))
+pub returns-clause-ok : goal.returns-clause-ok
+returns-clause-ok g c =
+    let old = c.args.session.now in
+    let mid = c.take_output.follows.lender-at-none in
+    let new = c.confirm.new.self in
+    let a = g.W.Write.contents c.args.writer.now in
+    let b = g.W.Write.contents c.write_lines.new.writer in
+    let parts = c.take_output.follows.holds-at-none.parts in
+    let same = ap (λ (q : Parts _). q.confirmed) parts in
+    let released = c.released-released.ensures in
+    let le : mid.confirmed ≤ c.released-released.result = omega (arith, same, released, old.released_from) in
+    let text = ap (λ n. out_lines n c.take_output.result.1.now) c.take_output.ensures.offset ∙ ap (out_lines old.confirmed) c.take_output.ensures.bytes in
+    responds_output a b old mid new parts
+    (accepts_confirmed mid new (drop (c.released-released.result - mid.confirmed) mid.held.items) c.released-released.result le c.confirm.ensures.parts c.confirm.ensures.represents)
+    (c.confirm.ensures.view ∙ ap (λ n. confirmed_to (view_of mid) n) released)
+    (subst (Appends a b) text c.in_ok-write_lines.ensures.ok)
 
-pub loop-at-preserved : goal.loop-at-preserved
-loop-at-preserved g c =
-    let v = c.args.session.now in
-    let i = c.loop-at.invariant in
-    let lt : c.loop-at.at < c.args.session.now.released = omega (arith, c.released-end.ensures) in
-    let hn : c.len.result ≡ length (take 64 (drop (c.loop-at.at - c.args.session.now.confirmed) (released_output c.args.session.now))) = c.len.ensures.value ∙ ap length c.output_at-bytes.ensures in
-    let hmore : c.deref-in-loop-at.result.now ≡ out_line c.loop-at.at (take 64 (drop (c.loop-at.at - c.args.session.now.confirmed) (released_output c.args.session.now))) = c.deref-in-loop-at.ensures.0 ∙ (c.out.ensures ∙ ap (out_line c.loop-at.at) (c.deref.ensures.0 ∙ c.output_at-bytes.ensures)) in
-    let s = step v c.loop-at.at c.len.result i.written.0 c.deref-in-loop-at.result.now i.from lt c.confirmed-at.ensures.above hn hmore i.written.2 in
-    record {
-      from = omega (arith, i.from);
-      to = omega (arith, s.0, c.released-end.ensures);
-      written = (i.written.0 ++ c.deref-in-loop-at.result.now, Appends-append (g.W.Write.contents c.args.writer.now) (g.W.Write.contents c.loop-at.writer) (g.W.Write.contents c.write_reply.new.writer) i.written.0 c.deref-in-loop-at.result.now i.written.1 c.in_ok-write_reply.ensures.ok, s.1);
-    }
+pub returns-clause-failed : goal.returns-clause-failed
+returns-clause-failed g c = ap (λ (q : Parts _). q.failed) c.confirm.ensures.parts ∙ ap (λ (q : Parts _). q.failed) c.take_output.follows.holds-at-none.parts
+
+pub write_lines-requires : goal.write_lines-requires
+write_lines-requires g c =
+    let s = c.args.session.now in
+    omega (arith, s.released_from, s.released_to, s.output_end, c.take_output.ensures.offset, c.take_output.ensures.length)
+
+pub confirm-requires-clause-from : goal.confirm-requires-clause-from
+confirm-requires-clause-from g c =
+    let same = ap (λ (q : Parts _). q.confirmed) c.take_output.follows.holds-at-none.parts in
+    omega (arith, same, c.released-released.ensures, c.args.session.now.released_from)
+
+pub confirm-requires-clause-to : goal.confirm-requires-clause-to
+confirm-requires-clause-to g c =
+    let same = ap (λ (q : Parts _). q.released) c.take_output.follows.holds-at-none.parts in
+    omega (arith, same, c.released-released.ensures)

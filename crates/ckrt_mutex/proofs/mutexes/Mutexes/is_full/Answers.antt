@@ -1,6 +1,7 @@
 use Rattle.std.proofs.Common.{sym, ◌∙◌}
 use Rattle.ckrt_mutex.specs.Mutex.{is_kept}
-use Rattle.ckrt_mutex.proofs.Kept.{not_full_kept, rising_part}
+use Rattle.ckrt_objects.proofs.Parts.{rising_part}
+use Rattle.ckrt_mutex.proofs.Kept.{not_full_kept}
 use Rattle.ckrt_mutex.proofs.mutexes.Mutexes.is_full.Goals as goal
 
 pub returns-then-not-are_limit_in_use : goal.returns-then-not-are_limit_in_use

@@ -1,6 +1,7 @@
 use Rattle.std.proofs.Common.{arith}
 use Rattle.ckrt_mutex.specs.Mutex.{is_kept}
-use Rattle.ckrt_mutex.proofs.Kept.{table_kept, length_part}
+use Rattle.ckrt_objects.proofs.Parts.{length_part}
+use Rattle.ckrt_mutex.proofs.Kept.{table_kept}
 use Rattle.ckrt_mutex.proofs.mutexes.Mutexes.known.Goals as goal
 
 pub returns-clause-table : goal.returns-clause-table

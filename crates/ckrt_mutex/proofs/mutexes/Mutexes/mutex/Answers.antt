@@ -1,7 +1,7 @@
 use Rattle.std.proofs.Common.{sym, refl}
 use Rattle.ckrt_mutex.specs.declared.records.Kind.TheVariants.{Normal}
 use Rattle.ckrt_mutex.specs.Mutex.{free, is_proper}
-use Rattle.ckrt_mutex.proofs.AddressMap.{lookup_all}
+use Rattle.ckrt_objects.proofs.AddressMap.{lookup_all}
 use Rattle.ckrt_mutex.proofs.Kept.{mutex_kept}
 use Rattle.ckrt_mutex.proofs.mutexes.Mutexes.mutex.Goals as goal
 

@@ -1,0 +1,156 @@
+"""Measures `ckrt run` on a real file, alternating with what it is measured against, and prints ratios.
+
+Commits: lines with one event of seven bytes and a `commit`, all handed in at once; the time from one `ack` to a later one,
+for each commit between them, beside the median of the same four calls in plain Rust. Steps: a guest in Runs of 65,535 steps
+with a commit after every 100, from the first line to the end of the process, beside the machine alone. Recovery: a disk of
+256 pages whose journal of 65,536 bytes is full of the guest's Runs, from the start of the process to its end, beside reading
+the disk's bytes and the machine alone with the same Runs. Memory: the resident size of `ckrt run` on a disk of 1,024 pages,
+that of the process alone and that with its program and the C library.
+"""
+import os
+import re
+import statistics
+import subprocess
+import sys
+import time
+
+ROUNDS = 30
+STEP_ROUNDS = 5
+COMMITS = 40
+# The first commits to a disk that was just made are slow in both, and not counted.
+WARM_UP = 5
+JOURNAL = 1_048_576
+# Runs in a batch, and batches in a journal of 65,536 bytes: a Run has 4 bytes, and a batch 3 more.
+RUNS, BATCHES = 1_000, 16
+GUEST = "nqueens-big"
+
+
+def run(command, lines=""):
+    """What a run writes to standard output, and to standard error."""
+    done = subprocess.run(command, input=lines, capture_output=True, check=True, text=True)
+    return done.stdout, done.stderr
+
+
+def format_disk(ckrt, path, image, pages, journal=JOURNAL):
+    if os.path.exists(path):
+        os.remove(path)
+    run([ckrt, "format", path, image, "--pages", str(pages), "--journal", str(journal)])
+    with open(path, "rb") as file:
+        os.fsync(file.fileno())
+
+
+def commit_time(ckrt, path):
+    """The nanoseconds of a commit through the program, its lines included."""
+    lines = "in 0102030405\ncommit\n" * (WARM_UP + COMMITS)
+    with subprocess.Popen([ckrt, "run", path], stdin=subprocess.PIPE, stdout=subprocess.PIPE, text=True) as child:
+        child.stdin.write(lines)
+        child.stdin.close()
+        moments = [time.perf_counter_ns() for line in child.stdout if line.startswith("ack")]
+    return (moments[-1] - moments[WARM_UP - 1]) / COMMITS
+
+
+def plain_time(plain, path):
+    """The nanoseconds of the four calls of a commit in plain Rust."""
+    with open(path, "wb") as file:
+        file.write(bytes(JOURNAL))
+        file.flush()
+        os.fsync(file.fileno())
+    text = run([plain, "append", path, "7", str(WARM_UP + COMMITS)])[1]
+    os.remove(path)
+    return statistics.mean(int(word) for word in text.split()[WARM_UP:])
+
+
+def commits(plain, ckrt, image, folder):
+    disk, journal = os.path.join(folder, "service.disk"), os.path.join(folder, "service.journal")
+    ours, base, ratios = [], [], []
+    for turn in range(ROUNDS):
+        format_disk(ckrt, disk, image, 16)
+        if turn % 2 == 0:
+            base.append(plain_time(plain, journal))
+            ours.append(commit_time(ckrt, disk))
+        else:
+            ours.append(commit_time(ckrt, disk))
+            base.append(plain_time(plain, journal))
+        ratios.append(ours[-1] / base[-1])
+    os.remove(disk)
+    low, middle, high = statistics.quantiles(ratios, n=4)
+    print(f"commit: plain {statistics.median(base) / 1e3:.1f} us, ckrt run {statistics.median(ours) / 1e3:.1f} us, ratio {middle:.3f} ({low:.3f} to {high:.3f})")
+
+
+def service_rate(ckrt, path, image, runs):
+    """The steps a second of a guest through the program."""
+    format_disk(ckrt, path, image, 64)
+    lines = "place 0 1\n" + ("run 0 65535\n" * 100 + "commit\n") * (runs // 100 + 1)
+    start = time.perf_counter()
+    said = run([ckrt, "run", path], lines)[0]
+    seconds = time.perf_counter() - start
+    os.remove(path)
+    return sum(int(m) for m in re.findall(r"ran (\d+)", said)) / seconds
+
+
+def machine_rate(machine, image):
+    """The steps a second of the same guest on the machine alone, from the start of the process to its end."""
+    start = time.perf_counter()
+    said = run([machine, image, "64", "1", "65535"])[1]
+    seconds = time.perf_counter() - start
+    steps = int(re.search(r"steps (\d+)", said)[1])
+    return steps, steps / seconds
+
+
+def steps(ckrt, machine, image, folder):
+    disk = os.path.join(folder, "service.disk")
+    ours, base = [], []
+    for _ in range(STEP_ROUNDS):
+        count, rate = machine_rate(machine, image)
+        base.append(rate)
+        ours.append(service_rate(ckrt, disk, image, count // 65_535))
+    print(f"steps: machine alone {max(base) / 1e6:.0f} million a second, ckrt run {max(ours) / 1e6:.0f}, ratio {max(ours) / max(base):.3f}")
+
+
+def recovery(ckrt, machine, image, folder):
+    disk = os.path.join(folder, "service.disk")
+    count = machine_rate(machine, image)[0]
+    most = -(-count // (RUNS * BATCHES - 1))
+    format_disk(ckrt, disk, image, 256, 65_536)
+    run([ckrt, "run", disk], "place 0 1\n" + (f"run 0 {most}\n" * (RUNS - 1) + "commit\n") * BATCHES)
+    ours, base = [], []
+    for _ in range(STEP_ROUNDS):
+        start = time.perf_counter()
+        with open(disk, "rb") as file:
+            file.read()
+        run([machine, image, "256", "1", str(most)])
+        base.append(time.perf_counter() - start)
+        start = time.perf_counter()
+        run([ckrt, "run", disk])
+        ours.append(time.perf_counter() - start)
+    os.remove(disk)
+    print(f"recovery: bytes and steps {min(base) * 1e3:.0f} ms, ckrt run {min(ours) * 1e3:.0f} ms, ratio {min(ours) / min(base):.3f}")
+
+
+def resident(ckrt, path, image, pages):
+    """The resident KiB of a run that has placed a thread and committed: of the process alone, and with what it maps."""
+    format_disk(ckrt, path, image, pages)
+    with subprocess.Popen([ckrt, "run", path], stdin=subprocess.PIPE, stdout=subprocess.PIPE, text=True) as child:
+        child.stdin.write("place 0 1\nrun 0 65535\ncommit\n")
+        child.stdin.flush()
+        while not child.stdout.readline().startswith("ack"):
+            pass
+        with open(f"/proc/{child.pid}/status", encoding="utf-8") as file:
+            status = file.read()
+        child.stdin.close()
+    os.remove(path)
+    return [int(re.search(name + r":\s+(\d+) kB", status)[1]) for name in ("RssAnon", "VmHWM")]
+
+
+def main():
+    plain, ckrt, machine, guests, folder = sys.argv[1:6]
+    image = os.path.join(guests, GUEST + ".bin")
+    commits(plain, ckrt, image, folder)
+    steps(ckrt, machine, image, folder)
+    recovery(ckrt, machine, image, folder)
+    disk = os.path.join(folder, "service.disk")
+    alone, mapped = resident(ckrt, disk, image, 1_024)
+    print(f"resident with 1,024 pages: {alone} KiB, with program and C library {mapped} KiB")
+
+
+main()

@@ -1,0 +1,176 @@
+//! The calls on barriers.
+ghost use Rattle.std.specs.Prelude.{◌≡◌, true, false, []};
+ghost use Rattle.ckrt_thread.specs.State.{is_live, is_waiting};
+ghost use Rattle.ckrt_thread.specs.declared.records.CallResult.TheVariants.{Done};
+ghost use Rattle.ckrt_objects.specs.AddressMap.{has_entry, lookup};
+ghost use Rattle.ckrt_barrier.specs.Rows.{SERIAL_THREAD, waiters, has_waiters, is_full, init_row, destroy_row, wait_row};
+ghost use Rattle.ckrt_barrier.specs.WellFormed.{IsTable, IsWellFormedWith};
+
+use crate::barrier::{Barrier, MAX_BARRIERS, SERIAL_THREAD};
+use arrayvec::ArrayVec;
+use ckrt_objects::{Entry, get, remove, store};
+use ckrt_thread::{CallResult, EAGAIN, EBUSY, EINVAL, Object, Reason, ThreadId, Threads};
+use std::marker::Model;
+
+/// The barriers of a program, by their addresses: at most [`MAX_BARRIERS`].
+#[derive(Drop)]
+pub struct Barriers {
+    table: ArrayVec<Entry<Barrier>, MAX_BARRIERS>,
+}
+
+impl Model for Barriers {
+    ghost use Rattle.std.specs.Prelude.{List};
+    ghost use Rattle.ckrt_objects.specs.declared.address_map.Entry.{Entry};
+    ghost use Rattle.ckrt_barrier.specs.declared.barrier.Barrier.{Barrier};
+    ghost use Rattle.ckrt_barrier.specs.WellFormed.{IsTable};
+
+    ghost Value = { List (Entry Barrier) };
+
+    ghost view = { λ a. a.table.items };
+
+    ghost invariant = { λ a. IsTable a.table.items };
+}
+
+/// Whether a thread waits at the barrier.
+fn has_waiters(threads: &Threads, address: u32) -> bool
+    ensures { result ≡ has_waiters address threads.now }
+{
+    threads.first_waiter(Object::Barrier(address)).is_some()
+}
+
+impl Barriers {
+    /// There is no barrier.
+    pub fn new() -> Self
+        ensures { result ≡ [] }
+    {
+        Barriers {
+            table: ArrayVec::new(),
+        }
+    }
+
+    /// What always holds of the table, for a proof.
+    pub fn known(&self)
+        ensures { IsTable self.now }
+    {
+        let _ = self.table.as_slice();
+    }
+
+    /// The barrier at an address, if there is one.
+    pub fn barrier(&self, address: u32) -> Option<Barrier>
+        ensures { result ≡ lookup address self.now }
+    {
+        get(self.table.as_slice(), address)
+    }
+
+    /// Whether there is a barrier at an address.
+    #[tactic(auto, using(ckrt_objects::proofs::InUse::lookup_is_some))]
+    fn exists(&self, address: u32) -> bool
+        ensures { result ≡ has_entry address self.now }
+    {
+        self.barrier(address).is_some()
+    }
+
+    /// Whether there is no barrier at the address, and there are 64 others.
+    fn is_full(&self, address: u32) -> bool
+        ensures { result ≡ is_full address self.now }
+    {
+        self.table.is_full() && !self.exists(address)
+    }
+
+    /// Initialises a barrier at which so many threads meet (POSIX.1-2017, pthread_barrier_init). EBUSY where threads wait
+    /// at it; EINVAL where the count is 0; EAGAIN where there is none and there are 64 others; else 0.
+    pub fn init(&mut self, threads: &Threads, address: u32, count: u32) -> CallResult
+        requires well_formed { IsWellFormedWith threads.now self.old }
+        ensures well_formed { IsWellFormedWith threads.now self.new }
+        ensures result { result ≡ (init_row address count threads.now self.old).result }
+        ensures threads { threads.now ≡ (init_row address count threads.now self.old).threads }
+        ensures barriers { self.new ≡ (init_row address count threads.now self.old).barriers }
+    {
+        self.set_count(threads, address, count)
+    }
+
+    /// The row of `init`.
+    fn set_count(&mut self, threads: &Threads, address: u32, count: u32) -> CallResult
+        ensures result { result ≡ (init_row address count threads.now self.old).result }
+        ensures threads { threads.now ≡ (init_row address count threads.now self.old).threads }
+        ensures barriers { self.new ≡ (init_row address count threads.now self.old).barriers }
+    {
+        if has_waiters(threads, address) {
+            return CallResult::Done(EBUSY);
+        }
+        if count == 0 {
+            return CallResult::Done(EINVAL);
+        }
+        if self.is_full(address) {
+            return CallResult::Done(EAGAIN);
+        }
+        store(&mut self.table, address, Barrier { count });
+        CallResult::Done(0)
+    }
+
+    /// Destroys a barrier (POSIX.1-2017, pthread_barrier_destroy). EBUSY where threads wait at it; EINVAL where there is
+    /// none; else 0.
+    pub fn destroy(&mut self, threads: &Threads, address: u32) -> CallResult
+        requires well_formed { IsWellFormedWith threads.now self.old }
+        ensures well_formed { IsWellFormedWith threads.now self.new }
+        ensures result { result ≡ (destroy_row address threads.now self.old).result }
+        ensures threads { threads.now ≡ (destroy_row address threads.now self.old).threads }
+        ensures barriers { self.new ≡ (destroy_row address threads.now self.old).barriers }
+    {
+        self.forget(threads, address)
+    }
+
+    /// The row of `destroy`.
+    fn forget(&mut self, threads: &Threads, address: u32) -> CallResult
+        ensures result { result ≡ (destroy_row address threads.now self.old).result }
+        ensures threads { threads.now ≡ (destroy_row address threads.now self.old).threads }
+        ensures barriers { self.new ≡ (destroy_row address threads.now self.old).barriers }
+    {
+        if has_waiters(threads, address) {
+            return CallResult::Done(EBUSY);
+        }
+        if !self.exists(address) {
+            return CallResult::Done(EINVAL);
+        }
+        remove(&mut self.table, address);
+        CallResult::Done(0)
+    }
+
+    /// Waits at a barrier until as many threads as its count have come (POSIX.1-2017, pthread_barrier_wait). EINVAL where
+    /// there is none. The last to come gets [`SERIAL_THREAD`] at once, and each of the others 0 as its wait ends; the
+    /// barrier is then as after `init`.
+    pub fn wait(&self, threads: &mut Threads, thread: ThreadId, address: u32) -> CallResult
+        requires live { is_live threads.old thread ≡ true }
+        requires free { is_waiting threads.old thread ≡ false }
+        requires well_formed { IsWellFormedWith threads.old self.now }
+        ensures well_formed { IsWellFormedWith threads.new self.now }
+        ensures as_after_init { result ≡ Done SERIAL_THREAD → waiters address threads.new ≡ [] }
+        ensures result { result ≡ (wait_row thread address threads.old self.now).result }
+        ensures threads { threads.new ≡ (wait_row thread address threads.old self.now).threads }
+        ensures barriers { self.now ≡ (wait_row thread address threads.old self.now).barriers }
+    {
+        threads.known();
+        self.meet(threads, thread, address)
+    }
+
+    /// The row of `wait`.
+    fn meet(&self, threads: &mut Threads, thread: ThreadId, address: u32) -> CallResult
+        requires live { is_live threads.old thread ≡ true }
+        requires free { is_waiting threads.old thread ≡ false }
+        ensures as_after_init { result ≡ Done SERIAL_THREAD → waiters address threads.new ≡ [] }
+        ensures result { result ≡ (wait_row thread address threads.old self.now).result }
+        ensures threads { threads.new ≡ (wait_row thread address threads.old self.now).threads }
+        ensures barriers { self.now ≡ (wait_row thread address threads.old self.now).barriers }
+    {
+        let Some(barrier) = self.barrier(address) else {
+            return CallResult::Done(EINVAL);
+        };
+        let waiting = threads.waiter_count(Object::Barrier(address)) as u32;
+        if waiting + 1 == barrier.count {
+            threads.wake_all(Object::Barrier(address), 0);
+            return CallResult::Done(SERIAL_THREAD);
+        }
+        threads.block(thread, Reason::Barrier(address), None);
+        CallResult::Blocked
+    }
+}

@@ -1,0 +1,42 @@
+-- What the program prints for a fault.
+use Rattle.std.specs.Prelude.{ℕ, List, [], ◌∷◌, ◌++◌, codes}
+use Rattle.ckrt_jobs.specs.declared.fault.JobFault.{JobFault}
+use Rattle.ckrt_jobs.specs.declared.fault.JobFault.TheVariants as job
+use Rattle.ckrt_recovery.specs.declared.fault.FormatFault.{FormatFault}
+use Rattle.ckrt_recovery.specs.declared.fault.FormatFault.TheVariants as format
+use Rattle.ckrt_recovery.specs.declared.fault.RecoverFault.{RecoverFault}
+use Rattle.ckrt_recovery.specs.declared.fault.RecoverFault.TheVariants as recover
+use Rattle.ckrt_main.specs.declared.fault.ServeFault.{ServeFault}
+use Rattle.ckrt_main.specs.declared.fault.ServeFault.TheVariants as serve
+
+abbrev pub name_of_format : FormatFault → List ℕ
+name_of_format format.AlreadyFormatted = codes "AlreadyFormatted"
+name_of_format format.TooSmall = codes "TooSmall"
+name_of_format format.BadConfig = codes "BadConfig"
+name_of_format format.ImageTooLong = codes "ImageTooLong"
+name_of_format format.Device = codes "Device"
+name_of_format format.OutOfMemory = codes "OutOfMemory"
+
+abbrev pub name_of_recover : RecoverFault → List ℕ
+name_of_recover recover.NotFormatted = codes "NotFormatted"
+name_of_recover recover.Version = codes "Version"
+name_of_recover recover.Damaged = codes "Damaged"
+name_of_recover recover.Device = codes "Device"
+name_of_recover recover.OutOfMemory = codes "OutOfMemory"
+
+abbrev pub name_of_serve : ServeFault → List ℕ
+name_of_serve serve.Read = codes "Read"
+name_of_serve serve.Write = codes "Write"
+name_of_serve serve.OutOfMemory = codes "OutOfMemory"
+name_of_serve serve.Format = codes "Format"
+
+abbrev pub name_of : JobFault → List ℕ
+name_of job.File = codes "File"
+name_of job.OutOfMemory = codes "OutOfMemory"
+name_of (job.Format f) = name_of_format f
+name_of (job.Recover f) = name_of_recover f
+name_of (job.Serve f) = name_of_serve f
+
+-- the line on standard error
+abbrev pub fault_line : JobFault → List ℕ
+fault_line f = codes "ckrt: " ++ (name_of f ++ 10 ∷ [])

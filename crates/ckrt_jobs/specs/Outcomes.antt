@@ -1,0 +1,66 @@
+-- How a job ends.
+use Rattle.std.specs.Prelude.{ℕ, ◌+◌, length, List, [], ◌∷◌, ◌++◌, codes, decimal, Result, Ok, Err}
+use Rattle.ckrt_jobs.specs.declared.fault.JobFault.{JobFault}
+use Rattle.ckrt_jobs.specs.declared.fault.JobFault.TheVariants as job
+use Rattle.ckrt_jobs.specs.declared.fault.ProgramFault.{ProgramFault}
+use Rattle.ckrt_jobs.specs.declared.fault.ProgramFault.TheVariants as program
+use Rattle.ckrt_recovery.specs.declared.fault.FormatFault.TheVariants as format
+use Rattle.ckrt_recovery.specs.declared.fault.RecoverFault.{RecoverFault}
+use Rattle.ckrt_recovery.specs.Recovery.{AgreesOnFault, Recovered, room_of}
+use Rattle.ckrt_recovery.specs.Layout.{size_needed}
+use Rattle.ckrt_recovery.specs.View.{View}
+use Rattle.ckrt_recovery.specs.declared.config.Config.{Config}
+use Rattle.ckrt_words.specs.Jobs.{Formatting}
+
+-- the faults that come before the disk is asked for: configuration, image, and memory for it
+abbrev pub IsBeforeDisk : JobFault → Type 0
+IsBeforeDisk job.OutOfMemory = Unit {0}
+IsBeforeDisk (job.Format format.BadConfig) = Unit {0}
+IsBeforeDisk (job.Format format.ImageTooLong) = Unit {0}
+IsBeforeDisk _ = ⊥
+
+-- the faults that come before a byte is read or written
+abbrev pub IsBeforeService : JobFault → Type 0
+IsBeforeService (job.Recover f) = Unit {0}
+IsBeforeService _ = ⊥
+
+-- the line on standard output for a disk that was made
+abbrev pub formatted_line : ℕ → List ℕ
+formatted_line size = codes "formatted " ++ (decimal size ++ 10 ∷ [])
+
+-- 0 where all is done, 2 for words that name no job, else 1
+abbrev pub status_of : Result (Unit {0}) ProgramFault → ℕ
+status_of (Ok _) = 0
+status_of (Err (program.Usage text)) = 2
+status_of (Err (program.Job fault)) = 1
+
+-- words that name no job
+abbrev pub IsUsage : ProgramFault → Type 0
+IsUsage (program.Usage text) = Unit {0}
+IsUsage (program.Job fault) = ⊥
+
+-- the view of a session that was just recovered: nothing is pending, and all of the held output is released
+abbrev pub view_after_recovery : Recovered → View
+view_after_recovery r = record {
+  state = r.state;
+  count = r.count;
+  pending = 0;
+  room = room_of r.journal;
+  generation = r.generation;
+  held = r.held;
+  confirmed = r.confirmed;
+  released = r.confirmed + length r.held;
+}
+
+-- a fault of recovery is the one that the content has
+abbrev pub AgreesOnJob : JobFault → Result Recovered RecoverFault → Type 0
+AgreesOnJob (job.Recover f) found = AgreesOnFault f found
+AgreesOnJob _ found = Unit {0}
+
+-- what a disk is made with
+abbrev pub config_of : Formatting → Config
+config_of f = record { pages = f.pages; harts = f.harts; journal = f.journal }
+
+-- the line for a disk that was made as the words ask
+abbrev pub made_line : Formatting → List ℕ
+made_line f = formatted_line (size_needed (config_of f))

@@ -1,0 +1,58 @@
+//! Running a disk.
+ghost use Rattle.std.specs.Prelude.{◌≡◌, Ok, IfOk, IfErr};
+ghost use Rattle.ckrt_disk.specs.Disk.{HasFailed};
+ghost use Rattle.ckrt_main.specs.Service.{Served};
+ghost use Rattle.ckrt_recovery.specs.Recovery.{Recovered, recovery_of};
+ghost use Rattle.ckrt_jobs.specs.Outcomes.{AgreesOnJob, IsBeforeService, view_after_recovery};
+
+use crate::fault::JobFault;
+use ckrt_disk::Disk;
+use ckrt_main::serve;
+use ckrt_recovery::recover;
+use std::alloc::Global;
+use std::io::{Read, Write};
+
+/// The disk that was handed in, and why its service ended early or didn't begin.
+#[derive(Drop)]
+pub struct Unserved<D> {
+    pub disk: D,
+    pub fault: JobFault,
+}
+
+/// Recovers a disk, and answers the lines of a reader, up to its end or a line `quit`. The disk comes back.
+///
+/// # Errors
+///
+/// `Recover` where nothing is recovered, before a byte is read or written; `Serve` where the reader or the writer failed.
+pub fn run_disk<D: Disk + Drop, R: Read, W: Write>(
+    alloc: Global,
+    disk: D,
+    reader: &mut R,
+    writer: &mut W,
+) -> Result<D, Unserved<D>>
+    ensures served { IfOk result (λ end. D.is_honest end → ¬ HasFailed (D.failures disk) (D.failures end) → (r : Recovered) → recovery_of (D.content disk) ≡ Ok r → Served (W.contents writer.old) (W.contents writer.new) (R.remaining reader.old) (R.remaining reader.new) (view_after_recovery r)) }
+    ensures unrecovered { IfErr result (λ u. D.is_honest u.disk → AgreesOnJob u.fault (recovery_of (D.content disk))) }
+    ensures unread { IfErr result (λ u. IsBeforeService u.fault → reader.new ≡ reader.old) }
+    ensures unwritten { IfErr result (λ u. IsBeforeService u.fault → writer.new ≡ writer.old) }
+    ensures honest { IfOk result (λ end. D.is_honest end → D.is_honest disk) }
+    ensures honest_err { IfErr result (λ u. D.is_honest u.disk → D.is_honest disk) }
+    ensures size { IfOk result (λ end. D.size end ≡ D.size disk) }
+    ensures size_err { IfErr result (λ u. D.size u.disk ≡ D.size disk) }
+{
+    let mut session = match recover(alloc, disk) {
+        Ok(session) => session,
+        Err(unrecovered) => {
+            return Err(Unserved {
+                disk: unrecovered.disk,
+                fault: JobFault::Recover(unrecovered.fault),
+            });
+        }
+    };
+    match serve(reader, writer, &mut session) {
+        Ok(()) => Ok(session.into_disk()),
+        Err(fault) => Err(Unserved {
+            disk: session.into_disk(),
+            fault: JobFault::Serve(fault),
+        }),
+    }
+}

@@ -1,0 +1,83 @@
+//! Disks and images that are files of the system.
+ghost use Rattle.std.specs.Prelude.{◌≡◌, None, IfErr};
+
+use crate::fault::JobFault;
+use crate::filling::fill;
+use crate::sources::Sources;
+use ckrt_disk::{FileDisk, Holds, SystemFile};
+use std::fs::{File, Files, OpenOptions};
+use std::io;
+
+/// Opens a file to read and write it, and locks it: a second program over the same disk is refused at once.
+fn open_locked<R: Files<File = File>>(rt: &R, path: &str, is_new: bool) -> io::Result<File> {
+    let file = OpenOptions::new()
+        .read(true)
+        .write(true)
+        .create(is_new)
+        .open(rt, path)?;
+    file.try_lock()?;
+    Ok(file)
+}
+
+/// The disk of a file of the system that is there.
+pub(crate) fn open_disk<R: Files<File = File>, H: Holds>(
+    rt: &R,
+    path: &str,
+) -> Result<FileDisk<SystemFile<H>>, JobFault>
+    ensures { IfErr result (λ e. e ≡ JobFault.File) }
+{
+    let opened = open_locked(rt, path, false);
+    match opened {
+        Ok(file) => disk_of(file),
+        Err(_) => Err(JobFault::File),
+    }
+}
+
+/// The disk of an open file.
+fn disk_of<H: Holds>(file: File) -> Result<FileDisk<SystemFile<H>>, JobFault>
+    ensures { IfErr result (λ e. e ≡ JobFault.File) }
+{
+    match file.metadata() {
+        Ok(metadata) => Ok(FileDisk::new(SystemFile::new(file), metadata.len() as usize)),
+        Err(_) => Err(JobFault::File),
+    }
+}
+
+/// A file of at least so many bytes: one that is missing or shorter is filled with zero bytes.
+fn open_filled<R: Files<File = File>>(rt: &R, path: &str, size: usize) -> io::Result<File> {
+    let file = open_locked(rt, path, true)?;
+    let length = file.metadata()?.len() as usize;
+    fill(&file, length, size)?;
+    Ok(file)
+}
+
+/// An image and a disk by their paths.
+#[derive(Drop)]
+pub(crate) struct SystemSources<'a, R> {
+    pub(crate) rt: &'a R,
+    pub(crate) image: &'a str,
+    pub(crate) disk: &'a str,
+    pub(crate) is_disk_touched: bool,
+}
+
+impl<'a, R: Files<File = File>, H: Holds> Sources<File, FileDisk<SystemFile<H>>>
+    for SystemSources<'a, R> {
+    ghost image_bytes = { λ _. None };
+
+    ghost is_disk_touched = { λ s. s.is_disk_touched };
+
+    fn open_image(&mut self) -> Result<File, JobFault> {
+        match OpenOptions::new().read(true).open(self.rt, self.image) {
+            Ok(file) => Ok(file),
+            Err(_) => Err(JobFault::File),
+        }
+    }
+
+    fn open_disk(&mut self, size: usize) -> Result<FileDisk<SystemFile<H>>, JobFault> {
+        self.is_disk_touched = true;
+        match open_filled(self.rt, self.disk, size) {
+            Ok(file) => disk_of(file),
+            Err(_) => Err(JobFault::File),
+        }
+    }
+}

@@ -1,0 +1,3 @@
+pub mod AddressMap
+pub mod Granting
+pub mod InUse

@@ -1,0 +1,82 @@
+//! A map from guest addresses, with its entries by rising address.
+ghost use Rattle.std.specs.Prelude.{◌≡◌, ◌≤◌, length, true, slice_get};
+ghost use Rattle.ckrt_objects.specs.AddressMap.{lookup, removed, stored, is_rising, has_room, place_in, is_entry_of};
+
+use arrayvec::ArrayVec;
+
+/// What lies at an address of the guest.
+#[derive(Clone, Copy, Debug, Default, Drop)]
+pub struct Entry<T> {
+    /// Any number below 2^32.
+    pub address: u32,
+    /// What lies there.
+    pub value: T,
+}
+
+/// How many entries have a lower address.
+#[tactic(auto, using(crate::proofs::AddressMap::place_of_point))]
+fn place_of<T>(entries: &[Entry<T>], address: u32) -> usize
+    requires { is_rising entries.now ≡ true }
+    ensures place { result ≡ place_in address entries.now }
+    ensures within { result ≤ length entries.now }
+{
+    entries.partition_point(|entry| entry.address < address)
+}
+
+/// Whether the entry at a place is the address's.
+fn is_entry_at<T>(entries: &[Entry<T>], place: usize, address: u32) -> bool
+    ensures { result ≡ is_entry_of address (slice_get entries.now place) }
+{
+    match entries.get(place) {
+        Some(entry) => address == entry.address,
+        None => false,
+    }
+}
+
+/// What the map has at an address.
+#[tactic(auto, using(crate::proofs::AddressMap::lookup_there, crate::proofs::AddressMap::lookup_nowhere))]
+pub fn get<T: Copy>(entries: &[Entry<T>], address: u32) -> Option<T>
+    requires { is_rising entries.now ≡ true }
+    ensures { result ≡ lookup address entries.now }
+{
+    let place = place_of(entries, address);
+    if is_entry_at(entries, place, address) {
+        Some(entries[place].value)
+    } else {
+        None
+    }
+}
+
+/// The map has this value at an address from now on.
+#[tactic(auto, using(crate::proofs::AddressMap::stored_there, crate::proofs::AddressMap::stored_new, crate::proofs::AddressMap::room_for_new))]
+pub fn store<T: Copy + Default + Drop, const N: usize>(
+    entries: &mut ArrayVec<Entry<T>, N>,
+    address: u32,
+    value: T,
+)
+    requires rising { is_rising entries.old.items ≡ true }
+    requires room { has_room N address entries.old.items ≡ true }
+    ensures { entries.new.items ≡ stored address value entries.old.items }
+{
+    let place = place_of(entries.as_slice(), address);
+    if is_entry_at(entries.as_slice(), place, address) {
+        entries[place] = Entry { address, value };
+    } else {
+        entries.insert(place, Entry { address, value });
+    }
+}
+
+/// The map has nothing at an address from now on.
+#[tactic(auto, using(crate::proofs::AddressMap::removed_there, crate::proofs::AddressMap::removed_nowhere))]
+pub fn remove<T: Copy + Default + Drop, const N: usize>(
+    entries: &mut ArrayVec<Entry<T>, N>,
+    address: u32,
+)
+    requires { is_rising entries.old.items ≡ true }
+    ensures { entries.new.items ≡ removed address entries.old.items }
+{
+    let place = place_of(entries.as_slice(), address);
+    if is_entry_at(entries.as_slice(), place, address) {
+        entries.remove(place);
+    }
+}

@@ -1,0 +1,5 @@
+pub mod Counts
+pub mod Holders
+pub mod Table
+pub mod WellFormed
+pub mod Rows

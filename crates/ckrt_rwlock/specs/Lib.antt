@@ -1,0 +1,3 @@
+pub mod RwLock
+pub mod Rows
+pub mod WellFormed

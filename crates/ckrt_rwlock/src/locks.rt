@@ -1,0 +1,389 @@
+//! The calls on read-write locks.
+ghost use Rattle.std.specs.Prelude.{◌≡◌, ◌<◌, ◌≤◌, ◌+◌, length, true, false, []};
+ghost use Rattle.ckrt_thread.specs.State.{is_live, is_waiting};
+ghost use Rattle.ckrt_objects.specs.AddressMap.{has_room};
+ghost use Rattle.ckrt_rwlock.specs.RwLock.{lock_at, put, is_proper, is_exclusive, is_reader, is_written, read_count, with_read_count, IsTable};
+ghost use Rattle.ckrt_rwlock.specs.Rows.{if_unused, init_row, destroy_row, rdlock_row, reading_again, tryrdlock_row, wrlock_row, trywrlock_row, unlock_row, released, used_count, is_used, is_full};
+ghost use Rattle.ckrt_rwlock.specs.WellFormed.{IsWellFormedWith};
+
+use crate::records::RwLock;
+use crate::waiters::has_to_wait;
+use arrayvec::ArrayVec;
+use ckrt_objects::{Entry, get, grant_waiters, is_full, is_in_use, remove, store};
+use ckrt_thread::{CallResult, EAGAIN, EBUSY, EDEADLK, EPERM, Object, Reason, ThreadId, Threads};
+use std::marker::Model;
+
+/// How many read locks of one lock a thread can have.
+const MAX_READ_COUNT: u16 = 65535;
+
+/// How many locks can be in use.
+const MAX_IN_USE: usize = 64;
+
+/// The read-write locks of a program, by their addresses. A lock that nobody holds has no entry. At most 64 are in use:
+/// held by a thread, or named by a wait.
+#[derive(Drop)]
+pub struct RwLocks {
+    table: ArrayVec<Entry<RwLock>, MAX_IN_USE>,
+}
+
+impl Model for RwLocks {
+    ghost use Rattle.std.specs.Prelude.{List};
+    ghost use Rattle.ckrt_objects.specs.declared.address_map.Entry.{Entry};
+    ghost use Rattle.ckrt_rwlock.specs.declared.records.RwLock.{RwLock};
+    ghost use Rattle.ckrt_rwlock.specs.RwLock.{IsTable};
+
+    ghost Value = { List (Entry RwLock) };
+
+    ghost view = { λ a. a.table.items };
+
+    ghost invariant = { λ a. IsTable a.table.items };
+}
+
+impl RwLocks {
+    /// Nobody holds a lock.
+    pub fn new() -> Self
+        ensures { result ≡ [] }
+    {
+        RwLocks {
+            table: ArrayVec::new(),
+        }
+    }
+
+    /// What always holds of the table, for a proof.
+    pub fn known(&self)
+        ensures table { IsTable self.now }
+        ensures size { length self.now ≤ 64 }
+    {
+        let _ = self.table.as_slice();
+    }
+
+    /// The lock at an address.
+    pub fn lock(&self, address: u32) -> RwLock
+        ensures lock { result ≡ lock_at address self.now }
+        ensures proper { is_proper result ≡ true }
+        ensures exclusive { is_exclusive result ≡ true }
+    {
+        get(self.table.as_slice(), address).unwrap_or(RwLock::unheld())
+    }
+
+    /// Whether the lock is held, or named by a wait.
+    fn is_used(&self, threads: &Threads, address: u32) -> bool
+        ensures { result ≡ is_used address threads.now self.now }
+    {
+        is_in_use(threads, self.table.as_slice(), address)
+    }
+
+    /// EBUSY where the lock is held, or named by a wait; else 0.
+    fn if_unused(&self, threads: &Threads, address: u32) -> CallResult
+        ensures { result ≡ if_unused address threads.now self.now }
+    {
+        if self.is_used(threads, address) {
+            return CallResult::Done(EBUSY);
+        }
+        CallResult::Done(0)
+    }
+
+    /// Whether the lock is not in use, and 64 others are.
+    fn is_full(&self, threads: &Threads, address: u32) -> bool
+        ensures { result ≡ is_full address threads.now self.now }
+    {
+        is_full(threads, self.table.as_slice(), address, MAX_IN_USE)
+    }
+
+    /// The lock at an address becomes this one.
+    fn put(&mut self, address: u32, lock: RwLock)
+        requires room { has_room 64 address self.old ≡ true }
+        requires proper { is_proper lock ≡ true }
+        requires exclusive { is_exclusive lock ≡ true }
+        ensures { self.new ≡ put address lock self.old }
+    {
+        if lock.is_held() {
+            store(&mut self.table, address, lock);
+        } else {
+            remove(&mut self.table, address);
+        }
+    }
+
+    /// Initialises a lock (POSIX.1-2017, pthread_rwlock_init). EBUSY where it is held or named by a wait; else 0.
+    pub fn init(&mut self, threads: &mut Threads, address: u32) -> CallResult
+        requires well_formed { IsWellFormedWith threads.old self.old }
+        ensures well_formed { IsWellFormedWith threads.new self.new }
+        ensures result { result ≡ (init_row address threads.old self.old).result }
+        ensures threads { threads.new ≡ (init_row address threads.old self.old).threads }
+        ensures locks { self.new ≡ (init_row address threads.old self.old).locks }
+    {
+        self.if_unused(threads, address)
+    }
+
+    /// Destroys a lock (POSIX.1-2017, pthread_rwlock_destroy). EBUSY where it is held or named by a wait; else 0.
+    pub fn destroy(&mut self, threads: &mut Threads, address: u32) -> CallResult
+        requires well_formed { IsWellFormedWith threads.old self.old }
+        ensures well_formed { IsWellFormedWith threads.new self.new }
+        ensures result { result ≡ (destroy_row address threads.old self.old).result }
+        ensures threads { threads.new ≡ (destroy_row address threads.old self.old).threads }
+        ensures locks { self.new ≡ (destroy_row address threads.old self.old).locks }
+    {
+        self.if_unused(threads, address)
+    }
+
+    /// Locks a lock to read, or waits for it (POSIX.1-2017, pthread_rwlock_rdlock). EDEADLK where the thread writes
+    /// under it; EAGAIN where the thread has 65,535 read locks of it, or where it is not in use and 64 others are;
+    /// else 0, now or when the wait ends. A thread that has no read lock waits behind every thread that waits already.
+    pub fn rdlock(&mut self, threads: &mut Threads, thread: ThreadId, address: u32) -> CallResult
+        requires live { is_live threads.old thread ≡ true }
+        requires free { is_waiting threads.old thread ≡ false }
+        requires well_formed { IsWellFormedWith threads.old self.old }
+        ensures well_formed { IsWellFormedWith threads.new self.new }
+        ensures result { result ≡ (rdlock_row thread address threads.old self.old).result }
+        ensures threads { threads.new ≡ (rdlock_row thread address threads.old self.old).threads }
+        ensures locks { self.new ≡ (rdlock_row thread address threads.old self.old).locks }
+    {
+        threads.known_live(thread);
+        self.read_or_wait(threads, thread, address)
+    }
+
+    /// The row of `rdlock`.
+    fn read_or_wait(&mut self, threads: &mut Threads, thread: ThreadId, address: u32) -> CallResult
+        requires live { is_live threads.old thread ≡ true }
+        requires free { is_waiting threads.old thread ≡ false }
+        requires few { used_count threads.old self.old ≤ 64 }
+        ensures result { result ≡ (rdlock_row thread address threads.old self.old).result }
+        ensures threads { threads.new ≡ (rdlock_row thread address threads.old self.old).threads }
+        ensures locks { self.new ≡ (rdlock_row thread address threads.old self.old).locks }
+    {
+        threads.known_live(thread);
+        let lock = self.lock(address);
+        if lock.is_writer(thread) {
+            return CallResult::Done(EDEADLK);
+        }
+        if lock.is_reader(thread) {
+            return self.read_again(threads, lock, thread, address);
+        }
+        if self.is_full(threads, address) {
+            return CallResult::Done(EAGAIN);
+        }
+        if has_to_wait(threads, &lock, address) {
+            threads.block(thread, Reason::Read(address), None);
+            return CallResult::Blocked;
+        }
+        self.known();
+        self.read(lock, thread, address);
+        CallResult::Done(0)
+    }
+
+    /// The thread has one read lock more.
+    fn read(&mut self, lock: RwLock, thread: ThreadId, address: u32)
+        requires id { (0 < thread) × (thread ≤ 64) }
+        requires room { has_room 64 address self.old ≡ true }
+        requires proper { is_proper lock ≡ true }
+        requires unwritten { is_written lock ≡ false }
+        requires count { read_count thread lock < 65535 }
+        ensures { self.new ≡ put address (with_read_count thread (read_count thread lock + 1) lock) self.old }
+    {
+        self.put(
+            address,
+            lock.with_read_count(thread, lock.read_count(thread) + 1),
+        );
+    }
+
+    /// A thread that has a read lock gets one more, up to 65,535.
+    fn read_again(
+        &mut self,
+        threads: &Threads,
+        lock: RwLock,
+        thread: ThreadId,
+        address: u32,
+    ) -> CallResult
+        requires id { (0 < thread) × (thread ≤ 64) }
+        requires lock { lock ≡ lock_at address self.old }
+        requires proper { is_proper lock ≡ true }
+        requires exclusive { is_exclusive lock ≡ true }
+        requires reader { is_reader thread lock ≡ true }
+        ensures result { result ≡ (reading_again lock thread address threads.now self.old).result }
+        ensures locks { self.new ≡ (reading_again lock thread address threads.now self.old).locks }
+    {
+        if lock.read_count(thread) == MAX_READ_COUNT {
+            return CallResult::Done(EAGAIN);
+        }
+        self.read(lock, thread, address);
+        CallResult::Done(0)
+    }
+
+    /// Locks a lock to read where that needs no wait (POSIX.1-2017, pthread_rwlock_tryrdlock). EAGAIN as `rdlock`;
+    /// EBUSY where a thread writes under it, the caller too, or where threads wait for it and the thread has no read
+    /// lock of it; else 0.
+    pub fn tryrdlock(&mut self, threads: &mut Threads, thread: ThreadId, address: u32) -> CallResult
+        requires live { is_live threads.old thread ≡ true }
+        requires free { is_waiting threads.old thread ≡ false }
+        requires well_formed { IsWellFormedWith threads.old self.old }
+        ensures well_formed { IsWellFormedWith threads.new self.new }
+        ensures result { result ≡ (tryrdlock_row thread address threads.old self.old).result }
+        ensures threads { threads.new ≡ (tryrdlock_row thread address threads.old self.old).threads }
+        ensures locks { self.new ≡ (tryrdlock_row thread address threads.old self.old).locks }
+    {
+        threads.known_live(thread);
+        self.read_or_refuse(threads, thread, address)
+    }
+
+    /// The row of `tryrdlock`.
+    fn read_or_refuse(
+        &mut self,
+        threads: &mut Threads,
+        thread: ThreadId,
+        address: u32,
+    ) -> CallResult
+        requires live { is_live threads.old thread ≡ true }
+        requires few { used_count threads.old self.old ≤ 64 }
+        ensures result { result ≡ (tryrdlock_row thread address threads.old self.old).result }
+        ensures threads { threads.new ≡ (tryrdlock_row thread address threads.old self.old).threads }
+        ensures locks { self.new ≡ (tryrdlock_row thread address threads.old self.old).locks }
+    {
+        threads.known_live(thread);
+        let lock = self.lock(address);
+        if lock.is_writer(thread) {
+            return CallResult::Done(EBUSY);
+        }
+        if lock.is_reader(thread) {
+            return self.read_again(threads, lock, thread, address);
+        }
+        if self.is_full(threads, address) {
+            return CallResult::Done(EAGAIN);
+        }
+        if has_to_wait(threads, &lock, address) {
+            return CallResult::Done(EBUSY);
+        }
+        self.known();
+        self.read(lock, thread, address);
+        CallResult::Done(0)
+    }
+
+    /// Locks a lock to write, or waits for it (POSIX.1-2017, pthread_rwlock_wrlock). EDEADLK where the thread holds it,
+    /// to read or to write; EAGAIN where it is not in use and 64 others are; else 0, now or when the wait ends.
+    pub fn wrlock(&mut self, threads: &mut Threads, thread: ThreadId, address: u32) -> CallResult
+        requires live { is_live threads.old thread ≡ true }
+        requires free { is_waiting threads.old thread ≡ false }
+        requires well_formed { IsWellFormedWith threads.old self.old }
+        ensures well_formed { IsWellFormedWith threads.new self.new }
+        ensures result { result ≡ (wrlock_row thread address threads.old self.old).result }
+        ensures threads { threads.new ≡ (wrlock_row thread address threads.old self.old).threads }
+        ensures locks { self.new ≡ (wrlock_row thread address threads.old self.old).locks }
+    {
+        threads.known_live(thread);
+        self.write_or_wait(threads, thread, address)
+    }
+
+    /// The row of `wrlock`.
+    fn write_or_wait(&mut self, threads: &mut Threads, thread: ThreadId, address: u32) -> CallResult
+        requires live { is_live threads.old thread ≡ true }
+        requires free { is_waiting threads.old thread ≡ false }
+        requires few { used_count threads.old self.old ≤ 64 }
+        ensures result { result ≡ (wrlock_row thread address threads.old self.old).result }
+        ensures threads { threads.new ≡ (wrlock_row thread address threads.old self.old).threads }
+        ensures locks { self.new ≡ (wrlock_row thread address threads.old self.old).locks }
+    {
+        threads.known_live(thread);
+        let lock = self.lock(address);
+        if lock.is_holder(thread) {
+            return CallResult::Done(EDEADLK);
+        }
+        if self.is_full(threads, address) {
+            return CallResult::Done(EAGAIN);
+        }
+        if lock.is_held() {
+            threads.block(thread, Reason::Write(address), None);
+            return CallResult::Blocked;
+        }
+        self.known();
+        self.put(address, lock.with_writer(Some(thread)));
+        CallResult::Done(0)
+    }
+
+    /// Locks a lock to write where that needs no wait (POSIX.1-2017, pthread_rwlock_trywrlock). EBUSY where a thread
+    /// holds it, the caller too; EAGAIN as `wrlock`; else 0.
+    pub fn trywrlock(&mut self, threads: &mut Threads, thread: ThreadId, address: u32) -> CallResult
+        requires live { is_live threads.old thread ≡ true }
+        requires free { is_waiting threads.old thread ≡ false }
+        requires well_formed { IsWellFormedWith threads.old self.old }
+        ensures well_formed { IsWellFormedWith threads.new self.new }
+        ensures result { result ≡ (trywrlock_row thread address threads.old self.old).result }
+        ensures threads { threads.new ≡ (trywrlock_row thread address threads.old self.old).threads }
+        ensures locks { self.new ≡ (trywrlock_row thread address threads.old self.old).locks }
+    {
+        threads.known_live(thread);
+        self.write_or_refuse(threads, thread, address)
+    }
+
+    /// The row of `trywrlock`.
+    fn write_or_refuse(
+        &mut self,
+        threads: &mut Threads,
+        thread: ThreadId,
+        address: u32,
+    ) -> CallResult
+        requires live { is_live threads.old thread ≡ true }
+        requires few { used_count threads.old self.old ≤ 64 }
+        ensures result { result ≡ (trywrlock_row thread address threads.old self.old).result }
+        ensures threads { threads.new ≡ (trywrlock_row thread address threads.old self.old).threads }
+        ensures locks { self.new ≡ (trywrlock_row thread address threads.old self.old).locks }
+    {
+        threads.known_live(thread);
+        let lock = self.lock(address);
+        if lock.is_holder(thread) {
+            return CallResult::Done(EBUSY);
+        }
+        if self.is_full(threads, address) {
+            return CallResult::Done(EAGAIN);
+        }
+        if lock.is_held() {
+            return CallResult::Done(EBUSY);
+        }
+        self.known();
+        self.put(address, lock.with_writer(Some(thread)));
+        CallResult::Done(0)
+    }
+
+    /// Gives up the write lock, or one read lock (POSIX.1-2017, pthread_rwlock_unlock). EPERM where the thread holds
+    /// neither; else 0. The first waiters get the lock at once, as far as they are admissible: a reader where no thread
+    /// writes, a writer where no thread holds the lock.
+    pub fn unlock(&mut self, threads: &mut Threads, thread: ThreadId, address: u32) -> CallResult
+        requires live { is_live threads.old thread ≡ true }
+        requires well_formed { IsWellFormedWith threads.old self.old }
+        ensures well_formed { IsWellFormedWith threads.new self.new }
+        ensures result { result ≡ (unlock_row thread address threads.old self.old).result }
+        ensures threads { threads.new ≡ (unlock_row thread address threads.old self.old).threads }
+        ensures locks { self.new ≡ (unlock_row thread address threads.old self.old).locks }
+    {
+        threads.known();
+        threads.known_live(thread);
+        self.give_up(threads, thread, address)
+    }
+
+    /// The row of `unlock`.
+    fn give_up(&mut self, threads: &mut Threads, thread: ThreadId, address: u32) -> CallResult
+        requires live { is_live threads.old thread ≡ true }
+        ensures result { result ≡ (unlock_row thread address threads.old self.old).result }
+        ensures threads { threads.new ≡ (unlock_row thread address threads.old self.old).threads }
+        ensures locks { self.new ≡ (unlock_row thread address threads.old self.old).locks }
+    {
+        threads.known_live(thread);
+        let lock = self.lock(address);
+        if !lock.is_holder(thread) {
+            return CallResult::Done(EPERM);
+        }
+        self.release(threads, lock.given_up_by(thread), address);
+        CallResult::Done(0)
+    }
+
+    /// The lock's first waiters are granted it.
+    fn release(&mut self, threads: &mut Threads, lock: RwLock, address: u32)
+        requires room { has_room 64 address self.old ≡ true }
+        requires proper { is_proper lock ≡ true }
+        requires exclusive { is_exclusive lock ≡ true }
+        ensures threads { threads.new ≡ (released lock address threads.old self.old).threads }
+        ensures locks { self.new ≡ (released lock address threads.old self.old).locks }
+    {
+        let mut lock = lock;
+        grant_waiters(threads, Object::RwLock(address), &mut lock);
+        self.put(address, lock);
+    }
+}

@@ -1,0 +1,3 @@
+mod MatchLemmas
+mod NumberLemmas
+mod TakenLemmas

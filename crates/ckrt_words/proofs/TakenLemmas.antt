@@ -1,0 +1,115 @@
+-- Words that `clap` takes for the program's command line name a job.
+use Rattle.std.proofs.Common.{unwrap_or, slice_index_or, slice_get, take, drop, ◌≡◌, ◌∙◌, ◌&&◌, ℕ, Bool, true, false, cond, List, [], Option, Some, None, is_some, refl, sym, ap, subst, true≢false, inl, inr, codes, arith}
+use Rattle.std.specs.Prelude.{⊤, pos, find, option_and_then, option_map}
+use Rattle.std.specs.Str.Parse.{ParsesUnsigned}
+use Rattle.std.specs.Str.{bytes_eq}
+use Rattle.std.specs.Option.{option_map_or}
+use Rattle.clap.specs.Facts.{parser_of_value}
+use Rattle.clap.specs.Values.{read_as, reading_of}
+use Rattle.clap.specs.declared.builder.value_parser.ValueParser.{ValueParser}
+use Rattle.clap.specs.Words.{App, Row, Rule, Text, subcommand_of, takes}
+use Rattle.clap.specs.Lexer.{without_minus}
+use Rattle.clap.specs.Walk.{answers_to, arg_by_id, one_of, settled, finished, nothing_held, walk}
+use Rattle.clap.specs.Simple.{Shape, built, entered, label_of, names_of, new_rule, rows_at}
+use Rattle.clap.specs.Takes.{entered_passes, is_given, level_passes}
+use Rattle.clap.specs.ValueTests.{accepts}
+use Rattle.clap.specs.declared.builder.value_parser.ValueParser.TheVariants as vp
+use Rattle.clap.proofs.CallerReads.{signed_reads}
+use Rattle.clap.proofs.ValueTestLemmas.{accepts-Accepts}
+use Rattle.ckrt_words.specs.Commands.{ckrt_app}
+use Rattle.ckrt_words.specs.Jobs.{Request, format, run, number_in, number_of, request_in}
+use Rattle.clap.proofs.WalkLemmas.{both}
+use Rattle.ckrt_words.proofs.MatchLemmas.{AreRows, AreRules, defaults_give, given_found, has_command, has_required, level_kept, level_valid, row_found, taken_levels, value_there}
+use Rattle.ckrt_words.proofs.NumberLemmas.{number_reads}
+
+-- the command line as `clap` builds it
+abbrev built_app : App
+built_app = built ckrt_app
+
+abbrev format_shape : Shape
+format_shape = unwrap_or (slice_get built_app.subs 0) built_app.top
+
+abbrev run_shape : Shape
+run_shape = unwrap_or (slice_get built_app.subs 1) built_app.top
+
+format_rules : AreRules format_shape refl format_shape.rules
+format_rules = ((refl, inl (refl, refl)), ((refl, inl (refl, refl)), ((refl, inl (refl, refl)), ((refl, inl (refl, refl)), ((refl, inl (refl, refl)), ((refl, inr refl), tt))))))
+
+run_rules : AreRules run_shape refl run_shape.rules
+run_rules = ((refl, inl (refl, refl)), ((refl, inr refl), tt))
+
+number_there : (v : Text) → accepts false (vp.Signed (pos 0) (pos 4294967295)) v ≡ true → (n : ℕ) × (number_of (without_minus v) ≡ Some n)
+number_there v pass =
+    let read = signed_reads ⊤ (ParsesUnsigned 32 10) 32 0 4294967295 v (number_of (without_minus v)) (number_reads (without_minus v)) (λ u x g. g) (omega arith) (accepts-Accepts false (vp.Signed (pos 0) (pos 4294967295)) v pass) in
+    (read.0, read.1)
+
+run_named : (words : List Text) → level_passes run_shape [] nothing_held words false ≡ true → (r : Request) × (request_in (rows_at run_shape words) ≡ Some r)
+run_named words pass =
+    let rows = finished run_shape.rules (walk run_shape.rules [] nothing_held words).held in
+    let kept = level_kept run_shape refl run_rules [] nothing_held words false pass tt in
+    let given = has_required run_shape rows false (level_valid run_shape [] nothing_held words false pass) refl in
+    let disk = value_there run_shape refl (codes "disk") rows _ kept refl (given_found (codes "disk") rows (both (is_given (codes "disk") rows) true given).0) in
+    (run disk.0, ap (option_map run) disk.1)
+
+abbrev slot : ℕ → Rule
+slot i = slice_index_or format_shape.rules i (new_rule [])
+
+abbrev slots : ℕ → List Rule
+slots i = take i format_shape.rules
+
+abbrev after : ℕ → List Rule
+after i = drop i format_shape.rules
+
+-- an option that is a number of 32 bits has one
+number_at : (id : Text) (rows : List Row) (a : Rule) → AreRows format_shape refl rows → arg_by_id format_shape.rules id ≡ Some a
+    → (a.parser ≡ Some (vp.Signed (pos 0) (pos 4294967295))) → is_some (find (λ (r : Row). bytes_eq r.id id) rows) ≡ true
+    → (n : ℕ) × (number_in id rows ≡ Some n)
+number_at id rows a kept found parser has =
+    let there = value_there format_shape refl id rows a kept found has in
+    let text : one_of id rows ≡ Some (without_minus there.0) = subst (λ (o : Option ValueParser). one_of id rows ≡ Some (read_as (reading_of (parser_of_value o)) there.0)) parser there.2 in
+    let passes : accepts a.ignore_case (vp.Signed (pos 0) (pos 4294967295)) there.0 ≡ true = subst (λ (o : Option ValueParser). accepts a.ignore_case (parser_of_value o) there.0 ≡ true) parser there.3 in
+    let number = number_there there.0 passes in
+    (number.0, ap (option_and_then number_of) text ∙ number.1)
+
+format_named : (words : List Text) → level_passes format_shape [] nothing_held words false ≡ true → (r : Request) × (request_in (rows_at format_shape words) ≡ Some r)
+format_named words pass =
+    let end = (walk format_shape.rules [] nothing_held words).held in
+    let rows = finished format_shape.rules end in
+    let kept = level_kept format_shape refl format_rules [] nothing_held words false pass tt in
+    let given = both (is_given (codes "disk") rows) (is_given (codes "image") rows && true) (has_required format_shape rows false (level_valid format_shape [] nothing_held words false pass) refl) in
+    let disk = value_there format_shape refl (codes "disk") rows _ kept refl (given_found (codes "disk") rows given.0) in
+    let image = value_there format_shape refl (codes "image") rows _ kept refl (given_found (codes "image") rows (both (is_given (codes "image") rows) true given.1).0) in
+    let before = (settled format_shape.rules end).rows in
+    let pages = number_at (codes "pages") rows _ kept refl refl (row_found (codes "pages") rows (defaults_give (slots 2) (after 3) (slot 2) before refl)) in
+    let harts = number_at (codes "harts") rows _ kept refl refl (row_found (codes "harts") rows (defaults_give (slots 3) (after 4) (slot 3) before refl)) in
+    let journal = number_at (codes "journal") rows _ kept refl refl (row_found (codes "journal") rows (defaults_give (slots 4) (after 5) (slot 4) before refl)) in
+    (format (record { disk = disk.0; image = image.0; pages = pages.0; harts = harts.0; journal = journal.0 }), rw (disk.1, image.1, pages.1, harts.1, journal.1) refl)
+
+-- what a command that takes the words is asked for
+entered_named : (stop : Option (Text × List Text)) → entered_passes built_app stop ≡ true → is_some (entered built_app stop) ≡ true
+    → (r : Request) × (option_and_then request_in (entered built_app stop) ≡ Some r)
+entered_named None pass some = absurd (true≢false (sym some))
+entered_named (Some p) pass some = go (answers_to p.0 (label_of format_shape)) (answers_to p.0 (label_of run_shape)) pass some
+  where
+    found : Bool → Bool → Option Shape
+    found a b = cond a (Some format_shape) (cond b (Some run_shape) None)
+
+    go : (a b : Bool) → option_map_or (λ s. level_passes s [] nothing_held p.1 false) (found a b) true ≡ true → is_some (option_map (λ s. rows_at s p.1) (found a b)) ≡ true
+        → (r : Request) × (option_and_then request_in (option_map (λ s. rows_at s p.1) (found a b)) ≡ Some r)
+    go true b e is = format_named p.1 e
+    go false true e is = run_named p.1 e
+    go false false e is = absurd (true≢false (sym is))
+
+-- words that the command line takes ask for something
+taken_named : (words : List Text) → takes ckrt_app words ≡ true → (r : Request) × (option_and_then request_in (subcommand_of ckrt_app words) ≡ Some r)
+taken_named words pass =
+    let levels = taken_levels ckrt_app words pass in
+    let end = walk built_app.top.rules (names_of built_app) nothing_held words in
+    let valid = level_valid built_app.top (names_of built_app) nothing_held words _ levels.1 in
+    entered_named end.stopped levels.0 (has_command built_app.top (finished built_app.top.rules end.held) _ valid refl)
+
+pub untaken : (words : List Text) (o : Option (Text × List Row)) → o ≡ subcommand_of ckrt_app words → None ≡ option_and_then request_in o → takes ckrt_app words ≡ true → ⊥
+untaken words o is none pass =
+    let named = taken_named words pass in
+    let nothing : None ≡ Some named.0 = none ∙ (ap (option_and_then request_in) is ∙ named.1) in
+    true≢false (sym (ap (λ (r : Option Request). is_some r) nothing))

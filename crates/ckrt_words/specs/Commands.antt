@@ -1,0 +1,39 @@
+-- The program's command line, as `clap` sees it: `format DISK IMAGE [--pages P] [--harts H] [--journal J]` and `run DISK`.
+use Rattle.std.specs.Prelude.{pos, codes, Some, true, [], ◌∷◌}
+use Rattle.clap.specs.Words.{App, Rule, Text, new_app, new_rule, with_rule, with_subcommand}
+use Rattle.clap.specs.declared.builder.value_parser.ValueParser.TheVariants.{Signed}
+
+-- a word that has to stand there
+abbrev pub needed_rule : Text → Rule
+needed_rule id = record (new_rule id) { required = true; value_names = 1 }
+
+-- an option `--id N`, a number of 32 bits, with its value where it isn't given
+abbrev pub number_rule : Text → Text → Rule
+number_rule id default = record (new_rule id) {
+  long = Some id;
+  value_names = 1;
+  parser = Some (Signed (pos 0) (pos 4294967295));
+  defaults = default ∷ [];
+}
+
+abbrev pub format_app : App
+format_app =
+    with_rule (with_rule (with_rule (with_rule (with_rule (new_app (codes "format"))
+    (needed_rule (codes "disk")))
+    (needed_rule (codes "image")))
+    (number_rule (codes "pages") (codes "64")))
+    (number_rule (codes "harts") (codes "1")))
+    (number_rule (codes "journal") (codes "65536"))
+
+abbrev pub run_app : App
+run_app = with_rule (new_app (codes "run")) (needed_rule (codes "disk"))
+
+-- the program without a command: its words don't begin with its name, and `help` is no command
+abbrev pub bare_app : App
+bare_app = record {
+  top = record (new_app (codes "ckrt")).top { no_binary_name = true; disable_help_subcommand = true; subcommand_required = true };
+  subs = [];
+}
+
+abbrev pub ckrt_app : App
+ckrt_app = with_subcommand (with_subcommand bare_app format_app.top) run_app.top

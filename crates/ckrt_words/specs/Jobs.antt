@@ -1,0 +1,73 @@
+-- What the program's words ask for.
+use Rattle.std.specs.Prelude.{ℕ, ◌^◌, ◌&&◌, Bool, nat_lt, if◌then◌else◌, List, [], ◌∷◌, length, codes, Option, Some, None, option_and_then, option_map}
+use Rattle.std.specs.List.{list_all}
+use Rattle.std.specs.Char.{digit_value}
+use Rattle.std.specs.Str.{bytes_eq}
+use Rattle.std.specs.Str.Parse.{digits_value, without_leading_plus}
+use Rattle.clap.specs.Words.{Row, Text, first_of, one_of, subcommand_of}
+use Rattle.ckrt_words.specs.Commands.{ckrt_app}
+use Rattle.ckrt_words.specs.declared.job.Job.{Job}
+use Rattle.ckrt_words.specs.declared.job.Job.TheVariants as job
+use Rattle.ckrt_words.specs.declared.job.FormatJob.{FormatJob}
+
+-- what `format` makes
+pub record Formatting : Type 0 where
+  pub disk : Text
+  pub image : Text
+  pub pages : ℕ
+  pub harts : ℕ
+  pub journal : ℕ
+
+-- a job, by its texts and numbers alone
+pub data Request : Type 0 where
+  stored : Request
+  format : Formatting → Request
+  run : Text → Request
+
+abbrev pub formatting_of : FormatJob → Formatting
+formatting_of f = record { disk = f.disk.now; image = f.image.now; pages = f.pages; harts = f.harts; journal = f.journal }
+
+abbrev pub request_of : Job → Request
+request_of job.Stored = stored
+request_of (job.Format f) = format (formatting_of f)
+request_of (job.Run disk) = run disk.now
+
+-- decimal digits, one or more, after a plus or not, of a number below 2^32
+abbrev pub is_number : Text → Bool
+is_number t =
+    let ds = without_leading_plus t in
+    nat_lt 0 (length ds) && (list_all (λ d. nat_lt (digit_value d) 10) ds && nat_lt (digits_value 10 ds) (2 ^ 32))
+
+abbrev pub number_of : Text → Option ℕ
+number_of t = if is_number t then Some (digits_value 10 (without_leading_plus t)) else None
+
+-- the number that a command's matches have for an option
+abbrev pub number_in : Text → List Row → Option ℕ
+number_in id rows = option_and_then number_of (one_of id rows)
+
+-- the second step, where the first gave a value: Rust's `?`
+infixl 10 ◌>>=◌
+abbrev pub ◌>>=◌ : {A B : Type 0} → Option A → (A → Option B) → Option B
+(Some x) >>= f = f x
+None >>= f = None
+
+abbrev pub formatting_in : List Row → Option Formatting
+formatting_in rows = do
+  disk ← first_of (codes "disk") rows
+  image ← first_of (codes "image") rows
+  pages ← number_in (codes "pages") rows
+  harts ← number_in (codes "harts") rows
+  journal ← number_in (codes "journal") rows
+  Some (record { disk = disk; image = image; pages = pages; harts = harts; journal = journal })
+
+-- what a command with these matches asks for
+abbrev pub request_in : Text × List Row → Option Request
+request_in p =
+    if bytes_eq p.0 (codes "format") then option_map format (formatting_in p.1)
+    else if bytes_eq p.0 (codes "run") then option_map run (first_of (codes "disk") p.1)
+    else None
+
+-- what the words after the program's name ask for: the stored program where there are none, else what `clap` makes of them
+abbrev pub request_of_words : List Text → Option Request
+request_of_words [] = Some stored
+request_of_words (w ∷ ws) = option_and_then request_in (subcommand_of ckrt_app (w ∷ ws))

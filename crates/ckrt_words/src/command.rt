@@ -1,0 +1,102 @@
+//! The program's command line, for `clap`.
+ghost use Rattle.std.specs.Prelude.{◌≡◌, IfOk, false};
+ghost use Rattle.clap.specs.Words.{app_of, rule_of};
+ghost use Rattle.clap.specs.declared.builder.command.Command.TheViews.{out-Command};
+ghost use Rattle.ckrt_words.specs.Commands.{bare_app, ckrt_app, format_app, needed_rule, number_rule, run_app};
+
+use clap::{Arg, Command, value_parser};
+use std::alloc::{AllocError, Global};
+
+/// A word that has to stand there.
+fn needed<'a>(alloc: Global, id: &'a str, name: &'a str, help: &'a str) -> Arg<'a>
+    ensures rule { rule_of result ≡ needed_rule id.entry.now }
+    ensures local { result.global ≡ false }
+{
+    Arg::new(alloc, id)
+        .value_name(name)
+        .help(help)
+        .required(true)
+}
+
+/// An option with a number of 32 bits, and its value where it isn't given.
+fn number<'a>(alloc: Global, id: &'a str, default: &'a str, help: &'a str) -> Arg<'a>
+    ensures rule { rule_of result ≡ number_rule id.entry.now default.entry.now }
+    ensures local { result.global ≡ false }
+{
+    Arg::new(alloc, id)
+        .long(id)
+        .value_name("N")
+        .value_parser(value_parser!(u32))
+        .default_value(default)
+        .help(help)
+}
+
+/// `format DISK IMAGE [--pages P] [--harts H] [--journal J]`.
+fn format_command<'a>(alloc: Global) -> Result<Command<'a>, AllocError>
+    ensures app { IfOk result (λ c. app_of c ≡ format_app) }
+    ensures local { IfOk result (λ c. (out-Command c).has_globals ≡ false) }
+{
+    let disk = needed(alloc, "disk", "DISK", "The file to make a disk of");
+    let image = needed(
+        alloc,
+        "image",
+        "IMAGE",
+        "The guest program, a flat binary linked at 0x1000",
+    );
+    let pages = number(alloc, "pages", "64", "Pages of guest memory, 16 to 1024");
+    let harts = number(alloc, "harts", "1", "Harts, 1 to 8");
+    let journal = number(
+        alloc,
+        "journal",
+        "65536",
+        "Bytes of a journal, 4096 to 1048576 by 4096",
+    );
+    let with_disk = Command::new(alloc, "format")
+        .about("Makes a disk with a guest program that hasn't begun")
+        .arg(disk)?;
+    let with_image = with_disk.arg(image)?;
+    let with_pages = with_image.arg(pages)?;
+    let with_harts = with_pages.arg(harts)?;
+    let whole = with_harts.arg(journal)?;
+    Ok(whole)
+}
+
+/// `run DISK`.
+fn run_command<'a>(alloc: Global) -> Result<Command<'a>, AllocError>
+    ensures app { IfOk result (λ c. app_of c ≡ run_app) }
+    ensures local { IfOk result (λ c. (out-Command c).has_globals ≡ false) }
+{
+    let disk = needed(alloc, "disk", "DISK", "A disk that `format` made");
+    let whole = Command::new(alloc, "run")
+        .about("Recovers a disk and answers the lines of the standard input")
+        .arg(disk)?;
+    Ok(whole)
+}
+
+/// The program without a command.
+fn bare_command<'a>(alloc: Global) -> Result<Command<'a>, AllocError>
+    ensures app { IfOk result (λ c. app_of c ≡ bare_app) }
+    ensures local { IfOk result (λ c. (out-Command c).has_globals ≡ false) }
+{
+    let bare = Command::new(alloc, "ckrt")
+        .about(
+            "Checkpoint and restart of pthread programs; without words it serves a stored program in memory",
+        )
+        .no_binary_name(true)
+        .disable_help_subcommand(true)
+        .subcommand_required(true)
+        .bin_name("ckrt")?;
+    Ok(bare)
+}
+
+/// The program's command line.
+pub(crate) fn command<'a>(alloc: Global) -> Result<Command<'a>, AllocError>
+    ensures { IfOk result (λ c. app_of c ≡ ckrt_app) }
+{
+    let format = format_command(alloc)?;
+    let run = run_command(alloc)?;
+    let bare = bare_command(alloc)?;
+    let with_format = bare.subcommand(format)?;
+    let whole = with_format.subcommand(run)?;
+    Ok(whole)
+}

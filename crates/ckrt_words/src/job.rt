@@ -1,0 +1,38 @@
+use thiserror::Error;
+
+/// What the words ask the program to do. Paths are the words themselves.
+#[derive(Clone, Copy, Debug, PartialEq, Eq)]
+pub enum Job<'a> {
+    /// Serve the stored program in memory: there are no words.
+    Stored,
+    /// Make a disk with an image: `format DISK IMAGE`.
+    Format(FormatJob<'a>),
+    /// Recover the disk of this path and serve it: `run DISK`.
+    Run(&'a str),
+}
+
+/// What `format` makes. The numbers are as they were given, and may be out of a disk's ranges.
+#[derive(Clone, Copy, Debug, PartialEq, Eq)]
+pub struct FormatJob<'a> {
+    /// The path of the disk.
+    pub disk: &'a str,
+    /// The path of the image.
+    pub image: &'a str,
+    /// Pages of guest memory, of 4,096 bytes each.
+    pub pages: u32,
+    /// Harts.
+    pub harts: u32,
+    /// Bytes of a journal.
+    pub journal: u32,
+}
+
+/// Why words name no job.
+#[derive(Debug, Drop, Error)]
+pub enum WordsFault {
+    /// They aren't those of a job, or ask for help: the text to print.
+    #[error("{0}")]
+    Usage(String),
+    /// There was no memory to read them.
+    #[error("OutOfMemory")]
+    OutOfMemory,
+}

@@ -1,0 +1,55 @@
+//! What the matches of a command line name.
+ghost use Rattle.std.specs.Prelude.{◌≡◌, option_and_then, option_map};
+ghost use Rattle.clap.specs.Words.{first_of, found_of, rows_of, subcommand_rows_of};
+ghost use Rattle.ckrt_words.specs.Jobs.{formatting_in, formatting_of, number_in, request_in, request_of};
+
+use crate::job::{FormatJob, Job};
+use clap::ArgMatches;
+
+/// The text that was given for an argument.
+fn text<'a>(matches: &ArgMatches<'a>, id: &str) -> Option<&'a str>
+    ensures { option_map (λ s. s.now) result ≡ first_of id.now (rows_of (found_of matches.now)) }
+{
+    matches.get_str(id)
+}
+
+/// The number that was given for an option, or stands for it.
+fn number(matches: &ArgMatches<'_>, id: &str) -> Option<u32>
+    ensures { result ≡ number_in id.now (rows_of (found_of matches.now)) }
+{
+    matches.get_one::<u32>(id)
+}
+
+/// What `format` was given.
+fn formatting<'a>(matches: &ArgMatches<'a>) -> Option<FormatJob<'a>>
+    ensures { option_map formatting_of result ≡ formatting_in (rows_of (found_of matches.now)) }
+{
+    Some(FormatJob {
+        disk: text(matches, "disk")?,
+        image: text(matches, "image")?,
+        pages: number(matches, "pages")?,
+        harts: number(matches, "harts")?,
+        journal: number(matches, "journal")?,
+    })
+}
+
+/// The command that was named, and its own matches.
+fn command_named<'m, 'a>(matches: &'m ArgMatches<'a>) -> Option<(&'a str, &'m ArgMatches<'a>)>
+    ensures { option_map (λ p. (p.0.now, rows_of (found_of p.1.now))) result ≡ subcommand_rows_of matches.now }
+{
+    matches.subcommand()
+}
+
+/// The job that the matches name.
+pub(crate) fn job_named<'a>(matches: &ArgMatches<'a>) -> Option<Job<'a>>
+    ensures { option_map request_of result ≡ option_and_then request_in (subcommand_rows_of matches.now) }
+{
+    let (name, given) = command_named(matches)?;
+    if name == "format" {
+        return Some(Job::Format(formatting(given)?));
+    }
+    if name == "run" {
+        return Some(Job::Run(text(given, "disk")?));
+    }
+    None
+}
