@@ -15,7 +15,7 @@ import sys
 import time
 
 ROUNDS = 30
-STEP_ROUNDS = 5
+STEP_ROUNDS = 15
 COMMITS = 40
 # The first commits to a disk that was just made are slow in both, and not counted.
 WARM_UP = 5
@@ -60,9 +60,15 @@ def plain_time(plain, path):
     return statistics.mean(int(word) for word in text.split()[WARM_UP:])
 
 
+def ratio_of(ours, base):
+    """The median of the rounds' ratios, and its quartiles."""
+    low, middle, high = statistics.quantiles([mine / plain for mine, plain in zip(ours, base)], n=4)
+    return f"ratio {middle:.3f} ({low:.3f} to {high:.3f})"
+
+
 def commits(plain, ckrt, image, folder):
     disk, journal = os.path.join(folder, "service.disk"), os.path.join(folder, "service.journal")
-    ours, base, ratios = [], [], []
+    ours, base = [], []
     for turn in range(ROUNDS):
         format_disk(ckrt, disk, image, 16)
         if turn % 2 == 0:
@@ -71,10 +77,8 @@ def commits(plain, ckrt, image, folder):
         else:
             ours.append(commit_time(ckrt, disk))
             base.append(plain_time(plain, journal))
-        ratios.append(ours[-1] / base[-1])
     os.remove(disk)
-    low, middle, high = statistics.quantiles(ratios, n=4)
-    print(f"commit: plain {statistics.median(base) / 1e3:.1f} us, ckrt run {statistics.median(ours) / 1e3:.1f} us, ratio {middle:.3f} ({low:.3f} to {high:.3f})")
+    print(f"commit: plain {statistics.median(base) / 1e3:.1f} us, ckrt run {statistics.median(ours) / 1e3:.1f} us, {ratio_of(ours, base)}")
 
 
 def service_rate(ckrt, path, image, runs):
@@ -104,7 +108,7 @@ def steps(ckrt, machine, image, folder):
         count, rate = machine_rate(machine, image)
         base.append(rate)
         ours.append(service_rate(ckrt, disk, image, count // 65_535))
-    print(f"steps: machine alone {max(base) / 1e6:.0f} million a second, ckrt run {max(ours) / 1e6:.0f}, ratio {max(ours) / max(base):.3f}")
+    print(f"steps: machine alone {statistics.median(base) / 1e6:.0f} million a second, ckrt run {statistics.median(ours) / 1e6:.0f}, {ratio_of(ours, base)}")
 
 
 def recovery(ckrt, machine, image, folder):
@@ -124,7 +128,7 @@ def recovery(ckrt, machine, image, folder):
         run([ckrt, "run", disk])
         ours.append(time.perf_counter() - start)
     os.remove(disk)
-    print(f"recovery: bytes and steps {min(base) * 1e3:.0f} ms, ckrt run {min(ours) * 1e3:.0f} ms, ratio {min(ours) / min(base):.3f}")
+    print(f"recovery: bytes and steps {statistics.median(base) * 1e3:.0f} ms, ckrt run {statistics.median(ours) * 1e3:.0f} ms, {ratio_of(ours, base)}")
 
 
 def resident(ckrt, path, image, pages):
