@@ -1,3 +1,4 @@
 pub mod Table
 pub mod WellFormed
 pub mod Kept
+pub mod ThreadsKept

@@ -1,10 +1,10 @@
 -- What the rows of mutexes keep.
-use Rattle.std.proofs.Common.{◌≡◌, ℕ, false, Option, Some, None, List, refl, ◌||◌, ◌&&◌, not, nat_lt, nat_le, length}
+use Rattle.std.proofs.Common.{◌≡◌, ℕ, false, Option, Some, None, List, refl, ◌||◌, ◌&&◌, not, nat_lt, nat_le}
 use Rattle.ckrt_thread.specs.declared.records.Reason.TheVariants as reason
 use Rattle.ckrt_thread.specs.declared.records.RetakeResult.{RetakeResult}
-use Rattle.ckrt_thread.specs.Abi.{A0}
 use Rattle.ckrt_thread.specs.Waits.{is_moment, retake_code}
-use Rattle.ckrt_thread.specs.State.{State, blocked, woken, set_word}
+use Rattle.ckrt_thread.specs.State.{State, blocked}
+use Rattle.ckrt_thread.specs.Granting.{answered, grant_waiters}
 use Rattle.ckrt_objects.specs.declared.address_map.Entry.{Entry}
 use Rattle.ckrt_mutex.specs.declared.records.Mutex.{Mutex}
 use Rattle.ckrt_mutex.specs.declared.records.Kind.{Kind}
@@ -40,17 +40,17 @@ module _ (P : State → Type 0) where
   pub kept_trylock : (t a : ℕ) (s : State) (ms : List (Entry Mutex)) → P s → Holds (trylock_row t a s ms)
   kept_trylock t a s ms h = choice Holds (is_available t (mutex_at a ms)) _ _ (kept_taken (mutex_at a ms) t a s ms h) h
 
-  kept_unlock_of : (m : Mutex) (t a : ℕ) (s : State) (ms : List (Entry Mutex)) → ((u v : ℕ) (z : State) → P z → P (woken u v z)) → P s → Holds (unlock_of m t a s ms)
-  kept_unlock_of m t a s ms e h =
-      choice Holds (not (is_owner t m)) _ _ h (choice Holds (nat_lt 1 m.count) _ _ h (kept_granted (mutex_rule a) P e (length s.waits) (free m.kind) s h))
+  -- a mutex that is given up is granted
+  kept_unlock_of : (m : Mutex) (t a : ℕ) (s : State) (ms : List (Entry Mutex)) → P (grant_waiters (mutex_rule a) (free m.kind) s).1 → P s → Holds (unlock_of m t a s ms)
+  kept_unlock_of m t a s ms g h = choice Holds (not (is_owner t m)) _ _ h (choice Holds (nat_lt 1 m.count) _ _ h g)
 
-  pub kept_unlock : (t a : ℕ) (s : State) (ms : List (Entry Mutex)) → ((u v : ℕ) (z : State) → P z → P (woken u v z)) → P s → Holds (unlock_row t a s ms)
-  kept_unlock t a s ms e h = kept_unlock_of (mutex_at a ms) t a s ms e h
+  pub kept_unlock : (t a : ℕ) (s : State) (ms : List (Entry Mutex)) → ((k : Kind) → P (grant_waiters (mutex_rule a) (free k) s).1) → P s → Holds (unlock_row t a s ms)
+  kept_unlock t a s ms grants h = kept_unlock_of (mutex_at a ms) t a s ms (grants (mutex_at a ms).kind) h
 
-  kept_retake_of : (m : Mutex) (t a : ℕ) (r : RetakeResult) (s : State) (ms : List (Entry Mutex)) → P (set_word t A0 (retake_code r) s) → P (blocked t (reason.Retake a r) None s) → Holds (retake_of m t a r s ms)
+  kept_retake_of : (m : Mutex) (t a : ℕ) (r : RetakeResult) (s : State) (ms : List (Entry Mutex)) → P (answered (retake_code r) t s) → P (blocked t (reason.Retake a r) None s) → Holds (retake_of m t a r s ms)
   kept_retake_of m t a r s ms h w = choice Holds (is_available t m) _ _ h w
 
-  pub kept_retake : (t a : ℕ) (r : RetakeResult) (s : State) (ms : List (Entry Mutex)) → P (set_word t A0 (retake_code r) s) → P (blocked t (reason.Retake a r) None s) → Holds (retake_row t a r s ms)
+  pub kept_retake : (t a : ℕ) (r : RetakeResult) (s : State) (ms : List (Entry Mutex)) → P (answered (retake_code r) t s) → P (blocked t (reason.Retake a r) None s) → Holds (retake_row t a r s ms)
   kept_retake t a r s ms h w = kept_retake_of (mutex_at a ms) t a r s ms h w
 
   pub kept_destroy : (a : ℕ) (s : State) (ms : List (Entry Mutex)) → P s → Holds (destroy_row a s ms)
@@ -64,6 +64,10 @@ module _ (P : State → Type 0) where
   kept_init a k s ms h = kept_init_kind (kind_of k) a s ms h
 
 -- THE RULES OF WAITS
+
+-- an unlock keeps each
+pub unlock_rule : {P : State → Type 0} → IsWaitRule P → (t a : ℕ) (s : State) (ms : List (Entry Mutex)) → P s → P (unlock_row t a s ms).threads
+unlock_rule {P = P} rule t a s ms h = kept_unlock P t a s ms (λ k. kept_granted rule (mutex_rule a) (free k) s h) h
 
 -- one for conditions
 pub condition_rule : IsWaitRule conditions.IsWellFormed

@@ -11,23 +11,25 @@ use Rattle.ckrt_thread.specs.declared.records.RetakeResult.TheVariants as retake
 use Rattle.ckrt_thread.specs.declared.records.Object.{Object}
 use Rattle.ckrt_thread.specs.declared.records.Object.TheVariants as object
 use Rattle.ckrt_thread.specs.Waits.{is_for, is_reason_for, is_of, without, is_deadline_of, has_proper_deadline}
-use Rattle.ckrt_thread.specs.State.{State, IsWellFormed, thread_of, is_detached, is_joined, free_place, first_waiter, blocked, woken, all_woken, off_hart}
-use Rattle.ckrt_thread.specs.Rows.{After, create_at, create_row, join_at, join_row, detach_at, detach_row, end_with, finished}
+use Rattle.ckrt_thread.specs.State.{State, IsWellFormed, thread_of, is_joined, free_place, first_waiter, blocked, woken, all_woken}
+use Rattle.ckrt_thread.specs.Rows.{After, create_at, create_row, join_at, join_row, detach_at, detach_row}
 use Rattle.ckrt_thread.specs.Granting.{queue_of}
+use Rattle.ckrt_thread.specs.Unwinding.{next_handler}
 use Rattle.ckrt_thread.proofs.Known.{waits_at_most_once}
 use Rattle.ckrt_thread.proofs.Grants.{first_of_queue, queue_rest}
 use Rattle.ckrt_objects.specs.declared.address_map.Entry.{Entry}
 use Rattle.ckrt_objects.specs.AddressMap.{lookup}
 use Rattle.ckrt_objects.proofs.Granting.{well_formed_woken, granted_elsewhere}
+use Rattle.ckrt_objects.proofs.Obtained.{PassesNoJoiner}
 use Rattle.ckrt_objects.proofs.Waits.{found_holds, found_all, queue_elsewhere, queue_other}
 use Rattle.ckrt_mutex.specs.declared.records.Mutex.{Mutex}
-use Rattle.ckrt_mutex.specs.Mutex.{mutex_at, is_owner, free}
-use Rattle.ckrt_mutex.specs.WellFormed.{IsWellFormedWith}
+use Rattle.ckrt_mutex.specs.Mutex.{free}
 use Rattle.ckrt_mutex.specs.Rows as mutex
-use Rattle.ckrt_cond.specs.WellFormed as conditions
 use Rattle.ckrt_cond.specs.Rows as condition
 use Rattle.ckrt_cond.proofs.Kept as kept_conditions
 use Rattle.ckrt_cond.proofs.Elsewhere.{resume_elsewhere, signal_elsewhere, broadcast_elsewhere}
+use Rattle.ckrt_cancel.specs.Rows.{begin_unwind, act_on_request, request_row}
+use Rattle.ckrt_cancel.proofs.Kept as kept_cancel
 use Rattle.ckrt_barrier.specs.declared.barrier.Barrier.{Barrier}
 use Rattle.ckrt_barrier.specs.Rows as barrier
 use Rattle.ckrt_barrier.specs.WellFormed as barrier_rules
@@ -139,12 +141,22 @@ module _ (o : Object) (p : IsApart o) where
   pub join : (t i : ℕ) (s : State) → Same s (join_row t i s).threads
   join t i s = choice (λ (r : After). Same s r.threads) (i == t) _ _ refl (join_at_end (thread_of s i) t i s)
 
-  end_same : (w : Option Wait) (t v : ℕ) (s : State) → first_waiter (object.End t) s ≡ w → IsWellFormed s → Same s (end_with w t v (off_hart t s))
-  end_same None t v s e k = choice (Same s) (is_detached (thread_of (off_hart t s) t)) _ _ refl refl
-  end_same (Some w) t v s e k = first_ends (object.End t) w s refl k e
+  -- UNWINDING: who joins the thread may wait no more
 
-  pub finish : (t v : ℕ) (s : State) → IsWellFormed s → Same s (finished t v s)
-  finish t v s k = end_same (first_waiter (object.End t) s) t v s refl k
+  joins_another_object : PassesNoJoiner (is_for o)
+  joins_another_object t w h = for_another (object.End t) w.reason refl h
+
+  pub next : (t : ℕ) (s : State) → IsWellFormed s → Same s (next_handler t s)
+  next t s k = kept_cancel.queue_next (is_reason_for o) p.input p.sleep p.join p.condition p.retake t s k
+
+  pub begin : (t v : ℕ) (s : State) → IsWellFormed s → Same s (begin_unwind t v s)
+  begin t v s k = kept_cancel.queue_begin_unwind (is_reason_for o) p.input p.sleep p.join p.condition p.retake t v s k
+
+  pub act : (t : ℕ) (s : State) → IsWellFormed s → Same s (act_on_request t s)
+  act t s k = kept_cancel.queue_act_on_request (is_reason_for o) p.input p.sleep p.join p.condition p.retake t s k
+
+  pub request : (id : ℕ) (s : State) (ms : List (Entry Mutex)) → IsWellFormed s → Same s (request_row id s ms).threads
+  request id s ms k = kept_cancel.queue_request (is_reason_for o) p.input p.sleep p.join p.condition p.retake id s ms k
 
   -- THE ROWS OF MUTEXES
 
@@ -163,17 +175,13 @@ module _ (o : Object) (p : IsApart o) where
   pub trylock : (t a : ℕ) (s : State) (ms : List (Entry Mutex)) → Same s (mutex.trylock_row t a s ms).threads
   trylock t a s ms = kept_mutexes.kept_trylock (Same s) t a s ms refl
 
-  pub retaken : (t a : ℕ) (v : RetakeResult) (s : State) (ms : List (Entry Mutex)) → Same s (mutex.retake_row t a v s ms).threads
-  retaken t a v s ms = kept_mutexes.kept_retake (Same s) t a v s ms refl (begun t (reason.Retake a v) None s (p.retake a v))
-
-  unlock_of : (m : Mutex) (t a : ℕ) (s : State) (ms : List (Entry Mutex)) → IsWellFormed s → Same s (mutex.unlock_of m t a s ms).threads
-  unlock_of m t a s ms k =
-      choice {A = mutex.After} (λ r. Same s r.threads) (not (is_owner t m)) _ _ refl
-      (choice {A = mutex.After} (λ r. Same s r.threads) (nat_lt 1 m.count) _ _ refl
-      (granted_elsewhere (mutex.mutex_rule a) (is_for o) (λ w h. for_another (object.Mutex a) w.reason refl h) (free m.kind) s k))
+  retaken : (t a : ℕ) (s : State) (ms : List (Entry Mutex)) → Same s (mutex.retake_row t a retake.TimedOut s ms).threads
+  retaken t a s ms = kept_mutexes.kept_retake (Same s) t a retake.TimedOut s ms refl (begun t (reason.Retake a retake.TimedOut) None s (p.retake a retake.TimedOut))
 
   pub unlock : (t a : ℕ) (s : State) (ms : List (Entry Mutex)) → IsWellFormed s → Same s (mutex.unlock_row t a s ms).threads
-  unlock t a s ms k = unlock_of (mutex_at a ms) t a s ms k
+  unlock t a s ms k =
+      kept_mutexes.kept_unlock (Same s) t a s ms
+      (λ i. granted_elsewhere (mutex.mutex_rule a) (is_for o) (λ w h. for_another (object.Mutex a) w.reason refl h) joins_another_object (free i) s k) refl
 
   -- THE ROWS OF CONDITIONS
 
@@ -189,16 +197,16 @@ module _ (o : Object) (p : IsApart o) where
   pub timedwait : (t c a d clock : ℕ) (s : State) (ms : List (Entry Mutex)) → IsWellFormed s → Same s (condition.timedwait_row t c a d clock s ms).threads
   timedwait t c a d clock s ms k =
       kept_conditions.kept_timedwait (Same s) t c a d clock s ms (λ _ z i. begun t (reason.Condition c a) (Some d) z (p.condition c a) ∙ i)
-      (λ z ns i. retaken t a retake.TimedOut z ns ∙ i) (unlock t a s ms k) refl
+      (λ z ns i. retaken t a z ns ∙ i) (unlock t a s ms k) refl
 
   at_condition : (c : ℕ) (w : Wait) → is_for (object.Condition c) w ≡ true → is_for o w ≡ false
   at_condition c w h = for_another (object.Condition c) w.reason refl h
 
   pub signal : (c : ℕ) (s : State) (ms : List (Entry Mutex)) → IsWellFormed s → Same s (condition.signal_row c s ms).threads
-  signal c s ms k = signal_elsewhere (is_for o) at_condition (λ t a r. p.retake a r) c s ms k
+  signal c s ms k = signal_elsewhere (is_for o) at_condition (λ t a r. p.retake a r) joins_another_object c s ms k
 
-  pub broadcast : (c : ℕ) (s : State) (ms : List (Entry Mutex)) → IsWellFormed s → IsWellFormedWith s ms → conditions.IsWellFormed s → Same s (condition.broadcast_row c s ms).threads
-  broadcast c s ms k h g = broadcast_elsewhere (is_for o) at_condition (λ t a r. p.retake a r) c s ms k h g
+  pub broadcast : (c : ℕ) (s : State) (ms : List (Entry Mutex)) → IsWellFormed s → Same s (condition.broadcast_row c s ms).threads
+  broadcast c s ms k = broadcast_elsewhere (is_for o) at_condition (λ t a r. p.retake a r) joins_another_object c s ms k
 
   -- INPUT
 
@@ -222,6 +230,16 @@ module _ (o : Object) (p : IsApart o) where
 
   pub readers_woken : (v : ℕ) (z : State) → IsWellFormed z → Same z (all_woken v (queue_of object.Input z) z)
   readers_woken v z k = all_same object.Input v (λ w h. for_another object.Input w.reason refl h) (queue_of object.Input z) z refl k
+
+-- where all of a queue are woken, nobody is left in it
+none_left : (q : Object) (v : ℕ) (ws : List Wait) (z : State) → queue_of q z ≡ ws → IsWellFormed z → queue_of q (all_woken v ws z) ≡ []
+none_left q v [] z e k = e
+none_left q v (w ∷ ws) z e k =
+    let first : first_waiter q z ≡ Some w = first_of_queue q z ∙ ap (λ l. slice_get l 0) e in
+    none_left q v ws (woken w.thread v z) (ap (λ l. drop 1 l) (sym (queue_rest q z w v first k) ∙ e)) (well_formed_woken w.thread v z k)
+
+pub all_woken_leave_none : (q : Object) (v : ℕ) (z : State) → IsWellFormed z → queue_of q (all_woken v (queue_of q z) z) ≡ []
+all_woken_leave_none q v z k = none_left q v (queue_of q z) z refl k
 
 -- THE ROW OF A BARRIER'S WAIT
 
@@ -280,4 +298,4 @@ module _ (w : Wait) (s : State) (k : IsWellFormed s) (e : find (is_of w.thread) 
   timed_ended v o p = found_ends o p (is_of w.thread) w s k e (not_for o p)
 
   pub timed_resumed : (a : ℕ) (ms : List (Entry Mutex)) → SameQueues s (condition.resume_row w.thread a retake.TimedOut s ms).threads
-  timed_resumed a ms o p = resume_elsewhere (is_for o) (at_condition o p) (λ t m r. p.retake m r) (is_of w.thread) w a retake.TimedOut s ms k e (not_for o p)
+  timed_resumed a ms o p = resume_elsewhere (is_for o) (at_condition o p) (λ t m r. p.retake m r) (joins_another_object o p) (is_of w.thread) w a retake.TimedOut s ms k e (not_for o p)

@@ -12,6 +12,7 @@ use Rattle.ckrt_thread.specs.State.{State, first_waiter, woken, all_woken, is_wa
 use Rattle.ckrt_thread.proofs.Grants.{first_of_queue}
 use Rattle.ckrt_thread.proofs.Waking.{kept_all_woken}
 use Rattle.ckrt_thread.proofs.SlotLemmas.{kept_at, live_change}
+use Rattle.ckrt_objects.proofs.Granting.{well_formed_woken}
 use Rattle.ckrt_mutex.specs.WellFormed.{IsWellFormedWith}
 use Rattle.ckrt_calls.specs.declared.input.TheConstants.{INPUT_LIMIT}
 use Rattle.ckrt_calls.specs.declared.table.Tables.{Tables}
@@ -21,7 +22,7 @@ use Rattle.ckrt_calls.proofs.ThreadRows as rows
 use Rattle.ckrt_calls.proofs.ThreadRows.{AllWaits, any_live_woken}
 use Rattle.ckrt_calls.proofs.MutexRows.{wait_rule}
 use Rattle.ckrt_calls.proofs.Queues as queues
-use Rattle.ckrt_calls.proofs.Queues.{SameQueues, barriers_same, locks_same}
+use Rattle.ckrt_calls.proofs.Queues.{barriers_same, locks_same, all_woken_leave_none}
 use Rattle.ckrt_calls.proofs.Kept.{conditions_woken}
 use Rattle.ckrt_cond.specs.WellFormed as conditions
 
@@ -121,22 +122,21 @@ pub joined_woken : (s : Tables) (t v : ℕ) (z : State) → IsWellFormedWith z s
 joined_woken s t v z h = (let rule = wait_rule s.mutexes in rule.unwaited t z (woken t v z) refl h)
 
 -- bytes of input came
-pub well_formed_input : (bytes : List ℕ) (s z : Tables) → z ≡ input_taken bytes s → length s.input + length bytes ≤ INPUT_LIMIT → IsWellFormed s → threads.IsWellFormed z.threads → IsWellFormed z
-well_formed_input bytes s z i n h k =
-    rw i (record {
-      threads = rw i at k;
-      mutexes = kept_feed (λ y. IsWellFormedWith y s.mutexes) (joined_woken s) (s.input ++ bytes) s.threads h.mutexes;
-      conditions = kept_feed conditions.IsWellFormed conditions_woken (s.input ++ bytes) s.threads h.conditions;
-      barriers = barriers_same s.threads (feed (s.input ++ bytes) s.threads).threads s.barriers (λ o p. queues.fed o p (s.input ++ bytes) s.threads h.threads) h.barriers;
-      rwlocks = locks_same s.threads (feed (s.input ++ bytes) s.threads).threads s.rwlocks (λ o p. queues.fed o p (s.input ++ bytes) s.threads h.threads) h.rwlocks;
-      running = λ e. kept_feed (λ y. is_any_live y ≡ true) any_live_woken (s.input ++ bytes) s.threads (h.running e);
-      deadlines = λ e. kept_feed (AllWaits (lies_ahead s.clock)) (rows.all_woken (lies_ahead s.clock)) (s.input ++ bytes) s.threads (h.deadlines e);
-      readers = readers_after s.closed s.input (s.input ++ bytes) s.threads h.readers;
-      clock = h.clock;
-      input = (let l = less_input (s.input ++ bytes) s.threads in let m = length-append s.input bytes in omega arith);
-      fault = λ u pc c e. kept_feed (λ y. is_live y u ≡ true) (live_woken u) (s.input ++ bytes) s.threads (h.fault u pc c e);
-      fault_pc = h.fault_pc;
-    })
+pub well_formed_input : (bytes : List ℕ) (s : Tables) → length s.input + length bytes ≤ INPUT_LIMIT → IsWellFormed s → IsWellFormed (input_taken bytes s)
+well_formed_input bytes s n h = record {
+  threads = kept_feed threads.IsWellFormed well_formed_woken (s.input ++ bytes) s.threads h.threads;
+  mutexes = kept_feed (λ y. IsWellFormedWith y s.mutexes) (joined_woken s) (s.input ++ bytes) s.threads h.mutexes;
+  conditions = kept_feed conditions.IsWellFormed conditions_woken (s.input ++ bytes) s.threads h.conditions;
+  barriers = barriers_same s.threads (feed (s.input ++ bytes) s.threads).threads s.barriers (λ o p. queues.fed o p (s.input ++ bytes) s.threads h.threads) h.barriers;
+  rwlocks = locks_same s.threads (feed (s.input ++ bytes) s.threads).threads s.rwlocks (λ o p. queues.fed o p (s.input ++ bytes) s.threads h.threads) h.rwlocks;
+  running = λ e. kept_feed (λ y. is_any_live y ≡ true) any_live_woken (s.input ++ bytes) s.threads (h.running e);
+  deadlines = λ e. kept_feed (AllWaits (lies_ahead s.clock)) (rows.all_woken (lies_ahead s.clock)) (s.input ++ bytes) s.threads (h.deadlines e);
+  readers = readers_after s.closed s.input (s.input ++ bytes) s.threads h.readers;
+  clock = h.clock;
+  input = (let l = less_input (s.input ++ bytes) s.threads in let m = length-append s.input bytes in omega arith);
+  fault = λ u pc c e. kept_feed (λ y. is_live y u ≡ true) (live_woken u) (s.input ++ bytes) s.threads (h.fault u pc c e);
+  fault_pc = h.fault_pc;
+}
 
 -- THE END OF INPUT
 
@@ -144,20 +144,21 @@ well_formed_input bytes s z i n h k =
 none_in_queue : (z : State) → queue_of object.Input z ≡ [] → first_waiter object.Input z ≡ None
 none_in_queue z e = first_of_queue object.Input z ∙ ap (λ q. slice_get q 0) e
 
-pub well_formed_closed : (s z : Tables) → z ≡ input_closed s → IsWellFormed s → threads.IsWellFormed z.threads → queue_of object.Input z.threads ≡ [] → IsWellFormed z
-well_formed_closed s z i h k none =
+pub well_formed_closed : (s : Tables) → IsWellFormed s → IsWellFormed (input_closed s)
+well_formed_closed s h =
     let q = queue_of object.Input s.threads in
-    rw i (record {
-      threads = rw i at k;
+    let z = all_woken END_OF_INPUT q s.threads in
+    record {
+      threads = kept_all_woken threads.IsWellFormed well_formed_woken END_OF_INPUT q s.threads h.threads;
       mutexes = kept_all_woken (λ y. IsWellFormedWith y s.mutexes) (joined_woken s) END_OF_INPUT q s.threads h.mutexes;
       conditions = kept_all_woken conditions.IsWellFormed conditions_woken END_OF_INPUT q s.threads h.conditions;
-      barriers = barriers_same s.threads (all_woken END_OF_INPUT q s.threads) s.barriers (λ o p. queues.readers_woken o p END_OF_INPUT s.threads h.threads) h.barriers;
-      rwlocks = locks_same s.threads (all_woken END_OF_INPUT q s.threads) s.rwlocks (λ o p. queues.readers_woken o p END_OF_INPUT s.threads h.threads) h.rwlocks;
+      barriers = barriers_same s.threads z s.barriers (λ o p. queues.readers_woken o p END_OF_INPUT s.threads h.threads) h.barriers;
+      rwlocks = locks_same s.threads z s.rwlocks (λ o p. queues.readers_woken o p END_OF_INPUT s.threads h.threads) h.rwlocks;
       running = λ e. kept_all_woken (λ y. is_any_live y ≡ true) any_live_woken END_OF_INPUT q s.threads (h.running e);
       deadlines = λ e. kept_all_woken (AllWaits (lies_ahead s.clock)) (rows.all_woken (lies_ahead s.clock)) END_OF_INPUT q s.threads (h.deadlines e);
-      readers = lacks_any s.input true (all_woken END_OF_INPUT q s.threads).waits (no_first (all_woken END_OF_INPUT q s.threads).waits (none_in_queue (all_woken END_OF_INPUT q s.threads) (rw i at none)));
+      readers = lacks_any s.input true z.waits (no_first z.waits (none_in_queue z (all_woken_leave_none object.Input END_OF_INPUT s.threads h.threads)));
       clock = h.clock;
       input = h.input;
       fault = λ u pc c e. kept_all_woken (λ y. is_live y u ≡ true) (live_woken u) END_OF_INPUT q s.threads (h.fault u pc c e);
       fault_pc = h.fault_pc;
-    })
+    }

@@ -10,14 +10,17 @@ use Rattle.ckrt_thread.specs.declared.records.Live.{Live}
 use Rattle.ckrt_thread.specs.declared.records.Wait.{Wait}
 use Rattle.ckrt_thread.specs.declared.records.Reason.{Reason}
 use Rattle.ckrt_thread.specs.declared.records.Reason.TheVariants as reason
-use Rattle.ckrt_thread.specs.declared.records.Object.TheVariants as object
 use Rattle.ckrt_thread.specs.Waits.{without}
-use Rattle.ckrt_thread.specs.State.{State, is_live_thread, is_live, is_any_live, is_joined, is_detached, thread_of, free_place, first_waiter, change_live, change_thread, with_slot, off_hart, blocked, woken, with_word}
-use Rattle.ckrt_thread.specs.Rows.{After, new_thread, create_at, create_row, join_at, join_row, detach_at, detach_row, end_with, finished}
-use Rattle.ckrt_thread.specs.Granting.{GrantRule, grant, grant_up_to, wait_result}
+use Rattle.ckrt_thread.specs.State.{State, is_live_thread, is_live, is_any_live, is_joined, thread_of, free_place, change_live, change_thread, with_slot, blocked, unwaited, woken, with_word}
+use Rattle.ckrt_thread.specs.Rows.{After, new_thread, create_at, create_row, join_at, join_row, detached, detach_at, detach_row}
+use Rattle.ckrt_thread.specs.Unwinding.{next_handler}
+use Rattle.ckrt_thread.specs.Granting.{GrantRule, grant_waiters, wait_result, answered, obtained}
 use Rattle.ckrt_thread.specs.Abi.{A0}
 use Rattle.ckrt_thread.proofs.WaitLemmas.{list_all-without}
 use Rattle.ckrt_thread.proofs.SlotLemmas.{live_change}
+use Rattle.ckrt_objects.proofs.Granting.{kept_by_granting}
+use Rattle.ckrt_cancel.specs.Rows.{begin_unwind, act_on_request}
+use Rattle.ckrt_cancel.proofs.Kept as kept_cancel
 use Rattle.ckrt_calls.proofs.Choices.{choice}
 
 -- SOME THREAD HAS NOT ENDED
@@ -35,6 +38,12 @@ any_live_change f t ts h = any_live_set ts t (change_live f (option_flatten (sli
 -- a slot whose thread has ended becomes free
 any_live_free : (v i : ℕ) (s : State) → Some (thread.Ended v) ≡ thread_of s i → is_any_live s ≡ true → is_any_live (with_slot i None s) ≡ true
 any_live_free v i s e h = any_live_set s.threads i None (λ l. absurd (let n : is_live s i ≡ false = ap is_live_thread (sym e) in cc)) h
+
+-- one that lives is one
+pub any_live_one : (t : ℕ) (ts : List (Option Thread)) → is_live_thread (option_flatten (slice_get ts t)) ≡ true → list_any is_live_thread ts ≡ true
+any_live_one t [] l = absurd (cc)
+any_live_one zero (x ∷ ts) l = grind (arith, nat_tests)
+any_live_one (suc t) (x ∷ ts) l = grind (arith, nat_tests, any_live_one t ts l)
 
 abbrev AnyLive : After → Type 0
 AnyLive r = is_any_live r.threads ≡ true
@@ -57,22 +66,12 @@ any_live_join t i s h = choice AnyLive (i == t) _ _ h (any_live_join_at (thread_
 any_live_detach_at : (o : Option Thread) (i : ℕ) (s : State) → o ≡ thread_of s i → is_any_live s ≡ true → AnyLive (detach_at o i s)
 any_live_detach_at None i s e h = h
 any_live_detach_at (Some (thread.Ended v)) i s e h = any_live_free v i s e h
-any_live_detach_at (Some (thread.Live l)) i s e h = choice AnyLive (l.detached || is_joined i s) _ _ h (any_live_set s.threads i _ (λ _. refl) h)
+any_live_detach_at (Some (thread.Live l)) i s e h = choice AnyLive (l.detached || is_joined i s) _ _ h (any_live_change detached i s.threads h)
 
 pub any_live_detach : (i : ℕ) (s : State) → is_any_live s ≡ true → AnyLive (detach_row i s)
 any_live_detach i s h = any_live_detach_at (thread_of s i) i s refl h
 
--- grants keep what the end of a wait keeps
-module _ {O : Type 0} (rule : GrantRule O) (P : State → Type 0) (ends : (t v : ℕ) (s : State) → P s → P (woken t v s)) where
-  kept_grant : (n : ℕ) (w : Option Wait) (o : O) (s : State) → ((p : O) (z : State) → P z → P (grant_up_to rule n p z).1) → P s → P (grant rule (grant_up_to rule n) w o s).1
-  kept_grant n None o s more h = h
-  kept_grant n (Some w) o s more h = choice (λ (r : O × State). P r.1) (rule.is_admissible o w) _ _ (more _ _ (ends w.thread (wait_result w.reason) s h)) h
-
-  pub kept_granted : (n : ℕ) (o : O) (s : State) → P s → P (grant_up_to rule n o s).1
-  kept_granted zero o s h = h
-  kept_granted (suc n) o s h = kept_grant n (first_waiter rule.object s) o s (λ p z k. kept_granted n p z k) h
-
--- who gets what it waited for has not ended
+-- who is given a result has not ended
 pub any_live_woken : (t v : ℕ) (s : State) → is_any_live s ≡ true → is_any_live (woken t v s) ≡ true
 any_live_woken t v s h = any_live_change (with_word A0 v) t s.threads h
 
@@ -128,9 +127,25 @@ module _ {P : State → Type 0} (rule : IsWaitRule P) where
   pub kept_detach : (i : ℕ) (s : State) → P s → P (detach_row i s).threads
   kept_detach i s h = kept_detach_at (thread_of s i) i s h
 
-  kept_end : (o : Option Wait) (t v : ℕ) (s : State) → P s → P (end_with o t v s)
-  kept_end None t v s h = choice P (is_detached (thread_of s t)) _ _ (rule.same_waits s _ refl h) (rule.same_waits s _ refl h)
-  kept_end (Some w) t v s h = rule.unwaited w.thread s _ refl h
+  -- UNWINDING
 
-  pub kept_finished : (t v : ℕ) (s : State) → P s → P (finished t v s)
-  kept_finished t v s h = kept_end (first_waiter (object.End t) s) t v (off_hart t s) (rule.same_waits s _ refl h)
+  pub kept_next : (t : ℕ) (s : State) → P s → P (next_handler t s)
+  kept_next t s h = kept_cancel.kept_next P rule.same_waits rule.unwaited t s h
+
+  pub kept_begun : (t v : ℕ) (s : State) → P s → P (begin_unwind t v s)
+  kept_begun t v s h = kept_cancel.kept_begin_unwind P rule.same_waits rule.unwaited t v s h
+
+  pub kept_acted : (t : ℕ) (s : State) → P s → P (act_on_request t s)
+  kept_acted t s h = kept_cancel.kept_act_on_request P rule.same_waits rule.unwaited t s h
+
+  -- GRANTS
+
+  pub kept_answered : (o : Option ℕ) (t : ℕ) (s : State) → P s → P (answered o t s)
+  kept_answered None t s h = kept_next t s h
+  kept_answered (Some v) t s h = rule.same_waits s _ refl h
+
+  kept_obtained : (w : Wait) (s : State) → P s → P (obtained w s)
+  kept_obtained w s h = kept_answered (wait_result w.reason) w.thread (unwaited w.thread s) (rule.unwaited w.thread s _ refl h)
+
+  pub kept_granted : {O : Type 0} (grants : GrantRule O) (o : O) (s : State) → P s → P (grant_waiters grants o s).1
+  kept_granted grants o s h = kept_by_granting grants (λ _ z. P z) (λ _ z w k _ _. kept_obtained w z k) o s h

@@ -1,5 +1,5 @@
 -- Waits whose deadlines come.
-use Rattle.std.proofs.Common.{◌≡◌, ℕ, ◌<◌, ◌^◌, true, ◌&&◌, List, [], ◌∷◌, ◌++◌, length, Option, Some, None, is_some, refl, sym, ap, ◌∙◌, arith}
+use Rattle.std.proofs.Common.{◌≡◌, ℕ, ◌+◌, ◌<◌, ◌^◌, true, ◌&&◌, List, [], ◌∷◌, ◌++◌, length, drop, slice_get, Option, Some, None, is_some, refl, sym, ap, ◌∙◌, arith}
 use Rattle.std.specs.List.{list_all, list_any, find}
 use Rattle.std.proofs.lemmas.Bool.Decides.{nat_tests}
 use Rattle.ckrt_thread.specs.declared.records.Wait.{Wait}
@@ -9,27 +9,28 @@ use Rattle.ckrt_thread.specs.declared.records.RetakeResult.TheVariants as retake
 use Rattle.ckrt_thread.specs.Errors.{ETIMEDOUT}
 use Rattle.ckrt_thread.specs.Waits.{is_of, without}
 use Rattle.ckrt_thread.specs.Deadlines.{due_waits, earliest_due, is_reached}
-use Rattle.ckrt_thread.specs.State as threads
-use Rattle.ckrt_thread.specs.State.{State, woken, unwaited, blocked, set_word, count_of, is_live, is_live_thread, is_any_live, is_waiting, with_word}
+use Rattle.ckrt_thread.specs.State.{State, woken, unwaited, is_live, is_waiting}
 use Rattle.ckrt_thread.proofs.WaitLemmas.{found_waits}
-use Rattle.ckrt_thread.proofs.Known.{live_range}
-use Rattle.ckrt_thread.proofs.DueWaits.{earliest_is_due, due_rest, due_more}
+use Rattle.ckrt_thread.proofs.Known.{live_range, waits_at_most_once}
+use Rattle.ckrt_thread.proofs.DueWaits.{earliest_is_due, earliest_found, due_rest, due_more, none_due}
 use Rattle.ckrt_mutex.specs.Rows.{After}
 use Rattle.ckrt_mutex.specs.WellFormed.{IsWellFormedWith}
 use Rattle.ckrt_mutex.proofs.Rows.{well_formed_retake}
+use Rattle.ckrt_objects.proofs.Granting.{well_formed_woken}
 use Rattle.ckrt_objects.proofs.Waits.{found_any}
 use Rattle.ckrt_calls.specs.declared.table.Tables.{Tables}
-use Rattle.ckrt_calls.specs.Table.{timed_out, all_timed_out}
+use Rattle.ckrt_calls.specs.Table.{timed_out, all_timed_out, ticked}
 use Rattle.ckrt_calls.specs.WellFormed.{IsWellFormed, lies_ahead, lacks_input}
 use Rattle.ckrt_calls.proofs.ThreadRows as rows
 use Rattle.ckrt_calls.proofs.ThreadRows.{AllWaits, all_blocked, any_live_woken, any_live_change}
 use Rattle.ckrt_calls.proofs.MutexRows as mutex
 use Rattle.ckrt_calls.proofs.MutexRows.{wait_rule}
 use Rattle.ckrt_calls.proofs.Queues.{SameQueues, barriers_same, locks_same, timed_ended, timed_resumed}
-use Rattle.ckrt_calls.proofs.Kept.{retake_any_live, resume_all, conditions_woken}
+use Rattle.ckrt_calls.proofs.Kept.{ahead, lacks, ahead_rule, lacks_rule, resume_any_live, resume_all, conditions_woken}
 use Rattle.ckrt_calls.proofs.Readers.{live_woken, joined_woken}
 use Rattle.ckrt_cond.specs.Rows.{resume_row}
 use Rattle.ckrt_cond.specs.WellFormed.{may_resume, is_at_condition_with}
+use Rattle.ckrt_cond.proofs.ThreadsKept.{threads_resume}
 use Rattle.ckrt_cond.proofs.Rows.{conditions_resume, resume_live, resume_free, resume_room, resume_count}
 
 -- A THREAD WHOSE WAIT ENDS
@@ -38,9 +39,9 @@ pub found_waiting : (s : State) (w : Wait) → find (is_of w.thread) s.waits ≡
 found_waiting s w e = found_waits (is_of w.thread) s.waits w e
 
 -- its wait ends
-well_formed_ended_wait : (t v : ℕ) (s : Tables) → IsWellFormed s → SameQueues s.threads (woken t v s.threads) → threads.IsWellFormed (woken t v s.threads) → IsWellFormed (record s { threads = woken t v s.threads })
-well_formed_ended_wait t v s h same k = record {
-  threads = k;
+well_formed_ended_wait : (t v : ℕ) (s : Tables) → IsWellFormed s → SameQueues s.threads (woken t v s.threads) → IsWellFormed (record s { threads = woken t v s.threads })
+well_formed_ended_wait t v s h same = record {
+  threads = well_formed_woken t v s.threads h.threads;
   mutexes = joined_woken s t v s.threads h.mutexes;
   conditions = conditions_woken t v s.threads h.conditions;
   barriers = barriers_same s.threads (woken t v s.threads) s.barriers same h.barriers;
@@ -79,16 +80,16 @@ resumed_mutexes t a s h m =
     (live_range s.threads t h.threads live) (resume_free t s.threads h.threads) (resume_room t a s.threads m s.mutexes h.mutexes) (resume_count t a s.threads m s.mutexes h.mutexes)
 
 well_formed_resumed : (t a : ℕ) (s : Tables) → IsWellFormed s → may_resume t a s.threads ≡ true → SameQueues s.threads (Resumed t a s).threads
-    → threads.IsWellFormed (Resumed t a s).threads → IsWellFormed (record s { threads = (Resumed t a s).threads; mutexes = (Resumed t a s).mutexes })
-well_formed_resumed t a s h m same k = record {
-  threads = k;
+    → IsWellFormed (record s { threads = (Resumed t a s).threads; mutexes = (Resumed t a s).mutexes })
+well_formed_resumed t a s h m same = record {
+  threads = threads_resume t a retake.TimedOut s.threads s.mutexes h.threads m refl;
   mutexes = resumed_mutexes t a s h m;
   conditions = conditions_resume t a retake.TimedOut s.threads s.mutexes h.conditions;
   barriers = barriers_same s.threads (Resumed t a s).threads s.barriers same h.barriers;
   rwlocks = locks_same s.threads (Resumed t a s).threads s.rwlocks same h.rwlocks;
-  running = λ x. retake_any_live t a retake.TimedOut (unwaited t s.threads) s.mutexes (h.running x);
-  deadlines = λ x. resume_all (lies_ahead s.clock) retake.TimedOut (λ u b. refl) t a s.threads s.mutexes (h.deadlines x);
-  readers = resume_all (lacks_input s.input s.closed) retake.TimedOut (λ u b. refl) t a s.threads s.mutexes h.readers;
+  running = λ x. resume_any_live t a ETIMEDOUT retake.TimedOut s.threads s.mutexes refl (h.running x);
+  deadlines = λ x. resume_all (ahead s) (ahead_rule s) retake.TimedOut (λ u b. refl) t a s.threads s.mutexes (h.deadlines x);
+  readers = resume_all (lacks s) (lacks_rule s) retake.TimedOut (λ u b. refl) t a s.threads s.mutexes h.readers;
   clock = h.clock;
   input = h.input;
   fault = λ u pc c x. resumed_live u t a s (h.fault u pc c x);
@@ -98,19 +99,19 @@ well_formed_resumed t a s h m same k = record {
 -- A DUE WAIT ENDS
 
 module _ (w : Wait) (s : Tables) (h : IsWellFormed s) (e : find (is_of w.thread) s.threads.waits ≡ Some w) (d : is_some w.deadline ≡ true) where
-  timed_out_by : (r : Reason) → w.reason ≡ r → threads.IsWellFormed (timed_out r w.thread s).threads → IsWellFormed (timed_out r w.thread s)
-  timed_out_by reason.Sleep i k = well_formed_ended_wait w.thread 0 s h (timed_ended w s.threads h.threads e d 0) k
-  timed_out_by (reason.Condition c a) i k = well_formed_resumed w.thread a s h (found_resumes w c a s.threads e i) (timed_resumed w s.threads h.threads e d a s.mutexes) k
-  timed_out_by reason.Input i k = well_formed_ended_wait w.thread ETIMEDOUT s h (timed_ended w s.threads h.threads e d ETIMEDOUT) k
-  timed_out_by (reason.Join j) i k = well_formed_ended_wait w.thread ETIMEDOUT s h (timed_ended w s.threads h.threads e d ETIMEDOUT) k
-  timed_out_by (reason.Lock a) i k = well_formed_ended_wait w.thread ETIMEDOUT s h (timed_ended w s.threads h.threads e d ETIMEDOUT) k
-  timed_out_by (reason.Retake a v) i k = well_formed_ended_wait w.thread ETIMEDOUT s h (timed_ended w s.threads h.threads e d ETIMEDOUT) k
-  timed_out_by (reason.Barrier b) i k = well_formed_ended_wait w.thread ETIMEDOUT s h (timed_ended w s.threads h.threads e d ETIMEDOUT) k
-  timed_out_by (reason.Read l) i k = well_formed_ended_wait w.thread ETIMEDOUT s h (timed_ended w s.threads h.threads e d ETIMEDOUT) k
-  timed_out_by (reason.Write l) i k = well_formed_ended_wait w.thread ETIMEDOUT s h (timed_ended w s.threads h.threads e d ETIMEDOUT) k
+  timed_out_by : (r : Reason) → w.reason ≡ r → IsWellFormed (timed_out r w.thread s)
+  timed_out_by reason.Sleep i = well_formed_ended_wait w.thread 0 s h (timed_ended w s.threads h.threads e d 0)
+  timed_out_by (reason.Condition c a) i = well_formed_resumed w.thread a s h (found_resumes w c a s.threads e i) (timed_resumed w s.threads h.threads e d a s.mutexes)
+  timed_out_by reason.Input i = well_formed_ended_wait w.thread ETIMEDOUT s h (timed_ended w s.threads h.threads e d ETIMEDOUT)
+  timed_out_by (reason.Join j) i = well_formed_ended_wait w.thread ETIMEDOUT s h (timed_ended w s.threads h.threads e d ETIMEDOUT)
+  timed_out_by (reason.Lock a) i = well_formed_ended_wait w.thread ETIMEDOUT s h (timed_ended w s.threads h.threads e d ETIMEDOUT)
+  timed_out_by (reason.Retake a v) i = well_formed_ended_wait w.thread ETIMEDOUT s h (timed_ended w s.threads h.threads e d ETIMEDOUT)
+  timed_out_by (reason.Barrier b) i = well_formed_ended_wait w.thread ETIMEDOUT s h (timed_ended w s.threads h.threads e d ETIMEDOUT)
+  timed_out_by (reason.Read l) i = well_formed_ended_wait w.thread ETIMEDOUT s h (timed_ended w s.threads h.threads e d ETIMEDOUT)
+  timed_out_by (reason.Write l) i = well_formed_ended_wait w.thread ETIMEDOUT s h (timed_ended w s.threads h.threads e d ETIMEDOUT)
 
-pub well_formed_timed_out : (w : Wait) (s z : Tables) → z ≡ timed_out w.reason w.thread s → IsWellFormed s → find (is_of w.thread) s.threads.waits ≡ Some w → is_some w.deadline ≡ true → threads.IsWellFormed z.threads → IsWellFormed z
-well_formed_timed_out w s z i h e d k = rw i (timed_out_by w s h e d w.reason refl (rw i at k))
+  pub well_formed_timed_out : IsWellFormed (timed_out w.reason w.thread s)
+  well_formed_timed_out = timed_out_by w.reason refl
 
 reached_timed : (now : ℕ) (d : Option ℕ) → is_reached now d ≡ true → is_some d ≡ true
 reached_timed now None h = absurd (cc)
@@ -171,3 +172,26 @@ well_formed_clock now s h l a = record {
   fault = h.fault;
   fault_pc = h.fault_pc;
 }
+
+-- ALL DUE WAITS END
+
+record AllEnded (now : ℕ) (s : Tables) : Type 0 where
+  tables : IsWellFormed s
+  none : length (due_waits now s.threads.waits) ≡ 0
+
+all_end : (now : ℕ) (ws : List Wait) (s : Tables) → due_waits now s.threads.waits ≡ ws → IsWellFormed s → AllEnded now (all_timed_out ws s)
+all_end now [] s e h = record { tables = h; none = ap length e }
+all_end now (w ∷ ws) s e h =
+    let first : earliest_due now s.threads.waits ≡ Some w = ap (λ ds. slice_get ds 0) e in
+    let found = earliest_found now s.threads.waits w first (waits_at_most_once s.threads w.thread h.threads) in
+    let z = timed_out w.reason w.thread s in
+    let rest = due_first now w s z refl first found in
+    all_end now ws z (ap (λ ds. drop 1 ds) (sym rest ∙ e)) (well_formed_timed_out w s h found (due_timed now s.threads.waits w first))
+
+-- ticks pass
+pub well_formed_ticked : (k : ℕ) (s : Tables) → s.clock + k < 2 ^ 63 → IsWellFormed s → IsWellFormed (ticked k s).tables
+well_formed_ticked k s l h =
+    let now = s.clock + k in
+    let z = all_timed_out (due_waits now s.threads.waits) s in
+    let all = all_end now (due_waits now s.threads.waits) s refl h in
+    well_formed_clock now z all.tables l (none_due now z.threads.waits all.none)

@@ -1,5 +1,5 @@
 -- The table of calls, and what input and time do to the tables.
-use Rattle.std.specs.Prelude.{ℕ, ◌+◌, ◌*◌, ◌/◌, ◌%◌, ◌^◌, ◌==◌, nat_le, not, Bool, true, false, if◌then◌else◌, Option, Some, None, List, [], ◌∷◌, ◌++◌, length}
+use Rattle.std.specs.Prelude.{ℕ, ◌+◌, ◌*◌, ◌/◌, ◌%◌, ◌^◌, ◌==◌, nat_le, not, ◌&&◌, Bool, true, false, if◌then◌else◌, Option, Some, None, List, [], ◌∷◌, ◌++◌, length}
 use Rattle.ckrt_rv32i.specs.Registers.{Registers}
 use Rattle.ckrt_rv32i.specs.Registers.{get}
 use Rattle.ckrt_thread.specs.declared.records.CallResult.{CallResult}
@@ -16,12 +16,28 @@ use Rattle.ckrt_thread.specs.Deadlines.{due_waits}
 use Rattle.ckrt_thread.specs.Granting.{queue_of}
 use Rattle.ckrt_thread.specs.State as thread
 use Rattle.ckrt_thread.specs.Rows as rows
+use Rattle.ckrt_thread.specs.Unwinding as unwinding
 use Rattle.ckrt_mutex.specs.Rows as mutex
 use Rattle.ckrt_cond.specs.Rows as condition
 use Rattle.ckrt_barrier.specs.Rows as barrier
 use Rattle.ckrt_rwlock.specs.Rows as rwlock
+use Rattle.ckrt_cancel.specs.Rows as cancel
 use Rattle.ckrt_calls.specs.declared.number.Call.{Call}
 use Rattle.ckrt_calls.specs.declared.number.Call.TheVariants as call
+use Rattle.ckrt_calls.specs.declared.number.ProcessCall.{ProcessCall}
+use Rattle.ckrt_calls.specs.declared.number.ProcessCall.TheVariants as process_call
+use Rattle.ckrt_calls.specs.declared.number.ThreadCall.{ThreadCall}
+use Rattle.ckrt_calls.specs.declared.number.ThreadCall.TheVariants as thread_call
+use Rattle.ckrt_calls.specs.declared.number.MutexCall.{MutexCall}
+use Rattle.ckrt_calls.specs.declared.number.MutexCall.TheVariants as mutex_call
+use Rattle.ckrt_calls.specs.declared.number.ConditionCall.{ConditionCall}
+use Rattle.ckrt_calls.specs.declared.number.ConditionCall.TheVariants as condition_call
+use Rattle.ckrt_calls.specs.declared.number.BarrierCall.{BarrierCall}
+use Rattle.ckrt_calls.specs.declared.number.BarrierCall.TheVariants as barrier_call
+use Rattle.ckrt_calls.specs.declared.number.RwLockCall.{RwLockCall}
+use Rattle.ckrt_calls.specs.declared.number.RwLockCall.TheVariants as rwlock_call
+use Rattle.ckrt_calls.specs.declared.number.CancellationCall.{CancellationCall}
+use Rattle.ckrt_calls.specs.declared.number.CancellationCall.TheVariants as cancellation_call
 use Rattle.ckrt_calls.specs.declared.table.Status.{Status}
 use Rattle.ckrt_calls.specs.declared.table.Status.TheVariants.{Running, Exited}
 use Rattle.ckrt_calls.specs.declared.table.Tables.{Tables}
@@ -100,6 +116,28 @@ at_moment now s = record {
 abbrev pub ticked : ℕ → Tables → Ticked
 ticked k s = at_moment (s.clock + k) s
 
+-- UNWINDING
+
+-- with the last thread the program exits with 0 (POSIX.1-2017, pthread_exit)
+abbrev pub status_with : Bool → Status → Status
+status_with is_any_live st = if is_any_live then st else Exited 0
+
+-- a thread unwinds, which leaves these threads: it may have ended
+abbrev pub by_unwinding : Tables → thread.State → Tables
+by_unwinding s z = record s { threads = z; status = status_with (thread.is_any_live z) s.status }
+
+-- the thread t, which unwinds, goes to its next handler, or ends
+abbrev pub unwound : ℕ → Tables → Tables
+unwound t s = by_unwinding s (unwinding.next_handler t s.threads)
+
+-- the thread t begins to unwind, to end with the value v
+abbrev pub begun_unwind : ℕ → ℕ → Tables → Tables
+begun_unwind t v s = by_unwinding s (cancel.begin_unwind t v s.threads)
+
+-- the thread t acts on the request to cancel it
+abbrev pub acted : ℕ → Tables → Tables
+acted t s = by_unwinding s (cancel.act_on_request t s.threads)
+
 -- CALLS
 
 -- what a call answers, the byte that it puts, and what it leaves
@@ -111,38 +149,44 @@ pub record After : Type 0 where
 -- The numbers are this project's choice.
 abbrev pub call_of : ℕ → Option Call
 call_of n =
-    if n == 1 then Some call.Exit
-    else if n == 2 then Some call.Putc
-    else if n == 3 then Some call.Getc
-    else if n == 4 then Some call.Clock
-    else if n == 5 then Some call.SleepUntil
-    else if n == 10 then Some call.Create
-    else if n == 11 then Some call.Join
-    else if n == 12 then Some call.Detach
-    else if n == 13 then Some call.ThreadExit
-    else if n == 14 then Some call.SelfId
-    else if n == 20 then Some call.MutexInit
-    else if n == 21 then Some call.MutexDestroy
-    else if n == 22 then Some call.MutexLock
-    else if n == 23 then Some call.MutexTryLock
-    else if n == 24 then Some call.MutexTimedLock
-    else if n == 25 then Some call.MutexUnlock
-    else if n == 30 then Some call.ConditionInit
-    else if n == 31 then Some call.ConditionDestroy
-    else if n == 32 then Some call.ConditionWait
-    else if n == 33 then Some call.ConditionTimedWait
-    else if n == 34 then Some call.ConditionSignal
-    else if n == 35 then Some call.ConditionBroadcast
-    else if n == 40 then Some call.BarrierInit
-    else if n == 41 then Some call.BarrierDestroy
-    else if n == 42 then Some call.BarrierWait
-    else if n == 50 then Some call.RwLockInit
-    else if n == 51 then Some call.RwLockDestroy
-    else if n == 52 then Some call.RwLockRdLock
-    else if n == 53 then Some call.RwLockTryRdLock
-    else if n == 54 then Some call.RwLockWrLock
-    else if n == 55 then Some call.RwLockTryWrLock
-    else if n == 56 then Some call.RwLockUnlock
+    if n == 1 then Some (call.Process process_call.Exit)
+    else if n == 2 then Some (call.Process process_call.Putc)
+    else if n == 3 then Some (call.Process process_call.Getc)
+    else if n == 4 then Some (call.Process process_call.Clock)
+    else if n == 5 then Some (call.Process process_call.SleepUntil)
+    else if n == 10 then Some (call.Thread thread_call.Create)
+    else if n == 11 then Some (call.Thread thread_call.Join)
+    else if n == 12 then Some (call.Thread thread_call.Detach)
+    else if n == 13 then Some (call.Thread thread_call.Exit)
+    else if n == 14 then Some (call.Thread thread_call.SelfId)
+    else if n == 20 then Some (call.Mutex mutex_call.Init)
+    else if n == 21 then Some (call.Mutex mutex_call.Destroy)
+    else if n == 22 then Some (call.Mutex mutex_call.Lock)
+    else if n == 23 then Some (call.Mutex mutex_call.TryLock)
+    else if n == 24 then Some (call.Mutex mutex_call.TimedLock)
+    else if n == 25 then Some (call.Mutex mutex_call.Unlock)
+    else if n == 30 then Some (call.Condition condition_call.Init)
+    else if n == 31 then Some (call.Condition condition_call.Destroy)
+    else if n == 32 then Some (call.Condition condition_call.Wait)
+    else if n == 33 then Some (call.Condition condition_call.TimedWait)
+    else if n == 34 then Some (call.Condition condition_call.Signal)
+    else if n == 35 then Some (call.Condition condition_call.Broadcast)
+    else if n == 40 then Some (call.Barrier barrier_call.Init)
+    else if n == 41 then Some (call.Barrier barrier_call.Destroy)
+    else if n == 42 then Some (call.Barrier barrier_call.Wait)
+    else if n == 50 then Some (call.RwLock rwlock_call.Init)
+    else if n == 51 then Some (call.RwLock rwlock_call.Destroy)
+    else if n == 52 then Some (call.RwLock rwlock_call.RdLock)
+    else if n == 53 then Some (call.RwLock rwlock_call.TryRdLock)
+    else if n == 54 then Some (call.RwLock rwlock_call.WrLock)
+    else if n == 55 then Some (call.RwLock rwlock_call.TryWrLock)
+    else if n == 56 then Some (call.RwLock rwlock_call.Unlock)
+    else if n == 60 then Some (call.Cancellation cancellation_call.Cancel)
+    else if n == 61 then Some (call.Cancellation cancellation_call.TestCancel)
+    else if n == 62 then Some (call.Cancellation cancellation_call.SetCancelState)
+    else if n == 63 then Some (call.Cancellation cancellation_call.SetCancelType)
+    else if n == 64 then Some (call.Cancellation cancellation_call.CleanupPush)
+    else if n == 65 then Some (call.Cancellation cancellation_call.CleanupPop)
     else None
 
 -- a result alone
@@ -189,86 +233,142 @@ sleep_row t moment s =
     else (if nat_le moment s.clock then done 0 s
     else waits t reason.Sleep (Some moment) s)
 
--- the status after a thread ended: with the last one the program exits with 0 (POSIX.1-2017, pthread_exit)
-abbrev pub status_with : Bool → Status → Status
-status_with is_any_live st = if is_any_live then st else Exited 0
+-- THE ROWS of calls, which the thread t makes with the registers r.
 
--- the thread t, which is on a hart, ends with the value v
-abbrev pub thread_ended : ℕ → ℕ → Tables → Tables
-thread_ended t v s =
-    record s { threads = rows.finished t v s.threads; status = status_with (thread.is_any_live (rows.finished t v s.threads)) s.status }
-
--- The row of a call, which the thread t makes with the registers r.
-abbrev pub row : Call → ℕ → Registers → Tables → After
+-- the rows of the process, its console and its time
+abbrev pub process_row : ProcessCall → ℕ → Registers → Tables → After
 -- POSIX.1-2017, _exit; that the status is a whole word is this project's choice
-row call.Exit t r s = record { result = Moved; put = None; tables = record s { status = Exited (get r 10) } }
+process_row process_call.Exit t r s = record { result = Moved; put = None; tables = record s { status = Exited (get r 10) } }
 -- this project's choice: the low byte goes to the console
-row call.Putc t r s = record { result = Done 0; put = Some (get r 10 % 256); tables = s }
+process_row process_call.Putc t r s = record { result = Done 0; put = Some (get r 10 % 256); tables = s }
 -- POSIX.1-2017, getchar, on the console's input; that a thread waits for a byte is this project's choice
-row call.Getc t r s = getc_of s.input t s
+process_row process_call.Getc t r s = getc_of s.input t s
 -- POSIX.1-2017, clock_gettime, in ticks
-row call.Clock t r s = clock_row t s
+process_row process_call.Clock t r s = clock_row t s
 -- POSIX.1-2017, clock_nanosleep with TIMER_ABSTIME, in ticks; without signals
-row call.SleepUntil t r s = sleep_row t (moment_of (get r 10) (get r 11)) s
+process_row process_call.SleepUntil t r s = sleep_row t (moment_of (get r 10) (get r 11)) s
+
+-- the rows of threads
+abbrev pub thread_row : ThreadCall → ℕ → Registers → Tables → After
 -- POSIX.1-2017, pthread_create
-row call.Create t r s = by_threads s (rows.create_row t (get r 10) (get r 11) (get r 12) (get r 13) s.threads)
+thread_row thread_call.Create t r s = by_threads s (rows.create_row t (get r 10) (get r 11) (get r 12) (get r 13) s.threads)
 -- POSIX.1-2017, pthread_join
-row call.Join t r s = by_threads s (rows.join_row t (get r 10) s.threads)
+thread_row thread_call.Join t r s = by_threads s (rows.join_row t (get r 10) s.threads)
 -- POSIX.1-2017, pthread_detach
-row call.Detach t r s = by_threads s (rows.detach_row (get r 10) s.threads)
--- POSIX.1-2017, pthread_exit
-row call.ThreadExit t r s = record { result = Moved; put = None; tables = thread_ended t (get r 10) s }
+thread_row thread_call.Detach t r s = by_threads s (rows.detach_row (get r 10) s.threads)
+-- POSIX.1-2017, pthread_exit: its handlers run first
+thread_row thread_call.Exit t r s = record { result = Moved; put = None; tables = begun_unwind t (get r 10) s }
 -- POSIX.1-2017, pthread_self
-row call.SelfId t r s = done t s
+thread_row thread_call.SelfId t r s = done t s
+
+-- the rows of mutexes
+abbrev pub mutex_row : MutexCall → ℕ → Registers → Tables → After
 -- POSIX.1-2017, pthread_mutex_init
-row call.MutexInit t r s = by_mutexes s (mutex.init_row (get r 10) (get r 11) s.threads s.mutexes)
+mutex_row mutex_call.Init t r s = by_mutexes s (mutex.init_row (get r 10) (get r 11) s.threads s.mutexes)
 -- POSIX.1-2017, pthread_mutex_destroy
-row call.MutexDestroy t r s = by_mutexes s (mutex.destroy_row (get r 10) s.threads s.mutexes)
+mutex_row mutex_call.Destroy t r s = by_mutexes s (mutex.destroy_row (get r 10) s.threads s.mutexes)
 -- POSIX.1-2017, pthread_mutex_lock
-row call.MutexLock t r s = by_mutexes s (mutex.lock_row t (get r 10) s.threads s.mutexes)
+mutex_row mutex_call.Lock t r s = by_mutexes s (mutex.lock_row t (get r 10) s.threads s.mutexes)
 -- POSIX.1-2017, pthread_mutex_trylock
-row call.MutexTryLock t r s = by_mutexes s (mutex.trylock_row t (get r 10) s.threads s.mutexes)
+mutex_row mutex_call.TryLock t r s = by_mutexes s (mutex.trylock_row t (get r 10) s.threads s.mutexes)
 -- POSIX.1-2017, pthread_mutex_timedlock
-row call.MutexTimedLock t r s = by_mutexes s (mutex.timedlock_row t (get r 10) (moment_of (get r 11) (get r 12)) s.clock s.threads s.mutexes)
+mutex_row mutex_call.TimedLock t r s = by_mutexes s (mutex.timedlock_row t (get r 10) (moment_of (get r 11) (get r 12)) s.clock s.threads s.mutexes)
 -- POSIX.1-2017, pthread_mutex_unlock
-row call.MutexUnlock t r s = by_mutexes s (mutex.unlock_row t (get r 10) s.threads s.mutexes)
+mutex_row mutex_call.Unlock t r s = by_mutexes s (mutex.unlock_row t (get r 10) s.threads s.mutexes)
+
+-- the rows of conditions
+abbrev pub condition_row : ConditionCall → ℕ → Registers → Tables → After
 -- POSIX.1-2017, pthread_cond_init
-row call.ConditionInit t r s = by_mutexes s (condition.init_row (get r 10) s.threads s.mutexes)
+condition_row condition_call.Init t r s = by_mutexes s (condition.init_row (get r 10) s.threads s.mutexes)
 -- POSIX.1-2017, pthread_cond_destroy
-row call.ConditionDestroy t r s = by_mutexes s (condition.destroy_row (get r 10) s.threads s.mutexes)
+condition_row condition_call.Destroy t r s = by_mutexes s (condition.destroy_row (get r 10) s.threads s.mutexes)
 -- POSIX.1-2017, pthread_cond_wait
-row call.ConditionWait t r s = by_mutexes s (condition.wait_row t (get r 10) (get r 11) s.threads s.mutexes)
+condition_row condition_call.Wait t r s = by_mutexes s (condition.wait_row t (get r 10) (get r 11) s.threads s.mutexes)
 -- POSIX.1-2017, pthread_cond_timedwait
-row call.ConditionTimedWait t r s = by_mutexes s (condition.timedwait_row t (get r 10) (get r 11) (moment_of (get r 12) (get r 13)) s.clock s.threads s.mutexes)
+condition_row condition_call.TimedWait t r s = by_mutexes s (condition.timedwait_row t (get r 10) (get r 11) (moment_of (get r 12) (get r 13)) s.clock s.threads s.mutexes)
 -- POSIX.1-2017, pthread_cond_signal
-row call.ConditionSignal t r s = by_mutexes s (condition.signal_row (get r 10) s.threads s.mutexes)
+condition_row condition_call.Signal t r s = by_mutexes s (condition.signal_row (get r 10) s.threads s.mutexes)
 -- POSIX.1-2017, pthread_cond_broadcast
-row call.ConditionBroadcast t r s = by_mutexes s (condition.broadcast_row (get r 10) s.threads s.mutexes)
+condition_row condition_call.Broadcast t r s = by_mutexes s (condition.broadcast_row (get r 10) s.threads s.mutexes)
+
+-- the rows of barriers
+abbrev pub barrier_row : BarrierCall → ℕ → Registers → Tables → After
 -- POSIX.1-2017, pthread_barrier_init
-row call.BarrierInit t r s = by_barriers s (barrier.init_row (get r 10) (get r 11) s.threads s.barriers)
+barrier_row barrier_call.Init t r s = by_barriers s (barrier.init_row (get r 10) (get r 11) s.threads s.barriers)
 -- POSIX.1-2017, pthread_barrier_destroy
-row call.BarrierDestroy t r s = by_barriers s (barrier.destroy_row (get r 10) s.threads s.barriers)
+barrier_row barrier_call.Destroy t r s = by_barriers s (barrier.destroy_row (get r 10) s.threads s.barriers)
 -- POSIX.1-2017, pthread_barrier_wait
-row call.BarrierWait t r s = by_barriers s (barrier.wait_row t (get r 10) s.threads s.barriers)
+barrier_row barrier_call.Wait t r s = by_barriers s (barrier.wait_row t (get r 10) s.threads s.barriers)
+
+-- the rows of read-write locks
+abbrev pub rwlock_row : RwLockCall → ℕ → Registers → Tables → After
 -- POSIX.1-2017, pthread_rwlock_init
-row call.RwLockInit t r s = by_rwlocks s (rwlock.init_row (get r 10) s.threads s.rwlocks)
+rwlock_row rwlock_call.Init t r s = by_rwlocks s (rwlock.init_row (get r 10) s.threads s.rwlocks)
 -- POSIX.1-2017, pthread_rwlock_destroy
-row call.RwLockDestroy t r s = by_rwlocks s (rwlock.destroy_row (get r 10) s.threads s.rwlocks)
+rwlock_row rwlock_call.Destroy t r s = by_rwlocks s (rwlock.destroy_row (get r 10) s.threads s.rwlocks)
 -- POSIX.1-2017, pthread_rwlock_rdlock
-row call.RwLockRdLock t r s = by_rwlocks s (rwlock.rdlock_row t (get r 10) s.threads s.rwlocks)
+rwlock_row rwlock_call.RdLock t r s = by_rwlocks s (rwlock.rdlock_row t (get r 10) s.threads s.rwlocks)
 -- POSIX.1-2017, pthread_rwlock_tryrdlock
-row call.RwLockTryRdLock t r s = by_rwlocks s (rwlock.tryrdlock_row t (get r 10) s.threads s.rwlocks)
+rwlock_row rwlock_call.TryRdLock t r s = by_rwlocks s (rwlock.tryrdlock_row t (get r 10) s.threads s.rwlocks)
 -- POSIX.1-2017, pthread_rwlock_wrlock
-row call.RwLockWrLock t r s = by_rwlocks s (rwlock.wrlock_row t (get r 10) s.threads s.rwlocks)
+rwlock_row rwlock_call.WrLock t r s = by_rwlocks s (rwlock.wrlock_row t (get r 10) s.threads s.rwlocks)
 -- POSIX.1-2017, pthread_rwlock_trywrlock
-row call.RwLockTryWrLock t r s = by_rwlocks s (rwlock.trywrlock_row t (get r 10) s.threads s.rwlocks)
+rwlock_row rwlock_call.TryWrLock t r s = by_rwlocks s (rwlock.trywrlock_row t (get r 10) s.threads s.rwlocks)
 -- POSIX.1-2017, pthread_rwlock_unlock
-row call.RwLockUnlock t r s = by_rwlocks s (rwlock.unlock_row t (get r 10) s.threads s.rwlocks)
+rwlock_row rwlock_call.Unlock t r s = by_rwlocks s (rwlock.unlock_row t (get r 10) s.threads s.rwlocks)
+
+-- the rows of cancellation and clean-up handlers
+abbrev pub cancellation_row : CancellationCall → ℕ → Registers → Tables → After
+-- POSIX.1-2017, pthread_cancel
+cancellation_row cancellation_call.Cancel t r s = by_mutexes s (cancel.request_row (get r 10) s.threads s.mutexes)
+-- POSIX.1-2017, pthread_testcancel, where there is no request to act on
+cancellation_row cancellation_call.TestCancel t r s = done 0 s
+-- POSIX.1-2017, pthread_setcancelstate
+cancellation_row cancellation_call.SetCancelState t r s = by_threads s (cancel.set_state_row t (get r 10) s.threads)
+-- POSIX.1-2017, pthread_setcanceltype
+cancellation_row cancellation_call.SetCancelType t r s = by_threads s (cancel.set_type_row t (get r 10) s.threads)
+-- POSIX.1-2017, pthread_cleanup_push
+cancellation_row cancellation_call.CleanupPush t r s = by_threads s (cancel.push_row t (get r 10) (get r 11) s.threads)
+-- POSIX.1-2017, pthread_cleanup_pop; the handler returns to the address after the call
+cancellation_row cancellation_call.CleanupPop t r s = by_threads s (cancel.pop_row t (get r 10) r.pc s.threads)
+
+-- the row of a call that is made
+abbrev pub row : Call → ℕ → Registers → Tables → After
+row (call.Process c) t r s = process_row c t r s
+row (call.Thread c) t r s = thread_row c t r s
+row (call.Mutex c) t r s = mutex_row c t r s
+row (call.Condition c) t r s = condition_row c t r s
+row (call.Barrier c) t r s = barrier_row c t r s
+row (call.RwLock c) t r s = rwlock_row c t r s
+row (call.Cancellation c) t r s = cancellation_row c t r s
+
+-- CANCELLATION POINTS (POSIX.1-2017, 2.9.5.2). That getc and putc are ones is this project's choice, which POSIX permits.
+
+abbrev pub is_point : Call → Bool
+is_point (call.Process process_call.Putc) = true
+is_point (call.Process process_call.Getc) = true
+is_point (call.Process process_call.SleepUntil) = true
+is_point (call.Thread thread_call.Join) = true
+is_point (call.Condition condition_call.Wait) = true
+is_point (call.Condition condition_call.TimedWait) = true
+is_point (call.Cancellation cancellation_call.TestCancel) = true
+is_point _ = false
+
+-- at a cancellation point the thread t has a request to act on
+abbrev pub acts_at : Call → ℕ → Tables → Bool
+acts_at c t s = is_point c && cancel.acts_at_point t s.threads
+
+-- the thread t acts on the request, and does not make the call
+abbrev pub acted_at : ℕ → Tables → After
+acted_at t s = record { result = Moved; put = None; tables = acted t s }
+
+abbrev pub row_or_point : Call → ℕ → Registers → Tables → After
+row_or_point c t r s = if acts_at c t s then acted_at t s else row c t r s
 
 -- a number that is in no row answers ENOSYS
 abbrev pub row_or_unknown : Option Call → ℕ → Registers → Tables → After
 row_or_unknown None t r s = done ENOSYS s
-row_or_unknown (Some c) t r s = row c t r s
+row_or_unknown (Some c) t r s = row_or_point c t r s
 
 -- the call that stands in registers; a thread that has ended has none
 abbrev pub called_with : Option Registers → ℕ → Tables → After

@@ -42,7 +42,6 @@ fn end_wait(tables: &mut Tables, wait: &Wait)
     ensures tables { tables.new ≡ timed_out wait.now.reason wait.now.thread tables.old }
 {
     time_out(tables, wait);
-    tables.threads.known();
 }
 
 /// Ends each wait that is due at this moment, in order of deadline and then of thread. The result is how many.

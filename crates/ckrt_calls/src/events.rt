@@ -19,7 +19,6 @@ pub fn take_input(tables: &mut Tables, bytes: &[u8])
 {
     tables.input.append(bytes);
     feed_readers(&mut tables.threads, &mut tables.input);
-    tables.threads.known();
 }
 
 /// While a byte is left and a thread waits for one, who waits longest gets the first.
@@ -44,7 +43,6 @@ pub fn close_input(tables: &mut Tables)
 {
     tables.closed = true;
     tables.threads.wake_all(Object::Input, END_OF_INPUT);
-    tables.threads.known();
 }
 
 /// Some ticks pass, up to a moment below 2^63. Each wait whose deadline comes ends, in order of deadline and then of

@@ -9,10 +9,15 @@ mod input;
 mod number;
 mod table;
 mod time;
+mod unwinding;
 
 pub use calls::call;
 pub use console::END_OF_INPUT;
 pub use events::{close_input, take_input, tick};
 pub use input::{INPUT_LIMIT, InputQueue};
-pub use number::Call;
-pub use table::{Status, Tables, end_thread};
+pub use number::{
+    BarrierCall, Call, CancellationCall, ConditionCall, MutexCall, ProcessCall, RwLockCall,
+    ThreadCall,
+};
+pub use table::{Status, Tables};
+pub use unwinding::{act_on_request, begin_unwind, next_handler};

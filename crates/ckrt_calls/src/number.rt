@@ -1,10 +1,22 @@
 //! The calls of a guest and their numbers.
 ghost use Rattle.std.specs.Prelude.{◌≡◌};
-ghost use Rattle.ckrt_calls.specs.Table.{call_of};
+ghost use Rattle.ckrt_calls.specs.Table.{call_of, is_point};
 
 /// A call that is in the table. Its number stands in x17 and its arguments in x10 to x13.
 #[derive(Clone, Copy, Debug, PartialEq, Eq)]
 pub enum Call {
+    Process(ProcessCall),
+    Thread(ThreadCall),
+    Mutex(MutexCall),
+    Condition(ConditionCall),
+    Barrier(BarrierCall),
+    RwLock(RwLockCall),
+    Cancellation(CancellationCall),
+}
+
+/// The calls on the process, its console and its time.
+#[derive(Clone, Copy, Debug, PartialEq, Eq)]
+pub enum ProcessCall {
     /// 1 (status): the program ends.
     Exit,
     /// 2 (byte): a byte goes to the console.
@@ -15,60 +27,102 @@ pub enum Call {
     Clock,
     /// 5 (low, high): waits for a moment of the clock.
     SleepUntil,
+}
+
+/// The calls on threads.
+#[derive(Clone, Copy, Debug, PartialEq, Eq)]
+pub enum ThreadCall {
     /// 10 (start, argument, stack, detached): a thread begins. Its id goes to x11.
     Create,
     /// 11 (id): waits for the end of a thread. Its value goes to x11.
     Join,
     /// 12 (id): nobody is to join the thread.
     Detach,
-    /// 13 (value): the thread ends.
-    ThreadExit,
+    /// 13 (value): the thread unwinds, and ends with the value.
+    Exit,
     /// 14: the thread's id.
     SelfId,
+}
+
+/// The calls on mutexes.
+#[derive(Clone, Copy, Debug, PartialEq, Eq)]
+pub enum MutexCall {
     /// 20 (mutex, kind): a mutex gets a kind: 0 normal, 1 recursive, 2 error checking.
-    MutexInit,
+    Init,
     /// 21 (mutex): a mutex becomes free and normal again.
-    MutexDestroy,
+    Destroy,
     /// 22 (mutex): locks a mutex, or waits for it.
-    MutexLock,
+    Lock,
     /// 23 (mutex): locks a mutex where that needs no wait.
-    MutexTryLock,
+    TryLock,
     /// 24 (mutex, low, high): locks a mutex, or waits for it until a moment of the clock.
-    MutexTimedLock,
+    TimedLock,
     /// 25 (mutex): unlocks a mutex once.
-    MutexUnlock,
+    Unlock,
+}
+
+/// The calls on conditions.
+#[derive(Clone, Copy, Debug, PartialEq, Eq)]
+pub enum ConditionCall {
     /// 30 (condition): a condition is initialised.
-    ConditionInit,
+    Init,
     /// 31 (condition): a condition is destroyed.
-    ConditionDestroy,
+    Destroy,
     /// 32 (condition, mutex): unlocks a mutex once and waits at a condition; then locks the mutex again.
-    ConditionWait,
+    Wait,
     /// 33 (condition, mutex, low, high): the same, until a moment of the clock at the latest.
-    ConditionTimedWait,
+    TimedWait,
     /// 34 (condition): who waits longest at a condition waits no more.
-    ConditionSignal,
+    Signal,
     /// 35 (condition): nobody waits at a condition any more.
-    ConditionBroadcast,
+    Broadcast,
+}
+
+/// The calls on barriers.
+#[derive(Clone, Copy, Debug, PartialEq, Eq)]
+pub enum BarrierCall {
     /// 40 (barrier, count): so many threads are to meet at a barrier.
-    BarrierInit,
+    Init,
     /// 41 (barrier): a barrier is destroyed.
-    BarrierDestroy,
+    Destroy,
     /// 42 (barrier): waits at a barrier until all have come.
-    BarrierWait,
+    Wait,
+}
+
+/// The calls on read-write locks.
+#[derive(Clone, Copy, Debug, PartialEq, Eq)]
+pub enum RwLockCall {
     /// 50 (lock): a read-write lock is initialised.
-    RwLockInit,
+    Init,
     /// 51 (lock): a read-write lock is destroyed.
-    RwLockDestroy,
+    Destroy,
     /// 52 (lock): locks a read-write lock to read, or waits for it.
-    RwLockRdLock,
+    RdLock,
     /// 53 (lock): locks a read-write lock to read where that needs no wait.
-    RwLockTryRdLock,
+    TryRdLock,
     /// 54 (lock): locks a read-write lock to write, or waits for it.
-    RwLockWrLock,
+    WrLock,
     /// 55 (lock): locks a read-write lock to write where that needs no wait.
-    RwLockTryWrLock,
+    TryWrLock,
     /// 56 (lock): gives up a read-write lock once.
-    RwLockUnlock,
+    Unlock,
+}
+
+/// The calls on cancellation and clean-up handlers.
+#[derive(Clone, Copy, Debug, PartialEq, Eq)]
+pub enum CancellationCall {
+    /// 60 (id): a thread is asked to end.
+    Cancel,
+    /// 61: a cancellation point, and nothing else.
+    TestCancel,
+    /// 62 (state): whether the thread can be cancelled: 0 it can, 1 it cannot. The old state goes to x11.
+    SetCancelState,
+    /// 63 (type): when the thread acts on a request: 0 at a cancellation point, 1 at once. The old type goes to x11.
+    SetCancelType,
+    /// 64 (routine, argument): the thread has one clean-up handler more.
+    CleanupPush,
+    /// 65 (execute): the newest clean-up handler is removed, and run where execute isn't 0.
+    CleanupPop,
 }
 
 impl Call {
@@ -77,39 +131,58 @@ impl Call {
         ensures { result ≡ call_of number }
     {
         match number {
-            1 => Some(Call::Exit),
-            2 => Some(Call::Putc),
-            3 => Some(Call::Getc),
-            4 => Some(Call::Clock),
-            5 => Some(Call::SleepUntil),
-            10 => Some(Call::Create),
-            11 => Some(Call::Join),
-            12 => Some(Call::Detach),
-            13 => Some(Call::ThreadExit),
-            14 => Some(Call::SelfId),
-            20 => Some(Call::MutexInit),
-            21 => Some(Call::MutexDestroy),
-            22 => Some(Call::MutexLock),
-            23 => Some(Call::MutexTryLock),
-            24 => Some(Call::MutexTimedLock),
-            25 => Some(Call::MutexUnlock),
-            30 => Some(Call::ConditionInit),
-            31 => Some(Call::ConditionDestroy),
-            32 => Some(Call::ConditionWait),
-            33 => Some(Call::ConditionTimedWait),
-            34 => Some(Call::ConditionSignal),
-            35 => Some(Call::ConditionBroadcast),
-            40 => Some(Call::BarrierInit),
-            41 => Some(Call::BarrierDestroy),
-            42 => Some(Call::BarrierWait),
-            50 => Some(Call::RwLockInit),
-            51 => Some(Call::RwLockDestroy),
-            52 => Some(Call::RwLockRdLock),
-            53 => Some(Call::RwLockTryRdLock),
-            54 => Some(Call::RwLockWrLock),
-            55 => Some(Call::RwLockTryWrLock),
-            56 => Some(Call::RwLockUnlock),
+            1 => Some(Call::Process(ProcessCall::Exit)),
+            2 => Some(Call::Process(ProcessCall::Putc)),
+            3 => Some(Call::Process(ProcessCall::Getc)),
+            4 => Some(Call::Process(ProcessCall::Clock)),
+            5 => Some(Call::Process(ProcessCall::SleepUntil)),
+            10 => Some(Call::Thread(ThreadCall::Create)),
+            11 => Some(Call::Thread(ThreadCall::Join)),
+            12 => Some(Call::Thread(ThreadCall::Detach)),
+            13 => Some(Call::Thread(ThreadCall::Exit)),
+            14 => Some(Call::Thread(ThreadCall::SelfId)),
+            20 => Some(Call::Mutex(MutexCall::Init)),
+            21 => Some(Call::Mutex(MutexCall::Destroy)),
+            22 => Some(Call::Mutex(MutexCall::Lock)),
+            23 => Some(Call::Mutex(MutexCall::TryLock)),
+            24 => Some(Call::Mutex(MutexCall::TimedLock)),
+            25 => Some(Call::Mutex(MutexCall::Unlock)),
+            30 => Some(Call::Condition(ConditionCall::Init)),
+            31 => Some(Call::Condition(ConditionCall::Destroy)),
+            32 => Some(Call::Condition(ConditionCall::Wait)),
+            33 => Some(Call::Condition(ConditionCall::TimedWait)),
+            34 => Some(Call::Condition(ConditionCall::Signal)),
+            35 => Some(Call::Condition(ConditionCall::Broadcast)),
+            40 => Some(Call::Barrier(BarrierCall::Init)),
+            41 => Some(Call::Barrier(BarrierCall::Destroy)),
+            42 => Some(Call::Barrier(BarrierCall::Wait)),
+            50 => Some(Call::RwLock(RwLockCall::Init)),
+            51 => Some(Call::RwLock(RwLockCall::Destroy)),
+            52 => Some(Call::RwLock(RwLockCall::RdLock)),
+            53 => Some(Call::RwLock(RwLockCall::TryRdLock)),
+            54 => Some(Call::RwLock(RwLockCall::WrLock)),
+            55 => Some(Call::RwLock(RwLockCall::TryWrLock)),
+            56 => Some(Call::RwLock(RwLockCall::Unlock)),
+            60 => Some(Call::Cancellation(CancellationCall::Cancel)),
+            61 => Some(Call::Cancellation(CancellationCall::TestCancel)),
+            62 => Some(Call::Cancellation(CancellationCall::SetCancelState)),
+            63 => Some(Call::Cancellation(CancellationCall::SetCancelType)),
+            64 => Some(Call::Cancellation(CancellationCall::CleanupPush)),
+            65 => Some(Call::Cancellation(CancellationCall::CleanupPop)),
             _ => None,
+        }
+    }
+
+    /// Whether it is a cancellation point: there a thread acts on a request to cancel it.
+    pub fn is_point(self) -> bool
+        ensures { result ≡ is_point self }
+    {
+        match self {
+            Call::Process(ProcessCall::Putc | ProcessCall::Getc | ProcessCall::SleepUntil) => true,
+            Call::Thread(ThreadCall::Join) => true,
+            Call::Condition(ConditionCall::Wait | ConditionCall::TimedWait) => true,
+            Call::Cancellation(CancellationCall::TestCancel) => true,
+            _ => false,
         }
     }
 }

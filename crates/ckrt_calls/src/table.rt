@@ -1,8 +1,6 @@
 //! The tables of a program.
-ghost use Rattle.std.specs.Prelude.{◌≡◌, ◌≤◌, ◌*◌, true, false, IfOk};
-ghost use Rattle.ckrt_thread.specs.State.{is_live, is_waiting};
-ghost use Rattle.ckrt_calls.specs.declared.table.Status.TheVariants.{Running};
-ghost use Rattle.ckrt_calls.specs.Table.{fresh, thread_ended};
+ghost use Rattle.std.specs.Prelude.{◌≡◌, ◌≤◌, ◌*◌, IfOk};
+ghost use Rattle.ckrt_calls.specs.Table.{fresh};
 ghost use Rattle.ckrt_calls.specs.WellFormed.{IsWellFormed};
 
 use crate::input::InputQueue;
@@ -65,30 +63,5 @@ impl Tables {
             closed: false,
             status: Status::Running,
         })
-    }
-}
-
-/// A thread that is on a hart ends with a value. With the last thread the program exits with status 0.
-pub fn end_thread(tables: &mut Tables, thread: ThreadId, value: u32)
-    requires live { is_live tables.old.threads thread ≡ true }
-    requires free { is_waiting tables.old.threads thread ≡ false }
-    requires running { tables.old.status ≡ Running }
-    requires well_formed { IsWellFormed tables.old }
-    ensures well_formed { IsWellFormed tables.new }
-    ensures tables { tables.new ≡ thread_ended thread value tables.old }
-{
-    finish_thread(tables, thread, value);
-    tables.threads.known();
-}
-
-/// The change of [`end_thread`].
-fn finish_thread(tables: &mut Tables, thread: ThreadId, value: u32)
-    requires live { is_live tables.old.threads thread ≡ true }
-    requires free { is_waiting tables.old.threads thread ≡ false }
-    ensures { tables.new ≡ thread_ended thread value tables.old }
-{
-    tables.threads.finish(thread, value);
-    if !tables.threads.is_any_live() {
-        tables.status = Status::Exited(0);
     }
 }

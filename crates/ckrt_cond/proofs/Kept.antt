@@ -1,5 +1,5 @@
 -- Each row keeps threads, mutexes and waits at conditions well-formed together.
-use Rattle.std.proofs.Common.{◌≡◌, ℕ, ◌<◌, ◌≤◌, nat_le, not, true, false, List, [], ◌∷◌, ◌++◌, take, drop, slice_get, Option, Some, None, refl, sym, ap, subst, ◌∙◌, arith}
+use Rattle.std.proofs.Common.{◌≡◌, ℕ, ◌<◌, ◌≤◌, nat_le, not, true, false, List, [], ◌∷◌, ◌++◌, take, drop, Option, Some, None, refl, sym, ap, subst, ◌∙◌, arith}
 use Rattle.std.proofs.lemmas.Bool.Decides.{nat_tests}
 use Rattle.ckrt_thread.specs.declared.records.Wait.{Wait}
 use Rattle.ckrt_thread.specs.declared.records.Reason.{Reason}
@@ -8,26 +8,25 @@ use Rattle.ckrt_thread.specs.declared.records.Object.TheVariants as object
 use Rattle.ckrt_thread.specs.declared.records.RetakeResult.{RetakeResult}
 use Rattle.ckrt_thread.specs.declared.records.RetakeResult.TheVariants as retake
 use Rattle.ckrt_thread.specs.declared.records.CallResult.TheVariants.{Done}
-use Rattle.ckrt_thread.specs.Abi.{A0}
-use Rattle.ckrt_thread.specs.Waits.{is_for, is_moment, retake_code}
+use Rattle.ckrt_thread.specs.Waits.{is_for, is_moment}
 use Rattle.ckrt_thread.specs.State as threads
 use Rattle.ckrt_thread.specs.State.{State, is_live, is_waiting, first_waiter, unwaited, blocked}
 use Rattle.ckrt_thread.proofs.Known.{live_range}
-use Rattle.ckrt_thread.proofs.Grants.{first_of_queue}
-use Rattle.ckrt_thread.proofs.Changes as changes
+use Rattle.ckrt_thread.proofs.Changes.{well_formed_without}
 use Rattle.ckrt_objects.specs.declared.address_map.Entry.{Entry}
 use Rattle.ckrt_mutex.specs.declared.records.Mutex.{Mutex}
-use Rattle.ckrt_mutex.specs.Mutex.{is_available, mutex_at}
 use Rattle.ckrt_mutex.specs.Rows.{After, unchanged, unlock_row, retake_row}
 use Rattle.ckrt_mutex.specs.WellFormed.{IsWellFormedWith}
-use Rattle.ckrt_objects.proofs.Waits.{either, queue_last}
+use Rattle.ckrt_objects.proofs.Waits.{either, any_among, queue_last}
 use Rattle.ckrt_mutex.proofs.Rows.{well_formed_unlock, well_formed_retake}
 use Rattle.ckrt_mutex.proofs.WellFormed.{well_formed_blocked, well_formed_unwaited}
+use Rattle.ckrt_mutex.proofs.ThreadsKept.{live_unlock, free_unlock}
 use Rattle.ckrt_cond.specs.Rows.{waiters, has_waiters, init_row, destroy_row, wait_refusal, released_then, waiting_at, wait_row, timedwait_row, resume_row, woken_from, all_woken, signal_row, broadcast_row}
-use Rattle.ckrt_cond.specs.WellFormed.{IsWellFormed, HasReleased}
+use Rattle.ckrt_cond.specs.WellFormed.{IsWellFormed, HasReleased, may_resume}
 use Rattle.ckrt_cond.proofs.Waits.{conditions_fewer, conditions_waiting}
-use Rattle.ckrt_cond.proofs.Released.{may_begin, release_live, release_free, release_any, release_room, release_count, release_other}
-use Rattle.ckrt_cond.proofs.Rows.{conditions_retake, conditions_resume, resume_live, resume_free, resume_room, resume_count, first_may_resume, is_first_condition, queue_resumed}
+use Rattle.ckrt_cond.proofs.Released.{may_begin, release_among, release_room, release_count, release_other}
+use Rattle.ckrt_cond.proofs.Rows.{conditions_retake, conditions_resume, resume_live, resume_free, resume_room, resume_count, first_may_resume, is_first_condition, first_is}
+use Rattle.ckrt_cond.proofs.ThreadsKept.{next_woken}
 
 pub record IsKept (r : After) : Type 0 where
   pub mutexes : IsWellFormedWith r.threads r.mutexes
@@ -63,13 +62,13 @@ module _ (t c a : ℕ) (s : State) (ms : List (Entry Mutex)) (k : threads.IsWell
   after_release e =
       let o = may_begin t c a s ms e in
       record {
-        live = release_live t a s ms o.0 l;
-        free = release_free t a s ms o.0 n;
+        live = live_unlock t t a s ms l n;
+        free = free_unlock t t a s ms n;
         room = release_room t a s ms o.0 h;
         count = release_count t a s ms o.0 h k n;
         other = release_other t c a s ms e;
         mutexes = well_formed_unlock t a s ms k h;
-        conditions = conditions_fewer s (unlock_row t a s ms).threads (release_any t a s ms o.0) g;
+        conditions = conditions_fewer s (unlock_row t a s ms).threads (any_among (unlock_row t a s ms).threads.waits s.waits (release_among t a s ms o.0)) g;
       }
 
   released_by : (next : State → List (Entry Mutex) → After) (o : Option ℕ) → wait_refusal t c a s ms ≡ o → ((z : State) (ns : List (Entry Mutex)) → HasReleased t c a z ns → IsKept (next z ns)) → IsKept (released_then next o t a s ms)
@@ -92,49 +91,31 @@ queue_waiting t c a d s z e = queue_last (is_for (object.Condition c)) z.waits (
 
 -- SIGNAL AND BROADCAST
 
--- a thread that does not wait retakes a mutex
-threads_retake : (t a : ℕ) (r : RetakeResult) (s : State) (ms : List (Entry Mutex)) → threads.IsWellFormed s → threads.is_live s t ≡ true → is_waiting s t ≡ false → threads.IsWellFormed (retake_row t a r s ms).threads
-threads_retake t a r s ms k l n =
-    either {X = After} (λ x. threads.IsWellFormed x.threads) (is_available t (mutex_at a ms)) _ _
-    (λ _. changes.well_formed_word s t A0 (retake_code r) k)
-    (λ _. changes.well_formed_blocked s t (reason.Retake a r) None k l n refl)
-
-pub record IsWoken (c : ℕ) (s : State) (w : Wait) (r : After) : Type 0 where
-  pub threads : threads.IsWellFormed r.threads
-  pub mutexes : IsWellFormedWith r.threads r.mutexes
-  pub conditions : IsWellFormed r.threads
-  pub queue : waiters c s ≡ w ∷ waiters c r.threads
+pub well_formed_resume : (t a : ℕ) (r : RetakeResult) (s : State) (ms : List (Entry Mutex)) → threads.IsWellFormed s → IsWellFormedWith s ms → IsWellFormed s → may_resume t a s ≡ true → IsKept (resume_row t a r s ms)
+well_formed_resume t a r s ms k h g may =
+    let z = unwaited t s in
+    let id = live_range z t (well_formed_without s t k) (resume_live t a s may k) in
+    record {
+      mutexes = well_formed_retake t a r z ms (well_formed_unwaited t s z ms refl h) id (resume_free t s k) (resume_room t a s may ms h) (resume_count t a s may ms h);
+      conditions = conditions_resume t a r s ms g;
+    }
 
 module _ (c : ℕ) (s : State) (ms : List (Entry Mutex)) (w : Wait) (k : threads.IsWellFormed s) (h : IsWellFormedWith s ms) (g : IsWellFormed s) (e : first_waiter (object.Condition c) s ≡ Some w) where
-  woken_with : (a : ℕ) → w.reason ≡ reason.Condition c a → IsWoken c s w (resume_row w.thread a retake.Done s ms)
+  woken_with : (a : ℕ) → w.reason ≡ reason.Condition c a → IsKept (woken_from w.reason w.thread s ms)
   woken_with a i =
-      let may = first_may_resume c c a s w e i in
-      let z = unwaited w.thread s in
-      let kz = changes.well_formed_without s w.thread k in
-      let live = resume_live w.thread a s may k in
-      let free = resume_free w.thread s k in
-      record {
-        threads = threads_retake w.thread a retake.Done z ms kz live free;
-        mutexes = well_formed_retake w.thread a retake.Done z ms (well_formed_unwaited w.thread s z ms refl h) (live_range z w.thread kz live) free (resume_room w.thread a s may ms h) (resume_count w.thread a s may ms h);
-        conditions = conditions_resume w.thread a retake.Done s ms g;
-        queue = queue_resumed c a s ms w k e;
-      }
+      subst (λ r. IsKept (woken_from r w.thread s ms)) (sym i) (well_formed_resume w.thread a retake.Done s ms k h g (first_may_resume c c a s w e i))
 
-  woken_for : (a : ℕ) → w.reason ≡ reason.Condition c a → IsWoken c s w (woken_from w.reason w.thread s ms)
-  woken_for a i = subst (λ r. IsWoken c s w (woken_from r w.thread s ms)) (sym i) (woken_with a i)
-
-  pub woken : IsWoken c s w (woken_from w.reason w.thread s ms)
-  woken = (let i = is_first_condition c s w e in woken_for i.0 i.1)
-
-pub first_is : (c : ℕ) (s : State) (w : Wait) (ws : List Wait) → waiters c s ≡ w ∷ ws → first_waiter (object.Condition c) s ≡ Some w
-first_is c s w ws e = first_of_queue (object.Condition c) s ∙ ap (λ l. slice_get l 0) e
+  pub woken : IsKept (woken_from w.reason w.thread s ms)
+  woken = (let i = is_first_condition c s w e in woken_with i.0 i.1)
 
 all_kept : (c : ℕ) (ws : List Wait) (s : State) (ms : List (Entry Mutex)) → waiters c s ≡ ws → threads.IsWellFormed s → IsWellFormedWith s ms → IsWellFormed s → IsKept (all_woken ws s ms)
 all_kept c [] s ms e k h g = record { mutexes = h; conditions = g }
 all_kept c (w ∷ ws) s ms e k h g =
     let r = woken_from w.reason w.thread s ms in
-    let i = woken c s ms w k h g (first_is c s w ws e) in
-    all_kept c ws r.threads r.mutexes (ap (λ l. drop 1 l) (sym i.queue ∙ e)) i.threads i.mutexes i.conditions
+    let first = first_is c s w ws e in
+    let next = next_woken c s ms w k first in
+    let i = woken c s ms w k h g first in
+    all_kept c ws r.threads r.mutexes (ap (λ l. drop 1 l) (sym next.queue ∙ e)) next.threads i.mutexes i.conditions
 
 pub well_formed_broadcast : (c : ℕ) (s : State) (ms : List (Entry Mutex)) → threads.IsWellFormed s → IsWellFormedWith s ms → IsWellFormed s → IsKept (broadcast_row c s ms)
 well_formed_broadcast c s ms k h g = all_kept c (waiters c s) s ms refl k h g

@@ -1,5 +1,6 @@
 pub mod Waits
 pub mod Released
 pub mod Rows
+pub mod ThreadsKept
 pub mod Kept
 pub mod Elsewhere

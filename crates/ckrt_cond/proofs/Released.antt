@@ -1,14 +1,12 @@
 -- What the release of one level of a mutex leaves: its thread can wait, and can retake it.
-use Rattle.std.proofs.Common.{◌≡◌, ℕ, ◌-◌, ◌≤◌, ◌<◌, nat_lt, eqb, eqb-true, if◌then◌else◌, Bool, true, false, not, ◌&&◌, List, ◌∷◌, Option, Some, None, refl, ap, arith}
-use Rattle.std.specs.List.{list_any}
+use Rattle.std.proofs.Common.{◌≡◌, ℕ, ◌-◌, ◌≤◌, ◌<◌, nat_lt, eqb, if◌then◌else◌, Bool, true, false, not, ◌&&◌, List, ◌∷◌, Option, Some, None, refl, arith}
 use Rattle.std.proofs.lemmas.Bool.Decides.{nat_tests}
 use Rattle.ckrt_thread.specs.declared.records.Wait.{Wait}
 use Rattle.ckrt_thread.specs.declared.records.Object.TheVariants as object
 use Rattle.ckrt_thread.specs.declared.records.CallResult.TheVariants.{Done}
-use Rattle.ckrt_thread.specs.Waits.{is_of, is_for}
-use Rattle.ckrt_thread.specs.State.{State, IsWellFormed, is_live, is_waiting, first_waiter, woken}
-use Rattle.ckrt_thread.specs.Granting.{wait_result}
-use Rattle.ckrt_thread.proofs.Known.{found_range, waits_at_most_once}
+use Rattle.ckrt_thread.specs.Waits.{is_for}
+use Rattle.ckrt_thread.specs.State.{State, IsWellFormed, is_waiting, first_waiter}
+use Rattle.ckrt_thread.specs.Granting.{obtained}
 use Rattle.ckrt_thread.proofs.WaitLemmas.{found_waits}
 use Rattle.ckrt_objects.specs.declared.address_map.Entry.{Entry}
 use Rattle.ckrt_mutex.specs.declared.records.Kind.{Kind}
@@ -24,15 +22,16 @@ use Rattle.ckrt_mutex.proofs.Granting.{grants_none, grants_first}
 use Rattle.ckrt_mutex.proofs.WellFormed.{used_put}
 use Rattle.ckrt_thread.specs.Errors.{EPERM, EINVAL}
 use Rattle.ckrt_cond.specs.Rows.{waiters, is_with_other, has_other_mutex, wait_refusal}
-use Rattle.ckrt_objects.proofs.Granting.{live_woken}
-use Rattle.ckrt_objects.proofs.Waits.{either, IsAmong, none_without, any_without, found_holds, queue_elsewhere, among_without}
-use Rattle.ckrt_cond.proofs.Waits.{mutex_not_condition}
+use Rattle.ckrt_objects.proofs.Granting.{first_range}
+use Rattle.ckrt_objects.proofs.Obtained.{among_obtained, queue_obtained}
+use Rattle.ckrt_objects.proofs.Waits.{either, another, IsAmong, none_among, found_holds}
+use Rattle.ckrt_cond.proofs.Waits.{mutex_not_condition, join_not_condition}
 
 -- the three ways of a release: the thread has the mutex still; nobody waits for it; the first who waits has it
 module _ (P : After → Type 0) (t a : ℕ) (s : State) (ms : List (Entry Mutex)) where
   handed : (k : Kind) (o : Option Wait) → first_waiter (object.Mutex a) s ≡ o
       → P (record { result = Done 0; threads = s; mutexes = put a (free k) ms })
-      → ((w : Wait) → first_waiter (object.Mutex a) s ≡ Some w → P (record { result = Done 0; threads = woken w.thread (wait_result w.reason) s; mutexes = put a (owned k w.thread 1) ms }))
+      → ((w : Wait) → first_waiter (object.Mutex a) s ≡ Some w → P (record { result = Done 0; threads = obtained w s; mutexes = put a (owned k w.thread 1) ms }))
       → P (released k a s ms)
   handed k None e none some = rw (grants_none a k s e) none
   handed k (Some w) e none some = rw (grants_first a k s w e) (some w e)
@@ -40,7 +39,7 @@ module _ (P : After → Type 0) (t a : ℕ) (s : State) (ms : List (Entry Mutex)
   pub release_ways : is_owner t (mutex_at a ms) ≡ true
       → (1 < (mutex_at a ms).count → P (record { result = Done 0; threads = s; mutexes = put a (owned (mutex_at a ms).kind t ((mutex_at a ms).count - 1)) ms }))
       → P (record { result = Done 0; threads = s; mutexes = put a (free (mutex_at a ms).kind) ms })
-      → ((w : Wait) → first_waiter (object.Mutex a) s ≡ Some w → P (record { result = Done 0; threads = woken w.thread (wait_result w.reason) s; mutexes = put a (owned (mutex_at a ms).kind w.thread 1) ms }))
+      → ((w : Wait) → first_waiter (object.Mutex a) s ≡ Some w → P (record { result = Done 0; threads = obtained w s; mutexes = put a (owned (mutex_at a ms).kind w.thread 1) ms }))
       → P (unlock_row t a s ms)
   release_ways o less none some =
       let m = mutex_at a ms in
@@ -48,15 +47,9 @@ module _ (P : After → Type 0) (t a : ℕ) (s : State) (ms : List (Entry Mutex)
       (λ _. either P (nat_lt 1 m.count) _ _ (λ l. less (grind (arith, nat_tests, l))) (λ _. handed m.kind (first_waiter (object.Mutex a) s) refl none some))
 
 module _ (t a : ℕ) (s : State) (ms : List (Entry Mutex)) (o : is_owner t (mutex_at a ms) ≡ true) where
-  pub release_live : is_live s t ≡ true → is_live (unlock_row t a s ms).threads t ≡ true
-  release_live h = release_ways (λ r. is_live r.threads t ≡ true) t a s ms o (λ _. h) h (λ w _. live_woken t w.thread (wait_result w.reason) s h)
-
-  pub release_free : is_waiting s t ≡ false → is_waiting (unlock_row t a s ms).threads t ≡ false
-  release_free h = release_ways (λ r. is_waiting r.threads t ≡ false) t a s ms o (λ _. h) h (λ w _. none_without (is_of t) w.thread s.waits h)
-
   -- no wait begins
-  pub release_any : (f : Wait → Bool) → list_any f (unlock_row t a s ms).threads.waits ≡ true → list_any f s.waits ≡ true
-  release_any f = release_ways (λ r. list_any f r.threads.waits ≡ true → list_any f s.waits ≡ true) t a s ms o (λ _ h. h) (λ h. h) (λ w _ h. any_without f w.thread s.waits h)
+  pub release_among : IsAmong (unlock_row t a s ms).threads.waits s.waits
+  release_among = release_ways (λ r. IsAmong r.threads.waits s.waits) t a s ms o (λ _ f h. h) (λ f h. h) (λ w _. among_obtained w s)
 
 refused_none : (o b : Bool) → (if not o then Some EPERM else (if b then Some EINVAL else None)) ≡ None → (o ≡ true) × (b ≡ false)
 refused_none true true h = absurd (cc)
@@ -71,14 +64,14 @@ may_begin t c a s ms h = refused_none (is_owner t (mutex_at a ms)) (has_other_mu
 pub release_other : (t c a : ℕ) (s : State) (ms : List (Entry Mutex)) → wait_refusal t c a s ms ≡ None → has_other_mutex c a (unlock_row t a s ms).threads ≡ false
 release_other t c a s ms h =
     let m = may_begin t c a s ms h in
-    release_ways (λ r. has_other_mutex c a r.threads ≡ false) t a s ms m.0 (λ _. m.1) m.1 (λ w _. none_without (λ v. is_with_other c a v.reason) w.thread s.waits m.1)
+    none_among (unlock_row t a s ms).threads.waits s.waits (release_among t a s ms m.0) (λ v. is_with_other c a v.reason) m.1
 
 -- the release ends no wait at a condition
 pub release_queue : (t c a : ℕ) (s : State) (ms : List (Entry Mutex)) → IsWellFormed s → is_owner t (mutex_at a ms) ≡ true → waiters c (unlock_row t a s ms).threads ≡ waiters c s
 release_queue t c a s ms k o =
     let p = is_for (object.Mutex a) in
     release_ways (λ r. waiters c r.threads ≡ waiters c s) t a s ms o (λ _. refl) refl
-    (λ w e. queue_elsewhere p (is_for (object.Condition c)) s.waits w e (mutex_not_condition a c w.reason (found_holds p s.waits w e)) (waits_at_most_once s w.thread k))
+    (λ w e. queue_obtained (is_for (object.Condition c)) (λ u v h. join_not_condition u c v.reason h) p w s k e (mutex_not_condition a c w.reason (found_holds p s.waits w e)))
 
 -- where a mutex that was in use becomes another, it is in use still, or fewer are
 pub not_full_put : (a : ℕ) (m : Mutex) (s z : State) (ms : List (Entry Mutex)) → used_count s ms ≤ 256 → is_used a s ms ≡ true → IsAmong z.waits s.waits → is_full a z (put a m ms) ≡ false
@@ -94,18 +87,9 @@ recursive_more Normal n t (Some u) p o l = absurd (grind (arith, nat_tests))
 recursive_more Recursive n t (Some u) p o l = grind (arith, nat_tests)
 recursive_more ErrorCheck n t (Some u) p o l = absurd (grind (arith, nat_tests))
 
--- who waits is another than who does not
-apart : (t u : ℕ) (s : State) → is_waiting s t ≡ false → is_waiting s u ≡ true → eqb t u ≡ false
-apart t u s n w =
-    let e : eqb t u ≡ true → is_waiting s t ≡ is_waiting s u = λ x. ap (is_waiting s) (eqb-true t u x) in
-    grind (arith, nat_tests, n, w, e)
-
 put_retaken : (t a : ℕ) (m : Mutex) (ms : List (Entry Mutex)) → IsTable ms → is_proper m ≡ true → can_retake t m ≡ true → can_retake t (mutex_at a (put a m ms)) ≡ true
 put_retaken t a m ms b c k =
     rw (mutex_put a a m ms b c) (either (λ x. can_retake t x ≡ true) (eqb a a) m (mutex_at a ms) (λ _. k) (λ n. absurd (grind (arith, nat_tests, n))))
-
-first_range : (s : State) (a : ℕ) (w : Wait) → IsWellFormed s → first_waiter (object.Mutex a) s ≡ Some w → (0 < w.thread) × (w.thread ≤ 64)
-first_range s a w k e = rw e at (found_range s (is_for (object.Mutex a)) k)
 
 module _ (t a : ℕ) (s : State) (ms : List (Entry Mutex)) (o : is_owner t (mutex_at a ms) ≡ true) (h : IsWellFormedWith s ms) where
   used_owned : is_used a s ms ≡ true
@@ -117,7 +101,7 @@ module _ (t a : ℕ) (s : State) (ms : List (Entry Mutex)) (o : is_owner t (mute
       release_ways (λ r. is_full a r.threads r.mutexes ≡ false) t a s ms o
       (λ _. not_full_put a (owned (mutex_at a ms).kind t ((mutex_at a ms).count - 1)) s s ms few used_owned (λ f x. x))
       (not_full_put a (free (mutex_at a ms).kind) s s ms few used_owned (λ f x. x))
-      (λ w _. not_full_put a (owned (mutex_at a ms).kind w.thread 1) s (woken w.thread (wait_result w.reason) s) ms few used_owned (among_without w.thread s.waits))
+      (λ w _. not_full_put a (owned (mutex_at a ms).kind w.thread 1) s (obtained w s) ms few used_owned (among_obtained w s))
 
   -- what is left of the mutex can be locked once more by the thread, where the thread owns it still
   pub release_count : IsWellFormed s → is_waiting s t ≡ false → can_retake t (mutex_at a (unlock_row t a s ms).mutexes) ≡ true
@@ -127,6 +111,6 @@ module _ (t a : ℕ) (s : State) (ms : List (Entry Mutex)) (o : is_owner t (mute
       release_ways (λ r. can_retake t (mutex_at a r.mutexes) ≡ true) t a s ms o
       (λ l. put_retaken t a (owned m.kind t (m.count - 1)) ms h.table (proper_unlocked m t p o l) (let r = recursive_more m.kind m.count t m.owner p o l in grind (arith, nat_tests, r)))
       (put_retaken t a (free m.kind) ms h.table refl refl)
-      (λ w e. (let id = first_range s a w k e in
+      (λ w e. (let id = first_range (object.Mutex a) s w k e in
       put_retaken t a (owned m.kind w.thread 1) ms h.table (proper_once m.kind w.thread id.0 id.1)
-      (let other = apart t w.thread s n (found_waits (is_for (object.Mutex a)) s.waits w e) in grind (arith, nat_tests, other))))
+      (let other = another w.thread t s.waits (found_waits (is_for (object.Mutex a)) s.waits w e) n in grind (arith, nat_tests, other))))

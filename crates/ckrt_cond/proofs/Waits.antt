@@ -30,6 +30,18 @@ mutex_not_condition a c (reason.Barrier e) h = refl
 mutex_not_condition a c (reason.Read l) h = refl
 mutex_not_condition a c (reason.Write l) h = refl
 
+-- nor does who joins a thread
+pub join_not_condition : (t c : ℕ) (r : Reason) → is_reason_for (object.End t) r ≡ true → is_reason_for (object.Condition c) r ≡ false
+join_not_condition t c (reason.Condition d b) h = absurd (cc)
+join_not_condition t c reason.Input h = refl
+join_not_condition t c reason.Sleep h = refl
+join_not_condition t c (reason.Join i) h = refl
+join_not_condition t c (reason.Lock m) h = refl
+join_not_condition t c (reason.Retake m v) h = refl
+join_not_condition t c (reason.Barrier e) h = refl
+join_not_condition t c (reason.Read l) h = refl
+join_not_condition t c (reason.Write l) h = refl
+
 -- ONE MUTEX for the waiters of a condition
 
 pub conditions_fewer : (s z : State) → ((f : Wait → Bool) → list_any f z.waits ≡ true → list_any f s.waits ≡ true) → IsWellFormed s → IsWellFormed z

@@ -142,6 +142,7 @@ fn release_and_retake(
         return CallResult::Done(error);
     }
     release(threads, mutexes, thread, condition, mutex);
+    threads.known();
     mutexes.retake(threads, thread, mutex, RetakeResult::TimedOut)
 }
 

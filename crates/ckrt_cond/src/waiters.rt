@@ -1,7 +1,8 @@
 //! Who waits at a condition, and how a wait there ends.
 ghost use Rattle.std.specs.Prelude.{◌≡◌, true, ◌∷◌, Some};
 ghost use Rattle.ckrt_thread.specs.declared.records.Object.TheVariants.{Condition};
-ghost use Rattle.ckrt_thread.specs.State.{first_waiter};
+ghost use Rattle.ckrt_thread.specs.declared.records.Reason.TheVariants.{Retake};
+ghost use Rattle.ckrt_thread.specs.State.{first_waiter, may_unwind};
 ghost use Rattle.ckrt_mutex.specs.WellFormed.{IsWellFormedWith};
 ghost use Rattle.ckrt_cond.specs.Rows.{waiters, has_waiters, is_with_other, has_other_mutex, resume_row, woken_from};
 ghost use Rattle.ckrt_cond.specs.WellFormed.{IsWellFormed, may_resume};
@@ -40,7 +41,8 @@ pub fn has_other_mutex(threads: &Threads, condition: u32, mutex: u32) -> bool
 
 /// A thread's wait at a condition ends, and it retakes its mutex with the result that the wait is to end with
 /// (POSIX.1-2017, pthread_cond_wait). Where the mutex is available the thread has it, and the result in x10; else it
-/// waits at the end of the mutex's queue.
+/// waits at the end of the mutex's queue. A cancelled thread, which unwinds, goes to its next handler in place of the
+/// result.
 pub fn resume(
     threads: &mut Threads,
     mutexes: &mut Mutexes,
@@ -49,6 +51,7 @@ pub fn resume(
     outcome: RetakeResult,
 ) -> CallResult
     requires waiting { may_resume thread mutex threads.old ≡ true }
+    requires unwinding { may_unwind thread (Retake mutex outcome) threads.old ≡ true }
     requires well_formed { IsWellFormedWith threads.old mutexes.old }
     requires conditions { IsWellFormed threads.old }
     ensures well_formed { IsWellFormedWith threads.new mutexes.new }

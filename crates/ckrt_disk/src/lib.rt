@@ -17,8 +17,6 @@ mod positioned;
 mod stopping;
 mod synced;
 mod system_file;
-#[cfg(test)]
-mod tests;
 mod transfer;
 
 pub use disk::{DeviceFault, Disk};

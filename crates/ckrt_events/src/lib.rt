@@ -8,8 +8,6 @@ mod command;
 mod encoding;
 mod event;
 mod line;
-#[cfg(test)]
-mod tests;
 mod words;
 
 pub use command::{Command, LineFault};

@@ -2,10 +2,10 @@
 use Rattle.std.specs.Prelude.{ℕ, List, [], ◌∷◌, ◌++◌, codes}
 use Rattle.ckrt_jobs.specs.declared.fault.JobFault.{JobFault}
 use Rattle.ckrt_jobs.specs.declared.fault.JobFault.TheVariants as job
-use Rattle.ckrt_recovery.specs.declared.fault.FormatFault.{FormatFault}
-use Rattle.ckrt_recovery.specs.declared.fault.FormatFault.TheVariants as format
-use Rattle.ckrt_recovery.specs.declared.fault.RecoverFault.{RecoverFault}
-use Rattle.ckrt_recovery.specs.declared.fault.RecoverFault.TheVariants as recover
+use Rattle.ckrt_image.specs.declared.fault.FormatFault.{FormatFault}
+use Rattle.ckrt_image.specs.declared.fault.FormatFault.TheVariants as format
+use Rattle.ckrt_image.specs.declared.fault.RecoverFault.{RecoverFault}
+use Rattle.ckrt_image.specs.declared.fault.RecoverFault.TheVariants as recover
 use Rattle.ckrt_main.specs.declared.fault.ServeFault.{ServeFault}
 use Rattle.ckrt_main.specs.declared.fault.ServeFault.TheVariants as serve
 

@@ -4,12 +4,12 @@ use Rattle.ckrt_jobs.specs.declared.fault.JobFault.{JobFault}
 use Rattle.ckrt_jobs.specs.declared.fault.JobFault.TheVariants as job
 use Rattle.ckrt_jobs.specs.declared.fault.ProgramFault.{ProgramFault}
 use Rattle.ckrt_jobs.specs.declared.fault.ProgramFault.TheVariants as program
-use Rattle.ckrt_recovery.specs.declared.fault.FormatFault.TheVariants as format
-use Rattle.ckrt_recovery.specs.declared.fault.RecoverFault.{RecoverFault}
-use Rattle.ckrt_recovery.specs.Recovery.{AgreesOnFault, Recovered, room_of}
-use Rattle.ckrt_recovery.specs.Layout.{size_needed}
+use Rattle.ckrt_image.specs.declared.fault.FormatFault.TheVariants as format
+use Rattle.ckrt_image.specs.declared.fault.RecoverFault.{RecoverFault}
+use Rattle.ckrt_image.specs.Recovery.{AgreesOnFault, Recovered, room_of}
+use Rattle.ckrt_image.specs.Layout.{size_needed}
 use Rattle.ckrt_recovery.specs.View.{View}
-use Rattle.ckrt_recovery.specs.declared.config.Config.{Config}
+use Rattle.ckrt_image.specs.declared.config.Config.{Config}
 use Rattle.ckrt_words.specs.Jobs.{Formatting}
 
 -- the faults that come before the disk is asked for: configuration, image, and memory for it

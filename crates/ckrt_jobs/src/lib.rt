@@ -13,8 +13,6 @@ mod running;
 mod sources;
 mod stored;
 mod system;
-#[cfg(test)]
-mod tests;
 
 pub use fault::{JobFault, ProgramFault};
 pub use making::make_disk;

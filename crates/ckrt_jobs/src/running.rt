@@ -2,7 +2,7 @@
 ghost use Rattle.std.specs.Prelude.{◌≡◌, Ok, IfOk, IfErr};
 ghost use Rattle.ckrt_disk.specs.Disk.{HasFailed};
 ghost use Rattle.ckrt_main.specs.Service.{Served};
-ghost use Rattle.ckrt_recovery.specs.Recovery.{Recovered, recovery_of};
+ghost use Rattle.ckrt_image.specs.Recovery.{Recovered, recovery_of};
 ghost use Rattle.ckrt_jobs.specs.Outcomes.{AgreesOnJob, IsBeforeService, view_after_recovery};
 
 use crate::fault::JobFault;

@@ -3,6 +3,8 @@ pub mod EffectLaws
 pub mod RegsLaws
 pub mod RunLaws
 pub mod PlanLaws
+pub mod KeptSteps
+pub mod KeptEvents
 pub mod FoldLaws
 pub mod MemoryFollows
 pub mod WellFormedImplies

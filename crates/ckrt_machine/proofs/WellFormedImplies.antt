@@ -8,12 +8,15 @@ use Rattle.ckrt_thread.specs.declared.records.Reason.{Reason}
 use Rattle.ckrt_thread.specs.declared.records.Reason.TheVariants as reason
 use Rattle.ckrt_thread.specs.Waits.{is_for, is_of, is_reason_for}
 use Rattle.ckrt_thread.specs.State.{count_of, first_waiter, is_live, is_waiting}
+use Rattle.ckrt_thread.specs.Granting.{has_admissible_waiter, is_first_admissible}
 use Rattle.ckrt_thread.proofs.Known.{if_on_hart}
 use Rattle.ckrt_objects.specs.declared.address_map.Entry.{Entry}
 use Rattle.ckrt_mutex.specs.declared.records.Mutex.{Mutex}
 use Rattle.ckrt_mutex.specs.Mutex.{mutex_at, is_owned}
 use Rattle.ckrt_mutex.specs.Rows.{mutex_rule, mutex_of}
 use Rattle.ckrt_mutex.specs.WellFormed.{meets, meets_at, waits_at_owned}
+use Rattle.ckrt_rwlock.specs.RwLock.{lock_at, is_exclusive}
+use Rattle.ckrt_rwlock.proofs.Table.{exclusive_at}
 use Rattle.ckrt_calls.specs.declared.table.Tables.{Tables}
 use Rattle.ckrt_calls.specs.WellFormed.{IsWellFormed}
 use Rattle.ckrt_machine.specs.Steps.{hart_of}
@@ -48,6 +51,17 @@ not_admissible a s (Some w) e h = owned_not_none (mutex_at a s.mutexes).owner (f
 
 pub no_admissible_wait : (s : Tables) (a : ℕ) → IsWellFormed s → IfSome (first_waiter (object.Mutex a) s.threads) (λ w. (mutex_rule a).is_admissible (mutex_at a s.mutexes) w ≡ false)
 no_admissible_wait s a h = not_admissible a s (first_waiter (object.Mutex a) s.threads) refl h
+
+-- the same in the words of the rule
+not_granted : (a : ℕ) (s : Tables) (o : Option Wait) → IfSome o (λ w. (mutex_rule a).is_admissible (mutex_at a s.mutexes) w ≡ false) → is_first_admissible (mutex_rule a) o (mutex_at a s.mutexes) ≡ false
+not_granted a s None h = refl
+not_granted a s (Some w) h = h
+
+pub no_admissible_waiter : (s : Tables) (a : ℕ) → IsWellFormed s → has_admissible_waiter (mutex_rule a) (mutex_at a s.mutexes, s.threads) ≡ false
+no_admissible_waiter s a h = not_granted a s (first_waiter (object.Mutex a) s.threads) (no_admissible_wait s a h)
+
+pub exclusive : (s : Tables) (a : ℕ) → IsWellFormed s → is_exclusive (lock_at a s.rwlocks) ≡ true
+exclusive s a h = exclusive_at a s.rwlocks h.rwlocks.table
 
 at_most : (n k : ℕ) (b : Bool) → n + k ≤ cond b 1 0 → n ≤ 1
 at_most n k true l = omega arith

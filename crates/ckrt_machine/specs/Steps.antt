@@ -1,5 +1,5 @@
 -- The whole state of a machine, and one step of a hart.
-use Rattle.std.specs.Prelude.{ℕ, ◌==◌, Bool, true, false, if◌then◌else◌, Option, Some, None, List, slice_get}
+use Rattle.std.specs.Prelude.{ℕ, ◌==◌, Bool, true, false, if◌then◌else◌, Option, Some, None, is_some, List, slice_get}
 use Rattle.std.specs.Option.{option_flatten}
 use Rattle.ckrt_rv32i.specs.Registers.{Registers}
 use Rattle.ckrt_rv32i.specs.Effect.{instruction_step}
@@ -10,10 +10,12 @@ use Rattle.ckrt_rv32i.specs.declared.execution.Cause.{Cause}
 use Rattle.ckrt_rv32i.specs.declared.execution.Cause.TheVariants as cause
 use Rattle.ckrt_thread.specs.declared.records.CallResult.{CallResult}
 use Rattle.ckrt_thread.specs.declared.records.CallResult.TheVariants as result
+use Rattle.ckrt_thread.specs.declared.records.Live.{Live}
 use Rattle.ckrt_thread.specs.declared.records.Thread.{Thread}
 use Rattle.ckrt_thread.specs.declared.records.Thread.TheVariants as thread
 use Rattle.ckrt_thread.specs.State as threads
 use Rattle.ckrt_thread.specs.Abi.{A0, RETURN_GATE, UNWIND_GATE}
+use Rattle.ckrt_thread.specs.Cancellation.{is_immediate}
 use Rattle.ckrt_calls.specs.declared.table.Status.TheVariants.{Exited, Faulted}
 use Rattle.ckrt_calls.specs.declared.table.Tables.{Tables}
 use Rattle.ckrt_calls.specs.Table as calls
@@ -41,8 +43,8 @@ abbrev pub with_regs : ℕ → Registers → Tables → Tables
 with_regs t r s = record s { threads = threads.with_thread_regs t r s.threads }
 
 -- a fault ends the program, with the thread, its pc and the cause
-abbrev pub faulted : Cause → ℕ → Registers → State → State
-faulted c t r s = record s { tables = record s.tables { status = Faulted t r.pc c } }
+abbrev pub faulted : Cause → ℕ → ℕ → State → State
+faulted c t pc s = record s { tables = record s.tables { status = Faulted t pc c } }
 
 -- the result of a call goes to x10, if there is one
 abbrev pub with_result : CallResult → ℕ → Tables → Tables
@@ -58,26 +60,41 @@ called t m a = record { state = record { bytes = m; tables = with_result a.resul
 abbrev pub performed : Outcome → ℕ → Registers → List ℕ → State → Stepped
 performed Next t r m s = quiet (record { bytes = m; tables = with_regs t r s.tables })
 performed Call t r m s = called t m (calls.called t (with_regs t r s.tables))
-performed (Fault c) t r m s = quiet (faulted c t r s)
+performed (Fault c) t r m s = quiet (faulted c t r.pc s)
 
--- a return of the thread's first function: the initial thread ends the program with the status x10, and any other ends
--- with the value x10 (POSIX.1-2017, pthread_create)
-abbrev pub returned : Bool → ℕ → Registers → State → Stepped
-returned true t r s = quiet (record s { tables = record s.tables { status = Exited (get r A0) } })
-returned false t r s = quiet (record s { tables = calls.thread_ended t (get r A0) s.tables })
+-- a step that changes the tables alone
+abbrev pub tables_become : Tables → State → Stepped
+tables_become z s = quiet (record s { tables = z })
 
--- the first of: the return gate, the unwind gate, the instruction at the pc
-abbrev pub thread_step : Bool → ℕ → Registers → State → Stepped
-thread_step initial t r s =
-    if r.pc == RETURN_GATE then returned initial t r s
-    else if r.pc == UNWIND_GATE then quiet (faulted cause.Gate t r s)
-    else performed (instruction_step r s.bytes).outcome t (instruction_step r s.bytes).registers (instruction_step r s.bytes).bytes s
+-- a request on which the thread acts before its next instruction (POSIX.1-2017, 2.9.5: asynchronous cancelability)
+abbrev pub acted : ℕ → State → Stepped
+acted t s = tables_become (calls.acted t s.tables) s
+
+-- A return of the thread's first function with the value v. The initial thread ends the program with this status, also
+-- while it unwinds. Any other unwinds, to end with the value (POSIX.1-2017, pthread_create: as by pthread_exit).
+abbrev pub returned : Bool → ℕ → ℕ → State → Stepped
+returned true v t s = tables_become (record s.tables { status = Exited v }) s
+returned false v t s = tables_become (calls.begun_unwind t v s.tables) s
+
+-- a return of a clean-up handler: a thread that unwinds goes to its next handler, or ends, and any other faults
+abbrev pub handled : Bool → ℕ → ℕ → State → Stepped
+handled true pc t s = tables_become (calls.unwound t s.tables) s
+handled false pc t s = quiet (faulted cause.Gate t pc s)
+
+-- a step of the thread whose record this is: the first of an immediate request, the return gate, the unwind gate, and the
+-- instruction at the pc
+abbrev pub thread_step : Live → ℕ → State → Stepped
+thread_step l t s =
+    if is_immediate l.cancellation then acted t s
+    else if l.regs.pc == RETURN_GATE then returned l.initial (get l.regs A0) t s
+    else if l.regs.pc == UNWIND_GATE then handled (is_some l.cancellation.unwinding) l.regs.pc t s
+    else performed (instruction_step l.regs s.bytes).outcome t (instruction_step l.regs s.bytes).registers (instruction_step l.regs s.bytes).bytes s
 
 -- a thread that has ended makes no step
 abbrev pub slot_step : Option Thread → ℕ → State → Stepped
 slot_step None t s = quiet s
 slot_step (Some (thread.Ended v)) t s = quiet s
-slot_step (Some (thread.Live l)) t s = thread_step l.initial t l.regs s
+slot_step (Some (thread.Live l)) t s = thread_step l t s
 
 -- an idle hart makes no step
 abbrev pub step_of : Option ℕ → State → Stepped

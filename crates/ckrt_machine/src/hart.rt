@@ -1,21 +1,18 @@
 //! Harts: threads go onto them, and they run.
 ghost use Rattle.std.specs.Prelude.{◌≡◌, ◌<◌, ◌≤◌, ◌-◌, ◌%◌, ℕ, List, length, true, false, Some, None, IsSome, IsNone, IfSome};
-ghost use Rattle.ckrt_thread.specs.State.{is_live, is_ready, is_waiting, placed_on};
-ghost use Rattle.ckrt_thread.specs.declared.records.CallResult.TheVariants.{Done};
-ghost use Rattle.ckrt_calls.specs.declared.table.Status.TheVariants.{Running, Faulted};
-ghost use Rattle.ckrt_calls.specs.Table as calls;
+ghost use Rattle.ckrt_thread.specs.State.{is_live, is_ready, is_waiting, placed_on, thread_of};
+ghost use Rattle.ckrt_thread.specs.Cancellation.{cancellation_of, is_immediate};
 ghost use Rattle.ckrt_calls.specs.WellFormed.{IsWellFormed};
-ghost use Rattle.ckrt_machine.specs.Steps.{hart_of, quiet, returned, called, with_regs, with_result};
+ghost use Rattle.ckrt_machine.specs.Steps.{hart_of, with_regs};
 ghost use Rattle.ckrt_machine.specs.Runs.{is_running, stop_of, stopped, run_on, with_byte};
-ghost use Rattle.ckrt_machine.specs.Bursts.{ending};
 
 use crate::burst::burst;
+use crate::ending::end_burst;
 use crate::event::How;
 use arrayvec::ArrayVec;
-use ckrt_calls::{Status, Tables, call, end_thread};
+use ckrt_calls::{Status, Tables, act_on_request};
 use ckrt_memory::Memory;
-use ckrt_rv32i::{Bus, Cause, Outcome, Regs};
-use ckrt_thread::{CallResult, RETURN_GATE, UNWIND_GATE};
+use ckrt_rv32i::{Bus, Regs};
 
 /// How many bytes a run puts at most.
 pub const RUN_OUTPUT: usize = 1_024;
@@ -70,96 +67,6 @@ fn runner(tables: &Tables, hart: usize) -> u8
     thread
 }
 
-/// A fault ends the program: thread, pc and cause stay in its status.
-fn fault(tables: &mut Tables, thread: u8, regs: &Regs, cause: Cause)
-    requires aligned { regs.now.pc % 4 ≡ 0 }
-    requires live { is_live tables.old.threads thread ≡ true }
-    requires well_formed { IsWellFormed tables.old }
-    ensures well_formed { IsWellFormed tables.new }
-    ensures tables { tables.new ≡ record tables.old { status = Faulted thread regs.now.pc cause } }
-{
-    tables.status = Status::Faulted(thread, regs.pc(), cause);
-}
-
-/// The first function of a thread returned: the initial thread ends the program, and any other
-/// itself.
-fn leave(tables: &mut Tables, initial: bool, thread: u8, regs: &Regs)
-    requires live { is_live tables.old.threads thread ≡ true }
-    requires free { is_waiting tables.old.threads thread ≡ false }
-    requires running { tables.old.status ≡ Running }
-    requires well_formed { IsWellFormed tables.old }
-    ensures well_formed { IsWellFormed tables.new }
-    ensures tables { (m : List ℕ) → quiet (record { bytes = m; tables = tables.new }) ≡ returned initial thread regs.now (record { bytes = m; tables = tables.old }) }
-{
-    let value = regs.get(10);
-    if initial {
-        tables.status = Status::Exited(value);
-    } else {
-        end_thread(tables, thread, value);
-    }
-}
-
-/// The result of a call goes to x10 of the thread that made it.
-fn put_result(tables: &mut Tables, thread: u8, value: u32)
-    requires id { thread ≤ 64 }
-    requires well_formed { IsWellFormed tables.old }
-    ensures well_formed { IsWellFormed tables.new }
-    ensures tables { tables.new ≡ with_result (Done value) thread tables.old }
-{
-    tables.threads.set_result(thread, value);
-    tables.threads.known();
-}
-
-/// Makes the call that the thread's registers name, and gives the byte that it puts.
-fn make_call(tables: &mut Tables, thread: u8) -> Option<u8>
-    requires live { is_live tables.old.threads thread ≡ true }
-    requires free { is_waiting tables.old.threads thread ≡ false }
-    requires id { thread ≤ 64 }
-    requires running { tables.old.status ≡ Running }
-    requires well_formed { IsWellFormed tables.old }
-    ensures well_formed { IsWellFormed tables.new }
-    ensures tables { (m : List ℕ) → record { state = record { bytes = m; tables = tables.new }; put = result } ≡ called thread m (calls.called thread tables.old) }
-{
-    let (made, put) = call(tables, thread);
-    if let CallResult::Done(value) = made {
-        put_result(tables, thread, value);
-    }
-    put
-}
-
-/// What follows the last instruction of a burst: nothing, a call, or the end of the program or the
-/// thread. Only a fault is looked at for a gate, as no instruction is at one.
-fn end_burst(
-    tables: &mut Tables,
-    outcome: Outcome,
-    initial: bool,
-    thread: u8,
-    regs: &Regs,
-) -> Option<u8>
-    requires aligned { regs.now.pc % 4 ≡ 0 }
-    requires live { is_live tables.old.threads thread ≡ true }
-    requires free { is_waiting tables.old.threads thread ≡ false }
-    requires id { thread ≤ 64 }
-    requires running { tables.old.status ≡ Running }
-    requires well_formed { IsWellFormed tables.old }
-    ensures well_formed { IsWellFormed tables.new }
-    ensures tables { (m : List ℕ) → record { state = record { bytes = m; tables = tables.new }; put = result } ≡ ending outcome initial thread regs.now (record { bytes = m; tables = tables.old }) }
-{
-    let cause = match outcome {
-        Outcome::Next => return None,
-        Outcome::Call => return make_call(tables, thread),
-        Outcome::Fault(cause) => cause,
-    };
-    if regs.pc() == RETURN_GATE {
-        leave(tables, initial, thread, regs);
-    } else if regs.pc() == UNWIND_GATE {
-        fault(tables, thread, regs, Cause::Gate);
-    } else {
-        fault(tables, thread, regs, cause);
-    }
-    None
-}
-
 /// A thread's registers go back into the table.
 fn put_back(tables: &mut Tables, thread: u8, regs: &Regs)
     requires live { is_live tables.old.threads thread ≡ true }
@@ -185,8 +92,9 @@ fn put_byte(output: &mut ArrayVec<u8, 1024>, put: Option<u8>)
     }
 }
 
-/// A burst with the thread's registers at hand, and what ends it. The result is how many steps are
-/// left, and how the run ended, if it did.
+/// One or more steps of the thread on a hart: it acts on a request that is immediate, or makes a burst with its
+/// registers at hand, and what ends it. A request becomes immediate only by a call, which ends a burst, or before the
+/// run; so it is looked for here alone. The result is how many steps are left, and how the run ended, if it did.
 fn turn(
     memory: &mut Memory,
     tables: &mut Tables,
@@ -194,6 +102,7 @@ fn turn(
     hart: usize,
     limit: u32,
 ) -> (u32, Option<How>)
+    requires limit { 0 < limit }
     requires going { stop_of hart tables.old output.old.items ≡ None }
     requires well_formed { IsWellFormed tables.old }
     ensures well_formed { IsWellFormed tables.new }
@@ -205,7 +114,11 @@ fn turn(
 {
     let thread = runner(tables, hart);
     let live = tables.threads.live(thread);
-    let initial = live.initial;
+    let immediate = live.cancellation.is_immediate();
+    if immediate {
+        act_on_request(tables, thread);
+        return (limit - 1, stop(tables, hart, output));
+    }
     let mut regs = live.regs;
     memory.known();
     let (left, outcome) = burst(memory, &mut regs, limit);
@@ -213,7 +126,7 @@ fn turn(
     if left == 0 {
         return (0, Some(How::On));
     }
-    let put = end_burst(tables, outcome, initial, thread, &regs);
+    let put = end_burst(tables, outcome, thread);
     put_byte(output, put);
     (left - 1, stop(tables, hart, output))
 }

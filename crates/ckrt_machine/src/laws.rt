@@ -1,15 +1,18 @@
 //! Laws of states and of the plain fold. Each is the contract of a function with an empty body.
 ghost use Rattle.std.specs.Prelude.{◌≡◌, ◌≤◌, ◌++◌, ◌∷◌, [], ℕ, List, IfSome, true, false};
+ghost use Rattle.ckrt_thread.specs.Granting.{has_admissible_waiter};
 ghost use Rattle.ckrt_thread.specs.declared.records.Object.TheVariants.{Mutex};
 ghost use Rattle.ckrt_thread.specs.Waits.{is_of};
 ghost use Rattle.ckrt_thread.specs.State.{count_of, first_waiter, is_live, is_waiting};
 ghost use Rattle.ckrt_mutex.specs.Mutex.{mutex_at};
 ghost use Rattle.ckrt_mutex.specs.Rows.{mutex_rule};
+ghost use Rattle.ckrt_rwlock.specs.RwLock.{is_exclusive, lock_at};
+ghost use Rattle.ckrt_rwlock.specs.Rows.{rwlock_rule};
 ghost use Rattle.ckrt_calls.specs.declared.table.Tables.{Tables};
 ghost use Rattle.ckrt_calls.specs.WellFormed.{IsWellFormed};
 ghost use Rattle.ckrt_events.specs.declared.event.Event.{Event};
 ghost use Rattle.ckrt_machine.specs.Steps.{State, hart_of};
-ghost use Rattle.ckrt_machine.specs.Events.{AllAccepted, IsAccepted, fold, output_of, step};
+ghost use Rattle.ckrt_machine.specs.Events.{AllAccepted, IsAccepted, fold, fresh, output_of, reached, step};
 
 /// One more event is applied behind the others: its effect is that of a step on what they left, its
 /// bytes follow theirs, and where they are accepted and it is, all are.
@@ -19,10 +22,20 @@ pub fn folds_on()
     ensures accepted { (es : List Event) (e : Event) (s : State) → AllAccepted es s → IsAccepted e (fold es s).state → AllAccepted (es ++ e ∷ []) s }
 {}
 
-/// What well-formed tables imply, in plain words: nobody is left waiting at a free mutex, no thread
-/// waits twice, and who is on a hart has not ended and waits for nothing.
+/// What well-formed tables imply, in plain words: nobody is left waiting at a free mutex, no read-write lock has a writer
+/// beside readers, no thread waits twice, and who is on a hart has not ended and waits for nothing.
 pub fn well_formed_implies()
     ensures mutexes { (s : Tables) (a : ℕ) → IsWellFormed s → IfSome (first_waiter (Mutex a) s.threads) (λ w. (mutex_rule a).is_admissible (mutex_at a s.mutexes) w ≡ false) }
+    ensures rwlocks { (s : Tables) (a : ℕ) → IsWellFormed s → is_exclusive (lock_at a s.rwlocks) ≡ true }
     ensures waits { (s : Tables) (t : ℕ) → IsWellFormed s → count_of (is_of t) s.threads.waits ≤ 1 }
     ensures harts { (s : Tables) (h : ℕ) → IsWellFormed s → IfSome (hart_of s h) (λ t. (is_live s.threads t ≡ true) × (is_waiting s.threads t ≡ false)) }
+{}
+
+/// Whatever program begins, on at most 8 harts, and whatever events are accepted one after another: the state that they
+/// lead to is well-formed. So the first who waits for a mutex or a read-write lock could not be granted it, and nobody
+/// is left waiting at a free lock.
+pub fn reached_is_well_formed()
+    ensures well_formed { (pages harts : ℕ) (image : List ℕ) (es : List Event) → harts ≤ 8 → AllAccepted es (fresh pages harts image) → IsWellFormed (reached pages harts image es).tables }
+    ensures mutexes { (pages harts : ℕ) (image : List ℕ) (es : List Event) (a : ℕ) → harts ≤ 8 → AllAccepted es (fresh pages harts image) → has_admissible_waiter (mutex_rule a) (mutex_at a (reached pages harts image es).tables.mutexes, (reached pages harts image es).tables.threads) ≡ false }
+    ensures rwlocks { (pages harts : ℕ) (image : List ℕ) (es : List Event) (a : ℕ) → harts ≤ 8 → AllAccepted es (fresh pages harts image) → has_admissible_waiter (rwlock_rule a) (lock_at a (reached pages harts image es).tables.rwlocks, (reached pages harts image es).tables.threads) ≡ false }
 {}

@@ -4,6 +4,7 @@
 
 mod accept;
 mod burst;
+mod ending;
 mod event;
 mod hart;
 mod laws;
@@ -11,5 +12,5 @@ mod machine;
 mod plan;
 
 pub use event::{Answer, How, Refusal};
-pub use laws::{folds_on, well_formed_implies};
+pub use laws::{folds_on, reached_is_well_formed, well_formed_implies};
 pub use machine::Machine;

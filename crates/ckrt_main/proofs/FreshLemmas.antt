@@ -2,11 +2,11 @@
 use Rattle.std.proofs.Common.{◌≡◌, ◌-◌, ◌+◌, ◌∙◌, ℕ, List, [], length, Ok, Err, Result, Option, sym, ap, subst, arith}
 use Rattle.std.specs.Prelude.{OnOk}
 use Rattle.ckrt_disk.specs.declared.disk.Disk.{Ghosts}
-use Rattle.ckrt_recovery.specs.declared.config.Config.{Config}
-use Rattle.ckrt_recovery.specs.declared.fault.RecoverFault.{RecoverFault}
+use Rattle.ckrt_image.specs.declared.config.Config.{Config}
+use Rattle.ckrt_image.specs.declared.fault.RecoverFault.{RecoverFault}
 use Rattle.ckrt_recovery.specs.declared.session.Session.{Session}
-use Rattle.ckrt_recovery.specs.Recovery.{Recovered, room_of}
-use Rattle.ckrt_recovery.specs.Represents.{Program, formatted}
+use Rattle.ckrt_image.specs.Recovery.{Recovered, room_of}
+use Rattle.ckrt_image.specs.Programs.{Program, formatted}
 use Rattle.ckrt_recovery.specs.View.{View, view_of, recovered_by, fresh}
 use Rattle.ckrt_recovery.specs.Transcript.{view_after}
 use Rattle.ckrt_main.specs.Service.{Served}

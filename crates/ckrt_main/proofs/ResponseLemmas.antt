@@ -8,9 +8,10 @@ use Rattle.ckrt_machine.specs.Events as machine
 use Rattle.ckrt_recovery.specs.declared.fault.SubmitFault.{SubmitFault}
 use Rattle.ckrt_recovery.specs.declared.fault.SubmitFault.TheVariants.{Failed}
 use Rattle.ckrt_recovery.specs.declared.session.Session.{Session}
-use Rattle.ckrt_recovery.specs.Represents.{Program, Represents}
+use Rattle.ckrt_image.specs.Programs.{Program}
+use Rattle.ckrt_recovery.specs.Represents.{Represents}
 use Rattle.ckrt_recovery.specs.Parts.{Parts, parts_of}
-use Rattle.ckrt_recovery.specs.Recovery.{room_of}
+use Rattle.ckrt_image.specs.Recovery.{room_of}
 use Rattle.ckrt_recovery.specs.Replies.{ok_line, ack_line, no_line, submit_fault_text, out_lines}
 use Rattle.ckrt_recovery.specs.View.{View, view_of, refusal_of, submit_refusal, after_event, committed, confirmed_to, released_output}
 use Rattle.ckrt_recovery.specs.Transcript.{Transcript, written, preceded_by, unless_quit, followed_by, submitted, submit, unless_refused, output}

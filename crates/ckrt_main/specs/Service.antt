@@ -8,7 +8,8 @@ use Rattle.ckrt_events.specs.declared.event.Event.{Event}
 use Rattle.ckrt_main.specs.declared.fault.ServeFault.{ServeFault}
 use Rattle.ckrt_main.specs.declared.fault.ServeFault.TheVariants.{Read, Write, OutOfMemory, Format}
 use Rattle.ckrt_recovery.specs.declared.session.Session.{Session}
-use Rattle.ckrt_recovery.specs.Represents.{Program, RecoversTo, Represents, acknowledged_of}
+use Rattle.ckrt_image.specs.Programs.{Program, RecoversTo}
+use Rattle.ckrt_recovery.specs.Represents.{Represents, acknowledged_of}
 use Rattle.ckrt_recovery.specs.View.{View, view_of}
 use Rattle.ckrt_recovery.specs.Transcript.{Transcript, transcript, reply, accepted_events, preceded_by, unless_quit, respond_all}
 

@@ -12,6 +12,3 @@ pub use fault::ServeFault;
 pub use in_memory::serve_image;
 pub use laws::transcript_folds_events;
 pub use service::serve;
-
-#[cfg(test)]
-mod tests;

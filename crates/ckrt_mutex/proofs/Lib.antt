@@ -3,3 +3,4 @@ pub mod Rows
 pub mod Table
 pub mod Kept
 pub mod WellFormed
+pub mod ThreadsKept

@@ -5,11 +5,12 @@ use Rattle.ckrt_thread.specs.declared.records.RetakeResult.{RetakeResult}
 use Rattle.ckrt_thread.specs.declared.records.Wait.{Wait}
 use Rattle.ckrt_thread.specs.declared.records.Reason.TheVariants as reason
 use Rattle.ckrt_thread.specs.declared.records.Object.TheVariants as object
-use Rattle.ckrt_thread.specs.Waits.{is_for, is_of, without, retake_code, is_moment}
-use Rattle.ckrt_thread.specs.State.{State, woken, first_waiter, is_waiting, set_word, IsWellFormed}
-use Rattle.ckrt_thread.specs.Granting.{wait_result}
-use Rattle.ckrt_thread.proofs.Known.{found_range, waits_at_most_once}
-use Rattle.ckrt_objects.proofs.Waits.{either, all_not, find_none, gone, among_without}
+use Rattle.ckrt_thread.specs.Waits.{is_for, is_of, retake_code, is_moment}
+use Rattle.ckrt_thread.specs.State.{State, first_waiter, is_waiting, IsWellFormed}
+use Rattle.ckrt_thread.specs.Granting.{answered, obtained}
+use Rattle.ckrt_objects.proofs.Granting.{first_range}
+use Rattle.ckrt_objects.proofs.Obtained.{among_answered, among_obtained, free_obtained}
+use Rattle.ckrt_objects.proofs.Waits.{either, all_not, find_none, none_among}
 use Rattle.ckrt_objects.specs.declared.address_map.Entry.{Entry}
 use Rattle.ckrt_mutex.specs.declared.records.Kind.{Kind}
 use Rattle.ckrt_mutex.specs.declared.records.Kind.TheVariants.{Normal, Recursive, ErrorCheck}
@@ -105,17 +106,14 @@ well_formed_trylock t a s ms h id w =
 
 -- UNLOCK
 
-first_range : (s : State) (a : ℕ) (w : Wait) → IsWellFormed s → first_waiter (object.Mutex a) s ≡ Some w → (0 < w.thread) × (w.thread ≤ 64)
-first_range s a w k e = rw e at (found_range s (is_for (object.Mutex a)) k)
-
 well_formed_released_to : (o : Option Wait) (k : Kind) (a : ℕ) (s : State) (ms : List (Entry Mutex)) → first_waiter (object.Mutex a) s ≡ o → IsWellFormed s → IsWellFormedWith s ms → is_full a s ms ≡ false → IsKept (released k a s ms)
 well_formed_released_to None k a s ms e th h f =
     rw (grants_none a k s e) (well_formed_free a k s ms h (few_put a (free k) s s ms h.at_most_256_in_use f (λ g x. x)) (find_none (is_for (object.Mutex a)) s.waits e))
 well_formed_released_to (Some w) k a s ms e th h f =
-    let id = first_range s a w th e in
+    let id = first_range (object.Mutex a) s w th e in
     rw (grants_first a k s w e)
-    (well_formed_owned a k 1 w.thread s (woken w.thread (wait_result w.reason) s) ms h (proper_once k w.thread id.0 id.1) f
-    (among_without w.thread s.waits) (all_not (is_of w.thread) (without w.thread s.waits) (gone w.thread s.waits (waits_at_most_once s w.thread th))))
+    (well_formed_owned a k 1 w.thread s (obtained w s) ms h (proper_once k w.thread id.0 id.1) f
+    (among_obtained w s) (all_not (is_of w.thread) (obtained w s).waits (free_obtained w s th)))
 
 not_not : (b : Bool) → not b ≡ false → b ≡ true
 not_not true h = refl
@@ -147,6 +145,8 @@ well_formed_retake t a r s ms h id w f c =
     let m = mutex_at a ms in
     let p = proper_at a ms h.table in
     either IsKept (is_available t m) _ _
-    (λ v. well_formed_owned a m.kind (m.count + 1) t s (set_word t 10 (retake_code r) s) ms h
-    (proper_locked m t p v id.0 id.1 (once_more t m.count m.kind m.owner p c v)) f (λ g x. x) (all_not (is_of t) s.waits w))
+    (λ v. let z = answered (retake_code r) t s in
+    let among = among_answered (retake_code r) t s in
+    well_formed_owned a m.kind (m.count + 1) t s z ms h (proper_locked m t p v id.0 id.1 (once_more t m.count m.kind m.owner p c v)) f
+    among (all_not (is_of t) z.waits (none_among z.waits s.waits among (is_of t) w)))
     (λ v. well_formed_blocked (reason.Retake a r) t None s ms a refl f h (not_available_owned t m v) refl (another t (is_owner t m) (is_recursive m.kind) (is_none m.owner) (nat_lt m.count 65535) c v) refl)

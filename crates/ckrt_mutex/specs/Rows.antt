@@ -5,12 +5,11 @@ use Rattle.ckrt_thread.specs.declared.records.Reason.{Reason}
 use Rattle.ckrt_thread.specs.declared.records.Reason.TheVariants as reason
 use Rattle.ckrt_thread.specs.declared.records.Object.TheVariants as object
 use Rattle.ckrt_thread.specs.declared.records.CallResult.{CallResult}
-use Rattle.ckrt_thread.specs.declared.records.CallResult.TheVariants.{Done, Blocked}
-use Rattle.ckrt_thread.specs.State.{State, blocked, set_word}
-use Rattle.ckrt_thread.specs.Granting.{GrantRule, grant_waiters}
+use Rattle.ckrt_thread.specs.declared.records.CallResult.TheVariants.{Done, Blocked, Moved}
+use Rattle.ckrt_thread.specs.State.{State, blocked}
+use Rattle.ckrt_thread.specs.Granting.{GrantRule, grant_waiters, answered}
 use Rattle.ckrt_thread.specs.Waits.{retake_code, is_moment}
 use Rattle.ckrt_thread.specs.declared.records.RetakeResult.{RetakeResult}
-use Rattle.ckrt_thread.specs.Abi.{A0}
 use Rattle.ckrt_objects.specs.declared.address_map.Entry.{Entry}
 use Rattle.ckrt_mutex.specs.declared.records.Kind.{Kind}
 use Rattle.ckrt_mutex.specs.declared.records.Kind.TheVariants.{Normal, Recursive, ErrorCheck}
@@ -155,12 +154,18 @@ unlock_of m t a s ms =
 abbrev pub unlock_row : ℕ → ℕ → State → List (Entry Mutex) → After
 unlock_row t a s ms = unlock_of (mutex_at a ms) t a s ms
 
--- RETAKE. POSIX.1-2017, pthread_cond_wait: the mutex is locked again before the thread goes on, here with the result r.
--- That it waits at the end of the mutex's queue is this project's choice.
+-- RETAKE. POSIX.1-2017, pthread_cond_wait: the mutex is locked again before the thread goes on, here with the result r. A
+-- cancelled thread (2.9.5, Thread Cancellation) goes to its next handler then. That a thread waits at the end of the
+-- mutex's queue is this project's choice.
+
+-- what a thread is answered that has its mutex again
+abbrev pub answer_of : Option ℕ → CallResult
+answer_of (Some v) = Done v
+answer_of None = Moved
 
 abbrev pub retake_of : Mutex → ℕ → ℕ → RetakeResult → State → List (Entry Mutex) → After
 retake_of m t a r s ms =
-    if is_available t m then (record { result = Done (retake_code r); threads = set_word t A0 (retake_code r) s; mutexes = put a (owned m.kind t (m.count + 1)) ms })
+    if is_available t m then (record { result = answer_of (retake_code r); threads = answered (retake_code r) t s; mutexes = put a (owned m.kind t (m.count + 1)) ms })
     else (record { result = Blocked; threads = blocked t (reason.Retake a r) None s; mutexes = ms })
 
 abbrev pub retake_row : ℕ → ℕ → RetakeResult → State → List (Entry Mutex) → After

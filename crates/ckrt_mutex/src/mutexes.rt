@@ -1,9 +1,11 @@
 //! The calls on mutexes.
 ghost use Rattle.std.specs.Prelude.{◌≡◌, ◌<◌, ◌≤◌, length, true, false, []};
-ghost use Rattle.ckrt_thread.specs.State.{is_live, is_waiting};
+ghost use Rattle.ckrt_thread.specs.State.{is_live, is_waiting, may_unwind};
+ghost use Rattle.ckrt_thread.specs.Waits.{retake_code};
+ghost use Rattle.ckrt_thread.specs.declared.records.Reason.TheVariants.{Retake};
 ghost use Rattle.ckrt_objects.specs.AddressMap.{has_room};
 ghost use Rattle.ckrt_mutex.specs.Mutex.{mutex_at, put, free, is_proper, is_available, is_owned, IsTable};
-ghost use Rattle.ckrt_mutex.specs.Rows.{init_row, destroy_row, lock_row, timedlock_row, trylock_row, taken, unlock_row, released, retake_row, used_count, is_full, is_busy};
+ghost use Rattle.ckrt_mutex.specs.Rows.{init_row, destroy_row, lock_row, timedlock_row, trylock_row, taken, unlock_row, released, answer_of, retake_row, used_count, is_full, is_busy};
 ghost use Rattle.ckrt_mutex.specs.WellFormed.{IsWellFormedWith, can_retake};
 ghost use Rattle.ckrt_mutex.specs.declared.records.Kind.TheVariants.{Normal};
 
@@ -39,6 +41,16 @@ impl Model for Mutexes {
     ghost view = { λ a. kept a.table.items };
 
     ghost invariant = { λ a. AreEntries a.table.items };
+}
+
+/// What a thread is answered that has its mutex again.
+fn answer_of(outcome: RetakeResult) -> CallResult
+    ensures { result ≡ answer_of (retake_code outcome) }
+{
+    match outcome.code() {
+        Some(value) => CallResult::Done(value),
+        None => CallResult::Moved,
+    }
 }
 
 impl Mutexes {
@@ -308,7 +320,8 @@ impl Mutexes {
     }
 
     /// Unlocks a mutex once (POSIX.1-2017, pthread_mutex_unlock). EPERM where it is not the thread's own; else 0. One
-    /// that the thread has locked no more often goes at once to the thread that waits longest for it, whose wait ends.
+    /// that the thread has locked no more often goes at once to the thread that waits longest for it, whose wait ends; if
+    /// that thread was cancelled it goes to its next handler.
     pub fn unlock(&mut self, threads: &mut Threads, thread: u8, address: u32) -> CallResult
         requires live { is_live threads.old thread ≡ true }
         requires well_formed { IsWellFormedWith threads.old self.old }
@@ -354,12 +367,13 @@ impl Mutexes {
             return;
         };
         self.put(address, Mutex::owned(kind, wait.thread, 1));
-        threads.wake(wait.thread, wait.result());
+        threads.obtain(&wait);
     }
 
     /// Locks a mutex again for a thread whose wait at a condition has just been taken away, with the result that the
     /// wait is to end with (POSIX.1-2017, pthread_cond_wait). Where the mutex is available the thread has it, and the
-    /// result in x10; else it waits at the end of the mutex's queue.
+    /// result in x10; else it waits at the end of the mutex's queue. A cancelled thread, which unwinds, goes to its next
+    /// handler in place of the result.
     pub fn retake(
         &mut self,
         threads: &mut Threads,
@@ -369,6 +383,7 @@ impl Mutexes {
     ) -> CallResult
         requires live { is_live threads.old thread ≡ true }
         requires free { is_waiting threads.old thread ≡ false }
+        requires unwinding { may_unwind thread (Retake address outcome) threads.old ≡ true }
         requires well_formed { IsWellFormedWith threads.old self.old }
         requires room { is_full address threads.old self.old ≡ false }
         requires count { can_retake thread (mutex_at address self.old) ≡ true }
@@ -391,6 +406,7 @@ impl Mutexes {
     ) -> CallResult
         requires live { is_live threads.old thread ≡ true }
         requires free { is_waiting threads.old thread ≡ false }
+        requires unwinding { may_unwind thread (Retake address outcome) threads.old ≡ true }
         requires few { used_count threads.old self.old ≤ 256 }
         requires room { is_full address threads.old self.old ≡ false }
         requires count { can_retake thread (mutex_at address self.old) ≡ true }
@@ -403,8 +419,8 @@ impl Mutexes {
         let left = self.mutex(address);
         if left.is_available_to(thread) {
             self.put(address, Mutex::owned(left.kind, thread, left.count + 1));
-            threads.set_result(thread, outcome.code());
-            return CallResult::Done(outcome.code());
+            threads.answer(thread, outcome.code());
+            return answer_of(outcome);
         }
         threads.block(thread, Reason::Retake(address, outcome), None);
         CallResult::Blocked

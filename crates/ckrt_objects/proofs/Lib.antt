@@ -1,6 +1,7 @@
 pub mod AddressMap
 pub mod Changes
+pub mod Waits
+pub mod Obtained
 pub mod Granting
 pub mod InUse
 pub mod Parts
-pub mod Waits

@@ -1,5 +1,5 @@
 -- Lists of waits: what is found in one, and what stays when a wait has ended or begun.
-use Rattle.std.proofs.Common.{◌≡◌, ℕ, ◌≤◌, Bool, true, false, if◌then◌else◌, not, List, [], ◌∷◌, ◌++◌, Some, None, refl, arith}
+use Rattle.std.proofs.Common.{◌≡◌, ℕ, ◌≤◌, eqb, eqb-true, Bool, true, false, if◌then◌else◌, not, List, [], ◌∷◌, ◌++◌, Some, None, refl, ap, arith}
 use Rattle.std.specs.List.{list_any, list_all, find, filter}
 use Rattle.std.proofs.lemmas.Bool.Decides.{nat_tests}
 use Rattle.ckrt_thread.specs.declared.records.Wait.{Wait}
@@ -64,11 +64,6 @@ pub none_without : (f : Wait → Bool) (t : ℕ) (ws : List Wait) → list_any f
 none_without f t [] h = h
 none_without f t (w ∷ ws) h = grind (arith, nat_tests, none_without f t ws)
 
--- a thread that waits once does not wait after that
-pub gone : (t : ℕ) (ws : List Wait) → count_of (is_of t) ws ≤ 1 → list_any (is_of t) (without t ws) ≡ false
-gone t [] c = refl
-gone t (w ∷ ws) c = grind (arith, nat_tests, gone t ws, count_of_some (is_of t) ws)
-
 -- the end of a wait for something else leaves a queue
 pub queue_elsewhere : (q p : Wait → Bool) (ws : List Wait) (w : Wait) → find q ws ≡ Some w → p w ≡ false → count_of (is_of w.thread) ws ≤ 1 → filter p (without w.thread ws) ≡ filter p ws
 queue_elsewhere q p [] w e n l = refl
@@ -92,3 +87,12 @@ any_among vs ws among f h = grind (arith, nat_tests, all_not f ws, among (λ w. 
 
 pub among_without : (t : ℕ) (ws : List Wait) → IsAmong (without t ws) ws
 among_without t ws = λ f h. list_all-without f t ws h
+
+pub none_among : (vs ws : List Wait) → IsAmong vs ws → (f : Wait → Bool) → list_any f ws ≡ false → list_any f vs ≡ false
+none_among vs ws among f h = none_of_all f vs (among (λ w. not (f w)) (all_not f ws h))
+
+-- who waits is another than who does not
+pub another : (t u : ℕ) (ws : List Wait) → list_any (is_of t) ws ≡ true → list_any (is_of u) ws ≡ false → eqb t u ≡ false
+another t u ws w n =
+    let e : eqb t u ≡ true → list_any (is_of t) ws ≡ list_any (is_of u) ws = λ x. ap (λ i. list_any (is_of i) ws) (eqb-true t u x) in
+    grind (arith, nat_tests, n, w, e)

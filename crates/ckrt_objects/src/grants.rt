@@ -31,7 +31,7 @@ pub trait Grant {
 }
 
 /// Grants an object to its waiters: while the first who waits for it is admissible, that wait ends, and its thread gets
-/// the wait's result in x10.
+/// the wait's result in x10, or goes to its next handler where it was cancelled.
 #[tactic(auto, using(crate::proofs::Granting::none_up_to, crate::proofs::Granting::stop_up_to, crate::proofs::Granting::step_up_to))]
 pub fn grant_waiters<T: Grant>(threads: &mut Threads, object: Object, value: &mut T)
     requires { T.IsProper value.old }
@@ -47,6 +47,6 @@ pub fn grant_waiters<T: Grant>(threads: &mut Threads, object: Object, value: &mu
             return;
         }
         value.grant(&wait);
-        threads.wake(wait.thread, wait.result());
+        threads.obtain(&wait);
     }
 }

@@ -6,11 +6,12 @@ use Rattle.ckrt_disk.specs.declared.disk.Disk.{Ghosts}
 use Rattle.ckrt_events.specs.Bytes.{encodings_of}
 use Rattle.ckrt_events.specs.declared.event.Event.{Event}
 use Rattle.ckrt_recovery.specs.declared.session.Session.{Session}
-use Rattle.ckrt_recovery.specs.declared.survey.Survey.{Survey}
-use Rattle.ckrt_recovery.specs.Surveys.{recovered_of}
+use Rattle.ckrt_image.specs.declared.survey.Survey.{Survey}
+use Rattle.ckrt_image.specs.Surveys.{recovered_of}
 use Rattle.ckrt_recovery.specs.View.{recovered_by}
-use Rattle.ckrt_recovery.specs.Recovery.{Recovered, recovery_of, is_replayable}
-use Rattle.ckrt_recovery.specs.Represents.{Program, HasEvents, RecoversTo, RecoversLike, Represents, output_after, state_after}
+use Rattle.ckrt_image.specs.Recovery.{Recovered, recovery_of, is_replayable}
+use Rattle.ckrt_image.specs.Programs.{Program, HasEvents, RecoversTo, output_after, state_after}
+use Rattle.ckrt_recovery.specs.Represents.{RecoversLike, Represents}
 
 -- what holds on Ok, where there was no error
 pub where_ok : {T E : Type 0} (r : Result T E) (P : Type 0) → OnOk r P → is_err r ≡ false → P

@@ -1,12 +1,6 @@
-pub mod Layout
-pub mod Areas
-pub mod Recovery
-pub mod Surveys
 pub mod Represents
 pub mod Opening
 pub mod View
 pub mod Parts
 pub mod Replies
 pub mod Transcript
-pub mod Fields
-pub mod Format

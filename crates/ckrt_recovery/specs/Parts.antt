@@ -4,9 +4,10 @@ use Rattle.ckrt_disk.specs.declared.disk.Disk.{Ghosts}
 use Rattle.ckrt_events.specs.declared.event.Event.{Event}
 use Rattle.ckrt_journal.specs.declared.journal.Journal.{Journal}
 use Rattle.ckrt_machine.specs.Events.{Machine}
-use Rattle.ckrt_recovery.specs.declared.config.Config.{Config}
+use Rattle.ckrt_image.specs.declared.config.Config.{Config}
 use Rattle.ckrt_recovery.specs.declared.session.Session.{Session}
-use Rattle.ckrt_recovery.specs.Represents.{Program, Represents}
+use Rattle.ckrt_image.specs.Programs.{Program}
+use Rattle.ckrt_recovery.specs.Represents.{Represents}
 
 pub record Parts (D : Type 0) : Type 0 where
   pub disk : D

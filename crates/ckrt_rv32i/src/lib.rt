@@ -22,6 +22,3 @@ pub use laws::{
 };
 pub use memory_bus::{Bus, Size};
 pub use registers::Regs;
-
-#[cfg(test)]
-mod tests;

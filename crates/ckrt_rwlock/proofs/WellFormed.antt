@@ -8,17 +8,20 @@ use Rattle.ckrt_thread.specs.declared.records.Reason.{Reason}
 use Rattle.ckrt_thread.specs.declared.records.Reason.TheVariants as reason
 use Rattle.ckrt_thread.specs.declared.records.Object.TheVariants as object
 use Rattle.ckrt_thread.specs.Waits.{is_for, is_reason_for, is_of, without}
-use Rattle.ckrt_thread.specs.State.{State, IsWellFormed, first_waiter, blocked, woken}
-use Rattle.ckrt_thread.specs.Granting.{queue_of, wait_result, grant_waiters, has_admissible_waiter, is_first_admissible}
+use Rattle.ckrt_thread.specs.State.{State, IsWellFormed, first_waiter, blocked}
+use Rattle.ckrt_thread.specs.Granting.{queue_of, obtained, grant_waiters, has_admissible_waiter, is_first_admissible}
 use Rattle.ckrt_thread.proofs.Grants.{first_of_queue, grants_every_admissible}
-use Rattle.ckrt_thread.proofs.Known.{found_range, waits_at_most_once}
+use Rattle.ckrt_thread.proofs.Known.{waits_at_most_once}
+use Rattle.ckrt_thread.proofs.Unwound.{well_formed_obtained}
+use Rattle.ckrt_thread.proofs.WaitLemmas.{found_waits, gone}
 use Rattle.ckrt_objects.specs.declared.address_map.Entry.{Entry}
 use Rattle.ckrt_objects.specs.AddressMap.{has_entry, has_room, removed, stored}
 use Rattle.ckrt_objects.specs.InUse.{is_name, names, addresses_in_use}
 use Rattle.ckrt_objects.proofs.InUse.{any_in_use, distinct_le}
-use Rattle.ckrt_objects.proofs.Waits.{either, IsAmong, any_among, any_without, gone}
+use Rattle.ckrt_objects.proofs.Waits.{either, IsAmong, any_among, any_without}
 use Rattle.ckrt_objects.proofs.Changes.{room_of_not_full, used_not_full, entry_in_use, few_appended, few_stored, count_removed}
-use Rattle.ckrt_objects.proofs.Granting.{well_formed_woken, kept_by_granting, granted_among, granted_elsewhere}
+use Rattle.ckrt_objects.proofs.Obtained.{among_rest, PassesNoJoiner}
+use Rattle.ckrt_objects.proofs.Granting.{first_range, kept_by_granting, granted_among, granted_elsewhere}
 use Rattle.ckrt_rwlock.specs.declared.records.RwLock.{RwLock}
 use Rattle.ckrt_rwlock.specs.RwLock.{is_holder, is_reader, is_written, is_held, is_proper, is_exclusive, lock_at, put, IsTable}
 use Rattle.ckrt_rwlock.specs.Rows.{named, lock_of, is_used, used_count, is_full, is_awaited, rwlock_rule, is_admissible_for, granted_for}
@@ -91,9 +94,6 @@ pub record IsGrantable (l : RwLock) (s : State) : Type 0 where
   pub exclusive : is_exclusive l ≡ true
   pub threads : IsWellFormed s
 
-first_range : (s : State) (a : ℕ) (w : Wait) → IsWellFormed s → first_waiter (object.RwLock a) s ≡ Some w → (0 < w.thread) × (w.thread ≤ 64)
-first_range s a w k e = rw e at (found_range s (is_for (object.RwLock a)) k)
-
 -- a reader is granted a lock that nobody writes under
 pub admitted_unwritten : (r : Reason) (b : ℕ) (l : RwLock) → r ≡ reason.Read b → is_admissible_for r l ≡ true → is_written l ≡ false
 admitted_unwritten r b l e ad = let u : not (is_written l) ≡ true = rw e at ad in grind (arith, nat_tests)
@@ -148,18 +148,23 @@ another_waits a t u s k h =
 pub waiter_is_another : (a t u : ℕ) (s : State) → list_any (is_of t) s.waits ≡ false → is_waiting_for a u s ≡ true → eqb t u ≡ false
 waiter_is_another a t u s n h = another_from (eqb t u) t u s.waits refl (waiting_for_waits a u s.waits h) n
 
-apart_granted : (a v : ℕ) (l : RwLock) (s : State) (w : Wait) → IsWellFormed s → IsApart a l s → IsApart a (granted_for w.reason w.thread l) (woken w.thread v s)
-apart_granted a v l s w k apart u h =
-    other_granted w.reason w.thread u l (another_waits a w.thread u s k h) (apart u (any_without (λ x. is_of u x && is_for (object.RwLock a) x) w.thread s.waits h))
+apart_granted : (a : ℕ) (l : RwLock) (s : State) (w : Wait) → IsWellFormed s → IsApart a l s → IsApart a (granted_for w.reason w.thread l) (obtained w s)
+apart_granted a l s w k apart u h =
+    let rest = any_among (obtained w s).waits (without w.thread s.waits) (among_rest w s) (λ x. is_of u x && is_for (object.RwLock a) x) h in
+    other_granted w.reason w.thread u l (another_waits a w.thread u s k rest) (apart u (any_without (λ x. is_of u x && is_for (object.RwLock a) x) w.thread s.waits rest))
+
+-- who gets the lock leaves the threads well-formed
+well_formed_first : (a : ℕ) (s : State) (w : Wait) → IsWellFormed s → first_waiter (object.RwLock a) s ≡ Some w → IsWellFormed (obtained w s)
+well_formed_first a s w k e = well_formed_obtained w s k (found_waits (is_for (object.RwLock a)) s.waits w e)
 
 grantable_step : (a : ℕ) (l : RwLock) (s : State) (w : Wait) → IsGrantable l s → first_waiter (object.RwLock a) s ≡ Some w → is_admissible_for w.reason l ≡ true
-    → IsGrantable (granted_for w.reason w.thread l) (woken w.thread (wait_result w.reason) s)
+    → IsGrantable (granted_for w.reason w.thread l) (obtained w s)
 grantable_step a l s w g e ad =
-    let id = first_range s a w g.threads e in
+    let id = first_range (object.RwLock a) s w g.threads e in
     record {
       proper = proper_granted w.reason w.thread l g.proper id.0 id.1;
       exclusive = exclusive_granted w.reason w.thread l g.exclusive ad;
-      threads = well_formed_woken w.thread (wait_result w.reason) s g.threads;
+      threads = well_formed_first a s w g.threads e;
     }
 
 pub grantable_after : (a : ℕ) (l : RwLock) (s : State) → IsGrantable l s → IsGrantable (grant_waiters (rwlock_rule a) l s).0 (grant_waiters (rwlock_rule a) l s).1
@@ -168,7 +173,7 @@ grantable_after a l s g = kept_by_granting (rwlock_rule a) (λ m z. IsGrantable 
 apart_after : (a : ℕ) (l : RwLock) (s : State) → IsWellFormed s → IsApart a l s → IsApart a (grant_waiters (rwlock_rule a) l s).0 (grant_waiters (rwlock_rule a) l s).1
 apart_after a l s k apart =
     let kept = kept_by_granting (rwlock_rule a) (λ m z. IsWellFormed z × IsApart a m z)
-    (λ m z w h e ad. (well_formed_woken w.thread (wait_result w.reason) z h.0, apart_granted a (wait_result w.reason) m z w h.0 h.1)) l s (k, apart) in
+    (λ m z w h e ad. (well_formed_first a z w h.0 e, apart_granted a m z w h.0 h.1)) l s (k, apart) in
     kept.1
 
 -- a wait for one lock is for no other
@@ -183,11 +188,26 @@ not_for_other a b (reason.Barrier c) e h = refl
 not_for_other a b (reason.Read l) e h = grind (arith, nat_tests)
 not_for_other a b (reason.Write l) e h = grind (arith, nat_tests)
 
+-- who joins a thread waits for no lock
+joiner_elsewhere : (b t : ℕ) (r : Reason) → is_reason_for (object.End t) r ≡ true → is_reason_for (object.RwLock b) r ≡ false
+joiner_elsewhere b t reason.Input h = refl
+joiner_elsewhere b t reason.Sleep h = refl
+joiner_elsewhere b t (reason.Join i) h = refl
+joiner_elsewhere b t (reason.Lock m) h = refl
+joiner_elsewhere b t (reason.Retake m v) h = refl
+joiner_elsewhere b t (reason.Condition c m) h = refl
+joiner_elsewhere b t (reason.Barrier c) h = refl
+joiner_elsewhere b t (reason.Read l) h = absurd (cc)
+joiner_elsewhere b t (reason.Write l) h = absurd (cc)
+
+passes_no_joiner : (b : ℕ) → PassesNoJoiner (is_for (object.RwLock b))
+passes_no_joiner b t w h = joiner_elsewhere b t w.reason h
+
 -- granting a lock leaves the first who waits for another
 first_elsewhere : (a b : ℕ) (l : RwLock) (s : State) → IsWellFormed s → eqb a b ≡ false → first_waiter (object.RwLock b) (grant_waiters (rwlock_rule a) l s).1 ≡ first_waiter (object.RwLock b) s
 first_elsewhere a b l s k e =
     let same : queue_of (object.RwLock b) (grant_waiters (rwlock_rule a) l s).1 ≡ queue_of (object.RwLock b) s =
-    granted_elsewhere (rwlock_rule a) (is_for (object.RwLock b)) (λ w h. not_for_other a b w.reason e h) l s k in
+    granted_elsewhere (rwlock_rule a) (is_for (object.RwLock b)) (λ w h. not_for_other a b w.reason e h) (passes_no_joiner b) l s k in
     first_of_queue (object.RwLock b) (grant_waiters (rwlock_rule a) l s).1 ∙ ap (λ q. slice_get q 0) same ∙ sym (first_of_queue (object.RwLock b) s)
 
 -- a lock that is held becomes this one, and its waiters are granted it

@@ -15,13 +15,13 @@ const WAIT: u32 = 32;
 
 const TIMEDWAIT: u32 = 33;
 
-const SIGNAL: u32 = 34;
+pub const SIGNAL: u32 = 34;
 
 const BROADCAST: u32 = 35;
 
-const MUTEX: u32 = 0x2000;
+pub const MUTEX: u32 = 0x2000;
 
-const CONDITION: u32 = 0x5000;
+pub const CONDITION: u32 = 0x5000;
 
 /// The thread locks the mutex and waits at the condition, until the moment.
 fn lock_and_wait_until<R: Abort>(rt: &R, tables: &mut Tables, thread: u8, moment: u32)
@@ -72,7 +72,7 @@ fn a_waiter_keeps_its_mutex_in_use(rt: HostRuntime) -> Result<(), Fail> {
 }
 
 /// The thread locks the mutex and waits at the condition.
-fn lock_and_wait<R: Abort>(rt: &R, tables: &mut Tables, thread: u8)
+pub fn lock_and_wait<R: Abort>(rt: &R, tables: &mut Tables, thread: u8)
     requires { IsWellFormed tables.old }
     ensures { IsWellFormed tables.new }
 {

@@ -1,4 +1,4 @@
-//! Tests that cross crates. Nothing else stands here.
+//! Tests that cross crates, but for what stands on a disk. Nothing else stands here.
 #![tactic(auto)]
 
 #[cfg(test)]
@@ -6,25 +6,29 @@ mod barriers;
 #[cfg(test)]
 mod calls;
 #[cfg(test)]
+mod cancellation;
+#[cfg(test)]
+mod cancelled_guests;
+#[cfg(test)]
 mod conditions;
 #[cfg(test)]
 mod contention;
 #[cfg(test)]
-mod first_path;
+mod events;
 #[cfg(test)]
-mod formatting;
+mod first_path;
 #[cfg(test)]
 mod input;
 #[cfg(test)]
+mod instructions;
+#[cfg(test)]
 mod mutexes;
-#[cfg(test)]
-mod power_loss;
-#[cfg(test)]
-mod recovery;
 #[cfg(test)]
 mod rwlocks;
 #[cfg(test)]
 mod service;
+#[cfg(test)]
+mod serving;
 #[cfg(test)]
 mod threads;
 #[cfg(test)]

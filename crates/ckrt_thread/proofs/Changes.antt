@@ -1,8 +1,8 @@
 -- Each small change keeps states well-formed.
-use Rattle.std.proofs.Common.{◌≡◌, ℕ, ◌+◌, ◌≤◌, ◌<◌, Bool, true, false, cond, eqb, eqb-true, not, List, [], ◌∷◌, ◌++◌, length, Option, Some, None, refl, sym, ap, subst, ◌∙◌, arith, slice_get, slice_set, replicate, if◌then◌else◌, ◌&&◌}
+use Rattle.std.proofs.Common.{◌≡◌, ℕ, zero, suc, ◌+◌, ◌-◌, ◌≤◌, ◌<◌, Bool, true, false, cond, eqb, eqb-true, not, List, [], ◌∷◌, ◌++◌, length, take, IfSome, Option, Some, None, is_some, refl, sym, ap, subst, ◌∙◌, arith, slice_get, slice_set, replicate, if◌then◌else◌, ◌&&◌}
 use Rattle.std.specs.List.{list_all}
 use Rattle.std.specs.Option.{option_flatten}
-use Rattle.std.proofs.lemmas.List.{length-map, length-set}
+use Rattle.std.proofs.lemmas.List.{length-map, length-set, length-append}
 use Rattle.std.proofs.lemmas.List.Folds.{list_all-append}
 use Rattle.std.proofs.lemmas.Bool.Decides.{nat_tests}
 use Rattle.ckrt_thread.specs.declared.records.Thread.{Thread}
@@ -12,13 +12,19 @@ use Rattle.ckrt_thread.specs.declared.records.Wait.{Wait}
 use Rattle.ckrt_thread.specs.declared.records.Reason.{Reason}
 use Rattle.ckrt_thread.specs.declared.records.Reason.TheVariants as reason
 use Rattle.ckrt_thread.specs.declared.records.Object.TheVariants as object
-use Rattle.ckrt_thread.specs.Waits.{is_of, is_for, is_reason_for, without, is_deadline_of, has_proper_deadline, joins_another}
-use Rattle.ckrt_thread.specs.State.{State, IsWellFormed, thread_of, is_live, is_live_thread, is_initial, is_joinable, is_waiting, is_ready, holds, off, count_of, places, joiners, is_aligned, is_aligned_slot, fresh, first_of_program, with_word, change_live, change_thread, with_slot, off_hart, placed_on, may_join, may_wait, blocked}
+use Rattle.ckrt_rv32i.specs.Registers.{Registers}
+use Rattle.ckrt_thread.specs.declared.records.Cancellation.{Cancellation}
+use Rattle.ckrt_thread.specs.declared.records.Handler.{Handler}
+use Rattle.ckrt_thread.specs.Cancellation.{is_unwinding, is_consistent, is_aligned_handler, handlers_of, newest, with_cancellation, pushing, popping, entering}
+use Rattle.ckrt_thread.specs.Rows.{detached}
+use Rattle.ckrt_thread.specs.Unwinding.{with_cancellation_of, pushed}
+use Rattle.ckrt_thread.specs.Waits.{is_of, is_for, is_reason_for, without, is_deadline_of, has_proper_deadline, joins_another, is_to_unwind, is_unwind_of}
+use Rattle.ckrt_thread.specs.State.{State, IsWellFormed, thread_of, is_live, is_live_thread, is_initial, is_joinable, is_waiting, is_ready, holds, off, count_of, places, joiners, unwind_waits, is_aligned, is_proper_live, is_proper_slot, fresh, first_of_program, with_word, with_regs, change_live, change_thread, with_slot, off_hart, placed_on, may_join, may_wait, blocked}
 use Rattle.ckrt_thread.proofs.Counting.{count_of-append, count_of_none}
-use Rattle.ckrt_thread.proofs.WaitLemmas.{count_of-without, list_all-without}
+use Rattle.ckrt_thread.proofs.WaitLemmas.{count_of-without, list_all-without, unwind_of, no_unwind}
 use Rattle.ckrt_thread.proofs.SlotLemmas.{changed_at, kept_at, slot_at, empty_slot, live_change}
 use Rattle.ckrt_thread.proofs.HartLemmas.{count_of-off, idle_off, count_of-put, idle_put, none_held}
-use Rattle.ckrt_thread.proofs.Known.{not_joined, ready_live, ready_places}
+use Rattle.ckrt_thread.proofs.Known.{live_range, not_joined, ready_live, ready_places}
 
 -- A THREAD WAITS
 
@@ -57,6 +63,18 @@ allowed_deadline t r d s a = grind (arith, nat_tests)
 allowed_join : (t : ℕ) (r : Reason) (d : Option ℕ) (s : State) → may_wait t r d s ≡ true → may_join t r s ≡ true
 allowed_join t r d s a = grind (arith, nat_tests)
 
+allowed_unwind : (t : ℕ) (r : Reason) (d : Option ℕ) (s : State) → may_wait t r d s ≡ true → is_to_unwind r ≡ true → is_unwinding (thread_of s t) ≡ true
+allowed_unwind t r d s a u = grind (arith, nat_tests)
+
+-- who unwinds waits to retake a mutex at most once, as it waits once
+unwind_more : (t q : ℕ) (r : Reason) (d : Option ℕ) (s : State) → (is_to_unwind r ≡ true → is_unwinding (thread_of s t) ≡ true) → is_waiting s t ≡ false
+    → unwind_waits s q ≤ (if is_unwinding (thread_of s q) then 1 else 0) → unwind_waits (blocked t r d s) q ≤ (if is_unwinding (thread_of s q) then 1 else 0)
+unwind_more t q r d s u n h =
+    let none : eqb q t ≡ true → unwind_waits s q ≡ 0 = λ e. no_unwind q s.waits (rw (eqb-true q t e) n) in
+    let mine : eqb q t ≡ true → is_to_unwind r ≡ true → is_unwinding (thread_of s q) ≡ true = λ e k. rw (eqb-true q t e) (u k) in
+    let more = count_of-append (is_unwind_of q) s.waits ((record { thread = t; reason = r; deadline = d }) ∷ []) in
+    grind (arith, nat_tests, h, none, mine, more)
+
 pub well_formed_blocked : (s : State) (t : ℕ) (r : Reason) (d : Option ℕ) → IsWellFormed s → is_live s t ≡ true → is_waiting s t ≡ false → may_wait t r d s ≡ true → IsWellFormed (blocked t r d s)
 well_formed_blocked s t r d h l w a =
     let more : List Wait = (record { thread = t; reason = r; deadline = d }) ∷ [] in
@@ -66,12 +84,13 @@ well_formed_blocked s t r d h l w a =
       harts = length-map s.harts (off t) ∙ h.harts;
       hart_count = h.hart_count;
       idle = λ i k. idle_off t s.harts i (h.idle i k);
-      aligned = h.aligned;
+      proper = h.proper;
       one_initial = h.one_initial;
       placed = λ q. grind (arith, nat_tests, h.placed q, count_of-append (is_of q) s.waits more, count_of-off t q s.harts, count_of_none (is_of t) s.waits w);
       joined_target = λ q. (let m = joined_more t q r s (allowed_join t r d s a) (h.joined_target q) in let c = count_of-append (is_for (object.End q)) s.waits more in omega arith);
       joined_by_another = all_more joins_another s.waits (record { thread = t; reason = r; deadline = d }) h.joined_by_another (another t r d s (allowed_join t r d s a));
       deadlines = all_more has_proper_deadline s.waits (record { thread = t; reason = r; deadline = d }) h.deadlines (allowed_deadline t r d s a);
+      unwinding_waits = λ q. unwind_more t q r d s (allowed_unwind t r d s a) w (h.unwinding_waits q);
     }
 
 -- A WAIT ENDS
@@ -83,63 +102,86 @@ well_formed_without s t h = record {
   harts = h.harts;
   hart_count = h.hart_count;
   idle = h.idle;
-  aligned = h.aligned;
+  proper = h.proper;
   one_initial = h.one_initial;
   placed = λ q. omega (arith, h.placed q, count_of-without (is_of q) t s.waits);
   joined_target = λ q. omega (arith, h.joined_target q, count_of-without (is_for (object.End q)) t s.waits);
   joined_by_another = list_all-without joins_another t s.waits h.joined_by_another;
   deadlines = list_all-without has_proper_deadline t s.waits h.deadlines;
+  unwinding_waits = λ q. omega (arith, h.unwinding_waits q, count_of-without (is_unwind_of q) t s.waits);
 }
 
 -- A THREAD CHANGES
 
--- a change of registers alone, whose pc is a multiple of 4 where it was
-pub record ChangesRegisters (f : Live → Live) : Type 0 where
+-- a change that leaves each thread proper that was, and unwinding that unwound
+pub record IsChange (f : Live → Live) : Type 0 where
   pub initial : (l : Live) → (f l).initial ≡ l.initial
   pub detached : (l : Live) → (f l).detached ≡ l.detached
-  pub aligned : (l : Live) → is_aligned l.regs ≡ true → is_aligned (f l).regs ≡ true
+  pub proper : (l : Live) → is_proper_live l ≡ true → is_proper_live (f l) ≡ true
+  pub unwinding : (l : Live) → is_some l.cancellation.unwinding ≡ true → is_some (f l).cancellation.unwinding ≡ true
 
-aligned_change : (f : Live → Live) → ChangesRegisters f → (o : Option Thread) → is_aligned_slot o ≡ true → is_aligned_slot (change_live f o) ≡ true
-aligned_change f k None a = refl
-aligned_change f k (Some (thread.Ended v)) a = refl
-aligned_change f k (Some (thread.Live l)) a = k.aligned l a
+proper_change : (f : Live → Live) → IsChange f → (o : Option Thread) → is_proper_slot o ≡ true → is_proper_slot (change_live f o) ≡ true
+proper_change f k None a = refl
+proper_change f k (Some (thread.Ended v)) a = refl
+proper_change f k (Some (thread.Live l)) a = k.proper l a
 
-initial_change : (f : Live → Live) → ChangesRegisters f → (o : Option Thread) → is_initial (change_live f o) ≡ is_initial o
+initial_change : (f : Live → Live) → ((l : Live) → (f l).initial ≡ l.initial) → (o : Option Thread) → is_initial (change_live f o) ≡ is_initial o
 initial_change f k None = refl
 initial_change f k (Some (thread.Ended v)) = refl
-initial_change f k (Some (thread.Live l)) = k.initial l
+initial_change f k (Some (thread.Live l)) = k l
 
-joinable_change : (f : Live → Live) → ChangesRegisters f → (o : Option Thread) → is_joinable (change_live f o) ≡ is_joinable o
+joinable_change : (f : Live → Live) → ((l : Live) → (f l).detached ≡ l.detached) → (o : Option Thread) → is_joinable (change_live f o) ≡ is_joinable o
 joinable_change f k None = refl
 joinable_change f k (Some (thread.Ended v)) = refl
-joinable_change f k (Some (thread.Live l)) = ap (λ b. true && not b) (k.detached l)
+joinable_change f k (Some (thread.Live l)) = ap (λ b. true && not b) (k l)
+
+unwinding_change : (f : Live → Live) → IsChange f → (o : Option Thread) → is_unwinding o ≡ true → is_unwinding (change_live f o) ≡ true
+unwinding_change f k None u = absurd (cc)
+unwinding_change f k (Some (thread.Ended v)) u = absurd (cc)
+unwinding_change f k (Some (thread.Live l)) u = k.unwinding l u
 
 either : (P : Option Thread → Type 0) (b : Bool) (x y : Option Thread) → P x → P y → P (cond b x y)
 either P true x y p q = p
 either P false x y p q = q
 
-pub well_formed_change : (s : State) (f : Live → Live) (t : ℕ) → ChangesRegisters f → IsWellFormed s → IsWellFormed (record s { threads = change_thread f t s.threads })
+-- as many as there may be, where there may be no fewer
+still_at_most : (n : ℕ) (b c : Bool) → (b ≡ true → c ≡ true) → n ≤ (if b then 1 else 0) → n ≤ (if c then 1 else 0)
+still_at_most n true c k h = subst (λ (x : Bool). n ≤ (if x then 1 else 0)) (sym (k refl)) h
+still_at_most n false true k h = omega (arith, h)
+still_at_most n false false k h = h
+
+unwinds_on : (s : State) (f : Live → Live) (k : IsChange f) (q : ℕ) → IsWellFormed s → unwind_waits s q ≤ (if is_unwinding (change_live f (thread_of s q)) then 1 else 0)
+unwinds_on s f k q h = still_at_most (unwind_waits s q) (is_unwinding (thread_of s q)) (is_unwinding (change_live f (thread_of s q))) (unwinding_change f k (thread_of s q)) (h.unwinding_waits q)
+
+pub well_formed_change : (s : State) (f : Live → Live) (t : ℕ) → IsChange f → IsWellFormed s → IsWellFormed (record s { threads = change_thread f t s.threads })
 well_formed_change s f t k h =
-    let initial : (q : ℕ) → is_initial (option_flatten (slice_get (change_thread f t s.threads) q)) ≡ is_initial (thread_of s q) = λ q. kept_at is_initial f s.threads t q (initial_change f k) in
+    let initial : (q : ℕ) → is_initial (option_flatten (slice_get (change_thread f t s.threads) q)) ≡ is_initial (thread_of s q) = λ q. kept_at is_initial f s.threads t q (initial_change f k.initial) in
     record {
       size = length-set s.threads t (change_live f (thread_of s t)) ∙ h.size;
       zero = changed_at f s.threads t 0 ∙ either (λ o. o ≡ None) (eqb t 0) (change_live f (thread_of s 0)) (thread_of s 0) (ap (change_live f) h.zero) h.zero;
       harts = h.harts;
       hart_count = h.hart_count;
       idle = h.idle;
-      aligned = λ q. rw (changed_at f s.threads t q) (either (λ o. is_aligned_slot o ≡ true) (eqb t q) (change_live f (thread_of s q)) (thread_of s q) (aligned_change f k (thread_of s q) (h.aligned q)) (h.aligned q));
+      proper = λ q. rw (changed_at f s.threads t q) (either (λ o. is_proper_slot o ≡ true) (eqb t q) (change_live f (thread_of s q)) (thread_of s q) (proper_change f k (thread_of s q) (h.proper q)) (h.proper q));
       one_initial = λ p q a b. h.one_initial p q (sym (initial p) ∙ a) (sym (initial q) ∙ b);
       placed = λ q. subst (λ (b : Bool). places s q ≤ (if b then 1 else 0)) (sym (kept_at is_live_thread f s.threads t q (live_change f))) (h.placed q);
-      joined_target = λ q. subst (λ (b : Bool). joiners s q ≤ (if b then 1 else 0)) (sym (kept_at is_joinable f s.threads t q (joinable_change f k))) (h.joined_target q);
+      joined_target = λ q. subst (λ (b : Bool). joiners s q ≤ (if b then 1 else 0)) (sym (kept_at is_joinable f s.threads t q (joinable_change f k.detached))) (h.joined_target q);
       joined_by_another = h.joined_by_another;
       deadlines = h.deadlines;
+      unwinding_waits = λ q. rw (changed_at f s.threads t q) (either (λ o. unwind_waits s q ≤ (if is_unwinding o then 1 else 0)) (eqb t q) (change_live f (thread_of s q)) (thread_of s q) (unwinds_on s f k q h) (h.unwinding_waits q));
     }
 
-pub changes_word : (k v : ℕ) → ChangesRegisters (with_word k v)
-changes_word k v = record { initial = λ l. refl; detached = λ l. refl; aligned = λ l a. a }
+pub changes_word : (k v : ℕ) → IsChange (with_word k v)
+changes_word k v = record { initial = λ l. refl; detached = λ l. refl; proper = λ l a. a; unwinding = λ l u. u }
 
 pub well_formed_word : (s : State) (t k v : ℕ) → IsWellFormed s → IsWellFormed (record s { threads = change_thread (with_word k v) t s.threads })
 well_formed_word s t k v h = well_formed_change s (with_word k v) t (changes_word k v) h
+
+proper_regs : (r : Registers) (l : Live) → is_aligned r ≡ true → is_proper_live l ≡ true → is_proper_live (with_regs r l) ≡ true
+proper_regs r l a h = grind (arith, nat_tests, a, h)
+
+pub changes_regs : (r : Registers) → is_aligned r ≡ true → IsChange (with_regs r)
+changes_regs r a = record { initial = λ l. refl; detached = λ l. refl; proper = λ l h. proper_regs r l a h; unwinding = λ l u. u }
 
 -- AN ID STANDS FOR ANOTHER THREAD, OR FOR NONE
 
@@ -151,29 +193,156 @@ written f t q y o a b =
       | false ↦ λ e. b
     ] refl
 
-slot_placed : (t q : ℕ) (y : Option Thread) (s : State) → (is_live_thread y ≡ false → places s t ≡ 0) → IsWellFormed s → places s t ≤ 1 → t ≡ q → places s q ≤ (if is_live_thread y then 1 else 0)
-slot_placed t q y s f h l e = subst (λ i. places s i ≤ (if is_live_thread y then 1 else 0)) e (grind (arith, nat_tests, f, l))
+-- what stands for an id, if it holds what the waits and harts ask of it
+pub record MayStand (s : State) (t : ℕ) (y : Option Thread) : Type 0 where
+  pub placed : places s t ≤ (if is_live_thread y then 1 else 0)
+  pub joined : joiners s t ≤ (if is_joinable y then 1 else 0)
+  pub unwinding : unwind_waits s t ≤ (if is_unwinding y then 1 else 0)
+  pub initial : is_initial y ≡ true → is_initial (thread_of s t) ≡ true
+  pub proper : is_proper_slot y ≡ true
 
-pub well_formed_slot : (s : State) (t : ℕ) (y : Option Thread) → IsWellFormed s → 0 < t → t ≤ 64 → (is_live_thread y ≡ false → places s t ≡ 0) → joiners s t ≡ 0 → (is_initial y ≡ true → is_initial (thread_of s t) ≡ true) → is_aligned_slot y ≡ true → IsWellFormed (with_slot t y s)
-well_formed_slot s t y h n l f j i a =
+pub well_formed_slot : (s : State) (t : ℕ) (y : Option Thread) → IsWellFormed s → 0 < t → t ≤ 64 → MayStand s t y → IsWellFormed (with_slot t y s)
+well_formed_slot s t y h n l m =
     let w : t < length s.threads = (let z = h.size in omega arith) in
     let at : (q : ℕ) → thread_of (with_slot t y s) q ≡ cond (eqb t q) y (thread_of s q) = λ q. slot_at s.threads t q y w in
     let initial : (q : ℕ) → is_initial (thread_of (with_slot t y s) q) ≡ true → is_initial (thread_of s q) ≡ true =
-    λ q. rw (at q) (written (λ o p. is_initial o ≡ true → is_initial (thread_of s p) ≡ true) t q y (thread_of s q) (λ e. subst (λ p. is_initial y ≡ true → is_initial (thread_of s p) ≡ true) e i) (λ x. x)) in
-    let one : places s t ≤ 1 = grind (arith, nat_tests, h.placed t) in
+    λ q. rw (at q) (written (λ o p. is_initial o ≡ true → is_initial (thread_of s p) ≡ true) t q y (thread_of s q) (λ e. subst (λ p. is_initial y ≡ true → is_initial (thread_of s p) ≡ true) e m.initial) (λ x. x)) in
     record {
       size = length-set s.threads t y ∙ h.size;
       zero = at 0 ∙ written (λ o p. o ≡ None) t 0 y (thread_of s 0) (λ e. absurd (omega arith)) h.zero;
       harts = h.harts;
       hart_count = h.hart_count;
       idle = h.idle;
-      aligned = λ q. rw (at q) (written (λ o p. is_aligned_slot o ≡ true) t q y (thread_of s q) (λ e. a) (h.aligned q));
+      proper = λ q. rw (at q) (written (λ o p. is_proper_slot o ≡ true) t q y (thread_of s q) (λ e. m.proper) (h.proper q));
       one_initial = λ p q b c. h.one_initial p q (initial p b) (initial q c);
-      placed = λ q. rw (at q) (written (λ o p. places s p ≤ (if is_live_thread o then 1 else 0)) t q y (thread_of s q) (slot_placed t q y s f h one) (h.placed q));
-      joined_target = λ q. rw (at q) (written (λ o p. joiners s p ≤ (if is_joinable o then 1 else 0)) t q y (thread_of s q) (λ e. subst (λ p. joiners s p ≤ (if is_joinable y then 1 else 0)) e (omega (arith, j))) (h.joined_target q));
+      placed = λ q. rw (at q) (written (λ o p. places s p ≤ (if is_live_thread o then 1 else 0)) t q y (thread_of s q) (λ e. subst (λ p. places s p ≤ (if is_live_thread y then 1 else 0)) e m.placed) (h.placed q));
+      joined_target = λ q. rw (at q) (written (λ o p. joiners s p ≤ (if is_joinable o then 1 else 0)) t q y (thread_of s q) (λ e. subst (λ p. joiners s p ≤ (if is_joinable y then 1 else 0)) e m.joined) (h.joined_target q));
       joined_by_another = h.joined_by_another;
       deadlines = h.deadlines;
+      unwinding_waits = λ q. rw (at q) (written (λ o p. unwind_waits s p ≤ (if is_unwinding o then 1 else 0)) t q y (thread_of s q) (λ e. subst (λ p. unwind_waits s p ≤ (if is_unwinding y then 1 else 0)) e m.unwinding) (h.unwinding_waits q));
     }
+
+-- what is nothing is at most anything
+none_at_most : (m n : ℕ) → m ≡ 0 → m ≤ n
+none_at_most m n e = omega (arith, e)
+
+no_unwind_waits : (s : State) (t : ℕ) → places s t ≡ 0 → unwind_waits s t ≡ 0
+no_unwind_waits s t e = (let l = unwind_of t s.waits in omega (arith, l, e))
+
+-- anything proper may stand for an id at which nobody waits or is on a hart, and which nobody joins
+pub may_stand_free : (s : State) (t : ℕ) (y : Option Thread) → places s t ≡ 0 → joiners s t ≡ 0 → (is_initial y ≡ true → is_initial (thread_of s t) ≡ true) → is_proper_slot y ≡ true → MayStand s t y
+may_stand_free s t y f j i p = record {
+  placed = none_at_most (places s t) (if is_live_thread y then 1 else 0) f;
+  joined = none_at_most (joiners s t) (if is_joinable y then 1 else 0) j;
+  unwinding = none_at_most (unwind_waits s t) (if is_unwinding y then 1 else 0) (no_unwind_waits s t f);
+  initial = i;
+  proper = p;
+}
+
+-- A THREAD THAT HAS NOT ENDED changes
+
+-- where what it becomes may stand for its id
+pub well_formed_live : (s : State) (t : ℕ) (f : Live → Live) → IsWellFormed s → is_live s t ≡ true → MayStand s t (change_live f (thread_of s t)) → IsWellFormed (record s { threads = change_thread f t s.threads })
+well_formed_live s t f h l m = (let r = live_range s t h l in well_formed_slot s t (change_live f (thread_of s t)) h r.0 r.1 m)
+
+module _ (s : State) (t : ℕ) (f : Live → Live) (h : IsWellFormed s) (i : (l : Live) → (f l).initial ≡ l.initial) (p : is_proper_slot (change_live f (thread_of s t)) ≡ true)
+    (u : is_unwinding (thread_of s t) ≡ true → is_unwinding (change_live f (thread_of s t)) ≡ true) where
+  may_stand_changed : joiners s t ≤ (if is_joinable (change_live f (thread_of s t)) then 1 else 0) → MayStand s t (change_live f (thread_of s t))
+  may_stand_changed j = record {
+    placed = subst (λ (b : Bool). places s t ≤ (if b then 1 else 0)) (sym (live_change f (thread_of s t))) (h.placed t);
+    joined = j;
+    unwinding = still_at_most (unwind_waits s t) (is_unwinding (thread_of s t)) (is_unwinding (change_live f (thread_of s t))) u (h.unwinding_waits t);
+    initial = λ x. sym (initial_change f i (thread_of s t)) ∙ x;
+    proper = p;
+  }
+
+  may_stand_joinable : ((l : Live) → (f l).detached ≡ l.detached) → MayStand s t (change_live f (thread_of s t))
+  may_stand_joinable d = may_stand_changed (subst (λ (b : Bool). joiners s t ≤ (if b then 1 else 0)) (sym (joinable_change f d (thread_of s t))) (h.joined_target t))
+
+-- a change that has no part in this: of how a thread is cancelled, of its handlers, or of whether it is detached
+same_unwinding : (f : Live → Live) → ((l : Live) → (f l).cancellation ≡ l.cancellation) → (o : Option Thread) → is_unwinding o ≡ true → is_unwinding (change_live f o) ≡ true
+same_unwinding f k None u = absurd (cc)
+same_unwinding f k (Some (thread.Ended v)) u = absurd (cc)
+same_unwinding f k (Some (thread.Live l)) u = ap (λ c. is_some c.unwinding) (k l) ∙ u
+
+-- a thread that nobody joins is detached
+proper_detached : (o : Option Thread) → is_proper_slot o ≡ true → is_proper_slot (change_live detached o) ≡ true
+proper_detached None a = refl
+proper_detached (Some (thread.Ended v)) a = refl
+proper_detached (Some (thread.Live l)) a = a
+
+pub well_formed_detached : (s : State) (t : ℕ) → IsWellFormed s → is_live s t ≡ true → joiners s t ≡ 0 → IsWellFormed (record s { threads = change_thread detached t s.threads })
+well_formed_detached s t h l n =
+    well_formed_live s t detached h l
+    (may_stand_changed s t detached h (λ x. refl) (proper_detached (thread_of s t) (h.proper t)) (same_unwinding detached (λ x. refl) (thread_of s t))
+    (none_at_most (joiners s t) (if is_joinable (change_live detached (thread_of s t)) then 1 else 0) n))
+
+-- a thread can be cancelled otherwise
+proper_cancellation : (c : Cancellation) (o : Option Thread) → is_consistent c ≡ true → is_proper_slot o ≡ true → is_proper_slot (change_live (with_cancellation c) o) ≡ true
+proper_cancellation c None k a = refl
+proper_cancellation c (Some (thread.Ended v)) k a = refl
+proper_cancellation c (Some (thread.Live l)) k a = grind (arith, nat_tests, k, a)
+
+unwinding_cancellation : (c : Cancellation) (o : Option Thread) → (is_unwinding o ≡ true → is_some c.unwinding ≡ true) → is_unwinding o ≡ true → is_unwinding (change_live (with_cancellation c) o) ≡ true
+unwinding_cancellation c None k u = absurd (cc)
+unwinding_cancellation c (Some (thread.Ended v)) k u = absurd (cc)
+unwinding_cancellation c (Some (thread.Live l)) k u = k u
+
+pub well_formed_cancellation : (s : State) (t : ℕ) (c : Cancellation) → IsWellFormed s → is_live s t ≡ true → is_consistent c ≡ true → (is_unwinding (thread_of s t) ≡ true → is_some c.unwinding ≡ true) → IsWellFormed (with_cancellation_of t c s)
+well_formed_cancellation s t c h l k u =
+    well_formed_live s t (with_cancellation c) h l
+    (may_stand_joinable s t (with_cancellation c) h (λ x. refl) (proper_cancellation c (thread_of s t) k (h.proper t)) (unwinding_cancellation c (thread_of s t) u) (λ x. refl))
+
+-- HANDLERS
+
+proper_pushed : (n : Handler) (o : Option Thread) → is_aligned_handler n ≡ true → length (handlers_of o) < 16 → is_proper_slot o ≡ true → is_proper_slot (change_live (pushing n) o) ≡ true
+proper_pushed n None a r h = refl
+proper_pushed n (Some (thread.Ended v)) a r h = refl
+proper_pushed n (Some (thread.Live l)) a r h =
+    let hs = l.handlers.items in
+    grind (arith, nat_tests, a, r, h, list_all-append is_aligned_handler hs (n ∷ []), length-append hs (n ∷ []))
+
+-- a thread has one handler more
+pub well_formed_pushed : (s : State) (t : ℕ) (n : Handler) → IsWellFormed s → is_live s t ≡ true → is_aligned_handler n ≡ true → length (handlers_of (thread_of s t)) < 16 → IsWellFormed (pushed n t s)
+well_formed_pushed s t n h l a r =
+    well_formed_live s t (pushing n) h l
+    (may_stand_joinable s t (pushing n) h (λ x. refl) (proper_pushed n (thread_of s t) a r (h.proper t)) (same_unwinding (pushing n) (λ x. refl) (thread_of s t)) (λ x. refl))
+
+all_take : {X : Type 0} (p : X → Bool) (n : ℕ) (xs : List X) → list_all p xs ≡ true → list_all p (take n xs) ≡ true
+all_take p zero xs h = refl
+all_take p (suc n) [] h = refl
+all_take p (suc n) (x ∷ xs) h = grind (arith, nat_tests, all_take p n xs, h)
+
+few_take : {X : Type 0} (n : ℕ) (xs : List X) → length (take n xs) ≤ length xs
+few_take zero xs = omega arith
+few_take (suc n) [] = omega arith
+few_take (suc n) (x ∷ xs) = (let r = few_take n xs in omega (arith, r))
+
+proper_popped : (l : Live) → is_proper_live l ≡ true → is_proper_live (popping l) ≡ true
+proper_popped l h =
+    let hs = l.handlers.items in
+    let a = all_take is_aligned_handler (length hs - 1) hs in
+    grind (arith, nat_tests, h, a, few_take (length hs - 1) hs)
+
+-- a thread has its newest handler no more
+pub changes_popping : IsChange popping
+changes_popping = record { initial = λ l. refl; detached = λ l. refl; proper = proper_popped; unwinding = λ l u. u }
+
+proper_entered : (back : ℕ) (n : Handler) (l : Live) → is_aligned_handler n ≡ true → is_proper_live l ≡ true → is_proper_live (entering back n l) ≡ true
+proper_entered back n l a h = grind (arith, nat_tests, a, h)
+
+-- a thread goes to the routine of a handler
+pub changes_entering : (back : ℕ) (n : Handler) → is_aligned_handler n ≡ true → IsChange (entering back n)
+changes_entering back n a = record { initial = λ l. refl; detached = λ l. refl; proper = λ l h. proper_entered back n l a h; unwinding = λ l u. u }
+
+-- the newest handler's routine is a multiple of 4
+aligned_at : (p : Handler → Bool) (hs : List Handler) (i : ℕ) → list_all p hs ≡ true → IfSome (slice_get hs i) (λ n. p n ≡ true)
+aligned_at p [] i h = tt
+aligned_at p (x ∷ hs) zero h = grind (arith, nat_tests, h)
+aligned_at p (x ∷ hs) (suc i) h = aligned_at p hs i (grind (arith, nat_tests, h))
+
+pub aligned_newest : (l : Live) → is_proper_live l ≡ true → IfSome (newest l.handlers.items) (λ n. is_aligned_handler n ≡ true)
+aligned_newest l h = aligned_at is_aligned_handler l.handlers.items (length l.handlers.items - 1) (grind (arith, nat_tests, h))
 
 -- A THREAD GOES OFF ITS HART, OR ONTO ONE
 
@@ -184,12 +353,13 @@ well_formed_off s t h = record {
   harts = length-map s.harts (off t) ∙ h.harts;
   hart_count = h.hart_count;
   idle = λ i l. idle_off t s.harts i (h.idle i l);
-  aligned = h.aligned;
+  proper = h.proper;
   one_initial = h.one_initial;
   placed = λ q. grind (arith, nat_tests, h.placed q, count_of-off t q s.harts);
   joined_target = h.joined_target;
   joined_by_another = h.joined_by_another;
   deadlines = h.deadlines;
+  unwinding_waits = h.unwinding_waits;
 }
 
 placed_count : (s : State) (t q : ℕ) (hs : List (Option ℕ)) → is_live s t ≡ true → places s t ≡ 0 → places s q ≤ (if is_live s q then 1 else 0) → count_of (holds q) hs ≤ cond (eqb t q) 1 0 + count_of (holds q) s.harts → count_of (is_of q) s.waits + count_of (holds q) hs ≤ (if is_live s q then 1 else 0)
@@ -207,12 +377,13 @@ well_formed_placed s h t k l r =
       harts = length-set s.harts h (Some t) ∙ k.harts;
       hart_count = k.hart_count;
       idle = λ i m. idle_put s.harts h i t (omega arith) (k.idle i m);
-      aligned = k.aligned;
+      proper = k.proper;
       one_initial = k.one_initial;
       placed = λ q. placed_count s t q (slice_set s.harts h (Some t)) (ready_live s t r) (ready_places s t r) (k.placed q) (count_of-put s.harts h t q w);
       joined_target = k.joined_target;
       joined_by_another = k.joined_by_another;
       deadlines = k.deadlines;
+      unwinding_waits = k.unwinding_waits;
     }
 
 -- A PROGRAM BEGINS
@@ -232,10 +403,11 @@ well_formed_fresh stack harts l = record {
   harts = refl;
   hart_count = l;
   idle = λ h _. empty_slot {X = ℕ} 8 h;
-  aligned = λ t. rw (fresh_at stack harts t) (either (λ o. is_aligned_slot o ≡ true) (eqb 1 t) (Some (first_of_program stack)) None refl refl);
+  proper = λ t. rw (fresh_at stack harts t) (either (λ o. is_proper_slot o ≡ true) (eqb 1 t) (Some (first_of_program stack)) None refl refl);
   one_initial = λ t q a b. sym (fresh_initial stack harts t a) ∙ fresh_initial stack harts q b;
   placed = λ t. let e = none_held 8 t in omega arith;
   joined_target = λ t. omega arith;
   joined_by_another = refl;
   deadlines = refl;
+  unwinding_waits = λ t. omega arith;
 }

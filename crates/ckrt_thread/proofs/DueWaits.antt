@@ -7,7 +7,6 @@ use Rattle.ckrt_thread.specs.Waits.{is_of, without}
 use Rattle.ckrt_thread.specs.Deadlines.{is_ahead, is_due, is_reached, is_before, inserted, in_order, due_waits, sooner_of, earliest_due}
 use Rattle.ckrt_thread.specs.State.{State, IsWellFormed, count_of, is_live}
 use Rattle.ckrt_thread.proofs.Counting.{count_of_some}
-use Rattle.ckrt_thread.proofs.WaitLemmas.{found_waits}
 use Rattle.ckrt_thread.proofs.Known.{waiting_live}
 
 drop_at : {X : Type 0} (xs : List X) (i : ℕ) (x : X) → slice_get xs i ≡ Some x → drop i xs ≡ x ∷ drop (i + 1) xs

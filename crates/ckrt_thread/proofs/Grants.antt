@@ -1,14 +1,15 @@
 -- Queues and granting.
-use Rattle.std.proofs.Common.{◌≡◌, ℕ, zero, suc, ◌+◌, ◌≤◌, ◌<◌, Bool, true, false, cond, List, [], ◌∷◌, length, Option, Some, None, refl, arith, slice_get}
+use Rattle.std.proofs.Common.{◌≡◌, ℕ, zero, suc, ◌≤◌, ◌<◌, Bool, true, false, cond, List, [], ◌∷◌, length, Option, Some, None, refl, arith, slice_get}
 use Rattle.std.specs.List.{find, filter}
 use Rattle.std.proofs.lemmas.Bool.Decides.{nat_tests}
 use Rattle.ckrt_thread.specs.declared.records.Wait.{Wait}
 use Rattle.ckrt_thread.specs.declared.records.Object.{Object}
 use Rattle.ckrt_thread.specs.Waits.{is_for, is_of, without}
-use Rattle.ckrt_thread.specs.State.{State, IsWellFormed, count_of, first_waiter, woken}
-use Rattle.ckrt_thread.specs.Granting.{GrantRule, queue_of, grant, grant_up_to, grant_waiters, has_admissible_waiter, is_first_admissible, wait_result}
+use Rattle.ckrt_thread.specs.State.{State, IsWellFormed, count_of, first_waiter, unwaited, woken}
+use Rattle.ckrt_thread.specs.Granting.{GrantRule, queue_of, grant, grant_up_to, grant_waiters, has_admissible_waiter, is_first_admissible, wait_result, obtained}
 use Rattle.ckrt_thread.proofs.Counting.{count_of_some}
-use Rattle.ckrt_thread.proofs.WaitLemmas.{found_waits, length-without}
+use Rattle.ckrt_thread.proofs.WaitLemmas.{found_waits, length-without, length_fewer}
+use Rattle.ckrt_thread.proofs.Unwound.{waits_answered}
 
 find_first : (p : Wait → Bool) (ws : List Wait) → find p ws ≡ slice_get (filter p ws) 0
 find_first p [] = refl
@@ -45,23 +46,28 @@ found_some : (p : Wait → Bool) (ws : List Wait) (w : Wait) → find p ws ≡ S
 found_some p [] w e = absurd (cc)
 found_some p (v ∷ ws) w e = omega arith
 
--- a grant takes one wait out
-granted_length : (o : Object) (s : State) (w : Wait) (v n : ℕ) → first_waiter o s ≡ Some w → length s.waits ≡ suc n → length (woken w.thread v s).waits ≡ n
-granted_length o s w v n e l =
-    let f = length-without w.thread s.waits (found_waits (is_for o) s.waits w e) in omega (arith, f, l)
+-- a grant takes one wait out, and perhaps that of who joins a thread that ended
+fewer_waits : (t n : ℕ) (ws : List Wait) → length ws ≤ n → length (without t ws) ≤ n
+fewer_waits t n ws l = (let f = length_fewer t ws in omega (arith, f, l))
+
+granted_length : (o : Object) (s : State) (w : Wait) (n : ℕ) → first_waiter o s ≡ Some w → length s.waits ≤ suc n → length (obtained w s).waits ≤ n
+granted_length o s w n e l =
+    let f = length-without w.thread s.waits (found_waits (is_for o) s.waits w e) in
+    let few : length (without w.thread s.waits) ≤ n = omega (arith, f, l) in
+    waits_answered (λ ws. length ws ≤ n) (wait_result w.reason) w.thread (unwaited w.thread s) few (λ v _. fewer_waits v.thread n (without w.thread s.waits) few)
 
 module _ {O : Type 0} (rule : GrantRule O) where
-  granted_case : (n : ℕ) (o : O) (s : State) (f : Option Wait) → first_waiter rule.object s ≡ f → length s.waits ≡ suc n
-      → ((p : O) (z : State) → length z.waits ≡ n → has_admissible_waiter rule (grant_up_to rule n p z) ≡ false)
+  granted_case : (n : ℕ) (o : O) (s : State) (f : Option Wait) → first_waiter rule.object s ≡ f → length s.waits ≤ suc n
+      → ((p : O) (z : State) → length z.waits ≤ n → has_admissible_waiter rule (grant_up_to rule n p z) ≡ false)
       → has_admissible_waiter rule (grant rule (grant_up_to rule n) f o s) ≡ false
   granted_case n o s None e l more = rw e refl
   granted_case n o s (Some w) e l more =
-      elim (rule.is_admissible o w) as (λ b. rule.is_admissible o w ≡ b → has_admissible_waiter rule (cond b (grant_up_to rule n (rule.granted o w) (woken w.thread (wait_result w.reason) s)) (o, s)) ≡ false) [
-        | true ↦ λ _. more (rule.granted o w) (woken w.thread (wait_result w.reason) s) (granted_length rule.object s w (wait_result w.reason) n e l)
+      elim (rule.is_admissible o w) as (λ b. rule.is_admissible o w ≡ b → has_admissible_waiter rule (cond b (grant_up_to rule n (rule.granted o w) (obtained w s)) (o, s)) ≡ false) [
+        | true ↦ λ _. more (rule.granted o w) (obtained w s) (granted_length rule.object s w n e l)
         | false ↦ λ a. rw e a
       ] refl
 
-  granted_up_to : (n : ℕ) (o : O) (s : State) → length s.waits ≡ n → has_admissible_waiter rule (grant_up_to rule n o s) ≡ false
+  granted_up_to : (n : ℕ) (o : O) (s : State) → length s.waits ≤ n → has_admissible_waiter rule (grant_up_to rule n o s) ≡ false
   granted_up_to zero o s l =
       elim (first_waiter rule.object s) as (λ f. first_waiter rule.object s ≡ f → is_first_admissible rule f o ≡ false) [
         | None ↦ λ e. refl
@@ -70,4 +76,4 @@ module _ {O : Type 0} (rule : GrantRule O) where
   granted_up_to (suc n) o s l = granted_case n o s (first_waiter rule.object s) refl l (granted_up_to n)
 
 pub grants_every_admissible : {O : Type 0} (rule : GrantRule O) (o : O) (s : State) → has_admissible_waiter rule (grant_waiters rule o s) ≡ false
-grants_every_admissible rule o s = granted_up_to rule (length s.waits) o s refl
+grants_every_admissible rule o s = granted_up_to rule (length s.waits) o s (omega arith)

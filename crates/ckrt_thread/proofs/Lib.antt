@@ -8,3 +8,5 @@ pub mod Changes
 pub mod Grants
 pub mod Waking
 pub mod DueWaits
+pub mod Unwound
+pub mod RowsKept

@@ -1,5 +1,5 @@
 -- The slots of the table: a slot read, written, and found free.
-use Rattle.std.proofs.Common.{◌≡◌, ℕ, zero, suc, ◌+◌, ◌<◌, Bool, true, false, cond, eqb, not, List, [], ◌∷◌, length, drop, replicate, Option, Some, None, refl, ap, ◌∙◌, arith, slice_get, slice_set, get_or, is_none}
+use Rattle.std.proofs.Common.{◌≡◌, ℕ, zero, suc, ◌+◌, ◌<◌, Bool, true, false, cond, eqb, not, List, [], ◌∷◌, ◌++◌, length, drop, replicate, Option, Some, None, refl, ap, ◌∙◌, arith, slice_get, slice_set, get_or, is_none}
 use Rattle.std.specs.List.{position, position_or_len}
 use Rattle.std.specs.Option.{option_flatten}
 use Rattle.std.proofs.lemmas.Bool.Decides.{nat_tests}
@@ -25,6 +25,14 @@ slot_at (x ∷ xs) zero zero y l = grind (arith, nat_tests)
 slot_at (x ∷ xs) zero (suc q) y l = grind (arith, nat_tests)
 slot_at (x ∷ xs) (suc t) zero y l = grind (arith, nat_tests)
 slot_at (x ∷ xs) (suc t) (suc q) y l = grind (arith, nat_tests, slot_at xs t q y)
+
+-- a slot after a write of another
+pub slot_elsewhere : {X : Type 0} (xs : List (Option X)) (t q : ℕ) (y : Option X) → eqb t q ≡ false → option_flatten (slice_get (slice_set xs t y) q) ≡ option_flatten (slice_get xs q)
+slot_elsewhere [] t q y n = refl
+slot_elsewhere (x ∷ xs) zero zero y n = absurd (cc)
+slot_elsewhere (x ∷ xs) zero (suc q) y n = refl
+slot_elsewhere (x ∷ xs) (suc t) zero y n = refl
+slot_elsewhere (x ∷ xs) (suc t) (suc q) y n = slot_elsewhere xs t q y (grind (arith, nat_tests, n))
 
 -- a question about a choice
 pub cond_of : {X Y : Type 0} (f : X → Y) (b : Bool) (x y : X) → f (cond b x y) ≡ cond b (f x) (f y)
@@ -92,3 +100,8 @@ pub empty_slot : {X : Type 0} (n t : ℕ) → let o : Option X = option_flatten 
 empty_slot zero t = refl
 empty_slot (suc n) zero = refl
 empty_slot (suc n) (suc t) = empty_slot n t
+
+-- a list of equal elements with one more
+pub one_more : {X : Type 0} (n : ℕ) (x : X) → replicate n x ++ x ∷ [] ≡ replicate (suc n) x
+one_more zero x = refl
+one_more (suc n) x = ap (λ xs. x ∷ xs) (one_more n x)

@@ -4,9 +4,9 @@ use Rattle.std.specs.List.{position, remove, list_any, list_all, find, filter, I
 use Rattle.std.proofs.lemmas.Bool.Decides.{nat_tests}
 use Rattle.std.proofs.lemmas.List.Recursion.{is_position_or_len}
 use Rattle.ckrt_thread.specs.declared.records.Wait.{Wait}
-use Rattle.ckrt_thread.specs.Waits.{is_of, without}
+use Rattle.ckrt_thread.specs.Waits.{is_of, without, is_unwind_of}
 use Rattle.ckrt_thread.specs.State.{count_of}
-use Rattle.ckrt_thread.proofs.Counting.{count_of_some}
+use Rattle.ckrt_thread.proofs.Counting.{count_of_some, count_of_none}
 
 -- how many waits stand before the thread's
 abbrev place_in : ℕ → List Wait → ℕ
@@ -58,9 +58,26 @@ count_of-without_found p (v ∷ ws) w e l =
     let r = count_of-without_found p ws w in
     grind (arith, nat_tests, f, c, r)
 
+-- who waits to unwind waits
+pub unwind_of : (t : ℕ) (ws : List Wait) → count_of (is_unwind_of t) ws ≤ count_of (is_of t) ws
+unwind_of t [] = omega arith
+unwind_of t (w ∷ ws) = grind (arith, nat_tests, unwind_of t ws)
+
+pub no_unwind : (t : ℕ) (ws : List Wait) → list_any (is_of t) ws ≡ false → count_of (is_unwind_of t) ws ≡ 0
+no_unwind t ws h = (let l = unwind_of t ws in let n = count_of_none (is_of t) ws h in omega (arith, l, n))
+
 pub length-without : (t : ℕ) (ws : List Wait) → list_any (is_of t) ws ≡ true → length (without t ws) + 1 ≡ length ws
 length-without t [] h = absurd (cc)
 length-without t (w ∷ ws) h = grind (arith, nat_tests, length-without t ws)
+
+-- a thread that waits once does not wait after that
+pub gone : (t : ℕ) (ws : List Wait) → count_of (is_of t) ws ≤ 1 → list_any (is_of t) (without t ws) ≡ false
+gone t [] c = refl
+gone t (w ∷ ws) c = grind (arith, nat_tests, gone t ws, count_of_some (is_of t) ws)
+
+pub length_fewer : (t : ℕ) (ws : List Wait) → length (without t ws) ≤ length ws
+length_fewer t [] = omega arith
+length_fewer t (w ∷ ws) = grind (arith, nat_tests, length_fewer t ws)
 
 pub list_all-without : (p : Wait → Bool) (t : ℕ) (ws : List Wait) → list_all p ws ≡ true → list_all p (without t ws) ≡ true
 list_all-without p t [] h = refl

@@ -1,5 +1,5 @@
 -- Granting an object after a release: while the first wait of the object's queue is admissible it leaves the list and
--- gets what it waited for, with its result in x10.
+-- gets what it waited for, with its result in x10; a thread that was cancelled goes to its next handler instead.
 use Rattle.std.specs.Prelude.{ℕ, zero, suc, Bool, false, if◌then◌else◌, Option, Some, None, List, length}
 use Rattle.std.specs.List.{filter}
 use Rattle.ckrt_thread.specs.declared.records.Wait.{Wait}
@@ -7,12 +7,23 @@ use Rattle.ckrt_thread.specs.declared.records.Reason.{Reason}
 use Rattle.ckrt_thread.specs.declared.records.Reason.TheVariants as reason
 use Rattle.ckrt_thread.specs.declared.records.Object.{Object}
 use Rattle.ckrt_thread.specs.Waits.{is_for, retake_code}
-use Rattle.ckrt_thread.specs.State.{State, first_waiter, woken}
+use Rattle.ckrt_thread.specs.Abi.{A0}
+use Rattle.ckrt_thread.specs.State.{State, first_waiter, set_word, unwaited}
+use Rattle.ckrt_thread.specs.Unwinding.{next_handler}
 
--- the result that a wait ends with when its thread gets what it waited for
-abbrev pub wait_result : Reason → ℕ
+-- the result that a wait ends with when its thread gets what it waited for, if it ends with one
+abbrev pub wait_result : Reason → Option ℕ
 wait_result (reason.Retake a r) = retake_code r
-wait_result _ = 0
+wait_result _ = Some 0
+
+-- a thread that does not wait gets a result, or else goes to its next handler
+abbrev pub answered : Option ℕ → ℕ → State → State
+answered (Some v) t s = set_word t A0 v s
+answered None t s = next_handler t s
+
+-- who waits gets what it waited for
+abbrev pub obtained : Wait → State → State
+obtained w s = answered (wait_result w.reason) w.thread (unwaited w.thread s)
 
 -- the queue of an object: the part of the list that waits for it, in order
 abbrev pub queue_of : Object → State → List Wait
@@ -28,7 +39,7 @@ module _ {O : Type 0} (rule : GrantRule O) where
   abbrev pub grant : (O → State → O × State) → Option Wait → O → State → O × State
   grant more None o s = (o, s)
   grant more (Some w) o s =
-      if rule.is_admissible o w then more (rule.granted o w) (woken w.thread (wait_result w.reason) s)
+      if rule.is_admissible o w then more (rule.granted o w) (obtained w s)
       else (o, s)
 
   -- at most n grants

@@ -1,8 +1,10 @@
 pub mod Abi
 pub mod Errors
+pub mod Cancellation
 pub mod Waits
 pub mod Deadlines
 pub mod WaitList
 pub mod State
 pub mod Rows
+pub mod Unwinding
 pub mod Granting

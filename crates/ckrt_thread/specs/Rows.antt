@@ -1,6 +1,6 @@
 -- The calls that begin, join, detach and end threads, by the pages of POSIX.1-2017 with this project's choices. What is
 -- wrong is tested from left to right as a row says it, and changes nothing.
-use Rattle.std.specs.Prelude.{ℕ, ◌+◌, ◌%◌, ◌==◌, nat_lt, Bool, true, false, if◌then◌else◌, not, ◌||◌, Option, Some, None, replicate, slice_set}
+use Rattle.std.specs.Prelude.{ℕ, ◌+◌, ◌%◌, ◌==◌, nat_lt, Bool, true, false, if◌then◌else◌, not, ◌||◌, Option, Some, None, [], replicate, slice_set}
 use Rattle.ckrt_thread.specs.Abi.{RA, SP, A0, A1, RETURN_GATE}
 use Rattle.ckrt_thread.specs.Errors.{ESRCH, EAGAIN, EINVAL, EDEADLK}
 use Rattle.ckrt_thread.specs.declared.records.Thread.{Thread}
@@ -11,7 +11,8 @@ use Rattle.ckrt_thread.specs.declared.records.Reason.TheVariants as reason
 use Rattle.ckrt_thread.specs.declared.records.Object.TheVariants as object
 use Rattle.ckrt_thread.specs.declared.records.CallResult.{CallResult}
 use Rattle.ckrt_thread.specs.declared.records.CallResult.TheVariants.{Done, Blocked}
-use Rattle.ckrt_thread.specs.State.{State, thread_of, is_detached, is_joined, free_place, first_waiter, set_word, with_slot, off_hart, blocked, woken}
+use Rattle.ckrt_thread.specs.Cancellation.{at_the_start}
+use Rattle.ckrt_thread.specs.State.{State, thread_of, is_detached, is_joined, free_place, first_waiter, set_word, with_slot, change_thread, off_hart, blocked, woken}
 
 -- what a call answers and leaves
 pub record After : Type 0 where
@@ -31,6 +32,8 @@ new_thread start arg sp detached = thread.Live (record {
   regs = record { pc = start; x = slice_set (slice_set (slice_set (replicate 32 0) RA RETURN_GATE) SP sp) A0 arg };
   initial = false;
   detached = detached;
+  cancellation = at_the_start;
+  handlers = record { items = [] };
 })
 
 abbrev pub create_at : Option ℕ → ℕ → ℕ → ℕ → ℕ → Bool → State → After
@@ -69,7 +72,7 @@ detach_at None id s = unchanged (Done ESRCH) s
 detach_at (Some (thread.Ended v)) id s = record { result = Done 0; threads = with_slot id None s }
 detach_at (Some (thread.Live l)) id s =
     if l.detached || is_joined id s then unchanged (Done EINVAL) s
-    else (record { result = Done 0; threads = with_slot id (Some (thread.Live (detached l))) s })
+    else (record { result = Done 0; threads = record s { threads = change_thread detached id s.threads } })
 
 abbrev pub detach_row : ℕ → State → After
 detach_row id s = detach_at (thread_of s id) id s

@@ -13,7 +13,8 @@ use Rattle.ckrt_thread.specs.declared.records.Reason.TheVariants as reason
 use Rattle.ckrt_thread.specs.declared.records.Object.{Object}
 use Rattle.ckrt_thread.specs.declared.records.Object.TheVariants as object
 use Rattle.ckrt_thread.specs.Abi.{RA, SP, A0, PROGRAM_START, RETURN_GATE}
-use Rattle.ckrt_thread.specs.Waits.{is_for, is_of, without, is_deadline_of, has_proper_deadline, joins_another}
+use Rattle.ckrt_thread.specs.Cancellation.{at_the_start, is_consistent, are_proper_handlers, is_unwinding}
+use Rattle.ckrt_thread.specs.Waits.{is_for, is_of, without, is_deadline_of, has_proper_deadline, joins_another, is_to_unwind, is_unwind_of}
 
 -- The threads by id, with nothing at 0; the waits in order of the start of waiting; who is on each of 8 harts,
 -- and how many of these there are.
@@ -105,10 +106,19 @@ joiners s t = count_of (is_for (object.End t)) s.waits
 abbrev pub is_aligned : Registers → Bool
 is_aligned r = r.pc % 4 == 0
 
-abbrev pub is_aligned_slot : Option Thread → Bool
-is_aligned_slot None = true
-is_aligned_slot (Some (thread.Ended v)) = true
-is_aligned_slot (Some (thread.Live l)) = is_aligned l.regs
+-- The pc and each handler's routine are multiples of 4, there are at most 16 handlers, and who unwinds is disabled and
+-- deferred.
+abbrev pub is_proper_live : Live → Bool
+is_proper_live l = is_aligned l.regs && are_proper_handlers l.handlers.items && is_consistent l.cancellation
+
+abbrev pub is_proper_slot : Option Thread → Bool
+is_proper_slot None = true
+is_proper_slot (Some (thread.Ended v)) = true
+is_proper_slot (Some (thread.Live l)) = is_proper_live l
+
+-- how often a thread waits to retake a mutex, and to unwind then
+abbrev pub unwind_waits : State → ℕ → ℕ
+unwind_waits s t = count_of (is_unwind_of t) s.waits
 
 pub record IsWellFormed (s : State) : Type 0 where
   -- there is a slot for each id of 1 to 64, and nothing is at 0
@@ -118,8 +128,8 @@ pub record IsWellFormed (s : State) : Type 0 where
   pub hart_count : s.hart_count ≤ 8
   -- harts from hart_count on are idle
   pub idle : (h : ℕ) → s.hart_count ≤ h → option_flatten (slice_get s.harts h) ≡ None
-  -- each pc is a multiple of 4
-  pub aligned : (t : ℕ) → is_aligned_slot (thread_of s t) ≡ true
+  -- each pc and each handler's routine is a multiple of 4, and who unwinds is disabled and deferred
+  pub proper : (t : ℕ) → is_proper_slot (thread_of s t) ≡ true
   -- at most one thread has the mark initial
   pub one_initial : (t q : ℕ) → is_initial (thread_of s t) ≡ true → is_initial (thread_of s q) ≡ true → t ≡ q
   -- who waits or is on a hart has not ended, and does so at one place
@@ -130,6 +140,8 @@ pub record IsWellFormed (s : State) : Type 0 where
   pub joined_by_another : list_all joins_another s.waits ≡ true
   -- timed waits for a mutex and for a condition may have a deadline, sleeps have one, and no other wait has
   pub deadlines : list_all has_proper_deadline s.waits ≡ true
+  -- who waits to retake a mutex, and to unwind then, unwinds
+  pub unwinding_waits : (t : ℕ) → unwind_waits s t ≤ (if is_unwinding (thread_of s t) then 1 else 0)
 
 -- SMALL CHANGES
 
@@ -139,6 +151,8 @@ first_of_program stack = thread.Live (record {
   regs = record { pc = PROGRAM_START; x = slice_set (slice_set (replicate 32 0) RA RETURN_GATE) SP stack };
   initial = true;
   detached = false;
+  cancellation = at_the_start;
+  handlers = record { items = [] };
 })
 
 -- a program begins with thread 1, ready, and idle harts
@@ -192,9 +206,13 @@ abbrev pub may_join : ℕ → Reason → State → Bool
 may_join t (reason.Join q) s = not (q == t) && is_joinable (thread_of s q) && not (is_joined q s)
 may_join t _ s = true
 
+-- who waits to unwind once it has a mutex unwinds
+abbrev pub may_unwind : ℕ → Reason → State → Bool
+may_unwind t r s = if is_to_unwind r then is_unwinding (thread_of s t) else true
+
 -- whether the thread may wait for this reason with this deadline
 abbrev pub may_wait : ℕ → Reason → Option ℕ → State → Bool
-may_wait t r d s = is_deadline_of r d && may_join t r s
+may_wait t r d s = is_deadline_of r d && may_join t r s && may_unwind t r s
 
 -- the thread waits from now on, behind all others, and is off its hart
 abbrev pub blocked : ℕ → Reason → Option ℕ → State → State

@@ -1,5 +1,5 @@
 -- The list of waits, in order of the start of waiting.
-use Rattle.std.specs.Prelude.{ℕ, ◌==◌, ◌^◌, nat_lt, not, Bool, true, false, if◌then◌else◌, Option, Some, None, List, [], ◌∷◌}
+use Rattle.std.specs.Prelude.{ℕ, ◌==◌, ◌^◌, nat_lt, not, Bool, true, false, ◌&&◌, if◌then◌else◌, Option, Some, None, is_none, List, [], ◌∷◌}
 use Rattle.ckrt_thread.specs.Errors.{ETIMEDOUT}
 use Rattle.ckrt_thread.specs.declared.records.Wait.{Wait}
 use Rattle.ckrt_thread.specs.declared.records.Reason.{Reason}
@@ -32,10 +32,21 @@ abbrev pub without : ℕ → List Wait → List Wait
 without t [] = []
 without t (w ∷ ws) = if is_of t w then ws else w ∷ without t ws
 
--- the result of a condition wait (POSIX.1-2017, pthread_cond_timedwait)
-abbrev pub retake_code : RetakeResult → ℕ
-retake_code retake.Done = 0
-retake_code retake.TimedOut = ETIMEDOUT
+-- the result of a condition wait (POSIX.1-2017, pthread_cond_timedwait); a cancelled waiter gets none, and goes to its
+-- next handler
+abbrev pub retake_code : RetakeResult → Option ℕ
+retake_code retake.Done = Some 0
+retake_code retake.TimedOut = Some ETIMEDOUT
+retake_code retake.Unwind = None
+
+-- whether who waits for this reason is to unwind when it has its mutex
+abbrev pub is_to_unwind : Reason → Bool
+is_to_unwind (reason.Retake m r) = is_none (retake_code r)
+is_to_unwind _ = false
+
+-- whether the thread waits to retake a mutex, and to unwind then
+abbrev pub is_unwind_of : ℕ → Wait → Bool
+is_unwind_of t w = is_of t w && is_to_unwind w.reason
 
 -- every moment of the clock is below this (this project's choice)
 abbrev pub MOMENT_END : ℕ

@@ -17,7 +17,7 @@ pub use abi::{PROGRAM_START, RETURN_GATE, UNWIND_GATE};
 pub use errors::{EAGAIN, EBUSY, EDEADLK, EINVAL, ENOSYS, EPERM, ESRCH, ETIMEDOUT};
 pub use laws::{first_of_queue, grants_every_admissible};
 pub use records::{
-    CallResult, Live, MAX_HARTS, MAX_THREADS, MOMENT_END, Object, Reason, RetakeResult, Thread,
-    ThreadId, Wait,
+    CANCELED, CallResult, Cancellation, Handler, Live, MAX_HANDLERS, MAX_HARTS, MAX_THREADS,
+    MOMENT_END, Object, Reason, RetakeResult, Thread, ThreadId, Wait,
 };
 pub use table::Threads;

@@ -1,6 +1,7 @@
 //! What the tables hold.
 
 use crate::errors::ETIMEDOUT;
+use arrayvec::ArrayVec;
 use ckrt_rv32i::Regs;
 
 /// The number of a thread, 1 to 64.
@@ -15,8 +16,89 @@ pub const MAX_HARTS: usize = 8;
 /// Every moment of the clock is below this: 2^63 ticks.
 pub const MOMENT_END: u64 = 0x8000_0000_0000_0000;
 
+/// How many clean-up handlers a thread may have at a time.
+pub const MAX_HANDLERS: usize = 16;
+
+/// A clean-up handler (POSIX.1-2017, `pthread_cleanup_push`).
+#[derive(Clone, Copy, Debug, Default, Drop, PartialEq, Eq)]
+pub struct Handler {
+    /// The address of its routine, a multiple of 4.
+    pub routine: u32,
+    /// What the routine gets in x10.
+    pub argument: u32,
+}
+
+/// How far a thread can be cancelled, and whether it is (POSIX.1-2017, 2.9.5 Thread Cancellation).
+#[derive(Clone, Copy, Debug, Drop, PartialEq, Eq)]
+pub struct Cancellation {
+    /// Whether the thread acts on requests at all.
+    pub is_enabled: bool,
+    /// Whether it acts on one before its next instruction, and not only at a cancellation point.
+    pub is_asynchronous: bool,
+    /// Whether a request was made on which it has not acted.
+    pub is_requested: bool,
+    /// The value that it is to end with, once its handlers have run. Who unwinds is disabled and deferred.
+    pub unwinding: Option<u32>,
+}
+
+impl Cancellation {
+    ghost use Rattle.std.specs.Prelude.{◌≡◌};
+    ghost use Rattle.ckrt_thread.specs.Cancellation.{at_the_start, is_pending, is_immediate, unwinding_with, acted_on};
+
+    /// A new thread's: enabled, deferred, with no request.
+    pub fn new() -> Self
+        ensures { result ≡ at_the_start }
+    {
+        Cancellation {
+            is_enabled: true,
+            is_asynchronous: false,
+            is_requested: false,
+            unwinding: None,
+        }
+    }
+
+    /// Whether the thread acts on a request at its next cancellation point.
+    pub fn is_pending(&self) -> bool
+        ensures { result ≡ is_pending self.now }
+    {
+        self.is_enabled && self.is_requested
+    }
+
+    /// Whether the thread acts on a request before its next instruction.
+    pub fn is_immediate(&self) -> bool
+        ensures { result ≡ is_immediate self.now }
+    {
+        self.is_pending() && self.is_asynchronous
+    }
+
+    /// The same thread's, once it unwinds to end with a value.
+    pub fn unwinding_with(self, value: u32) -> Self
+        ensures { result ≡ unwinding_with value self }
+    {
+        Cancellation {
+            is_enabled: false,
+            is_asynchronous: false,
+            is_requested: self.is_requested,
+            unwinding: Some(value),
+        }
+    }
+
+    /// The same thread's, once it has acted on a request: the request is gone, and the thread unwinds to end with
+    /// [`CANCELED`].
+    pub fn acted_on(self) -> Self
+        ensures { result ≡ acted_on self }
+    {
+        let mut cancellation = self.unwinding_with(CANCELED);
+        cancellation.is_requested = false;
+        cancellation
+    }
+}
+
+/// What a cancelled thread ends with (`PTHREAD_CANCELED`; the number is this project's choice).
+pub const CANCELED: u32 = 0xFFFF_FFFF;
+
 /// A thread that has not ended.
-#[derive(Clone, Copy, Debug, Drop)]
+#[derive(Drop)]
 pub struct Live {
     /// Its registers. The pc is a multiple of 4.
     pub regs: Regs,
@@ -24,10 +106,14 @@ pub struct Live {
     pub initial: bool,
     /// Whether its number is free again as soon as it ends.
     pub detached: bool,
+    /// Whether it can be cancelled, and whether it unwinds.
+    pub cancellation: Cancellation,
+    /// Its clean-up handlers, oldest first.
+    pub handlers: ArrayVec<Handler, MAX_HANDLERS>,
 }
 
 /// What a number of the table stands for.
-#[derive(Clone, Copy, Debug, Drop)]
+#[derive(Drop)]
 pub enum Thread {
     /// It ended with a value, and nobody has joined it.
     Ended(u32),
@@ -42,19 +128,22 @@ pub enum RetakeResult {
     Done,
     /// Its deadline came, and it gets `ETIMEDOUT`.
     TimedOut,
+    /// It was cancelled, and goes to its next handler.
+    Unwind,
 }
 
 impl RetakeResult {
     ghost use Rattle.std.specs.Prelude.{◌≡◌};
     ghost use Rattle.ckrt_thread.specs.Waits.{retake_code};
 
-    /// The number that goes to x10: 0 or `ETIMEDOUT`.
-    pub fn code(self) -> u32
+    /// The number that goes to x10: 0 or `ETIMEDOUT`. A cancelled thread gets none.
+    pub fn code(self) -> Option<u32>
         ensures { result ≡ retake_code self }
     {
         match self {
-            RetakeResult::Done => 0,
-            RetakeResult::TimedOut => ETIMEDOUT,
+            RetakeResult::Done => Some(0),
+            RetakeResult::TimedOut => Some(ETIMEDOUT),
+            RetakeResult::Unwind => None,
         }
     }
 }
@@ -99,13 +188,13 @@ impl Wait {
     ghost use Rattle.std.specs.Prelude.{◌≡◌};
     ghost use Rattle.ckrt_thread.specs.Granting.{wait_result};
 
-    /// What goes to x10 when the thread gets what it waited for.
-    pub fn result(&self) -> u32
+    /// What goes to x10 when the thread gets what it waited for. A cancelled thread gets nothing.
+    pub fn result(&self) -> Option<u32>
         ensures { result ≡ wait_result self.now.reason }
     {
         match self.reason {
             Reason::Retake(_, result) => result.code(),
-            _ => 0,
+            _ => Some(0),
         }
     }
 }

@@ -1,12 +1,30 @@
 //! The slots of the table, and the threads that begin in them.
-ghost use Rattle.std.specs.Prelude.{◌≡◌, ◌<◌, length, drop, is_none};
+ghost use Rattle.std.specs.Prelude.{◌≡◌, ◌<◌, length, drop, is_none, slice_get, replicate, None, IfOk};
+ghost use Rattle.std.specs.Option.{option_flatten};
 ghost use Rattle.std.specs.List.{position, list_any};
+ghost use Rattle.ckrt_thread.specs.Cancellation.{handlers_of, with_cancellation, pushing, popping, entering};
 ghost use Rattle.ckrt_thread.specs.State.{is_live_thread, change_live, change_thread, with_word, with_regs, first_of_program};
-ghost use Rattle.ckrt_thread.specs.Rows.{new_thread};
+ghost use Rattle.ckrt_thread.specs.Rows.{new_thread, detached};
 
 use crate::abi::{A0, PROGRAM_START, RA, RETURN_GATE, SP};
-use crate::records::{Live, Thread, ThreadId};
+use crate::records::{Cancellation, Handler, Live, MAX_HANDLERS, Thread, ThreadId};
+use arrayvec::ArrayVec;
 use ckrt_rv32i::Regs;
+use std::alloc::{AllocError, Global};
+
+/// A table of so many free slots. The only error is that the memory for it is refused.
+#[tactic(auto, using(crate::proofs::SlotLemmas::one_more))]
+pub fn free_slots(alloc: Global, count: usize) -> Result<Vec<Option<Thread>>, AllocError>
+    ensures { IfOk result (λ table. table.items ≡ replicate count None) }
+{
+    let mut table = Vec::with_capacity(alloc, count)?;
+    for _ in 0..count {
+        if table.push(None).is_err() {
+            return Err(AllocError);
+        }
+    }
+    Ok(table)
+}
 
 /// The thread that a program begins with.
 pub fn first_thread(stack: u32) -> Thread
@@ -19,6 +37,8 @@ pub fn first_thread(stack: u32) -> Thread
         regs,
         initial: true,
         detached: false,
+        cancellation: Cancellation::new(),
+        handlers: ArrayVec::new(),
     })
 }
 
@@ -34,6 +54,8 @@ pub fn new_thread(start: u32, arg: u32, stack: u32, detached: bool) -> Thread
         regs,
         initial: false,
         detached,
+        cancellation: Cancellation::new(),
+        handlers: ArrayVec::new(),
     })
 }
 
@@ -96,4 +118,102 @@ pub fn set_regs_of(table: &mut Vec<Option<Thread>>, thread: ThreadId, regs: &Reg
     ensures { table.new.items ≡ change_thread (with_regs regs.now) thread table.old.items }
 {
     put_regs(&mut table[thread as usize], regs);
+}
+
+/// A thread that has not ended is detached from now on.
+fn detach(slot: &mut Option<Thread>)
+    ensures { slot.new ≡ change_live detached slot.old }
+{
+    if let Some(Thread::Live(live)) = slot {
+        live.detached = true;
+    }
+}
+
+/// A thread that has not ended is detached from now on.
+#[tactic(auto, using(crate::proofs::SlotLemmas::slot_read))]
+pub fn detach_in(table: &mut Vec<Option<Thread>>, thread: ThreadId)
+    requires within { thread < length table.old.items }
+    ensures { table.new.items ≡ change_thread detached thread table.old.items }
+{
+    detach(&mut table[thread as usize]);
+}
+
+/// Writes the cancellation of a thread that has not ended.
+fn put_cancellation(slot: &mut Option<Thread>, cancellation: &Cancellation)
+    ensures { slot.new ≡ change_live (with_cancellation cancellation.now) slot.old }
+{
+    if let Some(Thread::Live(live)) = slot {
+        live.cancellation = *cancellation;
+    }
+}
+
+/// Writes the cancellation of a thread that has not ended.
+#[tactic(auto, using(crate::proofs::SlotLemmas::slot_read))]
+pub fn set_cancellation_of(
+    table: &mut Vec<Option<Thread>>,
+    thread: ThreadId,
+    cancellation: &Cancellation,
+)
+    requires within { thread < length table.old.items }
+    ensures { table.new.items ≡ change_thread (with_cancellation cancellation.now) thread table.old.items }
+{
+    put_cancellation(&mut table[thread as usize], cancellation);
+}
+
+/// A thread that has not ended has one handler more. It must have room for it.
+fn put_handler(slot: &mut Option<Thread>, handler: Handler)
+    requires { length (handlers_of slot.old) < MAX_HANDLERS }
+    ensures { slot.new ≡ change_live (pushing handler) slot.old }
+{
+    if let Some(Thread::Live(live)) = slot {
+        live.handlers.push(handler);
+    }
+}
+
+/// A thread that has not ended has one handler more. It must have room for it.
+#[tactic(auto, using(crate::proofs::SlotLemmas::slot_read))]
+pub fn push_handler_of(table: &mut Vec<Option<Thread>>, thread: ThreadId, handler: Handler)
+    requires within { thread < length table.old.items }
+    requires room { length (handlers_of (option_flatten (slice_get table.old.items thread))) < MAX_HANDLERS }
+    ensures { table.new.items ≡ change_thread (pushing handler) thread table.old.items }
+{
+    put_handler(&mut table[thread as usize], handler);
+}
+
+/// A thread that has not ended has its newest handler no more.
+fn drop_handler(slot: &mut Option<Thread>)
+    ensures { slot.new ≡ change_live popping slot.old }
+{
+    if let Some(Thread::Live(live)) = slot {
+        live.handlers.pop();
+    }
+}
+
+/// A thread that has not ended has its newest handler no more.
+#[tactic(auto, using(crate::proofs::SlotLemmas::slot_read))]
+pub fn pop_handler_of(table: &mut Vec<Option<Thread>>, thread: ThreadId)
+    requires within { thread < length table.old.items }
+    ensures { table.new.items ≡ change_thread popping thread table.old.items }
+{
+    drop_handler(&mut table[thread as usize]);
+}
+
+/// A thread that has not ended goes to the routine of a handler, which returns to an address.
+fn put_entry(slot: &mut Option<Thread>, handler: Handler, back: u32)
+    ensures { slot.new ≡ change_live (entering back handler) slot.old }
+{
+    if let Some(Thread::Live(live)) = slot {
+        live.regs.set_pc(handler.routine);
+        live.regs.put(RA, back);
+        live.regs.put(A0, handler.argument);
+    }
+}
+
+/// A thread that has not ended goes to the routine of a handler, which returns to an address.
+#[tactic(auto, using(crate::proofs::SlotLemmas::slot_read))]
+pub fn enter_in(table: &mut Vec<Option<Thread>>, thread: ThreadId, handler: Handler, back: u32)
+    requires within { thread < length table.old.items }
+    ensures { table.new.items ≡ change_thread (entering back handler) thread table.old.items }
+{
+    put_entry(&mut table[thread as usize], handler, back);
 }

@@ -1,27 +1,31 @@
 //! The table of threads.
-ghost use Rattle.std.specs.Prelude.{◌≡◌, ◌+◌, ◌≤◌, ◌<◌, length, slice_get, IfSome, IfOk, true, false, Some, None, []};
+ghost use Rattle.std.specs.Prelude.{◌≡◌, ◌+◌, ◌≤◌, ◌<◌, ◌%◌, length, slice_get, IfSome, IfOk, true, false, Some, None, is_some, []};
 ghost use Rattle.std.specs.List.{find};
-ghost use Rattle.std.specs.Option.{option_flatten};
+ghost use Rattle.std.specs.Option.{option_flatten, option_copied};
 ghost use Rattle.ckrt_thread.specs.Abi.{A0, A1};
-ghost use Rattle.ckrt_thread.specs.State.{IsWellFormed, thread_of, is_live, is_live_thread, is_any_live, is_initial, is_detached, regs_of, is_waiting, is_ready, first_waiter, is_joined, free_place, places, joiners, is_aligned, is_aligned_slot, fresh, with_thread_regs, set_word, with_slot, off_hart, placed_on, may_wait, blocked, unwaited, woken, all_woken};
+ghost use Rattle.ckrt_thread.specs.State.{IsWellFormed, thread_of, is_live, is_live_thread, is_any_live, is_initial, is_detached, is_joinable, regs_of, is_waiting, is_ready, first_waiter, is_joined, free_place, places, joiners, unwind_waits, is_aligned, is_proper_live, is_proper_slot, fresh, with_thread_regs, set_word, change_thread, with_slot, off_hart, placed_on, may_wait, blocked, unwaited, woken, all_woken};
+ghost use Rattle.ckrt_thread.specs.Cancellation.{cancellation_of, handlers_of, is_unwinding, is_consistent, is_aligned_handler, popping};
+ghost use Rattle.ckrt_thread.specs.Unwinding.{newest_handler, pushed, popped, entered, next_handler, with_cancellation_of};
 ghost use Rattle.ckrt_thread.specs.Deadlines.{earliest_due};
-ghost use Rattle.ckrt_thread.specs.Granting.{queue_of};
+ghost use Rattle.ckrt_thread.specs.Granting.{queue_of, answered, obtained};
 ghost use Rattle.ckrt_thread.specs.Waits.{is_of};
 ghost use Rattle.ckrt_thread.specs.declared.records.Thread.TheVariants as slots;
-ghost use Rattle.ckrt_thread.specs.Rows.{create_row, join_row, detach_row, finished};
+ghost use Rattle.ckrt_thread.specs.Rows.{create_row, join_row, detach_row, detached, finished};
 
-use crate::abi::{A0, A1};
+use crate::abi::{A0, A1, UNWIND_GATE};
 use crate::deadlines::earliest_due;
 use crate::errors::{EAGAIN, EDEADLK, EINVAL, ESRCH};
 use crate::harts::{harts_any, take_off};
 use crate::records::{
-    CallResult, Live, MAX_HARTS, MAX_THREADS, Object, Reason, Thread, ThreadId, Wait,
+    CallResult, Cancellation, Handler, Live, MAX_HANDLERS, MAX_HARTS, MAX_THREADS, Object, Reason,
+    Thread, ThreadId, Wait,
 };
 use crate::slots::{
-    any_live, first_thread, free_slot, is_live_slot, new_thread, set_regs_of, set_word_of,
+    any_live, detach_in, enter_in, first_thread, free_slot, free_slots, is_live_slot, new_thread,
+    pop_handler_of, push_handler_of, set_cancellation_of, set_regs_of, set_word_of,
 };
 use crate::wait_list::WaitList;
-use crate::waits::{count_for, first_for};
+use crate::waits::{count_for, first_for, wait_of};
 use ckrt_rv32i::Regs;
 use std::alloc::{AllocError, Global};
 use std::marker::Model;
@@ -56,7 +60,7 @@ impl Threads {
         requires { harts ≤ 8 }
         ensures { IfOk result (λ threads. threads ≡ fresh stack harts) }
     {
-        let mut table = Vec::from_array(alloc, [None; SLOTS])?;
+        let mut table = free_slots(alloc, SLOTS)?;
         table[1] = Some(first_thread(stack));
         Ok(Threads {
             table,
@@ -91,12 +95,14 @@ impl Threads {
     }
 
     /// What stands for the number: a thread, or nothing.
-    pub fn thread(&self, id: u32) -> Option<Thread>
-        ensures thread { result ≡ thread_of self.now id }
+    pub fn thread(&self, id: u32) -> Option<&Thread>
+        ensures thread { option_copied result ≡ thread_of self.now id }
         ensures number { IfSome result (λ _. (0 < id) × (id ≤ 64)) }
-        ensures aligned { is_aligned_slot result ≡ true }
     {
-        self.table.get(id as usize).copied().flatten()
+        match self.table.get(id as usize) {
+            Some(Some(thread)) => Some(thread),
+            _ => None,
+        }
     }
 
     /// A thread that has not ended.
@@ -104,6 +110,7 @@ impl Threads {
         requires { is_live self.now thread ≡ true }
         ensures thread { thread_of self.now thread ≡ Some (slots.Live result.now) }
         ensures aligned { is_aligned result.now.regs ≡ true }
+        ensures proper { is_proper_live result.now ≡ true }
     {
         let Some(Thread::Live(live)) = &self.table[thread as usize] else {
             unreachable!()
@@ -140,6 +147,34 @@ impl Threads {
             Some(Some(Thread::Live(live))) => live.detached,
             _ => false,
         }
+    }
+
+    /// How far a thread that has not ended can be cancelled, and whether it is.
+    pub fn cancellation(&self, thread: ThreadId) -> Cancellation
+        requires { is_live self.now thread ≡ true }
+        ensures cancellation { result ≡ cancellation_of (thread_of self.now thread) }
+        ensures consistent { is_consistent result ≡ true }
+    {
+        self.live(thread).cancellation
+    }
+
+    /// How many clean-up handlers a thread that has not ended has.
+    pub fn handler_count(&self, thread: ThreadId) -> usize
+        requires { is_live self.now thread ≡ true }
+        ensures count { result ≡ length (handlers_of (thread_of self.now thread)) }
+        ensures few { result ≤ MAX_HANDLERS }
+    {
+        self.live(thread).handlers.len()
+    }
+
+    /// The newest clean-up handler of a thread that has not ended.
+    #[tactic(auto, using(crate::proofs::Changes::aligned_newest))]
+    fn newest_handler(&self, thread: ThreadId) -> Option<Handler>
+        requires { is_live self.now thread ≡ true }
+        ensures newest { result ≡ newest_handler thread self.now }
+        ensures aligned { IfSome result (λ h. is_aligned_handler h ≡ true) }
+    {
+        self.live(thread).handlers.as_slice().last().copied()
     }
 
     /// Whether some thread has not ended.
@@ -188,6 +223,13 @@ impl Threads {
         ensures { slice_get self.now.waits place ≡ Some result }
     {
         self.waits.as_slice()[place]
+    }
+
+    /// The wait of a thread, if it waits.
+    pub fn wait_of(&self, thread: ThreadId) -> Option<Wait>
+        ensures { result ≡ find (is_of thread) self.now.waits }
+    {
+        wait_of(self.waits.as_slice(), thread)
     }
 
     /// The wait that has waited longest for the object.
@@ -321,17 +363,121 @@ impl Threads {
         self.waits.take_out(thread);
     }
 
-    /// The number stands for this from now on. Nobody may join it, and where it is no thread that has not ended, it
-    /// may be at no place.
+    /// The number, at which nobody waits or is on a hart and which nobody joins, stands for this from now on.
     fn set_slot(&mut self, id: ThreadId, slot: Option<Thread>)
         requires number { (0 < id) × (id ≤ 64) }
-        requires free { is_live_thread slot ≡ false → places self.old id ≡ 0 }
+        requires free { places self.old id ≡ 0 }
         requires unjoined { joiners self.old id ≡ 0 }
         requires initial { is_initial slot ≡ true → is_initial (thread_of self.old id) ≡ true }
-        requires aligned { is_aligned_slot slot ≡ true }
+        requires proper { is_proper_slot slot ≡ true }
         ensures { self.new ≡ with_slot id slot self.old }
     {
         self.table[id as usize] = slot;
+    }
+
+    /// A thread that has not ended, and that nobody joins, is detached from now on.
+    fn set_detached(&mut self, thread: ThreadId)
+        requires live { is_live self.old thread ≡ true }
+        requires unjoined { joiners self.old thread ≡ 0 }
+        ensures { self.new ≡ record self.old { threads = change_thread detached thread self.old.threads } }
+    {
+        detach_in(&mut self.table, thread);
+    }
+
+    // Cancellation and clean-up handlers.
+
+    /// How far a thread that has not ended can be cancelled, and whether it is, from now on. Who unwinds goes on
+    /// unwinding.
+    pub fn set_cancellation(&mut self, thread: ThreadId, cancellation: &Cancellation)
+        requires live { is_live self.old thread ≡ true }
+        requires consistent { is_consistent cancellation.now ≡ true }
+        requires unwinding { is_unwinding (thread_of self.old thread) ≡ true → is_some cancellation.now.unwinding ≡ true }
+        ensures { self.new ≡ with_cancellation_of thread cancellation.now self.old }
+    {
+        set_cancellation_of(&mut self.table, thread, cancellation);
+    }
+
+    /// A thread that has not ended has one clean-up handler more, the newest. It must have room for it: fewer than
+    /// [`MAX_HANDLERS`].
+    pub fn push_handler(&mut self, thread: ThreadId, handler: Handler)
+        requires live { is_live self.old thread ≡ true }
+        requires aligned { is_aligned_handler handler ≡ true }
+        requires room { length (handlers_of (thread_of self.old thread)) < MAX_HANDLERS }
+        ensures { self.new ≡ pushed handler thread self.old }
+    {
+        push_handler_of(&mut self.table, thread, handler);
+    }
+
+    /// The newest clean-up handler of a thread that has not ended, which it has no more, if it has one.
+    pub fn pop_handler(&mut self, thread: ThreadId) -> Option<Handler>
+        requires { is_live self.old thread ≡ true }
+        ensures handler { result ≡ newest_handler thread self.old }
+        ensures aligned { IfSome result (λ h. is_aligned_handler h ≡ true) }
+        ensures threads { self.new ≡ popped result thread self.old }
+    {
+        let newest = self.newest_handler(thread);
+        if newest.is_some() {
+            self.drop_newest(thread);
+        }
+        newest
+    }
+
+    /// A thread that has not ended has its newest clean-up handler no more.
+    fn drop_newest(&mut self, thread: ThreadId)
+        requires { is_live self.old thread ≡ true }
+        ensures { self.new ≡ record self.old { threads = change_thread popping thread self.old.threads } }
+    {
+        pop_handler_of(&mut self.table, thread);
+    }
+
+    /// A thread that has not ended goes to the routine of a handler, with the handler's argument in x10. The routine
+    /// returns to the address `back`.
+    pub fn enter(&mut self, thread: ThreadId, handler: Handler, back: u32)
+        requires live { is_live self.old thread ≡ true }
+        requires aligned { is_aligned_handler handler ≡ true }
+        ensures { self.new ≡ entered back handler thread self.old }
+    {
+        enter_in(&mut self.table, thread, handler, back);
+    }
+
+    /// A thread, which does not wait, goes to its newest clean-up handler, which it has no more. With none left it
+    /// ends with the value that it unwinds with.
+    pub fn next_handler(&mut self, thread: ThreadId)
+        requires live { is_live self.old thread ≡ true }
+        requires free { is_waiting self.old thread ≡ false }
+        ensures { self.new ≡ next_handler thread self.old }
+    {
+        match self.pop_handler(thread) {
+            Some(handler) => self.enter(thread, handler, UNWIND_GATE),
+            None => {
+                let value = self.cancellation(thread).unwinding.unwrap_or(0);
+                self.finish(thread, value);
+            }
+        }
+    }
+
+    /// A thread, which does not wait, gets this result in x10; where there is none it goes to its next handler, as
+    /// [`next_handler`](Threads::next_handler).
+    pub fn answer(&mut self, thread: ThreadId, value: Option<u32>)
+        requires live { is_live self.old thread ≡ true }
+        requires free { is_waiting self.old thread ≡ false }
+        ensures { self.new ≡ answered value thread self.old }
+    {
+        self.known_live(thread);
+        match value {
+            Some(value) => self.set_result(thread, value),
+            None => self.next_handler(thread),
+        }
+    }
+
+    /// A wait ends, as its thread got what it waited for: it gets the wait's result in x10, or goes to its next handler.
+    pub fn obtain(&mut self, wait: &Wait)
+        requires { is_waiting self.old wait.now.thread ≡ true }
+        ensures { self.new ≡ obtained wait.now self.old }
+    {
+        self.known();
+        self.take_wait(wait.thread);
+        self.answer(wait.thread, wait.result());
     }
 
     // Calls.
@@ -393,6 +539,7 @@ impl Threads {
         let number = id as ThreadId;
         match thread {
             Thread::Ended(value) => {
+                let value = *value;
                 self.set_slot(number, None);
                 self.set_second_result(by, value);
                 CallResult::Done(0)
@@ -427,14 +574,7 @@ impl Threads {
                 if live.detached || self.is_joined(number) {
                     return CallResult::Done(EINVAL);
                 }
-                self.set_slot(
-                    number,
-                    Some(Thread::Live(Live {
-                        regs: live.regs,
-                        initial: live.initial,
-                        detached: true,
-                    })),
-                );
+                self.set_detached(number);
                 CallResult::Done(0)
             }
         }

@@ -69,6 +69,13 @@ fn place_of(waits: &[Wait], thread: ThreadId) -> Option<usize>
     waits.iter().position(|wait| thread == wait.thread)
 }
 
+/// The thread's wait.
+pub fn wait_of(waits: &[Wait], thread: ThreadId) -> Option<Wait>
+    ensures { result ≡ find (is_of thread) waits.now }
+{
+    waits.iter().copied().find(|wait| thread == wait.thread)
+}
+
 /// Takes the thread's wait out of the list, if there is one.
 #[tactic(auto, using(crate::proofs::WaitLemmas::taken_out, crate::proofs::WaitLemmas::not_there))]
 pub fn take_out(waits: &mut ArrayVec<Wait, MAX_THREADS>, thread: ThreadId)

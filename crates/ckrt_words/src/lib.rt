@@ -7,8 +7,6 @@ mod command;
 mod job;
 mod matches;
 mod read;
-#[cfg(test)]
-mod tests;
 
 pub use job::{FormatJob, Job, WordsFault};
 pub use read::read_words;

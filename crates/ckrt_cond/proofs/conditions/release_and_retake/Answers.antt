@@ -9,4 +9,4 @@ returns-clause-conditions c =
 
 pub returns-clause-queue : goal.returns-clause-queue
 returns-clause-queue c =
-    rw c.retake.ensures.threads (queue_retake c.args.condition c.args.thread c.args.mutex retake.TimedOut c.release.new.threads c.release.new.mutexes ∙ c.release.ensures.queue)
+    rw c.retake.ensures.threads (queue_retake c.args.condition c.args.thread c.args.mutex retake.TimedOut c.release.new.threads c.release.new.mutexes c.known.ensures ∙ c.release.ensures.queue)

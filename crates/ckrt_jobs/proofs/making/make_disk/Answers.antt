@@ -1,9 +1,9 @@
 use Rattle.std.proofs.Common.{rules, cond, not, length, ◌≡◌, ◌∙◌, ◌≤◌, Bool, true, false, refl, sym, subst, ap, nat_lt, ltb-false, true≢false, Option, Some, None}
 use Rattle.std.specs.Prelude.{Result, is_ok}
 use Rattle.std.proofs.lemmas.Bool.{le-ltb}
-use Rattle.ckrt_recovery.specs.Layout.{is_valid, memory_size, size_needed}
-use Rattle.ckrt_recovery.specs.declared.fault.FormatFault.{FormatFault}
-use Rattle.ckrt_recovery.specs.declared.fault.FormatFault.TheVariants.{BadConfig, ImageTooLong, TooSmall}
+use Rattle.ckrt_image.specs.Layout.{is_valid, memory_size, size_needed}
+use Rattle.ckrt_image.specs.declared.fault.FormatFault.{FormatFault}
+use Rattle.ckrt_image.specs.declared.fault.FormatFault.TheVariants.{BadConfig, ImageTooLong, TooSmall}
 use Rattle.ckrt_jobs.proofs.making.make_disk.Goals as goal
 
 -- the last of the three refusals

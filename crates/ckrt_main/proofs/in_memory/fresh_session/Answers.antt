@@ -1,4 +1,4 @@
-use Rattle.ckrt_recovery.specs.Recovery.{recovery_of}
+use Rattle.ckrt_image.specs.Recovery.{recovery_of}
 use Rattle.ckrt_main.proofs.FreshLemmas.{view_of_fresh}
 use Rattle.ckrt_main.proofs.in_memory.fresh_session.Goals as goal
 

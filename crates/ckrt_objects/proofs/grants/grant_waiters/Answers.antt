@@ -11,6 +11,6 @@ loop-preserved g c =
     let more : c.wait_count-end.result - c.loop.counter ≡ suc n = omega arith in
     let step = step_up_to rule n c.loop.value c.loop.threads c.in-Some.wait (sym c.first_waiter.ensures.first ∙ c.in-Some.is) (sym c.admits.ensures ∙ c.if-not-admits.false) in
     record {
-      left = rw (c.grant.ensures.granted, c.wake.ensures, c.result.ensures) (sym step ∙ (ap (λ k. grant_up_to rule k c.loop.value c.loop.threads) (sym more) ∙ c.loop.invariant.left));
+      left = rw (c.grant.ensures.granted, c.obtain.ensures) (sym step ∙ (ap (λ k. grant_up_to rule k c.loop.value c.loop.threads) (sym more) ∙ c.loop.invariant.left));
       proper = c.grant.ensures.proper;
     }

@@ -4,7 +4,7 @@ use Rattle.ckrt_thread.proofs.table.Threads.detach.Goals as goal
 
 pub set_slot-requires-clause-free : goal.set_slot-requires-clause-free
 set_slot-requires-clause-free c =
-    λ _. absent_places c.args.self.now c.args.id c.known.ensures (ended_live c.args.self.now c.args.id c.in-Ended._value (sym c.in-Some.ensures.thread ∙ ap (λ x. Some x) c.in-Ended.is))
+    absent_places c.args.self.now c.args.id c.known.ensures (ended_live c.args.self.now c.args.id c.in-Ended._value (sym c.in-Some.ensures.thread ∙ ap (λ x. Some x) c.in-Ended.is))
 
-pub set_slot-requires-in-Live-clause-unjoined : goal.set_slot-requires-in-Live-clause-unjoined
-set_slot-requires-in-Live-clause-unjoined c = not_joined c.args.self.now c.args.id (sym c.is_joined.ensures ∙ c.if-is_joined.false)
+pub set_detached-requires-clause-unjoined : goal.set_detached-requires-clause-unjoined
+set_detached-requires-clause-unjoined c = not_joined c.args.self.now c.args.id (sym c.is_joined.ensures ∙ c.if-is_joined.false)

@@ -4,10 +4,10 @@ use Rattle.ckrt_thread.proofs.Known.{off_places, off_woken_places, unjoined, wok
 use Rattle.ckrt_thread.proofs.table.Threads.finish.Goals as goal
 
 pub set_slot-requires-clause-free : goal.set_slot-requires-clause-free
-set_slot-requires-clause-free c = λ _. rw (c.set_second_result.ensures, c.wake.ensures, c.leave.ensures) (off_woken_places c.args.self.now c.args.thread c.in-Some.wait.thread 0 A1 c.args.value c.requires.free)
+set_slot-requires-clause-free c = rw (c.set_second_result.ensures, c.wake.ensures, c.leave.ensures) (off_woken_places c.args.self.now c.args.thread c.in-Some.wait.thread 0 A1 c.args.value c.requires.free)
 
 pub set_slot-requires-in-None-clause-free : goal.set_slot-requires-in-None-clause-free
-set_slot-requires-in-None-clause-free c = λ _. rw c.leave.ensures (off_places c.args.self.now c.args.thread c.requires.free)
+set_slot-requires-in-None-clause-free c = rw c.leave.ensures (off_places c.args.self.now c.args.thread c.requires.free)
 
 pub set_slot-requires-clause-unjoined : goal.set_slot-requires-clause-unjoined
 set_slot-requires-clause-unjoined c = rw (c.set_second_result.ensures, c.wake.ensures) (woken_joiner c.leave.new.self c.args.thread 0 A1 c.args.value c.in-Some.wait c.known.ensures (sym c.in-Some.ensures.first))

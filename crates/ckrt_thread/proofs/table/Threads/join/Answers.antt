@@ -4,4 +4,4 @@ use Rattle.ckrt_thread.proofs.table.Threads.join.Goals as goal
 
 pub set_slot-requires-clause-free : goal.set_slot-requires-clause-free
 set_slot-requires-clause-free c =
-    λ _. absent_places c.args.self.now c.args.id c.known.ensures (ended_live c.args.self.now c.args.id c.in-Ended.value (sym c.in-Some.ensures.thread ∙ ap (λ x. Some x) c.in-Ended.is))
+    absent_places c.args.self.now c.args.id c.known.ensures (ended_live c.args.self.now c.args.id c.in-Ended.value (sym c.in-Some.ensures.thread ∙ ap (λ x. Some x) c.in-Ended.is))

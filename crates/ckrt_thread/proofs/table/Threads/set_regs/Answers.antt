@@ -1,7 +1,7 @@
-use Rattle.std.proofs.Common.{arith, refl}
+use Rattle.std.proofs.Common.{arith}
 use Rattle.ckrt_thread.specs.State.{with_regs}
 use Rattle.ckrt_thread.proofs.Known.{live_index}
-use Rattle.ckrt_thread.proofs.Changes.{well_formed_change}
+use Rattle.ckrt_thread.proofs.Changes.{well_formed_change, changes_regs}
 use Rattle.ckrt_thread.proofs.table.Threads.set_regs.Goals as goal
 
 pub set_regs_of-requires : goal.set_regs_of-requires
@@ -12,4 +12,4 @@ set_regs_of-requires c =
 pub invariant_of-self : goal.invariant_of-self
 invariant_of-self c =
     rw c.set_regs_of.ensures
-    (well_formed_change _ (with_regs c.args.regs.now) c.args.thread (record { initial = λ l. refl; detached = λ l. refl; aligned = λ l a. c.requires.aligned }) c.self.invariant)
+    (well_formed_change _ (with_regs c.args.regs.now) c.args.thread (changes_regs c.args.regs.now c.requires.aligned) c.self.invariant)

@@ -1,0 +1,4 @@
+pub mod Changed
+pub mod Ways
+pub mod Kept
+pub mod ThreadsKept

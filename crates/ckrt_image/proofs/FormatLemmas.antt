@@ -1,0 +1,288 @@
+-- What stands on a freshly formatted disk, and what its image recovers to.
+use Rattle.std.proofs.Common.{◌≡◌, ◌⊎◌, inl, inr, ⊎_elim, ℕ, ◌+◌, ◌-◌, ◌≤◌, ◌<◌, ◌^◌, ◌&&◌, Bool, true, false, cond, nat_eq, nat_lt, nat_le, List, [], ◌∷◌, length, get_or, take, drop, None, Result, Ok, Err, lit<, refl, sym, ◌∙◌, ap, arith}
+use Rattle.std.proofs.lemmas.List.{drop-drop, drop-take, take-take, get_or-take, get_or-drop, append-nil}
+use Rattle.std.proofs.lemmas.Bool.Decides.{nat_tests}
+use Rattle.std.proofs.lemmas.Grind.{common_steps}
+use Rattle.std.specs.Cmp.Lexicographic.{pointwise}
+use Rattle.byteorder.specs.Endian.{little_number, little_bytes}
+use Rattle.byteorder.specs.Numbers.{little_number-reads_back}
+use Rattle.ckrt_disk.specs.Disk.{IsImage, IsOverwritten, IsWithin, LeavesOnly}
+use Rattle.ckrt_disk.proofs.Moments.{weaker, goes_on}
+use Rattle.ckrt_disk.proofs.Images.{part_same, written_size, written_elsewhere, written_there, written_image}
+use Rattle.ckrt_journal.specs.Chain.{batches_of, journal_bytes, found_then, batch_of_length}
+use Rattle.ckrt_journal.proofs.ChainLemmas.{chain_more}
+use Rattle.ckrt_calls.specs.Table as calls
+use Rattle.ckrt_machine.specs.Steps.{State}
+use Rattle.ckrt_image.specs.declared.config.Config.{Config}
+use Rattle.ckrt_image.specs.declared.header.Header.{Header}
+use Rattle.ckrt_image.specs.declared.area.Area.{Area}
+use Rattle.ckrt_image.specs.declared.fault.RecoverFault.TheVariants.{NotFormatted, Damaged}
+use Rattle.ckrt_image.specs.declared.fault.RecoverFault.{RecoverFault}
+use Rattle.ckrt_image.specs.Layout.{is_valid, is_open, memory_size, size_needed, area_at, tables_at, memory_at, journal_of, number_at, MAGIC, superblock_in, superblock_of, header_in, header_of, fresh_tables, tables_of, memory_of, config_within}
+use Rattle.ckrt_image.specs.Areas.{area_of, picked_area}
+use Rattle.ckrt_image.specs.Recovery.{◌>>=◌, recovery_of, area_state, unreplayed, replayed_journal, replayed_batches}
+use Rattle.ckrt_image.specs.Programs.{start_of}
+use Rattle.ckrt_image.specs.Fields.{superblock_fields, header_fields, fresh_header, fresh_memory, HasBytes, HasFreshArea, IsFresh}
+use Rattle.ckrt_image.specs.Format.{IsFormatted, IsFormatting, StaysClosed}
+
+-- WRITES
+
+-- bytes that stand elsewhere still stand after a write
+stays : (old : List ℕ) (at : ℕ) (bytes new : List ℕ) → IsOverwritten old at bytes new → at + length bytes ≤ length old
+    → (place : ℕ) (part : List ℕ) → (place + length part ≤ at) ⊎ (at + length bytes ≤ place) → HasBytes old place part → HasBytes new place part
+stays old at bytes new holds room place part apart has =
+    part_same (length part) place new old (written_size old at bytes new holds room) (λ i w. written_elsewhere old at bytes new holds room i (λ v. elim apart [ inl below ↦ absurd (omega arith) | inr above ↦ absurd (omega arith) ]))
+    ∙ has
+
+pub fresh_area : (c : Config) (memory c₀ c₁ c₂ c₃ c₄ : List ℕ) → size_needed c ≤ length c₀ → length memory ≡ memory_size c
+    → IsOverwritten c₀ (area_at c 0) (165 ∷ []) c₁ → IsOverwritten c₁ (area_at c 0 + 8) (header_fields fresh_header) c₂
+    → IsOverwritten c₂ (tables_at c 0) (fresh_tables c) c₃ → IsOverwritten c₃ (memory_at c 0) memory c₄ → HasFreshArea c memory c₄
+fresh_area c memory c₀ c₁ c₂ c₃ c₄ room size w₁ w₂ w₃ w₄ =
+    let header : length (header_fields fresh_header) ≡ 32 = refl in
+    let tables : length (fresh_tables c) ≡ 170 = refl in
+    let l₁ : length c₁ ≡ length c₀ = written_size c₀ (area_at c 0) (165 ∷ []) c₁ w₁ (omega arith) in
+    let r₂ : area_at c 0 + 8 + 32 ≤ length c₁ = omega arith in
+    let l₂ : length c₂ ≡ length c₁ = written_size c₁ (area_at c 0 + 8) (header_fields fresh_header) c₂ w₂ r₂ in
+    let r₃ : tables_at c 0 + 170 ≤ length c₂ = omega arith in
+    let l₃ : length c₃ ≡ length c₂ = written_size c₂ (tables_at c 0) (fresh_tables c) c₃ w₃ r₃ in
+    let r₄ : memory_at c 0 + length memory ≤ length c₃ = omega arith in
+    record {
+      gate = stays c₃ (memory_at c 0) memory c₄ w₄ r₄ (area_at c 0) (165 ∷ []) (inl (omega arith))
+          (stays c₂ (tables_at c 0) (fresh_tables c) c₃ w₃ r₃ (area_at c 0) (165 ∷ []) (inl (omega arith))
+          (stays c₁ (area_at c 0 + 8) (header_fields fresh_header) c₂ w₂ r₂ (area_at c 0) (165 ∷ []) (inl (omega arith))
+          (written_there c₀ (area_at c 0) (165 ∷ []) c₁ w₁ (omega arith))));
+      header = stays c₃ (memory_at c 0) memory c₄ w₄ r₄ (area_at c 0 + 8) (header_fields fresh_header) (inl (omega arith))
+          (stays c₂ (tables_at c 0) (fresh_tables c) c₃ w₃ r₃ (area_at c 0 + 8) (header_fields fresh_header) (inl (omega arith))
+          (written_there c₁ (area_at c 0 + 8) (header_fields fresh_header) c₂ w₂ r₂));
+      tables = stays c₃ (memory_at c 0) memory c₄ w₄ r₄ (tables_at c 0) (fresh_tables c) (inl (omega arith))
+          (written_there c₂ (tables_at c 0) (fresh_tables c) c₃ w₃ r₃);
+      pages = written_there c₃ (memory_at c 0) memory c₄ w₄ r₄;
+    }
+
+-- what stands in area 0 still stands after a write elsewhere
+area_stays : (c : Config) (memory old : List ℕ) (at : ℕ) (bytes new : List ℕ) → 1 ≤ c.pages → length memory ≡ memory_size c → IsOverwritten old at bytes new → at + length bytes ≤ length old
+    → (at + length bytes ≤ area_at c 0) ⊎ (area_at c 1 ≤ at) → HasFreshArea c memory old → HasFreshArea c memory new
+area_stays c memory old at bytes new pages size holds room apart has = record {
+  gate = stays old at bytes new holds room (area_at c 0) (165 ∷ []) (away (area_at c 0) 1 (omega arith) (omega arith)) has.gate;
+  header = stays old at bytes new holds room (area_at c 0 + 8) (header_fields fresh_header) (away (area_at c 0 + 8) 32 (omega arith) (omega arith)) has.header;
+  tables = stays old at bytes new holds room (tables_at c 0) (fresh_tables c) (away (tables_at c 0) 170 (omega arith) (omega arith)) has.tables;
+  pages = stays old at bytes new holds room (memory_at c 0) memory (away (memory_at c 0) (length memory) (omega arith) (omega arith)) has.pages;
+}
+  where
+    away : (place n : ℕ) → area_at c 0 ≤ place → place + n ≤ area_at c 1 → (place + n ≤ at) ⊎ (at + length bytes ≤ place)
+    away place n from within = elim apart [ inl below ↦ inr (omega arith) | inr above ↦ inl (omega arith) ]
+
+pub is_fresh : (c : Config) (memory c₀ c₁ c₂ c₃ : List ℕ) → 1 ≤ c.pages → 1 ≤ c.journal → size_needed c ≤ length c₀ → length memory ≡ memory_size c
+    → IsOverwritten c₀ (journal_of c 0).at (0 ∷ []) c₁ → IsOverwritten c₁ (area_at c 1) (0 ∷ []) c₂ → IsOverwritten c₂ 8 (superblock_fields c) c₃
+    → HasFreshArea c memory c₀ → IsFresh c memory c₃
+is_fresh c memory c₀ c₁ c₂ c₃ pages journal room size w₁ w₂ w₃ has =
+    let fields : length (superblock_fields c) ≡ 24 = refl in
+    let r₁ : (journal_of c 0).at + 1 ≤ length c₀ = omega arith in
+    let l₁ : length c₁ ≡ length c₀ = written_size c₀ (journal_of c 0).at (0 ∷ []) c₁ w₁ r₁ in
+    let r₂ : area_at c 1 + 1 ≤ length c₁ = omega arith in
+    let l₂ : length c₂ ≡ length c₁ = written_size c₁ (area_at c 1) (0 ∷ []) c₂ w₂ r₂ in
+    let r₃ : 8 + 24 ≤ length c₂ = omega arith in
+    record {
+      area = area_stays c memory c₂ 8 (superblock_fields c) c₃ pages size w₃ r₃ (inl (omega arith))
+          (area_stays c memory c₁ (area_at c 1) (0 ∷ []) c₂ pages size w₂ r₂ (inr (omega arith))
+          (area_stays c memory c₀ (journal_of c 0).at (0 ∷ []) c₁ pages size w₁ r₁ (inr (omega arith)) has));
+      journal = stays c₂ 8 (superblock_fields c) c₃ w₃ r₃ (journal_of c 0).at (0 ∷ []) (inr (omega arith))
+          (stays c₁ (area_at c 1) (0 ∷ []) c₂ w₂ r₂ (journal_of c 0).at (0 ∷ []) (inr (omega arith))
+          (written_there c₀ (journal_of c 0).at (0 ∷ []) c₁ w₁ r₁));
+      other_area = stays c₂ 8 (superblock_fields c) c₃ w₃ r₃ (area_at c 1) (0 ∷ []) (inr (omega arith))
+          (written_there c₁ (area_at c 1) (0 ∷ []) c₂ w₂ r₂);
+      superblock = written_there c₂ 8 (superblock_fields c) c₃ w₃ r₃;
+    }
+
+-- FIELDS
+
+pub some_pages : (c : Config) → is_valid c ≡ true → (1 ≤ c.pages) × (1 ≤ c.journal)
+some_pages c valid = (grind (arith, nat_tests, valid), grind (arith, nat_tests, valid))
+
+-- the fields of a configuration that is in its ranges fit four bytes
+fits : (c : Config) → is_valid c ≡ true → (c.pages < 256 ^ 4) × (c.harts < 256 ^ 4) × (c.journal < 256 ^ 4)
+fits c valid = (grind (arith, nat_tests, valid), grind (arith, nat_tests, valid), grind (arith, nat_tests, valid))
+
+-- n bytes of those that stand somewhere
+part_of : (image : List ℕ) (at : ℕ) (bytes : List ℕ) (k n : ℕ) → k + n ≤ length bytes → HasBytes image at bytes → take n (drop (at + k) image) ≡ take n (drop k bytes)
+part_of image at bytes k n room has =
+    let split : length bytes ≡ k + (length bytes - k) = omega arith in
+    sym (ap (λ (l : List ℕ). take n (drop k l)) (sym has)
+    ∙ ap (λ m. take n (drop k (take m (drop at image)))) split
+    ∙ ap (λ (l : List ℕ). take n l) (drop-take k (length bytes - k) (drop at image))
+    ∙ take-take n (length bytes - k) (drop k (drop at image)) (omega arith)
+    ∙ ap (λ (l : List ℕ). take n l) (drop-drop k at image))
+
+-- n bytes of the first ones
+part_in : (image : List ℕ) (m k n : ℕ) → k + n ≤ m → take n (drop k (take m image)) ≡ take n (drop k image)
+part_in image m k n room =
+    let split : m ≡ k + (m - k) = omega arith in
+    ap (λ x. take n (drop k (take x image))) split ∙ ap (λ (l : List ℕ). take n l) (drop-take k (m - k) image) ∙ take-take n (m - k) (drop k image) (omega arith)
+
+-- the number in n bytes of those that stand somewhere
+number_is : (n k m x : ℕ) (image : List ℕ) (at j : ℕ) (bytes : List ℕ) → k ≡ at + j → k + n ≤ m → j + n ≤ length bytes → HasBytes image at bytes → take n (drop j bytes) ≡ little_bytes n x → x < 256 ^ n → number_at n k (take m image) ≡ x
+unfolding number_at
+number_is n k m x image at j bytes place room within has field small =
+    ap (λ (l : List ℕ). little_number n l) (part_in image m k n room ∙ ap (λ i. take n (drop i image)) place ∙ part_of image at bytes j n within has ∙ field)
+    ∙ ap (λ (l : List ℕ). little_number n l) (sym (append-nil (little_bytes n x))) ∙ little_number-reads_back n x [] small
+
+-- THE FIRST GATE
+
+closed_block : (size : ℕ) (block : List ℕ) → is_open block ≡ false → superblock_in size block ≡ Err NotFormatted
+closed_block size block closed = rw closed refl
+
+-- a disk whose first gate is closed isn't formatted
+pub closed_recovers : (image : List ℕ) → is_open image ≡ false → recovery_of image ≡ Err NotFormatted
+unfolding recovery_of
+closed_recovers image closed = ap (λ r. r >>= λ config. area_of config image >>= λ area. area_state config area image >>= λ state. replayed_journal (unreplayed config area state) image) (by_size (nat_lt (length image) 32))
+  where
+    first : is_open (take 32 image) ≡ false
+    first = ap (λ x. nat_eq x 165) (get_or-take 32 image 0 0 (omega arith)) ∙ closed
+
+    by_size : (b : Bool) → cond b (Err NotFormatted) (superblock_in (length image) (take 32 image)) ≡ Err NotFormatted
+    by_size true = refl
+    by_size false = closed_block (length image) (take 32 image) first
+
+-- A FRESH DISK
+
+-- a byte that stands somewhere
+byte_is : (image : List ℕ) (at m x : ℕ) → 1 ≤ m → HasBytes image at (x ∷ []) → get_or (take m (drop at image)) 0 0 ≡ x
+byte_is image at m x some has = get_or-take m (drop at image) 0 0 (omega arith) ∙ sym (get_or-take 1 (drop at image) 0 0 (omega arith)) ∙ ap (λ (l : List ℕ). get_or l 0 0) has
+
+same_tables : (xs : List ℕ) → pointwise nat_eq xs xs ≡ true
+same_tables [] = refl
+same_tables (x ∷ xs) = grind (arith, nat_tests, same_tables xs)
+
+superblock_is : (c : Config) (size : ℕ) (block : List ℕ) → is_open block ≡ true → number_at 8 8 block ≡ MAGIC → number_at 4 16 block ≡ 1
+    → number_at 4 20 block ≡ c.pages → number_at 4 24 block ≡ c.harts → number_at 4 28 block ≡ c.journal → superblock_in size block ≡ config_within size c
+superblock_is c size block opened magic version pages harts journal = rw (opened, magic, version, pages, harts, journal) refl
+
+within : (c : Config) (size : ℕ) → is_valid c ≡ true → size_needed c ≤ size → config_within size c ≡ Ok c
+within c size valid room =
+    let enough : nat_le (size_needed c) size ≡ true = grind (arith, nat_tests, room) in
+    ap (λ b. cond (b && nat_le (size_needed c) size) (Ok c) (Err Damaged)) valid ∙ ap (λ b. cond b (Ok c) (Err Damaged)) enough
+
+header_is : (block : List ℕ) → is_open block ≡ true → number_at 8 8 block ≡ 1 → number_at 8 16 block ≡ 0 → number_at 8 24 block ≡ 0 → number_at 4 32 block ≡ 170 → number_at 4 36 block ≡ 1 → header_in block ≡ fresh_header
+header_is block opened generation count offset tables version = rw (opened, generation, count, offset, tables, version) refl
+
+picked : (second : Header) → second.is_open ≡ false → picked_area fresh_header second ≡ Ok (record { index = 0; header = fresh_header })
+picked second closed = rw closed refl
+
+-- a gate that isn't open ends the chain
+no_batch : (rest : List ℕ) → get_or rest 0 0 ≡ 0 → batches_of rest ≡ Ok []
+no_batch rest shut = chain_more rest ∙ ap (λ r. found_then r (λ batch. batches_of (drop (3 + length batch) rest))) (ap (λ x. cond (nat_eq x 165) (batch_of_length (little_number 2 (take 2 (drop 1 rest))) rest) (Ok None)) shut)
+
+module _ (c : Config) (guest image : List ℕ) (valid : is_valid c ≡ true) (guest_fits : length guest ≤ memory_size c) (room : size_needed c ≤ length image)
+    (opened : is_open image ≡ true) (fresh : IsFresh c (fresh_memory c guest) image) where
+  superblock : superblock_of image ≡ Ok c
+  superblock =
+      let wide : length (superblock_fields c) ≡ 24 = refl in
+      let long : nat_lt (length image) 32 ≡ false = grind (arith, nat_tests, room) in
+      let first : is_open (take 32 image) ≡ true = ap (λ x. nat_eq x 165) (get_or-take 32 image 0 0 (omega arith)) ∙ opened in
+      let small = fits c valid in
+      ap (λ b. cond b (Err NotFormatted) (superblock_in (length image) (take 32 image))) long
+      ∙ superblock_is c (length image) (take 32 image) first
+      (number_is 8 8 32 MAGIC image 8 0 (superblock_fields c) refl (omega arith) (omega arith) fresh.superblock refl (lit< tt))
+      (number_is 4 16 32 1 image 8 8 (superblock_fields c) refl (omega arith) (omega arith) fresh.superblock refl (lit< tt))
+      (number_is 4 20 32 c.pages image 8 12 (superblock_fields c) refl (omega arith) (omega arith) fresh.superblock refl small.0)
+      (number_is 4 24 32 c.harts image 8 16 (superblock_fields c) refl (omega arith) (omega arith) fresh.superblock refl small.1)
+      (number_is 4 28 32 c.journal image 8 20 (superblock_fields c) refl (omega arith) (omega arith) fresh.superblock refl small.2)
+      ∙ within c (length image) valid room
+
+  area : area_of c image ≡ Ok (record { index = 0; header = fresh_header })
+  area =
+      let wide : length (header_fields fresh_header) ≡ 32 = refl in
+      let block = drop (area_at c 0) image in
+      let has : HasBytes block 8 (header_fields fresh_header) = ap (λ (l : List ℕ). take 32 l) (drop-drop 8 (area_at c 0) image) ∙ fresh.area.header in
+      let header : header_of c 0 image ≡ fresh_header =
+      header_is (take 40 block) (ap (λ x. nat_eq x 165) (byte_is image (area_at c 0) 40 165 (omega arith) fresh.area.gate))
+      (number_is 8 8 40 1 block 8 0 (header_fields fresh_header) refl (omega arith) (omega arith) has refl (lit< tt))
+      (number_is 8 16 40 0 block 8 8 (header_fields fresh_header) refl (omega arith) (omega arith) has refl (lit< tt))
+      (number_is 8 24 40 0 block 8 16 (header_fields fresh_header) refl (omega arith) (omega arith) has refl (lit< tt))
+      (number_is 4 32 40 170 block 8 24 (header_fields fresh_header) refl (omega arith) (omega arith) has refl (lit< tt))
+      (number_is 4 36 40 1 block 8 28 (header_fields fresh_header) refl (omega arith) (omega arith) has refl (lit< tt)) in
+      let other : (header_of c 1 image).is_open ≡ false = ap (λ x. nat_eq x 165) (byte_is image (area_at c 1) 40 0 (omega arith) fresh.other_area) in
+      ap (λ h. picked_area h (header_of c 1 image)) header ∙ picked (header_of c 1 image) other
+
+  state : area_state c (record { index = 0; header = fresh_header }) image ≡ Ok (start_of (record { config = c; image = guest }))
+  state =
+      let size : length (fresh_memory c guest) ≡ memory_size c = grind (arith, common_steps, guest_fits) in
+      let memory : memory_of c 0 image ≡ fresh_memory c guest = ap (λ n. take n (drop (memory_at c 0) image)) (sym size) ∙ fresh.area.pages in
+      let tables : pointwise nat_eq (tables_of c 0 image) (fresh_tables c) ≡ true = ap (λ (l : List ℕ). pointwise nat_eq l (fresh_tables c)) fresh.area.tables ∙ same_tables (fresh_tables c) in
+      let made : List ℕ → Result State RecoverFault = λ bytes. Ok (record { bytes = bytes; tables = calls.fresh c.pages c.harts }) in
+      ap (λ b. cond b (made (memory_of c 0 image)) (Err Damaged)) tables ∙ ap made memory
+
+  journal : batches_of (journal_bytes (journal_of c 0) image) ≡ Ok []
+  journal = no_batch (take c.journal (drop (journal_of c 0).at image)) (byte_is image (journal_of c 0).at c.journal 0 (some_pages c valid).1 fresh.journal)
+
+  pub fresh_recovers : IsFormatted c guest image
+  unfolding recovery_of
+  fresh_recovers =
+      let rest = λ (config : Config) (area : Area). area_state config area image >>= λ state. replayed_journal (unreplayed config area state) image in
+      ap (λ r. r >>= λ config. area_of config image >>= λ area. rest config area) superblock
+      ∙ ap (λ r. r >>= λ area. rest c area) area
+      ∙ ap (λ r. r >>= λ state. replayed_journal (unreplayed c (record { index = 0; header = fresh_header }) state) image) state
+      ∙ ap (λ b. replayed_batches (unreplayed c (record { index = 0; header = fresh_header }) (start_of (record { config = c; image = guest }))) b) journal
+
+-- THE LAST WRITE
+
+-- other bytes than the first are the same
+fresh_moves : (c : Config) (memory content image : List ℕ) → length image ≡ length content → ((i : ℕ) → 1 ≤ i → get_or image i 0 ≡ get_or content i 0) → IsFresh c memory content → IsFresh c memory image
+fresh_moves c memory content image size same fresh = record {
+  area = record {
+    gate = moves (area_at c 0) (165 ∷ []) (omega arith) fresh.area.gate;
+    header = moves (area_at c 0 + 8) (header_fields fresh_header) (omega arith) fresh.area.header;
+    tables = moves (tables_at c 0) (fresh_tables c) (omega arith) fresh.area.tables;
+    pages = moves (memory_at c 0) memory (omega arith) fresh.area.pages;
+  };
+  journal = moves (journal_of c 0).at (0 ∷ []) (omega arith) fresh.journal;
+  other_area = moves (area_at c 1) (0 ∷ []) (omega arith) fresh.other_area;
+  superblock = moves 8 (superblock_fields c) (omega arith) fresh.superblock;
+}
+  where
+    moves : (at : ℕ) (bytes : List ℕ) → 1 ≤ at → HasBytes content at bytes → HasBytes image at bytes
+    moves at bytes behind has = part_same (length bytes) at image content size (λ i w. same i (omega (arith, w.0))) ∙ has
+
+module _ (c : Config) (guest content : List ℕ) (valid : is_valid c ≡ true) (guest_fits : length guest ≤ memory_size c) (room : size_needed c ≤ length content) (fresh : IsFresh c (fresh_memory c guest) content) where
+  -- with the first byte open
+  pub opened_recovers : (image : List ℕ) → IsImage content (IsWithin 0 1) image → is_open image ≡ true → IsFormatted c guest image
+  opened_recovers image left opened =
+      fresh_recovers c guest image valid guest_fits (omega (arith, left.size, room)) opened
+      (fresh_moves c (fresh_memory c guest) content image left.size (λ i behind. left.same i (λ w. omega (arith, w.1))) fresh)
+
+  -- with whatever a stop of the last write leaves there
+  pub last_moment : (image : List ℕ) → IsImage content (IsWithin 0 1) image → (recovery_of image ≡ Err NotFormatted) ⊎ IsFormatted c guest image
+  last_moment image left = by_gate (is_open image) refl
+    where
+      by_gate : (b : Bool) → is_open image ≡ b → (recovery_of image ≡ Err NotFormatted) ⊎ IsFormatted c guest image
+      by_gate true opened = inr (opened_recovers image left opened)
+      by_gate false closed = inl (closed_recovers image closed)
+
+  -- after the last write
+  pub written_recovers : (new : List ℕ) → IsOverwritten content 0 (165 ∷ []) new → IsFormatted c guest new
+  written_recovers new written =
+      let inside : 0 + 1 ≤ length content = omega (arith, room) in
+      let left : IsImage content (IsWithin 0 1) new = written_image content 0 (165 ∷ []) new written inside (IsWithin 0 1) (λ i w. w) in
+      opened_recovers new left (ap (λ x. nat_eq x 165) (byte_first new (written_there content 0 (165 ∷ []) new written inside)))
+    where
+      byte_first : (new : List ℕ) → HasBytes new 0 (165 ∷ []) → get_or new 0 0 ≡ 165
+      byte_first new has = sym (get_or-drop 0 new 0 0) ∙ sym (get_or-take 1 (drop 0 new) 0 0 (omega arith)) ∙ ap (λ (l : List ℕ). get_or l 0 0) has
+
+-- MOMENTS
+
+module _ {D : Type 0} (moment : D → ℕ) (left_since : D → ℕ → List ℕ → Type 0) (content : D → List ℕ) (pending : D → ℕ → Type 0) (c : Config) (guest : List ℕ) where
+  -- a stop up to the last write
+  pub in_layout : (old read laid : D) → LeavesOnly moment left_since old read (IsImage (content old) (pending old)) → StaysClosed moment left_since content pending read laid
+      → LeavesOnly moment left_since old laid (IsFormatting c (content old) (pending old) guest)
+  in_layout old read laid first second = goes_on moment left_since old read laid _
+      (weaker moment left_since old read _ (IsFormatting c (content old) (pending old) guest) first (λ image left. inl left))
+      (weaker moment left_since read laid _ (IsFormatting c (content old) (pending old) guest) second.any_moment (λ image closed. inr (inl (closed_recovers image closed))))
+
+  -- and in it
+  pub in_last_write : (old read laid new : D) → is_valid c ≡ true → length guest ≤ memory_size c → size_needed c ≤ length (content laid)
+      → LeavesOnly moment left_since old read (IsImage (content old) (pending old)) → StaysClosed moment left_since content pending read laid
+      → IsFresh c (fresh_memory c guest) (content laid) → ((i : ℕ) → ¬ pending laid i)
+      → LeavesOnly moment left_since laid new (IsImage (content laid) (λ i. pending laid i ⊎ IsWithin 0 1 i)) → LeavesOnly moment left_since old new (IsFormatting c (content old) (pending old) guest)
+  in_last_write old read laid new valid guest_fits room first second fresh nothing_pending last = goes_on moment left_since old laid new _ (in_layout old read laid first second)
+      (weaker moment left_since laid new _ (IsFormatting c (content old) (pending old) guest) last (λ image left. inr (last_moment c guest (content laid) valid guest_fits room fresh image
+      (record { size = left.size; same = λ i out. left.same i (λ either. ⊎_elim (nothing_pending i) out either) }))))

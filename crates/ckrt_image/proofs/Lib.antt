@@ -1,0 +1,3 @@
+pub mod ReplayLemmas
+pub mod GrowthLemmas
+mod FormatLemmas

@@ -1,0 +1,112 @@
+-- Where things lie on a disk, and the fields of its blocks (this project's own format). Numbers have their lowest byte first.
+use Rattle.std.specs.Prelude.{◌+◌, ◌-◌, ◌*◌, ◌%◌, ◌&&◌, ◌==◌, not, ℕ, Bool, List, [], ◌∷◌, ◌++◌, replicate, length, take, drop, slice_index, nat_lt, nat_le, nat_eq, if◌then◌else◌, Result, Ok, Err}
+use Rattle.byteorder.specs.Endian.{little_bytes, little_number}
+use Rattle.ckrt_journal.specs.declared.journal.Journal.{Journal}
+use Rattle.ckrt_image.specs.declared.config.Config.{Config}
+use Rattle.ckrt_image.specs.declared.fault.RecoverFault.{RecoverFault}
+use Rattle.ckrt_image.specs.declared.fault.RecoverFault.TheVariants.{NotFormatted, Version, Damaged}
+use Rattle.ckrt_image.specs.declared.header.Header.{Header}
+
+-- CONFIGURATIONS
+
+-- the ranges of a configuration (this project's choice)
+abbrev pub is_valid : Config → Bool
+is_valid c =
+    (nat_le 16 c.pages && nat_le c.pages 1024)
+    && ((nat_le 1 c.harts && nat_le c.harts 8)
+    && (c.journal % 4096 == 0 && (nat_le 4096 c.journal && nat_le c.journal 1048576)))
+
+-- the bytes of the guest's memory: page 0 has none
+abbrev pub memory_size : Config → ℕ
+memory_size c = 4096 * (c.pages - 1)
+
+-- PLACES
+
+-- an area: 4,096 bytes for its header, 98,304 for its tables, and a place for each page
+abbrev pub area_size : Config → ℕ
+area_size c = 102400 + 4096 * c.pages
+
+-- the superblock, two areas, two journals
+abbrev pub size_needed : Config → ℕ
+size_needed c = 4096 + 2 * area_size c + 2 * c.journal
+
+-- area 0 or 1
+abbrev pub area_at : Config → ℕ → ℕ
+area_at c area = 4096 + area * area_size c
+
+abbrev pub tables_at : Config → ℕ → ℕ
+tables_at c area = area_at c area + 4096
+
+-- the guest's memory from page 1 on: page p of an area lies 102,400 + 4096·p behind its beginning
+abbrev pub memory_at : Config → ℕ → ℕ
+memory_at c area = area_at c area + 106496
+
+-- journal 0 or 1, at its first gate
+abbrev pub journal_of : Config → ℕ → Journal
+journal_of c area = record { at = 4096 + 2 * area_size c + area * c.journal; size = c.journal; place = 0 }
+
+-- FIELDS
+
+-- the number in n bytes from an offset on
+unfoldable pub number_at : (n at : ℕ) → List ℕ → ℕ
+number_at n at bytes = little_number n (take n (drop at bytes))
+
+-- a gate is open exactly where it is A5
+abbrev pub is_open : List ℕ → Bool
+is_open bytes = nat_eq (slice_index bytes 0) 165
+
+-- "CKRTDISK"
+abbrev pub MAGIC : ℕ
+MAGIC = 5427762533732862787
+
+-- the configuration that a disk of so many bytes may have
+abbrev pub config_within : ℕ → Config → Result Config RecoverFault
+config_within size c = if is_valid c && nat_le (size_needed c) size then Ok c else Err Damaged
+
+-- The first 32 bytes of a superblock: the first that applies of closed, another magic number, another version, out of range.
+abbrev pub superblock_in : ℕ → List ℕ → Result Config RecoverFault
+superblock_in size block =
+    if not (is_open block) then Err NotFormatted
+    else if not (nat_eq (number_at 8 8 block) MAGIC) then Err NotFormatted
+    else if not (nat_eq (number_at 4 16 block) 1) then Err Version
+    else config_within size (record { pages = number_at 4 20 block; harts = number_at 4 24 block; journal = number_at 4 28 block })
+
+-- the first 40 bytes of an area's header
+abbrev pub header_in : List ℕ → Header
+header_in block = record {
+  is_open = is_open block;
+  generation = number_at 8 8 block;
+  count = number_at 8 16 block;
+  offset = number_at 8 24 block;
+  tables = number_at 4 32 block;
+  version = number_at 4 36 block;
+}
+
+-- the configuration of a disk's superblock
+abbrev pub superblock_of : List ℕ → Result Config RecoverFault
+superblock_of image = if nat_lt (length image) 32 then Err NotFormatted else superblock_in (length image) (take 32 image)
+
+abbrev pub header_of : Config → ℕ → List ℕ → Header
+header_of c area image = header_in (take 40 (drop (area_at c area) image))
+
+-- FRESH TABLES
+
+-- The saved tables of a program that hasn't begun: clock, input, status and harts; thread 1, marked as the initial one, with its pc,
+-- return address and stack pointer; no other thread, wait or object; no input and no output.
+abbrev pub fresh_tables : Config → List ℕ
+fresh_tables c =
+    replicate 24 0
+    ++ (1 ∷ 1 ∷ 1 ∷ 0 ∷ 0 ∷ [])
+    ++ replicate 4 0
+    ++ little_bytes 4 4096
+    ++ little_bytes 4 4294967280
+    ++ little_bytes 4 (4096 * c.pages)
+    ++ replicate 125 0
+
+-- the bytes of an area's tables
+abbrev pub tables_of : Config → ℕ → List ℕ → List ℕ
+tables_of c area image = take 170 (drop (tables_at c area) image)
+
+-- the guest's memory in an area
+abbrev pub memory_of : Config → ℕ → List ℕ → List ℕ
+memory_of c area image = take (memory_size c) (drop (memory_at c area) image)

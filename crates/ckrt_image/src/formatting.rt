@@ -1,0 +1,225 @@
+// Formatting a disk. Its first byte is the superblock's gate, which is opened last: until then a stop leaves a disk that
+// isn't formatted.
+ghost use Rattle.std.specs.Prelude.{◌≡◌, ◌≢◌, ◌≤◌, ◌<◌, ◌+◌, ℕ, true, false, List, Some, None, Err, length, IsOk, IsErr, IfOk, IfErr, OnOk};
+ghost use Rattle.ckrt_disk.specs.Disk.{IsImage, IsOverwritten, LeavesOnly, HasFailed};
+ghost use Rattle.ckrt_image.specs.declared.fault.FormatFault.{FormatFault};
+ghost use Rattle.ckrt_image.specs.declared.fault.FormatFault.TheVariants.{AlreadyFormatted, Device, OutOfMemory};
+ghost use Rattle.ckrt_image.specs.Layout.{is_valid, is_open, memory_size, size_needed};
+ghost use Rattle.ckrt_image.specs.Fields.{HasFreshArea, IsFresh, fresh_memory, fresh_header};
+ghost use Rattle.ckrt_image.specs.Format.{format_refusal, IsRefusal, IsFormatted, IsFormatting, HasClosedGate, StaysClosed};
+
+use crate::config::Config;
+use crate::fault::FormatFault;
+use crate::header::Header;
+use crate::layout::{
+    CLOSED, FRESH_TABLES_SIZE, OPEN, VERSION, fresh_tables, header_fields, superblock_fields,
+};
+use ckrt_disk::{DeviceFault, Disk, write_synced};
+use std::alloc::{AllocError, Global};
+
+/// The offset of the first field in a superblock and in an area's header.
+const FIELDS_AT: usize = 8;
+
+impl From<DeviceFault> for FormatFault {
+    ghost from_gives = { λ _ e. e ≡ Device };
+
+    fn from(_: DeviceFault) -> FormatFault {
+        FormatFault::Device
+    }
+}
+
+impl From<AllocError> for FormatFault {
+    ghost from_gives = { λ _ e. e ≡ OutOfMemory };
+
+    fn from(_: AllocError) -> FormatFault {
+        FormatFault::OutOfMemory
+    }
+}
+
+// Whether a disk of so many bytes can be formatted so.
+fn check(size: usize, config: &Config, image: &[u8]) -> Result<(), FormatFault>
+    ensures refused { IfErr result (λ fault. format_refusal size config.now image.now ≡ Some fault) }
+    ensures ok { OnOk result (format_refusal size config.now image.now ≡ None) }
+    ensures valid { OnOk result (is_valid config.now ≡ true) }
+    ensures image { OnOk result (length image.now ≤ memory_size config.now) }
+    ensures room { OnOk result (size_needed config.now ≤ size) }
+{
+    if !config.is_valid() {
+        return Err(FormatFault::BadConfig);
+    }
+    if image.len() > config.memory_size() {
+        return Err(FormatFault::ImageTooLong);
+    }
+    if size < config.size_needed() {
+        return Err(FormatFault::TooSmall);
+    }
+    Ok(())
+}
+
+// The guest's memory: the image, and zeros behind it.
+fn guest_memory(alloc: Global, config: &Config, image: &[u8]) -> Result<Vec<u8>, AllocError>
+    requires valid { is_valid config.now ≡ true }
+    requires image { length image.now ≤ memory_size config.now }
+    ensures bytes { IfOk result (λ memory. memory.items ≡ fresh_memory config.now image.now) }
+    ensures size { IfOk result (λ memory. length memory.items ≡ memory_size config.now) }
+{
+    let size = config.memory_size();
+    let mut memory = Vec::with_capacity(alloc, size)?;
+    memory.extend_from_slice(image)?;
+    memory.resize(size, 0)?;
+    Ok(memory)
+}
+
+// Syncs, and looks whether the first gate is open.
+fn is_formatted<D: Disk>(disk: &mut D) -> Result<bool, DeviceFault>
+    requires { 1 ≤ D.size disk.old }
+    ensures exact { IfOk result (λ found. D.is_honest disk.new → found ≡ is_open (D.content disk.old)) }
+    ensures content { OnOk result (D.is_honest disk.new → D.content disk.new ≡ D.content disk.old) }
+    ensures nothing_pending { OnOk result (D.is_honest disk.new → (i : ℕ) → ¬ D.pending disk.new i) }
+    ensures any_moment { D.is_honest disk.new → LeavesOnly D.moment D.left_since disk.old disk.new (IsImage (D.content disk.old) (D.pending disk.old)) }
+    ensures honest { D.is_honest disk.new → D.is_honest disk.old }
+    ensures size { D.size disk.new ≡ D.size disk.old }
+    ensures named_stop { D.named_stop disk.new ≡ D.named_stop disk.old }
+    ensures calls { D.calls disk.new ≡ D.calls disk.old + 1 }
+    ensures failures { IsOk result → D.failures disk.new ≡ D.failures disk.old }
+    ensures fault { IsErr result → HasFailed (D.failures disk.old) (D.failures disk.new) }
+{
+    disk.sync()?;
+    let mut gate = [0];
+    disk.read(0, &mut gate)?;
+    Ok(gate[0] == OPEN)
+}
+
+// Writes bytes behind the first gate.
+fn write_behind<D: Disk>(disk: &mut D, at: usize, bytes: &[u8]) -> Result<(), DeviceFault>
+    requires inside { at + length bytes.now ≤ D.size disk.old }
+    requires behind { 1 ≤ at }
+    ensures closed { D.is_honest disk.new → HasClosedGate (D.content disk.old) (D.pending disk.old) → StaysClosed D.moment D.left_since D.content D.pending disk.old disk.new }
+    ensures written { OnOk result (D.is_honest disk.new → IsOverwritten (D.content disk.old) at bytes.now (D.content disk.new)) }
+    ensures honest { D.is_honest disk.new → D.is_honest disk.old }
+    ensures size { D.size disk.new ≡ D.size disk.old }
+    ensures named_stop { D.named_stop disk.new ≡ D.named_stop disk.old }
+    ensures calls { D.calls disk.new ≡ D.calls disk.old + 1 }
+    ensures failures { IsOk result → D.failures disk.new ≡ D.failures disk.old }
+    ensures fault { IsErr result → HasFailed (D.failures disk.old) (D.failures disk.new) }
+{
+    disk.write(at, bytes)?;
+    Ok(())
+}
+
+// Area 0, open, with this memory and no event.
+fn write_area<D: Disk>(disk: &mut D, config: &Config, memory: &[u8]) -> Result<(), DeviceFault>
+    requires valid { is_valid config.now ≡ true }
+    requires memory { length memory.now ≡ memory_size config.now }
+    requires room { size_needed config.now ≤ D.size disk.old }
+    ensures closed { D.is_honest disk.new → HasClosedGate (D.content disk.old) (D.pending disk.old) → StaysClosed D.moment D.left_since D.content D.pending disk.old disk.new }
+    ensures written { OnOk result (D.is_honest disk.new → HasFreshArea config.now memory.now (D.content disk.new)) }
+    ensures honest { D.is_honest disk.new → D.is_honest disk.old }
+    ensures size { D.size disk.new ≡ D.size disk.old }
+    ensures named_stop { D.named_stop disk.new ≡ D.named_stop disk.old }
+    ensures calls { OnOk result (D.calls disk.new ≡ D.calls disk.old + 4) }
+    ensures failures { IsOk result → D.failures disk.new ≡ D.failures disk.old }
+    ensures fault { IsErr result → HasFailed (D.failures disk.old) (D.failures disk.new) }
+{
+    let header = header_fields(&Header {
+        is_open: true,
+        generation: 1,
+        count: 0,
+        offset: 0,
+        tables: FRESH_TABLES_SIZE as u32,
+        version: VERSION,
+    });
+    let tables = fresh_tables(config);
+    write_behind(disk, config.area_at(0), &[OPEN])?;
+    write_behind(disk, config.area_at(0) + FIELDS_AT, header.as_slice())?;
+    write_behind(disk, config.tables_at(0), tables.as_slice())?;
+    write_behind(disk, config.memory_at(0), memory)?;
+    Ok(())
+}
+
+// No batch in journal 0, area 1 closed, and the superblock's fields.
+fn write_blocks<D: Disk>(disk: &mut D, config: &Config) -> Result<(), DeviceFault>
+    requires valid { is_valid config.now ≡ true }
+    requires room { size_needed config.now ≤ D.size disk.old }
+    ensures closed { D.is_honest disk.new → HasClosedGate (D.content disk.old) (D.pending disk.old) → StaysClosed D.moment D.left_since D.content D.pending disk.old disk.new }
+    ensures written { OnOk result (D.is_honest disk.new → (memory : List ℕ) → length memory ≡ memory_size config.now → HasFreshArea config.now memory (D.content disk.old) → IsFresh config.now memory (D.content disk.new)) }
+    ensures honest { D.is_honest disk.new → D.is_honest disk.old }
+    ensures size { D.size disk.new ≡ D.size disk.old }
+    ensures named_stop { D.named_stop disk.new ≡ D.named_stop disk.old }
+    ensures calls { OnOk result (D.calls disk.new ≡ D.calls disk.old + 3) }
+    ensures failures { IsOk result → D.failures disk.new ≡ D.failures disk.old }
+    ensures fault { IsErr result → HasFailed (D.failures disk.old) (D.failures disk.new) }
+{
+    let superblock = superblock_fields(config);
+    write_behind(disk, config.journal_of(0).at, &[CLOSED])?;
+    write_behind(disk, config.area_at(1), &[CLOSED])?;
+    write_behind(disk, FIELDS_AT, superblock.as_slice())?;
+    Ok(())
+}
+
+// All that a freshly formatted disk has beside its first gate, durably.
+fn write_behind_gate<D: Disk>(
+    disk: &mut D,
+    config: &Config,
+    memory: &[u8],
+) -> Result<(), DeviceFault>
+    requires valid { is_valid config.now ≡ true }
+    requires memory { length memory.now ≡ memory_size config.now }
+    requires room { size_needed config.now ≤ D.size disk.old }
+    ensures closed { D.is_honest disk.new → HasClosedGate (D.content disk.old) (D.pending disk.old) → StaysClosed D.moment D.left_since D.content D.pending disk.old disk.new }
+    ensures written { OnOk result (D.is_honest disk.new → IsFresh config.now memory.now (D.content disk.new)) }
+    ensures nothing_pending { OnOk result (D.is_honest disk.new → (i : ℕ) → ¬ D.pending disk.new i) }
+    ensures honest { D.is_honest disk.new → D.is_honest disk.old }
+    ensures size { D.size disk.new ≡ D.size disk.old }
+    ensures named_stop { D.named_stop disk.new ≡ D.named_stop disk.old }
+    ensures calls { OnOk result (D.calls disk.new ≡ D.calls disk.old + 8) }
+    ensures failures { IsOk result → D.failures disk.new ≡ D.failures disk.old }
+    ensures fault { IsErr result → HasFailed (D.failures disk.old) (D.failures disk.new) }
+{
+    write_area(disk, config, memory)?;
+    write_blocks(disk, config)?;
+    disk.sync()?;
+    Ok(())
+}
+
+/// Formats a disk for a guest's image: a program that hasn't begun. The first that applies of these refuses it, and
+/// nothing is changed: `BadConfig` where the configuration is out of its ranges, `ImageTooLong` where the image has more
+/// bytes than the guest's memory, 4,096·(pages - 1), `TooSmall` where the disk has fewer bytes than the configuration
+/// needs, `OutOfMemory` where there was no memory for a copy of the guest's memory. Then it syncs and reads the first
+/// byte, and answers `AlreadyFormatted` where that is an open gate, without a write. `Device` comes where the disk failed
+/// a call. A stop at any moment leaves what a stop before might have left, a disk that isn't formatted, or one that is.
+pub fn format<D: Disk>(
+    alloc: Global,
+    disk: &mut D,
+    config: Config,
+    image: &[u8],
+) -> Result<(), FormatFault>
+    ensures refused { (fault : FormatFault) → format_refusal (D.size disk.old) config image.now ≡ Some fault → result ≡ Err fault }
+    ensures refusal { IfErr result (λ fault. IsRefusal fault → format_refusal (D.size disk.old) config image.now ≡ Some fault) }
+    ensures unchanged { IfErr result (λ fault. IsRefusal fault → disk.new ≡ disk.old) }
+    ensures out_of_memory { result ≡ Err OutOfMemory → disk.new ≡ disk.old }
+    ensures already_formatted { result ≡ Err AlreadyFormatted → D.is_honest disk.new → is_open (D.content disk.old) ≡ true }
+    ensures already_content { result ≡ Err AlreadyFormatted → D.is_honest disk.new → D.content disk.new ≡ D.content disk.old }
+    ensures already_calls { result ≡ Err AlreadyFormatted → D.calls disk.new ≡ D.calls disk.old + 1 }
+    ensures open_moments { D.is_honest disk.new → is_open (D.content disk.old) ≡ true → LeavesOnly D.moment D.left_since disk.old disk.new (IsImage (D.content disk.old) (D.pending disk.old)) }
+    ensures open_calls { D.is_honest disk.new → is_open (D.content disk.old) ≡ true → D.calls disk.new ≤ D.calls disk.old + 1 }
+    ensures closed { OnOk result (D.is_honest disk.new → is_open (D.content disk.old) ≡ false) }
+    ensures any_moment { D.is_honest disk.new → LeavesOnly D.moment D.left_since disk.old disk.new (IsFormatting config (D.content disk.old) (D.pending disk.old) image.now) }
+    ensures formatted { OnOk result (D.is_honest disk.new → (left : List ℕ) → IsImage (D.content disk.new) (D.pending disk.new) left → IsFormatted config image.now left) }
+    ensures nothing_pending { OnOk result (D.is_honest disk.new → (i : ℕ) → ¬ D.pending disk.new i) }
+    ensures honest { D.is_honest disk.new → D.is_honest disk.old }
+    ensures size { D.size disk.new ≡ D.size disk.old }
+    ensures named_stop { D.named_stop disk.new ≡ D.named_stop disk.old }
+    ensures calls { OnOk result (D.calls disk.new ≡ D.calls disk.old + 11) }
+    ensures failures { result ≢ Err Device → D.failures disk.new ≡ D.failures disk.old }
+    ensures device { result ≡ Err Device → HasFailed (D.failures disk.old) (D.failures disk.new) }
+{
+    check(disk.size(), &config, image)?;
+    let memory = guest_memory(alloc, &config, image)?;
+    if is_formatted(disk)? {
+        return Err(FormatFault::AlreadyFormatted);
+    }
+    write_behind_gate(disk, &config, &memory)?;
+    write_synced(disk, 0, &[OPEN])?;
+    Ok(())
+}
