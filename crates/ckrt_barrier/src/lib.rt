@@ -4,8 +4,6 @@
 
 mod barrier;
 mod barriers;
-#[cfg(test)]
-mod tests;
 
 pub use barrier::{Barrier, MAX_BARRIERS, SERIAL_THREAD};
 pub use barriers::Barriers;

@@ -6,8 +6,6 @@ mod address_map;
 mod grants;
 mod in_use;
 mod named;
-#[cfg(test)]
-mod tests;
 
 pub use address_map::{Entry, get, remove, store};
 pub use grants::{Grant, grant_waiters};

@@ -4,8 +4,6 @@
 
 mod locks;
 mod records;
-#[cfg(test)]
-mod tests;
 mod waiters;
 
 pub use locks::RwLocks;

@@ -1,7 +1,66 @@
-//! A guest whose threads meet at a barrier in rounds: the same bytes under every schedule.
+//! Barriers: worked rows of their calls, and a guest whose threads meet in rounds.
 
-use crate::waiting::{SCHEDULES, console, rounds};
+use crate::schedules::{NOTHING_ELSE, SCHEDULES, expect_console};
+use crate::steps::Step::{self, Call, CallEach, Ready};
+use crate::steps::play;
+use ckrt_barrier::SERIAL_THREAD;
+use ckrt_thread::CallResult::{Blocked, Done};
 use std::test::Fail;
+
+const INIT: u32 = 40;
+
+const DESTROY: u32 = 41;
+
+const WAIT: u32 = 42;
+
+const BARRIER: u32 = 0x2000;
+
+const ALONE: [Step; 4] = [
+    Call(1, INIT, [BARRIER, 1, 0], Done(0)),
+    Call(1, WAIT, [BARRIER, 0, 0], Done(0xFFFF_FFFF)),
+    Call(1, DESTROY, [BARRIER, 0, 0], Done(0)),
+    Call(1, WAIT, [BARRIER, 0, 0], Done(22)),
+];
+
+#[test]
+fn alone(rt: HostRuntime) -> Result<(), Fail> {
+    play(&rt, 3, &ALONE)
+}
+
+const IN_ROUNDS: [Step; 14] = [
+    Call(1, INIT, [BARRIER, 3, 0], Done(0)),
+    Call(1, WAIT, [BARRIER, 0, 0], Blocked),
+    Call(2, WAIT, [BARRIER, 0, 0], Blocked),
+    Call(3, WAIT, [BARRIER, 0, 0], Done(SERIAL_THREAD)),
+    Ready(1, 0),
+    Ready(2, 0),
+    Call(3, WAIT, [BARRIER, 0, 0], Blocked),
+    Call(1, INIT, [BARRIER, 2, 0], Done(16)),
+    Call(1, DESTROY, [BARRIER, 0, 0], Done(16)),
+    Call(1, WAIT, [BARRIER, 0, 0], Blocked),
+    Call(2, WAIT, [BARRIER, 0, 0], Done(SERIAL_THREAD)),
+    Ready(3, 0),
+    Call(1, INIT, [BARRIER, 1, 0], Done(0)),
+    Call(1, WAIT, [BARRIER, 0, 0], Done(SERIAL_THREAD)),
+];
+
+#[test]
+fn in_rounds(rt: HostRuntime) -> Result<(), Fail> {
+    play(&rt, 3, &IN_ROUNDS)
+}
+
+const FULL: [Step; 5] = [
+    Call(1, INIT, [BARRIER, 0, 0], Done(22)),
+    Call(1, DESTROY, [BARRIER, 0, 0], Done(22)),
+    CallEach(64, 1, INIT, [BARRIER, 2, 0]),
+    Call(1, INIT, [0, 2, 0], Done(11)),
+    Call(1, INIT, [BARRIER, 4, 0], Done(0)),
+];
+
+#[test]
+fn at_most_64(rt: HostRuntime) -> Result<(), Fail> {
+    play(&rt, 3, &FULL)
+}
 
 /// Three threads with the arguments 1, 2 and 3. In each of four rounds a thread adds its argument to its own word and
 /// waits at a barrier of three; the last to come puts the sum of the words, and all wait there once more. At the end the
@@ -70,15 +129,5 @@ const ROUNDS: [u32; 54] = [
 
 #[test]
 fn meet_in_rounds(rt: HostRuntime) -> Result<(), Fail> {
-    for (harts, steps, count) in SCHEDULES {
-        let mut lines = Vec::new(rt.alloc());
-        rounds(&mut lines, rt.alloc(), harts, steps, count, b"")?;
-        let put = console(rt.alloc(), &ROUNDS, harts, lines.as_slice())?;
-        assert_eq!(rt;
-            put.as_slice(),
-            b"060c121800".as_slice(),
-            "{harts} harts, {steps} steps"
-        );
-    }
-    Ok(())
+    expect_console(&rt, &ROUNDS, &SCHEDULES, NOTHING_ELSE, b"060c121800")
 }

@@ -27,6 +27,13 @@ fn arm(tables: &mut Tables, thread: u8, regs: &Regs)
     tables.threads.known();
 }
 
+/// Whether the program runs.
+pub fn is_running(tables: &Tables) -> bool
+    ensures { result ≡ true → tables.now.status ≡ Running }
+{
+    matches!(tables.status, Status::Running)
+}
+
 /// Makes the call of this number with these arguments as a thread that is ready.
 pub fn call_as<R: Abort>(
     rt: &R,
@@ -39,7 +46,7 @@ pub fn call_as<R: Abort>(
     ensures { IsWellFormed tables.new }
 {
     assert!(rt; tables.threads.is_ready(thread));
-    assert!(rt; tables.status == Status::Running);
+    assert!(rt; is_running(tables));
     let mut regs = tables
         .threads
         .regs(thread)

@@ -1,12 +1,14 @@
 //! Guests whose threads are cancelled.
 ghost use Rattle.ckrt_events.specs.Bytes.{IsInRange};
 
+use crate::expect::expect_eq;
+use crate::schedules::{NOTHING_ELSE, Schedule, expect_console};
 use crate::service::{expect_replies, image_of};
-use crate::waiting::{console, rounds};
 use ckrt_calls::Status;
 use ckrt_events::Event;
 use ckrt_machine::{Answer, How, Machine};
 use std::alloc::Global;
+use std::process::Abort;
 use std::test::Fail;
 
 /// Becomes asynchronous, cancels itself, and would loop for ever.
@@ -195,10 +197,10 @@ const CANCELLED: [u32; 138] = [
 ];
 
 /// The bytes that it puts: uJ1 uJ1 uG1 uS1 >uC1 >uL1 uA1.
-const PUT: [u8; 46] = *b"754a31754a317547317553313e7543313e754c31754131";
+const PUT: &[u8] = b"754a31754a317547317553313e7543313e754c31754131";
 
 /// Harts, steps in a row, and rounds. Where many steps come in a row a thread is cancelled before it begins.
-const SCHEDULES: [(u32, u32, u32); 6] = [
+const SCHEDULES: [Schedule; 6] = [
     (1, 3, 1200),
     (1, 50, 150),
     (1, 400, 40),
@@ -209,17 +211,7 @@ const SCHEDULES: [(u32, u32, u32); 6] = [
 
 #[test]
 fn cancelled_in_each_wait(rt: HostRuntime) -> Result<(), Fail> {
-    for (harts, steps, count) in SCHEDULES {
-        let mut lines = Vec::new(rt.alloc());
-        rounds(&mut lines, rt.alloc(), harts, steps, count, b"")?;
-        let put = console(rt.alloc(), &CANCELLED, harts, lines.as_slice())?;
-        assert_eq!(rt;
-            put.as_slice(),
-            PUT.as_slice(),
-            "{harts} harts, {steps} steps"
-        );
-    }
-    Ok(())
+    expect_console(&rt, &CANCELLED, &SCHEDULES, NOTHING_ELSE, PUT)
 }
 
 #[test]
@@ -260,23 +252,28 @@ fn placed(alloc: Global, words: &[u32]) -> Result<Machine, Fail> {
     Ok(machine)
 }
 
+/// A run of so many steps at most gets this answer, and leaves the program so.
+fn expect_run<R: Abort>(rt: &R, machine: &mut Machine, steps: u16, answer: Answer, status: Status) {
+    assert!(rt; steps > 0);
+    let answered = step_if_accepted(machine, &Event::Run(0, steps));
+    expect_eq(rt, answered, Some(answer));
+    expect_eq(rt, machine.status(), status);
+}
+
 #[test]
 fn last_thread_that_is_cancelled_exits_with_0(rt: HostRuntime) -> Result<(), Fail> {
     let mut machine = placed(rt.alloc(), &CANCELS_ITSELF)?;
-    let answer = step_if_accepted(&mut machine, &Event::Run(0, 99));
-    assert_eq!(rt; answer, Some(Answer::Ran(7, How::End)));
-    assert_eq!(rt; machine.status(), Status::Exited(0));
+    let end = Answer::Ran(7, How::End);
+    expect_run(&rt, &mut machine, 99, end, Status::Exited(0));
     Ok(())
 }
 
 #[test]
 fn each_run_looks_for_the_request(rt: HostRuntime) -> Result<(), Fail> {
     let mut machine = placed(rt.alloc(), &CANCELS_ITSELF)?;
-    let answer = step_if_accepted(&mut machine, &Event::Run(0, 6));
-    assert_eq!(rt; answer, Some(Answer::Ran(6, How::On)));
-    assert_eq!(rt; machine.status(), Status::Running);
-    let answer = step_if_accepted(&mut machine, &Event::Run(0, 1));
-    assert_eq!(rt; answer, Some(Answer::Ran(1, How::End)));
-    assert_eq!(rt; machine.status(), Status::Exited(0));
+    let on = Answer::Ran(6, How::On);
+    expect_run(&rt, &mut machine, 6, on, Status::Running);
+    let end = Answer::Ran(1, How::End);
+    expect_run(&rt, &mut machine, 1, end, Status::Exited(0));
     Ok(())
 }

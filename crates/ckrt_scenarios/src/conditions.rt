@@ -1,17 +1,14 @@
 //! Condition variables, on the tables of a program by hand.
-ghost use Rattle.ckrt_calls.specs.WellFormed.{IsWellFormed};
 
-use crate::calls::{call_as, tables_with, tick_by};
-use crate::mutexes::{LOCK, UNLOCK, answers, lock_256};
-use crate::time::expect_woken;
-use ckrt_calls::Tables;
-use ckrt_thread::CallResult;
-use std::process::Abort;
+use crate::mutexes::{LOCK, UNLOCK};
+use crate::steps::Step::{self, Call, CallEach, Owner, Ready, Tick, Waits};
+use crate::steps::play;
+use ckrt_thread::CallResult::{Blocked, Done};
 use std::test::Fail;
 
 const DESTROY: u32 = 31;
 
-const WAIT: u32 = 32;
+pub const WAIT: u32 = 32;
 
 const TIMEDWAIT: u32 = 33;
 
@@ -23,131 +20,107 @@ pub const MUTEX: u32 = 0x2000;
 
 pub const CONDITION: u32 = 0x5000;
 
-/// The thread locks the mutex and waits at the condition, until the moment.
-fn lock_and_wait_until<R: Abort>(rt: &R, tables: &mut Tables, thread: u8, moment: u32)
-    requires { IsWellFormed tables.old }
-    ensures { IsWellFormed tables.new }
-{
-    answers(rt, tables, thread, LOCK, MUTEX, CallResult::Done(0));
-    let waits = call_as(rt, tables, thread, TIMEDWAIT, [CONDITION, MUTEX, moment, 0]);
-    assert_eq!(rt; waits, CallResult::Blocked);
-}
-
-/// The owner unlocks the mutex, and this thread has it, with this value in x10.
-fn handed_to<R: Abort>(rt: &R, tables: &mut Tables, owner: u8, next: u8, value: u32)
-    requires { IsWellFormed tables.old }
-    ensures { IsWellFormed tables.new }
-{
-    answers(rt, tables, owner, UNLOCK, MUTEX, CallResult::Done(0));
-    assert_eq!(rt; tables.mutexes.mutex(MUTEX).owner, Some(next));
-    expect_woken(rt, tables, next, value);
-}
+const DUE_TOGETHER: [Step; 17] = [
+    Call(2, LOCK, [MUTEX, 0, 0], Done(0)),
+    Call(2, TIMEDWAIT, [CONDITION, MUTEX, 7], Blocked),
+    Call(1, LOCK, [MUTEX, 0, 0], Done(0)),
+    Call(1, TIMEDWAIT, [CONDITION, MUTEX, 7], Blocked),
+    Call(4, LOCK, [MUTEX, 0, 0], Done(0)),
+    Call(4, TIMEDWAIT, [CONDITION, MUTEX, 6], Blocked),
+    Call(3, LOCK, [MUTEX, 0, 0], Done(0)),
+    Tick(7, 3),
+    Call(3, UNLOCK, [MUTEX, 0, 0], Done(0)),
+    Owner(MUTEX, 4),
+    Ready(4, 110),
+    Call(4, UNLOCK, [MUTEX, 0, 0], Done(0)),
+    Owner(MUTEX, 1),
+    Ready(1, 110),
+    Call(1, UNLOCK, [MUTEX, 0, 0], Done(0)),
+    Owner(MUTEX, 2),
+    Ready(2, 110),
+];
 
 #[test]
 fn due_waits_end_by_deadline_and_thread(rt: HostRuntime) -> Result<(), Fail> {
-    let mut tables = tables_with(&rt, rt.alloc(), 4)?;
-    lock_and_wait_until(&rt, &mut tables, 2, 7);
-    lock_and_wait_until(&rt, &mut tables, 1, 7);
-    lock_and_wait_until(&rt, &mut tables, 4, 6);
-    answers(&rt, &mut tables, 3, LOCK, MUTEX, CallResult::Done(0));
-    assert_eq!(rt; tick_by(&rt, &mut tables, 7), 3);
-    handed_to(&rt, &mut tables, 3, 4, 110);
-    handed_to(&rt, &mut tables, 4, 1, 110);
-    handed_to(&rt, &mut tables, 1, 2, 110);
-    Ok(())
+    play(&rt, 4, &DUE_TOGETHER)
 }
+
+const WAITED_WITH: [Step; 7] = [
+    CallEach(256, 1, LOCK, [0x2000, 0, 0]),
+    Call(1, LOCK, [0x2400, 0, 0], Done(11)),
+    Call(1, UNLOCK, [0x2000, 0, 0], Done(0)),
+    Call(1, LOCK, [0x2400, 0, 0], Done(0)),
+    Call(1, WAIT, [CONDITION, 0x2004, 0], Blocked),
+    Call(2, LOCK, [0x2000, 0, 0], Done(11)),
+    Call(2, LOCK, [0x2004, 0, 0], Done(0)),
+];
 
 #[test]
 fn a_waiter_keeps_its_mutex_in_use(rt: HostRuntime) -> Result<(), Fail> {
-    let mut tables = tables_with(&rt, rt.alloc(), 2)?;
-    lock_256(&rt, &mut tables);
-    answers(&rt, &mut tables, 1, LOCK, 0x2400, CallResult::Done(11));
-    answers(&rt, &mut tables, 1, UNLOCK, 0x2000, CallResult::Done(0));
-    answers(&rt, &mut tables, 1, LOCK, 0x2400, CallResult::Done(0));
-    let waits = call_as(&rt, &mut tables, 1, WAIT, [CONDITION, 0x2004, 0, 0]);
-    assert_eq!(rt; waits, CallResult::Blocked);
-    answers(&rt, &mut tables, 2, LOCK, 0x2000, CallResult::Done(11));
-    answers(&rt, &mut tables, 2, LOCK, 0x2004, CallResult::Done(0));
-    Ok(())
+    play(&rt, 2, &WAITED_WITH)
 }
 
-/// The thread locks the mutex and waits at the condition.
-pub fn lock_and_wait<R: Abort>(rt: &R, tables: &mut Tables, thread: u8)
-    requires { IsWellFormed tables.old }
-    ensures { IsWellFormed tables.new }
-{
-    answers(rt, tables, thread, LOCK, MUTEX, CallResult::Done(0));
-    let waits = call_as(rt, tables, thread, WAIT, [CONDITION, MUTEX, 0, 0]);
-    assert_eq!(rt; waits, CallResult::Blocked);
-}
+const SIGNALLED: [Step; 22] = [
+    Call(3, LOCK, [MUTEX, 0, 0], Done(0)),
+    Call(3, WAIT, [CONDITION, MUTEX, 0], Blocked),
+    Call(1, LOCK, [MUTEX, 0, 0], Done(0)),
+    Call(1, WAIT, [CONDITION, MUTEX, 0], Blocked),
+    Call(4, LOCK, [MUTEX, 0, 0], Done(0)),
+    Call(4, WAIT, [CONDITION, MUTEX, 0], Blocked),
+    Call(2, DESTROY, [CONDITION, 0, 0], Done(16)),
+    Call(2, WAIT, [CONDITION, MUTEX, 0], Done(1)),
+    Call(2, LOCK, [0x2010, 0, 0], Done(0)),
+    Call(2, WAIT, [CONDITION, 0x2010, 0], Done(22)),
+    Call(2, SIGNAL, [CONDITION, 0, 0], Done(0)),
+    Owner(MUTEX, 3),
+    Ready(3, 0),
+    Call(2, BROADCAST, [CONDITION, 0, 0], Done(0)),
+    Call(3, UNLOCK, [MUTEX, 0, 0], Done(0)),
+    Owner(MUTEX, 1),
+    Ready(1, 0),
+    Call(1, UNLOCK, [MUTEX, 0, 0], Done(0)),
+    Owner(MUTEX, 4),
+    Ready(4, 0),
+    Call(4, UNLOCK, [MUTEX, 0, 0], Done(0)),
+    Call(2, DESTROY, [CONDITION, 0, 0], Done(0)),
+];
 
 #[test]
 fn signalled_in_order(rt: HostRuntime) -> Result<(), Fail> {
-    let mut tables = tables_with(&rt, rt.alloc(), 4)?;
-    lock_and_wait(&rt, &mut tables, 3);
-    lock_and_wait(&rt, &mut tables, 1);
-    lock_and_wait(&rt, &mut tables, 4);
-    answers(
-        &rt,
-        &mut tables,
-        2,
-        DESTROY,
-        CONDITION,
-        CallResult::Done(16),
-    );
-    let stranger = call_as(&rt, &mut tables, 2, WAIT, [CONDITION, MUTEX, 0, 0]);
-    assert_eq!(rt; stranger, CallResult::Done(1));
-    answers(&rt, &mut tables, 2, LOCK, 0x2010, CallResult::Done(0));
-    let other = call_as(&rt, &mut tables, 2, WAIT, [CONDITION, 0x2010, 0, 0]);
-    assert_eq!(rt; other, CallResult::Done(22));
-    answers(&rt, &mut tables, 2, SIGNAL, CONDITION, CallResult::Done(0));
-    assert_eq!(rt; tables.mutexes.mutex(MUTEX).owner, Some(3));
-    expect_woken(&rt, &tables, 3, 0);
-    answers(
-        &rt,
-        &mut tables,
-        2,
-        BROADCAST,
-        CONDITION,
-        CallResult::Done(0),
-    );
-    handed_to(&rt, &mut tables, 3, 1, 0);
-    handed_to(&rt, &mut tables, 1, 4, 0);
-    answers(&rt, &mut tables, 4, UNLOCK, MUTEX, CallResult::Done(0));
-    answers(&rt, &mut tables, 2, DESTROY, CONDITION, CallResult::Done(0));
-    Ok(())
+    play(&rt, 4, &SIGNALLED)
 }
+
+const SIGNALLED_BY_OWNER: [Step; 9] = [
+    Call(1, LOCK, [MUTEX, 0, 0], Done(0)),
+    Call(1, WAIT, [CONDITION, MUTEX, 0], Blocked),
+    Call(2, LOCK, [MUTEX, 0, 0], Done(0)),
+    Call(2, SIGNAL, [CONDITION, 0, 0], Done(0)),
+    Waits(1),
+    Call(2, DESTROY, [CONDITION, 0, 0], Done(0)),
+    Call(2, UNLOCK, [MUTEX, 0, 0], Done(0)),
+    Owner(MUTEX, 1),
+    Ready(1, 0),
+];
 
 #[test]
 fn a_signalled_thread_waits_for_its_mutex(rt: HostRuntime) -> Result<(), Fail> {
-    let mut tables = tables_with(&rt, rt.alloc(), 2)?;
-    lock_and_wait(&rt, &mut tables, 1);
-    answers(&rt, &mut tables, 2, LOCK, MUTEX, CallResult::Done(0));
-    answers(&rt, &mut tables, 2, SIGNAL, CONDITION, CallResult::Done(0));
-    assert!(rt; !tables.threads.is_ready(1));
-    answers(&rt, &mut tables, 2, DESTROY, CONDITION, CallResult::Done(0));
-    handed_to(&rt, &mut tables, 2, 1, 0);
-    Ok(())
+    play(&rt, 2, &SIGNALLED_BY_OWNER)
 }
 
-/// The thread, which has the mutex, waits at the condition until moment 0, which is due.
-fn wait_until_now<R: Abort>(rt: &R, tables: &mut Tables, thread: u8, want: CallResult)
-    requires { IsWellFormed tables.old }
-    ensures { IsWellFormed tables.new }
-{
-    let result = call_as(rt, tables, thread, TIMEDWAIT, [CONDITION, MUTEX, 0, 0]);
-    assert_eq!(rt; result, want);
-}
+/// Waits until moment 0, which is due.
+const DUE_AT_ONCE: [Step; 9] = [
+    Call(1, LOCK, [MUTEX, 0, 0], Done(0)),
+    Call(1, TIMEDWAIT, [CONDITION, MUTEX, 0], Done(110)),
+    Call(2, LOCK, [MUTEX, 0, 0], Blocked),
+    Call(1, TIMEDWAIT, [CONDITION, MUTEX, 0], Blocked),
+    Ready(2, 0),
+    Call(2, SIGNAL, [CONDITION, 0, 0], Done(0)),
+    Call(2, UNLOCK, [MUTEX, 0, 0], Done(0)),
+    Owner(MUTEX, 1),
+    Ready(1, 110),
+];
 
 #[test]
 fn a_due_wait_retakes_its_mutex(rt: HostRuntime) -> Result<(), Fail> {
-    let mut tables = tables_with(&rt, rt.alloc(), 2)?;
-    answers(&rt, &mut tables, 1, LOCK, MUTEX, CallResult::Done(0));
-    wait_until_now(&rt, &mut tables, 1, CallResult::Done(110));
-    answers(&rt, &mut tables, 2, LOCK, MUTEX, CallResult::Blocked);
-    wait_until_now(&rt, &mut tables, 1, CallResult::Blocked);
-    expect_woken(&rt, &tables, 2, 0);
-    answers(&rt, &mut tables, 2, SIGNAL, CONDITION, CallResult::Done(0));
-    handed_to(&rt, &mut tables, 2, 1, 110);
-    Ok(())
+    play(&rt, 2, &DUE_AT_ONCE)
 }

@@ -1,8 +1,6 @@
 //! Four threads that fight for one mutex: each counts up a shared counter twenty times, in three steps.
 
-use crate::service::replies;
-use ckrt_main::Config;
-use std::alloc::Global;
+use crate::schedules::{NOTHING_ELSE, Schedule, expect_console};
 use std::test::Fail;
 
 const COUNTERS: [u32; 39] = [
@@ -51,43 +49,17 @@ const COUNTERS: [u32; 39] = [
     0x00008067, // jalr x0, 0(x1)
 ];
 
-/// Rounds of `auto` on each hart with this many steps, a commit after each round.
-fn schedule(alloc: Global, harts: u32, steps: u32, rounds: u32) -> Result<Vec<u8>, Fail> {
-    let mut lines = Vec::new(alloc);
-    for _ in 0..rounds {
-        for hart in 0..harts {
-            let line = format!(in alloc; "auto {hart} {steps}\n")?;
-            lines.extend_from_slice(line.as_bytes())?;
-        }
-        lines.extend_from_slice(b"commit\n")?;
-    }
-    Ok(lines)
-}
-
-/// Whether the replies have the line that puts the counter, 80.
-fn puts_80(replies: &[u8]) -> bool {
-    replies
-        .split(|byte| *byte == b'\n')
-        .any(|line| line == b"out 0 50".as_slice())
-}
+/// Harts, steps in a row, and rounds.
+const SCHEDULES: [Schedule; 5] = [
+    (1, 3, 900),
+    (1, 7, 400),
+    (2, 5, 300),
+    (8, 4, 200),
+    (8, 1, 900),
+];
 
 #[test]
 fn same_total_under_each_schedule(rt: HostRuntime) -> Result<(), Fail> {
-    for (harts, steps, rounds) in [
-        (1, 3, 900),
-        (1, 7, 400),
-        (2, 5, 300),
-        (8, 4, 200),
-        (8, 1, 900),
-    ] {
-        let config = Config {
-            pages: 16,
-            harts,
-            journal: 1_048_576,
-        };
-        let lines = schedule(rt.alloc(), harts, steps, rounds)?;
-        let text = replies(rt.alloc(), &COUNTERS, config, lines.as_slice())?;
-        assert!(rt; puts_80(text.as_slice()), "{harts} harts, {steps} steps");
-    }
-    Ok(())
+    // the counter, 80
+    expect_console(&rt, &COUNTERS, &SCHEDULES, NOTHING_ELSE, b"50")
 }

@@ -1,8 +1,11 @@
 //! One guest thread, from lines to replies.
 
-use crate::service::{SMALL, expect_replies, image_of};
+use crate::expect::expect_eq;
+use crate::service::{SMALL, expect_replies, image_of, push_reply};
 use ckrt_main::{Config, ServeFault, serve_image};
 use ckrt_memory::{Memory, MemoryError};
+use std::alloc::Global;
+use std::process::Abort;
 use std::test::Fail;
 
 /// Puts an A and exits with status 0.
@@ -58,17 +61,30 @@ fn refusals_in_their_order(rt: HostRuntime) -> Result<(), Fail> {
     )
 }
 
+/// A run that puts 2,048 bytes, and its reply as event `count`.
+fn push_full_run(
+    lines: &mut Vec<u8>,
+    want: &mut Vec<u8>,
+    alloc: Global,
+    count: u32,
+) -> Result<(), Fail> {
+    lines.extend_from_slice(b"run 0 65535\n")?;
+    push_reply(want, alloc, count, "ran 2048 on")
+}
+
+/// Events 2 to 17: what each run puts leaves less room for the next.
+fn push_full_runs(lines: &mut Vec<u8>, want: &mut Vec<u8>, alloc: Global) -> Result<(), Fail> {
+    for count in 2..18 {
+        push_full_run(lines, want, alloc, count)?;
+    }
+    Ok(())
+}
+
 #[test]
 fn held_output_fills(rt: HostRuntime) -> Result<(), Fail> {
-    let mut lines = Vec::new(rt.alloc());
-    lines.extend_from_slice(b"place 0 1\n")?;
-    let mut want = Vec::new(rt.alloc());
-    want.extend_from_slice(b"ok 1 placed\n")?;
-    for count in 2..18 {
-        lines.extend_from_slice(b"run 0 65535\n")?;
-        let reply = format!(in rt.alloc(); "ok {count} ran 2048 on\n")?;
-        want.extend_from_slice(reply.as_bytes())?;
-    }
+    let mut lines = b"place 0 1\n".to_vec(rt.alloc())?;
+    let mut want = b"ok 1 placed\n".to_vec(rt.alloc())?;
+    push_full_runs(&mut lines, &mut want, rt.alloc())?;
     lines.extend_from_slice(b"run 0 65535\n")?;
     want.extend_from_slice(b"no 9 OutputFull\n")?;
     expect_replies(&rt, &PUTS_FOR_EVER, lines.as_slice(), want.as_slice())
@@ -87,44 +103,41 @@ fn image_limits(rt: HostRuntime) -> Result<(), Fail> {
     Ok(())
 }
 
+/// A service of the image is refused before a byte is read or written.
+fn expect_refusal<R: Abort + AllocGlobal>(rt: &R, image: &[u8], config: Config) {
+    let mut reader: &[u8] = b"place 0 1\n";
+    let mut writer = Vec::new(rt.alloc());
+    let done = serve_image(rt.alloc(), image, config, &mut reader, &mut writer);
+    expect_eq(rt, done, Err(ServeFault::Format));
+    expect_eq(rt, reader.len(), 10);
+    assert!(rt; writer.is_empty());
+}
+
+const REFUSED: &[Config] = &[
+    Config { pages: 15, ..SMALL },
+    Config {
+        pages: 1_025,
+        ..SMALL
+    },
+    Config { harts: 0, ..SMALL },
+    Config { harts: 9, ..SMALL },
+    Config {
+        journal: 4_097,
+        ..SMALL
+    },
+    Config {
+        journal: 0,
+        ..SMALL
+    },
+];
+
 #[test]
 fn refused_before_a_byte_is_read(rt: HostRuntime) -> Result<(), Fail> {
     let longer = vec![in rt.alloc(); 0u8; 61_441]?;
+    expect_refusal(&rt, longer.as_slice(), SMALL);
     let image = image_of(rt.alloc(), &SIX_WORDS)?;
-    let cases = [
-        (longer.as_slice(), SMALL),
-        (image.as_slice(), Config { pages: 15, ..SMALL }),
-        (
-            image.as_slice(),
-            Config {
-                pages: 1_025,
-                ..SMALL
-            },
-        ),
-        (image.as_slice(), Config { harts: 0, ..SMALL }),
-        (image.as_slice(), Config { harts: 9, ..SMALL }),
-        (
-            image.as_slice(),
-            Config {
-                journal: 4_097,
-                ..SMALL
-            },
-        ),
-        (
-            image.as_slice(),
-            Config {
-                journal: 0,
-                ..SMALL
-            },
-        ),
-    ];
-    for (image, config) in cases {
-        let mut reader: &[u8] = b"place 0 1\n";
-        let mut writer = Vec::new(rt.alloc());
-        let done = serve_image(rt.alloc(), image, config, &mut reader, &mut writer);
-        assert_eq!(rt; done, Err(ServeFault::Format));
-        assert_eq!(rt; reader.len(), 10);
-        assert!(rt; writer.is_empty());
+    for config in REFUSED {
+        expect_refusal(&rt, image.as_slice(), *config);
     }
     Ok(())
 }

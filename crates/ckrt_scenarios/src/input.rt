@@ -1,6 +1,7 @@
 //! Lines with faults, and console input.
 
-use crate::service::expect_replies;
+use crate::service::{expect_replies, push_reply};
+use std::alloc::Global;
 use std::test::Fail;
 
 #[test]
@@ -17,11 +18,24 @@ fn faults_of_lines(rt: HostRuntime) -> Result<(), Fail> {
     )
 }
 
-/// A line of 64 bytes of input.
-fn full_input(lines: &mut Vec<u8>) -> Result<(), Fail> {
+/// A line of 64 bytes of input, and its reply as event `count`.
+fn push_full_input(
+    lines: &mut Vec<u8>,
+    want: &mut Vec<u8>,
+    alloc: Global,
+    count: u32,
+) -> Result<(), Fail> {
     lines.extend_from_slice(b"in ")?;
     lines.extend_from_slice(&[b'5'; 128])?;
     lines.push(b'\n')?;
+    push_reply(want, alloc, count, "taken 64")
+}
+
+/// As many of them as a journal of 4,096 bytes holds.
+fn push_full_inputs(lines: &mut Vec<u8>, want: &mut Vec<u8>, alloc: Global) -> Result<(), Fail> {
+    for count in 1..63 {
+        push_full_input(lines, want, alloc, count)?;
+    }
     Ok(())
 }
 
@@ -29,11 +43,7 @@ fn full_input(lines: &mut Vec<u8>) -> Result<(), Fail> {
 fn journal_fills(rt: HostRuntime) -> Result<(), Fail> {
     let mut lines = Vec::new(rt.alloc());
     let mut want = Vec::new(rt.alloc());
-    for count in 1..63 {
-        full_input(&mut lines)?;
-        let reply = format!(in rt.alloc(); "ok {count} taken 64\n")?;
-        want.extend_from_slice(reply.as_bytes())?;
-    }
+    push_full_inputs(&mut lines, &mut want, rt.alloc())?;
     lines.extend_from_slice(b"tick 1\neof\ncommit\ntick 1\n")?;
     want.extend_from_slice(b"no 22 BatchFull\nno 23 JournalFull\nack 62\nno 23 JournalFull\n")?;
     expect_replies(&rt, &[], lines.as_slice(), want.as_slice())

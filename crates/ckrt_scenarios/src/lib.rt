@@ -16,6 +16,8 @@ mod contention;
 #[cfg(test)]
 mod events;
 #[cfg(test)]
+mod expect;
+#[cfg(test)]
 mod first_path;
 #[cfg(test)]
 mod input;
@@ -24,11 +26,19 @@ mod instructions;
 #[cfg(test)]
 mod mutexes;
 #[cfg(test)]
+mod program;
+#[cfg(test)]
 mod rwlocks;
+#[cfg(test)]
+mod schedules;
+#[cfg(test)]
+mod seats;
 #[cfg(test)]
 mod service;
 #[cfg(test)]
 mod serving;
+#[cfg(test)]
+mod steps;
 #[cfg(test)]
 mod threads;
 #[cfg(test)]

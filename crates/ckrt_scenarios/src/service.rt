@@ -1,5 +1,6 @@
 //! A service from lines to replies, for the other tests.
 
+use crate::expect::expect_eq;
 use ckrt_main::{Config, serve_image};
 use std::alloc::Global;
 use std::process::Abort;
@@ -43,6 +44,18 @@ pub fn expect_replies<R: Abort + AllocGlobal>(
     want: &[u8],
 ) -> Result<(), Fail> {
     let text = replies(rt.alloc(), words, SMALL, lines)?;
-    assert_eq!(rt; text.as_slice(), want);
+    expect_eq(rt, text.as_slice(), want);
+    Ok(())
+}
+
+/// The reply to an event that is accepted as number `count`.
+pub fn push_reply(
+    replies: &mut Vec<u8>,
+    alloc: Global,
+    count: u32,
+    text: &str,
+) -> Result<(), Fail> {
+    let reply = format!(in alloc; "ok {count} {text}\n")?;
+    replies.extend_from_slice(reply.as_bytes())?;
     Ok(())
 }

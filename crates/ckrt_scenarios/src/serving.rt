@@ -1,7 +1,11 @@
+//! Services over readers, writers and disks that fail, and over the next life.
+
+use crate::expect::expect_eq;
 use ckrt_disk::{Disk, FailingDisk, MemoryDisk, StoppingDisk};
 use ckrt_main::{ServeFault, serve, serve_image};
 use ckrt_recovery::{Config, Session, format, recover};
 use std::io::{self, ErrorKind, Read, Write};
+use std::ops::RangeInclusive;
 use std::process::Abort;
 use std::test::Fail;
 
@@ -71,15 +75,20 @@ impl Write for Narrow {
     }
 }
 
-/// What a service writes for this input, and what it answers.
-fn served<R: Abort + AllocGlobal>(
+const ROW: &[u8] = b"place 0 1\nrun 0 6\r\ncommit\nquit\nrun 0 1\n";
+
+const REPLY: &[u8] = b"ok 1 placed\nok 2 ran 6 end\nack 2\nout 0 41\n";
+
+/// A service whose reader and writer fail there answers this, and has written this.
+fn expect_served<R: Abort + AllocGlobal>(
     rt: &R,
-    input: &[u8],
     read_fails_at: Option<usize>,
     write_fails_at: usize,
-) -> (Vec<u8>, Result<(), ServeFault>) {
+    want: Result<(), ServeFault>,
+    reply: &[u8],
+) {
     let mut reader = Trickle {
-        bytes: input,
+        bytes: ROW,
         interrupts: false,
         fails_at: read_fails_at,
     };
@@ -88,43 +97,27 @@ fn served<R: Abort + AllocGlobal>(
         fails_at: write_fails_at,
     };
     let done = serve_image(rt.alloc(), &IMAGE, CONFIG, &mut reader, &mut writer);
-    (writer.bytes, done)
-}
-
-const ROW: &[u8] = b"place 0 1\nrun 0 6\r\ncommit\nquit\nrun 0 1\n";
-
-const REPLY: &[u8] = b"ok 1 placed\nok 2 ran 6 end\nack 2\nout 0 41\n";
-
-#[test]
-fn answers_byte_by_byte(rt: HostRuntime) -> Result<(), Fail> {
-    let (reply, done) = served(&rt, ROW, None, 1_000);
-    assert_eq!(rt; done, Ok(()));
-    assert_eq!(rt; reply.as_slice(), REPLY);
-    Ok(())
+    expect_eq(rt, done, want);
+    expect_eq(rt, writer.bytes.as_slice(), reply);
 }
 
 #[test]
-fn a_fault_of_the_reader_is_answered(rt: HostRuntime) -> Result<(), Fail> {
+fn answers_byte_by_byte(rt: HostRuntime) {
+    expect_served(&rt, None, 1_000, Ok(()), REPLY);
+}
+
+#[test]
+fn a_fault_of_the_reader_is_answered(rt: HostRuntime) {
     // in the middle of `commit`
-    let (reply, done) = served(&rt, ROW, Some(16), 1_000);
-    assert_eq!(rt; done, Err(ServeFault::Read));
-    assert_eq!(rt;
-        reply.as_slice(),
-        b"ok 1 placed\nok 2 ran 6 end\n".as_slice()
-    );
-    Ok(())
+    let reply = b"ok 1 placed\nok 2 ran 6 end\n";
+    expect_served(&rt, Some(16), 1_000, Err(ServeFault::Read), reply);
 }
 
 #[test]
-fn a_fault_of_the_writer_is_answered(rt: HostRuntime) -> Result<(), Fail> {
+fn a_fault_of_the_writer_is_answered(rt: HostRuntime) {
     // in the middle of the line of output
-    let (reply, done) = served(&rt, ROW, None, 36);
-    assert_eq!(rt; done, Err(ServeFault::Write));
-    assert_eq!(rt;
-        reply.as_slice(),
-        b"ok 1 placed\nok 2 ran 6 end\nack 2\nout".as_slice()
-    );
-    Ok(())
+    let reply = b"ok 1 placed\nok 2 ran 6 end\nack 2\nout";
+    expect_served(&rt, None, 36, Err(ServeFault::Write), reply);
 }
 
 /// A disk in memory, formatted for the image.
@@ -144,6 +137,12 @@ fn recovered<R: Abort + AllocGlobal, D: Disk>(rt: &R, disk: D) -> Session<D> {
     }
 }
 
+/// A session of a new disk.
+fn first_session<R: Abort + AllocGlobal>(rt: &R) -> Result<Session<MemoryDisk>, Fail> {
+    let disk = formatted(rt)?;
+    Ok(recovered(rt, disk))
+}
+
 /// What a service of the session writes for these lines.
 fn replies<R: AllocGlobal, D: Disk>(
     rt: &R,
@@ -156,91 +155,149 @@ fn replies<R: AllocGlobal, D: Disk>(
     Ok(writer)
 }
 
-#[test]
-fn a_failed_write_confirms_nothing(rt: HostRuntime) -> Result<(), Fail> {
-    let mut session = recovered(&rt, formatted(&rt)?);
+/// A service of the session writes this for these lines.
+fn expect_replies<R: Abort + AllocGlobal, D: Disk>(
+    rt: &R,
+    session: &mut Session<D>,
+    lines: &[u8],
+    want: &[u8],
+) -> Result<(), Fail> {
+    let text = replies(rt, session, lines)?;
+    expect_eq(rt, text.as_slice(), want);
+    Ok(())
+}
+
+/// The writer fails in the middle of the line of output.
+fn expect_failed_write<R: Abort + AllocGlobal>(rt: &R, session: &mut Session<MemoryDisk>) {
     let mut reader = ROW;
     let mut writer = Narrow {
         bytes: Vec::new(rt.alloc()),
         fails_at: 36,
     };
-    assert_eq!(rt;
-        serve(&mut reader, &mut writer, &mut session),
-        Err(ServeFault::Write)
-    );
-    assert_eq!(rt; session.confirmed(), 0);
-    assert_eq!(rt; session.released(), 1);
-    assert_eq!(rt;
-        replies(&rt, &mut session, b"")?.as_slice(),
-        b"out 0 41\n".as_slice()
-    );
-    assert_eq!(rt; session.confirmed(), 1);
-    Ok(())
+    let done = serve(&mut reader, &mut writer, session);
+    expect_eq(rt, done, Err(ServeFault::Write));
+}
+
+/// So many bytes of output are confirmed, and so many released.
+fn expect_output<R: Abort>(rt: &R, session: &Session<MemoryDisk>, confirmed: u64, released: u64) {
+    expect_eq(rt, session.confirmed(), confirmed);
+    expect_eq(rt, session.released(), released);
 }
 
 #[test]
-fn a_failed_read_is_answered(rt: HostRuntime) -> Result<(), Fail> {
-    let mut session = recovered(&rt, formatted(&rt)?);
+fn a_failed_write_confirms_nothing(rt: HostRuntime) -> Result<(), Fail> {
+    let mut session = first_session(&rt)?;
+    expect_failed_write(&rt, &mut session);
+    expect_output(&rt, &session, 0, 1);
+    expect_replies(&rt, &mut session, b"", b"out 0 41\n")?;
+    expect_output(&rt, &session, 1, 1);
+    Ok(())
+}
+
+/// The reader fails in the middle of `commit`.
+fn expect_failed_read<R: Abort + AllocGlobal>(
+    rt: &R,
+    session: &mut Session<MemoryDisk>,
+    want: &[u8],
+) {
     let mut reader = Trickle {
         bytes: ROW,
         interrupts: false,
         fails_at: Some(16),
     };
     let mut writer = Vec::new(rt.alloc());
-    assert_eq!(rt;
-        serve(&mut reader, &mut writer, &mut session),
-        Err(ServeFault::Read)
-    );
-    assert_eq!(rt;
-        writer.as_slice(),
-        b"ok 1 placed\nok 2 ran 6 end\n".as_slice()
-    );
+    let done = serve(&mut reader, &mut writer, session);
+    expect_eq(rt, done, Err(ServeFault::Read));
+    expect_eq(rt, writer.as_slice(), want);
+}
+
+#[test]
+fn a_failed_read_is_answered(rt: HostRuntime) -> Result<(), Fail> {
+    let mut session = first_session(&rt)?;
+    expect_failed_read(&rt, &mut session, b"ok 1 placed\nok 2 ran 6 end\n");
     Ok(())
+}
+
+/// The session of the next life.
+fn next_session<R: Abort + AllocGlobal>(
+    rt: &R,
+    session: Session<MemoryDisk>,
+) -> Session<MemoryDisk> {
+    recovered(rt, session.into_disk())
 }
 
 #[test]
 fn output_of_an_earlier_life_comes_first(rt: HostRuntime) -> Result<(), Fail> {
-    let mut session = recovered(&rt, formatted(&rt)?);
-    assert_eq!(rt; replies(&rt, &mut session, ROW)?.as_slice(), REPLY);
-    let mut session = recovered(&rt, session.into_disk());
-    assert_eq!(rt;
-        replies(&rt, &mut session, b"run 0 1\n")?.as_slice(),
-        b"out 0 41\nno 1 Ended\n".as_slice()
-    );
-    Ok(())
+    let mut session = first_session(&rt)?;
+    expect_replies(&rt, &mut session, ROW, REPLY)?;
+    let mut session = next_session(&rt, session);
+    expect_replies(&rt, &mut session, b"run 0 1\n", b"out 0 41\nno 1 Ended\n")
+}
+
+/// So many events are acknowledged.
+fn expect_acknowledged<R: Abort>(rt: &R, session: &Session<MemoryDisk>, count: u64) {
+    expect_eq(rt, session.acknowledged(), count);
 }
 
 #[test]
 fn nothing_is_committed_but_by_commit(rt: HostRuntime) -> Result<(), Fail> {
-    let mut session = recovered(&rt, formatted(&rt)?);
-    assert_eq!(rt;
-        replies(&rt, &mut session, b"place 0 1\ncommit\nrun 0 2\nquit\n")?.as_slice(),
-        b"ok 1 placed\nack 1\nok 2 ran 2 on\n".as_slice()
-    );
-    assert_eq!(rt; session.acknowledged(), 1);
+    let mut session = first_session(&rt)?;
+    expect_replies(
+        &rt,
+        &mut session,
+        b"place 0 1\ncommit\nrun 0 2\nquit\n",
+        b"ok 1 placed\nack 1\nok 2 ran 2 on\n",
+    )?;
+    expect_acknowledged(&rt, &session, 1);
     Ok(())
+}
+
+/// Two commits and a line behind them.
+const LINES: &[u8] = b"place 0 1\ncommit\nrun 0 6\ncommit\njump\n";
+
+const NONE_FAILED: &[u8] = b"ok 1 placed\nack 1\nok 2 ran 6 end\nack 2\nout 0 41\nno 31 Unknown\n";
+
+const FIRST_FAILED: &[u8] =
+    b"ok 1 placed\nno 25 Device\nno 21 Failed\nno 21 Failed\nno 31 Unknown\n";
+
+const SECOND_FAILED: &[u8] = b"ok 1 placed\nack 1\nok 2 ran 6 end\nno 25 Device\nno 31 Unknown\n";
+
+/// Whether the two are equal.
+fn is_same(replies: &[u8], text: &[u8]) -> bool {
+    replies == text
+}
+
+/// How often the first commit failed by these replies, and how often the second.
+fn failures_in<R: Abort>(rt: &R, replies: &[u8]) -> (u8, u8) {
+    if is_same(replies, FIRST_FAILED) {
+        return (1, 0);
+    }
+    if is_same(replies, SECOND_FAILED) {
+        return (0, 1);
+    }
+    expect_eq(rt, replies, NONE_FAILED);
+    (0, 0)
+}
+
+/// The same on a disk that fails at this call; none where there is no session.
+fn failures_at<R: Abort + AllocGlobal>(rt: &R, at_call: u64) -> Result<(u8, u8), Fail> {
+    let disk = FailingDisk::new(formatted(rt)?, at_call);
+    let Ok(mut session) = recover(rt.alloc(), disk) else {
+        return Ok((0, 0));
+    };
+    let text = replies(rt, &mut session, LINES)?;
+    Ok(failures_in(rt, text.as_slice()))
 }
 
 #[test]
 fn the_lines_go_on_after_a_failed_commit(rt: HostRuntime) -> Result<(), Fail> {
-    let lines = b"place 0 1\ncommit\nrun 0 6\ncommit\njump\n".as_slice();
-    let all = b"ok 1 placed\nack 1\nok 2 ran 6 end\nack 2\nout 0 41\nno 31 Unknown\n".as_slice();
-    let first =
-        b"ok 1 placed\nno 25 Device\nno 21 Failed\nno 21 Failed\nno 31 Unknown\n".as_slice();
-    let second = b"ok 1 placed\nack 1\nok 2 ran 6 end\nno 25 Device\nno 31 Unknown\n".as_slice();
     let mut failed = (0u8, 0u8);
     for at_call in 1..60 {
-        let Ok(mut session) = recover(rt.alloc(), FailingDisk::new(formatted(&rt)?, at_call)) else {
-            continue;
-        };
-        let reply = replies(&rt, &mut session, lines)?;
-        if reply.as_slice() == first {
-            failed.0 = failed.0.saturating_add(1);
-        } else if reply.as_slice() == second {
-            failed.1 = failed.1.saturating_add(1);
-        } else {
-            assert_eq!(rt; reply.as_slice(), all);
-        }
+        let (first, second) = failures_at(&rt, at_call)?;
+        failed = (
+            failed.0.saturating_add(first),
+            failed.1.saturating_add(second),
+        );
     }
     // a commit makes two writes and two syncs
     assert_eq!(rt; failed, (4, 4));
@@ -253,18 +310,30 @@ const FILLS: [&[u8]; 5] = [&[0xa5], &[0], &[0xff], &[0xa5, 0], &[]];
 /// Two commits; the byte is put by the second run.
 const TWO_COMMITS: &[u8] = b"place 0 1\nrun 0 2\ncommit\nrun 0 4\ncommit\n";
 
+const BOTH_COMMITTED: &[u8] =
+    b"ok 1 placed\nok 2 ran 2 on\nack 2\nok 3 ran 4 end\nack 3\nout 0 41\n";
+
+/// The second of them.
+const SECOND_COMMIT: &[u8] = b"run 0 4\ncommit\n";
+
+const SECOND_COMMITTED: &[u8] = b"ok 3 ran 4 end\nack 3\nout 0 41\n";
+
+const NO_LINES: &[u8] = b"";
+
+const OUTPUT: &[u8] = b"out 0 41\n";
+
+const STOPPED_IN_FIRST: &[u8] =
+    b"ok 1 placed\nok 2 ran 2 on\nno 25 Device\nno 21 Failed\nno 21 Failed\n";
+
+const STOPPED_IN_SECOND: &[u8] =
+    b"ok 1 placed\nok 2 ran 2 on\nack 2\nok 3 ran 4 end\nno 25 Device\n";
+
 /// The rest of these lines behind so many events, and what they get.
 fn rest_of_two_commits(events: u64) -> (&'static [u8], &'static [u8]) {
     match events {
-        0 => (
-            TWO_COMMITS,
-            b"ok 1 placed\nok 2 ran 2 on\nack 2\nok 3 ran 4 end\nack 3\nout 0 41\n".as_slice(),
-        ),
-        2 => (
-            b"run 0 4\ncommit\n".as_slice(),
-            b"ok 3 ran 4 end\nack 3\nout 0 41\n".as_slice(),
-        ),
-        _ => (b"".as_slice(), b"out 0 41\n".as_slice()),
+        0 => (TWO_COMMITS, BOTH_COMMITTED),
+        2 => (SECOND_COMMIT, SECOND_COMMITTED),
+        _ => (NO_LINES, OUTPUT),
     }
 }
 
@@ -279,30 +348,39 @@ fn expect_goes_on<R: Abort + AllocGlobal>(
     let image = formatted(rt)?.into_image();
     let disk = StoppingDisk::new(rt.alloc(), image, at_call, fill.to_vec(rt.alloc())?)?;
     let mut session = recovered(rt, disk);
-    assert_eq!(rt; replies(rt, &mut session, TWO_COMMITS)?.as_slice(), reply);
+    expect_replies(rt, &mut session, TWO_COMMITS, reply)?;
     let image = session.into_disk().into_image();
     let mut next = recovered(rt, MemoryDisk::new(rt.alloc(), image)?);
     assert!(rt; recovers_to.contains(&next.acknowledged()));
     let (lines, want) = rest_of_two_commits(next.acknowledged());
-    assert_eq!(rt; replies(rt, &mut next, lines)?.as_slice(), want);
+    expect_replies(rt, &mut next, lines, want)
+}
+
+/// The same at each of these calls.
+fn expect_goes_on_at_each<R: Abort + AllocGlobal>(
+    rt: &R,
+    calls: RangeInclusive<u64>,
+    fill: &[u8],
+    reply: &[u8],
+    recovers_to: &[u64],
+) -> Result<(), Fail> {
+    for at_call in calls {
+        expect_goes_on(rt, at_call, fill, reply, recovers_to)?;
+    }
     Ok(())
+}
+
+/// The same at each call of a service; call 1 is the recovery's sync, and a commit makes four.
+fn expect_goes_on_with<R: Abort + AllocGlobal>(rt: &R, fill: &[u8]) -> Result<(), Fail> {
+    expect_goes_on_at_each(rt, 2..=5, fill, STOPPED_IN_FIRST, &[0, 2])?;
+    expect_goes_on_at_each(rt, 6..=9, fill, STOPPED_IN_SECOND, &[2, 3])?;
+    expect_goes_on(rt, 10, fill, BOTH_COMMITTED, &[3])
 }
 
 #[test]
 fn the_next_life_goes_on_after_a_stop(rt: HostRuntime) -> Result<(), Fail> {
-    let first =
-        b"ok 1 placed\nok 2 ran 2 on\nno 25 Device\nno 21 Failed\nno 21 Failed\n".as_slice();
-    let second = b"ok 1 placed\nok 2 ran 2 on\nack 2\nok 3 ran 4 end\nno 25 Device\n".as_slice();
-    let (_, all) = rest_of_two_commits(0);
     for fill in FILLS {
-        // call 1 is the recovery's sync, and a commit makes four
-        for at_call in 2..=5 {
-            expect_goes_on(&rt, at_call, fill, first, &[0, 2])?;
-        }
-        for at_call in 6..=9 {
-            expect_goes_on(&rt, at_call, fill, second, &[2, 3])?;
-        }
-        expect_goes_on(&rt, 10, fill, all, &[3])?;
+        expect_goes_on_with(&rt, fill)?;
     }
     Ok(())
 }

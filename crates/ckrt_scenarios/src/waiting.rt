@@ -1,9 +1,6 @@
 //! Guests whose threads wait: at conditions, for moments, and for input. Each puts the same bytes under every schedule.
 
-use crate::service::replies;
-use ckrt_main::Config;
-use std::alloc::Global;
-use std::process::Abort;
+use crate::schedules::{Around, NOTHING_ELSE, SCHEDULES, expect_console};
 use std::test::Fail;
 
 /// Two producers and two consumers over a buffer of two places: each producer puts 10 to 1, and the sum, 110, is
@@ -217,99 +214,32 @@ const READERS: [u32; 41] = [
     0x00008067, // jalr x0, 0(x1)
 ];
 
-/// Rounds of `auto` on each hart with this many steps, then these lines and a commit.
-pub fn rounds(
-    lines: &mut Vec<u8>,
-    alloc: Global,
-    harts: u32,
-    steps: u32,
-    count: u32,
-    each: &[u8],
-) -> Result<(), Fail> {
-    for _ in 0..count {
-        for hart in 0..harts {
-            let line = format!(in alloc; "auto {hart} {steps}\n")?;
-            lines.extend_from_slice(line.as_bytes())?;
-        }
-        lines.extend_from_slice(each)?;
-        lines.extend_from_slice(b"commit\n")?;
-    }
-    Ok(())
-}
-
-/// What the guest puts to the console for these lines, in hexadecimal digits.
-pub fn console(alloc: Global, words: &[u32], harts: u32, lines: &[u8]) -> Result<Vec<u8>, Fail> {
-    let config = Config {
-        pages: 16,
-        harts,
-        journal: 1_048_576,
-    };
-    let text = replies(alloc, words, config, lines)?;
-    let mut put = Vec::new(alloc);
-    for line in text.as_slice().split(|byte| *byte == b'\n') {
-        if line.starts_with(b"out ") {
-            let digits = line.rsplit(|byte| *byte == b' ').next();
-            if let Some(digits) = digits {
-                put.extend_from_slice(digits)?;
-            }
-        }
-    }
-    Ok(put)
-}
-
-/// Harts, steps in a row, and rounds.
-pub const SCHEDULES: [(u32, u32, u32); 5] = [
-    (1, 3, 1200),
-    (1, 50, 150),
-    (2, 7, 400),
-    (8, 4, 200),
-    (8, 1, 900),
-];
-
 #[test]
 fn bounded_buffer(rt: HostRuntime) -> Result<(), Fail> {
-    for (harts, steps, count) in SCHEDULES {
-        let mut lines = Vec::new(rt.alloc());
-        rounds(&mut lines, rt.alloc(), harts, steps, count, b"")?;
-        let put = console(rt.alloc(), &BOUNDED, harts, lines.as_slice())?;
-        assert_eq!(rt;
-            put.as_slice(),
-            b"6e".as_slice(),
-            "{harts} harts, {steps} steps"
-        );
-    }
-    Ok(())
+    expect_console(&rt, &BOUNDED, &SCHEDULES, NOTHING_ELSE, b"6e")
 }
+
+/// The threads are asleep before the clock begins to tick.
+const TICKS: Around = Around {
+    rounds_before: 60,
+    each_before: b"",
+    between: b"",
+    each: b"tick 1\n",
+};
 
 #[test]
 fn sleepers_wake_in_order(rt: HostRuntime) -> Result<(), Fail> {
-    for (harts, steps, count) in SCHEDULES {
-        let mut lines = Vec::new(rt.alloc());
-        rounds(&mut lines, rt.alloc(), harts, steps, 60, b"")?;
-        rounds(&mut lines, rt.alloc(), harts, steps, count, b"tick 1\n")?;
-        let put = console(rt.alloc(), &SLEEPERS, harts, lines.as_slice())?;
-        assert_eq!(rt;
-            put.as_slice(),
-            b"14283c".as_slice(),
-            "{harts} harts, {steps} steps"
-        );
-    }
-    Ok(())
+    expect_console(&rt, &SLEEPERS, &SCHEDULES, TICKS, b"14283c")
 }
+
+const INPUT: Around = Around {
+    rounds_before: 20,
+    each_before: b"in 0103\n",
+    between: b"eof\n",
+    each: b"",
+};
 
 #[test]
 fn readers_share_the_input(rt: HostRuntime) -> Result<(), Fail> {
-    for (harts, steps, count) in SCHEDULES {
-        let mut lines = Vec::new(rt.alloc());
-        rounds(&mut lines, rt.alloc(), harts, steps, 20, b"in 0103\n")?;
-        lines.extend_from_slice(b"eof\n")?;
-        rounds(&mut lines, rt.alloc(), harts, steps, count, b"")?;
-        let put = console(rt.alloc(), &READERS, harts, lines.as_slice())?;
-        assert_eq!(rt;
-            put.as_slice(),
-            b"50".as_slice(),
-            "{harts} harts, {steps} steps"
-        );
-    }
-    Ok(())
+    expect_console(&rt, &READERS, &SCHEDULES, INPUT, b"50")
 }

@@ -1,11 +1,12 @@
-//! The tables, the count and the granting at one type.
+//! What the tables of objects share, at a type of object that the guest does not have: the table, the count and the
+//! granting.
 ghost use Rattle.std.specs.Prelude.{Some, nat_lt, ◌-◌};
 
-use crate::{
+use arrayvec::ArrayVec;
+use ckrt_objects::{
     Entry, Grant, Named, are_limit_in_use, get, grant_waiters, is_full, is_in_use,
     is_named_by_wait, remove, store,
 };
-use arrayvec::ArrayVec;
 use ckrt_thread::{CallResult, Object, Reason, Threads, Wait};
 use std::alloc::{AllocError, Global};
 use std::process::Abort;
