@@ -1,146 +1,141 @@
 // Worked values of the disks in memory, and real files.
-use ckrt_disk::{
-    DeviceFault, Disk, FailingDisk, FileDisk, MemoryDisk, MemoryFile, StoppingDisk, SystemFile,
-    write_synced,
+use crate::expect::{
+    copied, expect_bytes, expect_eq, expect_failed_read, expect_read, expect_sync, expect_text,
+    expect_write, memory_disk, remove_file, stopping_disk, write_file,
 };
-use std::fs::{self, OpenOptions};
+use ckrt_disk::{DeviceFault, Disk, FailingDisk, FileDisk, MemoryFile, SystemFile, write_synced};
+use std::fs::{File, Files, OpenOptions};
 use std::marker::Brand;
-use std::test::Fail;
+use std::process::Abort;
 
 type RealDisk = FileDisk<SystemFile<Brand>>;
 
-// 8 zero bytes; [1, 2, 3] is written at 2, and that call is the stop.
+/// 8 zero bytes; [1, 2, 3] is written at 2, and that call is the stop.
+fn expect_stop_leaves<R: Abort + AllocGlobal>(rt: &R, fill: &[u8], left: &[u8]) {
+    let mut disk = stopping_disk(rt, copied(rt, &[0; 8]), 1, fill);
+    expect_eq(rt, disk.size(), 8);
+    expect_write(rt, &mut disk, 2, &[1, 2, 3], Err(DeviceFault));
+    expect_sync(rt, &mut disk, Err(DeviceFault));
+    expect_failed_read(rt, &mut disk, 0, 1);
+    expect_eq(rt, disk.calls(), 2);
+    expect_bytes(rt, disk.into_image().as_slice(), left);
+}
+
 #[test]
-fn fill_is_laid_over_pending_bytes(rt: HostRuntime) -> Result<(), Fail> {
-    let table: [(&[u8], [u8; 8]); 3] = [
-        (&[0xa5, 0x00], [0, 0, 0xa5, 0x00, 0xa5, 0, 0, 0]),
-        (&[], [0, 0, 1, 2, 3, 0, 0, 0]),
-        (&[7, 8, 9, 10], [0, 0, 7, 8, 9, 0, 0, 0]),
-    ];
-    for (fill, want) in table {
-        let image = [0u8; 8].to_vec(rt.alloc())?;
-        let mut disk = StoppingDisk::new(rt.alloc(), image, 1, fill.to_vec(rt.alloc())?)?;
-        assert_eq!(rt; disk.size(), 8);
-        assert_eq!(rt; disk.write(2, &[1, 2, 3]), Err(DeviceFault));
-        assert_eq!(rt; disk.sync(), Err(DeviceFault), "a later sync");
-        assert_eq!(rt; disk.read(0, &mut [0u8]), Err(DeviceFault), "a later read");
-        assert_eq!(rt; disk.calls(), 2);
-        assert_eq!(rt; disk.into_image().as_slice(), want.as_slice());
-    }
-    Ok(())
+fn fill_is_laid_over_pending_bytes(rt: HostRuntime) {
+    expect_stop_leaves(&rt, &[0xa5, 0x00], &[0, 0, 0xa5, 0x00, 0xa5, 0, 0, 0]);
+    expect_stop_leaves(&rt, &[], &[0, 0, 1, 2, 3, 0, 0, 0]);
+    expect_stop_leaves(&rt, &[7, 8, 9, 10], &[0, 0, 7, 8, 9, 0, 0, 0]);
+}
+
+/// A write and a sync that are done.
+fn expect_synced<R: Abort, D: Disk>(rt: &R, disk: &mut D, at: usize, bytes: &[u8]) {
+    let size = disk.size();
+    assert!(rt; at <= size && bytes.len() <= size - at);
+    expect_eq(rt, write_synced(disk, at, bytes), Ok(()));
 }
 
 // Synced bytes stay, and the fill goes over several ranges by rising offset.
 #[test]
-fn fill_leaves_synced_bytes(rt: HostRuntime) -> Result<(), Fail> {
-    let image = [0u8; 8].to_vec(rt.alloc())?;
-    let fill = [0xa5, 0x5a, 0xc3].to_vec(rt.alloc())?;
-    let mut disk = StoppingDisk::new(rt.alloc(), image, 4, fill)?;
-    assert_eq!(rt; disk.size(), 8);
-    assert_eq!(rt; write_synced(&mut disk, 0, &[9, 9, 9]), Ok(()));
-    assert_eq!(rt; disk.write(5, &[1, 2]), Ok(()));
-    assert_eq!(rt; disk.write(1, &[3]), Err(DeviceFault));
-    assert_eq!(rt;
+fn fill_leaves_synced_bytes(rt: HostRuntime) {
+    let mut disk = stopping_disk(&rt, copied(&rt, &[0; 8]), 4, &[0xa5, 0x5a, 0xc3]);
+    expect_eq(&rt, disk.size(), 8);
+    expect_synced(&rt, &mut disk, 0, &[9, 9, 9]);
+    expect_write(&rt, &mut disk, 5, &[1, 2], Ok(()));
+    expect_write(&rt, &mut disk, 1, &[3], Err(DeviceFault));
+    expect_bytes(
+        &rt,
         disk.into_image().as_slice(),
-        [9, 0xa5, 9, 0, 0, 0x5a, 0xc3, 0].as_slice()
+        &[9, 0xa5, 9, 0, 0, 0x5a, 0xc3, 0],
     );
-    Ok(())
 }
 
 // Just that call fails, and isn't done.
 #[test]
-fn one_call_fails(rt: HostRuntime) -> Result<(), Fail> {
-    let mut disk = MemoryDisk::new(rt.alloc(), [0u8; 4].to_vec(rt.alloc())?)?;
-    assert_eq!(rt; disk.size(), 4);
-    assert_eq!(rt; disk.write(0, &[1]), Ok(()));
-    assert_eq!(rt; format!(in rt.alloc(); "{DeviceFault}")?.as_str(), "Device");
+fn one_call_fails(rt: HostRuntime) {
+    let mut disk = memory_disk(&rt, copied(&rt, &[0; 4]));
+    expect_eq(&rt, disk.size(), 4);
+    expect_write(&rt, &mut disk, 0, &[1], Ok(()));
+    expect_text(&rt, DeviceFault, "Device");
     let mut disk = FailingDisk::new(disk, 2);
-    assert_eq!(rt; disk.size(), 4);
-    let mut buf = [0u8; 2];
-    assert_eq!(rt; disk.read(0, &mut buf), Ok(()));
-    assert_eq!(rt; disk.write(1, &[2]), Err(DeviceFault));
-    assert_eq!(rt; disk.write(2, &[3]), Ok(()));
-    assert_eq!(rt; disk.sync(), Ok(()));
-    assert_eq!(rt;
-        disk.into_inner().into_image().as_slice(),
-        [1, 0, 3, 0].as_slice()
-    );
-    Ok(())
+    expect_eq(&rt, disk.size(), 4);
+    expect_read(&rt, &mut disk, 0, &[1, 0]);
+    expect_write(&rt, &mut disk, 1, &[2], Err(DeviceFault));
+    expect_write(&rt, &mut disk, 2, &[3], Ok(()));
+    expect_sync(&rt, &mut disk, Ok(()));
+    let image = disk.into_inner().into_image();
+    expect_bytes(&rt, image.as_slice(), &[1, 0, 3, 0]);
+}
+
+/// The disk over a file that is there.
+fn opened<R: Abort + Files<File = File>>(rt: &R, path: &str) -> RealDisk {
+    RealDisk::open(rt, path).expect(rt, "the file is opened")
+}
+
+/// A missing file, or a folder.
+fn expect_unopened<R: Abort + Files<File = File>>(rt: &R, path: &str) {
+    assert!(rt; RealDisk::open(rt, path).is_err(), "{path}");
 }
 
 // A real file is written, synced, closed, opened and read back.
 #[test]
-fn file_keeps_what_was_synced(rt: HostRuntime) -> Result<(), Fail> {
+fn file_keeps_what_was_synced(rt: HostRuntime) {
     let path = "file_disk_test.img";
-    fs::write(&rt, path, [0u8; 6].as_slice())?;
-    let mut disk = RealDisk::open(&rt, path)?;
-    assert_eq!(rt; disk.size(), 6);
-    assert_eq!(rt; write_synced(&mut disk, 1, &[4, 5]), Ok(()));
-    let mut disk = RealDisk::open(&rt, path)?;
-    assert_eq!(rt; disk.size(), 6);
-    let mut buf = [0u8; 3];
-    assert_eq!(rt; disk.read(1, &mut buf), Ok(()));
-    assert_eq!(rt; buf, [4, 5, 0]);
+    write_file(&rt, path, &[0; 6]);
+    let mut disk = opened(&rt, path);
+    expect_eq(&rt, disk.size(), 6);
+    expect_synced(&rt, &mut disk, 1, &[4, 5]);
+    let mut disk = opened(&rt, path);
+    expect_eq(&rt, disk.size(), 6);
+    expect_read(&rt, &mut disk, 1, &[4, 5, 0]);
 
     // The file shrinks behind the disk's back: a read past its end is a device fault.
-    fs::write(&rt, path, [0u8; 2].as_slice())?;
-    assert_eq!(rt; disk.read(1, &mut buf), Err(DeviceFault));
-    fs::remove_file(&rt, path)?;
-    assert!(rt; RealDisk::open(&rt, path).is_err(), "a missing file");
-    assert!(rt; RealDisk::open(&rt, ".").is_err(), "a directory");
-    Ok(())
+    write_file(&rt, path, &[0; 2]);
+    expect_failed_read(&rt, &mut disk, 1, 3);
+    remove_file(&rt, path);
+    expect_unopened(&rt, path);
+    expect_unopened(&rt, ".");
 }
 
-// Whatever the system transfers at once, and however often a signal interrupts it, all is written and read.
+/// Whatever the system transfers at once, up to these limits, all is written and read; at 0 a signal interrupts it.
+fn expect_continued<R: Abort + AllocGlobal>(rt: &R, limits: &[usize]) {
+    let limits = limits.to_vec(rt.alloc()).expect(rt, "memory for limits");
+    let mut disk = FileDisk::new(MemoryFile::new(copied(rt, &[7; 8]), limits), 8);
+    expect_eq(rt, disk.size(), 8);
+    expect_synced(rt, &mut disk, 2, &[1, 2, 3, 4]);
+    expect_read(rt, &mut disk, 1, &[7, 1, 2, 3, 4, 7]);
+}
+
 #[test]
-fn short_and_interrupted_calls_are_continued(rt: HostRuntime) -> Result<(), Fail> {
-    for limits in [
-        [].as_slice(),
-        &[1, 0, 2, 0, 0, 1, 2, 1, 1],
-        &[0, 3, 1, 0, 4],
-        &[9, 9],
-    ] {
-        let bytes = [7u8; 8].to_vec(rt.alloc())?;
-        let file = MemoryFile::new(bytes, limits.to_vec(rt.alloc())?);
-        let mut disk = FileDisk::new(file, 8);
-        assert_eq!(rt; disk.size(), 8);
-        assert_eq!(rt; write_synced(&mut disk, 2, &[1, 2, 3, 4]), Ok(()));
-        let mut buf = [0u8; 6];
-        assert_eq!(rt; disk.read(1, &mut buf), Ok(()));
-        assert_eq!(rt; buf, [7, 1, 2, 3, 4, 7]);
-    }
-    Ok(())
+fn short_and_interrupted_calls_are_continued(rt: HostRuntime) {
+    expect_continued(&rt, &[]);
+    expect_continued(&rt, &[1, 0, 2, 0, 0, 1, 2, 1, 1]);
+    expect_continued(&rt, &[0, 3, 1, 0, 4]);
+    expect_continued(&rt, &[9, 9]);
 }
 
 // A file that ends before what is asked is a device fault, and what is there is still read.
 #[test]
-fn a_short_file_is_a_device_fault(rt: HostRuntime) -> Result<(), Fail> {
-    let file = MemoryFile::new([1u8, 2, 3].to_vec(rt.alloc())?, Vec::new(rt.alloc()));
+fn a_short_file_is_a_device_fault(rt: HostRuntime) {
+    let file = MemoryFile::new(copied(&rt, &[1, 2, 3]), Vec::new(rt.alloc()));
     let mut disk = FileDisk::new(file, 8);
-    let mut buf = [0u8; 2];
-    assert_eq!(rt; disk.size(), 8);
-    assert_eq!(rt; disk.read(2, &mut buf), Err(DeviceFault));
-    assert_eq!(rt; disk.write(3, &[9]), Err(DeviceFault));
-    assert_eq!(rt; disk.read(1, &mut buf), Ok(()));
-    assert_eq!(rt; buf, [2, 3]);
-    Ok(())
+    expect_eq(&rt, disk.size(), 8);
+    expect_failed_read(&rt, &mut disk, 2, 2);
+    expect_write(&rt, &mut disk, 3, &[9], Err(DeviceFault));
+    expect_read(&rt, &mut disk, 1, &[2, 3]);
 }
 
 // A device that is always full takes no byte and reads as zeros. A machine without one is not tested.
 #[test]
-fn a_full_device_is_a_device_fault(rt: HostRuntime) -> Result<(), Fail> {
-    let Ok(file) = OpenOptions::new()
+fn a_full_device_is_a_device_fault(rt: HostRuntime) {
+    let opened = OpenOptions::new()
         .read(true)
         .write(true)
-        .open(&rt, "/dev/full")
-    else {
-        return Ok(());
-    };
-    let mut disk: RealDisk = FileDisk::new(SystemFile::new(file), 8);
-    let mut buf = [1u8; 3];
-    assert_eq!(rt; disk.size(), 8);
-    assert_eq!(rt; disk.write(2, &[1, 2, 3]), Err(DeviceFault));
-    assert_eq!(rt; disk.read(2, &mut buf), Ok(()));
-    assert_eq!(rt; buf, [0, 0, 0]);
-    Ok(())
+        .open(&rt, "/dev/full");
+    if let Ok(file) = opened {
+        let mut disk: RealDisk = FileDisk::new(SystemFile::new(file), 8);
+        expect_eq(&rt, disk.size(), 8);
+        expect_write(&rt, &mut disk, 2, &[1, 2, 3], Err(DeviceFault));
+        expect_read(&rt, &mut disk, 2, &[0, 0, 0]);
+    }
 }

@@ -1,199 +1,162 @@
 // Worked values of a freshly formatted disk, and what is refused.
-use crate::small_disk::{IMAGE, SIZE, SMALL};
-use ckrt_disk::{FailingDisk, MemoryDisk, StoppingDisk};
-use ckrt_recovery::{Config, FormatFault, format};
-use std::alloc::{AllocError, Global};
-use std::test::Fail;
+use crate::expect::{expect_eq, expect_eq_at, filled, memory_disk, stopping_disk};
+use crate::small_disk::{IMAGE, SIZE, SMALL, expect_format, format_outcome};
+use ckrt_disk::FailingDisk;
+use ckrt_recovery::{Config, FormatFault};
+use std::process::Abort;
 
-// A disk of so many bytes, each EE.
-fn used_disk(alloc: Global, size: usize) -> Result<MemoryDisk, AllocError> {
-    MemoryDisk::new(alloc, vec![in alloc; 0xee; size]?)
+/// The bytes from an offset on.
+fn expect_part<R: Abort>(rt: &R, bytes: &[u8], at: usize, part: &[u8]) {
+    let (_, rest) = bytes.split_at_checked(at).unwrap_or((&[], &[]));
+    expect_eq_at(rt, at, rest.starts_with(part), true);
 }
 
-// What formatting a disk of so many bytes answers, with an image of so many zeros.
-fn answer(
-    alloc: Global,
+#[test]
+fn a_fresh_disk_has_these_bytes(rt: HostRuntime) {
+    let mut disk = memory_disk(&rt, filled(&rt, 0xee, SIZE));
+    expect_format(&rt, &mut disk, &IMAGE, Ok(()));
+    let image = disk.into_image();
+    let bytes = image.as_slice();
+    expect_part(
+        &rt,
+        bytes,
+        0,
+        &[0xa5, 0xee, 0xee, 0xee, 0xee, 0xee, 0xee, 0xee],
+    );
+    expect_part(&rt, bytes, 8, b"CKRTDISK");
+    expect_part(
+        &rt,
+        bytes,
+        16,
+        &[1, 0, 0, 0, 0x10, 0, 0, 0, 1, 0, 0, 0, 0, 0x10, 0, 0, 0xee],
+    );
+    // area 0: gate, generation 1, count 0, offset 0, tables of 170 bytes, version 1
+    expect_part(
+        &rt,
+        bytes,
+        4_096,
+        &[0xa5, 0xee, 0xee, 0xee, 0xee, 0xee, 0xee, 0xee],
+    );
+    expect_part(
+        &rt,
+        bytes,
+        4_104,
+        &[1, 0, 0, 0, 0, 0, 0, 0, 0, 0, 0, 0, 0, 0, 0, 0],
+    );
+    expect_part(
+        &rt,
+        bytes,
+        4_120,
+        &[0, 0, 0, 0, 0, 0, 0, 0, 0xaa, 0, 0, 0, 1, 0, 0, 0, 0xee],
+    );
+    // its tables: thread 1, with pc 1000, x1 FFFFFFF0 and x2 10000
+    expect_part(&rt, bytes, 8_192, &[0; 24]);
+    expect_part(&rt, bytes, 8_216, &[1, 1, 1, 0, 0, 0, 0, 0, 0]);
+    expect_part(
+        &rt,
+        bytes,
+        8_225,
+        &[0, 0x10, 0, 0, 0xf0, 0xff, 0xff, 0xff, 0, 0, 1, 0, 0],
+    );
+    expect_part(&rt, bytes, 8_361, &[0, 0xee]);
+    // its memory
+    expect_part(&rt, bytes, 110_592, &IMAGE);
+    expect_part(&rt, bytes, 110_616, &[0, 0]);
+    // area 1 and journal 0 are closed
+    expect_part(&rt, bytes, 172_032, &[0, 0xee]);
+    expect_part(&rt, bytes, 339_968, &[0, 0xee]);
+}
+
+/// A disk of so many bytes, formatted with an image of so many zeros.
+fn expect_answer<R: Abort + AllocGlobal>(
+    rt: &R,
     size: usize,
     config: Config,
     image_size: usize,
-) -> Result<Result<(), FormatFault>, AllocError> {
-    let image: Vec<u8> = vec![in alloc; 0; image_size]?;
-    let mut disk = used_disk(alloc, size)?;
-    Ok(format(alloc, &mut disk, config, &image))
+    want: Result<(), FormatFault>,
+) {
+    let image = filled(rt, 0, image_size);
+    let mut disk = memory_disk(rt, filled(rt, 0xee, size));
+    let answer = format_outcome(rt, &mut disk, config, image.as_slice());
+    assert_eq!(rt; answer, want, "{size} {image_size}");
+}
+
+/// A configuration that is refused, whatever else is right.
+fn expect_bad<R: Abort + AllocGlobal>(rt: &R, pages: u32, harts: u32, journal: u32) {
+    let config = Config {
+        pages,
+        harts,
+        journal,
+    };
+    expect_answer(rt, SIZE, config, 0, Err(FormatFault::BadConfig));
 }
 
 #[test]
-fn a_fresh_disk_has_these_bytes(rt: HostRuntime) -> Result<(), Fail> {
-    let mut disk = used_disk(rt.alloc(), SIZE)?;
-    assert_eq!(rt; format(rt.alloc(), &mut disk, SMALL, &IMAGE), Ok(()));
-    let bytes = disk.into_image();
-    let wanted: [(usize, &[u8]); 14] = [
-        (0, &[0xa5, 0xee, 0xee, 0xee, 0xee, 0xee, 0xee, 0xee]),
-        (8, b"CKRTDISK"),
-        (
-            16,
-            &[1, 0, 0, 0, 0x10, 0, 0, 0, 1, 0, 0, 0, 0, 0x10, 0, 0, 0xee],
-        ),
-        // area 0: gate, generation 1, count 0, offset 0, tables of 170 bytes, version 1
-        (4_096, &[0xa5, 0xee, 0xee, 0xee, 0xee, 0xee, 0xee, 0xee]),
-        (4_104, &[1, 0, 0, 0, 0, 0, 0, 0, 0, 0, 0, 0, 0, 0, 0, 0]),
-        (
-            4_120,
-            &[0, 0, 0, 0, 0, 0, 0, 0, 0xaa, 0, 0, 0, 1, 0, 0, 0, 0xee],
-        ),
-        // its tables: thread 1, with pc 1000, x1 FFFFFFF0 and x2 10000
-        (8_192, &[0; 24]),
-        (8_216, &[1, 1, 1, 0, 0, 0, 0, 0, 0]),
-        (
-            8_225,
-            &[0, 0x10, 0, 0, 0xf0, 0xff, 0xff, 0xff, 0, 0, 1, 0, 0],
-        ),
-        (8_361, &[0, 0xee]),
-        // its memory
-        (110_592, &IMAGE),
-        (110_616, &[0, 0]),
-        // area 1 and journal 0 are closed
-        (172_032, &[0, 0xee]),
-        (339_968, &[0, 0xee]),
-    ];
-    for (at, part) in wanted {
-        let (_, rest) = bytes.as_slice().split_at_checked(at).unwrap_or((&[], &[]));
-        assert!(rt; rest.starts_with(part), "the bytes from {at} on");
-    }
-    Ok(())
-}
-
-#[test]
-fn sizes_are_tested_in_order(rt: HostRuntime) -> Result<(), Fail> {
+fn sizes_are_tested_in_order(rt: HostRuntime) {
+    expect_answer(&rt, SIZE, SMALL, 24, Ok(()));
+    expect_answer(&rt, SIZE - 1, SMALL, 24, Err(FormatFault::TooSmall));
+    expect_answer(&rt, SIZE, SMALL, 61_440, Ok(()));
+    expect_answer(&rt, SIZE, SMALL, 61_441, Err(FormatFault::ImageTooLong));
+    expect_answer(&rt, SIZE - 1, SMALL, 61_441, Err(FormatFault::ImageTooLong));
     let bad = Config { pages: 15, ..SMALL };
-    let table = [
-        (SIZE, SMALL, 24, Ok(())),
-        (SIZE - 1, SMALL, 24, Err(FormatFault::TooSmall)),
-        (SIZE, SMALL, 61_440, Ok(())),
-        (SIZE, SMALL, 61_441, Err(FormatFault::ImageTooLong)),
-        (SIZE - 1, SMALL, 61_441, Err(FormatFault::ImageTooLong)),
-        (SIZE - 1, bad, 61_441, Err(FormatFault::BadConfig)),
-        (0, SMALL, 0, Err(FormatFault::TooSmall)),
-        (
-            SIZE,
-            Config { harts: 0, ..SMALL },
-            0,
-            Err(FormatFault::BadConfig),
-        ),
-        (
-            SIZE,
-            Config { harts: 9, ..SMALL },
-            0,
-            Err(FormatFault::BadConfig),
-        ),
-        (
-            SIZE,
-            Config {
-                journal: 4_097,
-                ..SMALL
-            },
-            0,
-            Err(FormatFault::BadConfig),
-        ),
-        (
-            SIZE,
-            Config {
-                journal: 0,
-                ..SMALL
-            },
-            0,
-            Err(FormatFault::BadConfig),
-        ),
-        (
-            SIZE,
-            Config {
-                journal: 1_052_672,
-                ..SMALL
-            },
-            0,
-            Err(FormatFault::BadConfig),
-        ),
-        (
-            SIZE,
-            Config {
-                pages: 1_025,
-                ..SMALL
-            },
-            0,
-            Err(FormatFault::BadConfig),
-        ),
-    ];
-    for (size, config, image_size, want) in table {
-        assert_eq!(rt;
-            answer(rt.alloc(), size, config, image_size)?,
-            want,
-            "{size} {image_size}"
-        );
-    }
-    Ok(())
+    expect_answer(&rt, SIZE - 1, bad, 61_441, Err(FormatFault::BadConfig));
+    expect_answer(&rt, 0, SMALL, 0, Err(FormatFault::TooSmall));
+    expect_bad(&rt, 16, 0, 4_096);
+    expect_bad(&rt, 16, 9, 4_096);
+    expect_bad(&rt, 16, 1, 4_097);
+    expect_bad(&rt, 16, 1, 0);
+    expect_bad(&rt, 16, 1, 1_052_672);
+    expect_bad(&rt, 1_025, 1, 4_096);
+}
+
+/// The bytes of a disk with an open first gate, and EE behind it.
+fn used_but_open<R: Abort + AllocGlobal>(rt: &R) -> Vec<u8> {
+    let mut bytes = filled(rt, 0xa5, 1);
+    bytes.resize(SIZE, 0xee).expect(rt, "memory for a disk");
+    bytes
 }
 
 #[test]
-fn a_formatted_disk_is_left_as_it_is(rt: HostRuntime) -> Result<(), Fail> {
-    let mut before = Vec::new(rt.alloc());
-    before.extend_from_slice(&[0xa5])?;
-    before.resize(SIZE, 0xee)?;
-    let mut disk = StoppingDisk::new(
-        rt.alloc(),
-        before.as_slice().to_vec(rt.alloc())?,
-        0,
-        Vec::new(rt.alloc()),
-    )?;
-    assert_eq!(rt;
-        format(rt.alloc(), &mut disk, SMALL, &IMAGE),
-        Err(FormatFault::AlreadyFormatted)
-    );
-    assert_eq!(rt; disk.calls(), 1);
+fn a_formatted_disk_is_left_as_it_is(rt: HostRuntime) {
+    let before = used_but_open(&rt);
+    let mut disk = stopping_disk(&rt, used_but_open(&rt), 0, &[]);
+    expect_format(&rt, &mut disk, &IMAGE, Err(FormatFault::AlreadyFormatted));
+    expect_eq(&rt, disk.calls(), 1);
     assert!(rt; disk.into_image().as_slice() == before.as_slice());
-    Ok(())
+}
+
+/// A format of zeros that stops at a call, and whether the first gate is open then.
+fn expect_gate<R: Abort + AllocGlobal>(rt: &R, at_call: u64, fill: &[u8], is_open: bool) {
+    let mut disk = stopping_disk(rt, filled(rt, 0, SIZE), at_call, fill);
+    expect_format(rt, &mut disk, &IMAGE, Err(FormatFault::Device));
+    let left = disk.into_image();
+    expect_eq_at(rt, at_call, left.starts_with(&[0xa5]), is_open);
 }
 
 // A stop before the last write leaves the first gate closed; one in it or its sync leaves it as it was filled.
 #[test]
-fn the_first_gate_is_opened_last(rt: HostRuntime) -> Result<(), Fail> {
+fn the_first_gate_is_opened_last(rt: HostRuntime) {
     for at_call in 1..12u64 {
-        for (fill, is_open) in [([0xa5u8].as_slice(), true), (&[0], false), (&[], true)] {
-            let image = vec![in rt.alloc(); 0; SIZE]?;
-            let mut disk = StoppingDisk::new(rt.alloc(), image, at_call, fill.to_vec(rt.alloc())?)?;
-            assert_eq!(rt;
-                format(rt.alloc(), &mut disk, SMALL, &IMAGE),
-                Err(FormatFault::Device)
-            );
-            let left = disk.into_image();
-            assert_eq!(rt;
-                left.starts_with(&[0xa5]),
-                at_call > 9 && is_open,
-                "call {at_call}"
-            );
-        }
+        let is_last = at_call > 9;
+        expect_gate(&rt, at_call, &[0xa5], is_last);
+        expect_gate(&rt, at_call, &[0], false);
+        expect_gate(&rt, at_call, &[], is_last);
     }
-    Ok(())
+}
+
+/// A format that fails at a call, and what the next one answers.
+fn expect_again<R: Abort + AllocGlobal>(rt: &R, at_call: u64, again: Result<(), FormatFault>) {
+    let mut disk = FailingDisk::new(memory_disk(rt, filled(rt, 0xee, SIZE)), at_call);
+    expect_format(rt, &mut disk, &IMAGE, Err(FormatFault::Device));
+    let answer = format_outcome(rt, &mut disk, SMALL, &IMAGE);
+    expect_eq_at(rt, at_call, answer, again);
 }
 
 // A failed call is answered Device, and the disk can be formatted afterwards, unless its gate is open already.
 #[test]
-fn a_disk_that_failed_can_be_formatted(rt: HostRuntime) -> Result<(), Fail> {
-    for at_call in 1..13u64 {
-        let mut disk = FailingDisk::new(used_disk(rt.alloc(), SIZE)?, at_call);
-        assert_eq!(rt;
-            format(rt.alloc(), &mut disk, SMALL, &IMAGE),
-            Err(FormatFault::Device)
-        );
-        let again = if at_call == 12 {
-            Err(FormatFault::AlreadyFormatted)
-        } else {
-            Ok(())
-        };
-        assert_eq!(rt;
-            format(rt.alloc(), &mut disk, SMALL, &IMAGE),
-            again,
-            "call {at_call}"
-        );
+fn a_disk_that_failed_can_be_formatted(rt: HostRuntime) {
+    for at_call in 1..12u64 {
+        expect_again(&rt, at_call, Ok(()));
     }
-    Ok(())
+    expect_again(&rt, 12, Err(FormatFault::AlreadyFormatted));
 }

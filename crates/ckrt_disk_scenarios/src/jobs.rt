@@ -1,7 +1,8 @@
+use crate::expect::{expect_eq, filled, remove_file, write_file};
 use crate::small_disk::IMAGE;
 use ckrt_jobs::run_words;
 use std::fs::{self, File, Files};
-use std::test::Fail;
+use std::process::Abort;
 
 /// What the program printed, and its status.
 #[derive(Drop)]
@@ -20,16 +21,43 @@ impl Printed {
     }
 }
 
-fn ckrt<R: Files<File = File> + AllocGlobal>(rt: &R, words: &[&str], lines: &str) -> Printed {
+/// Runs the program with these words, between which spaces stand, and these lines.
+fn ckrt<R: Abort + Files<File = File> + AllocGlobal>(rt: &R, words: &str, lines: &str) -> Printed {
+    let words: Vec<&str> = words
+        .split_whitespace()
+        .collect(rt.alloc())
+        .expect(rt, "memory for words");
     let mut reader = lines.as_bytes();
     let mut output = Vec::new(rt.alloc());
     let mut errors = Vec::new(rt.alloc());
-    let status = run_words(rt, rt.alloc(), words, &mut reader, &mut output, &mut errors);
+    let status = run_words(
+        rt,
+        rt.alloc(),
+        words.as_slice(),
+        &mut reader,
+        &mut output,
+        &mut errors,
+    );
     Printed {
         output,
         errors,
         status,
     }
+}
+
+/// Words and lines to which the program prints this, with status 0.
+fn expect_output<R: Abort + Files<File = File> + AllocGlobal>(
+    rt: &R,
+    words: &str,
+    lines: &str,
+    output: &str,
+) {
+    assert!(rt; ckrt(rt, words, lines).is(output, "", 0), "{words}");
+}
+
+/// Words to which the program prints nothing but a fault, with status 1.
+fn expect_fault<R: Abort + Files<File = File> + AllocGlobal>(rt: &R, words: &str, fault: &str) {
+    assert!(rt; ckrt(rt, words, LINES).is("", fault, 1), "{words}");
 }
 
 const LINES: &str = "place 0 1\nrun 0 6\ncommit\nquit\n";
@@ -38,163 +66,133 @@ const REPLIES: &str = "ok 1 placed\nok 2 ran 6 end\nack 2\nout 0 41\n";
 
 #[test]
 fn no_words_serve_the_stored_program(rt: HostRuntime) {
-    assert!(rt; ckrt(&rt, &[], LINES).is(REPLIES, "", 0));
+    expect_output(&rt, "", LINES, REPLIES);
+}
+
+/// A file's length.
+fn expect_length<R: Abort + Files<File = File>>(rt: &R, path: &str, length: u64) {
+    let metadata = fs::metadata(rt, path).expect(rt, "the file is there");
+    expect_eq(rt, metadata.len(), length);
 }
 
 #[test]
-fn a_disk_is_made_run_and_run_again(rt: HostRuntime) -> Result<(), Fail> {
-    fs::write(&rt, "jobs_a.img", IMAGE.as_slice())?;
-    let made = ckrt(
-        &rt,
-        &[
-            "format",
-            "jobs_a.disk",
-            "jobs_a.img",
-            "--pages",
-            "16",
-            "--journal",
-            "4096",
-        ],
-        "",
-    );
-    assert!(rt; made.is("formatted 348160\n", "", 0));
-    assert_eq!(rt; fs::metadata(&rt, "jobs_a.disk")?.len(), 348_160);
-    assert!(rt; ckrt(&rt, &["run", "jobs_a.disk"], LINES).is(REPLIES, "", 0));
+fn a_disk_is_made_run_and_run_again(rt: HostRuntime) {
+    let format = "format jobs_a.disk jobs_a.img --pages 16 --journal 4096";
+    let run = "run jobs_a.disk";
+    write_file(&rt, "jobs_a.img", &IMAGE);
+    expect_output(&rt, format, "", "formatted 348160\n");
+    expect_length(&rt, "jobs_a.disk", 348_160);
+    expect_output(&rt, run, LINES, REPLIES);
     // what was confirmed isn't on the disk
-    let again = ckrt(&rt, &["run", "jobs_a.disk"], "run 0 1\n");
-    assert!(rt; again.is("out 0 41\nno 1 Ended\n", "", 0));
-    let twice = ckrt(
-        &rt,
-        &[
-            "format",
-            "jobs_a.disk",
-            "jobs_a.img",
-            "--pages",
-            "16",
-            "--journal",
-            "4096",
-        ],
-        "",
-    );
-    assert!(rt; twice.is("", "ckrt: AlreadyFormatted\n", 1));
-    assert!(rt; ckrt(&rt, &["run", "jobs_a.disk"], "").is("out 0 41\n", "", 0));
-    fs::remove_file(&rt, "jobs_a.disk")?;
-    fs::remove_file(&rt, "jobs_a.img")?;
-    Ok(())
+    expect_output(&rt, run, "run 0 1\n", "out 0 41\nno 1 Ended\n");
+    expect_fault(&rt, format, "ckrt: AlreadyFormatted\n");
+    expect_output(&rt, run, "", "out 0 41\n");
+    remove_file(&rt, "jobs_a.disk");
+    remove_file(&rt, "jobs_a.img");
 }
 
 #[test]
-fn defaults_have_their_size(rt: HostRuntime) -> Result<(), Fail> {
-    fs::write(&rt, "jobs_b.img", IMAGE.as_slice())?;
-    let made = ckrt(&rt, &["format", "jobs_b.disk", "jobs_b.img"], "");
-    assert!(rt; made.is("formatted 864256\n", "", 0));
-    fs::remove_file(&rt, "jobs_b.disk")?;
-    fs::remove_file(&rt, "jobs_b.img")?;
-    Ok(())
+fn defaults_have_their_size(rt: HostRuntime) {
+    write_file(&rt, "jobs_b.img", &IMAGE);
+    expect_output(
+        &rt,
+        "format jobs_b.disk jobs_b.img",
+        "",
+        "formatted 864256\n",
+    );
+    remove_file(&rt, "jobs_b.disk");
+    remove_file(&rt, "jobs_b.img");
 }
 
-#[test]
-fn a_longer_file_keeps_what_stands_behind(rt: HostRuntime) -> Result<(), Fail> {
-    fs::write(&rt, "jobs_c.img", IMAGE.as_slice())?;
-    let long = vec![in rt.alloc(); 0x77u8; 348_170]?;
-    fs::write(&rt, "jobs_c.disk", long.as_slice())?;
-    let made = ckrt(
-        &rt,
-        &[
-            "format",
-            "jobs_c.disk",
-            "jobs_c.img",
-            "--pages=16",
-            "--journal=4096",
-        ],
-        "",
-    );
-    assert!(rt; made.is("formatted 348160\n", "", 0));
-    let left = fs::read(&rt, "jobs_c.disk")?;
-    assert_eq!(rt; left.len(), 348_170);
+/// A file of 348,170 bytes of 77.
+fn write_long_file<R: Abort + Files<File = File> + AllocGlobal>(rt: &R, path: &str) {
+    let bytes = filled(rt, 0x77, 348_170);
+    write_file(rt, path, bytes.as_slice());
+}
+
+/// The last ten of so many bytes are 77 still.
+fn expect_long_end<R: Abort + Files<File = File> + AllocGlobal>(rt: &R, path: &str) {
+    let left = fs::read(rt, path).expect(rt, "the file is read");
+    expect_eq(rt, left.len(), 348_170);
     assert!(rt; left.as_slice().ends_with([0x77u8; 10].as_slice()));
-    fs::remove_file(&rt, "jobs_c.disk")?;
-    fs::remove_file(&rt, "jobs_c.img")?;
-    Ok(())
+}
+
+#[test]
+fn a_longer_file_keeps_what_stands_behind(rt: HostRuntime) {
+    let format = "format jobs_c.disk jobs_c.img --pages=16 --journal=4096";
+    write_file(&rt, "jobs_c.img", &IMAGE);
+    write_long_file(&rt, "jobs_c.disk");
+    expect_output(&rt, format, "", "formatted 348160\n");
+    expect_long_end(&rt, "jobs_c.disk");
+    remove_file(&rt, "jobs_c.disk");
+    remove_file(&rt, "jobs_c.img");
+}
+
+/// No file is there.
+fn expect_absent<R: Abort + Files<File = File>>(rt: &R, path: &str) {
+    assert!(rt; !fs::exists(rt, path).expect(rt, "the folder is read"));
 }
 
 // The image is tested before the disk is touched, and the configuration before the image.
 #[test]
-fn faults_come_in_their_order(rt: HostRuntime) -> Result<(), Fail> {
-    let image = vec![in rt.alloc(); 0u8; 61_441]?;
-    fs::write(&rt, "jobs_d.img", image.as_slice())?;
-    let config = ckrt(
+fn faults_come_in_their_order(rt: HostRuntime) {
+    let image = filled(&rt, 0, 61_441);
+    write_file(&rt, "jobs_d.img", image.as_slice());
+    let config = "ckrt: BadConfig\n";
+    expect_fault(&rt, "format jobs_d.disk jobs_none.img --pages 15", config);
+    expect_fault(&rt, "format jobs_d.disk jobs_none.img --harts 9", config);
+    expect_fault(
         &rt,
-        &["format", "jobs_d.disk", "jobs_none.img", "--pages", "15"],
-        "",
+        "format jobs_d.disk jobs_none.img --journal 4097",
+        config,
     );
-    assert!(rt; config.is("", "ckrt: BadConfig\n", 1));
-    let harts = ckrt(
-        &rt,
-        &["format", "jobs_d.disk", "jobs_none.img", "--harts", "9"],
-        "",
-    );
-    assert!(rt; harts.is("", "ckrt: BadConfig\n", 1));
-    let journal = ckrt(
-        &rt,
-        &[
-            "format",
-            "jobs_d.disk",
-            "jobs_none.img",
-            "--journal",
-            "4097",
-        ],
-        "",
-    );
-    assert!(rt; journal.is("", "ckrt: BadConfig\n", 1));
-    let missing = ckrt(&rt, &["format", ".", "jobs_none.img", "--pages", "16"], "");
-    assert!(rt; missing.is("", "ckrt: File\n", 1));
-    let long = ckrt(
-        &rt,
-        &["format", "jobs_d.disk", "jobs_d.img", "--pages", "16"],
-        "",
-    );
-    assert!(rt; long.is("", "ckrt: ImageTooLong\n", 1));
-    assert!(rt; !fs::exists(&rt, "jobs_d.disk")?);
-    let folder = ckrt(&rt, &["format", ".", "jobs_d.img", "--pages", "17"], "");
-    assert!(rt; folder.is("", "ckrt: File\n", 1));
-    fs::remove_file(&rt, "jobs_d.img")?;
-    Ok(())
+    expect_fault(&rt, "format . jobs_none.img --pages 16", "ckrt: File\n");
+    let long = "ckrt: ImageTooLong\n";
+    expect_fault(&rt, "format jobs_d.disk jobs_d.img --pages 16", long);
+    expect_absent(&rt, "jobs_d.disk");
+    expect_fault(&rt, "format . jobs_d.img --pages 17", "ckrt: File\n");
+    remove_file(&rt, "jobs_d.img");
+}
+
+// A process's own memory is a file that opens and whose first byte can't be read, for root neither.
+#[test]
+fn an_image_that_cant_be_read_is_refused(rt: HostRuntime) {
+    expect_fault(&rt, "format jobs_g.disk /proc/self/mem", "ckrt: File\n");
+    expect_absent(&rt, "jobs_g.disk");
 }
 
 #[test]
-fn what_is_no_disk_isnt_run(rt: HostRuntime) -> Result<(), Fail> {
-    assert!(rt; ckrt(&rt, &["run", "jobs_none.disk"], LINES).is("", "ckrt: File\n", 1));
-    assert!(rt; ckrt(&rt, &["run", "."], LINES).is("", "ckrt: File\n", 1));
-    fs::write(&rt, "jobs_e.disk", b"CKRTDISK".as_slice())?;
-    assert!(rt; ckrt(&rt, &["run", "jobs_e.disk"], LINES).is("", "ckrt: NotFormatted\n", 1));
-    fs::remove_file(&rt, "jobs_e.disk")?;
-    Ok(())
+fn what_is_no_disk_isnt_run(rt: HostRuntime) {
+    expect_fault(&rt, "run jobs_none.disk", "ckrt: File\n");
+    expect_fault(&rt, "run .", "ckrt: File\n");
+    write_file(&rt, "jobs_e.disk", b"CKRTDISK");
+    expect_fault(&rt, "run jobs_e.disk", "ckrt: NotFormatted\n");
+    remove_file(&rt, "jobs_e.disk");
 }
 
 #[test]
-fn a_disk_in_use_is_refused(rt: HostRuntime) -> Result<(), Fail> {
-    fs::write(&rt, "jobs_f.disk", b"".as_slice())?;
-    let holder = File::open(&rt, "jobs_f.disk")?;
+fn a_disk_in_use_is_refused(rt: HostRuntime) {
+    write_file(&rt, "jobs_f.disk", b"");
+    let holder = File::open(&rt, "jobs_f.disk").expect(&rt, "the file is opened");
     assert!(rt; holder.try_lock().is_ok());
-    assert!(rt; ckrt(&rt, &["run", "jobs_f.disk"], LINES).is("", "ckrt: File\n", 1));
-    holder.unlock()?;
-    assert!(rt; ckrt(&rt, &["run", "jobs_f.disk"], LINES).is("", "ckrt: NotFormatted\n", 1));
-    fs::remove_file(&rt, "jobs_f.disk")?;
-    Ok(())
+    expect_fault(&rt, "run jobs_f.disk", "ckrt: File\n");
+    holder.unlock().expect(&rt, "the file is unlocked");
+    expect_fault(&rt, "run jobs_f.disk", "ckrt: NotFormatted\n");
+    remove_file(&rt, "jobs_f.disk");
+}
+
+/// Words that name no job.
+fn expect_usage<R: Abort + Files<File = File> + AllocGlobal>(rt: &R, words: &str) {
+    let printed = ckrt(rt, words, LINES);
+    expect_eq(rt, printed.status, 2);
+    assert!(rt; printed.output.is_empty());
+    assert!(rt; !printed.errors.is_empty());
 }
 
 #[test]
 fn words_that_name_no_job_print_the_usage(rt: HostRuntime) {
-    for words in [
-        ["frobnicate"].as_slice(),
-        &["--help"],
-        &["run"],
-        &["run", "a", "b"],
-    ] {
-        let printed = ckrt(&rt, words, LINES);
-        assert_eq!(rt; printed.status, 2);
-        assert!(rt; printed.output.is_empty());
-        assert!(rt; !printed.errors.is_empty());
-    }
+    expect_usage(&rt, "frobnicate");
+    expect_usage(&rt, "--help");
+    expect_usage(&rt, "run");
+    expect_usage(&rt, "run a b");
 }

@@ -4,6 +4,8 @@
 #[cfg(test)]
 mod disks;
 #[cfg(test)]
+mod expect;
+#[cfg(test)]
 mod formatting;
 #[cfg(test)]
 mod jobs;

@@ -1,49 +1,77 @@
 //! Power loss: what a stop or a failure of the disk at each call leaves, and how the program goes on from it.
-ghost use Rattle.ckrt_events.specs.Bytes.{IsInRange};
 
-use crate::small_disk::{IMAGE, SIZE, SMALL};
+use crate::expect::{
+    copied, expect_bytes, expect_eq, expect_eq_at, filled, memory_disk, stopping_disk,
+};
+use crate::small_disk::{
+    IMAGE, SIZE, SMALL, format_outcome, formatted, recovered, recovered_in_memory, recovery_outcome,
+};
 use arrayvec::ArrayVec;
-use ckrt_disk::{Disk, FailingDisk, MemoryDisk, StoppingDisk};
+use ckrt_disk::{Disk, FailingDisk};
 use ckrt_events::Event;
 use ckrt_machine::{Answer, How, Machine};
-use ckrt_recovery::{
-    CommitFault, FormatFault, RecoverFault, Session, SubmitFault, format, recover,
-};
+use ckrt_recovery::{CommitFault, FormatFault, RecoverFault, Session, SubmitFault};
 use std::process::Abort;
-use std::test::Fail;
 
 /// What a stop may lay over the bytes that aren't synced.
 const FILLS: [&[u8]; 5] = [&[0xa5], &[0], &[0xff], &[0xa5, 0], &[]];
 
-/// A disk of zeros with the image formatted onto it.
-fn formatted<R: Abort + AllocGlobal>(rt: &R) -> Result<Vec<u8>, Fail> {
-    let mut disk = MemoryDisk::new(rt.alloc(), vec![in rt.alloc(); 0; SIZE]?)?;
-    assert_eq!(rt; format(rt.alloc(), &mut disk, SMALL, &IMAGE), Ok(()));
-    Ok(disk.into_image())
-}
-
-/// The session that is recovered from a disk.
-fn recovered<R: Abort + AllocGlobal, D: Disk>(rt: &R, disk: D) -> Session<D> {
-    match recover(rt.alloc(), disk) {
-        Ok(session) => session,
-        Err(unrecovered) => panic!(rt; "{}", unrecovered.fault),
-    }
-}
-
-/// The session that is recovered from an image in memory.
-fn recovered_in_memory<R: Abort + AllocGlobal>(
+/// What a session answers to an event in range.
+fn submitted<R: Abort, D: Disk>(
     rt: &R,
-    image: Vec<u8>,
-) -> Result<Session<MemoryDisk>, Fail> {
-    Ok(recovered(rt, MemoryDisk::new(rt.alloc(), image)?))
+    session: &mut Session<D>,
+    event: &Event,
+) -> Result<(u64, Answer), SubmitFault> {
+    assert!(rt; event.in_range());
+    session.submit(event)
+}
+
+/// An event that a session accepts.
+fn expect_answer<R: Abort, D: Disk>(
+    rt: &R,
+    session: &mut Session<D>,
+    event: &Event,
+    count: u64,
+    answer: Answer,
+) {
+    expect_eq(rt, submitted(rt, session, event), Ok((count, answer)));
+}
+
+/// An event that a session refuses.
+fn expect_refusal<R: Abort, D: Disk>(
+    rt: &R,
+    session: &mut Session<D>,
+    event: &Event,
+    fault: SubmitFault,
+) {
+    expect_eq(rt, submitted(rt, session, event), Err(fault));
+}
+
+/// A commit, and what it answers.
+fn expect_commit<R: Abort, D: Disk>(
+    rt: &R,
+    session: &mut Session<D>,
+    want: Result<u64, CommitFault>,
+) {
+    expect_eq(rt, session.commit(), want);
+}
+
+/// The output that isn't confirmed.
+fn expect_output<R: Abort, D: Disk>(rt: &R, session: &mut Session<D>, offset: u64, bytes: &[u8]) {
+    let (at, output) = session.take_output();
+    expect_eq(rt, at, offset);
+    expect_bytes(rt, output, bytes);
+}
+
+/// A commit, where the disk doesn't fail.
+fn is_committed<D: Disk>(session: &mut Session<D>) -> bool {
+    session.commit().is_ok()
 }
 
 /// The event is submitted and committed, where the disk doesn't fail.
-fn submit_and_commit<R: Abort, D: Disk>(rt: &R, session: &mut Session<D>, event: &Event) -> bool
-    requires { IsInRange event.now }
-{
-    assert!(rt; session.submit(event).is_ok());
-    session.commit().is_ok()
+fn submit_and_commit<R: Abort, D: Disk>(rt: &R, session: &mut Session<D>, event: &Event) -> bool {
+    assert!(rt; submitted(rt, session, event).is_ok());
+    is_committed(session)
 }
 
 /// Three events, each with a commit, up to the first that fails. How many were submitted.
@@ -59,9 +87,8 @@ fn three_commits<R: Abort, D: Disk>(rt: &R, session: &mut Session<D>) -> u64 {
 }
 
 /// The event's answer by a machine that never had a disk.
-fn step_if_accepted(machine: &mut Machine, event: &Event) -> Option<Answer>
-    requires { IsInRange event.now }
-{
+fn step_if_accepted<R: Abort>(rt: &R, machine: &mut Machine, event: &Event) -> Option<Answer> {
+    assert!(rt; event.in_range());
     match machine.accept(0, event) {
         Ok(()) => Some(machine.step(event)),
         Err(_) => None,
@@ -69,18 +96,30 @@ fn step_if_accepted(machine: &mut Machine, event: &Event) -> Option<Answer>
 }
 
 /// The machine after so many of the three events, by the plain fold.
-fn folded<R: Abort + AllocGlobal>(rt: &R, count: u64) -> Result<Machine, Fail> {
-    let mut machine = Machine::new(rt.alloc(), 16, 1, &IMAGE)?;
+fn folded<R: Abort + AllocGlobal>(rt: &R, count: u64) -> Machine {
+    let mut machine = Machine::new(rt.alloc(), 16, 1, &IMAGE).expect(rt, "a machine");
     if count > 0 {
-        step_if_accepted(&mut machine, &Event::Place(0, 1));
+        step_if_accepted(rt, &mut machine, &Event::Place(0, 1));
     }
     if count > 1 {
-        step_if_accepted(&mut machine, &Event::Run(0, 2));
+        step_if_accepted(rt, &mut machine, &Event::Run(0, 2));
     }
     if count > 2 {
-        step_if_accepted(&mut machine, &Event::Run(0, 1));
+        step_if_accepted(rt, &mut machine, &Event::Run(0, 1));
     }
-    Ok(machine)
+    machine
+}
+
+/// One more event, by a session and by a machine.
+fn expect_same_step<R: Abort, D: Disk>(rt: &R, session: &mut Session<D>, machine: &mut Machine) {
+    let next = Event::Run(0, 9);
+    let answer = step_if_accepted(rt, machine, &next);
+    let submitted = match submitted(rt, session, &next) {
+        Ok((_, answer)) => Some(answer),
+        Err(_) => None,
+    };
+    expect_eq(rt, submitted, answer);
+    expect_bytes(rt, session.machine().last_output(), machine.last_output());
 }
 
 /// What was recovered has that many events, and answers one more as the plain fold does.
@@ -89,16 +128,10 @@ fn expect_goes_on<R: Abort + AllocGlobal, D: Disk>(
     session: &mut Session<D>,
     least: u64,
     most: u64,
-) -> Result<(), Fail> {
+) {
     let count = session.acknowledged();
     assert!(rt; least <= count && count <= most, "{least} {count} {most}");
-    let mut machine = folded(rt, count)?;
-    let next = Event::Run(0, 9);
-    let answer = step_if_accepted(&mut machine, &next);
-    let submitted = session.submit(&next).ok().map(|(_, answer)| answer);
-    assert_eq!(rt; submitted, answer);
-    assert_eq!(rt; session.machine().last_output(), machine.last_output());
-    Ok(())
+    expect_same_step(rt, session, &mut folded(rt, count));
 }
 
 /// What a stop at a call of two events and their commit leaves.
@@ -107,113 +140,117 @@ fn stopped_commit<R: Abort + AllocGlobal>(
     image: &[u8],
     at_call: u64,
     fill: &[u8],
-) -> Result<Vec<u8>, Fail> {
-    let image = image.to_vec(rt.alloc())?;
-    let disk = StoppingDisk::new(rt.alloc(), image, at_call, fill.to_vec(rt.alloc())?)?;
-    let mut session = recovered(rt, disk);
-    assert_eq!(rt;
-        session.submit(&Event::Place(0, 1)),
-        Ok((1, Answer::Placed))
+) -> Vec<u8> {
+    let mut session = recovered(rt, stopping_disk(rt, copied(rt, image), at_call, fill));
+    expect_answer(rt, &mut session, &Event::Place(0, 1), 1, Answer::Placed);
+    expect_answer(
+        rt,
+        &mut session,
+        &Event::Run(0, 2),
+        2,
+        Answer::Ran(2, How::On),
     );
-    assert_eq!(rt;
-        session.submit(&Event::Run(0, 2)),
-        Ok((2, Answer::Ran(2, How::On)))
-    );
-    assert_eq!(rt; session.commit(), Err(CommitFault::Device));
-    assert_eq!(rt; session.submit(&Event::Run(0, 1)), Err(SubmitFault::Failed));
-    assert_eq!(rt; session.commit(), Err(CommitFault::Failed));
-    assert_eq!(rt; session.acknowledged(), 0);
-    Ok(session.into_disk().into_image())
+    expect_commit(rt, &mut session, Err(CommitFault::Device));
+    expect_refusal(rt, &mut session, &Event::Run(0, 1), SubmitFault::Failed);
+    expect_commit(rt, &mut session, Err(CommitFault::Failed));
+    expect_eq(rt, session.acknowledged(), 0);
+    session.into_disk().into_image()
+}
+
+/// A stop at a call of a commit, and how many of its two events are there afterwards.
+fn expect_left<R: Abort + AllocGlobal>(
+    rt: &R,
+    image: &[u8],
+    at_call: u64,
+    fill: &[u8],
+    count: u64,
+) {
+    let left = stopped_commit(rt, image, at_call, fill);
+    let session = recovered_in_memory(rt, left);
+    expect_eq_at(rt, at_call, session.acknowledged(), count);
 }
 
 #[test]
-fn each_call_of_a_commit_is_stopped(rt: HostRuntime) -> Result<(), Fail> {
-    let image = formatted(&rt)?;
-    let table: [(u64, &[u8], u64); 12] = [
-        (2, &[0xa5], 0),
-        (2, &[0], 0),
-        (2, &[], 0),
-        (3, &[0xa5], 0),
-        (3, &[0], 0),
-        (3, &[], 0),
-        (4, &[0xa5], 2),
-        (4, &[0], 0),
-        (4, &[], 2),
-        (5, &[0xa5], 2),
-        (5, &[0], 0),
-        (5, &[], 2),
-    ];
-    for (at_call, fill, count) in table {
-        let left = stopped_commit(&rt, image.as_slice(), at_call, fill)?;
-        let session = recovered_in_memory(&rt, left)?;
-        assert_eq!(rt; session.acknowledged(), count, "call {at_call}");
+fn each_call_of_a_commit_is_stopped(rt: HostRuntime) {
+    let bytes = formatted(&rt, &IMAGE);
+    let image = bytes.as_slice();
+    for at_call in 2..4 {
+        expect_left(&rt, image, at_call, &[0xa5], 0);
+        expect_left(&rt, image, at_call, &[0], 0);
+        expect_left(&rt, image, at_call, &[], 0);
     }
-    Ok(())
+    // The gate's write, or its sync.
+    for at_call in 4..6 {
+        expect_left(&rt, image, at_call, &[0xa5], 2);
+        expect_left(&rt, image, at_call, &[0], 0);
+        expect_left(&rt, image, at_call, &[], 2);
+    }
 }
 
-/// A format that stops at a call leaves a disk of no program, or the fresh program. Whether it was reached.
-fn stop_format<R: Abort + AllocGlobal>(rt: &R, at_call: u64, fill: &[u8]) -> Result<bool, Fail> {
-    let zeros = vec![in rt.alloc(); 0; SIZE]?;
-    let mut disk = StoppingDisk::new(rt.alloc(), zeros, at_call, fill.to_vec(rt.alloc())?)?;
-    let done = format(rt.alloc(), &mut disk, SMALL, &IMAGE);
+/// A disk on which a format stopped has no program, or the fresh one.
+fn expect_unformatted_or_fresh<R: Abort + AllocGlobal>(rt: &R, left: Vec<u8>, reached: bool) {
+    match recovery_outcome(rt, memory_disk(rt, left)) {
+        Ok(mut session) => expect_goes_on(rt, &mut session, 0, 0),
+        Err(unrecovered) => {
+            assert!(rt; reached);
+            expect_eq(rt, unrecovered.fault, RecoverFault::NotFormatted);
+        }
+    }
+}
+
+/// A format that stops at a call. Whether it was reached.
+fn stop_format<R: Abort + AllocGlobal>(rt: &R, at_call: u64, fill: &[u8]) -> bool {
+    let mut disk = stopping_disk(rt, filled(rt, 0, SIZE), at_call, fill);
+    let done = format_outcome(rt, &mut disk, SMALL, &IMAGE);
     let reached = disk.calls() >= at_call;
     let want = if reached {
         Err(FormatFault::Device)
     } else {
         Ok(())
     };
-    assert_eq!(rt; done, want, "call {at_call}");
-    match recover(rt.alloc(), MemoryDisk::new(rt.alloc(), disk.into_image())?) {
-        Ok(mut session) => expect_goes_on(rt, &mut session, 0, 0)?,
-        Err(unrecovered) => {
-            assert!(rt; reached);
-            assert_eq!(rt;
-                unrecovered.fault,
-                RecoverFault::NotFormatted,
-                "call {at_call}"
-            );
-        }
-    }
-    Ok(reached)
+    expect_eq_at(rt, at_call, done, want);
+    expect_unformatted_or_fresh(rt, disk.into_image(), reached);
+    reached
 }
 
 /// Three commits that stop at a call leave what was acknowledged, and no more than was submitted. Whether it was reached.
-fn stop_commits<R: Abort + AllocGlobal>(
-    rt: &R,
-    image: &[u8],
-    at_call: u64,
-    fill: &[u8],
-) -> Result<bool, Fail> {
-    let image = image.to_vec(rt.alloc())?;
-    let disk = StoppingDisk::new(rt.alloc(), image, at_call, fill.to_vec(rt.alloc())?)?;
-    let mut session = recovered(rt, disk);
+fn stop_commits<R: Abort + AllocGlobal>(rt: &R, image: &[u8], at_call: u64, fill: &[u8]) -> bool {
+    let mut session = recovered(rt, stopping_disk(rt, copied(rt, image), at_call, fill));
     let most = three_commits(rt, &mut session);
     let least = session.acknowledged();
     let disk = session.into_disk();
     let reached = disk.calls() >= at_call;
-    assert_eq!(rt; least == 3, !reached, "call {at_call}");
-    let mut session = recovered_in_memory(rt, disk.into_image())?;
-    expect_goes_on(rt, &mut session, least, most)?;
-    Ok(reached)
+    expect_eq_at(rt, at_call, least == 3, !reached);
+    let mut session = recovered_in_memory(rt, disk.into_image());
+    expect_goes_on(rt, &mut session, least, most);
+    reached
+}
+
+/// Stops a format at each of its calls.
+fn stop_each_call_of_a_format<R: Abort + AllocGlobal>(rt: &R, fill: &[u8]) {
+    for at_call in 1..100 {
+        if !stop_format(rt, at_call, fill) {
+            return;
+        }
+    }
+}
+
+/// Stops three commits at each of their calls. The first call is that of recovery.
+fn stop_each_call_of_commits<R: Abort + AllocGlobal>(rt: &R, image: &[u8], fill: &[u8]) {
+    for at_call in 2..100 {
+        if !stop_commits(rt, image, at_call, fill) {
+            return;
+        }
+    }
 }
 
 #[test]
-fn every_call_is_stopped(rt: HostRuntime) -> Result<(), Fail> {
-    let image = formatted(&rt)?;
+fn every_call_is_stopped(rt: HostRuntime) {
+    let image = formatted(&rt, &IMAGE);
     for fill in FILLS {
-        for at_call in 1..100 {
-            if !stop_format(&rt, at_call, fill)? {
-                break;
-            }
-        }
-        // The first call is that of recovery.
-        for at_call in 2..100 {
-            if !stop_commits(&rt, image.as_slice(), at_call, fill)? {
-                break;
-            }
-        }
+        stop_each_call_of_a_format(&rt, fill);
+        stop_each_call_of_commits(&rt, image.as_slice(), fill);
     }
-    Ok(())
 }
 
 /// After a failure of its disk the session fails, and a new one goes on from the disk.
@@ -221,55 +258,53 @@ fn expect_failed<R: Abort + AllocGlobal, D: Disk + Drop>(
     rt: &R,
     mut session: Session<D>,
     most: u64,
-) -> Result<(), Fail> {
-    assert_eq!(rt; session.submit(&Event::Run(0, 1)), Err(SubmitFault::Failed));
-    assert_eq!(rt; session.commit(), Err(CommitFault::Failed));
+) {
+    expect_refusal(rt, &mut session, &Event::Run(0, 1), SubmitFault::Failed);
+    expect_commit(rt, &mut session, Err(CommitFault::Failed));
     let least = session.acknowledged();
-    let (offset, output) = session.take_output();
-    assert_eq!(rt; offset, 0);
-    assert!(rt; output.is_empty());
+    expect_output(rt, &mut session, 0, &[]);
     let mut session = recovered(rt, session.into_disk());
-    expect_goes_on(rt, &mut session, least, most)
+    expect_goes_on(rt, &mut session, least, most);
+}
+
+/// Three commits, and where the disk fails one of them, what stands then. Whether it failed.
+fn fail_commits<R: Abort + AllocGlobal, D: Disk + Drop>(rt: &R, mut session: Session<D>) -> bool {
+    let most = three_commits(rt, &mut session);
+    if session.acknowledged() == 3 {
+        return false;
+    }
+    expect_failed(rt, session, most);
+    true
 }
 
 /// Format, recovery and three commits on a disk that fails one call. Whether it was reached.
-fn fail_call<R: Abort + AllocGlobal>(rt: &R, at_call: u64) -> Result<bool, Fail> {
-    let zeros = MemoryDisk::new(rt.alloc(), vec![in rt.alloc(); 0; SIZE]?)?;
-    let mut disk = FailingDisk::new(zeros, at_call);
-    if format(rt.alloc(), &mut disk, SMALL, &IMAGE) == Err(FormatFault::Device) {
-        return Ok(true);
+fn fail_call<R: Abort + AllocGlobal>(rt: &R, at_call: u64) -> bool {
+    let mut disk = FailingDisk::new(memory_disk(rt, filled(rt, 0, SIZE)), at_call);
+    if format_outcome(rt, &mut disk, SMALL, &IMAGE) == Err(FormatFault::Device) {
+        return true;
     }
-    let mut session = match recover(rt.alloc(), disk) {
-        Ok(session) => session,
+    match recovery_outcome(rt, disk) {
+        Ok(session) => fail_commits(rt, session),
         Err(unrecovered) => {
-            assert_eq!(rt; unrecovered.fault, RecoverFault::Device);
-            let mut session = recovered(rt, unrecovered.disk);
-            expect_goes_on(rt, &mut session, 0, 0)?;
-            return Ok(true);
+            expect_eq(rt, unrecovered.fault, RecoverFault::Device);
+            expect_goes_on(rt, &mut recovered(rt, unrecovered.disk), 0, 0);
+            true
         }
-    };
-    let most = three_commits(rt, &mut session);
-    if session.acknowledged() == 3 {
-        return Ok(false);
     }
-    expect_failed(rt, session, most)?;
-    Ok(true)
 }
 
 #[test]
-fn every_call_fails_once(rt: HostRuntime) -> Result<(), Fail> {
+fn every_call_fails_once(rt: HostRuntime) {
     for at_call in 1..200 {
-        if !fail_call(&rt, at_call)? {
-            return Ok(());
+        if !fail_call(&rt, at_call) {
+            return;
         }
     }
     panic!(&rt; "no run without a failure");
 }
 
 /// An input of 64 bytes.
-fn long_input() -> Event
-    ensures { IsInRange result }
-{
+fn long_input() -> Event {
     let mut bytes = ArrayVec::new();
     match bytes.try_extend_from_slice(&[7; 64]) {
         Ok(()) => Event::Input(bytes),
@@ -277,56 +312,57 @@ fn long_input() -> Event
     }
 }
 
-#[test]
-fn batch_and_journal_fill(rt: HostRuntime) -> Result<(), Fail> {
-    let mut session = recovered_in_memory(&rt, formatted(&rt)?)?;
-    assert_eq!(rt; session.room(), 4_095);
-    assert_eq!(rt; session.generation(), 1);
+/// 62 inputs of 64 bytes, after which the batch takes no more.
+fn fill_batch<R: Abort, D: Disk>(rt: &R, session: &mut Session<D>) {
     let event = long_input();
     for count in 1..63 {
-        assert_eq!(rt; session.submit(&event), Ok((count, Answer::Taken(64))));
+        expect_answer(rt, session, &event, count, Answer::Taken(64));
     }
-    assert_eq!(rt;
-        session.submit(&Event::Tick(1)),
-        Err(SubmitFault::BatchFull)
-    );
-    assert_eq!(rt; session.submit(&Event::Eof), Err(SubmitFault::JournalFull));
-    assert_eq!(rt; session.commit(), Ok(62));
-    assert_eq!(rt; session.room(), 0);
-    assert_eq!(rt;
-        session.submit(&Event::Tick(1)),
-        Err(SubmitFault::JournalFull)
-    );
-    Ok(())
 }
 
 #[test]
-fn output_is_taken_until_it_is_confirmed(rt: HostRuntime) -> Result<(), Fail> {
-    let mut session = recovered_in_memory(&rt, formatted(&rt)?)?;
-    assert_eq!(rt;
-        session.submit(&Event::Place(0, 1)),
-        Ok((1, Answer::Placed))
+fn batch_and_journal_fill(rt: HostRuntime) {
+    let mut session = recovered_in_memory(&rt, formatted(&rt, &IMAGE));
+    expect_eq(&rt, session.room(), 4_095);
+    expect_eq(&rt, session.generation(), 1);
+    fill_batch(&rt, &mut session);
+    expect_refusal(&rt, &mut session, &Event::Tick(1), SubmitFault::BatchFull);
+    expect_refusal(&rt, &mut session, &Event::Eof, SubmitFault::JournalFull);
+    expect_commit(&rt, &mut session, Ok(62));
+    expect_eq(&rt, session.room(), 0);
+    expect_refusal(&rt, &mut session, &Event::Tick(1), SubmitFault::JournalFull);
+}
+
+/// The session's output up to an offset is confirmed.
+fn confirm<R: Abort, D: Disk>(rt: &R, session: &mut Session<D>, offset: u64) {
+    assert!(rt; session.confirmed() <= offset && offset <= session.released());
+    session.confirm(offset);
+    expect_eq(rt, session.confirmed(), offset);
+}
+
+#[test]
+fn output_is_taken_until_it_is_confirmed(rt: HostRuntime) {
+    let mut session = recovered_in_memory(&rt, formatted(&rt, &IMAGE));
+    expect_answer(&rt, &mut session, &Event::Place(0, 1), 1, Answer::Placed);
+    expect_answer(
+        &rt,
+        &mut session,
+        &Event::Run(0, 9),
+        2,
+        Answer::Ran(6, How::End),
     );
-    assert_eq!(rt;
-        session.submit(&Event::Run(0, 9)),
-        Ok((2, Answer::Ran(6, How::End)))
-    );
-    assert_eq!(rt; session.released(), 0);
-    assert_eq!(rt; session.commit(), Ok(2));
-    assert_eq!(rt; session.take_output(), (0, b"A".as_slice()));
-    assert_eq!(rt; session.take_output(), (0, b"A".as_slice()));
-    assert_eq!(rt; session.released(), 1);
-    assert_eq!(rt; session.disk().size(), SIZE);
-    if session.confirmed() <= 1 && session.released() >= 1 {
-        session.confirm(1);
-    }
-    assert_eq!(rt; session.confirmed(), 1);
-    assert_eq!(rt; session.take_output(), (1, b"".as_slice()));
+    expect_eq(&rt, session.released(), 0);
+    expect_commit(&rt, &mut session, Ok(2));
+    expect_output(&rt, &mut session, 0, b"A");
+    expect_output(&rt, &mut session, 0, b"A");
+    expect_eq(&rt, session.released(), 1);
+    expect_eq(&rt, session.disk().size(), SIZE);
+    confirm(&rt, &mut session, 1);
+    expect_output(&rt, &mut session, 1, b"");
 
     // What was confirmed is no part of the disk: the next life begins with it again.
-    let mut session = recovered_in_memory(&rt, session.into_disk().into_image())?;
-    assert_eq!(rt; session.acknowledged(), 2);
-    assert_eq!(rt; session.confirmed(), 0);
-    assert_eq!(rt; session.take_output(), (0, b"A".as_slice()));
-    Ok(())
+    let mut session = recovered_in_memory(&rt, session.into_disk().into_image());
+    expect_eq(&rt, session.acknowledged(), 2);
+    expect_eq(&rt, session.confirmed(), 0);
+    expect_output(&rt, &mut session, 0, b"A");
 }

@@ -1,9 +1,9 @@
 // Worked values of recovery: what a changed disk recovers to, and what a disk that fails leaves.
-use crate::small_disk::{SIZE, SMALL};
-use ckrt_disk::{FailingDisk, MemoryDisk, StoppingDisk};
-use ckrt_recovery::{RecoverFault, format, recover};
-use std::alloc::Global;
-use std::test::Fail;
+use crate::expect::{expect_eq, expect_eq_at, memory_disk, stopping_disk};
+use crate::small_disk::{SIZE, formatted, recovered, recovered_in_memory, recovery_outcome};
+use ckrt_disk::FailingDisk;
+use ckrt_recovery::RecoverFault;
+use std::process::Abort;
 
 const FIRST_AREA: usize = 4_096;
 
@@ -20,195 +20,217 @@ const COUNTS: [u8; 20] = [
     0x6f, 0xf0, 0x1f, 0xff,
 ];
 
-// A disk of zeros, formatted with an image.
-fn formatted(alloc: Global, image: &[u8]) -> Result<Vec<u8>, Fail> {
-    let mut disk = MemoryDisk::new(alloc, vec![in alloc; 0; SIZE]?)?;
-    format(alloc, &mut disk, SMALL, image)
-        .ok()
-        .ok_or("the disk is formatted")?;
-    Ok(disk.into_image())
-}
-
-// Lays bytes over those from an offset on.
+/// Lays bytes over those from an offset on.
 fn lay(bytes: &mut [u8], at: usize, part: &[u8]) {
     if at <= bytes.len() && part.len() <= bytes.len() - at {
         bytes[at..at + part.len()].copy_from_slice(part);
     }
 }
 
-// The number of events and the generation that a disk of these bytes recovers to, or why it doesn't.
-fn answer(alloc: Global, bytes: Vec<u8>) -> Result<Result<(u64, u64), RecoverFault>, Fail> {
-    let disk = MemoryDisk::new(alloc, bytes)?;
-    Ok(match recover(alloc, disk) {
+/// The number of events and the generation that a disk of these bytes recovers to, or why it doesn't.
+fn answer<R: Abort + AllocGlobal>(rt: &R, bytes: Vec<u8>) -> Result<(u64, u64), RecoverFault> {
+    match recovery_outcome(rt, memory_disk(rt, bytes)) {
         Ok(session) => Ok((session.acknowledged(), session.generation())),
         Err(unrecovered) => Err(unrecovered.fault),
-    })
+    }
 }
 
-// The same of a freshly formatted disk that is changed in these places.
-fn answer_changed(
-    alloc: Global,
-    changes: &[(usize, &[u8])],
-) -> Result<Result<(u64, u64), RecoverFault>, Fail> {
-    let mut bytes = formatted(alloc, &[])?;
-    for (at, part) in changes {
-        lay(&mut bytes, *at, part);
-    }
-    answer(alloc, bytes)
+/// A freshly formatted disk on which bytes are laid at an offset.
+fn changed<R: Abort + AllocGlobal>(rt: &R, at: usize, part: &[u8]) -> Vec<u8> {
+    let mut bytes = formatted(rt, &[]);
+    lay(&mut bytes, at, part);
+    bytes
+}
+
+/// What a freshly formatted disk that is changed at one place recovers to.
+fn expect_changed<R: Abort + AllocGlobal>(
+    rt: &R,
+    at: usize,
+    part: &[u8],
+    want: Result<(u64, u64), RecoverFault>,
+) {
+    let bytes = changed(rt, at, part);
+    expect_eq_at(rt, at, answer(rt, bytes), want);
+}
+
+/// Why one that is changed at one place recovers to nothing.
+fn expect_fault<R: Abort + AllocGlobal>(rt: &R, at: usize, part: &[u8], fault: RecoverFault) {
+    expect_changed(rt, at, part, Err(fault));
+}
+
+/// The same of two places.
+fn expect_first_fault<R: Abort + AllocGlobal>(
+    rt: &R,
+    one: (usize, &[u8]),
+    other: (usize, &[u8]),
+    fault: RecoverFault,
+) {
+    let (at, part) = one;
+    let mut bytes = changed(rt, at, part);
+    let (at, part) = other;
+    lay(&mut bytes, at, part);
+    expect_eq_at(rt, at, answer(rt, bytes), Err(fault));
+}
+
+/// Changes of the superblock.
+fn change_superblock<R: Abort + AllocGlobal>(rt: &R) {
+    expect_fault(rt, 0, &[0], RecoverFault::NotFormatted);
+    expect_fault(rt, 8, &[0x44], RecoverFault::NotFormatted);
+    expect_first_fault(rt, (8, &[0x44]), (16, &[9]), RecoverFault::NotFormatted);
+    expect_fault(rt, 16, &[9], RecoverFault::Version);
+    expect_first_fault(rt, (16, &[9]), (20, &[15]), RecoverFault::Version);
+    expect_fault(rt, 20, &[15], RecoverFault::Damaged);
+    expect_fault(rt, 24, &[9], RecoverFault::Damaged);
+    expect_fault(rt, 28, &[1, 0x10], RecoverFault::Damaged);
+}
+
+/// Changes of area 0: closed, generation 0, version 9, tables of 171 and of 98,305 bytes.
+fn change_first_area<R: Abort + AllocGlobal>(rt: &R) {
+    expect_fault(rt, FIRST_AREA, &[0], RecoverFault::Damaged);
+    expect_fault(rt, FIRST_AREA + 8, &[0], RecoverFault::Damaged);
+    expect_fault(rt, FIRST_AREA + 36, &[9], RecoverFault::Version);
+    let version = (FIRST_AREA + 36, [9].as_slice());
+    expect_first_fault(rt, (FIRST_AREA + 8, &[0]), version, RecoverFault::Damaged);
+    expect_fault(rt, FIRST_AREA + 32, &[0xab], RecoverFault::Damaged);
+    expect_fault(rt, FIRST_AREA + 32, &[1, 0x80, 1], RecoverFault::Damaged);
+}
+
+/// Changes of area 1: open, with generation 0 and with area 0's.
+fn change_second_area<R: Abort + AllocGlobal>(rt: &R) {
+    expect_changed(rt, SECOND_AREA, &[0xa5], Ok((0, 1)));
+    let generation = (SECOND_AREA + 8, [1].as_slice());
+    expect_first_fault(
+        rt,
+        (SECOND_AREA, &[0xa5]),
+        generation,
+        RecoverFault::Damaged,
+    );
+}
+
+/// Batches in journal 0.
+fn change_journal<R: Abort + AllocGlobal>(rt: &R) {
+    expect_changed(rt, JOURNAL, &PLACED, Ok((1, 1)));
+    // a second gate is open, with no batch behind it
+    expect_fault(
+        rt,
+        JOURNAL,
+        &[0xa5, 3, 0, 1, 0, 1, 0xa5],
+        RecoverFault::Damaged,
+    );
+    // Run on an idle hart, Tick of 0, no room for a gate behind 4,093 bytes
+    expect_fault(
+        rt,
+        JOURNAL,
+        &[0xa5, 4, 0, 2, 0, 1, 0, 0],
+        RecoverFault::Damaged,
+    );
+    expect_fault(
+        rt,
+        JOURNAL,
+        &[0xa5, 5, 0, 5, 0, 0, 0, 0, 0],
+        RecoverFault::Damaged,
+    );
+    expect_fault(rt, JOURNAL, &[0xa5, 0xfd, 0x0f], RecoverFault::Damaged);
+    // 2^62 - 1 events before the first of the journal
+    let count = [0xff, 0xff, 0xff, 0xff, 0xff, 0xff, 0xff, 0x3f];
+    let counted = (FIRST_AREA + 16, count.as_slice());
+    expect_first_fault(rt, counted, (JOURNAL, &PLACED), RecoverFault::Damaged);
 }
 
 #[test]
-fn each_change_has_its_answer(rt: HostRuntime) -> Result<(), Fail> {
-    let table: [(&[(usize, &[u8])], Result<(u64, u64), RecoverFault>); 23] = [
-        (&[], Ok((0, 1))),
-        (&[(0, &[0])], Err(RecoverFault::NotFormatted)),
-        (&[(8, &[0x44])], Err(RecoverFault::NotFormatted)),
-        (&[(8, &[0x44]), (16, &[9])], Err(RecoverFault::NotFormatted)),
-        (&[(16, &[9])], Err(RecoverFault::Version)),
-        (&[(16, &[9]), (20, &[15])], Err(RecoverFault::Version)),
-        (&[(20, &[15])], Err(RecoverFault::Damaged)),
-        (&[(24, &[9])], Err(RecoverFault::Damaged)),
-        (&[(28, &[1, 0x10])], Err(RecoverFault::Damaged)),
-        // area 0: closed, generation 0, version 9, tables of 171 and of 98,305 bytes
-        (&[(FIRST_AREA, &[0])], Err(RecoverFault::Damaged)),
-        (&[(FIRST_AREA + 8, &[0])], Err(RecoverFault::Damaged)),
-        (&[(FIRST_AREA + 36, &[9])], Err(RecoverFault::Version)),
-        (
-            &[(FIRST_AREA + 8, &[0]), (FIRST_AREA + 36, &[9])],
-            Err(RecoverFault::Damaged),
-        ),
-        (&[(FIRST_AREA + 32, &[0xab])], Err(RecoverFault::Damaged)),
-        (
-            &[(FIRST_AREA + 32, &[1, 0x80, 1])],
-            Err(RecoverFault::Damaged),
-        ),
-        // area 1: open, with generation 0 and with area 0's
-        (&[(SECOND_AREA, &[0xa5])], Ok((0, 1))),
-        (
-            &[(SECOND_AREA, &[0xa5]), (SECOND_AREA + 8, &[1])],
-            Err(RecoverFault::Damaged),
-        ),
-        // journal 0
-        (&[(JOURNAL, &PLACED)], Ok((1, 1))),
-        (
-            &[(JOURNAL, &[0xa5, 3, 0, 1, 0, 1, 0xa5])],
-            Err(RecoverFault::Damaged),
-        ),
-        // Run on an idle hart, Tick of 0, no room for a gate behind 4,093 bytes
-        (
-            &[(JOURNAL, &[0xa5, 4, 0, 2, 0, 1, 0, 0])],
-            Err(RecoverFault::Damaged),
-        ),
-        (
-            &[(JOURNAL, &[0xa5, 5, 0, 5, 0, 0, 0, 0, 0])],
-            Err(RecoverFault::Damaged),
-        ),
-        (
-            &[(JOURNAL, &[0xa5, 0xfd, 0x0f])],
-            Err(RecoverFault::Damaged),
-        ),
-        // 2^62 - 1 events before the first of the journal
-        (
-            &[
-                (
-                    FIRST_AREA + 16,
-                    &[0xff, 0xff, 0xff, 0xff, 0xff, 0xff, 0xff, 0x3f],
-                ),
-                (JOURNAL, &PLACED),
-            ],
-            Err(RecoverFault::Damaged),
-        ),
-    ];
-    for (changes, want) in table {
-        assert_eq!(rt;
-            answer_changed(rt.alloc(), changes)?,
-            want,
-            "{}",
-            changes.len()
-        );
-    }
-    Ok(())
+fn each_change_has_its_answer(rt: HostRuntime) {
+    expect_eq(&rt, answer(&rt, formatted(&rt, &[])), Ok((0, 1)));
+    change_superblock(&rt);
+    change_first_area(&rt);
+    change_second_area(&rt);
+    change_journal(&rt);
+}
+
+/// A formatted disk of which only the first bytes are left.
+fn expect_cut<R: Abort + AllocGlobal>(rt: &R, size: usize, fault: RecoverFault) {
+    let mut bytes = formatted(rt, &[]);
+    bytes.truncate(size);
+    expect_eq_at(rt, size, answer(rt, bytes), Err(fault));
 }
 
 #[test]
-fn a_cut_disk_recovers_to_nothing(rt: HostRuntime) -> Result<(), Fail> {
-    for (size, want) in [
-        (0, RecoverFault::NotFormatted),
-        (31, RecoverFault::NotFormatted),
-        (32, RecoverFault::Damaged),
-        (4_096, RecoverFault::Damaged),
-        (SIZE - 1, RecoverFault::Damaged),
-    ] {
-        let mut bytes = formatted(rt.alloc(), &[])?;
-        bytes.truncate(size);
-        assert_eq!(rt; answer(rt.alloc(), bytes)?, Err(want), "{size}");
-    }
-    Ok(())
+fn a_cut_disk_recovers_to_nothing(rt: HostRuntime) {
+    expect_cut(&rt, 0, RecoverFault::NotFormatted);
+    expect_cut(&rt, 31, RecoverFault::NotFormatted);
+    expect_cut(&rt, 32, RecoverFault::Damaged);
+    expect_cut(&rt, 4_096, RecoverFault::Damaged);
+    expect_cut(&rt, SIZE - 1, RecoverFault::Damaged);
 }
 
-// 17 runs put 1,024 bytes each, and one more puts the next: of 17,409 bytes the first 1,025 are dropped.
-#[test]
-fn the_last_output_is_held(rt: HostRuntime) -> Result<(), Fail> {
+/// A batch that places a thread, runs it 17 times for 65,535 steps and once for 5.
+fn long_batch() -> [u8; 78] {
     let mut batch = [0u8; 78];
     lay(&mut batch, 0, &[0xa5, 75, 0, 1, 0, 1]);
     for i in 0..17 {
         lay(&mut batch, 6 + 4 * i, &[2, 0, 0xff, 0xff]);
     }
     lay(&mut batch, 74, &[2, 0, 5, 0]);
-    let mut bytes = formatted(rt.alloc(), &COUNTS)?;
-    lay(&mut bytes, JOURNAL, &batch);
-    let mut session = recover(rt.alloc(), MemoryDisk::new(rt.alloc(), bytes)?)
-        .ok()
-        .ok_or("the disk recovers")?;
-    assert_eq!(rt; session.acknowledged(), 19);
-    assert_eq!(rt; session.confirmed(), 1_025);
-    assert_eq!(rt; session.released(), 17_409);
+    batch
+}
+
+// 17 runs put 1,024 bytes each, and one more puts the next: of 17,409 bytes the first 1,025 are dropped.
+#[test]
+fn the_last_output_is_held(rt: HostRuntime) {
+    let mut bytes = formatted(&rt, &COUNTS);
+    lay(&mut bytes, JOURNAL, &long_batch());
+    let mut session = recovered_in_memory(&rt, bytes);
+    expect_eq(&rt, session.acknowledged(), 19);
+    expect_eq(&rt, session.confirmed(), 1_025);
+    expect_eq(&rt, session.released(), 17_409);
     let (offset, output) = session.take_output();
-    assert_eq!(rt; offset, 1_025);
-    assert_eq!(rt; output.len(), 16_384);
+    expect_eq(&rt, offset, 1_025);
+    expect_eq(&rt, output.len(), 16_384);
     assert!(rt; output.starts_with(&[2, 3, 4]));
     assert!(rt; output.ends_with(&[0, 1]));
-    Ok(())
+}
+
+/// Recovery of a disk that stops at a call, and whether that call was reached. It makes one write or sync.
+fn expect_stop<R: Abort + AllocGlobal>(rt: &R, at_call: u64, is_reached: bool) {
+    match recovery_outcome(rt, stopping_disk(rt, formatted(rt, &[]), at_call, &[])) {
+        Ok(session) => {
+            assert!(rt; !is_reached);
+            expect_eq(rt, session.disk().calls(), 1);
+        }
+        Err(unrecovered) => {
+            assert!(rt; is_reached);
+            expect_eq(rt, unrecovered.fault, RecoverFault::Device);
+            expect_eq(rt, unrecovered.disk.calls(), 1);
+        }
+    }
 }
 
 // Its one write or sync is the sync at its start.
 #[test]
-fn a_stop_at_the_first_call_is_device(rt: HostRuntime) -> Result<(), Fail> {
-    for (at_call, stopped) in [(0, false), (1, true), (2, false)] {
-        let image = formatted(rt.alloc(), &[])?;
-        let disk = StoppingDisk::new(rt.alloc(), image, at_call, Vec::new(rt.alloc()))?;
-        match recover(rt.alloc(), disk) {
-            Ok(session) => {
-                assert!(rt; !stopped);
-                assert_eq!(rt; session.disk().calls(), 1);
-            }
-            Err(unrecovered) => {
-                assert!(rt; stopped);
-                assert_eq!(rt; unrecovered.fault, RecoverFault::Device);
-                assert_eq!(rt; unrecovered.disk.calls(), 1);
-            }
+fn a_stop_at_the_first_call_is_device(rt: HostRuntime) {
+    expect_stop(&rt, 0, false);
+    expect_stop(&rt, 1, true);
+    expect_stop(&rt, 2, false);
+}
+
+/// Recovery of a disk that fails at a call, and again without a failure.
+fn expect_failure<R: Abort + AllocGlobal>(rt: &R, at_call: u64) {
+    let disk = FailingDisk::new(memory_disk(rt, formatted(rt, &[])), at_call);
+    match recovery_outcome(rt, disk) {
+        Ok(_) => panic!(rt; "call {at_call} isn't made"),
+        Err(unrecovered) => {
+            expect_eq(rt, unrecovered.fault, RecoverFault::Device);
+            assert!(rt; recovery_outcome(rt, unrecovered.disk).is_ok());
         }
     }
-    Ok(())
 }
 
 // A sync, and then reads of superblock, both headers, tables, memory and one gate. The disk recovers afterwards.
 #[test]
-fn each_call_that_fails_is_device(rt: HostRuntime) -> Result<(), Fail> {
-    for at_call in 1..9u64 {
-        let image = formatted(rt.alloc(), &[])?;
-        let disk = FailingDisk::new(MemoryDisk::new(rt.alloc(), image)?, at_call);
-        match recover(rt.alloc(), disk) {
-            Ok(session) => {
-                assert_eq!(rt; at_call, 8);
-                assert_eq!(rt; session.acknowledged(), 0);
-            }
-            Err(unrecovered) => {
-                assert!(rt; at_call < 8);
-                assert_eq!(rt; unrecovered.fault, RecoverFault::Device);
-                assert!(rt; recover(rt.alloc(), unrecovered.disk).is_ok());
-            }
-        }
+fn each_call_that_fails_is_device(rt: HostRuntime) {
+    for at_call in 1..8u64 {
+        expect_failure(&rt, at_call);
     }
-    Ok(())
+    let disk = FailingDisk::new(memory_disk(&rt, formatted(&rt, &[])), 8);
+    let session = recovered(&rt, disk);
+    expect_eq(&rt, session.acknowledged(), 0);
 }
