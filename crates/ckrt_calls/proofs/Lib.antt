@@ -3,6 +3,15 @@ pub mod Dispatch
 pub mod ThreadRows
 pub mod MutexRows
 pub mod Queues
+pub mod Calling
+pub mod KeptEnds
+pub mod KeptThreads
+pub mod KeptMutexes
+pub mod KeptConditions
+pub mod KeptBarriers
+pub mod KeptRwLocks
+pub mod KeptCancellation
+pub mod KeptInput
 pub mod Kept
 pub mod Readers
 pub mod Ticks

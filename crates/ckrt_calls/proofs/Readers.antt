@@ -23,7 +23,7 @@ use Rattle.ckrt_calls.proofs.ThreadRows.{AllWaits, any_live_woken}
 use Rattle.ckrt_calls.proofs.MutexRows.{wait_rule}
 use Rattle.ckrt_calls.proofs.Queues as queues
 use Rattle.ckrt_calls.proofs.Queues.{barriers_same, locks_same, all_woken_leave_none}
-use Rattle.ckrt_calls.proofs.Kept.{conditions_woken}
+use Rattle.ckrt_calls.proofs.KeptConditions.{conditions_woken}
 use Rattle.ckrt_cond.specs.WellFormed as conditions
 
 -- FEEDING

@@ -26,7 +26,8 @@ use Rattle.ckrt_calls.proofs.ThreadRows.{AllWaits, all_blocked, any_live_woken, 
 use Rattle.ckrt_calls.proofs.MutexRows as mutex
 use Rattle.ckrt_calls.proofs.MutexRows.{wait_rule}
 use Rattle.ckrt_calls.proofs.Queues.{SameQueues, barriers_same, locks_same, timed_ended, timed_resumed}
-use Rattle.ckrt_calls.proofs.Kept.{ahead, lacks, ahead_rule, lacks_rule, resume_any_live, resume_all, conditions_woken}
+use Rattle.ckrt_calls.proofs.Calling.{ahead, lacks, ahead_rule, lacks_rule}
+use Rattle.ckrt_calls.proofs.KeptConditions.{resume_any_live, resume_all, conditions_woken}
 use Rattle.ckrt_calls.proofs.Readers.{live_woken, joined_woken}
 use Rattle.ckrt_cond.specs.Rows.{resume_row}
 use Rattle.ckrt_cond.specs.WellFormed.{may_resume, is_at_condition_with}

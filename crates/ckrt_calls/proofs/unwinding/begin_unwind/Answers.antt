@@ -1,4 +1,4 @@
-use Rattle.ckrt_calls.proofs.Kept.{well_formed_begun}
+use Rattle.ckrt_calls.proofs.KeptEnds.{well_formed_begun}
 use Rattle.ckrt_calls.proofs.unwinding.begin_unwind.Goals as goal
 
 pub returns-clause-well_formed : goal.returns-clause-well_formed

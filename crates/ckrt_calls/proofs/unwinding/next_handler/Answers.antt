@@ -1,4 +1,4 @@
-use Rattle.ckrt_calls.proofs.Kept.{well_formed_unwound}
+use Rattle.ckrt_calls.proofs.KeptEnds.{well_formed_unwound}
 use Rattle.ckrt_calls.proofs.unwinding.next_handler.Goals as goal
 
 pub returns-clause-well_formed : goal.returns-clause-well_formed
