@@ -16,11 +16,11 @@ pending_of disk = IsMarked disk.marked.pending.items
 
 -- the next write or sync is the one at which it stops
 abbrev pub StopsNext : StoppingDisk → Type 0
-StopsNext disk = disk.at_call ≡ length disk.history.states + 1
+StopsNext disk = disk.count.at_call ≡ length disk.count.history.states + 1
 
 -- it has stopped before
 abbrev pub HasStopped : StoppingDisk → Type 0
-HasStopped disk = IsStopped disk.at_call (length disk.history.states)
+HasStopped disk = IsStopped disk.count.at_call (length disk.count.history.states)
 
 -- a write: at the stop its bytes go in first, and then the fill over all pending bytes; after it no byte changes
 pub record LaysFillAtWrite (old : StoppingDisk) (at : ℕ) (bytes : List ℕ) (ok : Bool) (new : StoppingDisk) : Type 0 where

@@ -1,7 +1,7 @@
 // A disk in memory that stops at a call of a given number.
-ghost use Rattle.std.specs.Prelude.{ℕ, List, ◌≡◌, ◌↔◌, ◌<◌, ◌≤◌, ◌+◌, ◌-◌, ◌^◌, min, Some, length, refl, IfOk};
+ghost use Rattle.std.specs.Prelude.{ℕ, List, ◌∷◌, ◌≡◌, ◌↔◌, ◌<◌, ◌≤◌, ◌+◌, ◌-◌, ◌^◌, min, Some, length, refl, IfOk, IsErr};
 ghost use Rattle.std.proofs.Common.{inl};
-ghost use Rattle.ckrt_disk.specs.Disk.{IsImage, IsOverwritten, IsStopped, IsWithin};
+ghost use Rattle.ckrt_disk.specs.Disk.{CountsFault, IsImage, IsOverwritten, IsStopped, IsWithin};
 ghost use Rattle.ckrt_disk.specs.History.{Since, only_now};
 ghost use Rattle.ckrt_disk.specs.Marked.{IsFilled, IsMarked};
 ghost use Rattle.ckrt_disk.specs.Stop.{stopped_law};
@@ -17,11 +17,17 @@ use std::alloc::{AllocError, Global};
 #[derive(Drop)]
 pub struct StoppingDisk {
     marked: MarkedBytes,
+    count: CallCount,
+    fill: Vec<u8>,
+}
+
+// The writes and syncs so far, the one at which the disk stops, and the calls that failed.
+#[derive(Drop)]
+struct CallCount {
     history: History<MarkedBytes>,
     at_call: u64,
     calls: u64,
     failures: u64,
-    fill: Vec<u8>,
     ghost small: { at_call < 2 ^ 64 },
     ghost counted: { calls ≡ min (length history.states) (2 ^ 64 - 1) },
     ghost failed: { 0 < failures → (0 < at_call) × (at_call ≤ calls) },
@@ -49,10 +55,12 @@ impl StoppingDisk {
     {
         Ok(StoppingDisk {
             marked: unmarked(alloc, image)?,
-            history: History::new(),
-            at_call,
-            calls: 0,
-            failures: 0,
+            count: CallCount {
+                history: History::new(),
+                at_call,
+                calls: 0,
+                failures: 0,
+            },
             fill,
         })
     }
@@ -61,7 +69,7 @@ impl StoppingDisk {
     pub fn calls(&self) -> u64
         ensures { result ≡ min (⟦<StoppingDisk as Disk>⟧.calls self.now) (2 ^ 64 - 1) }
     {
-        self.calls
+        self.count.calls
     }
 
     /// The bytes as they read: after the stop what it left.
@@ -94,6 +102,41 @@ fn next_phase(at_call: u64, calls: u64) -> Phase
     }
 }
 
+impl CallCount {
+    // Counts a write or sync of a disk in this state: how it stands to the stop.
+    fn note_call(&mut self, state: &MarkedBytes) -> Phase
+        ensures at { (result ≡ Phase.At) ↔ (self.old.at_call ≡ length self.old.history.states + 1) }
+        ensures after { (result ≡ Phase.After) ↔ IsStopped self.old.at_call (length self.old.history.states) }
+        ensures history { self.new.history.states ≡ state.now ∷ self.old.history.states }
+        ensures at_call { self.new.at_call ≡ self.old.at_call }
+        ensures before { result ≡ Phase.Before → self.new.failures ≡ self.old.failures }
+        ensures failed { ¬ (result ≡ Phase.Before) → self.new.failures ≡ min (self.old.failures + 1) (2 ^ 64 - 1) }
+    {
+        let phase = next_phase(self.at_call, self.calls);
+        self.history = self.history.with(state);
+        self.calls = self.calls.saturating_add(1);
+        if phase != Phase::Before {
+            self.failures = self.failures.saturating_add(1);
+            return phase;
+        }
+        phase
+    }
+
+    // Counts a read, which fails after the stop.
+    fn note_read(&mut self) -> Result<(), DeviceFault>
+        ensures failures { CountsFault self.old.failures self.new.failures result }
+        ensures stop { IsErr result ↔ IsStopped self.old.at_call (length self.old.history.states) }
+        ensures history { self.new.history ≡ self.old.history }
+        ensures at_call { self.new.at_call ≡ self.old.at_call }
+    {
+        if self.at_call != 0 && self.calls >= self.at_call {
+            self.failures = self.failures.saturating_add(1);
+            return Err(DeviceFault);
+        }
+        Ok(())
+    }
+}
+
 // Puts bytes from a place on, and at the stop lays the fill over what is marked; after it nothing is written.
 fn put(bytes: &mut [u8], table: &[bool], at: usize, from: &[u8], phase: Phase, fill: &[u8])
     requires room { at + length from.now ≤ length bytes.old }
@@ -122,15 +165,15 @@ impl Disk for StoppingDisk {
 
     ghost pending = { λ d. IsMarked d.marked.pending.items };
 
-    ghost moment = { λ d. length d.history.states };
+    ghost moment = { λ d. length d.count.history.states };
 
-    ghost left_since = { λ d. Since (λ m. m.bytes.items) (λ m. IsMarked m.pending.items) d.marked d.history.states };
+    ghost left_since = { λ d. Since (λ m. m.bytes.items) (λ m. IsMarked m.pending.items) d.marked d.count.history.states };
 
-    ghost failures = { λ d. d.failures };
+    ghost failures = { λ d. d.count.failures };
 
-    ghost calls = { λ d. length d.history.states };
+    ghost calls = { λ d. length d.count.history.states };
 
-    ghost named_stop = { λ d. Some d.at_call };
+    ghost named_stop = { λ d. Some d.count.at_call };
 
     ghost is_honest = { λ _. Unit {0} };
 
@@ -145,17 +188,13 @@ impl Disk for StoppingDisk {
     }
 
     fn read(&mut self, at: usize, buf: &mut [u8]) -> Result<(), DeviceFault> {
-        if self.at_call != 0 && self.calls >= self.at_call {
-            self.failures = self.failures.saturating_add(1);
-            return Err(DeviceFault);
-        }
+        self.count.note_read()?;
         buf.copy_from_slice(&self.marked.bytes[at..at + buf.len()]);
         Ok(())
     }
 
     fn write(&mut self, at: usize, bytes: &[u8]) -> Result<(), DeviceFault> {
-        let phase = next_phase(self.at_call, self.calls);
-        let history = self.history.with(&self.marked);
+        let phase = self.count.note_call(&self.marked);
         mark(&mut self.marked.pending, at, bytes.len());
         put(
             &mut self.marked.bytes,
@@ -165,29 +204,24 @@ impl Disk for StoppingDisk {
             phase,
             &self.fill,
         );
-        self.history = history;
-        self.calls = self.calls.saturating_add(1);
         if phase != Phase::Before {
-            self.failures = self.failures.saturating_add(1);
             return Err(DeviceFault);
         }
         Ok(())
     }
 
     fn sync(&mut self) -> Result<(), DeviceFault> {
-        let phase = next_phase(self.at_call, self.calls);
-        let history = self.history.with(&self.marked);
-        if phase == Phase::At {
-            lay(&mut self.marked.bytes, &self.marked.pending, &self.fill);
+        match self.count.note_call(&self.marked) {
+            Phase::Before => {
+                clear(&mut self.marked.pending);
+                Ok(())
+            }
+            Phase::At => {
+                lay(&mut self.marked.bytes, &self.marked.pending, &self.fill);
+                Err(DeviceFault)
+            }
+            Phase::After => Err(DeviceFault),
         }
-        self.history = history;
-        self.calls = self.calls.saturating_add(1);
-        if phase != Phase::Before {
-            self.failures = self.failures.saturating_add(1);
-            return Err(DeviceFault);
-        }
-        clear(&mut self.marked.pending);
-        Ok(())
     }
 
     ghost whole = { λ d h. refl };
@@ -196,7 +230,7 @@ impl Disk for StoppingDisk {
 
     ghost counts_now = { λ d t image h le now. inl now };
 
-    ghost only_now = { λ d image h left. only_now _ _ d.marked d.history.states image left };
+    ghost only_now = { λ d image h left. only_now _ _ d.marked d.count.history.states image left };
 
-    ghost stopped = { λ d s is. stopped_law d.at_call d.calls (length d.history.states) d.failures d.small d.counted d.failed d.stopped s is };
+    ghost stopped = { λ d s is. stopped_law d.count.at_call d.count.calls (length d.count.history.states) d.count.failures d.count.small d.count.counted d.count.failed d.count.stopped s is };
 }

@@ -1,5 +1,5 @@
 /// The fields of an area's header.
-#[derive(Clone, Copy, Debug, PartialEq, Eq)]
+#[derive(Clone, Copy)]
 pub(crate) struct Header {
     /// Whether the area's gate is open.
     pub(crate) is_open: bool,

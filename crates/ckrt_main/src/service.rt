@@ -4,7 +4,7 @@ ghost use Rattle.std.specs.Str.Lines.{lines, strip_carriage_return};
 ghost use Rattle.std.specs.Io.KnownBytes.{Appends};
 ghost use Rattle.ckrt_disk.specs.Disk.{HasFailed};
 ghost use Rattle.ckrt_events.specs.Bytes.{IsInRange};
-ghost use Rattle.ckrt_events.specs.Line.{command_of};
+ghost use Rattle.ckrt_events.specs.Line.{command_of, IsInRangeCommand};
 ghost use Rattle.ckrt_events.specs.declared.event.Event.TheVariants.{Place, Run};
 ghost use Rattle.ckrt_events.specs.declared.command.Command.TheVariants.{Auto};
 ghost use Rattle.ckrt_machine.specs.Events as machine;
@@ -120,7 +120,6 @@ fn place_and_run<W: Write, D: Disk>(
 }
 
 /// The thread to place onto a hart next, 1 to 64.
-#[tactic(auto, using(crate::proofs::EventLemmas::planned_in_range))]
 fn planned<D: Disk>(session: &Session<D>, hart: u8) -> Option<u8>
     ensures planned { result ≡ machine.planned hart session.now.machine.state.tables }
     ensures in_range { IfSome result (λ thread. (1 ≤ thread) × (thread ≤ 64)) }
@@ -172,19 +171,20 @@ fn commit<W: Write, D: Disk>(session: &mut Session<D>, writer: &mut W) -> Result
     }
 }
 
-/// Does what a line says, and answers whether it was `quit`.
-fn respond<W: Write, D: Disk>(
+/// Does what a command says, and answers whether it was `quit`.
+fn answer<W: Write, D: Disk>(
     session: &mut Session<D>,
     writer: &mut W,
-    line: &[u8],
+    command: Result<Command, LineFault>,
 ) -> Result<bool, ServeFault>
-    ensures quit { IfOk result (λ quit. quit ≡ (transcript.respond (command_of line.now) (view_of session.old)).quit) }
-    ensures ok { OnOk result (Responds (transcript.respond (command_of line.now) (view_of session.old)) (W.contents writer.old) (W.contents writer.new) session.old session.new) }
-    ensures interrupted { OnErr result (Interrupted (transcript.respond (command_of line.now) (view_of session.old)) session.old session.new) }
+    requires { IfOk command IsInRangeCommand }
+    ensures quit { IfOk result (λ quit. quit ≡ (transcript.respond command (view_of session.old)).quit) }
+    ensures ok { OnOk result (Responds (transcript.respond command (view_of session.old)) (W.contents writer.old) (W.contents writer.new) session.old session.new) }
+    ensures interrupted { OnErr result (Interrupted (transcript.respond command (view_of session.old)) session.old session.new) }
     ensures unconfirmed { OnErr result (session.new.confirmed ≡ session.old.confirmed) }
     ensures err { IfErr result (λ e. e ≡ ServeFault.Write) }
 {
-    match parse_command(line) {
+    match command {
         Ok(Command::Submit(event)) => {
             submit(session, writer, &event)?;
         }
@@ -200,6 +200,21 @@ fn respond<W: Write, D: Disk>(
         }
     }
     Ok(false)
+}
+
+/// Does what a line says, and answers whether it was `quit`.
+fn respond<W: Write, D: Disk>(
+    session: &mut Session<D>,
+    writer: &mut W,
+    line: &[u8],
+) -> Result<bool, ServeFault>
+    ensures quit { IfOk result (λ quit. quit ≡ (transcript.respond (command_of line.now) (view_of session.old)).quit) }
+    ensures ok { OnOk result (Responds (transcript.respond (command_of line.now) (view_of session.old)) (W.contents writer.old) (W.contents writer.new) session.old session.new) }
+    ensures interrupted { OnErr result (Interrupted (transcript.respond (command_of line.now) (view_of session.old)) session.old session.new) }
+    ensures unconfirmed { OnErr result (session.new.confirmed ≡ session.old.confirmed) }
+    ensures err { IfErr result (λ e. e ≡ ServeFault.Write) }
+{
+    answer(session, writer, parse_command(line))
 }
 
 /// A line without the one carriage return at its end.

@@ -1,52 +1,20 @@
-use Rattle.std.proofs.Common.{◌≡◌, ◌∙◌, false, Ok, Err, rules, refl, sym, subst}
-use Rattle.std.specs.Io.KnownBytes.{Appends}
-use Rattle.ckrt_events.specs.Line.{command_of}
-use Rattle.ckrt_events.specs.declared.command.Command.TheVariants.{Submit, Auto, Quit, Blank}
-use Rattle.ckrt_machine.specs.Events.{planned}
+use Rattle.std.proofs.Common.{◌≡◌, subst}
+use Rattle.std.specs.Prelude.{IfOk, OnOk, OnErr}
 use Rattle.ckrt_recovery.specs.Transcript.{respond}
-use Rattle.ckrt_recovery.specs.View.{view_of, refusal_of}
-use Rattle.ckrt_main.specs.Service.{Responds}
-use Rattle.ckrt_main.proofs.OutputLemmas.{Appends-nothing}
-use Rattle.ckrt_main.proofs.EventLemmas.{submitted_goes_on, planned_goes_on}
-use Rattle.ckrt_main.proofs.ResponseLemmas.{on_err, responds_still, interrupted_kept}
+use Rattle.ckrt_recovery.specs.View.{view_of}
+use Rattle.ckrt_main.specs.Service.{Responds, Interrupted}
 use Rattle.ckrt_main.proofs.service.respond.Goals as goal
 
-pub returns-in-Ok-Quit-clause-ok : goal.returns-in-Ok-Quit-clause-ok
-returns-in-Ok-Quit-clause-ok g c =
-    let s = c.args.session.now in
+pub returns-clause-quit : goal.returns-clause-quit
+returns-clause-quit g c =
+    subst (λ r. IfOk c.answer.result (λ quit. quit ≡ (respond r (view_of c.args.session.now)).quit)) c.parse_command.ensures.value c.answer.ensures.quit
+
+pub returns-clause-ok : goal.returns-clause-ok
+returns-clause-ok g c =
     let a = g.W.Write.contents c.args.writer.now in
-    let e : Ok Quit ≡ command_of c.args.line.now = search rules in
-    subst (λ r. Responds (respond r (view_of s)) a a s s) e (responds_still (respond (Ok Quit) (view_of s)) a a s refl refl (Appends-nothing a))
+    let b = g.W.Write.contents c.answer.new.writer in
+    subst (λ r. OnOk c.answer.result (Responds (respond r (view_of c.args.session.now)) a b c.args.session.now c.answer.new.session)) c.parse_command.ensures.value c.answer.ensures.ok
 
-pub returns-in-Ok-Blank-clause-ok : goal.returns-in-Ok-Blank-clause-ok
-returns-in-Ok-Blank-clause-ok g c =
-    let s = c.args.session.now in
-    let a = g.W.Write.contents c.args.writer.now in
-    let e : Ok Blank ≡ command_of c.args.line.now = search rules in
-    subst (λ r. Responds (respond r (view_of s)) a a s s) e (responds_still (respond (Ok Blank) (view_of s)) a a s refl refl (Appends-nothing a))
-
-pub returns-in_ok-write_reply-in-Err-clause-ok : goal.returns-in_ok-write_reply-in-Err-clause-ok
-returns-in_ok-write_reply-in-Err-clause-ok g c =
-    let s = c.args.session.now in
-    let a = g.W.Write.contents c.args.writer.now in
-    let b = g.W.Write.contents c.write_reply-in-Err.new.writer in
-    let e : Err c.in-Err.fault ≡ command_of c.args.line.now = search rules in
-    let text = c.deref-in-Err.ensures.0 ∙ c.refused_line-in-Err.ensures in
-    subst (λ r. Responds (respond r (view_of s)) a b s s) e (responds_still (respond (Err c.in-Err.fault) (view_of s)) a b s refl refl (subst (Appends a b) text c.in_ok-write_reply-in-Err.ensures.ok))
-
-pub returns-in_err-write_reply-in-Err-clause-interrupted : goal.returns-in_err-write_reply-in-Err-clause-interrupted
-returns-in_err-write_reply-in-Err-clause-interrupted g c =
-    let s = c.args.session.now in
-    on_err _ _ (interrupted_kept (respond (command_of c.args.line.now) (view_of s)) s s refl)
-
-pub returns-in_ok-submit-in-Ok-Submit-clause-quit : goal.returns-in_ok-submit-in-Ok-Submit-clause-quit
-returns-in_ok-submit-in-Ok-Submit-clause-quit g c =
-    let v = view_of c.args.session.now in
-    let e : Ok (Submit c.in-Ok-Submit.event) ≡ command_of c.args.line.now = search rules in
-    subst (λ r. false ≡ (respond r v).quit) e (sym (submitted_goes_on v c.in-Ok-Submit.event (refusal_of v c.in-Ok-Submit.event)))
-
-pub returns-in_ok-run_planned-in-Ok-Auto-clause-quit : goal.returns-in_ok-run_planned-in-Ok-Auto-clause-quit
-returns-in_ok-run_planned-in-Ok-Auto-clause-quit g c =
-    let v = view_of c.args.session.now in
-    let e : Ok (Auto c.in-Ok-Auto.hart c.in-Ok-Auto.steps) ≡ command_of c.args.line.now = search rules in
-    subst (λ r. false ≡ (respond r v).quit) e (sym (planned_goes_on (planned c.in-Ok-Auto.hart v.state.tables) c.in-Ok-Auto.hart c.in-Ok-Auto.steps v))
+pub returns-clause-interrupted : goal.returns-clause-interrupted
+returns-clause-interrupted g c =
+    subst (λ r. OnErr c.answer.result (Interrupted (respond r (view_of c.args.session.now)) c.args.session.now c.answer.new.session)) c.parse_command.ensures.value c.answer.ensures.interrupted
