@@ -19,6 +19,5 @@ pub fn write_synced<D: Disk>(disk: &mut D, at: usize, bytes: &[u8]) -> Result<()
     ensures fault { IsErr result → HasFailed (D.failures disk.old) (D.failures disk.new) }
 {
     disk.write(at, bytes)?;
-    disk.sync()?;
-    Ok(())
+    disk.sync()
 }

@@ -103,8 +103,7 @@ fn write_behind<D: Disk>(disk: &mut D, at: usize, bytes: &[u8]) -> Result<(), De
     ensures failures { IsOk result → D.failures disk.new ≡ D.failures disk.old }
     ensures fault { IsErr result → HasFailed (D.failures disk.old) (D.failures disk.new) }
 {
-    disk.write(at, bytes)?;
-    Ok(())
+    disk.write(at, bytes)
 }
 
 // Area 0, open, with this memory and no event.
@@ -133,8 +132,7 @@ fn write_area<D: Disk>(disk: &mut D, config: &Config, memory: &[u8]) -> Result<(
     write_behind(disk, config.area_at(0), &[OPEN])?;
     write_behind(disk, config.area_at(0) + FIELDS_AT, header.as_slice())?;
     write_behind(disk, config.tables_at(0), tables.as_slice())?;
-    write_behind(disk, config.memory_at(0), memory)?;
-    Ok(())
+    write_behind(disk, config.memory_at(0), memory)
 }
 
 // No batch in journal 0, area 1 closed, and the superblock's fields.
@@ -153,8 +151,7 @@ fn write_blocks<D: Disk>(disk: &mut D, config: &Config) -> Result<(), DeviceFaul
     let superblock = superblock_fields(config);
     write_behind(disk, config.journal_of(0).at, &[CLOSED])?;
     write_behind(disk, config.area_at(1), &[CLOSED])?;
-    write_behind(disk, FIELDS_AT, superblock.as_slice())?;
-    Ok(())
+    write_behind(disk, FIELDS_AT, superblock.as_slice())
 }
 
 // All that a freshly formatted disk has beside its first gate, durably.
@@ -178,8 +175,7 @@ fn write_behind_gate<D: Disk>(
 {
     write_area(disk, config, memory)?;
     write_blocks(disk, config)?;
-    disk.sync()?;
-    Ok(())
+    disk.sync()
 }
 
 /// Formats a disk for a guest's image: a program that hasn't begun. The first that applies of these refuses it, and

@@ -37,28 +37,27 @@ fn format_command<'a>(alloc: Global) -> Result<Command<'a>, AllocError>
     ensures local { IfOk result (λ c. (out-Command c).has_globals ≡ false) }
 {
     let disk = needed(alloc, "disk", "DISK", "The file to make a disk of");
+    let with_disk = Command::new(alloc, "format")
+        .about("Makes a disk with a guest program that hasn't begun")
+        .arg(disk)?;
     let image = needed(
         alloc,
         "image",
         "IMAGE",
         "The guest program, a flat binary linked at 0x1000",
     );
+    let with_image = with_disk.arg(image)?;
     let pages = number(alloc, "pages", "64", "Pages of guest memory, 16 to 1024");
+    let with_pages = with_image.arg(pages)?;
     let harts = number(alloc, "harts", "1", "Harts, 1 to 8");
+    let with_harts = with_pages.arg(harts)?;
     let journal = number(
         alloc,
         "journal",
         "65536",
         "Bytes of a journal, 4096 to 1048576 by 4096",
     );
-    let with_disk = Command::new(alloc, "format")
-        .about("Makes a disk with a guest program that hasn't begun")
-        .arg(disk)?;
-    let with_image = with_disk.arg(image)?;
-    let with_pages = with_image.arg(pages)?;
-    let with_harts = with_pages.arg(harts)?;
-    let whole = with_harts.arg(journal)?;
-    Ok(whole)
+    with_harts.arg(journal)
 }
 
 /// `run DISK`.
@@ -67,10 +66,9 @@ fn run_command<'a>(alloc: Global) -> Result<Command<'a>, AllocError>
     ensures local { IfOk result (λ c. (out-Command c).has_globals ≡ false) }
 {
     let disk = needed(alloc, "disk", "DISK", "A disk that `format` made");
-    let whole = Command::new(alloc, "run")
+    Command::new(alloc, "run")
         .about("Recovers a disk and answers the lines of the standard input")
-        .arg(disk)?;
-    Ok(whole)
+        .arg(disk)
 }
 
 /// The program without a command.
@@ -78,25 +76,23 @@ fn bare_command<'a>(alloc: Global) -> Result<Command<'a>, AllocError>
     ensures app { IfOk result (λ c. app_of c ≡ bare_app) }
     ensures local { IfOk result (λ c. (out-Command c).has_globals ≡ false) }
 {
-    let bare = Command::new(alloc, "ckrt")
+    Command::new(alloc, "ckrt")
         .about(
             "Checkpoint and restart of pthread programs; without words it serves a stored program in memory",
         )
         .no_binary_name(true)
         .disable_help_subcommand(true)
         .subcommand_required(true)
-        .bin_name("ckrt")?;
-    Ok(bare)
+        .bin_name("ckrt")
 }
 
 /// The program's command line.
 pub(crate) fn command<'a>(alloc: Global) -> Result<Command<'a>, AllocError>
     ensures { IfOk result (λ c. app_of c ≡ ckrt_app) }
 {
-    let format = format_command(alloc)?;
-    let run = run_command(alloc)?;
     let bare = bare_command(alloc)?;
+    let format = format_command(alloc)?;
     let with_format = bare.subcommand(format)?;
-    let whole = with_format.subcommand(run)?;
-    Ok(whole)
+    let run = run_command(alloc)?;
+    with_format.subcommand(run)
 }

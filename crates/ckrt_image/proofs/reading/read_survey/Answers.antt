@@ -1,7 +1,7 @@
-use Rattle.std.proofs.Common.{◌≡◌, ◌∙◌, sym, subst, rules, Ok, Err}
+use Rattle.std.proofs.Common.{◌≡◌, sym, subst, rules, Ok, Err}
 use Rattle.ckrt_disk.proofs.Moments.{goes_on}
 use Rattle.ckrt_image.specs.Recovery.{Agrees, AgreesOnFault, recovery_of}
-use Rattle.ckrt_image.specs.Surveys.{in_use, replayed_area, recovered_of}
+use Rattle.ckrt_image.specs.Surveys.{in_use, recovered_of}
 use Rattle.ckrt_image.proofs.ReplayLemmas.{fault_in_use, recovered_from_area}
 use Rattle.ckrt_image.proofs.reading.read_survey.Goals as goal
 
@@ -19,25 +19,13 @@ returns-clause-any_moment g c = λ honest.
     goes_on d.moment d.left_since c.args.disk.now c.read_in_use.new.disk c.read_replayed.new.disk (λ _. ⊥)
     (c.read_in_use.ensures.any_moment (c.read_replayed.ensures.honest honest)) (c.read_replayed.ensures.any_moment honest)
 
-pub returns-in_err-survey-clause-exact : goal.returns-in_err-survey-clause-exact
-returns-in_err-survey-clause-exact g c = λ honest.
-    let d = g.D.Disk in
-    let config = c.in_ok-config.config in
-    let area = c.in_ok-config.area in
-    let image = d.content c.args.disk.now in
-    let before : d.is_honest c.read_in_use.new.disk = c.read_replayed.ensures.honest honest in
-    let used : in_use (d.content c.args.disk.now) ≡ Ok (config, area) = search rules in
-    let same : d.content c.read_in_use.new.disk ≡ d.content c.args.disk.now = c.read_in_use.ensures.content before in
-    let agrees : Agrees recovered_of (λ e. e) c.from_residual-in_err-survey.result (replayed_area config area (d.content c.read_in_use.new.disk)) = search rules in
-    subst (λ v. Agrees recovered_of (λ e. e) c.from_residual-in_err-survey.result v) (sym (recovered_from_area image (d.content c.read_in_use.new.disk) config area used same)) agrees
-
 pub returns-clause-exact : goal.returns-clause-exact
 returns-clause-exact g c = λ honest.
     let d = g.D.Disk in
     let config = c.in_ok-config.config in
     let area = c.in_ok-config.area in
+    let image = d.content c.args.disk.now in
     let before : d.is_honest c.read_in_use.new.disk = c.read_replayed.ensures.honest honest in
-    let used : in_use (d.content c.args.disk.now) ≡ Ok (config, area) = search rules in
-    let same : d.content c.read_in_use.new.disk ≡ d.content c.args.disk.now = c.read_in_use.ensures.content before in
-    let replayed : replayed_area config area (d.content c.read_in_use.new.disk) ≡ Ok (recovered_of c.in_ok-survey.survey) = search rules in
-    recovered_from_area (d.content c.args.disk.now) (d.content c.read_in_use.new.disk) config area used same ∙ replayed
+    let used : in_use image ≡ Ok (config, area) = search rules in
+    let same : d.content c.read_in_use.new.disk ≡ image = c.read_in_use.ensures.content before in
+    subst (λ v. Agrees recovered_of (λ e. e) c.read_replayed.result v) (sym (recovered_from_area image (d.content c.read_in_use.new.disk) config area used same)) (c.read_replayed.ensures.exact honest)

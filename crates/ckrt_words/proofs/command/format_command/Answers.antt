@@ -1,6 +1,9 @@
-use Rattle.std.proofs.Common.{ap, ap₂, codes, ◌≡◌, ◌∙◌}
+use Rattle.std.proofs.Common.{ap, ap₂, codes, rules, false, ◌≡◌, ◌∙◌, ◌||◌}
+use Rattle.std.proofs.lemmas.Result.{IfOk-weaker}
 use Rattle.clap.specs.Words.{app_of, new_app, with_rule}
 use Rattle.clap.specs.Simple.{app_of_fields}
+use Rattle.clap.specs.declared.builder.command.Command.TheViews.{out-Command}
+use Rattle.ckrt_words.specs.Commands.{format_app}
 use Rattle.ckrt_words.proofs.command.format_command.Goals as goal
 
 -- argument by argument
@@ -11,4 +14,11 @@ returns-clause-app c =
     let image = c.in_ok-with_image.ensures.shape c.needed-image.ensures.local ∙ ap₂ with_rule disk c.needed-image.ensures.rule in
     let pages = c.in_ok-with_pages.ensures.shape c.number-pages.ensures.local ∙ ap₂ with_rule image c.number-pages.ensures.rule in
     let harts = c.in_ok-with_harts.ensures.shape c.number-harts.ensures.local ∙ ap₂ with_rule pages c.number-harts.ensures.rule in
-    c.in_ok-whole.ensures.shape c.number-journal.ensures.local ∙ ap₂ with_rule harts c.number-journal.ensures.rule
+    IfOk-weaker c.arg-5.result _ (λ whole. app_of whole ≡ format_app)
+    (λ _ adds. adds.shape c.number-journal.ensures.local ∙ ap₂ with_rule harts c.number-journal.ensures.rule) c.arg-5.ensures
+
+pub returns-clause-local : goal.returns-clause-local
+returns-clause-local c =
+    let harts : (out-Command c.in_ok-with_harts.with_harts).has_globals ≡ false = search rules in
+    IfOk-weaker c.arg-5.result _ (λ whole. (out-Command whole).has_globals ≡ false)
+    (λ _ adds. adds.globals ∙ ap₂ ◌||◌ harts c.number-journal.ensures.local) c.arg-5.ensures
