@@ -27,7 +27,7 @@ def rate_of(command):
 
 def machine_rate(machine, path, harts):
     """The console and the rate of one run on the machine, whether the guest ends or not."""
-    return rate_of([machine, path, "64", str(harts), "65535"])
+    return rate_of([machine, "run", path, "64", str(harts), "65535"])
 
 
 def compare(plain, machine, path):

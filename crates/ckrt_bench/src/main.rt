@@ -1,111 +1,71 @@
-//! Runs a guest on the machine, and tells how many steps it made in how much processor time.
+//! The program that the benches measure. It does the jobs of its words in turn, and writes their times to standard error.
 //!
-//! `ckrt_bench IMAGE PAGES HARTS STEPS`: a Run has at most STEPS steps. The guest's console goes to standard
-//! output, and `steps S nanoseconds T` to standard error.
+//! - `ckrt_bench run IMAGE PAGES HARTS STEPS` runs a guest on the machine.
+//! - `ckrt_bench append FILE BYTES COUNT` appends to a journal on a real file.
+//! - `ckrt_bench decode COUNT` reads and decodes a full journal in memory.
 #![tactic(auto)]
 
-ghost use Rattle.std.specs.Prelude.{◌≤◌};
+mod journal;
+mod run;
 
-use anyhow::{Context, Result, bail, ensure};
-use ckrt_calls::Status;
-use ckrt_events::Event;
-use ckrt_machine::{Answer, Machine};
-use ckrt_memory::MemoryError;
-use std::alloc::Global;
-use std::io::Write;
-use std::time::CpuClock;
-use std::{env, fs, io};
+use crate::journal::{time_appends, time_decoding};
+use crate::run::{shape_of, time_run};
+use anyhow::{Context, Result, bail};
+use std::env;
 
-const USAGE: &str = "usage: ckrt_bench IMAGE PAGES HARTS STEPS";
-
-/// How to run a guest.
-#[derive(Clone, Copy)]
-struct Shape {
-    pages: u32,
-    harts: u8,
-    steps: u16,
-    ghost few_pages: { (16 ≤ pages) × (pages ≤ 1024) },
-    ghost few_harts: { (1 ≤ harts) × (harts ≤ 8) },
-}
+const USAGE: &str =
+    "usage: ckrt_bench (run IMAGE PAGES HARTS STEPS | append FILE BYTES COUNT | decode COUNT)...";
 
 fn number(word: &str) -> Result<u32> {
     word.parse::<u32>().context(USAGE)
 }
 
-fn shape_of(pages: &str, harts: &str, steps: &str) -> Result<Shape> {
-    let pages = number(pages)?;
-    let harts = number(harts)?;
-    let steps = number(steps)?;
-    ensure!(16 <= pages && pages <= 1024, "PAGES from 16 to 1024");
-    ensure!(1 <= harts && harts <= 8, "HARTS from 1 to 8");
-    ensure!(1 <= steps && steps <= 65_535, "STEPS from 1 to 65535");
-    Ok(Shape {
-        pages,
-        harts: harts as u8,
-        steps: steps as u16,
-    })
+fn measure_run(rt: &HostRuntime, image: &str, pages: &str, harts: &str, steps: &str) -> Result<()> {
+    let shape = shape_of(number(pages)?, number(harts)?, number(steps)?)?;
+    time_run(rt, image, shape)
 }
 
-/// Does the event if the machine accepts it, and writes what it put.
-fn offer(machine: &mut Machine, event: &Event, console: &mut impl Write) -> io::Result<u64> {
-    if !event.in_range() || machine.accept(0, event).is_err() {
-        return Ok(0);
-    }
-    let answer = machine.step(event);
-    console.write_all(machine.last_output())?;
-    match answer {
-        Answer::Ran(steps, _) => Ok(u64::from(steps)),
-        _ => Ok(0),
-    }
+fn measure_appends(rt: &HostRuntime, path: &str, bytes: &str, count: &str) -> Result<()> {
+    let bytes = bytes.parse::<usize>().context(USAGE)?;
+    time_appends(rt, path, bytes, number(count)?)
 }
 
-/// One turn of every hart: its next thread, and a Run.
-fn turn(machine: &mut Machine, shape: Shape, console: &mut impl Write) -> io::Result<u64> {
-    let mut steps = 0u64;
-    for hart in 0..shape.harts {
-        if let Some(thread) = machine.planned(hart) {
-            offer(machine, &Event::Place(hart, thread), console)?;
+fn measure_decoding(rt: &HostRuntime, count: &str) -> Result<()> {
+    time_decoding(rt, number(count)?)
+}
+
+/// Does the first job that the words ask for, and answers the words behind it.
+fn measure<'a>(rt: &HostRuntime, words: &'a [String]) -> Result<&'a [String]> {
+    match words {
+        [verb, image, pages, harts, steps, rest @ ..] if verb.as_str() == "run" => {
+            measure_run(rt, image, pages, harts, steps)?;
+            Ok(rest)
         }
-        let made = offer(machine, &Event::Run(hart, shape.steps), console)?;
-        steps = steps.wrapping_add(made);
-    }
-    Ok(steps)
-}
-
-/// Turns until the program ends or no hart makes a step.
-fn drive(machine: &mut Machine, shape: Shape, console: &mut impl Write) -> io::Result<u64> {
-    let mut steps = 0u64;
-    for _ in 0..u64::MAX {
-        let made = turn(machine, shape, console)?;
-        if made == 0 {
-            break;
+        [verb, path, bytes, count, rest @ ..] if verb.as_str() == "append" => {
+            measure_appends(rt, path, bytes, count)?;
+            Ok(rest)
         }
-        steps = steps.wrapping_add(made);
+        [verb, count, rest @ ..] if verb.as_str() == "decode" => {
+            measure_decoding(rt, count)?;
+            Ok(rest)
+        }
+        _ => bail!(USAGE),
     }
-    Ok(steps)
 }
 
-fn machine_of(alloc: Global, shape: Shape, image: &[u8]) -> Result<Machine> {
-    match Machine::new(alloc, shape.pages, shape.harts as usize, image) {
-        Ok(machine) => Ok(machine),
-        Err(MemoryError::ImageTooLong) => bail!("the image is too long"),
-        Err(MemoryError::OutOfMemory) => bail!("out of memory"),
+/// Does the jobs in turn.
+fn measure_each(rt: &HostRuntime, words: &[String]) -> Result<()> {
+    let mut rest = words;
+    for _ in 0..words.len() {
+        rest = measure(rt, rest)?;
+        if rest.is_empty() {
+            return Ok(());
+        }
     }
+    bail!(USAGE)
 }
 
 fn main(rt: HostRuntime) -> Result<()> {
-    let words: Vec<String> = env::args(&rt)?.collect(rt.alloc())?;
-    let [_, image, pages, harts, steps] = words.as_slice() else {
-        bail!(USAGE);
-    };
-    let shape = shape_of(pages, harts, steps)?;
-    let image = fs::read(&rt, image.as_str())?;
-    let mut machine = machine_of(rt.alloc(), shape, image.as_slice())?;
-    let start = rt.process_cpu_time()?;
-    let steps = drive(&mut machine, shape, &mut io::writer(&rt))?;
-    let end = rt.process_cpu_time()?;
-    let nanoseconds = end.as_nanos().saturating_sub(start.as_nanos());
-    eprintln!(rt; "steps {steps} nanoseconds {nanoseconds}")?;
-    ensure!(machine.status() != Status::Running, "no thread can run");
-    Ok(())
+    let words: Vec<String> = env::args(&rt)?.skip(1).collect(rt.alloc())?;
+    measure_each(&rt, words.as_slice())
 }

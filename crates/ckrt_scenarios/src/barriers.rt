@@ -5,7 +5,6 @@ use crate::steps::Step::{self, Call, CallEach, Ready};
 use crate::steps::play;
 use ckrt_barrier::SERIAL_THREAD;
 use ckrt_thread::CallResult::{Blocked, Done};
-use std::test::Fail;
 
 const INIT: u32 = 40;
 
@@ -23,8 +22,8 @@ const ALONE: [Step; 4] = [
 ];
 
 #[test]
-fn alone(rt: HostRuntime) -> Result<(), Fail> {
-    play(&rt, 3, &ALONE)
+fn alone(rt: HostRuntime) {
+    play(&rt, 3, &ALONE);
 }
 
 const IN_ROUNDS: [Step; 14] = [
@@ -45,8 +44,8 @@ const IN_ROUNDS: [Step; 14] = [
 ];
 
 #[test]
-fn in_rounds(rt: HostRuntime) -> Result<(), Fail> {
-    play(&rt, 3, &IN_ROUNDS)
+fn in_rounds(rt: HostRuntime) {
+    play(&rt, 3, &IN_ROUNDS);
 }
 
 const FULL: [Step; 5] = [
@@ -58,8 +57,8 @@ const FULL: [Step; 5] = [
 ];
 
 #[test]
-fn at_most_64(rt: HostRuntime) -> Result<(), Fail> {
-    play(&rt, 3, &FULL)
+fn at_most_64(rt: HostRuntime) {
+    play(&rt, 3, &FULL);
 }
 
 /// Three threads with the arguments 1, 2 and 3. In each of four rounds a thread adds its argument to its own word and
@@ -128,6 +127,6 @@ const ROUNDS: [u32; 54] = [
 ];
 
 #[test]
-fn meet_in_rounds(rt: HostRuntime) -> Result<(), Fail> {
-    expect_console(&rt, &ROUNDS, &SCHEDULES, NOTHING_ELSE, b"060c121800")
+fn meet_in_rounds(rt: HostRuntime) {
+    expect_console(&rt, &ROUNDS, &SCHEDULES, NOTHING_ELSE, b"060c121800");
 }

@@ -1,5 +1,5 @@
 //! Calls of the guest, made on the tables of a program by hand.
-ghost use Rattle.std.specs.Prelude.{◌≡◌, ◌%◌, ◌≤◌, true, false, IfOk};
+ghost use Rattle.std.specs.Prelude.{◌≡◌, ◌%◌, ◌≤◌, true, false};
 ghost use Rattle.ckrt_thread.specs.State.{is_live, is_waiting};
 ghost use Rattle.ckrt_calls.specs.declared.table.Status.TheVariants.{Running};
 ghost use Rattle.ckrt_calls.specs.WellFormed.{IsWellFormed};
@@ -7,9 +7,7 @@ ghost use Rattle.ckrt_calls.specs.WellFormed.{IsWellFormed};
 use ckrt_calls::{Status, Tables, call, tick};
 use ckrt_rv32i::Regs;
 use ckrt_thread::CallResult;
-use std::alloc::Global;
 use std::process::Abort;
-use std::test::Fail;
 
 /// The registers of a thread become these.
 fn arm(tables: &mut Tables, thread: u8, regs: &Regs)
@@ -82,10 +80,10 @@ fn create_threads<R: Abort>(rt: &R, tables: &mut Tables, last: u32)
 }
 
 /// The tables of a program of 16 pages and 1 hart, with threads 1 to `last`.
-pub fn tables_with<R: Abort>(rt: &R, alloc: Global, last: u32) -> Result<Tables, Fail>
-    ensures { IfOk result IsWellFormed }
+pub fn tables_with<R: Abort + AllocGlobal>(rt: &R, last: u32) -> Tables
+    ensures { IsWellFormed result }
 {
-    let mut tables = Tables::new(alloc, 16, 1)?;
+    let mut tables = Tables::new(rt.alloc(), 16, 1).expect(rt, "memory for tables");
     create_threads(rt, &mut tables, last);
-    Ok(tables)
+    tables
 }

@@ -8,7 +8,6 @@ use crate::steps::Step::{
 use crate::steps::play;
 use ckrt_thread::CallResult::{Blocked, Done, Moved};
 use ckrt_thread::{Object, UNWIND_GATE};
-use std::test::Fail;
 
 const JOIN: u32 = 11;
 
@@ -41,8 +40,8 @@ const SIGNALLED_FIRST: [Step; 11] = [
 ];
 
 #[test]
-fn signalled_before_it_is_cancelled(rt: HostRuntime) -> Result<(), Fail> {
-    play(&rt, 2, &SIGNALLED_FIRST)
+fn signalled_before_it_is_cancelled(rt: HostRuntime) {
+    play(&rt, 2, &SIGNALLED_FIRST);
 }
 
 const UNWINDS: [Step; 15] = [
@@ -64,8 +63,8 @@ const UNWINDS: [Step; 15] = [
 ];
 
 #[test]
-fn unwinds_through_its_handlers(rt: HostRuntime) -> Result<(), Fail> {
-    play(&rt, 2, &UNWINDS)
+fn unwinds_through_its_handlers(rt: HostRuntime) {
+    play(&rt, 2, &UNWINDS);
 }
 
 const RETAKES: [Step; 14] = [
@@ -86,8 +85,8 @@ const RETAKES: [Step; 14] = [
 ];
 
 #[test]
-fn cancelled_waiter_retakes_its_mutex(rt: HostRuntime) -> Result<(), Fail> {
-    play(&rt, 3, &RETAKES)
+fn cancelled_waiter_retakes_its_mutex(rt: HostRuntime) {
+    play(&rt, 3, &RETAKES);
 }
 
 /// The first thread stands at its start, 0x1000, where the routine returns to.
@@ -101,8 +100,8 @@ const POPPED: [Step; 6] = [
 ];
 
 #[test]
-fn handlers_without_unwinding(rt: HostRuntime) -> Result<(), Fail> {
-    play(&rt, 1, &POPPED)
+fn handlers_without_unwinding(rt: HostRuntime) {
+    play(&rt, 1, &POPPED);
 }
 
 const ASYNCHRONOUS: [Step; 12] = [
@@ -121,6 +120,6 @@ const ASYNCHRONOUS: [Step; 12] = [
 ];
 
 #[test]
-fn asynchronous_and_replaced_values(rt: HostRuntime) -> Result<(), Fail> {
-    play(&rt, 2, &ASYNCHRONOUS)
+fn asynchronous_and_replaced_values(rt: HostRuntime) {
+    play(&rt, 2, &ASYNCHRONOUS);
 }

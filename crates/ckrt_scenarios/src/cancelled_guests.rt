@@ -7,9 +7,7 @@ use crate::service::{expect_replies, image_of};
 use ckrt_calls::Status;
 use ckrt_events::Event;
 use ckrt_machine::{Answer, How, Machine};
-use std::alloc::Global;
 use std::process::Abort;
-use std::test::Fail;
 
 /// Becomes asynchronous, cancels itself, and would loop for ever.
 const CANCELS_ITSELF: [u32; 7] = [
@@ -210,28 +208,28 @@ const SCHEDULES: [Schedule; 6] = [
 ];
 
 #[test]
-fn cancelled_in_each_wait(rt: HostRuntime) -> Result<(), Fail> {
-    expect_console(&rt, &CANCELLED, &SCHEDULES, NOTHING_ELSE, PUT)
+fn cancelled_in_each_wait(rt: HostRuntime) {
+    expect_console(&rt, &CANCELLED, &SCHEDULES, NOTHING_ELSE, PUT);
 }
 
 #[test]
-fn asynchronous_thread_acts_before_its_next_instruction(rt: HostRuntime) -> Result<(), Fail> {
+fn asynchronous_thread_acts_before_its_next_instruction(rt: HostRuntime) {
     expect_replies(
         &rt,
         &CANCELS_ITSELF,
         b"place 0 1\nrun 0 99\n",
         b"ok 1 placed\nok 2 ran 7 end\n",
-    )
+    );
 }
 
 #[test]
-fn deferred_thread_goes_on(rt: HostRuntime) -> Result<(), Fail> {
+fn deferred_thread_goes_on(rt: HostRuntime) {
     expect_replies(
         &rt,
         &STAYS_DEFERRED,
         b"place 0 1\nrun 0 99\n",
         b"ok 1 placed\nok 2 ran 99 on\n",
-    )
+    );
 }
 
 /// The event's answer, if it is accepted.
@@ -245,11 +243,11 @@ fn step_if_accepted(machine: &mut Machine, event: &Event) -> Option<Answer>
 }
 
 /// A machine of 16 pages and one hart, with the first thread on it.
-fn placed(alloc: Global, words: &[u32]) -> Result<Machine, Fail> {
-    let image = image_of(alloc, words)?;
-    let mut machine = Machine::new(alloc, 16, 1, image.as_slice())?;
+fn placed<R: Abort + AllocGlobal>(rt: &R, words: &[u32]) -> Machine {
+    let image = image_of(rt, words);
+    let mut machine = Machine::new(rt.alloc(), 16, 1, image.as_slice()).expect(rt, "a machine");
     step_if_accepted(&mut machine, &Event::Place(0, 1));
-    Ok(machine)
+    machine
 }
 
 /// A run of so many steps at most gets this answer, and leaves the program so.
@@ -261,19 +259,17 @@ fn expect_run<R: Abort>(rt: &R, machine: &mut Machine, steps: u16, answer: Answe
 }
 
 #[test]
-fn last_thread_that_is_cancelled_exits_with_0(rt: HostRuntime) -> Result<(), Fail> {
-    let mut machine = placed(rt.alloc(), &CANCELS_ITSELF)?;
+fn last_thread_that_is_cancelled_exits_with_0(rt: HostRuntime) {
+    let mut machine = placed(&rt, &CANCELS_ITSELF);
     let end = Answer::Ran(7, How::End);
     expect_run(&rt, &mut machine, 99, end, Status::Exited(0));
-    Ok(())
 }
 
 #[test]
-fn each_run_looks_for_the_request(rt: HostRuntime) -> Result<(), Fail> {
-    let mut machine = placed(rt.alloc(), &CANCELS_ITSELF)?;
+fn each_run_looks_for_the_request(rt: HostRuntime) {
+    let mut machine = placed(&rt, &CANCELS_ITSELF);
     let on = Answer::Ran(6, How::On);
     expect_run(&rt, &mut machine, 6, on, Status::Running);
     let end = Answer::Ran(1, How::End);
     expect_run(&rt, &mut machine, 1, end, Status::Exited(0));
-    Ok(())
 }

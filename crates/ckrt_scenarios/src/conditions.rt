@@ -4,7 +4,6 @@ use crate::mutexes::{LOCK, UNLOCK};
 use crate::steps::Step::{self, Call, CallEach, Owner, Ready, Tick, Waits};
 use crate::steps::play;
 use ckrt_thread::CallResult::{Blocked, Done};
-use std::test::Fail;
 
 const DESTROY: u32 = 31;
 
@@ -41,8 +40,8 @@ const DUE_TOGETHER: [Step; 17] = [
 ];
 
 #[test]
-fn due_waits_end_by_deadline_and_thread(rt: HostRuntime) -> Result<(), Fail> {
-    play(&rt, 4, &DUE_TOGETHER)
+fn due_waits_end_by_deadline_and_thread(rt: HostRuntime) {
+    play(&rt, 4, &DUE_TOGETHER);
 }
 
 const WAITED_WITH: [Step; 7] = [
@@ -56,8 +55,8 @@ const WAITED_WITH: [Step; 7] = [
 ];
 
 #[test]
-fn a_waiter_keeps_its_mutex_in_use(rt: HostRuntime) -> Result<(), Fail> {
-    play(&rt, 2, &WAITED_WITH)
+fn a_waiter_keeps_its_mutex_in_use(rt: HostRuntime) {
+    play(&rt, 2, &WAITED_WITH);
 }
 
 const SIGNALLED: [Step; 22] = [
@@ -86,8 +85,8 @@ const SIGNALLED: [Step; 22] = [
 ];
 
 #[test]
-fn signalled_in_order(rt: HostRuntime) -> Result<(), Fail> {
-    play(&rt, 4, &SIGNALLED)
+fn signalled_in_order(rt: HostRuntime) {
+    play(&rt, 4, &SIGNALLED);
 }
 
 const SIGNALLED_BY_OWNER: [Step; 9] = [
@@ -103,8 +102,8 @@ const SIGNALLED_BY_OWNER: [Step; 9] = [
 ];
 
 #[test]
-fn a_signalled_thread_waits_for_its_mutex(rt: HostRuntime) -> Result<(), Fail> {
-    play(&rt, 2, &SIGNALLED_BY_OWNER)
+fn a_signalled_thread_waits_for_its_mutex(rt: HostRuntime) {
+    play(&rt, 2, &SIGNALLED_BY_OWNER);
 }
 
 /// Waits until moment 0, which is due.
@@ -121,6 +120,6 @@ const DUE_AT_ONCE: [Step; 9] = [
 ];
 
 #[test]
-fn a_due_wait_retakes_its_mutex(rt: HostRuntime) -> Result<(), Fail> {
-    play(&rt, 2, &DUE_AT_ONCE)
+fn a_due_wait_retakes_its_mutex(rt: HostRuntime) {
+    play(&rt, 2, &DUE_AT_ONCE);
 }

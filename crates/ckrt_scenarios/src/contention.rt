@@ -1,7 +1,6 @@
 //! Four threads that fight for one mutex: each counts up a shared counter twenty times, in three steps.
 
 use crate::schedules::{NOTHING_ELSE, Schedule, expect_console};
-use std::test::Fail;
 
 const COUNTERS: [u32; 39] = [
     0x00300413, // addi x8, x0, 3
@@ -59,7 +58,7 @@ const SCHEDULES: [Schedule; 5] = [
 ];
 
 #[test]
-fn same_total_under_each_schedule(rt: HostRuntime) -> Result<(), Fail> {
+fn same_total_under_each_schedule(rt: HostRuntime) {
     // the counter, 80
-    expect_console(&rt, &COUNTERS, &SCHEDULES, NOTHING_ELSE, b"50")
+    expect_console(&rt, &COUNTERS, &SCHEDULES, NOTHING_ELSE, b"50");
 }

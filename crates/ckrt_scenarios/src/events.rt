@@ -1,49 +1,63 @@
 //! Events as bytes and as lines of text.
 
-use crate::expect::expect_eq;
+use crate::expect::{expect_bytes, expect_eq, expect_text};
 use arrayvec::ArrayVec;
 use ckrt_events::{
-    Command, Event, LineFault, decode_events, encode_event, encoded_len, encodings_are_prefix_free,
-    parse_command,
+    BATCH_LIMIT, Command, Event, Events, LineFault, decode_events, encode_event, encoded_len,
+    encodings_are_prefix_free, parse_command,
 };
 use std::process::Abort;
-use std::test::Fail;
 
-fn input(bytes: &[u8]) -> Result<Event, Fail> {
+fn input<R: Abort>(rt: &R, bytes: &[u8]) -> Event {
     let mut input = ArrayVec::new();
-    input.try_extend_from_slice(bytes)?;
-    Ok(Event::Input(input))
+    assert!(rt; input.try_extend_from_slice(bytes).is_ok());
+    Event::Input(input)
 }
 
 /// The bytes of one event behind those of others.
-fn push_event<R: Abort>(rt: &R, bytes: &mut ArrayVec<u8, 4096>, event: &Event) {
+fn push_event<R: Abort>(rt: &R, bytes: &mut ArrayVec<u8, BATCH_LIMIT>, event: &Event) {
     assert!(rt; event.in_range());
     assert!(rt; encode_event(event, bytes));
 }
 
+/// The event has so many bytes.
+fn expect_length<R: Abort>(rt: &R, event: &Event, length: usize) {
+    expect_eq(rt, encoded_len(event), length);
+}
+
+/// The bytes encode Place(0, 1) and Run(0, 2).
+fn expect_two_events<R: Abort>(rt: &R, bytes: &[u8]) {
+    let mut events = decode_events(bytes).expect(rt, "events");
+    expect_next(rt, &mut events, Some(Event::Place(0, 1)));
+    expect_next(rt, &mut events, Some(Event::Run(0, 2)));
+    expect_next(rt, &mut events, None);
+}
+
+fn expect_next<R: Abort>(rt: &R, events: &mut Events, want: Option<Event>) {
+    expect_eq(rt, events.next(), want);
+}
+
 #[test]
-fn events_have_the_bytes_of_the_format(rt: HostRuntime) -> Result<(), Fail> {
+fn events_have_the_bytes_of_the_format(rt: HostRuntime) {
     let mut bytes = ArrayVec::new();
     push_event(&rt, &mut bytes, &Event::Place(0, 1));
     push_event(&rt, &mut bytes, &Event::Run(0, 2));
-    assert_eq!(rt; bytes.as_slice(), [1, 0, 1, 2, 0, 2, 0].as_slice());
-    assert_eq!(rt;
-        encoded_len(&Event::Place(0, 1)) + encoded_len(&Event::Run(0, 2)),
-        7
-    );
+    expect_bytes(&rt, bytes.as_slice(), &[1, 0, 1, 2, 0, 2, 0]);
+    expect_two_events(&rt, bytes.as_slice());
+    expect_length(&rt, &Event::Place(0, 1), 3);
+    expect_length(&rt, &Event::Run(0, 2), 4);
     encodings_are_prefix_free();
-
-    let mut events = decode_events(&bytes).ok_or("no events")?;
-    assert_eq!(rt; events.next(), Some(Event::Place(0, 1)));
-    assert_eq!(rt; events.next(), Some(Event::Run(0, 2)));
-    assert_eq!(rt; events.next(), None);
-    Ok(())
 }
 
 /// The line says the command, which is in range.
 fn expect_command<R: Abort>(rt: &R, line: &[u8], command: Command) {
     assert!(rt; command.in_range());
     expect_eq(rt, parse_command(line), Ok(command));
+}
+
+/// The line says these bytes of input.
+fn expect_input<R: Abort>(rt: &R, line: &[u8], bytes: &[u8]) {
+    expect_command(rt, line, Command::Submit(input(rt, bytes)));
 }
 
 const COMMANDS: [(&[u8], Command); 10] = [
@@ -66,13 +80,11 @@ const COMMANDS: [(&[u8], Command); 10] = [
 ];
 
 #[test]
-fn lines_have_their_commands(rt: HostRuntime) -> Result<(), Fail> {
+fn lines_have_their_commands(rt: HostRuntime) {
     for (line, command) in COMMANDS {
         expect_command(&rt, line, command);
     }
-    let input = input(&[0x5a, 0x5b])?;
-    expect_command(&rt, b"in 5A5b", Command::Submit(input));
-    Ok(())
+    expect_input(&rt, b"in 5A5b", &[0x5a, 0x5b]);
 }
 
 /// The line is refused with this fault.
@@ -104,35 +116,26 @@ fn faults_of_lines_come_in_order(rt: HostRuntime) {
 }
 
 #[test]
-fn input_has_64_bytes_at_most(rt: HostRuntime) -> Result<(), Fail> {
+fn input_has_64_bytes_at_most(rt: HostRuntime) {
     let mut line = [b'0'; 133];
     line[..3].copy_from_slice(b"in ");
-    let longest = input(&[0; 64])?;
-    expect_command(&rt, &line[..131], Command::Submit(longest));
+    expect_input(&rt, &line[..131], &[0; 64]);
     expect_fault(&rt, &line, LineFault::Range);
     line[132] = b'g';
     expect_fault(&rt, &line, LineFault::Hex);
-    Ok(())
 }
 
 /// The fault has this code and this name.
-fn expect_name<R: Abort + AllocGlobal>(
-    rt: &R,
-    fault: LineFault,
-    code: u8,
-    name: &str,
-) -> Result<(), Fail> {
+fn expect_name<R: Abort + AllocGlobal>(rt: &R, fault: LineFault, code: u8, name: &str) {
     expect_eq(rt, fault.code(), code);
-    let text = format!(in rt.alloc(); "{fault}")?;
-    expect_eq(rt, text.as_str(), name);
-    Ok(())
+    expect_text(rt, fault, name);
 }
 
 #[test]
-fn faults_have_names_and_codes(rt: HostRuntime) -> Result<(), Fail> {
-    expect_name(&rt, LineFault::Unknown, 31, "Unknown")?;
-    expect_name(&rt, LineFault::Number, 32, "Number")?;
-    expect_name(&rt, LineFault::Hex, 33, "Hex")?;
-    expect_name(&rt, LineFault::Range, 34, "Range")?;
-    expect_name(&rt, LineFault::TooLong, 35, "TooLong")
+fn faults_have_names_and_codes(rt: HostRuntime) {
+    expect_name(&rt, LineFault::Unknown, 31, "Unknown");
+    expect_name(&rt, LineFault::Number, 32, "Number");
+    expect_name(&rt, LineFault::Hex, 33, "Hex");
+    expect_name(&rt, LineFault::Range, 34, "Range");
+    expect_name(&rt, LineFault::TooLong, 35, "TooLong");
 }

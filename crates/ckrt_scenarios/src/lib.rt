@@ -1,4 +1,4 @@
-//! Tests that cross crates, but for what stands on a disk. Nothing else stands here.
+//! Tests that cross crates. Nothing else stands here.
 #![tactic(auto)]
 
 #[cfg(test)]
@@ -14,19 +14,31 @@ mod conditions;
 #[cfg(test)]
 mod contention;
 #[cfg(test)]
+mod disks;
+#[cfg(test)]
 mod events;
 #[cfg(test)]
 mod expect;
 #[cfg(test)]
 mod first_path;
 #[cfg(test)]
+mod formatting;
+#[cfg(test)]
 mod input;
 #[cfg(test)]
 mod instructions;
 #[cfg(test)]
+mod jobs;
+#[cfg(test)]
+mod journal;
+#[cfg(test)]
 mod mutexes;
 #[cfg(test)]
+mod power_loss;
+#[cfg(test)]
 mod program;
+#[cfg(test)]
+mod recovery;
 #[cfg(test)]
 mod rwlocks;
 #[cfg(test)]
@@ -38,6 +50,8 @@ mod service;
 #[cfg(test)]
 mod serving;
 #[cfg(test)]
+mod small_disk;
+#[cfg(test)]
 mod steps;
 #[cfg(test)]
 mod threads;
@@ -45,3 +59,5 @@ mod threads;
 mod time;
 #[cfg(test)]
 mod waiting;
+#[cfg(test)]
+mod words;

@@ -2,20 +2,20 @@
 ghost use Rattle.ckrt_calls.specs.WellFormed.{IsWellFormed};
 
 use crate::calls::{call_as, is_running, tables_with, tick_by};
-use crate::expect::expect_eq;
+use crate::expect::expect_eq_at;
 use ckrt_calls::{INPUT_LIMIT, Tables, act_on_request, close_input, next_handler, take_input};
 use ckrt_rv32i::Regs;
 use ckrt_thread::{CallResult, Object, Thread, ThreadId};
-use std::alloc::Global;
 use std::marker::Model;
 use std::process::Abort;
-use std::test::Fail;
 
 /// A program whose tables are well formed. Contracts see nothing else of it: each step of a test is one call of what
 /// stands below, which a proof passes over.
 #[derive(Drop)]
 pub struct Program {
     tables: Tables,
+    /// How many steps have begun.
+    step: u32,
 }
 
 impl Model for Program {
@@ -28,9 +28,14 @@ impl Model for Program {
 
 impl Program {
     /// A program of 16 pages and 1 hart, with threads 1 to `last`.
-    pub fn new<R: Abort>(rt: &R, alloc: Global, last: u32) -> Result<Program, Fail> {
-        let tables = tables_with(rt, alloc, last)?;
-        Ok(Program { tables })
+    pub fn new<R: Abort + AllocGlobal>(rt: &R, last: u32) -> Program {
+        let tables = tables_with(rt, last);
+        Program { tables, step: 0 }
+    }
+
+    /// The next step of a test begins, which is named where it fails.
+    pub fn begin_step(&mut self) {
+        self.step = self.step.wrapping_add(1);
     }
 
     /// The registers of the thread, which is ready.
@@ -59,7 +64,7 @@ impl Program {
             number,
             [first, second, third, 0],
         );
-        expect_eq(rt, result, want);
+        expect_eq_at(rt, self.step, result, want);
     }
 
     /// The thread makes the call on so many objects, four bytes from one to the next; it answers 0.
@@ -82,7 +87,7 @@ impl Program {
     /// Some ticks pass, and so many waits end.
     pub fn ends_by_tick<R: Abort>(&mut self, rt: &R, ticks: u32, want: u32) {
         let ended = tick_by(rt, &mut self.tables, ticks);
-        expect_eq(rt, ended, want);
+        expect_eq_at(rt, self.step, ended, want);
     }
 
     /// These bytes of input come.
@@ -114,12 +119,12 @@ impl Program {
     /// The thread is ready, and this register has this value.
     pub fn has<R: Abort>(&self, rt: &R, thread: ThreadId, register: u8, value: u32) {
         assert!(rt; register < 32);
-        expect_eq(rt, self.regs(rt, thread).get(register), value);
+        expect_eq_at(rt, self.step, self.regs(rt, thread).get(register), value);
     }
 
     /// The thread is ready at this address.
     pub fn stands_at<R: Abort>(&self, rt: &R, thread: ThreadId, address: u32) {
-        expect_eq(rt, self.regs(rt, thread).pc(), address);
+        expect_eq_at(rt, self.step, self.regs(rt, thread).pc(), address);
     }
 
     /// The thread is not ready.
@@ -129,7 +134,12 @@ impl Program {
 
     /// So many threads wait for the object.
     pub fn has_waiters<R: Abort>(&self, rt: &R, object: Object, count: usize) {
-        expect_eq(rt, self.tables.threads.waiter_count(object), count);
+        expect_eq_at(
+            rt,
+            self.step,
+            self.tables.threads.waiter_count(object),
+            count,
+        );
     }
 
     /// The thread has a request on which it has not acted.
@@ -142,19 +152,30 @@ impl Program {
 
     /// The thread has the mutex at this address.
     pub fn has_mutex<R: Abort>(&self, rt: &R, address: u32, owner: ThreadId) {
-        expect_eq(rt, self.tables.mutexes.mutex(address).owner, Some(owner));
+        expect_eq_at(
+            rt,
+            self.step,
+            self.tables.mutexes.mutex(address).owner,
+            Some(owner),
+        );
     }
 
     /// Who writes under the lock at this address.
     pub fn has_writer<R: Abort>(&self, rt: &R, address: u32, writer: Option<ThreadId>) {
-        expect_eq(rt, self.tables.rwlocks.lock(address).writer, writer);
+        expect_eq_at(
+            rt,
+            self.step,
+            self.tables.rwlocks.lock(address).writer,
+            writer,
+        );
     }
 
     /// The thread has so many read locks of the lock at this address.
     pub fn has_read_locks<R: Abort>(&self, rt: &R, address: u32, thread: ThreadId, count: u16) {
         assert!(rt; thread <= 64);
-        expect_eq(
+        expect_eq_at(
             rt,
+            self.step,
             self.tables.rwlocks.lock(address).read_count(thread),
             count,
         );

@@ -4,7 +4,6 @@ use crate::schedules::{NOTHING_ELSE, SCHEDULES, expect_console};
 use crate::steps::Step::{self, Call, Reads, Ready, Waits, Writer};
 use crate::steps::play;
 use ckrt_thread::CallResult::{Blocked, Done};
-use std::test::Fail;
 
 const INIT: u32 = 50;
 
@@ -39,8 +38,8 @@ const WRITER_WAITS: [Step; 13] = [
 ];
 
 #[test]
-fn nobody_passes_a_waiting_writer(rt: HostRuntime) -> Result<(), Fail> {
-    play(&rt, 3, &WRITER_WAITS)
+fn nobody_passes_a_waiting_writer(rt: HostRuntime) {
+    play(&rt, 3, &WRITER_WAITS);
 }
 
 const ERRORS: [Step; 10] = [
@@ -57,8 +56,8 @@ const ERRORS: [Step; 10] = [
 ];
 
 #[test]
-fn each_error(rt: HostRuntime) -> Result<(), Fail> {
-    play(&rt, 3, &ERRORS)
+fn each_error(rt: HostRuntime) {
+    play(&rt, 3, &ERRORS);
 }
 
 /// Two writers and two readers of a pair of words, under one read-write lock. Each writer adds 1 to both words ten times;
@@ -146,6 +145,6 @@ const PAIR: [u32; 70] = [
 ];
 
 #[test]
-fn readers_see_equal_words(rt: HostRuntime) -> Result<(), Fail> {
-    expect_console(&rt, &PAIR, &SCHEDULES, NOTHING_ELSE, b"14")
+fn readers_see_equal_words(rt: HostRuntime) {
+    expect_console(&rt, &PAIR, &SCHEDULES, NOTHING_ELSE, b"14");
 }

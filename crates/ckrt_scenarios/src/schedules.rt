@@ -1,10 +1,9 @@
 //! A guest under several schedules, from lines to what it puts to the console.
 
+use crate::expect::{expect_eq_at, push};
 use crate::service::replies;
 use ckrt_main::Config;
-use std::alloc::Global;
 use std::process::Abort;
-use std::test::Fail;
 
 /// Harts, steps in a row, and rounds.
 pub type Schedule = (u32, u32, u32);
@@ -38,91 +37,91 @@ pub const NOTHING_ELSE: Around = Around {
     each: b"",
 };
 
-/// A line `auto` for each hart.
-fn push_autos(lines: &mut Vec<u8>, alloc: Global, harts: u32, steps: u32) -> Result<(), Fail> {
-    for hart in 0..harts {
-        let line = format!(in alloc; "auto {hart} {steps}\n")?;
-        lines.extend_from_slice(line.as_bytes())?;
-    }
-    Ok(())
+/// A line `auto`.
+fn push_auto<R: Abort + AllocGlobal>(rt: &R, lines: &mut Vec<u8>, hart: u32, steps: u32) {
+    let line = format!(in rt.alloc(); "auto {hart} {steps}\n").expect(rt, "memory for a text");
+    push(rt, lines, line.as_bytes());
 }
 
 /// A round: `auto` on each hart with this many steps, then these lines and a commit.
-fn push_round(
+fn push_round<R: Abort + AllocGlobal>(
+    rt: &R,
     lines: &mut Vec<u8>,
-    alloc: Global,
     harts: u32,
     steps: u32,
     each: &[u8],
-) -> Result<(), Fail> {
-    push_autos(lines, alloc, harts, steps)?;
-    lines.extend_from_slice(each)?;
-    lines.extend_from_slice(b"commit\n")?;
-    Ok(())
+) {
+    for hart in 0..harts {
+        push_auto(rt, lines, hart, steps);
+    }
+    push(rt, lines, each);
+    push(rt, lines, b"commit\n");
 }
 
 /// So many rounds.
-fn push_rounds(
+fn push_rounds<R: Abort + AllocGlobal>(
+    rt: &R,
     lines: &mut Vec<u8>,
-    alloc: Global,
     harts: u32,
     steps: u32,
     count: u32,
     each: &[u8],
-) -> Result<(), Fail> {
+) {
     for _ in 0..count {
-        push_round(lines, alloc, harts, steps, each)?;
+        push_round(rt, lines, harts, steps, each);
     }
-    Ok(())
 }
 
 /// The lines of the schedule.
-fn lines_of(alloc: Global, schedule: Schedule, around: Around) -> Result<Vec<u8>, Fail> {
+fn lines_of<R: Abort + AllocGlobal>(rt: &R, schedule: Schedule, around: Around) -> Vec<u8> {
     let (harts, steps, count) = schedule;
-    let mut lines = Vec::new(alloc);
+    let mut lines = Vec::new(rt.alloc());
     push_rounds(
+        rt,
         &mut lines,
-        alloc,
         harts,
         steps,
         around.rounds_before,
         around.each_before,
-    )?;
-    lines.extend_from_slice(around.between)?;
-    push_rounds(&mut lines, alloc, harts, steps, count, around.each)?;
-    Ok(lines)
+    );
+    push(rt, &mut lines, around.between);
+    push_rounds(rt, &mut lines, harts, steps, count, around.each);
+    lines
+}
+
+/// The hexadecimal digits of a line of output, and none of another.
+fn digits_of(line: &[u8]) -> &[u8] {
+    if !line.starts_with(b"out ") {
+        return &[];
+    }
+    line.rsplit(|byte| *byte == b' ').next().unwrap_or(&[])
 }
 
 /// What these replies put to the console, in hexadecimal digits.
-fn put_by(alloc: Global, replies: &[u8]) -> Result<Vec<u8>, Fail> {
-    let mut put = Vec::new(alloc);
+fn put_by<R: Abort + AllocGlobal>(rt: &R, replies: &[u8]) -> Vec<u8> {
+    let mut put = Vec::new(rt.alloc());
     for line in replies.split(|byte| *byte == b'\n') {
-        if line.starts_with(b"out ") {
-            let digits = line.rsplit(|byte| *byte == b' ').next();
-            if let Some(digits) = digits {
-                put.extend_from_slice(digits)?;
-            }
-        }
+        push(rt, &mut put, digits_of(line));
     }
-    Ok(put)
+    put
 }
 
 /// What the guest puts to the console under the schedule, in hexadecimal digits.
-fn console(
-    alloc: Global,
+fn console<R: Abort + AllocGlobal>(
+    rt: &R,
     words: &[u32],
     schedule: Schedule,
     around: Around,
-) -> Result<Vec<u8>, Fail> {
+) -> Vec<u8> {
     let (harts, _, _) = schedule;
     let config = Config {
         pages: 16,
         harts,
         journal: 1_048_576,
     };
-    let lines = lines_of(alloc, schedule, around)?;
-    let text = replies(alloc, words, config, lines.as_slice())?;
-    put_by(alloc, text.as_slice())
+    let lines = lines_of(rt, schedule, around);
+    let text = replies(rt, words, config, lines.as_slice());
+    put_by(rt, text.as_slice())
 }
 
 /// The guest puts this to the console under the schedule.
@@ -132,11 +131,9 @@ fn expect_under<R: Abort + AllocGlobal>(
     schedule: Schedule,
     around: Around,
     want: &[u8],
-) -> Result<(), Fail> {
-    let put = console(rt.alloc(), words, schedule, around)?;
-    let (harts, steps, _) = schedule;
-    assert_eq!(rt; put.as_slice(), want, "{harts} harts, {steps} steps");
-    Ok(())
+) {
+    let put = console(rt, words, schedule, around);
+    expect_eq_at(rt, schedule, put.as_slice(), want);
 }
 
 /// The guest puts this to the console, in hexadecimal digits, under each of the schedules.
@@ -146,9 +143,8 @@ pub fn expect_console<R: Abort + AllocGlobal>(
     schedules: &[Schedule],
     around: Around,
     want: &[u8],
-) -> Result<(), Fail> {
+) {
     for schedule in schedules {
-        expect_under(rt, words, *schedule, around, want)?;
+        expect_under(rt, words, *schedule, around, want);
     }
-    Ok(())
 }

@@ -1,61 +1,48 @@
 //! A service from lines to replies, for the other tests.
 
-use crate::expect::expect_eq;
+use crate::expect::{expect_bytes, expect_eq, push};
+use crate::small_disk::SMALL;
 use ckrt_main::{Config, serve_image};
-use std::alloc::Global;
 use std::process::Abort;
-use std::test::Fail;
-
-/// 16 pages, 1 hart, and a journal of 4,096 bytes.
-pub const SMALL: Config = Config {
-    pages: 16,
-    harts: 1,
-    journal: 4_096,
-};
 
 /// An image of these words, little-endian.
-pub fn image_of(alloc: Global, words: &[u32]) -> Result<Vec<u8>, Fail> {
-    let mut image = Vec::new(alloc);
+pub fn image_of<R: Abort + AllocGlobal>(rt: &R, words: &[u32]) -> Vec<u8> {
+    let mut image = Vec::new(rt.alloc());
     for word in words {
-        image.extend_from_slice(&word.to_le_bytes())?;
+        push(rt, &mut image, &word.to_le_bytes());
     }
-    Ok(image)
+    image
 }
 
 /// What a service of the image writes for these lines.
-pub fn replies(
-    alloc: Global,
+pub fn replies<R: Abort + AllocGlobal>(
+    rt: &R,
     words: &[u32],
     config: Config,
     lines: &[u8],
-) -> Result<Vec<u8>, Fail> {
-    let image = image_of(alloc, words)?;
+) -> Vec<u8> {
+    let image = image_of(rt, words);
     let mut reader = lines;
-    let mut writer = Vec::new(alloc);
-    serve_image(alloc, image.as_slice(), config, &mut reader, &mut writer)?;
-    Ok(writer)
+    let mut writer = Vec::new(rt.alloc());
+    let done = serve_image(
+        rt.alloc(),
+        image.as_slice(),
+        config,
+        &mut reader,
+        &mut writer,
+    );
+    expect_eq(rt, done, Ok(()));
+    writer
 }
 
 /// A service of the image with the small configuration writes this for these lines.
-pub fn expect_replies<R: Abort + AllocGlobal>(
-    rt: &R,
-    words: &[u32],
-    lines: &[u8],
-    want: &[u8],
-) -> Result<(), Fail> {
-    let text = replies(rt.alloc(), words, SMALL, lines)?;
-    expect_eq(rt, text.as_slice(), want);
-    Ok(())
+pub fn expect_replies<R: Abort + AllocGlobal>(rt: &R, words: &[u32], lines: &[u8], want: &[u8]) {
+    let text = replies(rt, words, SMALL, lines);
+    expect_bytes(rt, text.as_slice(), want);
 }
 
 /// The reply to an event that is accepted as number `count`.
-pub fn push_reply(
-    replies: &mut Vec<u8>,
-    alloc: Global,
-    count: u32,
-    text: &str,
-) -> Result<(), Fail> {
-    let reply = format!(in alloc; "ok {count} {text}\n")?;
-    replies.extend_from_slice(reply.as_bytes())?;
-    Ok(())
+pub fn push_reply<R: Abort + AllocGlobal>(rt: &R, replies: &mut Vec<u8>, count: u32, text: &str) {
+    let reply = format!(in rt.alloc(); "ok {count} {text}\n").expect(rt, "memory for a text");
+    push(rt, replies, reply.as_bytes());
 }

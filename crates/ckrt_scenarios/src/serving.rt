@@ -1,25 +1,15 @@
 //! Services over readers, writers and disks that fail, and over the next life.
 
-use crate::expect::expect_eq;
-use ckrt_disk::{Disk, FailingDisk, MemoryDisk, StoppingDisk};
+use crate::expect::{copied, expect_bytes, expect_eq, memory_disk, stopping_disk};
+use crate::small_disk::{
+    IMAGE, SMALL, formatted, recovered, recovered_in_memory, recovery_outcome,
+};
+use ckrt_disk::{Disk, FailingDisk, MemoryDisk};
 use ckrt_main::{ServeFault, serve, serve_image};
-use ckrt_recovery::{Config, Session, format, recover};
+use ckrt_recovery::Session;
 use std::io::{self, ErrorKind, Read, Write};
 use std::ops::RangeInclusive;
 use std::process::Abort;
-use std::test::Fail;
-
-/// Prints the letter `A`, and exits with 0.
-const IMAGE: [u8; 24] = [
-    0x13, 0x05, 0x10, 0x04, 0x93, 0x08, 0x20, 0x00, 0x73, 0x00, 0x00, 0x00, 0x13, 0x05, 0x00, 0x00,
-    0x93, 0x08, 0x10, 0x00, 0x73, 0x00, 0x00, 0x00,
-];
-
-const CONFIG: Config = Config {
-    pages: 16,
-    harts: 1,
-    journal: 4_096,
-};
 
 /// Gives its bytes one at a time, with an interruption before each, and fails where so many are left.
 #[derive(Drop)]
@@ -96,9 +86,9 @@ fn expect_served<R: Abort + AllocGlobal>(
         bytes: Vec::new(rt.alloc()),
         fails_at: write_fails_at,
     };
-    let done = serve_image(rt.alloc(), &IMAGE, CONFIG, &mut reader, &mut writer);
+    let done = serve_image(rt.alloc(), &IMAGE, SMALL, &mut reader, &mut writer);
     expect_eq(rt, done, want);
-    expect_eq(rt, writer.bytes.as_slice(), reply);
+    expect_bytes(rt, writer.bytes.as_slice(), reply);
 }
 
 #[test]
@@ -120,39 +110,21 @@ fn a_fault_of_the_writer_is_answered(rt: HostRuntime) {
     expect_served(&rt, None, 36, Err(ServeFault::Write), reply);
 }
 
-/// A disk in memory, formatted for the image.
-fn formatted<R: Abort + AllocGlobal>(rt: &R) -> Result<MemoryDisk, Fail> {
-    assert!(rt; CONFIG.is_valid());
-    let zeros = vec![in rt.alloc(); 0; CONFIG.size_needed()]?;
-    let mut disk = MemoryDisk::new(rt.alloc(), zeros)?;
-    assert_eq!(rt; format(rt.alloc(), &mut disk, CONFIG, &IMAGE), Ok(()));
-    Ok(disk)
-}
-
-/// The session that is recovered from a disk.
-fn recovered<R: Abort + AllocGlobal, D: Disk>(rt: &R, disk: D) -> Session<D> {
-    match recover(rt.alloc(), disk) {
-        Ok(session) => session,
-        Err(unrecovered) => panic!(rt; "{}", unrecovered.fault),
-    }
-}
-
 /// A session of a new disk.
-fn first_session<R: Abort + AllocGlobal>(rt: &R) -> Result<Session<MemoryDisk>, Fail> {
-    let disk = formatted(rt)?;
-    Ok(recovered(rt, disk))
+fn first_session<R: Abort + AllocGlobal>(rt: &R) -> Session<MemoryDisk> {
+    recovered_in_memory(rt, formatted(rt, &IMAGE))
 }
 
 /// What a service of the session writes for these lines.
-fn replies<R: AllocGlobal, D: Disk>(
+fn replies<R: Abort + AllocGlobal, D: Disk>(
     rt: &R,
     session: &mut Session<D>,
     lines: &[u8],
-) -> Result<Vec<u8>, Fail> {
+) -> Vec<u8> {
     let mut reader = lines;
     let mut writer = Vec::new(rt.alloc());
-    serve(&mut reader, &mut writer, session)?;
-    Ok(writer)
+    expect_eq(rt, serve(&mut reader, &mut writer, session), Ok(()));
+    writer
 }
 
 /// A service of the session writes this for these lines.
@@ -161,10 +133,9 @@ fn expect_replies<R: Abort + AllocGlobal, D: Disk>(
     session: &mut Session<D>,
     lines: &[u8],
     want: &[u8],
-) -> Result<(), Fail> {
-    let text = replies(rt, session, lines)?;
-    expect_eq(rt, text.as_slice(), want);
-    Ok(())
+) {
+    let text = replies(rt, session, lines);
+    expect_bytes(rt, text.as_slice(), want);
 }
 
 /// The writer fails in the middle of the line of output.
@@ -185,13 +156,12 @@ fn expect_output<R: Abort>(rt: &R, session: &Session<MemoryDisk>, confirmed: u64
 }
 
 #[test]
-fn a_failed_write_confirms_nothing(rt: HostRuntime) -> Result<(), Fail> {
-    let mut session = first_session(&rt)?;
+fn a_failed_write_confirms_nothing(rt: HostRuntime) {
+    let mut session = first_session(&rt);
     expect_failed_write(&rt, &mut session);
     expect_output(&rt, &session, 0, 1);
-    expect_replies(&rt, &mut session, b"", b"out 0 41\n")?;
+    expect_replies(&rt, &mut session, b"", b"out 0 41\n");
     expect_output(&rt, &session, 1, 1);
-    Ok(())
 }
 
 /// The reader fails in the middle of `commit`.
@@ -208,14 +178,13 @@ fn expect_failed_read<R: Abort + AllocGlobal>(
     let mut writer = Vec::new(rt.alloc());
     let done = serve(&mut reader, &mut writer, session);
     expect_eq(rt, done, Err(ServeFault::Read));
-    expect_eq(rt, writer.as_slice(), want);
+    expect_bytes(rt, writer.as_slice(), want);
 }
 
 #[test]
-fn a_failed_read_is_answered(rt: HostRuntime) -> Result<(), Fail> {
-    let mut session = first_session(&rt)?;
+fn a_failed_read_is_answered(rt: HostRuntime) {
+    let mut session = first_session(&rt);
     expect_failed_read(&rt, &mut session, b"ok 1 placed\nok 2 ran 6 end\n");
-    Ok(())
 }
 
 /// The session of the next life.
@@ -227,11 +196,11 @@ fn next_session<R: Abort + AllocGlobal>(
 }
 
 #[test]
-fn output_of_an_earlier_life_comes_first(rt: HostRuntime) -> Result<(), Fail> {
-    let mut session = first_session(&rt)?;
-    expect_replies(&rt, &mut session, ROW, REPLY)?;
+fn output_of_an_earlier_life_comes_first(rt: HostRuntime) {
+    let mut session = first_session(&rt);
+    expect_replies(&rt, &mut session, ROW, REPLY);
     let mut session = next_session(&rt, session);
-    expect_replies(&rt, &mut session, b"run 0 1\n", b"out 0 41\nno 1 Ended\n")
+    expect_replies(&rt, &mut session, b"run 0 1\n", b"out 0 41\nno 1 Ended\n");
 }
 
 /// So many events are acknowledged.
@@ -240,16 +209,15 @@ fn expect_acknowledged<R: Abort>(rt: &R, session: &Session<MemoryDisk>, count: u
 }
 
 #[test]
-fn nothing_is_committed_but_by_commit(rt: HostRuntime) -> Result<(), Fail> {
-    let mut session = first_session(&rt)?;
+fn nothing_is_committed_but_by_commit(rt: HostRuntime) {
+    let mut session = first_session(&rt);
     expect_replies(
         &rt,
         &mut session,
         b"place 0 1\ncommit\nrun 0 2\nquit\n",
         b"ok 1 placed\nack 1\nok 2 ran 2 on\n",
-    )?;
+    );
     expect_acknowledged(&rt, &session, 1);
-    Ok(())
 }
 
 /// Two commits and a line behind them.
@@ -275,33 +243,32 @@ fn failures_in<R: Abort>(rt: &R, replies: &[u8]) -> (u8, u8) {
     if is_same(replies, SECOND_FAILED) {
         return (0, 1);
     }
-    expect_eq(rt, replies, NONE_FAILED);
+    expect_bytes(rt, replies, NONE_FAILED);
     (0, 0)
 }
 
 /// The same on a disk that fails at this call; none where there is no session.
-fn failures_at<R: Abort + AllocGlobal>(rt: &R, at_call: u64) -> Result<(u8, u8), Fail> {
-    let disk = FailingDisk::new(formatted(rt)?, at_call);
-    let Ok(mut session) = recover(rt.alloc(), disk) else {
-        return Ok((0, 0));
-    };
-    let text = replies(rt, &mut session, LINES)?;
-    Ok(failures_in(rt, text.as_slice()))
+fn failures_at<R: Abort + AllocGlobal>(rt: &R, image: &[u8], at_call: u64) -> (u8, u8) {
+    let disk = FailingDisk::new(memory_disk(rt, copied(rt, image)), at_call);
+    match recovery_outcome(rt, disk) {
+        Ok(mut session) => failures_in(rt, replies(rt, &mut session, LINES).as_slice()),
+        Err(_) => (0, 0),
+    }
 }
 
 #[test]
-fn the_lines_go_on_after_a_failed_commit(rt: HostRuntime) -> Result<(), Fail> {
+fn the_lines_go_on_after_a_failed_commit(rt: HostRuntime) {
+    let image = formatted(&rt, &IMAGE);
     let mut failed = (0u8, 0u8);
     for at_call in 1..60 {
-        let (first, second) = failures_at(&rt, at_call)?;
+        let (first, second) = failures_at(&rt, image.as_slice(), at_call);
         failed = (
             failed.0.saturating_add(first),
             failed.1.saturating_add(second),
         );
     }
     // a commit makes two writes and two syncs
-    assert_eq!(rt; failed, (4, 4));
-    Ok(())
+    expect_eq(&rt, failed, (4, 4));
 }
 
 /// What a stop may lay over the bytes that aren't synced.
@@ -337,50 +304,60 @@ fn rest_of_two_commits(events: u64) -> (&'static [u8], &'static [u8]) {
     }
 }
 
+/// What a service that is stopped at a call leaves of the image.
+fn stopped<R: Abort + AllocGlobal>(
+    rt: &R,
+    image: &[u8],
+    at_call: u64,
+    fill: &[u8],
+    reply: &[u8],
+) -> Vec<u8> {
+    let mut session = recovered(rt, stopping_disk(rt, copied(rt, image), at_call, fill));
+    expect_replies(rt, &mut session, TWO_COMMITS, reply);
+    session.into_disk().into_image()
+}
+
 /// The service is stopped at a call, and goes on in the next life from at least the last `ack` that was written.
 fn expect_goes_on<R: Abort + AllocGlobal>(
     rt: &R,
+    image: &[u8],
     at_call: u64,
     fill: &[u8],
     reply: &[u8],
     recovers_to: &[u64],
-) -> Result<(), Fail> {
-    let image = formatted(rt)?.into_image();
-    let disk = StoppingDisk::new(rt.alloc(), image, at_call, fill.to_vec(rt.alloc())?)?;
-    let mut session = recovered(rt, disk);
-    expect_replies(rt, &mut session, TWO_COMMITS, reply)?;
-    let image = session.into_disk().into_image();
-    let mut next = recovered(rt, MemoryDisk::new(rt.alloc(), image)?);
-    assert!(rt; recovers_to.contains(&next.acknowledged()));
-    let (lines, want) = rest_of_two_commits(next.acknowledged());
-    expect_replies(rt, &mut next, lines, want)
+) {
+    let mut next = recovered_in_memory(rt, stopped(rt, image, at_call, fill, reply));
+    let events = next.acknowledged();
+    assert!(rt; recovers_to.contains(&events));
+    let (lines, want) = rest_of_two_commits(events);
+    expect_replies(rt, &mut next, lines, want);
 }
 
 /// The same at each of these calls.
 fn expect_goes_on_at_each<R: Abort + AllocGlobal>(
     rt: &R,
+    image: &[u8],
     calls: RangeInclusive<u64>,
     fill: &[u8],
     reply: &[u8],
     recovers_to: &[u64],
-) -> Result<(), Fail> {
+) {
     for at_call in calls {
-        expect_goes_on(rt, at_call, fill, reply, recovers_to)?;
+        expect_goes_on(rt, image, at_call, fill, reply, recovers_to);
     }
-    Ok(())
 }
 
 /// The same at each call of a service; call 1 is the recovery's sync, and a commit makes four.
-fn expect_goes_on_with<R: Abort + AllocGlobal>(rt: &R, fill: &[u8]) -> Result<(), Fail> {
-    expect_goes_on_at_each(rt, 2..=5, fill, STOPPED_IN_FIRST, &[0, 2])?;
-    expect_goes_on_at_each(rt, 6..=9, fill, STOPPED_IN_SECOND, &[2, 3])?;
-    expect_goes_on(rt, 10, fill, BOTH_COMMITTED, &[3])
+fn expect_goes_on_with<R: Abort + AllocGlobal>(rt: &R, image: &[u8], fill: &[u8]) {
+    expect_goes_on_at_each(rt, image, 2..=5, fill, STOPPED_IN_FIRST, &[0, 2]);
+    expect_goes_on_at_each(rt, image, 6..=9, fill, STOPPED_IN_SECOND, &[2, 3]);
+    expect_goes_on(rt, image, 10, fill, BOTH_COMMITTED, &[3]);
 }
 
 #[test]
-fn the_next_life_goes_on_after_a_stop(rt: HostRuntime) -> Result<(), Fail> {
+fn the_next_life_goes_on_after_a_stop(rt: HostRuntime) {
+    let image = formatted(&rt, &IMAGE);
     for fill in FILLS {
-        expect_goes_on_with(&rt, fill)?;
+        expect_goes_on_with(&rt, image.as_slice(), fill);
     }
-    Ok(())
 }

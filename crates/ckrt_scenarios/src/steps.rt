@@ -3,7 +3,6 @@
 use crate::program::Program;
 use ckrt_thread::{CallResult, Object, ThreadId};
 use std::process::Abort;
-use std::test::Fail;
 
 /// A call that is made, another event, or a look at what came of them.
 #[derive(Clone, Copy)]
@@ -93,10 +92,10 @@ fn take<R: Abort>(rt: &R, program: &mut Program, step: Step) {
 }
 
 /// Takes these steps with a program of 16 pages and 1 hart, with threads 1 to `last`.
-pub fn play<R: Abort + AllocGlobal>(rt: &R, last: u32, steps: &[Step]) -> Result<(), Fail> {
-    let mut program = Program::new(rt, rt.alloc(), last)?;
+pub fn play<R: Abort + AllocGlobal>(rt: &R, last: u32, steps: &[Step]) {
+    let mut program = Program::new(rt, last);
     for step in steps {
+        program.begin_step();
         take(rt, &mut program, *step);
     }
-    Ok(())
 }

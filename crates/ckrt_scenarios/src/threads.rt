@@ -1,7 +1,6 @@
 //! Several guest threads.
 
 use crate::service::expect_replies;
-use std::test::Fail;
 
 /// Creates a thread that puts a B, joins it and exits.
 const JOINS: [u32; 13] = [
@@ -10,21 +9,21 @@ const JOINS: [u32; 13] = [
 ];
 
 #[test]
-fn creates_and_joins(rt: HostRuntime) -> Result<(), Fail> {
+fn creates_and_joins(rt: HostRuntime) {
     expect_replies(
         &rt,
         &JOINS,
         b"place 0 1\nrun 0 99\nplace 0 2\nrun 0 99\nplace 0 1\nrun 0 99\ncommit\n",
         b"ok 1 placed\nok 2 ran 8 off\nok 3 placed\nok 4 ran 4 off\nok 5 placed\nok 6 ran 2 end\nack 6\nout 0 42\n",
-    )
+    );
 }
 
 #[test]
-fn auto_places_the_planned_thread(rt: HostRuntime) -> Result<(), Fail> {
+fn auto_places_the_planned_thread(rt: HostRuntime) {
     expect_replies(
         &rt,
         &JOINS,
         b"auto 0 99\nauto 0 99\nauto 0 99\ncommit\n",
         b"ok 1 placed\nok 2 ran 8 off\nok 3 placed\nok 4 ran 4 off\nok 5 placed\nok 6 ran 2 end\nack 6\nout 0 42\n",
-    )
+    );
 }

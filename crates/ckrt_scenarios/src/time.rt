@@ -5,7 +5,6 @@ use crate::service::expect_replies;
 use crate::steps::Step::{self, Call, EndOfInput, Input, Owner, Ready, Second, Tick, Waits};
 use crate::steps::play;
 use ckrt_thread::CallResult::{Blocked, Done};
-use std::test::Fail;
 
 const GETC: u32 = 3;
 
@@ -26,8 +25,8 @@ const CLOCKED: [Step; 4] = [
 ];
 
 #[test]
-fn clock_in_two_words(rt: HostRuntime) -> Result<(), Fail> {
-    play(&rt, 1, &CLOCKED)
+fn clock_in_two_words(rt: HostRuntime) {
+    play(&rt, 1, &CLOCKED);
 }
 
 const SLEPT: [Step; 13] = [
@@ -47,8 +46,8 @@ const SLEPT: [Step; 13] = [
 ];
 
 #[test]
-fn sleeps_end_at_their_moments(rt: HostRuntime) -> Result<(), Fail> {
-    play(&rt, 4, &SLEPT)
+fn sleeps_end_at_their_moments(rt: HostRuntime) {
+    play(&rt, 4, &SLEPT);
 }
 
 const LOCKED_IN_TIME: [Step; 15] = [
@@ -71,8 +70,8 @@ const LOCKED_IN_TIME: [Step; 15] = [
 ];
 
 #[test]
-fn timed_locks(rt: HostRuntime) -> Result<(), Fail> {
-    play(&rt, 2, &LOCKED_IN_TIME)
+fn timed_locks(rt: HostRuntime) {
+    play(&rt, 2, &LOCKED_IN_TIME);
 }
 
 const READ: [Step; 15] = [
@@ -94,16 +93,16 @@ const READ: [Step; 15] = [
 ];
 
 #[test]
-fn readers_are_served_in_order(rt: HostRuntime) -> Result<(), Fail> {
-    play(&rt, 4, &READ)
+fn readers_are_served_in_order(rt: HostRuntime) {
+    play(&rt, 4, &READ);
 }
 
 #[test]
-fn reads_and_puts(rt: HostRuntime) -> Result<(), Fail> {
+fn reads_and_puts(rt: HostRuntime) {
     expect_replies(
         &rt,
         &[0x00300893, 0x00000073, 0x00200893, 0x00000073],
         b"place 0 1\nrun 0 9\nin 5a\nrun 0 1\nauto 0 2\ncommit\n",
         b"ok 1 placed\nok 2 ran 2 off\nok 3 taken 1\nno 5 HartIdle\nok 4 placed\nok 5 ran 2 on\nack 5\nout 0 5a\n",
-    )
+    );
 }

@@ -1,7 +1,6 @@
 //! Guests whose threads wait: at conditions, for moments, and for input. Each puts the same bytes under every schedule.
 
 use crate::schedules::{Around, NOTHING_ELSE, SCHEDULES, expect_console};
-use std::test::Fail;
 
 /// Two producers and two consumers over a buffer of two places: each producer puts 10 to 1, and the sum, 110, is
 /// put to the console at the end. One condition is for a place that is free, one for a place that is full.
@@ -215,8 +214,8 @@ const READERS: [u32; 41] = [
 ];
 
 #[test]
-fn bounded_buffer(rt: HostRuntime) -> Result<(), Fail> {
-    expect_console(&rt, &BOUNDED, &SCHEDULES, NOTHING_ELSE, b"6e")
+fn bounded_buffer(rt: HostRuntime) {
+    expect_console(&rt, &BOUNDED, &SCHEDULES, NOTHING_ELSE, b"6e");
 }
 
 /// The threads are asleep before the clock begins to tick.
@@ -228,8 +227,8 @@ const TICKS: Around = Around {
 };
 
 #[test]
-fn sleepers_wake_in_order(rt: HostRuntime) -> Result<(), Fail> {
-    expect_console(&rt, &SLEEPERS, &SCHEDULES, TICKS, b"14283c")
+fn sleepers_wake_in_order(rt: HostRuntime) {
+    expect_console(&rt, &SLEEPERS, &SCHEDULES, TICKS, b"14283c");
 }
 
 const INPUT: Around = Around {
@@ -240,6 +239,6 @@ const INPUT: Around = Around {
 };
 
 #[test]
-fn readers_share_the_input(rt: HostRuntime) -> Result<(), Fail> {
-    expect_console(&rt, &READERS, &SCHEDULES, INPUT, b"50")
+fn readers_share_the_input(rt: HostRuntime) {
+    expect_console(&rt, &READERS, &SCHEDULES, INPUT, b"50");
 }

@@ -1,3 +1,4 @@
+use crate::expect::expect_eq_at;
 use ckrt_words::{FormatJob, Job, WordsFault, read_words};
 use std::process::Abort;
 
@@ -9,17 +10,18 @@ fn expect_job<'a, R: Abort + AllocGlobal>(rt: &R, words: &'a [&'a str], job: Job
     }
 }
 
+/// Whether the text has a part in it, besides how the program is used.
+fn is_usage(text: &str, part: &str) -> bool {
+    text.contains(part) && (text.contains("--help") || text.contains("Usage: "))
+}
+
 /// Words that name no job, and what the text on them has in it, besides how the program is used.
 fn expect_usage<'a, R: Abort + AllocGlobal>(rt: &R, words: &'a [&'a str], part: &str) {
     match read_words(rt.alloc(), words) {
         Err(WordsFault::Usage(text)) => {
-            assert!(rt; text.contains(part), "{text}");
-            assert!(rt;
-                text.contains("--help") || text.contains("Usage: "),
-                "{text}"
-            );
+            expect_eq_at(rt, text.as_str(), is_usage(text.as_str(), part), true)
         }
-        _ => assert!(rt; false, "no usage for {part}"),
+        _ => expect_eq_at(rt, part, false, true),
     }
 }
 

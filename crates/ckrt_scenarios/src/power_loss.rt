@@ -65,7 +65,10 @@ fn expect_output<R: Abort, D: Disk>(rt: &R, session: &mut Session<D>, offset: u6
 
 /// A commit, where the disk doesn't fail.
 fn is_committed<D: Disk>(session: &mut Session<D>) -> bool {
-    session.commit().is_ok()
+    match session.commit() {
+        Ok(_) => true,
+        Err(_) => false,
+    }
 }
 
 /// The event is submitted and committed, where the disk doesn't fail.

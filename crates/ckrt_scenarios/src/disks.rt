@@ -50,6 +50,15 @@ fn fill_leaves_synced_bytes(rt: HostRuntime) {
     );
 }
 
+/// The second call of a disk of 1 and three zeros fails.
+fn expect_second_fails<R: Abort, D: Disk>(rt: &R, disk: &mut D) {
+    expect_eq(rt, disk.size(), 4);
+    expect_read(rt, disk, 0, &[1, 0]);
+    expect_write(rt, disk, 1, &[2], Err(DeviceFault));
+    expect_write(rt, disk, 2, &[3], Ok(()));
+    expect_sync(rt, disk, Ok(()));
+}
+
 // Just that call fails, and isn't done.
 #[test]
 fn one_call_fails(rt: HostRuntime) {
@@ -58,11 +67,7 @@ fn one_call_fails(rt: HostRuntime) {
     expect_write(&rt, &mut disk, 0, &[1], Ok(()));
     expect_text(&rt, DeviceFault, "Device");
     let mut disk = FailingDisk::new(disk, 2);
-    expect_eq(&rt, disk.size(), 4);
-    expect_read(&rt, &mut disk, 0, &[1, 0]);
-    expect_write(&rt, &mut disk, 1, &[2], Err(DeviceFault));
-    expect_write(&rt, &mut disk, 2, &[3], Ok(()));
-    expect_sync(&rt, &mut disk, Ok(()));
+    expect_second_fails(&rt, &mut disk);
     let image = disk.into_inner().into_image();
     expect_bytes(&rt, image.as_slice(), &[1, 0, 3, 0]);
 }
@@ -77,24 +82,36 @@ fn expect_unopened<R: Abort + Files<File = File>>(rt: &R, path: &str) {
     assert!(rt; RealDisk::open(rt, path).is_err(), "{path}");
 }
 
-// A real file is written, synced, closed, opened and read back.
-#[test]
-fn file_keeps_what_was_synced(rt: HostRuntime) {
-    let path = "file_disk_test.img";
-    write_file(&rt, path, &[0; 6]);
-    let mut disk = opened(&rt, path);
-    expect_eq(&rt, disk.size(), 6);
-    expect_synced(&rt, &mut disk, 1, &[4, 5]);
-    let mut disk = opened(&rt, path);
-    expect_eq(&rt, disk.size(), 6);
-    expect_read(&rt, &mut disk, 1, &[4, 5, 0]);
+/// A write to a disk of six bytes, and its sync.
+fn write_six<R: Abort, D: Disk>(rt: &R, disk: &mut D, bytes: &[u8]) {
+    expect_eq(rt, disk.size(), 6);
+    expect_synced(rt, disk, 1, bytes);
+}
+
+/// A disk of six bytes has these from 1 on.
+fn expect_six<R: Abort, D: Disk>(rt: &R, disk: &mut D, bytes: &[u8]) {
+    expect_eq(rt, disk.size(), 6);
+    expect_read(rt, disk, 1, bytes);
+}
+
+/// A real file is written, synced, closed, opened and read back.
+fn expect_kept<R: Abort + Files<File = File>>(rt: &R, path: &str) {
+    write_file(rt, path, &[0; 6]);
+    write_six(rt, &mut opened(rt, path), &[4, 5]);
+    let mut disk = opened(rt, path);
+    expect_six(rt, &mut disk, &[4, 5, 0]);
 
     // The file shrinks behind the disk's back: a read past its end is a device fault.
-    write_file(&rt, path, &[0; 2]);
-    expect_failed_read(&rt, &mut disk, 1, 3);
-    remove_file(&rt, path);
-    expect_unopened(&rt, path);
-    expect_unopened(&rt, ".");
+    write_file(rt, path, &[0; 2]);
+    expect_failed_read(rt, &mut disk, 1, 3);
+    remove_file(rt, path);
+    expect_unopened(rt, path);
+    expect_unopened(rt, ".");
+}
+
+#[test]
+fn file_keeps_what_was_synced(rt: HostRuntime) {
+    expect_kept(&rt, "file_disk_test.img");
 }
 
 /// Whatever the system transfers at once, up to these limits, all is written and read; at 0 a signal interrupts it.
@@ -114,15 +131,26 @@ fn short_and_interrupted_calls_are_continued(rt: HostRuntime) {
     expect_continued(&rt, &[9, 9]);
 }
 
+/// A disk of eight bytes whose file has the bytes 1, 2 and 3.
+fn expect_short<R: Abort, D: Disk>(rt: &R, disk: &mut D) {
+    expect_eq(rt, disk.size(), 8);
+    expect_failed_read(rt, disk, 2, 2);
+    expect_write(rt, disk, 3, &[9], Err(DeviceFault));
+    expect_read(rt, disk, 1, &[2, 3]);
+}
+
 // A file that ends before what is asked is a device fault, and what is there is still read.
 #[test]
 fn a_short_file_is_a_device_fault(rt: HostRuntime) {
     let file = MemoryFile::new(copied(&rt, &[1, 2, 3]), Vec::new(rt.alloc()));
-    let mut disk = FileDisk::new(file, 8);
-    expect_eq(&rt, disk.size(), 8);
-    expect_failed_read(&rt, &mut disk, 2, 2);
-    expect_write(&rt, &mut disk, 3, &[9], Err(DeviceFault));
-    expect_read(&rt, &mut disk, 1, &[2, 3]);
+    expect_short(&rt, &mut FileDisk::new(file, 8));
+}
+
+/// A disk of eight zeros that takes no byte.
+fn expect_full<R: Abort, D: Disk>(rt: &R, disk: &mut D) {
+    expect_eq(rt, disk.size(), 8);
+    expect_write(rt, disk, 2, &[1, 2, 3], Err(DeviceFault));
+    expect_read(rt, disk, 2, &[0, 0, 0]);
 }
 
 // A device that is always full takes no byte and reads as zeros. A machine without one is not tested.
@@ -134,8 +162,6 @@ fn a_full_device_is_a_device_fault(rt: HostRuntime) {
         .open(&rt, "/dev/full");
     if let Ok(file) = opened {
         let mut disk: RealDisk = FileDisk::new(SystemFile::new(file), 8);
-        expect_eq(&rt, disk.size(), 8);
-        expect_write(&rt, &mut disk, 2, &[1, 2, 3], Err(DeviceFault));
-        expect_read(&rt, &mut disk, 2, &[0, 0, 0]);
+        expect_full(&rt, &mut disk);
     }
 }

@@ -1,7 +1,7 @@
 // Worked values of recovery: what a changed disk recovers to, and what a disk that fails leaves.
 use crate::expect::{expect_eq, expect_eq_at, memory_disk, stopping_disk};
 use crate::small_disk::{SIZE, formatted, recovered, recovered_in_memory, recovery_outcome};
-use ckrt_disk::FailingDisk;
+use ckrt_disk::{Disk, FailingDisk};
 use ckrt_recovery::RecoverFault;
 use std::process::Abort;
 
@@ -185,43 +185,44 @@ fn the_last_output_is_held(rt: HostRuntime) {
     let (offset, output) = session.take_output();
     expect_eq(&rt, offset, 1_025);
     expect_eq(&rt, output.len(), 16_384);
-    assert!(rt; output.starts_with(&[2, 3, 4]));
-    assert!(rt; output.ends_with(&[0, 1]));
+    assert!(rt; output.starts_with(&[2, 3, 4]) && output.ends_with(&[0, 1]));
 }
 
-/// Recovery of a disk that stops at a call, and whether that call was reached. It makes one write or sync.
-fn expect_stop<R: Abort + AllocGlobal>(rt: &R, at_call: u64, is_reached: bool) {
-    match recovery_outcome(rt, stopping_disk(rt, formatted(rt, &[]), at_call, &[])) {
-        Ok(session) => {
-            assert!(rt; !is_reached);
-            expect_eq(rt, session.disk().calls(), 1);
-        }
-        Err(unrecovered) => {
-            assert!(rt; is_reached);
-            expect_eq(rt, unrecovered.fault, RecoverFault::Device);
-            expect_eq(rt, unrecovered.disk.calls(), 1);
-        }
+/// Why a disk isn't recovered, if it isn't, and the disk.
+fn fault_of<R: AllocGlobal, D: Disk>(rt: &R, disk: D) -> (Option<RecoverFault>, D) {
+    match recovery_outcome(rt, disk) {
+        Ok(session) => (None, session.into_disk()),
+        Err(unrecovered) => (Some(unrecovered.fault), unrecovered.disk),
     }
+}
+
+/// Recovery of a disk that stops at a call, and the fault, if the call is made. It makes one write or sync.
+fn expect_stop<R: Abort + AllocGlobal>(rt: &R, at_call: u64, want: Option<RecoverFault>) {
+    let disk = stopping_disk(rt, formatted(rt, &[]), at_call, &[]);
+    let (fault, disk) = fault_of(rt, disk);
+    expect_eq_at(rt, at_call, fault, want);
+    expect_eq_at(rt, at_call, disk.calls(), 1);
 }
 
 // Its one write or sync is the sync at its start.
 #[test]
 fn a_stop_at_the_first_call_is_device(rt: HostRuntime) {
-    expect_stop(&rt, 0, false);
-    expect_stop(&rt, 1, true);
-    expect_stop(&rt, 2, false);
+    expect_stop(&rt, 0, None);
+    expect_stop(&rt, 1, Some(RecoverFault::Device));
+    expect_stop(&rt, 2, None);
+}
+
+/// The disk is recovered, with no event.
+fn expect_fresh<R: Abort + AllocGlobal, D: Disk + Drop>(rt: &R, disk: D) {
+    expect_eq(rt, recovered(rt, disk).acknowledged(), 0);
 }
 
 /// Recovery of a disk that fails at a call, and again without a failure.
 fn expect_failure<R: Abort + AllocGlobal>(rt: &R, at_call: u64) {
     let disk = FailingDisk::new(memory_disk(rt, formatted(rt, &[])), at_call);
-    match recovery_outcome(rt, disk) {
-        Ok(_) => panic!(rt; "call {at_call} isn't made"),
-        Err(unrecovered) => {
-            expect_eq(rt, unrecovered.fault, RecoverFault::Device);
-            assert!(rt; recovery_outcome(rt, unrecovered.disk).is_ok());
-        }
-    }
+    let (fault, disk) = fault_of(rt, disk);
+    expect_eq_at(rt, at_call, fault, Some(RecoverFault::Device));
+    expect_fresh(rt, disk);
 }
 
 // A sync, and then reads of superblock, both headers, tables, memory and one gate. The disk recovers afterwards.
@@ -231,6 +232,5 @@ fn each_call_that_fails_is_device(rt: HostRuntime) {
         expect_failure(&rt, at_call);
     }
     let disk = FailingDisk::new(memory_disk(&rt, formatted(&rt, &[])), 8);
-    let session = recovered(&rt, disk);
-    expect_eq(&rt, session.acknowledged(), 0);
+    expect_fresh(&rt, disk);
 }

@@ -1,21 +1,12 @@
 //! Measures the journal: its appends to a real file, and its reading.
-//!
-//! `ckrt_journal_bench append FILE BYTES COUNT` appends COUNT batches of at most BYTES bytes to a journal that is the
-//! whole FILE, and writes the nanoseconds of each to standard error. `ckrt_journal_bench decode COUNT` fills a journal
-//! of 1,048,576 bytes in memory, reads and decodes it COUNT times, and writes the nanoseconds of each reading and each
-//! decoding to standard error, and how many events there are to standard output.
-#![tactic(auto)]
 
 use anyhow::{Context, Result, bail, ensure};
 use arrayvec::ArrayVec;
 use ckrt_disk::{Disk, FileDisk, MemoryDisk, SystemFile};
 use ckrt_events::{BATCH_LIMIT, Event, decode_events, encode_event};
 use ckrt_journal::{Journal, JournalFault};
-use std::env;
 use std::marker::Brand;
 use std::time::Instant;
-
-const USAGE: &str = "usage: ckrt_journal_bench append FILE BYTES COUNT | decode COUNT";
 
 /// How many bytes the journal in memory has.
 const JOURNAL_SIZE: usize = 1_048_576;
@@ -60,16 +51,25 @@ fn append<D: Disk>(
     Ok(Some(nanoseconds))
 }
 
-/// Appends `count` batches to a file, and writes how long each took.
-fn time_appends(rt: &HostRuntime, path: &str, bytes: usize, count: u32) -> Result<()> {
+/// Appends the batch, and writes how long that took.
+fn time_append<D: Disk>(
+    rt: &HostRuntime,
+    journal: &mut Journal,
+    disk: &mut D,
+    batch: &[u8],
+) -> Result<()> {
+    let nanoseconds = append(rt, journal, disk, batch)?.context("the file is too short")?;
+    eprintln!(rt; "{nanoseconds}")?;
+    Ok(())
+}
+
+/// Appends `count` batches of at most so many bytes to a journal that is the whole file.
+pub fn time_appends(rt: &HostRuntime, path: &str, bytes: usize, count: u32) -> Result<()> {
+    let batch = batch_of(bytes);
     let mut disk = FileDisk::<SystemFile<Brand>>::open(rt, path)?;
     let mut journal = Journal::start(0, disk.size());
-    let batch = batch_of(bytes);
     for _ in 0..count {
-        let nanoseconds = append(rt, &mut journal, &mut disk, &batch)?.context(
-            "the file is too short",
-        )?;
-        eprintln!(rt; "{nanoseconds}")?;
+        time_append(rt, &mut journal, &mut disk, &batch)?;
     }
     Ok(())
 }
@@ -116,17 +116,27 @@ fn count_events(bytes: &[u8]) -> Result<(u64, u64)> {
     Ok((count, sum))
 }
 
-/// Reads and decodes a full journal `count` times, and writes how long each took.
-fn time_decoding(rt: &HostRuntime, count: u32) -> Result<()> {
-    let mut disk = full_journal(rt)?;
+/// Counts the events, and tells in how many nanoseconds.
+fn time_counting(rt: &HostRuntime, bytes: &[u8]) -> Result<((u64, u64), u128)> {
+    let start = Instant::now(rt)?;
+    let counted = count_events(bytes)?;
+    Ok((counted, start.elapsed(rt)?.as_nanos()))
+}
+
+/// Reads and decodes the journal, and writes how long each took.
+fn time_round(rt: &HostRuntime, disk: &mut MemoryDisk) -> Result<(u64, u64)> {
+    let start = Instant::now(rt)?;
+    let bytes = read(rt, disk)?;
+    let reading = start.elapsed(rt)?.as_nanos();
+    let (counted, decoding) = time_counting(rt, &bytes)?;
+    eprintln!(rt; "reading {reading} decoding {decoding}")?;
+    Ok(counted)
+}
+
+/// Does so `count` times with a full journal, and writes how many events there are.
+fn time_rounds(rt: &HostRuntime, disk: &mut MemoryDisk, count: u32) -> Result<()> {
     for round in 0..count {
-        let start = Instant::now(rt)?;
-        let bytes = read(rt, &mut disk)?;
-        let reading = start.elapsed(rt)?.as_nanos();
-        let start = Instant::now(rt)?;
-        let (events, sum) = count_events(&bytes)?;
-        let decoding = start.elapsed(rt)?.as_nanos();
-        eprintln!(rt; "reading {reading} decoding {decoding}")?;
+        let (events, sum) = time_round(rt, disk)?;
         if round == 0 {
             println!(rt; "events {events} sum {sum}")?;
         }
@@ -134,17 +144,8 @@ fn time_decoding(rt: &HostRuntime, count: u32) -> Result<()> {
     Ok(())
 }
 
-fn main(rt: HostRuntime) -> Result<()> {
-    let words: Vec<String> = env::args(&rt)?.collect(rt.alloc())?;
-    match words.as_slice() {
-        [_, verb, path, bytes, count] if verb.as_str() == "append" => {
-            let bytes = bytes.parse::<usize>().context(USAGE)?;
-            let count = count.parse::<u32>().context(USAGE)?;
-            time_appends(&rt, path, bytes, count)
-        }
-        [_, verb, count] if verb.as_str() == "decode" => {
-            time_decoding(&rt, count.parse::<u32>().context(USAGE)?)
-        }
-        _ => bail!(USAGE),
-    }
+/// Reads and decodes a full journal `count` times.
+pub fn time_decoding(rt: &HostRuntime, count: u32) -> Result<()> {
+    let mut disk = full_journal(rt)?;
+    time_rounds(rt, &mut disk, count)
 }

@@ -1,7 +1,7 @@
 // Worked values of a freshly formatted disk, and what is refused.
 use crate::expect::{expect_eq, expect_eq_at, filled, memory_disk, stopping_disk};
 use crate::small_disk::{IMAGE, SIZE, SMALL, expect_format, format_outcome};
-use ckrt_disk::FailingDisk;
+use ckrt_disk::{Disk, FailingDisk};
 use ckrt_recovery::{Config, FormatFault};
 use std::process::Abort;
 
@@ -11,60 +11,45 @@ fn expect_part<R: Abort>(rt: &R, bytes: &[u8], at: usize, part: &[u8]) {
     expect_eq_at(rt, at, rest.starts_with(part), true);
 }
 
+/// Offsets, and the bytes from there on.
+const FRESH: &[(usize, &[u8])] = &[
+    (0, &[0xa5, 0xee, 0xee, 0xee, 0xee, 0xee, 0xee, 0xee]),
+    (8, b"CKRTDISK"),
+    (
+        16,
+        &[1, 0, 0, 0, 0x10, 0, 0, 0, 1, 0, 0, 0, 0, 0x10, 0, 0, 0xee],
+    ),
+    // area 0: gate, generation 1, count 0, offset 0, tables of 170 bytes, version 1
+    (4_096, &[0xa5, 0xee, 0xee, 0xee, 0xee, 0xee, 0xee, 0xee]),
+    (4_104, &[1, 0, 0, 0, 0, 0, 0, 0, 0, 0, 0, 0, 0, 0, 0, 0]),
+    (
+        4_120,
+        &[0, 0, 0, 0, 0, 0, 0, 0, 0xaa, 0, 0, 0, 1, 0, 0, 0, 0xee],
+    ),
+    // its tables: thread 1, with pc 1000, x1 FFFFFFF0 and x2 10000
+    (8_192, &[0; 24]),
+    (8_216, &[1, 1, 1, 0, 0, 0, 0, 0, 0]),
+    (
+        8_225,
+        &[0, 0x10, 0, 0, 0xf0, 0xff, 0xff, 0xff, 0, 0, 1, 0, 0],
+    ),
+    (8_361, &[0, 0xee]),
+    // its memory
+    (110_592, &IMAGE),
+    (110_616, &[0, 0]),
+    // area 1 and journal 0 are closed
+    (172_032, &[0, 0xee]),
+    (339_968, &[0, 0xee]),
+];
+
 #[test]
 fn a_fresh_disk_has_these_bytes(rt: HostRuntime) {
     let mut disk = memory_disk(&rt, filled(&rt, 0xee, SIZE));
     expect_format(&rt, &mut disk, &IMAGE, Ok(()));
     let image = disk.into_image();
-    let bytes = image.as_slice();
-    expect_part(
-        &rt,
-        bytes,
-        0,
-        &[0xa5, 0xee, 0xee, 0xee, 0xee, 0xee, 0xee, 0xee],
-    );
-    expect_part(&rt, bytes, 8, b"CKRTDISK");
-    expect_part(
-        &rt,
-        bytes,
-        16,
-        &[1, 0, 0, 0, 0x10, 0, 0, 0, 1, 0, 0, 0, 0, 0x10, 0, 0, 0xee],
-    );
-    // area 0: gate, generation 1, count 0, offset 0, tables of 170 bytes, version 1
-    expect_part(
-        &rt,
-        bytes,
-        4_096,
-        &[0xa5, 0xee, 0xee, 0xee, 0xee, 0xee, 0xee, 0xee],
-    );
-    expect_part(
-        &rt,
-        bytes,
-        4_104,
-        &[1, 0, 0, 0, 0, 0, 0, 0, 0, 0, 0, 0, 0, 0, 0, 0],
-    );
-    expect_part(
-        &rt,
-        bytes,
-        4_120,
-        &[0, 0, 0, 0, 0, 0, 0, 0, 0xaa, 0, 0, 0, 1, 0, 0, 0, 0xee],
-    );
-    // its tables: thread 1, with pc 1000, x1 FFFFFFF0 and x2 10000
-    expect_part(&rt, bytes, 8_192, &[0; 24]);
-    expect_part(&rt, bytes, 8_216, &[1, 1, 1, 0, 0, 0, 0, 0, 0]);
-    expect_part(
-        &rt,
-        bytes,
-        8_225,
-        &[0, 0x10, 0, 0, 0xf0, 0xff, 0xff, 0xff, 0, 0, 1, 0, 0],
-    );
-    expect_part(&rt, bytes, 8_361, &[0, 0xee]);
-    // its memory
-    expect_part(&rt, bytes, 110_592, &IMAGE);
-    expect_part(&rt, bytes, 110_616, &[0, 0]);
-    // area 1 and journal 0 are closed
-    expect_part(&rt, bytes, 172_032, &[0, 0xee]);
-    expect_part(&rt, bytes, 339_968, &[0, 0xee]);
+    for (at, part) in FRESH {
+        expect_part(&rt, image.as_slice(), *at, *part);
+    }
 }
 
 /// A disk of so many bytes, formatted with an image of so many zeros.
@@ -78,7 +63,7 @@ fn expect_answer<R: Abort + AllocGlobal>(
     let image = filled(rt, 0, image_size);
     let mut disk = memory_disk(rt, filled(rt, 0xee, size));
     let answer = format_outcome(rt, &mut disk, config, image.as_slice());
-    assert_eq!(rt; answer, want, "{size} {image_size}");
+    expect_eq_at(rt, (size, image_size), answer, want);
 }
 
 /// A configuration that is refused, whatever else is right.
@@ -144,12 +129,20 @@ fn the_first_gate_is_opened_last(rt: HostRuntime) {
     }
 }
 
+/// What the formats of a disk answer, one after the other.
+fn format_twice<R: AllocGlobal, D: Disk>(
+    rt: &R,
+    disk: &mut D,
+) -> (Result<(), FormatFault>, Result<(), FormatFault>) {
+    let first = format_outcome(rt, disk, SMALL, &IMAGE);
+    (first, format_outcome(rt, disk, SMALL, &IMAGE))
+}
+
 /// A format that fails at a call, and what the next one answers.
 fn expect_again<R: Abort + AllocGlobal>(rt: &R, at_call: u64, again: Result<(), FormatFault>) {
     let mut disk = FailingDisk::new(memory_disk(rt, filled(rt, 0xee, SIZE)), at_call);
-    expect_format(rt, &mut disk, &IMAGE, Err(FormatFault::Device));
-    let answer = format_outcome(rt, &mut disk, SMALL, &IMAGE);
-    expect_eq_at(rt, at_call, answer, again);
+    let answers = format_twice(rt, &mut disk);
+    expect_eq_at(rt, at_call, answers, (Err(FormatFault::Device), again));
 }
 
 // A failed call is answered Device, and the disk can be formatted afterwards, unless its gate is open already.

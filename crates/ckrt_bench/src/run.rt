@@ -1,0 +1,105 @@
+//! Runs a guest on the machine, and tells how many steps it made in how much processor time.
+
+ghost use Rattle.std.specs.Prelude.{◌≤◌};
+
+use anyhow::{Result, bail, ensure};
+use ckrt_calls::Status;
+use ckrt_events::Event;
+use ckrt_machine::{Answer, Machine};
+use ckrt_memory::MemoryError;
+use std::io::Write;
+use std::time::CpuClock;
+use std::{fs, io};
+
+/// How to run a guest.
+#[derive(Clone, Copy)]
+pub struct Shape {
+    pages: u32,
+    harts: u8,
+    steps: u16,
+    ghost few_pages: { (16 ≤ pages) × (pages ≤ 1024) },
+    ghost few_harts: { (1 ≤ harts) × (harts ≤ 8) },
+}
+
+/// A Run has at most so many steps.
+pub fn shape_of(pages: u32, harts: u32, steps: u32) -> Result<Shape> {
+    ensure!(16 <= pages && pages <= 1024, "PAGES from 16 to 1024");
+    ensure!(1 <= harts && harts <= 8, "HARTS from 1 to 8");
+    ensure!(1 <= steps && steps <= 65_535, "STEPS from 1 to 65535");
+    Ok(Shape {
+        pages,
+        harts: harts as u8,
+        steps: steps as u16,
+    })
+}
+
+/// Does the event if the machine accepts it, and writes what it put.
+fn offer(machine: &mut Machine, event: &Event, console: &mut impl Write) -> io::Result<u64> {
+    if !event.in_range() || machine.accept(0, event).is_err() {
+        return Ok(0);
+    }
+    let answer = machine.step(event);
+    console.write_all(machine.last_output())?;
+    match answer {
+        Answer::Ran(steps, _) => Ok(u64::from(steps)),
+        _ => Ok(0),
+    }
+}
+
+/// One turn of every hart: its next thread, and a Run.
+fn turn(machine: &mut Machine, shape: Shape, console: &mut impl Write) -> io::Result<u64> {
+    let mut steps = 0u64;
+    for hart in 0..shape.harts {
+        if let Some(thread) = machine.planned(hart) {
+            offer(machine, &Event::Place(hart, thread), console)?;
+        }
+        let made = offer(machine, &Event::Run(hart, shape.steps), console)?;
+        steps = steps.wrapping_add(made);
+    }
+    Ok(steps)
+}
+
+/// Turns until the program ends or no hart makes a step.
+fn drive(machine: &mut Machine, shape: Shape, console: &mut impl Write) -> io::Result<u64> {
+    let mut steps = 0u64;
+    for _ in 0..u64::MAX {
+        let made = turn(machine, shape, console)?;
+        if made == 0 {
+            break;
+        }
+        steps = steps.wrapping_add(made);
+    }
+    Ok(steps)
+}
+
+/// Drives the machine, and writes how long that took.
+fn time_drive(rt: &HostRuntime, machine: &mut Machine, shape: Shape) -> Result<()> {
+    let start = rt.process_cpu_time()?;
+    let steps = drive(machine, shape, &mut io::writer(rt))?;
+    let end = rt.process_cpu_time()?;
+    let nanoseconds = end.as_nanos().saturating_sub(start.as_nanos());
+    eprintln!(rt; "steps {steps} nanoseconds {nanoseconds}")?;
+    ensure!(machine.status() != Status::Running, "no thread can run");
+    Ok(())
+}
+
+/// The machine that has the image of a file.
+fn machine_of(rt: &HostRuntime, path: &str, shape: Shape) -> Result<Machine> {
+    let image = fs::read(rt, path)?;
+    match Machine::new(
+        rt.alloc(),
+        shape.pages,
+        shape.harts as usize,
+        image.as_slice(),
+    ) {
+        Ok(machine) => Ok(machine),
+        Err(MemoryError::ImageTooLong) => bail!("the image is too long"),
+        Err(MemoryError::OutOfMemory) => bail!("out of memory"),
+    }
+}
+
+/// Runs the guest of a file. Its console goes to standard output.
+pub fn time_run(rt: &HostRuntime, path: &str, shape: Shape) -> Result<()> {
+    let mut machine = machine_of(rt, path, shape)?;
+    time_drive(rt, &mut machine, shape)
+}

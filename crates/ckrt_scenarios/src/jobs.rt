@@ -1,0 +1,244 @@
+use crate::expect::{expect_eq, expect_eq_at, filled, remove_file, write_file};
+use crate::small_disk::IMAGE;
+use ckrt_jobs::run_words;
+use std::fs::{self, File, Files};
+use std::process::Abort;
+
+/// What the program printed, and its status.
+#[derive(Drop)]
+struct Printed {
+    output: Vec<u8>,
+    errors: Vec<u8>,
+    status: u8,
+}
+
+impl Printed {
+    /// Whether it printed this and ended with this status.
+    fn is(&self, output: &str, errors: &str, status: u8) -> bool {
+        self.output.as_slice() == output.as_bytes()
+            && self.errors.as_slice() == errors.as_bytes()
+            && self.status == status
+    }
+}
+
+/// The words between which spaces stand.
+fn words_of<'a, R: Abort + AllocGlobal>(rt: &R, words: &'a str) -> Vec<&'a str> {
+    words
+        .split_whitespace()
+        .collect(rt.alloc())
+        .expect(rt, "memory for words")
+}
+
+/// Runs the program with these words and these lines.
+fn ckrt<R: Abort + Files<File = File> + AllocGlobal>(rt: &R, words: &str, lines: &str) -> Printed {
+    let words = words_of(rt, words);
+    let mut reader = lines.as_bytes();
+    let mut output = Vec::new(rt.alloc());
+    let mut errors = Vec::new(rt.alloc());
+    let status = run_words(
+        rt,
+        rt.alloc(),
+        words.as_slice(),
+        &mut reader,
+        &mut output,
+        &mut errors,
+    );
+    Printed {
+        output,
+        errors,
+        status,
+    }
+}
+
+/// Words and lines to which the program prints this, with status 0.
+fn expect_output<R: Abort + Files<File = File> + AllocGlobal>(
+    rt: &R,
+    words: &str,
+    lines: &str,
+    output: &str,
+) {
+    let printed = ckrt(rt, words, lines);
+    expect_eq_at(rt, words, printed.is(output, "", 0), true);
+}
+
+/// Words to which the program prints nothing but a fault, with status 1.
+fn expect_fault<R: Abort + Files<File = File> + AllocGlobal>(rt: &R, words: &str, fault: &str) {
+    let printed = ckrt(rt, words, LINES);
+    expect_eq_at(rt, words, printed.is("", fault, 1), true);
+}
+
+const LINES: &str = "place 0 1\nrun 0 6\ncommit\nquit\n";
+
+const REPLIES: &str = "ok 1 placed\nok 2 ran 6 end\nack 2\nout 0 41\n";
+
+#[test]
+fn no_words_serve_the_stored_program(rt: HostRuntime) {
+    expect_output(&rt, "", LINES, REPLIES);
+}
+
+/// A file's length.
+fn expect_length<R: Abort + Files<File = File>>(rt: &R, path: &str, length: u64) {
+    let metadata = fs::metadata(rt, path).expect(rt, "the file is there");
+    expect_eq(rt, metadata.len(), length);
+}
+
+/// A disk that is made, run and run again.
+fn expect_runs<R: Abort + Files<File = File> + AllocGlobal>(rt: &R) {
+    let format = "format jobs_a.disk jobs_a.img --pages 16 --journal 4096";
+    let run = "run jobs_a.disk";
+    write_file(rt, "jobs_a.img", &IMAGE);
+    expect_output(rt, format, "", "formatted 348160\n");
+    expect_length(rt, "jobs_a.disk", 348_160);
+    expect_output(rt, run, LINES, REPLIES);
+    // what was confirmed isn't on the disk
+    expect_output(rt, run, "run 0 1\n", "out 0 41\nno 1 Ended\n");
+    expect_fault(rt, format, "ckrt: AlreadyFormatted\n");
+    expect_output(rt, run, "", "out 0 41\n");
+    remove_file(rt, "jobs_a.disk");
+    remove_file(rt, "jobs_a.img");
+}
+
+#[test]
+fn a_disk_is_made_run_and_run_again(rt: HostRuntime) {
+    expect_runs(&rt);
+}
+
+/// A disk that is made with the defaults.
+fn expect_default_size<R: Abort + Files<File = File> + AllocGlobal>(rt: &R) {
+    write_file(rt, "jobs_b.img", &IMAGE);
+    expect_output(
+        rt,
+        "format jobs_b.disk jobs_b.img",
+        "",
+        "formatted 864256\n",
+    );
+    remove_file(rt, "jobs_b.disk");
+    remove_file(rt, "jobs_b.img");
+}
+
+#[test]
+fn defaults_have_their_size(rt: HostRuntime) {
+    expect_default_size(&rt);
+}
+
+/// A file of 348,170 bytes of 77.
+fn write_long_file<R: Abort + Files<File = File> + AllocGlobal>(rt: &R, path: &str) {
+    let bytes = filled(rt, 0x77, 348_170);
+    write_file(rt, path, bytes.as_slice());
+}
+
+/// The last ten of so many bytes are 77 still.
+fn expect_long_end<R: Abort + Files<File = File> + AllocGlobal>(rt: &R, path: &str) {
+    let left = fs::read(rt, path).expect(rt, "the file is read");
+    expect_eq(rt, left.len(), 348_170);
+    assert!(rt; left.as_slice().ends_with([0x77u8; 10].as_slice()));
+}
+
+/// A disk that is made over a longer file.
+fn expect_end_kept<R: Abort + Files<File = File> + AllocGlobal>(rt: &R) {
+    let format = "format jobs_c.disk jobs_c.img --pages=16 --journal=4096";
+    write_file(rt, "jobs_c.img", &IMAGE);
+    write_long_file(rt, "jobs_c.disk");
+    expect_output(rt, format, "", "formatted 348160\n");
+    expect_long_end(rt, "jobs_c.disk");
+    remove_file(rt, "jobs_c.disk");
+    remove_file(rt, "jobs_c.img");
+}
+
+#[test]
+fn a_longer_file_keeps_what_stands_behind(rt: HostRuntime) {
+    expect_end_kept(&rt);
+}
+
+/// No file is there.
+fn expect_absent<R: Abort + Files<File = File>>(rt: &R, path: &str) {
+    assert!(rt; !fs::exists(rt, path).expect(rt, "the folder is read"));
+}
+
+/// The image is tested before the disk is touched, and the configuration before the image.
+fn expect_faults<R: Abort + Files<File = File> + AllocGlobal>(rt: &R) {
+    let image = filled(rt, 0, 61_441);
+    write_file(rt, "jobs_d.img", image.as_slice());
+    let config = "ckrt: BadConfig\n";
+    expect_fault(rt, "format jobs_d.disk jobs_none.img --pages 15", config);
+    expect_fault(rt, "format jobs_d.disk jobs_none.img --harts 9", config);
+    expect_fault(
+        rt,
+        "format jobs_d.disk jobs_none.img --journal 4097",
+        config,
+    );
+    expect_fault(rt, "format . jobs_none.img --pages 16", "ckrt: File\n");
+    let long = "ckrt: ImageTooLong\n";
+    expect_fault(rt, "format jobs_d.disk jobs_d.img --pages 16", long);
+    expect_absent(rt, "jobs_d.disk");
+    expect_fault(rt, "format . jobs_d.img --pages 17", "ckrt: File\n");
+    remove_file(rt, "jobs_d.img");
+}
+
+#[test]
+fn faults_come_in_their_order(rt: HostRuntime) {
+    expect_faults(&rt);
+}
+
+// A process's own memory is a file that opens and whose first byte can't be read, for root neither.
+#[test]
+fn an_image_that_cant_be_read_is_refused(rt: HostRuntime) {
+    expect_fault(&rt, "format jobs_g.disk /proc/self/mem", "ckrt: File\n");
+    expect_absent(&rt, "jobs_g.disk");
+}
+
+/// Files that are no disks.
+fn expect_no_disks<R: Abort + Files<File = File> + AllocGlobal>(rt: &R) {
+    expect_fault(rt, "run jobs_none.disk", "ckrt: File\n");
+    expect_fault(rt, "run .", "ckrt: File\n");
+    write_file(rt, "jobs_e.disk", b"CKRTDISK");
+    expect_fault(rt, "run jobs_e.disk", "ckrt: NotFormatted\n");
+    remove_file(rt, "jobs_e.disk");
+}
+
+#[test]
+fn what_is_no_disk_isnt_run(rt: HostRuntime) {
+    expect_no_disks(&rt);
+}
+
+/// The file is locked.
+fn lock<R: Abort>(rt: &R, file: &File) {
+    assert!(rt; file.try_lock().is_ok());
+}
+
+/// A disk that is in use, and then is not.
+fn expect_lock<R: Abort + Files<File = File> + AllocGlobal>(rt: &R) {
+    write_file(rt, "jobs_f.disk", b"");
+    let holder = File::open(rt, "jobs_f.disk").expect(rt, "the file is opened");
+    lock(rt, &holder);
+    expect_fault(rt, "run jobs_f.disk", "ckrt: File\n");
+    holder.unlock().expect(rt, "the file is unlocked");
+    expect_fault(rt, "run jobs_f.disk", "ckrt: NotFormatted\n");
+    remove_file(rt, "jobs_f.disk");
+}
+
+#[test]
+fn a_disk_in_use_is_refused(rt: HostRuntime) {
+    expect_lock(&rt);
+}
+
+/// Words to which the program prints nothing but the usage.
+fn expect_usage<R: Abort + Files<File = File> + AllocGlobal>(rt: &R, words: &str) {
+    let printed = ckrt(rt, words, LINES);
+    expect_eq(rt, printed.status, 2);
+    assert!(rt; printed.output.is_empty());
+    assert!(rt; !printed.errors.is_empty());
+}
+
+/// Words that name no job.
+fn expect_usages<R: Abort + Files<File = File> + AllocGlobal>(rt: &R) {
+    expect_usage(rt, "frobnicate");
+    expect_usage(rt, "--help");
+    expect_usage(rt, "run");
+    expect_usage(rt, "run a b");
+}
+
+#[test]
+fn words_that_name_no_job_print_the_usage(rt: HostRuntime) {
+    expect_usages(&rt);
+}
