@@ -114,13 +114,18 @@ fn file_keeps_what_was_synced(rt: HostRuntime) {
     expect_kept(&rt, "file_disk_test.img");
 }
 
+/// A disk of eight bytes of 7 of which four are written.
+fn write_four<R: Abort, D: Disk>(rt: &R, disk: &mut D) {
+    expect_eq(rt, disk.size(), 8);
+    expect_synced(rt, disk, 2, &[1, 2, 3, 4]);
+    expect_read(rt, disk, 1, &[7, 1, 2, 3, 4, 7]);
+}
+
 /// Whatever the system transfers at once, up to these limits, all is written and read; at 0 a signal interrupts it.
 fn expect_continued<R: Abort + AllocGlobal>(rt: &R, limits: &[usize]) {
     let limits = limits.to_vec(rt.alloc()).expect(rt, "memory for limits");
-    let mut disk = FileDisk::new(MemoryFile::new(copied(rt, &[7; 8]), limits), 8);
-    expect_eq(rt, disk.size(), 8);
-    expect_synced(rt, &mut disk, 2, &[1, 2, 3, 4]);
-    expect_read(rt, &mut disk, 1, &[7, 1, 2, 3, 4, 7]);
+    let file = MemoryFile::new(copied(rt, &[7; 8]), limits);
+    write_four(rt, &mut FileDisk::new(file, 8));
 }
 
 #[test]

@@ -133,7 +133,8 @@ fn expect_goes_on<R: Abort + AllocGlobal, D: Disk>(
     most: u64,
 ) {
     let count = session.acknowledged();
-    assert!(rt; least <= count && count <= most, "{least} {count} {most}");
+    let is_between = least <= count && count <= most;
+    expect_eq_at(rt, (least, count, most), is_between, true);
     expect_same_step(rt, session, &mut folded(rt, count));
 }
 
@@ -280,9 +281,8 @@ fn fail_commits<R: Abort + AllocGlobal, D: Disk + Drop>(rt: &R, mut session: Ses
     true
 }
 
-/// Format, recovery and three commits on a disk that fails one call. Whether it was reached.
-fn fail_call<R: Abort + AllocGlobal>(rt: &R, at_call: u64) -> bool {
-    let mut disk = FailingDisk::new(memory_disk(rt, filled(rt, 0, SIZE)), at_call);
+/// Format, recovery and three commits on a disk that may fail. Whether it did.
+fn live_once<R: Abort + AllocGlobal, D: Disk + Drop>(rt: &R, mut disk: D) -> bool {
     if format_outcome(rt, &mut disk, SMALL, &IMAGE) == Err(FormatFault::Device) {
         return true;
     }
@@ -294,6 +294,12 @@ fn fail_call<R: Abort + AllocGlobal>(rt: &R, at_call: u64) -> bool {
             true
         }
     }
+}
+
+/// The same on a disk that fails one call. Whether it was reached.
+fn fail_call<R: Abort + AllocGlobal>(rt: &R, at_call: u64) -> bool {
+    let disk = memory_disk(rt, filled(rt, 0, SIZE));
+    live_once(rt, FailingDisk::new(disk, at_call))
 }
 
 #[test]

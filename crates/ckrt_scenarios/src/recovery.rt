@@ -1,7 +1,7 @@
 // Worked values of recovery: what a changed disk recovers to, and what a disk that fails leaves.
 use crate::expect::{expect_eq, expect_eq_at, memory_disk, stopping_disk};
 use crate::small_disk::{SIZE, formatted, recovered, recovered_in_memory, recovery_outcome};
-use ckrt_disk::{Disk, FailingDisk};
+use ckrt_disk::{Disk, FailingDisk, MemoryDisk};
 use ckrt_recovery::RecoverFault;
 use std::process::Abort;
 
@@ -217,12 +217,22 @@ fn expect_fresh<R: Abort + AllocGlobal, D: Disk + Drop>(rt: &R, disk: D) {
     expect_eq(rt, recovered(rt, disk).acknowledged(), 0);
 }
 
+/// Why a disk isn't recovered at first. It is afterwards.
+fn first_fault<R: Abort + AllocGlobal, D: Disk + Drop>(rt: &R, disk: D) -> Option<RecoverFault> {
+    let (fault, disk) = fault_of(rt, disk);
+    expect_fresh(rt, disk);
+    fault
+}
+
+/// A formatted disk that fails at a call.
+fn failing<R: Abort + AllocGlobal>(rt: &R, at_call: u64) -> FailingDisk<MemoryDisk> {
+    FailingDisk::new(memory_disk(rt, formatted(rt, &[])), at_call)
+}
+
 /// Recovery of a disk that fails at a call, and again without a failure.
 fn expect_failure<R: Abort + AllocGlobal>(rt: &R, at_call: u64) {
-    let disk = FailingDisk::new(memory_disk(rt, formatted(rt, &[])), at_call);
-    let (fault, disk) = fault_of(rt, disk);
+    let fault = first_fault(rt, failing(rt, at_call));
     expect_eq_at(rt, at_call, fault, Some(RecoverFault::Device));
-    expect_fresh(rt, disk);
 }
 
 // A sync, and then reads of superblock, both headers, tables, memory and one gate. The disk recovers afterwards.
@@ -231,6 +241,5 @@ fn each_call_that_fails_is_device(rt: HostRuntime) {
     for at_call in 1..8u64 {
         expect_failure(&rt, at_call);
     }
-    let disk = FailingDisk::new(memory_disk(&rt, formatted(&rt, &[])), 8);
-    expect_fresh(&rt, disk);
+    expect_fresh(&rt, failing(&rt, 8));
 }

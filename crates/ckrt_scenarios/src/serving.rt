@@ -247,13 +247,18 @@ fn failures_in<R: Abort>(rt: &R, replies: &[u8]) -> (u8, u8) {
     (0, 0)
 }
 
-/// The same on a disk that fails at this call; none where there is no session.
-fn failures_at<R: Abort + AllocGlobal>(rt: &R, image: &[u8], at_call: u64) -> (u8, u8) {
-    let disk = FailingDisk::new(memory_disk(rt, copied(rt, image)), at_call);
+/// The same on a disk that may fail; none where there is no session.
+fn failures_on<R: Abort + AllocGlobal, D: Disk + Drop>(rt: &R, disk: D) -> (u8, u8) {
     match recovery_outcome(rt, disk) {
         Ok(mut session) => failures_in(rt, replies(rt, &mut session, LINES).as_slice()),
         Err(_) => (0, 0),
     }
+}
+
+/// The same on a disk that fails at this call.
+fn failures_at<R: Abort + AllocGlobal>(rt: &R, image: &[u8], at_call: u64) -> (u8, u8) {
+    let disk = memory_disk(rt, copied(rt, image));
+    failures_on(rt, FailingDisk::new(disk, at_call))
 }
 
 #[test]
