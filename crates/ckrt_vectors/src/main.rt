@@ -59,20 +59,40 @@ fn reads(line: &str) -> Result<bool> {
     })
 }
 
-fn main(rt: HostRuntime) -> Result<()> {
-    let programs = fs::read_to_string(&rt, "programs.txt")?;
+/// How many of the lines are programs that agree; all have to.
+fn count_programs(alloc: Global, lines: &str) -> Result<u64> {
     let mut count = 0u64;
-    for line in programs.lines() {
-        ensure!(agrees(rt.alloc(), line)?, "another console: {line}");
+    for line in lines.lines() {
+        ensure!(agrees(alloc, line)?, "another console: {line}");
         count = count.wrapping_add(1);
     }
-    println!(rt; "{count} programs agree")?;
-    let words = fs::read_to_string(&rt, "texts.txt")?;
+    Ok(count)
+}
+
+/// How many of the lines are words that agree; all have to.
+fn count_words(lines: &str) -> Result<u64> {
     let mut count = 0u64;
-    for line in words.lines() {
+    for line in lines.lines() {
         ensure!(reads(line)?, "another reading: {line}");
         count = count.wrapping_add(1);
     }
+    Ok(count)
+}
+
+fn compare_programs(rt: &HostRuntime) -> Result<u64> {
+    let programs = fs::read_to_string(rt, "programs.txt")?;
+    count_programs(rt.alloc(), programs.as_str())
+}
+
+fn compare_words(rt: &HostRuntime) -> Result<u64> {
+    let words = fs::read_to_string(rt, "texts.txt")?;
+    count_words(words.as_str())
+}
+
+fn main(rt: HostRuntime) -> Result<()> {
+    let count = compare_programs(&rt)?;
+    println!(rt; "{count} programs agree")?;
+    let count = compare_words(&rt)?;
     println!(rt; "{count} words agree")?;
     Ok(())
 }
