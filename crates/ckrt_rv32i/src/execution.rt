@@ -1,5 +1,5 @@
 //! One step of a hart: fetch, decode, effect.
-ghost use Rattle.std.specs.Prelude.{◌≡◌, ◌%◌, ◌<◌, ℕ, []};
+ghost use Rattle.std.specs.Prelude.{◌≡◌, ◌*◌, ◌/◌, ◌%◌, ◌<◌, ℕ, []};
 ghost use Rattle.ckrt_rv32i.specs.Words.{word_add_signed};
 ghost use Rattle.ckrt_rv32i.specs.Registers.{get, put, following};
 ghost use Rattle.ckrt_rv32i.specs.Table.{IsInRange};
@@ -74,6 +74,15 @@ fn address(regs: &Regs, base: u8, offset: i32) -> u32
     ensures { result ≡ word_add_signed (get regs.now base) offset }
 {
     regs.get(base).wrapping_add_signed(offset)
+}
+
+/// The target of a jump to the sum of a register and a signed offset: bit 0 is cleared.
+#[inline(always)]
+fn even_address(regs: &Regs, base: u8, offset: i32) -> u32
+    requires { base < 32 }
+    ensures { result ≡ word_add_signed (get regs.now base) offset / 2 * 2 }
+{
+    address(regs, base, offset) / 2 * 2
 }
 
 /// On to the next instruction.
@@ -174,7 +183,7 @@ fn perform<B: Bus>(instr: Instr, regs: &mut Regs, bus: &mut B) -> Outcome
         Instr::Lui { rd, imm } => finish(regs, rd, imm << 12),
         Instr::Auipc { rd, imm } => finish(regs, rd, regs.pc().wrapping_add(imm << 12)),
         Instr::Jal { rd, offset } => link(regs, rd, regs.pc().wrapping_add_signed(offset)),
-        Instr::Jalr { rd, rs1, offset } => link(regs, rd, address(regs, rs1, offset) / 2 * 2),
+        Instr::Jalr { rd, rs1, offset } => link(regs, rd, even_address(regs, rs1, offset)),
         Instr::Branch {
             condition,
             rs1,

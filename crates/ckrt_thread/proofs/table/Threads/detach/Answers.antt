@@ -1,4 +1,4 @@
-use Rattle.std.proofs.Common.{Some, sym, ap, ◌∙◌}
+use Rattle.std.proofs.Common.{rules, Some, sym, ap, ◌∙◌}
 use Rattle.ckrt_thread.proofs.Known.{absent_places, ended_live, not_joined}
 use Rattle.ckrt_thread.proofs.table.Threads.detach.Goals as goal
 
@@ -8,3 +8,6 @@ set_slot-requires-clause-free c =
 
 pub set_detached-requires-clause-unjoined : goal.set_detached-requires-clause-unjoined
 set_detached-requires-clause-unjoined c = not_joined c.args.self.now c.args.id (sym c.is_joined.ensures ∙ c.if-is_joined.false)
+
+pub returns-else-is_joined-clause-threads : goal.returns-else-is_joined-clause-threads
+returns-else-is_joined-clause-threads c = search rules

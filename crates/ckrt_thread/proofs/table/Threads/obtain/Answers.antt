@@ -1,3 +1,4 @@
+use Rattle.std.proofs.Common.{rules}
 use Rattle.ckrt_thread.proofs.Known.{waiting_live, waits_at_most_once}
 use Rattle.ckrt_thread.proofs.WaitLemmas.{gone}
 use Rattle.ckrt_thread.proofs.table.Threads.obtain.Goals as goal
@@ -7,3 +8,6 @@ answer-requires-clause-live c = rw c.take_wait.ensures (waiting_live c.args.self
 
 pub answer-requires-clause-free : goal.answer-requires-clause-free
 answer-requires-clause-free c = rw c.take_wait.ensures (gone c.args.wait.now.thread c.args.self.now.waits (waits_at_most_once c.args.self.now c.args.wait.now.thread c.known.ensures))
+
+pub returns : goal.returns
+returns c = search rules

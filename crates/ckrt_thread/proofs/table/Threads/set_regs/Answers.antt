@@ -1,4 +1,4 @@
-use Rattle.std.proofs.Common.{arith}
+use Rattle.std.proofs.Common.{rules, arith}
 use Rattle.ckrt_thread.specs.State.{with_regs}
 use Rattle.ckrt_thread.proofs.Known.{live_index}
 use Rattle.ckrt_thread.proofs.Changes.{well_formed_change, changes_regs}
@@ -13,3 +13,6 @@ pub invariant_of-self : goal.invariant_of-self
 invariant_of-self c =
     rw c.set_regs_of.ensures
     (well_formed_change _ (with_regs c.args.regs.now) c.args.thread (changes_regs c.args.regs.now c.requires.aligned) c.self.invariant)
+
+pub returns : goal.returns
+returns c = search rules

@@ -1,4 +1,4 @@
-use Rattle.std.proofs.Common.{arith}
+use Rattle.std.proofs.Common.{rules, arith}
 use Rattle.ckrt_thread.specs.Waits.{is_for}
 use Rattle.ckrt_thread.proofs.WaitLemmas.{length-part}
 use Rattle.ckrt_thread.proofs.table.Threads.waiter_count.Goals as goal
@@ -6,3 +6,6 @@ use Rattle.ckrt_thread.proofs.table.Threads.waiter_count.Goals as goal
 pub returns-clause-few : goal.returns-clause-few
 returns-clause-few c =
     rw (c.count_for.ensures, c.as_slice.ensures.value) (let l = length-part (is_for c.args.object) c.self.inside.waits in let f = rw c.as_slice.ensures.value at c.as_slice.ensures.fits in omega arith)
+
+pub returns-clause-count : goal.returns-clause-count
+returns-clause-count c = search rules

@@ -1,0 +1,5 @@
+use Rattle.std.proofs.Common.{rules}
+use Rattle.ckrt_machine.proofs.machine.Machine.last_output.Goals as goal
+
+pub returns-clause-output : goal.returns-clause-output
+returns-clause-output c = search rules
