@@ -95,7 +95,7 @@ def service_rate(ckrt, path, image, runs):
 def machine_rate(machine, image):
     """The steps a second of the same guest on the machine alone, from the start of the process to its end."""
     start = time.perf_counter()
-    said = run([machine, image, "64", "1", "65535"])[1]
+    said = run([machine, "run", image, "64", "1", "65535"])[1]
     seconds = time.perf_counter() - start
     steps = int(re.search(r"steps (\d+)", said)[1])
     return steps, steps / seconds
@@ -122,7 +122,7 @@ def recovery(ckrt, machine, image, folder):
         start = time.perf_counter()
         with open(disk, "rb") as file:
             file.read()
-        run([machine, image, "256", "1", str(most)])
+        run([machine, "run", image, "256", "1", str(most)])
         base.append(time.perf_counter() - start)
         start = time.perf_counter()
         run([ckrt, "run", disk])
