@@ -1,3 +1,4 @@
 pub mod ReplayLemmas
+mod ReadsLemmas
 pub mod GrowthLemmas
 mod FormatLemmas

@@ -1,6 +1,7 @@
 -- What formatting refuses, and what a stop of it leaves.
-use Rattle.std.specs.Prelude.{◌≡◌, ◌⊎◌, not, ℕ, false, List, length, nat_lt, if◌then◌else◌, Option, Some, None, Err, Ok}
-use Rattle.ckrt_disk.specs.Disk.{IsImage, LeavesOnly}
+use Rattle.std.specs.Prelude.{◌≡◌, ◌+◌, ◌⊎◌, not, ℕ, Bool, true, false, List, length, nat_lt, if◌then◌else◌, Option, Some, None, Err, Ok}
+use Rattle.ckrt_disk.specs.Disk.{IsImage, LeavesOnly, HasFailed}
+use Rattle.ckrt_disk.specs.declared.disk.Disk.{Ghosts}
 use Rattle.ckrt_image.specs.declared.config.Config.{Config}
 use Rattle.ckrt_image.specs.declared.fault.FormatFault.{FormatFault}
 use Rattle.ckrt_image.specs.declared.fault.FormatFault.TheVariants.{AlreadyFormatted, TooSmall, BadConfig, ImageTooLong, Device, OutOfMemory}
@@ -44,3 +45,13 @@ pub record HasClosedGate (content : List ℕ) (pending : ℕ → Type 0) : Type 
 pub record StaysClosed {D : Type 0} (moment : D → ℕ) (left_since : D → ℕ → List ℕ → Type 0) (content : D → List ℕ) (pending : D → ℕ → Type 0) (old new : D) : Type 0 where
   pub any_moment : LeavesOnly moment left_since old new (λ image. is_open image ≡ false)
   pub closed : HasClosedGate (content new) (pending new)
+
+-- From old to new there were n calls that wrote behind the first gate or synced, of which the last failed or not, and no other did.
+pub record IsBehindGate {D : Type 0} (d : Ghosts D) (old new : D) (n : ℕ) (failed : Bool) : Type 0 where
+  pub closed : d.is_honest new → HasClosedGate (d.content old) (d.pending old) → StaysClosed d.moment d.left_since d.content d.pending old new
+  pub honest : d.is_honest new → d.is_honest old
+  pub size : d.size new ≡ d.size old
+  pub named_stop : d.named_stop new ≡ d.named_stop old
+  pub calls : failed ≡ false → d.calls new ≡ d.calls old + n
+  pub well : failed ≡ false → d.failures new ≡ d.failures old
+  pub fault : failed ≡ true → HasFailed (d.failures old) (d.failures new)

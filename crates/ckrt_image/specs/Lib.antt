@@ -2,6 +2,7 @@ pub mod Layout
 pub mod Areas
 pub mod Recovery
 pub mod Surveys
+pub mod Reads
 pub mod Programs
 pub mod Fields
 pub mod Format

@@ -1,12 +1,12 @@
 // Formatting a disk. Its first byte is the superblock's gate, which is opened last: until then a stop leaves a disk that
 // isn't formatted.
-ghost use Rattle.std.specs.Prelude.{◌≡◌, ◌≢◌, ◌≤◌, ◌<◌, ◌+◌, ℕ, true, false, List, Some, None, Err, length, IsOk, IsErr, IfOk, IfErr, OnOk};
+ghost use Rattle.std.specs.Prelude.{◌≡◌, ◌≢◌, ◌≤◌, ◌<◌, ◌+◌, ℕ, true, false, List, Some, None, Err, length, IsOk, IsErr, is_err, IfOk, IfErr, OnOk};
 ghost use Rattle.ckrt_disk.specs.Disk.{IsImage, IsOverwritten, LeavesOnly, HasFailed};
 ghost use Rattle.ckrt_image.specs.declared.fault.FormatFault.{FormatFault};
 ghost use Rattle.ckrt_image.specs.declared.fault.FormatFault.TheVariants.{AlreadyFormatted, Device, OutOfMemory};
 ghost use Rattle.ckrt_image.specs.Layout.{is_valid, is_open, memory_size, size_needed};
 ghost use Rattle.ckrt_image.specs.Fields.{HasFreshArea, IsFresh, fresh_memory, fresh_header};
-ghost use Rattle.ckrt_image.specs.Format.{format_refusal, IsRefusal, IsFormatted, IsFormatting, HasClosedGate, StaysClosed};
+ghost use Rattle.ckrt_image.specs.Format.{format_refusal, IsRefusal, IsFormatted, IsFormatting, IsBehindGate};
 
 use crate::config::Config;
 use crate::fault::FormatFault;
@@ -94,14 +94,8 @@ fn is_formatted<D: Disk>(disk: &mut D) -> Result<bool, DeviceFault>
 fn write_behind<D: Disk>(disk: &mut D, at: usize, bytes: &[u8]) -> Result<(), DeviceFault>
     requires inside { at + length bytes.now ≤ D.size disk.old }
     requires behind { 1 ≤ at }
-    ensures closed { D.is_honest disk.new → HasClosedGate (D.content disk.old) (D.pending disk.old) → StaysClosed D.moment D.left_since D.content D.pending disk.old disk.new }
+    ensures behind { IsBehindGate D.Disk disk.old disk.new 1 (is_err result) }
     ensures written { OnOk result (D.is_honest disk.new → IsOverwritten (D.content disk.old) at bytes.now (D.content disk.new)) }
-    ensures honest { D.is_honest disk.new → D.is_honest disk.old }
-    ensures size { D.size disk.new ≡ D.size disk.old }
-    ensures named_stop { D.named_stop disk.new ≡ D.named_stop disk.old }
-    ensures calls { D.calls disk.new ≡ D.calls disk.old + 1 }
-    ensures failures { IsOk result → D.failures disk.new ≡ D.failures disk.old }
-    ensures fault { IsErr result → HasFailed (D.failures disk.old) (D.failures disk.new) }
 {
     disk.write(at, bytes)
 }
@@ -111,14 +105,8 @@ fn write_area<D: Disk>(disk: &mut D, config: &Config, memory: &[u8]) -> Result<(
     requires valid { is_valid config.now ≡ true }
     requires memory { length memory.now ≡ memory_size config.now }
     requires room { size_needed config.now ≤ D.size disk.old }
-    ensures closed { D.is_honest disk.new → HasClosedGate (D.content disk.old) (D.pending disk.old) → StaysClosed D.moment D.left_since D.content D.pending disk.old disk.new }
+    ensures behind { IsBehindGate D.Disk disk.old disk.new 4 (is_err result) }
     ensures written { OnOk result (D.is_honest disk.new → HasFreshArea config.now memory.now (D.content disk.new)) }
-    ensures honest { D.is_honest disk.new → D.is_honest disk.old }
-    ensures size { D.size disk.new ≡ D.size disk.old }
-    ensures named_stop { D.named_stop disk.new ≡ D.named_stop disk.old }
-    ensures calls { OnOk result (D.calls disk.new ≡ D.calls disk.old + 4) }
-    ensures failures { IsOk result → D.failures disk.new ≡ D.failures disk.old }
-    ensures fault { IsErr result → HasFailed (D.failures disk.old) (D.failures disk.new) }
 {
     let header = header_fields(&Header {
         is_open: true,
@@ -139,14 +127,8 @@ fn write_area<D: Disk>(disk: &mut D, config: &Config, memory: &[u8]) -> Result<(
 fn write_blocks<D: Disk>(disk: &mut D, config: &Config) -> Result<(), DeviceFault>
     requires valid { is_valid config.now ≡ true }
     requires room { size_needed config.now ≤ D.size disk.old }
-    ensures closed { D.is_honest disk.new → HasClosedGate (D.content disk.old) (D.pending disk.old) → StaysClosed D.moment D.left_since D.content D.pending disk.old disk.new }
+    ensures behind { IsBehindGate D.Disk disk.old disk.new 3 (is_err result) }
     ensures written { OnOk result (D.is_honest disk.new → (memory : List ℕ) → length memory ≡ memory_size config.now → HasFreshArea config.now memory (D.content disk.old) → IsFresh config.now memory (D.content disk.new)) }
-    ensures honest { D.is_honest disk.new → D.is_honest disk.old }
-    ensures size { D.size disk.new ≡ D.size disk.old }
-    ensures named_stop { D.named_stop disk.new ≡ D.named_stop disk.old }
-    ensures calls { OnOk result (D.calls disk.new ≡ D.calls disk.old + 3) }
-    ensures failures { IsOk result → D.failures disk.new ≡ D.failures disk.old }
-    ensures fault { IsErr result → HasFailed (D.failures disk.old) (D.failures disk.new) }
 {
     let superblock = superblock_fields(config);
     write_behind(disk, config.journal_of(0).at, &[CLOSED])?;
@@ -163,15 +145,9 @@ fn write_behind_gate<D: Disk>(
     requires valid { is_valid config.now ≡ true }
     requires memory { length memory.now ≡ memory_size config.now }
     requires room { size_needed config.now ≤ D.size disk.old }
-    ensures closed { D.is_honest disk.new → HasClosedGate (D.content disk.old) (D.pending disk.old) → StaysClosed D.moment D.left_since D.content D.pending disk.old disk.new }
+    ensures behind { IsBehindGate D.Disk disk.old disk.new 8 (is_err result) }
     ensures written { OnOk result (D.is_honest disk.new → IsFresh config.now memory.now (D.content disk.new)) }
     ensures nothing_pending { OnOk result (D.is_honest disk.new → (i : ℕ) → ¬ D.pending disk.new i) }
-    ensures honest { D.is_honest disk.new → D.is_honest disk.old }
-    ensures size { D.size disk.new ≡ D.size disk.old }
-    ensures named_stop { D.named_stop disk.new ≡ D.named_stop disk.old }
-    ensures calls { OnOk result (D.calls disk.new ≡ D.calls disk.old + 8) }
-    ensures failures { IsOk result → D.failures disk.new ≡ D.failures disk.old }
-    ensures fault { IsErr result → HasFailed (D.failures disk.old) (D.failures disk.new) }
 {
     write_area(disk, config, memory)?;
     write_blocks(disk, config)?;

@@ -9,10 +9,10 @@ use Rattle.ckrt_image.proofs.formatting.write_area.Goals as goal
 pub returns-clause-written : goal.returns-clause-written
 returns-clause-written g c = on_ok_weaker c.write_behind-4.result (λ last honest₄.
     let d = g.D.Disk in let config = c.args.config.now in
-    let honest₃ : d.is_honest c.write_behind-3.new.disk = c.write_behind-4.ensures.honest honest₄ in
-    let honest₂ : d.is_honest c.write_behind-2.new.disk = c.write_behind-3.ensures.honest honest₃ in
-    let honest₁ : d.is_honest c.write_behind.new.disk = c.write_behind-2.ensures.honest honest₂ in
-    let honest₀ : d.is_honest c.args.disk.now = c.write_behind.ensures.honest honest₁ in
+    let honest₃ : d.is_honest c.write_behind-3.new.disk = c.write_behind-4.ensures.behind.honest honest₄ in
+    let honest₂ : d.is_honest c.write_behind-2.new.disk = c.write_behind-3.ensures.behind.honest honest₃ in
+    let honest₁ : d.is_honest c.write_behind.new.disk = c.write_behind-2.ensures.behind.honest honest₂ in
+    let honest₀ : d.is_honest c.args.disk.now = c.write_behind.ensures.behind.honest honest₁ in
     let room : size_needed config ≤ length (d.content c.args.disk.now) = omega (arith, c.requires.room, g.met.D.Disk.whole c.args.disk.now honest₀) in
     fresh_area config c.args.memory.now _ _ _ _ _ room c.requires.memory
     (subst (λ at. IsOverwritten (d.content c.args.disk.now) at (165 ∷ []) (d.content c.write_behind.new.disk)) c.area_at.ensures (c.in_ok-write_behind.ensures.written honest₁))

@@ -9,9 +9,9 @@ use Rattle.ckrt_image.proofs.formatting.write_blocks.Goals as goal
 pub returns-clause-written : goal.returns-clause-written
 returns-clause-written g c = on_ok_weaker c.write_behind-3.result (λ last honest₃ memory size has.
     let d = g.D.Disk in let config = c.args.config.now in
-    let honest₂ : d.is_honest c.write_behind-2.new.disk = c.write_behind-3.ensures.honest honest₃ in
-    let honest₁ : d.is_honest c.write_behind.new.disk = c.write_behind-2.ensures.honest honest₂ in
-    let honest₀ : d.is_honest c.args.disk.now = c.write_behind.ensures.honest honest₁ in
+    let honest₂ : d.is_honest c.write_behind-2.new.disk = c.write_behind-3.ensures.behind.honest honest₃ in
+    let honest₁ : d.is_honest c.write_behind.new.disk = c.write_behind-2.ensures.behind.honest honest₂ in
+    let honest₀ : d.is_honest c.args.disk.now = c.write_behind.ensures.behind.honest honest₁ in
     let room : size_needed config ≤ length (d.content c.args.disk.now) = omega (arith, c.requires.room, g.met.D.Disk.whole c.args.disk.now honest₀) in
     is_fresh config memory _ _ _ _ (some_pages config c.requires.valid).0 (some_pages config c.requires.valid).1 room size
     (subst (λ at. IsOverwritten (d.content c.args.disk.now) at (0 ∷ []) (d.content c.write_behind.new.disk)) (ap (λ (j : Journal). j.at) c.journal_of.ensures) (c.in_ok-write_behind.ensures.written honest₁))

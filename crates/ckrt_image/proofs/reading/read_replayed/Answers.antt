@@ -1,8 +1,11 @@
-use Rattle.ckrt_disk.proofs.Moments.{goes_on}
+use Rattle.std.proofs.Common.{arith}
+use Rattle.std.proofs.lemmas.Grind.{common_steps}
+use Rattle.ckrt_image.specs.Reads.{is_device}
+use Rattle.ckrt_image.proofs.ReadsLemmas.{read_on}
 use Rattle.ckrt_image.proofs.reading.read_replayed.Goals as goal
 
-pub returns-clause-any_moment : goal.returns-clause-any_moment
-returns-clause-any_moment g c = λ honest.
-    let d = g.D.Disk in
-    goes_on d.moment d.left_since c.args.disk.now c.read_machine.new.disk c.replay.new.disk (λ _. ⊥)
-    (c.read_machine.ensures.any_moment (c.replay.ensures.honest honest)) (c.replay.ensures.any_moment honest)
+pub returns-clause-exact : goal.returns-clause-exact
+returns-clause-exact g c = grind (arith, common_steps)
+
+pub returns-clause-read : goal.returns-clause-read
+returns-clause-read g c = read_on g.D.Disk c.args.disk.now c.read_machine.new.disk c.replay.new.disk (is_device c.replay.result) c.in_ok-machine.ensures.read c.replay.ensures.read

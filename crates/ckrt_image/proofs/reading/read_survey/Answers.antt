@@ -1,5 +1,4 @@
 use Rattle.std.proofs.Common.{◌≡◌, sym, subst, rules, Ok, Err}
-use Rattle.ckrt_disk.proofs.Moments.{goes_on}
 use Rattle.ckrt_image.specs.Recovery.{Agrees, AgreesOnFault, recovery_of}
 use Rattle.ckrt_image.specs.Surveys.{in_use, recovered_of}
 use Rattle.ckrt_image.proofs.ReplayLemmas.{fault_in_use, recovered_from_area}
@@ -13,19 +12,13 @@ returns-in_err-config-clause-exact g c = λ honest.
     let is : c.from_residual.result ≡ Err fault = search rules in
     subst (λ r. Agrees recovered_of (λ e. e) r (recovery_of (d.content c.args.disk.now))) (sym is) (fault_in_use fault (d.content c.args.disk.now) first)
 
-pub returns-clause-any_moment : goal.returns-clause-any_moment
-returns-clause-any_moment g c = λ honest.
-    let d = g.D.Disk in
-    goes_on d.moment d.left_since c.args.disk.now c.read_in_use.new.disk c.read_replayed.new.disk (λ _. ⊥)
-    (c.read_in_use.ensures.any_moment (c.read_replayed.ensures.honest honest)) (c.read_replayed.ensures.any_moment honest)
-
 pub returns-clause-exact : goal.returns-clause-exact
 returns-clause-exact g c = λ honest.
     let d = g.D.Disk in
     let config = c.in_ok-config.config in
     let area = c.in_ok-config.area in
     let image = d.content c.args.disk.now in
-    let before : d.is_honest c.read_in_use.new.disk = c.read_replayed.ensures.honest honest in
+    let before : d.is_honest c.read_in_use.new.disk = c.read_replayed.ensures.read.honest honest in
     let used : in_use image ≡ Ok (config, area) = search rules in
-    let same : d.content c.read_in_use.new.disk ≡ image = c.read_in_use.ensures.content before in
+    let same : d.content c.read_in_use.new.disk ≡ image = c.read_in_use.ensures.read.content before in
     subst (λ v. Agrees recovered_of (λ e. e) c.read_replayed.result v) (sym (recovered_from_area image (d.content c.read_in_use.new.disk) config area used same)) (c.read_replayed.ensures.exact honest)
