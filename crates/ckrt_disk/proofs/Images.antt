@@ -7,6 +7,7 @@ use Rattle.std.proofs.lemmas.Slice.{take-put_mid}
 use Rattle.std.proofs.lemmas.Grind.{common_steps, get_or_default_zero}
 use Rattle.std.proofs.lemmas.Bool.{cases_lt}
 use Rattle.ckrt_disk.specs.Disk.{IsImage, IsOverwritten, IsWithin}
+use Rattle.ckrt_disk.specs.Marked.{IsFilled}
 
 length_part : (n at : ℕ) (c : List ℕ) → length (take n (drop at c)) ≡ min n (length c - at)
 length_part n at c = grind (arith, common_steps)
@@ -55,6 +56,14 @@ module _ (old : List ℕ) (at : ℕ) (bytes new : List ℕ) (holds : IsOverwritt
 -- what a stop may leave of an image is an image of the content
 pub image_of_image : (pending : ℕ → Type 0) (content mid image : List ℕ) → IsImage content pending mid → IsImage mid pending image → IsImage content pending image
 image_of_image pending content mid image first second = record { size = second.size ∙ first.size; same = λ i out. second.same i out ∙ first.same i out }
+
+-- a fill changes pending bytes alone
+pub filled_image : (pending : ℕ → Type 0) (fill old new : List ℕ) → IsFilled pending fill old new → IsImage old pending new
+filled_image pending fill old new filled = record { size = filled.size; same = filled.kept }
+
+-- an image stays one where more is pending
+pub wider_image : (few many : ℕ → Type 0) (content image : List ℕ) → ((i : ℕ) → few i → many i) → IsImage content few image → IsImage content many image
+wider_image few many content image more is = record { size = is.size; same = λ i out. is.same i (λ had. out (more i had)) }
 
 -- bytes put behind bytes that were put
 pub overwritten_on : (old mid new : List ℕ) (at : ℕ) (front back : List ℕ) → at + length front ≤ length old → IsOverwritten old at front mid → IsOverwritten mid (at + length front) back new → IsOverwritten old at (front ++ back) new
