@@ -49,6 +49,12 @@ module _ {T : Type 0} where
       let rest : i ≡ place_in a es → is_entry_of a (slice_get es i) ≡ has_entry a es = entry_at_place a es i (grind (arith, nat_tests)) in
       grind (arith, nat_tests, rest)
 
+  -- where an entry is, there is a place
+  pub entry_within : (a : ℕ) (es : List (Entry T)) (i : ℕ) → is_entry_of a (slice_get es i) ≡ true → i < length es
+  entry_within a [] i t = absurd (cc)
+  entry_within a (x ∷ es) zero t = omega arith
+  entry_within a (x ∷ es) (suc i) t = let rest = entry_within a es i t in omega arith
+
   pub no_lookup : (a : ℕ) (es : List (Entry T)) → has_entry a es ≡ false → lookup a es ≡ None
   no_lookup a [] h = refl
   no_lookup a (e ∷ es) h = grind (arith, nat_tests, no_lookup a es)

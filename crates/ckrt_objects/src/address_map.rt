@@ -34,7 +34,6 @@ fn is_entry_at<T>(entries: &[Entry<T>], place: usize, address: u32) -> bool
 }
 
 /// What the map has at an address.
-#[tactic(auto, using(crate::proofs::AddressMap::lookup_there, crate::proofs::AddressMap::lookup_nowhere))]
 pub fn get<T: Copy>(entries: &[Entry<T>], address: u32) -> Option<T>
     requires { is_rising entries.now ≡ true }
     ensures { result ≡ lookup address entries.now }
@@ -48,7 +47,6 @@ pub fn get<T: Copy>(entries: &[Entry<T>], address: u32) -> Option<T>
 }
 
 /// The map has this value at an address from now on.
-#[tactic(auto, using(crate::proofs::AddressMap::stored_there, crate::proofs::AddressMap::stored_new, crate::proofs::AddressMap::room_for_new))]
 pub fn store<T: Copy + Default + Drop, const N: usize>(
     entries: &mut ArrayVec<Entry<T>, N>,
     address: u32,
@@ -67,7 +65,6 @@ pub fn store<T: Copy + Default + Drop, const N: usize>(
 }
 
 /// The map has nothing at an address from now on.
-#[tactic(auto, using(crate::proofs::AddressMap::removed_there, crate::proofs::AddressMap::removed_nowhere))]
 pub fn remove<T: Copy + Default + Drop, const N: usize>(
     entries: &mut ArrayVec<Entry<T>, N>,
     address: u32,

@@ -1,7 +1,35 @@
-use Rattle.std.proofs.Common.{sym, ◌∙◌}
-use Rattle.ckrt_objects.proofs.AddressMap.{stored_through}
+use Rattle.std.proofs.Common.{rules, sym, ◌∙◌}
+use Rattle.ckrt_objects.proofs.AddressMap.{entry_within, room_for_new, stored_new, stored_through}
 use Rattle.ckrt_objects.proofs.address_map.store.Goals as goal
+
+pub place_of-place-requires : goal.place_of-place-requires
+place_of-place-requires g c = rw c.as_slice.ensures.value c.requires.rising
+
+pub deref_mut-requires : goal.deref_mut-requires
+deref_mut-requires g c = search rules
+
+pub bounds-deref_mut-place : goal.bounds-deref_mut-place
+bounds-deref_mut-place g c =
+    let e = rw c.as_slice-2.ensures.value at (sym c.is_entry_at.ensures ∙ c.if-is_entry_at.true) in
+    rw c.deref_mut.ensures.value (entry_within c.args.address c.args.entries.now.items c.place_of-place.result e)
+
+pub insert-requires : goal.insert-requires
+insert-requires g c =
+    let p = rw c.as_slice.ensures.value at c.place_of-place.ensures.place in
+    let e = rw c.as_slice-2.ensures.value at (sym c.is_entry_at.ensures ∙ c.if-is_entry_at.false) in (
+      search rules,
+      (
+        rw c.as_slice.ensures.value at c.place_of-place.ensures.within,
+        room_for_new g.row.N c.args.address c.args.entries.now.items c.place_of-place.result c.requires.rising p e c.requires.room,
+      ),
+    )
 
 pub returns-then-is_entry_at : goal.returns-then-is_entry_at
 returns-then-is_entry_at g c =
     stored_through c.args.address c.args.value c.args.entries.now.items c.as_slice.result.now c.as_slice-2.result.now c.deref_mut.result.now _ c.as_slice.ensures.value c.as_slice-2.ensures.value c.deref_mut.ensures.value c.place_of-place.ensures.place (sym c.is_entry_at.ensures ∙ c.if-is_entry_at.true)
+
+pub returns-else-is_entry_at : goal.returns-else-is_entry_at
+returns-else-is_entry_at g c =
+    let p = rw c.as_slice.ensures.value at c.place_of-place.ensures.place in
+    let e = rw c.as_slice-2.ensures.value at (sym c.is_entry_at.ensures ∙ c.if-is_entry_at.false) in
+    cc (stored_new c.args.address c.args.value c.args.entries.now.items c.place_of-place.result p e)

@@ -1,4 +1,4 @@
-use Rattle.std.proofs.Common.{◌≡◌, ◌-◌, ◌+◌, suc, sym, ap, ◌∙◌, arith}
+use Rattle.std.proofs.Common.{rules, ◌≡◌, ◌-◌, ◌+◌, suc, sym, ap, ◌∙◌, arith}
 use Rattle.ckrt_thread.specs.Granting.{grant_up_to}
 use Rattle.ckrt_objects.specs.Granting.{rule_of}
 use Rattle.ckrt_objects.proofs.Granting.{step_up_to}
@@ -14,3 +14,6 @@ loop-preserved g c =
       left = rw (c.grant.ensures.granted, c.obtain.ensures) (sym step ∙ (ap (λ k. grant_up_to rule k c.loop.value c.loop.threads) (sym more) ∙ c.loop.invariant.left));
       proper = c.grant.ensures.proper;
     }
+
+pub loop-init : goal.loop-init
+loop-init g c = search rules
