@@ -1,3 +1,5 @@
+mod AddLemmas
 mod MatchLemmas
 mod NumberLemmas
+mod ParseLemmas
 mod TakenLemmas

@@ -1,6 +1,7 @@
 //! The program's command line, for `clap`.
-ghost use Rattle.std.specs.Prelude.{◌≡◌, IfOk, false};
-ghost use Rattle.clap.specs.Words.{app_of, rule_of};
+ghost use Rattle.std.specs.Prelude.{◌≡◌, IfOk, codes, false, fold, map, not, true};
+ghost use Rattle.std.specs.List.{list_all};
+ghost use Rattle.clap.specs.Words.{app_of, new_app, rule_of, with_rule};
 ghost use Rattle.clap.specs.declared.builder.command.Command.TheViews.{out-Command};
 ghost use Rattle.ckrt_words.specs.Commands.{bare_app, ckrt_app, format_app, needed_rule, number_rule, run_app};
 
@@ -36,28 +37,35 @@ fn format_command<'a>(alloc: Global) -> Result<Command<'a>, AllocError>
     ensures app { IfOk result (λ c. app_of c ≡ format_app) }
     ensures local { IfOk result (λ c. (out-Command c).has_globals ≡ false) }
 {
-    let disk = needed(alloc, "disk", "DISK", "The file to make a disk of");
-    let with_disk = Command::new(alloc, "format")
+    let arguments = format_arguments(alloc)?;
+    Command::new(alloc, "format")
         .about("Makes a disk with a guest program that hasn't begun")
-        .arg(disk)?;
-    let image = needed(
-        alloc,
-        "image",
-        "IMAGE",
-        "The guest program, a flat binary linked at 0x1000",
-    );
-    let with_image = with_disk.arg(image)?;
-    let pages = number(alloc, "pages", "64", "Pages of guest memory, 16 to 1024");
-    let with_pages = with_image.arg(pages)?;
-    let harts = number(alloc, "harts", "1", "Harts, 1 to 8");
-    let with_harts = with_pages.arg(harts)?;
-    let journal = number(
-        alloc,
-        "journal",
-        "65536",
-        "Bytes of a journal, 4096 to 1048576 by 4096",
-    );
-    with_harts.arg(journal)
+        .args(arguments)
+}
+
+/// What `format` is given.
+fn format_arguments<'a>(alloc: Global) -> Result<Vec<Arg<'a>>, AllocError>
+    ensures app { IfOk result (λ arguments. fold with_rule (new_app (codes "format")) (map rule_of arguments.items) ≡ format_app) }
+    ensures local { IfOk result (λ arguments. list_all (λ a. not a.global) arguments.items ≡ true) }
+{
+    let arguments = vec![in alloc;
+        needed(alloc, "disk", "DISK", "The file to make a disk of"),
+        needed(
+            alloc,
+            "image",
+            "IMAGE",
+            "The guest program, a flat binary linked at 0x1000"
+        ),
+        number(alloc, "pages", "64", "Pages of guest memory, 16 to 1024"),
+        number(alloc, "harts", "1", "Harts, 1 to 8"),
+        number(
+            alloc,
+            "journal",
+            "65536",
+            "Bytes of a journal, 4096 to 1048576 by 4096"
+        ),
+    ]?;
+    Ok(arguments)
 }
 
 /// `run DISK`.

@@ -23,3 +23,6 @@ returns-in-Ok-clause-size g c = go (nat_lt (g.D.Disk.size c.in_ok-disk.disk) (si
         let fits : nat_lt (memory_size c.args.config) (length c.deref.result.now) ≡ false = le-ltb _ _ most in
         let refused = c.format.ensures.refused TooSmall (third _ _ _ valid fits small) in
         absurd (true≢false (ap (λ (r : Result (Unit {0}) FormatFault). is_ok r) (sym c.in-Ok.is ∙ refused)))
+
+pub returns-then-not-is_valid-clause-bad_config : goal.returns-then-not-is_valid-clause-bad_config
+returns-then-not-is_valid-clause-bad_config g c = search rules
