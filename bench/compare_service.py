@@ -2,10 +2,11 @@
 
 Commits: lines with one event of seven bytes and a `commit`, all handed in at once; the time from one `ack` to a later one,
 for each commit between them, beside the median of the same four calls in plain Rust. Steps: a guest in Runs of 65,535 steps
-with a commit after every 100, from the first line to the end of the process, beside the machine alone. Recovery: a disk of
-256 pages whose journal of 65,536 bytes is full of the guest's Runs, from the start of the process to its end, beside reading
-the disk's bytes and the machine alone with the same Runs. Memory: the resident size of `ckrt run` on a disk of 1,024 pages,
-that of the process alone and that with its program and the C library.
+with a commit after every 100, from the first line to the end of the process, beside the machine alone: once with lines from
+a file and replies to one, and once through pipes, where whoever reads the replies is on the same machine. Recovery: a disk
+of 256 pages whose journal of 65,536 bytes is full of the guest's Runs, from the start of the process to its end, beside
+reading the disk's bytes and the machine alone with the same Runs. Memory: the resident size of `ckrt run` on a disk of 1,024
+pages, that of the process alone and that with its program and the C library.
 """
 import os
 import re
@@ -81,15 +82,36 @@ def commits(plain, ckrt, image, folder):
     print(f"commit: plain {statistics.median(base) / 1e3:.1f} us, ckrt run {statistics.median(ours) / 1e3:.1f} us, {ratio_of(ours, base)}")
 
 
-def service_rate(ckrt, path, image, runs):
-    """The steps a second of a guest through the program."""
+def piped(command, lines, _folder):
+    """The replies to lines that come through a pipe, and go through one to a reader that takes each as it comes; and the seconds."""
+    start = time.perf_counter()
+    replies = run(command, lines)[0]
+    return replies, time.perf_counter() - start
+
+
+def from_file(command, lines, folder):
+    """The replies, in a file, to lines from a file; and the seconds."""
+    asked, answered = os.path.join(folder, "service.lines"), os.path.join(folder, "service.replies")
+    with open(asked, "w", encoding="ascii") as file:
+        file.write(lines)
+    with open(asked, "rb") as source, open(answered, "wb") as target:
+        start = time.perf_counter()
+        subprocess.run(command, stdin=source, stdout=target, check=True)
+        seconds = time.perf_counter() - start
+    with open(answered, encoding="ascii") as file:
+        replies = file.read()
+    os.remove(asked)
+    os.remove(answered)
+    return replies, seconds
+
+
+def service_rate(ckrt, path, image, runs, feed):
+    """The steps a second of a guest through the program, whose lines are fed so."""
     format_disk(ckrt, path, image, 64)
     lines = "place 0 1\n" + ("run 0 65535\n" * 100 + "commit\n") * (runs // 100 + 1)
-    start = time.perf_counter()
-    said = run([ckrt, "run", path], lines)[0]
-    seconds = time.perf_counter() - start
+    replies, seconds = feed([ckrt, "run", path], lines, os.path.dirname(path))
     os.remove(path)
-    return sum(int(m) for m in re.findall(r"ran (\d+)", said)) / seconds
+    return sum(int(m) for m in re.findall(r"ran (\d+)", replies)) / seconds
 
 
 def machine_rate(machine, image):
@@ -103,12 +125,16 @@ def machine_rate(machine, image):
 
 def steps(ckrt, machine, image, folder):
     disk = os.path.join(folder, "service.disk")
-    ours, base = [], []
+    feeds = {"lines from a file": from_file, "lines through pipes": piped}
+    ours, base = {name: [] for name in feeds}, []
     for _ in range(STEP_ROUNDS):
         count, rate = machine_rate(machine, image)
         base.append(rate)
-        ours.append(service_rate(ckrt, disk, image, count // 65_535))
-    print(f"steps: machine alone {statistics.median(base) / 1e6:.0f} million a second, ckrt run {statistics.median(ours) / 1e6:.0f}, {ratio_of(ours, base)}")
+        for name, feed in feeds.items():
+            ours[name].append(service_rate(ckrt, disk, image, count // 65_535, feed))
+    print(f"steps: machine alone {statistics.median(base) / 1e6:.0f} million a second")
+    for name, rates in ours.items():
+        print(f"steps, {name}: ckrt run {statistics.median(rates) / 1e6:.0f} million a second, {ratio_of(rates, base)}")
 
 
 def recovery(ckrt, machine, image, folder):

@@ -1,0 +1,77 @@
+//! Formats a disk in memory and recovers a session from it, and says what it met.
+//!
+//! It is run with each growth of memory refused in turn (`bench/growths`): whatever growth that is, the answer is
+//! `OutOfMemory`, or there was no disk to begin with, and the bytes of the disk are as they were.
+
+use ckrt_disk::{Disk, MemoryDisk};
+use ckrt_recovery::{Config, FormatFault, RecoverFault, format, recover};
+use std::alloc::{AllocError, Global};
+
+/// A guest of one word that is no instruction.
+const IMAGE: [u8; 4] = [0, 0, 0, 0];
+
+const CONFIG: Config = Config {
+    pages: 16,
+    harts: 1,
+    journal: 4_096,
+};
+
+/// The size that the configuration needs, in bytes.
+const DISK_BYTES: usize = 348_160;
+
+/// A disk of zeros.
+fn empty_disk(alloc: Global) -> Result<MemoryDisk, AllocError> {
+    let bytes = vec![in alloc; 0u8; DISK_BYTES]?;
+    MemoryDisk::new(alloc, bytes)
+}
+
+/// What refused to format the disk, if anything did.
+fn format_refusal(alloc: Global, disk: &mut MemoryDisk) -> Option<FormatFault> {
+    format(alloc, disk, CONFIG, &IMAGE).err()
+}
+
+/// What refused to recover the disk, if anything did, with the disk.
+fn recovery_refusal(alloc: Global, disk: MemoryDisk) -> Option<(RecoverFault, MemoryDisk)> {
+    match recover(alloc, disk) {
+        Ok(_) => None,
+        Err(unrecovered) => Some((unrecovered.fault, unrecovered.disk)),
+    }
+}
+
+/// What to say of a disk whose formatting was refused: nothing was written.
+fn report_unformatted(disk: MemoryDisk, fault: FormatFault) -> &'static str {
+    if fault != FormatFault::OutOfMemory {
+        return "formatting met something else";
+    }
+    if disk.into_image().iter().all(|byte| *byte == 0) {
+        "formatting: OutOfMemory"
+    } else {
+        "formatting wrote before it had its memory"
+    }
+}
+
+/// What to say of a recovery: where it was refused, a second try recovers the disk.
+fn report_recovery(alloc: Global, disk: MemoryDisk) -> &'static str {
+    match recovery_refusal(alloc, disk) {
+        None => "recovered",
+        Some((RecoverFault::OutOfMemory, disk)) => {
+            if recovery_refusal(alloc, disk).is_none() {
+                "recovery: OutOfMemory"
+            } else {
+                "recovery changed the disk"
+            }
+        }
+        Some(_) => "recovery met something else",
+    }
+}
+
+/// What formatting a disk and recovering it met.
+pub fn report(alloc: Global) -> &'static str {
+    let Ok(mut disk) = empty_disk(alloc) else {
+        return "no disk";
+    };
+    match format_refusal(alloc, &mut disk) {
+        Some(fault) => report_unformatted(disk, fault),
+        None => report_recovery(alloc, disk),
+    }
+}

@@ -1,0 +1,89 @@
+//! The program that the benches measure, and whose growths of memory are refused one by one. It does the jobs of its
+//! words in turn, and writes times to standard error.
+//!
+//! - `ckrt_probe run IMAGE PAGES HARTS STEPS` runs a guest on the machine.
+//! - `ckrt_probe append FILE BYTES COUNT` appends to a journal on a real file.
+//! - `ckrt_probe decode COUNT` reads and decodes a full journal in memory.
+//! - `ckrt_probe grow` formats a disk and recovers it, and says which growth of memory was refused, if one was.
+#![tactic(auto)]
+
+mod growth;
+mod journal;
+mod run;
+
+use crate::growth::report;
+use crate::journal::{time_appends, time_decoding};
+use crate::run::{shape_of, time_run};
+use anyhow::{Context, Result, bail};
+use std::env;
+
+const USAGE: &str =
+    "usage: ckrt_probe (run IMAGE PAGES HARTS STEPS | append FILE BYTES COUNT | decode COUNT | grow)...";
+
+fn number(word: &str) -> Result<u32> {
+    word.parse::<u32>().context(USAGE)
+}
+
+/// Each job answers the words behind its own.
+type Rest<'a> = Result<&'a [String]>;
+
+fn run_guest<'a>(rt: &HostRuntime, words: &'a [String]) -> Rest<'a> {
+    let [image, pages, harts, steps, rest @ ..] = words else {
+        bail!(USAGE);
+    };
+    let shape = shape_of(number(pages)?, number(harts)?, number(steps)?)?;
+    time_run(rt, image, shape)?;
+    Ok(rest)
+}
+
+fn append<'a>(rt: &HostRuntime, words: &'a [String]) -> Rest<'a> {
+    let [path, bytes, count, rest @ ..] = words else {
+        bail!(USAGE);
+    };
+    time_appends(rt, path, number(bytes)? as usize, number(count)?)?;
+    Ok(rest)
+}
+
+fn decode<'a>(rt: &HostRuntime, words: &'a [String]) -> Rest<'a> {
+    let [count, rest @ ..] = words else {
+        bail!(USAGE);
+    };
+    time_decoding(rt, number(count)?)?;
+    Ok(rest)
+}
+
+fn grow<'a>(rt: &HostRuntime, words: &'a [String]) -> Rest<'a> {
+    println!(rt; "{}", report(rt.alloc()))?;
+    Ok(words)
+}
+
+/// Does the first job that the words ask for.
+fn probe<'a>(rt: &HostRuntime, words: &'a [String]) -> Rest<'a> {
+    let [verb, rest @ ..] = words else {
+        bail!(USAGE);
+    };
+    match verb.as_str() {
+        "run" => run_guest(rt, rest),
+        "append" => append(rt, rest),
+        "decode" => decode(rt, rest),
+        "grow" => grow(rt, rest),
+        _ => bail!(USAGE),
+    }
+}
+
+/// Does the jobs in turn.
+fn probe_each(rt: &HostRuntime, words: &[String]) -> Result<()> {
+    let mut rest = words;
+    for _ in 0..words.len() {
+        rest = probe(rt, rest)?;
+        if rest.is_empty() {
+            return Ok(());
+        }
+    }
+    bail!(USAGE)
+}
+
+fn main(rt: HostRuntime) -> Result<()> {
+    let words: Vec<String> = env::args(&rt)?.skip(1).collect(rt.alloc())?;
+    probe_each(&rt, words.as_slice())
+}
