@@ -1,3 +1,4 @@
 pub mod TableLaws
+pub mod AlignmentLaws
 pub mod DecodingLaws
 pub mod EffectLaws

@@ -355,7 +355,7 @@ fn decode_row(word: u32) -> Option<Instr>
 }
 
 /// The instruction that the word encodes. `None` where it encodes none: CSR words and FENCE.I are no instructions here.
-#[inline]
+#[inline(always)]
 #[tactic(auto, using(crate::proofs::DecodingLaws::decoded, crate::proofs::DecodingLaws::encoded, crate::proofs::DecodingLaws::in_range))]
 pub fn decode(word: u32) -> Option<Instr>
     ensures exact { (i : Instr) → (result ≡ Some i) ↔ Encodes word i }

@@ -172,11 +172,9 @@ fn store<B: Bus>(regs: &mut Regs, bus: &mut B, size: Size, address: u32, value: 
 #[inline(always)]
 fn perform<B: Bus>(instr: Instr, regs: &mut Regs, bus: &mut B) -> Outcome
     requires in_range { IsInRange instr }
-    requires aligned { regs.old.pc % 4 ≡ 0 }
     ensures outcome { result ≡ (effect instr regs.old (B.bytes bus.old)).outcome }
     ensures registers { regs.new ≡ (effect instr regs.old (B.bytes bus.old)).registers }
     ensures bytes { B.bytes bus.new ≡ (effect instr regs.old (B.bytes bus.old)).bytes }
-    ensures aligned { regs.new.pc % 4 ≡ 0 }
     ensures follows { B.Follows bus.old bus.new }
 {
     match instr {
