@@ -18,7 +18,7 @@ use Rattle.ckrt_rwlock.proofs.WellFormed as locks
 use Rattle.ckrt_calls.specs.declared.number.BarrierCall.{BarrierCall}
 use Rattle.ckrt_calls.specs.declared.number.BarrierCall.TheVariants as barrier_call
 use Rattle.ckrt_calls.specs.declared.table.Tables.{Tables}
-use Rattle.ckrt_calls.specs.Table.{barrier_row, waits}
+use Rattle.ckrt_calls.specs.Table.{barrier_row}
 use Rattle.ckrt_calls.specs.WellFormed.{IsWellFormed}
 use Rattle.ckrt_calls.proofs.ThreadRows.{AllWaits, all_woken, all_blocked, any_live_woken}
 use Rattle.ckrt_calls.proofs.Queues as queues

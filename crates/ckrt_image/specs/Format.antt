@@ -46,7 +46,7 @@ pub record StaysClosed {D : Type 0} (moment : D → ℕ) (left_since : D → ℕ
   pub any_moment : LeavesOnly moment left_since old new (λ image. is_open image ≡ false)
   pub closed : HasClosedGate (content new) (pending new)
 
--- From old to new there were n calls that wrote behind the first gate or synced, of which the last failed or not, and no other did.
+-- From old to new some calls wrote behind the first gate or synced, and no other did: n of them, or fewer where the last one failed.
 pub record IsBehindGate {D : Type 0} (d : Ghosts D) (old new : D) (n : ℕ) (failed : Bool) : Type 0 where
   pub closed : d.is_honest new → HasClosedGate (d.content old) (d.pending old) → StaysClosed d.moment d.left_since d.content d.pending old new
   pub honest : d.is_honest new → d.is_honest old

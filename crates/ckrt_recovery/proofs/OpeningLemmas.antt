@@ -1,17 +1,13 @@
 -- From what was read of a disk to a session.
-use Rattle.std.proofs.Common.{◌≡◌, ℕ, ◌+◌, ◌≤◌, true, false, List, [], length, length-drop, take, drop, Result, Ok, Err, OnOk, is_err, refl, sym, ◌∙◌, ap, subst, arith}
-use Rattle.std.proofs.lemmas.List.{take_all, drop_all}
-use Rattle.std.proofs.lemmas.Grind.{same_number_lists}
+use Rattle.std.proofs.Common.{◌≡◌, ℕ, false, List, Result, Ok, Err, OnOk, is_err, sym, ◌∙◌, ap}
 use Rattle.ckrt_disk.specs.declared.disk.Disk.{Ghosts}
-use Rattle.ckrt_events.specs.Bytes.{encodings_of}
 use Rattle.ckrt_events.specs.declared.event.Event.{Event}
 use Rattle.ckrt_recovery.specs.declared.session.Session.{Session}
 use Rattle.ckrt_image.specs.declared.survey.Survey.{Survey}
 use Rattle.ckrt_image.specs.Surveys.{recovered_of}
 use Rattle.ckrt_recovery.specs.View.{recovered_by}
-use Rattle.ckrt_image.specs.Recovery.{Recovered, recovery_of, is_replayable}
-use Rattle.ckrt_image.specs.Programs.{Program, HasEvents, RecoversTo, output_after, state_after}
-use Rattle.ckrt_recovery.specs.Represents.{RecoversLike, Represents}
+use Rattle.ckrt_image.specs.Recovery.{Recovered, recovery_of}
+use Rattle.ckrt_image.specs.Programs.{Program, RecoversTo}
 
 -- what holds on Ok, where there was no error
 pub where_ok : {T E : Type 0} (r : Result T E) (P : Type 0) → OnOk r P → is_err r ≡ false → P

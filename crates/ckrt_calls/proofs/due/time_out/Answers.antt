@@ -1,3 +1,4 @@
+use Rattle.std.proofs.Common.{rules}
 use Rattle.ckrt_calls.proofs.Ticks.{found_waiting, found_resumes}
 use Rattle.ckrt_calls.proofs.due.time_out.Goals as goal
 
@@ -9,3 +10,6 @@ wake-requires-in_default c = found_waiting c.args.tables.now.threads c.args.wait
 
 pub resume-requires-clause-waiting : goal.resume-requires-clause-waiting
 resume-requires-clause-waiting c = found_resumes c.args.wait.now c.in-Condition.field-0 c.in-Condition.mutex c.args.tables.now.threads c.requires.found c.in-Condition.is
+
+pub returns-in-Condition : goal.returns-in-Condition
+returns-in-Condition c = search rules

@@ -1,0 +1,5 @@
+use Rattle.std.proofs.Common.{rules}
+use Rattle.ckrt_cancel.proofs.handlers.push.Goals as goal
+
+pub returns-clause-result : goal.returns-clause-result
+returns-clause-result c = search rules

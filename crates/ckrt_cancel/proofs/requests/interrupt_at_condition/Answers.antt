@@ -1,0 +1,5 @@
+use Rattle.std.proofs.Common.{rules}
+use Rattle.ckrt_cancel.proofs.requests.interrupt_at_condition.Goals as goal
+
+pub returns-clause-threads : goal.returns-clause-threads
+returns-clause-threads c = search rules
