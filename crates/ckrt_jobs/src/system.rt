@@ -1,5 +1,6 @@
 //! Disks and images that are files of the system.
-ghost use Rattle.std.specs.Prelude.{◌≡◌, None, IfErr};
+ghost use Rattle.std.specs.Prelude.{◌≡◌, None, IfOk, IfErr};
+ghost use Rattle.ckrt_jobs.specs.Streams.{IsBesideStreams};
 
 use crate::fault::JobFault;
 use crate::filling::fill;
@@ -7,14 +8,39 @@ use crate::sources::Sources;
 use ckrt_disk::{FileDisk, Holds, SystemFile};
 use std::fs::{File, Files, OpenOptions};
 use std::io;
+use std::os::fd::AsRawFd;
+
+/// The file, unless its descriptor is that of standard input, output or error: a stream that is closed when the program
+/// begins leaves its descriptor to the next file, whose bytes it would then read, or print over.
+fn beside_streams(file: File) -> io::Result<File>
+    ensures beside { IfOk result IsBesideStreams }
+    ensures same { IfOk result (λ opened. opened ≡ file) }
+{
+    if file.as_raw_fd() > 2 {
+        Ok(file)
+    } else {
+        Err(io::Error::from(io::ErrorKind::InvalidInput))
+    }
+}
+
+/// Opens a file to read it.
+fn open_read<R: Files<File = File>>(rt: &R, path: &str) -> io::Result<File>
+    ensures { IfOk result IsBesideStreams }
+{
+    let file = OpenOptions::new().read(true).open(rt, path)?;
+    beside_streams(file)
+}
 
 /// Opens a file to read and write it, and locks it: a second program over the same disk is refused at once.
-fn open_locked<R: Files<File = File>>(rt: &R, path: &str, is_new: bool) -> io::Result<File> {
+fn open_locked<R: Files<File = File>>(rt: &R, path: &str, is_new: bool) -> io::Result<File>
+    ensures { IfOk result IsBesideStreams }
+{
     let file = OpenOptions::new()
         .read(true)
         .write(true)
         .create(is_new)
         .open(rt, path)?;
+    let file = beside_streams(file)?;
     file.try_lock()?;
     Ok(file)
 }
@@ -44,7 +70,9 @@ fn disk_of<H: Holds>(file: File) -> Result<FileDisk<SystemFile<H>>, JobFault>
 }
 
 /// A file of at least so many bytes: one that is missing or shorter is filled with zero bytes.
-fn open_filled<R: Files<File = File>>(rt: &R, path: &str, size: usize) -> io::Result<File> {
+fn open_filled<R: Files<File = File>>(rt: &R, path: &str, size: usize) -> io::Result<File>
+    ensures { IfOk result IsBesideStreams }
+{
     let file = open_locked(rt, path, true)?;
     let length = file.metadata()?.len() as usize;
     fill(&file, length, size)?;
@@ -67,7 +95,7 @@ impl<'a, R: Files<File = File>, H: Holds> Sources<File, FileDisk<SystemFile<H>>>
     ghost is_disk_touched = { λ s. s.is_disk_touched };
 
     fn open_image(&mut self) -> Result<File, JobFault> {
-        match OpenOptions::new().read(true).open(self.rt, self.image) {
+        match open_read(self.rt, self.image) {
             Ok(file) => Ok(file),
             Err(_) => Err(JobFault::File),
         }
