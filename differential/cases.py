@@ -1,0 +1,119 @@
+"""The kinds of cases; each case is a function of its seed alone."""
+from dataclasses import dataclass
+from random import Random
+
+from abi import Call
+from assembler import call_words, image_of, jump_form
+from call_by_call import Script, flavour_of
+from computations import computation
+from damage import Damage
+from disk import Geometry, format_disk
+from guests import Guest
+from limits import limit_case
+from streams import MALFORMED, joined, last_lines, mangled, random_lines
+
+
+@dataclass
+class Case:
+    """A disk, formatted with an image or given byte by byte, and the lines of each life on it.
+
+    A killed case's program gets a signal as soon as all replies of a life have come.
+    """
+    geometry: Geometry
+    image: bytes
+    lives: list
+    damaged: bytes | None = None
+    is_killed: bool = False
+
+    def disk(self):
+        return bytearray(format_disk(self.geometry, self.image) if self.damaged is None else self.damaged)
+
+
+def threads_case(chance, seed):
+    """Several threads that make random calls, run in turn on several harts."""
+    guest = Guest(chance)
+    geometry = Geometry(chance.choice([16] * 30 + [17]), chance.choice([1, 2, 2, 3, 8]), chance.choice([4096, 4096, 65536]))
+    lines = random_lines(chance, geometry.harts) + last_lines(chance, geometry.harts, guest.dump_steps)
+    return Case(geometry, guest.image, [joined(chance, lines)])
+
+
+def calls_case(chance, seed):
+    """Call by call, chosen with a look at the model."""
+    script = Script(chance, flavour_of(seed))
+    return Case(script.geometry, script.image, [joined(chance, script.lines)])
+
+
+def processor_case(chance, seed):
+    """Random instructions, at times step by step."""
+    image, before, length = computation(chance)
+    lines = [b"place 0 1"]
+    if chance.random() < 0.5:
+        lines += [b"run 0 %d" % before] + [b"run 0 1"] * chance.choice([0, length])
+    lines += [b"run 0 %d" % chance.choice([500, 2000]), b"commit", b"run 0 1500", b"commit"]
+    return Case(Geometry(16, 1, 4096), image, [joined(chance, lines)])
+
+
+def lines_case(chance, seed):
+    """Mostly malformed lines, for a guest that puts what it gets."""
+    echo = call_words(Call.GETC) + call_words(Call.PUTC) + [jump_form(0, -16)]
+    fed = [b"place 0 1", b"run 0 3"]
+    for _ in range(chance.choice([20, 60])):
+        data = b"%02X" % chance.randrange(256) * chance.choice([1, 2, 63, 64])
+        options = [chance.choice(MALFORMED), b"in " + data, b"auto 0 %d" % chance.choice([1, 20, 300]), b"commit",
+                   b"tick %d" % chance.choice([1, 4294967295]), b"eof", b"quit", mangled(chance)]
+        fed += chance.choices(options, [50, 10, 15, 5, 10, 0.5, 0.5, 9])
+    data = joined(chance, fed + [b"commit"])
+    ends = [data[:-1], data + b"commit\r", data + b"x" * chance.choice([160, 161]), data + b" " * 160 + b"\r", data]
+    return Case(Geometry(16, chance.choice([1, 3, 8]), 4096), image_of(echo), chance.choices(ends, [30, 10, 10, 5, 45]))
+
+
+def lives_of(chance, lines):
+    """The lines cut into lives: a life ends by a quit, a cut line or the end of input, and some lines come again."""
+    lives = []
+    for _ in range(chance.choice([1, 2, 3])):
+        cut = chance.randrange(len(lines) + 1)
+        ends = [b"", b"commit\n", b"quit\nplace 0 1\n", chance.choice([b"commit", b"auto 0 5", b"tick 1\r", b"com", b"\r", b" "])]
+        lives.append(joined(chance, lines[:cut]) + chance.choice(ends))
+        if chance.random() < 0.5:
+            lines = lines[max(0, cut - chance.randrange(4)):]
+    return lives + [joined(chance, lines)]
+
+
+def lives_case(chance, seed):
+    """Several lives on one disk, of either guest."""
+    case = (threads_case if seed % 2 else calls_case)(chance, seed // 2)
+    case.lives = lives_of(chance, case.lives[0].splitlines())
+    return case
+
+
+def disks_case(chance, seed):
+    """Damaged disks; where one is recovered nevertheless, some lines are served."""
+    damage = Damage(chance)
+    data = b"auto 0 20\ntick 5\nin 41\nauto 0 9\nrun 0 300\ncommit\ntick 1\ncommit\n"
+    return Case(damage.geometry, b"", [data], damaged=bytes(damage.disk))
+
+
+def killed_case(chance, seed):
+    """Three lives, each killed when its replies have come; the next begins some lines before."""
+    script = Script(chance, flavour_of(seed), 60)
+    left, lives = script.lines, []
+    while left and len(lives) < 3:
+        cut = chance.randrange(1, len(left) + 1)
+        lives.append(joined(chance, left[:cut]))
+        left = left[max(0, cut - 5):]
+    return Case(script.geometry, script.image, lives, is_killed=True)
+
+
+def limits_case(chance, seed):
+    """Counts, tables, queues and the journal filled to their ends."""
+    return Case(*limit_case(chance, seed))
+
+
+KINDS = {
+    "threads": threads_case, "calls": calls_case, "processor": processor_case, "lines": lines_case, "lives": lives_case,
+    "disks": disks_case, "killed": killed_case, "limits": limits_case,
+}
+
+
+def case_of(kind, seed):
+    return KINDS[kind](Random(f"{kind} {seed}"), seed)

@@ -1,0 +1,194 @@
+"""Runs cases on the program and on the model, and compares replies, exit status, standard error and the disk's bytes."""
+import argparse
+import os
+import subprocess
+import sys
+import tempfile
+import time
+from collections import Counter
+from dataclasses import dataclass, field
+from pathlib import Path
+
+from abi import Call
+from cases import KINDS, case_of
+from disk import Unrecovered
+from lines import serve
+
+TIME_LIMIT = 60
+
+
+@dataclass(frozen=True)
+class Life:
+    """What a life shows: the status is None where it was killed."""
+    status: int | None
+    replies: bytes
+    errors: bytes
+
+
+@dataclass
+class Totals:
+    cases: Counter = field(default_factory=Counter)
+    lives: Counter = field(default_factory=Counter)
+    replies: Counter = field(default_factory=Counter)
+    differences: list = field(default_factory=list)
+    answers: Counter = field(default_factory=Counter)
+
+
+def life_of_model(disk, data, is_killed, tally):
+    """Changes the disk's bytes."""
+    try:
+        replies = serve(disk, data, tally)
+    except Unrecovered as fault:
+        tally["recovery", str(fault)] += 1
+        return Life(1, b"", f"ckrt: {fault}\n".encode())
+    tally["recovery", "recovered"] += 1
+    return Life(None if is_killed else 0, b"".join(reply.encode() + b"\n" for reply in replies), b"")
+
+
+def life_of_program(ckrt, path, data):
+    done = subprocess.run([ckrt, "run", path], input=data, capture_output=True, timeout=TIME_LIMIT)
+    return Life(done.returncode, done.stdout, done.stderr)
+
+
+def killed_life(ckrt, path, data, expected):
+    """Feeds lines without ending the input, reads as many bytes as are expected, and kills the program."""
+    with subprocess.Popen([ckrt, "run", path], stdin=subprocess.PIPE, stdout=subprocess.PIPE, stderr=subprocess.PIPE) as child:
+        os.set_blocking(child.stdin.fileno(), False)
+        os.set_blocking(child.stdout.fileno(), False)
+        replies, fed, end = b"", 0, time.monotonic() + 5
+        while (len(replies) < len(expected) or fed < len(data)) and time.monotonic() < end:
+            try:
+                fed += os.write(child.stdin.fileno(), data[fed:fed + 4096]) if fed < len(data) else 0
+            except (BlockingIOError, BrokenPipeError):
+                pass
+            got = child.stdout.read()
+            replies += got or b""
+            if got == b"":
+                break
+            if got is None:
+                time.sleep(0.0005)
+        child.kill()
+        return Life(None, replies + (child.stdout.read() or b""), child.stderr.read())
+
+
+def formats_alike(ckrt, case, folder):
+    """The program's own formatting gives the model's bytes; what it prints is the size."""
+    disk, image = folder / "formatted", folder / "image"
+    image.write_bytes(case.image)
+    disk.unlink(missing_ok=True)
+    sizes = [str(number) for number in (case.geometry.pages, case.geometry.harts, case.geometry.journal)]
+    options = [word for pair in zip(("--pages", "--harts", "--journal"), sizes) for word in pair]
+    done = subprocess.run([ckrt, "format", disk, image, *options], capture_output=True, timeout=TIME_LIMIT)
+    shown = (done.returncode, done.stdout, done.stderr)
+    return shown == (0, b"formatted %d\n" % case.geometry.size, b"") and disk.read_bytes() == case.disk()
+
+
+def first_difference(ckrt, case, folder, tally, count_life):
+    """Runs a case; None, or in a few words where the two differ."""
+    disk, path = case.disk(), folder / "disk"
+    if case.damaged is None and not formats_alike(ckrt, case, folder):
+        return "format"
+    path.write_bytes(disk)
+    for number, data in enumerate(case.lives, 1):
+        (folder / f"lines.{number}").write_bytes(data)
+        expected = life_of_model(disk, data, case.is_killed, tally)
+        if case.is_killed:
+            shown = killed_life(ckrt, path, data, expected.replies)
+        else:
+            shown = life_of_program(ckrt, path, data)
+        count_life(expected.replies.count(b"\n"))
+        if shown != expected:
+            (folder / f"model.{number}").write_bytes(expected.replies + expected.errors)
+            (folder / f"program.{number}").write_bytes(shown.replies + shown.errors)
+            return f"life {number}: {place_of_difference(expected, shown)}"
+        if path.read_bytes() != disk:
+            (folder / "disk.model").write_bytes(disk)
+            return f"life {number}: the disk's bytes"
+    return None
+
+
+def place_of_difference(expected, shown):
+    if expected.replies == shown.replies:
+        return f"model {expected.status} {expected.errors!r}, program {shown.status} {shown.errors!r}"
+    wanted, got = expected.replies.split(b"\n"), shown.replies.split(b"\n")
+    for number, pair in enumerate(zip(wanted, got), 1):
+        if pair[0] != pair[1]:
+            return f"reply {number}: model {pair[0][:100]!r}, program {pair[1][:100]!r}"
+    return f"{len(wanted) - 1} replies of the model, {len(got) - 1} of the program"
+
+
+def run_case(ckrt, kind, seed, folder, totals):
+    case = case_of(kind, seed)
+    work = folder / f"{kind}-{seed}"
+    work.mkdir(exist_ok=True)
+    totals.cases[kind] += 1
+
+    def count_life(replies):
+        totals.lives[kind] += 1
+        totals.replies[kind] += replies
+
+    difference = first_difference(ckrt, case, work, totals.answers, count_life)
+    if difference is None:
+        for file in work.iterdir():
+            file.unlink()
+        work.rmdir()
+        return
+    (work / "disk.before").write_bytes(case.disk())
+    totals.differences.append(f"{kind} {seed}")
+    print(f"DIFFERENCE {kind} {seed}: {difference}\n  files in {work}\n"
+          f"  again: python3 {Path(__file__).name} {ckrt} {folder} --kinds {kind} --seed {seed} --count 1", flush=True)
+
+
+def print_answers(answers):
+    """How often each call gave each answer, how waits ended, what was refused; and calls that were never made."""
+    rows = {}
+    for (name, answer), count in answers.items():
+        rows.setdefault(name, []).append((answer, count))
+    for name in sorted(rows):
+        print(f"  {name:20}" + ", ".join(f"{answer} {count}" for answer, count in sorted(rows[name])))
+    never = [call.name.lower() for call in Call if call.name.lower() not in rows]
+    if never:
+        print("  never made: " + ", ".join(never))
+
+
+def print_totals(totals):
+    print("how often each answer was given by the model:")
+    print_answers(totals.answers)
+    for kind, count in totals.cases.items():
+        print(f"{kind}: {count} cases, {totals.lives[kind]} lives, {totals.replies[kind]} replies")
+    print(f"{totals.cases.total()} cases, {len(totals.differences)} differences")
+
+
+def words():
+    parser = argparse.ArgumentParser(description=__doc__)
+    parser.add_argument("ckrt", help="the built program")
+    parser.add_argument("folder", nargs="?", help="where a case's files lie (a fresh temporary folder)")
+    parser.add_argument("--count", type=int, default=50, help="cases of each kind (50)")
+    parser.add_argument("--seed", type=int, default=1, help="the first seed (1)")
+    parser.add_argument("--step", type=int, default=1, help="from one seed to the next (1)")
+    parser.add_argument("--kinds", default=",".join(KINDS), help="kinds of cases, with commas between (all)")
+    parser.add_argument("--stop-after", type=int, default=5, help="stop after so many differences (5)")
+    chosen = parser.parse_args()
+    unknown = set(chosen.kinds.split(",")) - set(KINDS)
+    if unknown:
+        parser.error(f"no such kind: {', '.join(sorted(unknown))}")
+    return chosen
+
+
+def main():
+    chosen = words()
+    folder = Path(chosen.folder or tempfile.mkdtemp(prefix="differential-"))
+    folder.mkdir(parents=True, exist_ok=True)
+    totals = Totals()
+    for kind in chosen.kinds.split(","):
+        for seed in range(chosen.seed, chosen.seed + chosen.count * chosen.step, chosen.step):
+            if len(totals.differences) < chosen.stop_after:
+                run_case(chosen.ckrt, kind, seed, folder, totals)
+    print_totals(totals)
+    if not chosen.folder and not totals.differences:
+        folder.rmdir()
+    sys.exit(1 if totals.differences else 0)
+
+
+if __name__ == "__main__":
+    main()

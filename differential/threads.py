@@ -1,0 +1,165 @@
+"""Threads, waits, and how a thread ends: the state that the calls work on."""
+from collections import Counter
+from dataclasses import dataclass, field
+from enum import Enum
+from typing import NamedTuple
+
+from abi import ALL_ONES, PAGE, RETURN_GATE, UNWIND_GATE
+
+THREAD_IDS = range(1, 65)
+HARTS = 8
+# In place of a result: the thread that gets its mutex goes on to its next handler.
+UNWIND = -1
+
+
+class Status(Enum):
+    RUNNING = "running"
+    EXITED = "exited"
+    FAULTED = "faulted"
+
+
+class WaitKind(Enum):
+    JOIN = "join"
+    LOCK = "lock"
+    RETAKE = "retake"
+    CONDITION = "condition"
+    BARRIER = "barrier"
+    READ = "read"
+    WRITE = "write"
+    INPUT = "input"
+    SLEEP = "sleep"
+
+
+class Handler(NamedTuple):
+    routine: int
+    argument: int
+
+
+@dataclass
+class Thread:
+    pc: int = 0
+    registers: list = field(default_factory=lambda: [0] * 32)
+    is_initial: bool = False
+    is_detached: bool = False
+    is_disabled: bool = False
+    is_asynchronous: bool = False
+    is_request_pending: bool = False
+    is_unwinding: bool = False
+    has_ended: bool = False
+    value: int = 0
+    handlers: list = field(default_factory=list)
+
+
+def new_thread(start, argument, stack, is_detached, is_initial=False):
+    """A thread that returns to the gate when its routine does."""
+    thread = Thread(pc=start, is_detached=is_detached, is_initial=is_initial)
+    thread.registers[1], thread.registers[2], thread.registers[10] = RETURN_GATE, stack, argument
+    return thread
+
+
+@dataclass
+class Wait:
+    """One blocked thread. A condition's wait names its mutex too; a retake its result."""
+    thread: int
+    kind: WaitKind
+    subject: int = 0
+    mutex: int = 0
+    result: int = 0
+    deadline: int | None = None
+
+
+class State:
+    """All that calls and time change, but not the memory. Waits stand in the order in which they began."""
+
+    def __init__(self, pages, tally=None):
+        self.threads = {1: new_thread(0x1000, 0, PAGE * pages, False, is_initial=True)}
+        self.harts = [0] * HARTS
+        self.waits = []
+        self.mutexes = {}
+        self.barriers = {}
+        self.locks = {}
+        self.clock = 0
+        self.input = []
+        self.is_input_closed = False
+        self.status = Status.RUNNING
+        self.byte_put = None
+        self.tally = Counter() if tally is None else tally
+
+    def wait_of(self, thread_id):
+        return next((wait for wait in self.waits if wait.thread == thread_id), None)
+
+    def queue_of(self, subject, *kinds):
+        return [wait for wait in self.waits if wait.kind in kinds and wait.subject == subject]
+
+    def joiner_of(self, thread_id):
+        return next(iter(self.queue_of(thread_id, WaitKind.JOIN)), None)
+
+    def is_ready(self, thread_id):
+        thread = self.threads.get(thread_id)
+        return thread is not None and not thread.has_ended and self.wait_of(thread_id) is None
+
+    def set_result(self, thread_id, result):
+        self.threads[thread_id].registers[10] = result
+
+    def leave_hart(self, thread_id):
+        self.harts = [0 if there == thread_id else there for there in self.harts]
+
+    def block(self, thread_id, kind, subject=0, **rest):
+        self.leave_hart(thread_id)
+        self.waits.append(Wait(thread_id, kind, subject, **rest))
+
+    def end_wait(self, wait, why):
+        """Takes a wait away; the caller says what the thread gets."""
+        self.waits.remove(wait)
+        self.tally["wait: " + wait.kind.value, why] += 1
+
+    def end_thread(self, thread_id):
+        """A joiner gets the value and frees the id; else a detached thread's id is free; else the value is kept.
+
+        No lock is released: the owner of a mutex is an id.
+        """
+        thread = self.threads[thread_id]
+        self.leave_hart(thread_id)
+        joiner = self.joiner_of(thread_id)
+        if joiner is not None:
+            self.end_wait(joiner, "granted")
+            self.set_result(joiner.thread, 0)
+            self.threads[joiner.thread].registers[11] = thread.value
+        if joiner is not None or thread.is_detached:
+            del self.threads[thread_id]
+        else:
+            self.threads[thread_id] = Thread(has_ended=True, value=thread.value)
+        if all(other.has_ended for other in self.threads.values()):
+            self.status = Status.EXITED
+
+    def next_handler(self, thread_id):
+        """The newest handler is removed and runs; without one the thread ends."""
+        thread = self.threads[thread_id]
+        if not thread.handlers:
+            self.end_thread(thread_id)
+            return
+        handler = thread.handlers.pop()
+        thread.pc = handler.routine
+        thread.registers[1], thread.registers[10] = UNWIND_GATE, handler.argument
+
+    def mark_unwinding(self, thread_id, value):
+        """From now on the thread is disabled and deferred; a later value replaces this one."""
+        thread = self.threads[thread_id]
+        thread.is_unwinding, thread.value = True, value
+        thread.is_disabled, thread.is_asynchronous = True, False
+
+    def begin_unwinding(self, thread_id, value):
+        self.mark_unwinding(thread_id, value)
+        self.next_handler(thread_id)
+
+    def act_on_request(self, thread_id):
+        self.threads[thread_id].is_request_pending = False
+        self.begin_unwinding(thread_id, ALL_ONES)
+
+    def acts_at_point(self, thread_id):
+        """At a cancellation point an enabled thread with a request acts on it instead of making the call."""
+        thread = self.threads[thread_id]
+        if thread.is_disabled or not thread.is_request_pending:
+            return False
+        self.act_on_request(thread_id)
+        return True
