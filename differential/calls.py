@@ -198,28 +198,24 @@ def testcancel(state, caller):
     return 0
 
 
-@guest_call(Call.SETCANCELSTATE, arguments=1)
-def setcancelstate(state, caller, wanted):
-    """The old state is told in x11; an unwinding thread keeps its state."""
+def change_setting(thread, setting, wanted):
+    """The old setting is told in x11; an unwinding thread keeps what it has."""
     if wanted not in (0, 1):
         return Error.EINVAL
-    thread = state.threads[caller]
-    thread.registers[11] = int(thread.is_disabled)
+    thread.registers[11] = int(getattr(thread, setting))
     if not thread.is_unwinding:
-        thread.is_disabled = wanted == 1
+        setattr(thread, setting, wanted == 1)
     return 0
+
+
+@guest_call(Call.SETCANCELSTATE, arguments=1)
+def setcancelstate(state, caller, wanted):
+    return change_setting(state.threads[caller], "is_disabled", wanted)
 
 
 @guest_call(Call.SETCANCELTYPE, arguments=1)
 def setcanceltype(state, caller, wanted):
-    """The old type is told in x11; an unwinding thread keeps its type."""
-    if wanted not in (0, 1):
-        return Error.EINVAL
-    thread = state.threads[caller]
-    thread.registers[11] = int(thread.is_asynchronous)
-    if not thread.is_unwinding:
-        thread.is_asynchronous = wanted == 1
-    return 0
+    return change_setting(state.threads[caller], "is_asynchronous", wanted)
 
 
 @guest_call(Call.CLEANUP_PUSH, arguments=2)

@@ -204,15 +204,20 @@ def try_to_read(state, caller, address):
     return 0
 
 
+def answer_or_wait(state, caller, kind, address, answer):
+    """The answer, where there is one; else the caller waits."""
+    if answer is None:
+        state.block(caller, kind, address)
+        return BLOCKED
+    return answer
+
+
 @guest_call(Call.RWLOCK_RDLOCK, arguments=1)
 def rwlock_rdlock(state, caller, address):
     if lock_of(state, address).writer == caller:
         return Error.EDEADLK
     answer = try_to_read(state, caller, address)
-    if answer is None:
-        state.block(caller, WaitKind.READ, address)
-        return BLOCKED
-    return answer
+    return answer_or_wait(state, caller, WaitKind.READ, address, answer)
 
 
 @guest_call(Call.RWLOCK_TRYRDLOCK, arguments=1)
@@ -242,10 +247,7 @@ def rwlock_wrlock(state, caller, address):
     if holds_lock(state, caller, address):
         return Error.EDEADLK
     answer = try_to_write(state, caller, address)
-    if answer is None:
-        state.block(caller, WaitKind.WRITE, address)
-        return BLOCKED
-    return answer
+    return answer_or_wait(state, caller, WaitKind.WRITE, address, answer)
 
 
 @guest_call(Call.RWLOCK_TRYWRLOCK, arguments=1)
