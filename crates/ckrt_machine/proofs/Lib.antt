@@ -8,3 +8,4 @@ pub mod KeptEvents
 pub mod FoldLaws
 pub mod MemoryFollows
 pub mod WellFormedImplies
+pub mod StepsOfRuns

@@ -1,5 +1,5 @@
 -- Steps of a hart, up to the end of a run.
-use Rattle.std.specs.Prelude.{ℕ, zero, suc, nat_le, Bool, true, false, if◌then◌else◌, Option, Some, None, is_none, List, [], ◌∷◌, ◌++◌, length}
+use Rattle.std.specs.Prelude.{◌≡◌, ◌⊎◌, ◌≤◌, ◌<◌, ◌+◌, ℕ, zero, suc, nat_le, Bool, true, false, if◌then◌else◌, Option, Some, None, is_none, List, [], ◌∷◌, ◌++◌, length}
 use Rattle.ckrt_calls.specs.declared.table.Status.{Status}
 use Rattle.ckrt_calls.specs.declared.table.Status.TheVariants.{Running, Exited, Faulted}
 use Rattle.ckrt_calls.specs.declared.table.Tables.{Tables}
@@ -44,3 +44,30 @@ continued more n h out e = stopped more (stop_of h e.state.tables (with_byte e.p
 abbrev pub run_on : ℕ → ℕ → State → List ℕ → Ran
 run_on zero h s out = record { left = 0; how = On; state = s; output = out }
 run_on (suc n) h s out = continued (run_on n) n h out (hart_step h s)
+
+-- THE STEPS OF A RUN, whatever ends it
+
+-- the state and the bytes put after some steps
+pub record Stepping : Type 0 where
+  pub state : State
+  pub output : List ℕ
+
+-- k steps of the thread on hart h, where the bytes out were put before
+abbrev pub after_steps : ℕ → ℕ → State → List ℕ → Stepping
+after_steps zero h s out = record { state = s; output = out }
+after_steps (suc k) h s out = after_steps k h (hart_step h s).state (with_byte (hart_step h s).put out)
+
+-- whether a run ends after k steps, and how
+abbrev pub stop_after : ℕ → ℕ → State → List ℕ → Option How
+stop_after k h s out = stop_of h (after_steps k h s out).state.tables (after_steps k h s out).output
+
+-- a run of at most n steps of the thread on hart h made m of them
+pub record HasMade (n m h : ℕ) (s : State) (out : List ℕ) (ran : Ran) : Type 0 where
+  pub count : ran.left + m ≡ n
+  -- it is where so many steps lead
+  pub state : ran.state ≡ (after_steps m h s out).state
+  pub output : ran.output ≡ (after_steps m h s out).output
+  -- nothing ended it after fewer
+  pub goes_on : (k : ℕ) → 1 ≤ k → k < m → stop_after k h s out ≡ None
+  -- the last of them ended it so, or all n were made
+  pub ended : ((1 ≤ m) × (stop_after m h s out ≡ Some ran.how)) ⊎ ((m ≡ n) × (ran.how ≡ On) × (1 ≤ m → stop_after m h s out ≡ None))

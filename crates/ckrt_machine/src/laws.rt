@@ -1,9 +1,10 @@
 //! Laws of states and of the plain fold. Each is the contract of a function with an empty body.
-ghost use Rattle.std.specs.Prelude.{◌≡◌, ◌≤◌, ◌++◌, ◌∷◌, [], ℕ, List, IfSome, true, false};
+ghost use Rattle.std.specs.Prelude.{◌≡◌, ◌≤◌, ◌++◌, ◌∷◌, [], ℕ, List, IfSome, Some, None, true, false};
+ghost use Rattle.std.specs.List.{list_all};
 ghost use Rattle.ckrt_thread.specs.Granting.{has_admissible_waiter};
 ghost use Rattle.ckrt_thread.specs.declared.records.Object.TheVariants.{Mutex};
-ghost use Rattle.ckrt_thread.specs.Waits.{is_of};
-ghost use Rattle.ckrt_thread.specs.State.{count_of, first_waiter, is_live, is_waiting};
+ghost use Rattle.ckrt_thread.specs.Waits.{is_of, joins_another};
+ghost use Rattle.ckrt_thread.specs.State.{count_of, first_waiter, holds, is_joinable, is_joined, is_live, is_waiting, joiners, thread_of};
 ghost use Rattle.ckrt_mutex.specs.Mutex.{mutex_at};
 ghost use Rattle.ckrt_mutex.specs.Rows.{mutex_rule};
 ghost use Rattle.ckrt_rwlock.specs.RwLock.{is_exclusive, lock_at};
@@ -11,7 +12,11 @@ ghost use Rattle.ckrt_rwlock.specs.Rows.{rwlock_rule};
 ghost use Rattle.ckrt_calls.specs.declared.table.Tables.{Tables};
 ghost use Rattle.ckrt_calls.specs.WellFormed.{IsWellFormed};
 ghost use Rattle.ckrt_events.specs.declared.event.Event.{Event};
+ghost use Rattle.ckrt_events.specs.declared.event.Event.TheVariants.{Place};
 ghost use Rattle.ckrt_machine.specs.Steps.{State, hart_of};
+ghost use Rattle.ckrt_machine.specs.Runs.{run_on, HasMade};
+ghost use Rattle.ckrt_machine.specs.Plans.{planned};
+ghost use Rattle.ckrt_machine.specs.Refusals.{refusal_of};
 ghost use Rattle.ckrt_machine.specs.Events.{AllAccepted, IsAccepted, fold, fresh, output_of, reached, step};
 
 /// One more event is applied behind the others: its effect is that of a step on what they left, its
@@ -23,12 +28,35 @@ pub fn folds_on()
 {}
 
 /// What well-formed tables imply, in plain words: nobody is left waiting at a free mutex, no read-write lock has a writer
-/// beside readers, no thread waits twice, and who is on a hart has not ended and waits for nothing.
+/// beside readers or a first waiter that could be granted it, no thread waits twice, and who is on a hart has not ended and
+/// waits for nothing.
 pub fn well_formed_implies()
     ensures mutexes { (s : Tables) (a : ℕ) → IsWellFormed s → IfSome (first_waiter (Mutex a) s.threads) (λ w. (mutex_rule a).is_admissible (mutex_at a s.mutexes) w ≡ false) }
     ensures rwlocks { (s : Tables) (a : ℕ) → IsWellFormed s → is_exclusive (lock_at a s.rwlocks) ≡ true }
+    ensures rwlock_waiters { (s : Tables) (a : ℕ) → IsWellFormed s → has_admissible_waiter (rwlock_rule a) (lock_at a s.rwlocks, s.threads) ≡ false }
     ensures waits { (s : Tables) (t : ℕ) → IsWellFormed s → count_of (is_of t) s.threads.waits ≤ 1 }
     ensures harts { (s : Tables) (h : ℕ) → IsWellFormed s → IfSome (hart_of s h) (λ t. (is_live s.threads t ≡ true) × (is_waiting s.threads t ≡ false)) }
+{}
+
+/// What they imply of threads: who waits has not ended, a thread is on one hart at most, and who is joined has not ended
+/// and is not detached, and is joined by one thread, another.
+pub fn well_formed_implies_of_threads()
+    ensures waiting { (s : Tables) (t : ℕ) → IsWellFormed s → is_waiting s.threads t ≡ true → is_live s.threads t ≡ true }
+    ensures one_hart { (s : Tables) (t : ℕ) → IsWellFormed s → count_of (holds t) s.threads.harts ≤ 1 }
+    ensures joined { (s : Tables) (t : ℕ) → IsWellFormed s → is_joined t s.threads ≡ true → is_joinable (thread_of s.threads t) ≡ true }
+    ensures joined_once { (s : Tables) (t : ℕ) → IsWellFormed s → joiners s.threads t ≤ 1 }
+    ensures joined_by_another { (s : Tables) → IsWellFormed s → list_all joins_another s.threads.waits ≡ true }
+{}
+
+/// The thread that is planned for a hart is accepted there, whatever output is held.
+pub fn planned_is_accepted()
+    ensures accepted { (held h t : ℕ) (s : State) → planned h s.tables ≡ Some t → refusal_of held (Place h t) s ≡ None }
+{}
+
+/// A run is its steps: after each step but the last nothing ended it, and the last ended it so, or it was the last of those
+/// that it might make.
+pub fn run_is_its_steps()
+    ensures steps { (n h : ℕ) (s : State) (out : List ℕ) → (m : ℕ) × HasMade n m h s out (run_on n h s out) }
 {}
 
 /// Whatever program begins, on at most 8 harts, and whatever events are accepted one after another: the state that they

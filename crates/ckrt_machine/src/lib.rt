@@ -12,5 +12,8 @@ mod machine;
 mod plan;
 
 pub use event::{Answer, How, Refusal};
-pub use laws::{folds_on, reached_is_well_formed, well_formed_implies};
+pub use laws::{
+    folds_on, planned_is_accepted, reached_is_well_formed, run_is_its_steps, well_formed_implies,
+    well_formed_implies_of_threads,
+};
 pub use machine::Machine;
