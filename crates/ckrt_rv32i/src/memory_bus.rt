@@ -1,5 +1,5 @@
 //! What the processor asks of a memory.
-ghost use Rattle.std.specs.Prelude.{◌≡◌, ℕ, List, IsTrue, Some, None, IfSome, ◌<◌, if◌then◌else◌};
+ghost use Rattle.std.specs.Prelude.{◌≡◌, ℕ, List, IsTrue, false, Some, None, IfSome, ◌<◌, if◌then◌else◌};
 ghost use Rattle.ckrt_rv32i.specs.Memory.{value_end, is_aligned, is_valid, loaded, stored};
 
 /// How many bytes a load or a store concerns: 1, 2 or 4.
@@ -31,6 +31,7 @@ pub trait Bus {
     fn store(&mut self, address: u32, size: Size, value: u32) -> bool
         requires { IsTrue (is_aligned address size) }
         ensures valid { result ≡ is_valid (bytes self.old) address size }
+        ensures refused { result ≡ false → self.new ≡ self.old }
         ensures stored { bytes self.new ≡ (if is_valid (bytes self.old) address size then stored (bytes self.old) address size value else bytes self.old) }
         ensures follows { Follows self.old self.new };
 

@@ -137,7 +137,7 @@ impl LoadKind {
 impl Size {
     /// Whether the address is a multiple of the size.
     #[inline(always)]
-    pub(crate) fn is_aligned(self, address: u32) -> bool
+    pub fn is_aligned(self, address: u32) -> bool
         ensures { result ≡ is_aligned address self }
     {
         match self {
