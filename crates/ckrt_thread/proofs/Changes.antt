@@ -198,15 +198,20 @@ pub record MayStand (s : State) (t : ℕ) (y : Option Thread) : Type 0 where
   pub placed : places s t ≤ (if is_live_thread y then 1 else 0)
   pub joined : joiners s t ≤ (if is_joinable y then 1 else 0)
   pub unwinding : unwind_waits s t ≤ (if is_unwinding y then 1 else 0)
-  pub initial : is_initial y ≡ true → is_initial (thread_of s t) ≡ true
+  pub initial : (q : ℕ) → is_initial y ≡ true → is_initial (thread_of s q) ≡ true → t ≡ q
   pub proper : is_proper_slot y ≡ true
+
+-- at most one thread is the initial one, where that is so of the others and of what is written
+sole : (s : State) (t : ℕ) (y : Option Thread) → IsWellFormed s → MayStand s t y → (p q : ℕ) → is_initial (cond (eqb t p) y (thread_of s p)) ≡ true → is_initial (cond (eqb t q) y (thread_of s q)) ≡ true → p ≡ q
+sole s t y h m p q =
+    written (λ o i. is_initial o ≡ true → is_initial (cond (eqb t q) y (thread_of s q)) ≡ true → i ≡ q) t p y (thread_of s p)
+    (λ e. written (λ o j. is_initial y ≡ true → is_initial o ≡ true → p ≡ j) t q y (thread_of s q) (λ f _ _. sym e ∙ f) (λ b c. sym e ∙ m.initial q b c))
+    (written (λ o j. is_initial (thread_of s p) ≡ true → is_initial o ≡ true → p ≡ j) t q y (thread_of s q) (λ f b c. sym (m.initial p c b) ∙ f) (λ b c. h.one_initial p q b c))
 
 pub well_formed_slot : (s : State) (t : ℕ) (y : Option Thread) → IsWellFormed s → 0 < t → t ≤ 64 → MayStand s t y → IsWellFormed (with_slot t y s)
 well_formed_slot s t y h n l m =
     let w : t < length s.threads = (let z = h.size in omega arith) in
     let at : (q : ℕ) → thread_of (with_slot t y s) q ≡ cond (eqb t q) y (thread_of s q) = λ q. slot_at s.threads t q y w in
-    let initial : (q : ℕ) → is_initial (thread_of (with_slot t y s) q) ≡ true → is_initial (thread_of s q) ≡ true =
-    λ q. rw (at q) (written (λ o p. is_initial o ≡ true → is_initial (thread_of s p) ≡ true) t q y (thread_of s q) (λ e. subst (λ p. is_initial y ≡ true → is_initial (thread_of s p) ≡ true) e m.initial) (λ x. x)) in
     record {
       size = length-set s.threads t y ∙ h.size;
       zero = at 0 ∙ written (λ o p. o ≡ None) t 0 y (thread_of s 0) (λ e. absurd (omega arith)) h.zero;
@@ -214,7 +219,7 @@ well_formed_slot s t y h n l m =
       hart_count = h.hart_count;
       idle = h.idle;
       proper = λ q. rw (at q) (written (λ o p. is_proper_slot o ≡ true) t q y (thread_of s q) (λ e. m.proper) (h.proper q));
-      one_initial = λ p q b c. h.one_initial p q (initial p b) (initial q c);
+      one_initial = λ p q b c. sole s t y h m p q (rw (at p) at b) (rw (at q) at c);
       placed = λ q. rw (at q) (written (λ o p. places s p ≤ (if is_live_thread o then 1 else 0)) t q y (thread_of s q) (λ e. subst (λ p. places s p ≤ (if is_live_thread y then 1 else 0)) e m.placed) (h.placed q));
       joined_target = λ q. rw (at q) (written (λ o p. joiners s p ≤ (if is_joinable o then 1 else 0)) t q y (thread_of s q) (λ e. subst (λ p. joiners s p ≤ (if is_joinable y then 1 else 0)) e m.joined) (h.joined_target q));
       joined_by_another = h.joined_by_another;
@@ -230,7 +235,7 @@ no_unwind_waits : (s : State) (t : ℕ) → places s t ≡ 0 → unwind_waits s 
 no_unwind_waits s t e = (let l = unwind_of t s.waits in omega (arith, l, e))
 
 -- anything proper may stand for an id at which nobody waits or is on a hart, and which nobody joins
-pub may_stand_free : (s : State) (t : ℕ) (y : Option Thread) → places s t ≡ 0 → joiners s t ≡ 0 → (is_initial y ≡ true → is_initial (thread_of s t) ≡ true) → is_proper_slot y ≡ true → MayStand s t y
+pub may_stand_free : (s : State) (t : ℕ) (y : Option Thread) → places s t ≡ 0 → joiners s t ≡ 0 → ((q : ℕ) → is_initial y ≡ true → is_initial (thread_of s q) ≡ true → t ≡ q) → is_proper_slot y ≡ true → MayStand s t y
 may_stand_free s t y f j i p = record {
   placed = none_at_most (places s t) (if is_live_thread y then 1 else 0) f;
   joined = none_at_most (joiners s t) (if is_joinable y then 1 else 0) j;
@@ -252,7 +257,7 @@ module _ (s : State) (t : ℕ) (f : Live → Live) (h : IsWellFormed s) (i : (l 
     placed = subst (λ (b : Bool). places s t ≤ (if b then 1 else 0)) (sym (live_change f (thread_of s t))) (h.placed t);
     joined = j;
     unwinding = still_at_most (unwind_waits s t) (is_unwinding (thread_of s t)) (is_unwinding (change_live f (thread_of s t))) u (h.unwinding_waits t);
-    initial = λ x. sym (initial_change f i (thread_of s t)) ∙ x;
+    initial = λ q x. h.one_initial t q (sym (initial_change f i (thread_of s t)) ∙ x);
     proper = p;
   }
 

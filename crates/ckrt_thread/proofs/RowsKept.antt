@@ -52,7 +52,7 @@ module _ (by : ℕ) (s : State) (h : IsWellFormed s) where
       let f = rw e at (free_places s h) in
       let j = rw e at (free_joiners s h) in
       well_formed_word (with_slot (i + 1) y s) by A1 (i + 1)
-      (well_formed_slot s (i + 1) y h (omega arith) (omega (arith, b, n)) (may_stand_free s (i + 1) y f j (λ x. absurd (cc)) (new_proper start arg sp d a)))
+      (well_formed_slot s (i + 1) y h (omega arith) (omega (arith, b, n)) (may_stand_free s (i + 1) y f j (λ q x _. absurd (cc)) (new_proper start arg sp d a)))
 
   or_false_left : (b c : Bool) → (b || c) ≡ false → b ≡ false
   or_false_left true c e = absurd (cc)
@@ -68,7 +68,7 @@ module _ (by : ℕ) (s : State) (h : IsWellFormed s) where
   freed id v e =
       let r = thread_range s id (thread.Ended v) h e in
       let l = ended_live s id v e in
-      well_formed_slot s id None h r.0 r.1 (may_stand_free s id None (absent_places s id h l) (absent_joiners s id h l) (λ x. absurd (cc)) refl)
+      well_formed_slot s id None h r.0 r.1 (may_stand_free s id None (absent_places s id h l) (absent_joiners s id h l) (λ q x _. absurd (cc)) refl)
 
   -- JOIN
 
