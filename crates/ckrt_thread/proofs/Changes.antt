@@ -19,7 +19,8 @@ use Rattle.ckrt_thread.specs.Cancellation.{is_unwinding, is_consistent, is_align
 use Rattle.ckrt_thread.specs.Rows.{detached}
 use Rattle.ckrt_thread.specs.Unwinding.{with_cancellation_of, pushed}
 use Rattle.ckrt_thread.specs.Waits.{is_of, is_for, is_reason_for, without, is_deadline_of, has_proper_deadline, joins_another, is_to_unwind, is_unwind_of}
-use Rattle.ckrt_thread.specs.State.{State, IsWellFormed, thread_of, is_live, is_live_thread, is_initial, is_joinable, is_waiting, is_ready, holds, off, count_of, places, joiners, unwind_waits, is_aligned, is_proper_live, is_proper_slot, fresh, first_of_program, with_word, with_regs, change_live, change_thread, with_slot, off_hart, placed_on, may_join, may_wait, blocked}
+use Rattle.ckrt_thread.specs.State.{State, IsWellFormed, thread_of, is_live, is_live_thread, is_initial, is_joinable, is_waiting, is_ready, holds, off, count_of, places, joiners, unwind_waits, is_aligned, is_proper_live, is_proper_slot, with_word, with_regs, change_live, change_thread, with_slot, off_hart, placed_on, may_join, may_wait, blocked}
+use Rattle.ckrt_thread.specs.Contents.{empty}
 use Rattle.ckrt_thread.proofs.Counting.{count_of-append, count_of_none}
 use Rattle.ckrt_thread.proofs.WaitLemmas.{count_of-without, list_all-without, unwind_of, no_unwind}
 use Rattle.ckrt_thread.proofs.SlotLemmas.{changed_at, kept_at, slot_at, empty_slot, live_change}
@@ -393,26 +394,24 @@ well_formed_placed s h t k l r =
 
 -- A PROGRAM BEGINS
 
-fresh_at : (stack harts t : ℕ) → thread_of (fresh stack harts) t ≡ cond (eqb 1 t) (Some (first_of_program stack)) None
-fresh_at stack harts t =
-    let e : option_flatten (slice_get (replicate 65 None) t) ≡ None = empty_slot {X = Thread} 65 t in
-    slot_at (replicate 65 None) 1 t (Some (first_of_program stack)) (omega arith) ∙ ap (cond (eqb 1 t) (Some (first_of_program stack))) e
-
-fresh_initial : (stack harts t : ℕ) → is_initial (thread_of (fresh stack harts) t) ≡ true → 1 ≡ t
-fresh_initial stack harts t = rw (fresh_at stack harts t) (written (λ o p. is_initial o ≡ true → 1 ≡ p) 1 t (Some (first_of_program stack)) None (λ e _. e) (λ x. absurd (cc)))
-
-pub well_formed_fresh : (stack harts : ℕ) → harts ≤ 8 → IsWellFormed (fresh stack harts)
-well_formed_fresh stack harts l = record {
+pub well_formed_empty : (harts : ℕ) → harts ≤ 8 → IsWellFormed (empty harts)
+well_formed_empty harts l = record {
   size = refl;
   zero = refl;
   harts = refl;
   hart_count = l;
   idle = λ h _. empty_slot {X = ℕ} 8 h;
-  proper = λ t. rw (fresh_at stack harts t) (either (λ o. is_proper_slot o ≡ true) (eqb 1 t) (Some (first_of_program stack)) None refl refl);
-  one_initial = λ t q a b. sym (fresh_initial stack harts t a) ∙ fresh_initial stack harts q b;
+  proper = λ t. ap is_proper_slot (empty_slot {X = Thread} 65 t);
+  one_initial = λ t q a b. absurd (let e = ap is_initial (empty_slot {X = Thread} 65 t) in cc);
   placed = λ t. let e = none_held 8 t in omega arith;
   joined_target = λ t. omega arith;
   joined_by_another = refl;
   deadlines = refl;
   unwinding_waits = λ t. omega arith;
 }
+
+-- an empty table has no initial thread
+pub initial_in_empty : (s : State) (harts t : ℕ) → s ≡ empty harts → is_initial (thread_of s t) ≡ true → 1 ≡ t
+initial_in_empty s harts t e i =
+    let none : is_initial (thread_of s t) ≡ false = ap (λ z. is_initial (thread_of z t)) e ∙ ap is_initial (empty_slot {X = Thread} 65 t) in
+    absurd (cc)

@@ -1,13 +1,13 @@
 //! The table row by row, as it is saved, and a new table that is built so.
-ghost use Rattle.std.specs.Prelude.{◌≡◌, ◌≤◌, ◌↔◌, true, false, length, slice_get, option_map, MatchOption, Some, None};
-ghost use Rattle.std.specs.List.{list_all, list_any};
+ghost use Rattle.std.specs.Prelude.{◌≡◌, ◌<◌, ◌≤◌, ◌↔◌, true, false, length, is_some, is_none, slice_get, option_map, MatchOption, IfSome, Some, None};
+ghost use Rattle.std.specs.List.{filter, list_all, list_any};
 ghost use Rattle.ckrt_thread.specs.Cancellation.{is_aligned_handler};
 ghost use Rattle.ckrt_thread.specs.State.{IsWellFormed, is_initial, is_proper_live, is_proper_slot, may_join, may_unwind, may_wait};
 ghost use Rattle.ckrt_thread.specs.Waits.{is_deadline_of, is_moment_or_none};
 ghost use Rattle.ckrt_thread.specs.Contents.{thread_rows, rows_from, thread_appended, wait_appended, hart_appended, GoesOnWithThread, GoesOnWithWait, GoesOnWithHart, is_next_id, is_sole_initial, takes_thread, takes_wait, takes_on_hart};
 
 use crate::records::{
-    Handler, Live, MAX_HANDLERS, MOMENT_END, Object, Reason, RetakeResult, Thread, ThreadId, Wait,
+    Handler, Live, MAX_THREADS, MOMENT_END, Reason, RetakeResult, Thread, ThreadId, Wait,
 };
 use crate::table::Threads;
 
@@ -15,14 +15,16 @@ use crate::table::Threads;
 
 /// How many slots have a thread.
 fn count_of(slots: &[Option<Thread>]) -> usize
-    ensures { result ≡ length (rows_from 0 slots.now) }
+    ensures { result ≡ length (filter is_some slots.now) }
 {
     slots.iter().filter(|slot| slot.is_some()).count()
 }
 
 /// The number of the thread at a place among those that there are, from 0.
+#[tactic(auto, using(crate::proofs::ThreadRows::rows_at))]
 fn id_at(slots: &[Option<Thread>], place: usize) -> Option<usize>
-    ensures { result ≡ option_map (λ r. r.id) (slice_get (rows_from 0 slots.now) place) }
+    ensures id { result ≡ option_map (λ r. r.id) (slice_get (rows_from 0 slots.now) place) }
+    ensures within { IfSome result (λ id. id < length slots.now) }
 {
     let mut left = place;
     for (id, slot) in slots.iter().enumerate() {
@@ -38,14 +40,17 @@ fn id_at(slots: &[Option<Thread>], place: usize) -> Option<usize>
 
 impl Threads {
     /// How many threads there are, with those that have ended and that nobody has joined.
+    #[tactic(auto, using(crate::proofs::ThreadRows::length_rows, crate::proofs::ThreadRows::few_threads))]
     pub fn thread_count(&self) -> usize
         ensures count { result ≡ length (thread_rows self.now) }
         ensures few { result ≤ 64 }
     {
+        self.known();
         count_of(self.slots())
     }
 
     /// The thread at a place, from 0 by rising number, with its number.
+    #[tactic(auto, using(crate::proofs::ThreadRows::row_there, crate::proofs::ThreadRows::none_there))]
     pub fn thread_at(&self, place: usize) -> Option<(ThreadId, &Thread)>
         ensures { MatchOption result (slice_get (thread_rows self.now) place ≡ None) (λ r. slice_get (thread_rows self.now) place ≡ Some (record { id = r.0; thread = r.1.now })) }
     {
@@ -62,6 +67,7 @@ impl Threads {
         ensures appended { result ≡ true → self.new ≡ thread_appended (record { id = id; thread = thread }) self.old }
         ensures refused { result ≡ false → self.new ≡ self.old }
     {
+        self.known();
         if !self.takes_thread(id, &thread) {
             return false;
         }
@@ -73,11 +79,13 @@ impl Threads {
     /// waits is to have not ended, to wait nowhere else and to be on no hart; a deadline is to be there where the wait
     /// has one, below 2^63; who is joined is to be another that has not ended, is not detached and is not joined yet;
     /// and who is to unwind is to unwind.
+    #[tactic(auto, using(crate::proofs::Taking::blocked_taken))]
     pub fn append_wait(&mut self, wait: Wait) -> bool
         ensures exact { (result ≡ true) ↔ GoesOnWithWait wait self.old }
         ensures appended { result ≡ true → self.new ≡ wait_appended wait self.old }
         ensures refused { result ≡ false → self.new ≡ self.old }
     {
+        self.known();
         if !self.takes_wait(&wait) {
             return false;
         }
@@ -92,6 +100,7 @@ impl Threads {
         ensures appended { result ≡ true → self.new ≡ hart_appended hart thread self.old }
         ensures refused { result ≡ false → self.new ≡ self.old }
     {
+        self.known();
         if !self.takes_on_hart(hart, thread) {
             return false;
         }
@@ -155,16 +164,23 @@ impl Threads {
     }
 }
 
+/// Whether no slot has a thread.
+fn are_free(slots: &[Option<Thread>]) -> bool
+    ensures { result ≡ list_all is_none slots.now }
+{
+    slots.iter().all(|slot| slot.is_none())
+}
+
 /// Whether the number is one that a thread may have, above those of the slots.
 fn is_next_id(slots: &[Option<Thread>], id: ThreadId) -> bool
     requires { length slots.now ≡ 65 }
     ensures { result ≡ is_next_id id slots.now }
 {
-    if id == 0 || id > 64 {
+    if id == 0 || id as usize > MAX_THREADS {
         return false;
     }
     let (_, above) = slots.split_at(id as usize);
-    above.iter().all(|slot| slot.is_none())
+    are_free(above)
 }
 
 /// Whether the handlers' routines are multiples of 4.

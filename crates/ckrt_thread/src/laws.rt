@@ -20,31 +20,28 @@ pub fn grants_every_admissible<O>()
 {}
 
 /// A state is known by its rows: no two well-formed states have the same.
-#[tactic(auto, using(crate::proofs::Contents::known_by_rows))]
+#[tactic(auto, using(crate::proofs::ThreadRows::known_by_rows))]
 pub fn known_by_rows()
     ensures { (r s : State) → IsWellFormed r → IsWellFormed s → HaveSameRows r s → r ≡ s }
 {}
 
 /// A thread that is appended is behind those that there are.
-#[tactic(auto, using(crate::proofs::Contents::thread_behind))]
+#[tactic(auto, using(crate::proofs::ThreadRows::thread_behind))]
 pub fn thread_behind()
     ensures { (r : ThreadRow) (s : State) → GoesOnWithThread r s → thread_rows (thread_appended r s) ≡ thread_rows s ++ r ∷ [] }
 {}
 
 /// Each thread of a well-formed state goes on from those before it.
-#[tactic(auto, using(crate::proofs::Beginnings::next_thread))]
 pub fn next_thread()
     ensures { (r : ThreadRow) (begun s : State) → IsWellFormed begun → IsWellFormed s → HasNextThread r begun s → GoesOnWithThread r begun }
 {}
 
 /// Each wait of a well-formed state goes on from all threads and the waits before it.
-#[tactic(auto, using(crate::proofs::Beginnings::next_wait))]
 pub fn next_wait()
     ensures { (w : Wait) (begun s : State) → IsWellFormed begun → IsWellFormed s → HasNextWait w begun s → GoesOnWithWait w begun }
 {}
 
 /// Each thread on a hart of a well-formed state goes on from all threads, all waits and some of the others on harts.
-#[tactic(auto, using(crate::proofs::Beginnings::next_on_hart))]
 pub fn next_on_hart()
     ensures { (h t : ℕ) (begun s : State) → IsWellFormed begun → IsWellFormed s → HasNextOnHart h t begun s → GoesOnWithHart h t begun }
 {}

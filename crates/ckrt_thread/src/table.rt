@@ -61,14 +61,9 @@ impl Threads {
         requires { harts ≤ 8 }
         ensures { IfOk result (λ threads. threads ≡ fresh stack harts) }
     {
-        let mut table = free_slots(alloc, SLOTS)?;
-        table[1] = Some(first_thread(stack));
-        Ok(Threads {
-            table,
-            waits: WaitList::new(),
-            harts: [None; MAX_HARTS],
-            hart_count: harts,
-        })
+        let mut threads = Threads::empty(alloc, harts)?;
+        threads.set_slot(1, Some(first_thread(stack)));
+        Ok(threads)
     }
 
     /// No thread, no wait, and `harts` idle harts, at most 8: what `append_thread`, `append_wait` and `append_on_hart`
