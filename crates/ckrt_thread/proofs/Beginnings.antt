@@ -10,7 +10,7 @@ use Rattle.ckrt_thread.specs.declared.records.Wait.{Wait}
 use Rattle.ckrt_thread.specs.declared.records.Object.TheVariants as object
 use Rattle.ckrt_thread.specs.Waits.{is_of, is_for, has_proper_deadline, joins_another, is_unwind_of}
 use Rattle.ckrt_thread.specs.State.{State, IsWellFormed, thread_of, is_live, is_initial, is_proper_slot, holds, count_of}
-use Rattle.ckrt_thread.specs.Contents.{ThreadRow, rows_from, thread_rows, who_is_on, wait_appended, hart_appended, GoesOnWithThread, GoesOnWithWait, GoesOnWithHart, HasNextThread, HasNextWait, HasNextOnHart}
+use Rattle.ckrt_thread.specs.Contents.{ThreadRow, rows_from, thread_rows, who_is_on, wait_appended, hart_appended, GoesOnWithThread, GoesOnWithWait, GoesOnWithHart, HasNextThread, HasNextWait, HasNextOnHart, NextGoesOn}
 use Rattle.ckrt_thread.proofs.Counting.{count_of-append}
 use Rattle.ckrt_thread.proofs.SlotLemmas.{slot_at}
 use Rattle.ckrt_thread.proofs.HartLemmas.{idle_put}
@@ -87,7 +87,7 @@ kept_initial : (o p : Option Thread) → ((x : Thread) → o ≡ Some x → p �
 kept_initial None p k i = absurd (cc)
 kept_initial (Some x) p k i = ap is_initial (k x refl) ∙ i
 
-pub next_thread : (r : ThreadRow) (begun s : State) → IsWellFormed begun → IsWellFormed s → HasNextThread r begun s → GoesOnWithThread r begun
+pub next_thread : NextGoesOn HasNextThread GoesOnWithThread
 next_thread r begun s h k n =
     let g = begins 0 begun.threads s.threads r n.0 (h.size ∙ sym k.size) n.1 in
     let i = g.id in
@@ -155,7 +155,7 @@ fewer_on (Some u ∷ xs) (Some v ∷ ys) t n k =
 with_threads : (begun s : State) → IsWellFormed begun → IsWellFormed s → thread_rows s ≡ thread_rows begun → IsWellFormed (record s { threads = begun.threads })
 with_threads begun s h k e = subst (λ ts. IsWellFormed (record { threads = ts; waits = s.waits; harts = s.harts; hart_count = s.hart_count })) (same_threads s begun k h e) k
 
-pub next_wait : (w : Wait) (begun s : State) → IsWellFormed begun → IsWellFormed s → HasNextWait w begun s → GoesOnWithWait w begun
+pub next_wait : NextGoesOn HasNextWait GoesOnWithWait
 next_wait w begun s h k n =
     let waits : List Wait = begun.waits ++ w ∷ [] in
     let split : s.waits ≡ waits ++ n.waits.0 = n.waits.1 ∙ sym (append_assoc begun.waits (w ∷ []) n.waits.0) in
@@ -186,7 +186,7 @@ hart_below s i t k e =
       | false ↦ λ l. absurd (let idle = k.idle i (grind (arith, nat_tests, l)) in cc)
     ] refl
 
-pub next_on_hart : (i t : ℕ) (begun s : State) → IsWellFormed begun → IsWellFormed s → HasNextOnHart i t begun s → GoesOnWithHart i t begun
+pub next_on_hart : (i : ℕ) → NextGoesOn (HasNextOnHart i) (GoesOnWithHart i)
 next_on_hart i t begun s h k n =
     let size = h.harts in
     let few = h.hart_count in

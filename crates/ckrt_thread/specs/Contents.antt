@@ -27,6 +27,13 @@ rows_from id (slot ∷ slots) = rows_of id slot ++ rows_from (suc id) slots
 abbrev pub thread_rows : State → List ThreadRow
 thread_rows s = rows_from 0 s.threads
 
+-- the thread at a place by rising id, with its id
+abbrev pub row_at : ℕ → State → Option ThreadRow
+row_at place s = slice_get (thread_rows s) place
+
+abbrev pub row : ℕ → Thread → ThreadRow
+row id t = record { id = id; thread = t }
+
 abbrev pub who_is_on : State → ℕ → Option ℕ
 who_is_on s h = option_flatten (slice_get s.harts h)
 
@@ -89,6 +96,10 @@ pub record HasNextOnHart (h t : ℕ) (begun s : State) : Type 0 where
   pub next : who_is_on s h ≡ Some t
   pub idle : who_is_on begun h ≡ None
   pub others : (i u : ℕ) → who_is_on begun i ≡ Some u → who_is_on s i ≡ Some u
+
+-- between well-formed states, what one has next goes on from the other
+abbrev pub NextGoesOn : {R : Type 0} → (R → State → State → Type 0) → (R → State → Type 0) → Type 0
+NextGoesOn {R = R} HasNext GoesOn = (r : R) (begun s : State) → IsWellFormed begun → IsWellFormed s → HasNext r begun s → GoesOn r begun
 
 -- THE TESTS OF A ROW, where the state is well-formed so far
 

@@ -4,7 +4,7 @@ ghost use Rattle.std.specs.List.{filter, list_all, list_any};
 ghost use Rattle.ckrt_thread.specs.Cancellation.{is_aligned_handler};
 ghost use Rattle.ckrt_thread.specs.State.{IsWellFormed, is_initial, is_proper_live, is_proper_slot, may_join, may_unwind, may_wait};
 ghost use Rattle.ckrt_thread.specs.Waits.{is_deadline_of, is_moment_or_none};
-ghost use Rattle.ckrt_thread.specs.Contents.{thread_rows, rows_from, thread_appended, wait_appended, hart_appended, GoesOnWithThread, GoesOnWithWait, GoesOnWithHart, is_next_id, is_sole_initial, takes_thread, takes_wait, takes_on_hart};
+ghost use Rattle.ckrt_thread.specs.Contents.{thread_rows, row_at, row, rows_from, thread_appended, wait_appended, hart_appended, GoesOnWithThread, GoesOnWithWait, GoesOnWithHart, is_next_id, is_sole_initial, takes_thread, takes_wait, takes_on_hart};
 
 use crate::records::{
     Handler, Live, MAX_THREADS, MOMENT_END, Reason, RetakeResult, Thread, ThreadId, Wait,
@@ -52,7 +52,7 @@ impl Threads {
     /// The thread at a place, from 0 by rising number, with its number.
     #[tactic(auto, using(crate::proofs::ThreadRows::row_there, crate::proofs::ThreadRows::none_there))]
     pub fn thread_at(&self, place: usize) -> Option<(ThreadId, &Thread)>
-        ensures { MatchOption result (slice_get (thread_rows self.now) place ≡ None) (λ r. slice_get (thread_rows self.now) place ≡ Some (record { id = r.0; thread = r.1.now })) }
+        ensures { option_map (λ r. row r.0 r.1.now) result ≡ row_at place self.now }
     {
         let id = id_at(self.slots(), place)?;
         let thread = self.thread(id as u32)?;
@@ -63,8 +63,8 @@ impl Threads {
     /// number is to be 1 to 64 and above theirs, its pc and its handlers' routines multiples of 4, it is disabled and
     /// deferred where it unwinds, and at most one thread is the initial one.
     pub fn append_thread(&mut self, id: ThreadId, thread: Thread) -> bool
-        ensures exact { (result ≡ true) ↔ GoesOnWithThread (record { id = id; thread = thread }) self.old }
-        ensures appended { result ≡ true → self.new ≡ thread_appended (record { id = id; thread = thread }) self.old }
+        ensures exact { (result ≡ true) ↔ GoesOnWithThread (row id thread) self.old }
+        ensures appended { result ≡ true → self.new ≡ thread_appended (row id thread) self.old }
         ensures refused { result ≡ false → self.new ≡ self.old }
     {
         self.known();
@@ -112,7 +112,7 @@ impl Threads {
 
     /// Whether a well-formed table goes on with this thread.
     fn takes_thread(&self, id: ThreadId, thread: &Thread) -> bool
-        ensures { result ≡ takes_thread (record { id = id; thread = thread.now }) self.now }
+        ensures { result ≡ takes_thread (row id thread.now) self.now }
     {
         let slots = self.slots();
         is_next_id(slots, id) && is_proper(thread) && is_sole_initial(thread, slots)

@@ -1,9 +1,8 @@
 //! Laws of queues, of granting and of rows.
 ghost use Rattle.std.specs.Prelude.{◌≡◌, ℕ, ◌++◌, ◌∷◌, [], false, slice_get};
 ghost use Rattle.ckrt_thread.specs.declared.records.Object.{Object};
-ghost use Rattle.ckrt_thread.specs.declared.records.Wait.{Wait};
 ghost use Rattle.ckrt_thread.specs.State.{State, IsWellFormed, first_waiter};
-ghost use Rattle.ckrt_thread.specs.Contents.{ThreadRow, thread_rows, thread_appended, GoesOnWithThread, GoesOnWithWait, GoesOnWithHart, HaveSameRows, HasNextThread, HasNextWait, HasNextOnHart};
+ghost use Rattle.ckrt_thread.specs.Contents.{ThreadRow, thread_rows, thread_appended, GoesOnWithThread, GoesOnWithWait, GoesOnWithHart, HaveSameRows, HasNextThread, HasNextWait, HasNextOnHart, NextGoesOn};
 ghost use Rattle.ckrt_thread.specs.Granting.{GrantRule, queue_of, grant_waiters, has_admissible_waiter};
 
 /// The first waiter of an object is the first of its queue.
@@ -28,20 +27,21 @@ pub fn known_by_rows()
 /// A thread that is appended is behind those that there are.
 #[tactic(auto, using(crate::proofs::ThreadRows::thread_behind))]
 pub fn thread_behind()
-    ensures { (r : ThreadRow) (s : State) → GoesOnWithThread r s → thread_rows (thread_appended r s) ≡ thread_rows s ++ r ∷ [] }
+    ensures { (r : ThreadRow) (s : State) → GoesOnWithThread r s
+        → thread_rows (thread_appended r s) ≡ thread_rows s ++ r ∷ [] }
 {}
 
 /// Each thread of a well-formed state goes on from those before it.
 pub fn next_thread()
-    ensures { (r : ThreadRow) (begun s : State) → IsWellFormed begun → IsWellFormed s → HasNextThread r begun s → GoesOnWithThread r begun }
+    ensures { NextGoesOn HasNextThread GoesOnWithThread }
 {}
 
 /// Each wait of a well-formed state goes on from all threads and the waits before it.
 pub fn next_wait()
-    ensures { (w : Wait) (begun s : State) → IsWellFormed begun → IsWellFormed s → HasNextWait w begun s → GoesOnWithWait w begun }
+    ensures { NextGoesOn HasNextWait GoesOnWithWait }
 {}
 
 /// Each thread on a hart of a well-formed state goes on from all threads, all waits and some of the others on harts.
 pub fn next_on_hart()
-    ensures { (h t : ℕ) (begun s : State) → IsWellFormed begun → IsWellFormed s → HasNextOnHart h t begun s → GoesOnWithHart h t begun }
+    ensures { (h : ℕ) → NextGoesOn (HasNextOnHart h) (GoesOnWithHart h) }
 {}
