@@ -1,7 +1,7 @@
 //! A read-write lock.
 ghost use Rattle.std.specs.Prelude.{◌≡◌, nat_lt, ◌<◌, ◌≤◌, ◌+◌, ◌-◌, length, true, Some, None};
 ghost use Rattle.std.specs.List.{list_any};
-ghost use Rattle.ckrt_rwlock.specs.RwLock.{unheld, read_count, is_writer, is_reader, is_holder, is_written, is_read, is_held, with_writer, with_read_count, given_up};
+ghost use Rattle.ckrt_rwlock.specs.RwLock.{unheld, read_count, is_writer, is_reader, is_holder, is_written, is_read, is_held, is_thread_or_none, is_exclusive, is_proper, with_writer, with_read_count, given_up};
 
 use ckrt_objects::{Grant, Named};
 use ckrt_thread::{MAX_THREADS, Reason, ThreadId, Wait};
@@ -122,7 +122,29 @@ impl RwLock {
     pub fn is_held(&self) -> bool
         ensures { result ≡ is_held self.now }
     {
-        self.is_written() || is_any_above_0(self.readers.as_slice())
+        self.is_written() || self.is_read()
+    }
+
+    /// Whether a thread reads under the lock.
+    pub fn is_read(&self) -> bool
+        ensures { result ≡ is_read self.now }
+    {
+        is_any_above_0(self.readers.as_slice())
+    }
+
+    /// Whether no thread reads beside one that writes.
+    pub fn is_exclusive(&self) -> bool
+        ensures { result ≡ is_exclusive self.now }
+    {
+        !(self.is_written() && self.is_read())
+    }
+
+    /// Whether writer and readers are threads, 1 to 64.
+    pub fn is_proper(&self) -> bool
+        ensures { result ≡ is_proper self.now }
+    {
+        let readers = self.readers;
+        is_thread_or_none(self.writer) && readers[0] == 0
     }
 
     /// The lock with this writer, or with none.
@@ -157,6 +179,16 @@ impl RwLock {
         } else {
             self.with_read_count(thread, self.read_count(thread) - 1)
         }
+    }
+}
+
+/// Whether this is none, or the number of a thread.
+fn is_thread_or_none(writer: Option<ThreadId>) -> bool
+    ensures { result ≡ is_thread_or_none writer }
+{
+    match writer {
+        Some(thread) => thread > 0 && thread <= 64,
+        None => true,
     }
 }
 
