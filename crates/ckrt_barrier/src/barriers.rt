@@ -111,6 +111,7 @@ impl Barriers {
     pub fn is_well_formed_with(&self, threads: &Threads) -> bool
         ensures { (result ≡ true) ↔ IsWellFormedWith threads.now self.now }
     {
+        self.known();
         each_awaits_more(threads, self.rows())
             && each_waits_where_a_barrier_is(self, threads.waits())
     }

@@ -127,6 +127,7 @@ impl Mutexes {
     pub fn is_well_formed_with(&self, threads: &Threads) -> bool
         ensures { (result ≡ true) ↔ IsWellFormedWith threads.now self.now }
     {
+        self.known();
         self.are_few_in_use(threads) && may_all_wait(self, threads.waits())
     }
 
@@ -134,6 +135,7 @@ impl Mutexes {
     fn are_few_in_use(&self, threads: &Threads) -> bool
         ensures { result ≡ nat_le (used_count threads.now self.now) 256 }
     {
+        self.known();
         !are_limit_in_use(threads, self.rows().as_slice(), LIMIT + 1)
     }
 

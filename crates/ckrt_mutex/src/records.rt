@@ -125,10 +125,7 @@ impl Mutex {
         match self.owner {
             None => self.count == 0,
             Some(owner) => {
-                owner > 0
-                    && owner <= 64
-                    && self.count > 0
-                    && self.count <= self.kind.max_count()
+                owner > 0 && owner <= 64 && self.count > 0 && self.count <= self.kind.max_count()
             }
         }
     }

@@ -12,8 +12,7 @@ use crate::records::RwLock;
 use crate::waiters::{has_admissible_waiter, has_to_wait};
 use arrayvec::ArrayVec;
 use ckrt_objects::{
-    Entry, Named, append, are_limit_in_use, get, grant_waiters, is_full, is_in_use, remove,
-    store,
+    Entry, Named, append, are_limit_in_use, get, grant_waiters, is_full, is_in_use, remove, store,
 };
 use ckrt_thread::{
     CallResult, EAGAIN, EBUSY, EDEADLK, EPERM, Object, Reason, ThreadId, Threads, Wait,
