@@ -122,6 +122,7 @@ impl RwLocks {
     pub fn is_well_formed_with(&self, threads: &Threads) -> bool
         ensures { (result ≡ true) ↔ IsWellFormedWith threads.now self.now }
     {
+        self.known();
         self.are_few_in_use(threads) && may_all_wait(self, threads, threads.waits())
     }
 
@@ -129,6 +130,7 @@ impl RwLocks {
     fn are_few_in_use(&self, threads: &Threads) -> bool
         ensures { result ≡ nat_le (used_count threads.now self.now) 64 }
     {
+        self.known();
         !are_limit_in_use(threads, self.rows(), MAX_IN_USE + 1)
     }
 
