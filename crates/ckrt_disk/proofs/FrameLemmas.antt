@@ -1,5 +1,5 @@
 -- What calls leave of a disk: how the words for it go on over one more call, join, and widen.
-use Rattle.std.proofs.Common.{◌≡◌, ◌⊎◌, inl, inr, ⊎_elim, ℕ, ◌+◌, ◌-◌, ◌^◌, ◌≤◌, ◌<◌, Bool, true, false, List, length, get_or, Result, Ok, Err, Some, OnOk, OnErr, is_err, refl, sym, ◌∙◌, ap, subst, arith}
+use Rattle.std.proofs.Common.{◌≡◌, ◌⊎◌, inl, inr, ⊎_elim, ℕ, ◌+◌, ◌-◌, ◌^◌, ◌≤◌, Bool, true, false, List, length, get_or, Result, Ok, Err, Some, OnOk, OnErr, is_err, refl, sym, ◌∙◌, subst, arith}
 use Rattle.std.proofs.lemmas.Bool.{cases_lt}
 use Rattle.ckrt_disk.specs.Disk.{IsImage, IsOverwritten, IsWithin, Elapses, CountsFault, HasFailed, IsStopped, LeavesOnly}
 use Rattle.ckrt_disk.specs.Frame.{IsSameDisk, IsOnlyRead, WritesWithin}
@@ -125,8 +125,8 @@ module _ {D : Type 0} (d : Ghosts D) where
       }
 
   -- where the last call failed, the number of calls isn't said
-  pub failed_within : (region : ℕ → Type 0) (m n : ℕ) (old new : D) → WritesWithin d region m old new true → WritesWithin d region n old new true
-  failed_within region m n old new calls = record {
+  pub failed_within : (region : ℕ → Type 0) (m n : ℕ) (old new : D) (failed : Bool) → failed ≡ true → WritesWithin d region m old new true → WritesWithin d region n old new failed
+  failed_within region m n old new failed is calls = record {
     any_moment = calls.any_moment;
     content = λ e. absurd (cc);
     torn = calls.torn;
@@ -134,7 +134,7 @@ module _ {D : Type 0} (d : Ghosts D) where
     same = calls.same;
     calls = λ e. absurd (cc);
     well = λ e. absurd (cc);
-    fault = calls.fault;
+    fault = λ e. calls.fault refl;
   }
 
   -- reads write nowhere

@@ -55,3 +55,7 @@ pub record WritesWithin {D : Type 0} (d : Ghosts D) (region : ℕ → Type 0) (n
   pub well : failed ≡ false → d.failures new ≡ d.failures old
   -- where it failed the failures grew
   pub fault : failed ≡ true → HasFailed (d.failures old) (d.failures new)
+
+-- where the disk names a stop and has reached it, some call failed
+abbrev pub FailsBehindStop : {D : Type 0} → Ghosts D → D → Bool → Type 0
+FailsBehindStop d disk failed = (s : ℕ) → d.named_stop disk ≡ Some s → IsStopped s (d.calls disk) → failed ≡ true

@@ -43,7 +43,7 @@ memory_at c area = area_at c area + 106496
 
 -- journal 0 or 1, at its first gate
 abbrev pub journal_of : Config → ℕ → Journal
-journal_of c area = record { at = 4096 + 2 * area_size c + area * c.journal; size = c.journal; place = 0 }
+journal_of c area = record { at = 4096 + 2 * area_size c + area * c.journal; size = c.journal; next_gate = 0 }
 
 -- FIELDS
 
