@@ -124,6 +124,10 @@ module _ {D : Type 0} (d : Ghosts D) where
         fault = λ e. subst (λ k. HasFailed k (d.failures new)) (first.well refl) (second.fault e);
       }
 
+  -- some calls in a region, and then others in a part of it
+  pub writes_on_within : (region part : ℕ → Type 0) (m n : ℕ) (old mid new : D) (failed : Bool) → ((i : ℕ) → part i → region i) → WritesWithin d region m old mid false → WritesWithin d part n mid new failed → WritesWithin d region (m + n) old new failed
+  writes_on_within region part m n old mid new failed inside first second = writes_on region m n old mid new failed first (wider part region n mid new failed inside second)
+
   -- where the last call failed, the number of calls isn't said
   pub failed_within : (region : ℕ → Type 0) (m n : ℕ) (old new : D) (failed : Bool) → failed ≡ true → WritesWithin d region m old new true → WritesWithin d region n old new failed
   failed_within region m n old new failed is calls = record {

@@ -4,6 +4,10 @@ use Rattle.std.specs.Prelude.{◌≡◌, ◌⊎◌, ◌↔◌, ◌+◌, ℕ, Boo
 use Rattle.ckrt_disk.specs.Disk.{IsImage, LeavesOnly, IsStopped, HasFailed}
 use Rattle.ckrt_disk.specs.declared.disk.Disk.{Ghosts}
 
+-- the region without an offset
+abbrev pub Nowhere : ℕ → Type 0
+Nowhere i = ⊥
+
 -- new has the bytes of old outside a region, which is given by its offsets
 abbrev pub IsSameOutside : (ℕ → Type 0) → List ℕ → List ℕ → Type 0
 IsSameOutside region old new = IsImage old region new
