@@ -121,8 +121,8 @@ int pthread_mutexattr_destroy(pthread_mutexattr_t *attributes);
 int pthread_mutexattr_settype(pthread_mutexattr_t *attributes, int type);              /* EINVAL: no such type */
 int pthread_mutexattr_gettype(const pthread_mutexattr_t *attributes, int *type);
 
-/* At most 256 mutexes are in use: locked, waited for, or of a type other than normal (the C library uses three). The call
-   that would use one more answers EAGAIN. */
+/* At most 256 mutexes are in use: locked, waited for, or of a type other than normal (the library uses four). The call that
+   would use one more answers EAGAIN. */
 int pthread_mutex_init(pthread_mutex_t *restrict mutex, const pthread_mutexattr_t *restrict attributes); /* EBUSY */
 int pthread_mutex_destroy(pthread_mutex_t *mutex);           /* EBUSY: locked, or waited for */
 int pthread_mutex_lock(pthread_mutex_t *mutex);              /* EAGAIN, EDEADLK */

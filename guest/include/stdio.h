@@ -14,6 +14,11 @@ void flockfile(FILE *stream);
 int ftrylockfile(FILE *stream);
 void funlockfile(FILE *stream);
 
+#define getc_unlocked(stream) getc(stream)
+#define getchar_unlocked() getchar()
+#define putc_unlocked(byte, stream) putc(byte, stream)
+#define putchar_unlocked(byte) putchar(byte)
+
 #define GUEST_HAS_NO_FILES __attribute__((error("a guest has no files, only stdin, stdout and stderr")))
 
 FILE *fopen(const char *, const char *) GUEST_HAS_NO_FILES;

@@ -12,7 +12,7 @@
 
 enum { STACK_BYTES = 8192, STACK_ALIGNMENT = 16 };
 
-pthread_mutex_t __guest_threads_lock = PTHREAD_MUTEX_INITIALIZER;
+pthread_mutex_t __guest_threads_lock;
 
 static struct thread first_thread;
 static struct thread *threads[PTHREAD_THREADS_MAX + 1] = {[1] = &first_thread};
@@ -50,7 +50,8 @@ int pthread_attr_getstacksize(const pthread_attr_t *attributes, size_t *bytes) {
     return 0;
 }
 
-static uintptr_t round_down(uintptr_t address, uintptr_t alignment) { return address / alignment * alignment; }
+/* The alignment is a power of two. */
+static uintptr_t round_down(uintptr_t address, uintptr_t alignment) { return address & -alignment; }
 
 /* The block's parts from its end down: thread-local variables, the record, the stack. NULL where the heap has no room. */
 static struct thread *new_thread(size_t stack_bytes) {
@@ -67,7 +68,12 @@ static struct thread *new_thread(size_t stack_bytes) {
     return thread;
 }
 
-void __guest_enter_first_thread(void) { __guest_cleanup_push(__guest_thread_end, &first_thread); }
+void __guest_enter_first_thread(void) {
+    /* Of this type a mutex is in use for good, so that no lock of it finds all 256 in use by others. */
+    pthread_mutexattr_t attributes = {.type = PTHREAD_MUTEX_RECURSIVE};
+    pthread_mutex_init(&__guest_threads_lock, &attributes);
+    __guest_cleanup_push(__guest_thread_end, &first_thread);
+}
 
 /* Where a new thread begins, with nothing but its stack and its argument in registers. */
 static void begin(struct thread *thread) {

@@ -28,7 +28,7 @@ void __guest_set_locals(void *locals);
 /* The clean-up handler of every thread that runs last. */
 void __guest_thread_end(void *thread);
 
-/* Gives the first thread its last handler, as every other thread has it. To be called by it, before anything else. */
+/* Makes the lock of the table of threads, and gives the first thread its last handler, as every other thread has it. */
 void __guest_enter_first_thread(void);
 
 #endif
