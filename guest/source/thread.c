@@ -137,13 +137,14 @@ int pthread_detach(pthread_t id) {
     return error_of(result);
 }
 
-/* Called by a thread that ends, under the lock. Answers the memory that it is to free, if any. */
+/* Called by a thread that ends, under the lock. Answers the memory that it is to free, if any. The last thread goes on to
+   the routines of atexit, and is still counted: these may make threads, and join them. */
 void *__guest_thread_leave(struct thread *thread) {
-    thread_count--;
-    if (thread_count == 0) {
+    if (thread_count == 1) {
         pthread_mutex_unlock(&__guest_threads_lock);
         exit(0);
     }
+    thread_count--;
     thread->has_left = true;
     return thread->is_detached ? thread->memory : NULL;
 }
