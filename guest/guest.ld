@@ -1,0 +1,60 @@
+/*
+ * A guest's memory, from 0x1000 on: the program, its variables, the heap, and the first thread's stack down from the end.
+ * The end is known only where a disk is made for the guest, so the heap and the stack aren't sections.
+ */
+ENTRY(__guest_start)
+
+SECTIONS
+{
+    . = 0x1000;
+
+    .text : {
+        KEEP(*(.text.start))
+        *(.text .text.*)
+        *(.rodata .rodata.* .srodata .srodata.*)
+    }
+
+    .init_array : ALIGN(4) {
+        PROVIDE_HIDDEN(__preinit_array_start = .);
+        KEEP(*(.preinit_array))
+        PROVIDE_HIDDEN(__preinit_array_end = .);
+        PROVIDE_HIDDEN(__init_array_start = .);
+        KEEP(*(SORT_BY_INIT_PRIORITY(.init_array.*) .init_array))
+        PROVIDE_HIDDEN(__init_array_end = .);
+        PROVIDE_HIDDEN(__fini_array_start = .);
+        KEEP(*(SORT_BY_INIT_PRIORITY(.fini_array.*) .fini_array))
+        PROVIDE_HIDDEN(__fini_array_end = .);
+    }
+
+    .data : ALIGN(8) {
+        *(.data .data.* .sdata .sdata.*)
+    }
+
+    /* Thread-local variables: what each thread's copy begins with. */
+    .tdata : {
+        *(.tdata .tdata.*)
+    }
+    .tbss (NOLOAD) : {
+        *(.tbss .tbss.* .tcommon)
+    }
+    __guest_locals_align = MAX(ALIGNOF(.tdata), ALIGNOF(.tbss));
+    __guest_locals_initial = ADDR(.tdata);
+    __guest_locals_initial_size = SIZEOF(.tdata);
+    __guest_locals_size = ADDR(.tbss) + SIZEOF(.tbss) - ADDR(.tdata);
+
+    .bss (NOLOAD) : ALIGN(16) {
+        . = ALIGN(__guest_locals_align);
+        __guest_first_locals = .;
+        . += __guest_locals_size;
+        *(.sbss .sbss.* .bss .bss.* COMMON)
+    }
+
+    __guest_heap = ALIGN(16);
+
+    /* -Wl,--defsym=__guest_first_stack_size=BYTES sets another. */
+    PROVIDE(__guest_first_stack_size = 16384);
+
+    /DISCARD/ : {
+        *(.comment .note .note.* .eh_frame .eh_frame.* .riscv.attributes)
+    }
+}

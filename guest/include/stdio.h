@@ -1,0 +1,31 @@
+/*
+ * Streams of a guest: the C library's <stdio.h> over the console, and the locks of streams.
+ *
+ * Each call on stdin, stdout or stderr holds the stream's lock from its begin to its end, so that what one call prints
+ * stands together. stdout and stderr are both the console, without buffers, and have one lock. A stream of another kind
+ * (sprintf's, fmemopen's) has none. The writing calls are no cancellation points, the reading ones are.
+ */
+#ifndef GUEST_STDIO_H
+#define GUEST_STDIO_H
+
+#include_next <stdio.h>
+
+void flockfile(FILE *stream);
+int ftrylockfile(FILE *stream);
+void funlockfile(FILE *stream);
+
+#define getc_unlocked(stream) getc(stream)
+#define getchar_unlocked() getchar()
+#define putc_unlocked(byte, stream) putc(byte, stream)
+#define putchar_unlocked(byte) putchar(byte)
+
+#define GUEST_HAS_NO_FILES __attribute__((error("a guest has no files, only stdin, stdout and stderr")))
+
+FILE *fopen(const char *, const char *) GUEST_HAS_NO_FILES;
+FILE *freopen(const char *, const char *, FILE *) GUEST_HAS_NO_FILES;
+FILE *fdopen(int, const char *) GUEST_HAS_NO_FILES;
+FILE *tmpfile(void) GUEST_HAS_NO_FILES;
+int remove(const char *) GUEST_HAS_NO_FILES;
+int rename(const char *, const char *) GUEST_HAS_NO_FILES;
+
+#endif

@@ -1,0 +1,109 @@
+/*
+ * stdin, stdout and stderr over the console.
+ *
+ * The C library's calls on streams know of no locks. So the linker sends each call that moves bytes here first (its
+ * option --wrap, see `build`), and the call itself has the name __real_..: a writing call holds the output's lock and is no
+ * cancellation point, since it mustn't end in its middle; a reading call holds the input's lock, which a clean-up handler
+ * gives up where the thread is cancelled as it waits for input. The other calls of the C library are made of these.
+ */
+#include "calls.h"
+#include "locks.h"
+#include <stdarg.h>
+#include <stdbool.h>
+#include <stdio.h>
+
+#define END_OF_INPUT 0xFFFFFFFF
+
+static int put(char byte, FILE *stream) {
+    (void)stream;
+    runtime(CALL_PUTC, (unsigned char)byte, 0, 0, 0);
+    return (unsigned char)byte;
+}
+
+static int get(FILE *stream) {
+    (void)stream;
+    uint32_t byte = runtime(CALL_GETC, 0, 0, 0, 0).result;
+    return byte == END_OF_INPUT ? _FDEV_EOF : (int)byte;
+}
+
+static FILE input = FDEV_SETUP_STREAM(NULL, get, NULL, _FDEV_SETUP_READ);
+static FILE output = FDEV_SETUP_STREAM(put, NULL, NULL, _FDEV_SETUP_WRITE);
+static FILE errors = FDEV_SETUP_STREAM(put, NULL, NULL, _FDEV_SETUP_WRITE);
+
+FILE *const stdin = &input, *const stdout = &output, *const stderr = &errors;
+
+static pthread_mutex_t *lock_of(FILE *stream) {
+    if (stream == &input) return &__guest_input_lock.mutex;
+    if (stream == &output || stream == &errors) return &__guest_output_lock.mutex;
+    return NULL;
+}
+
+void flockfile(FILE *stream) {
+    pthread_mutex_t *lock = lock_of(stream);
+    if (lock) pthread_mutex_lock(lock);
+}
+
+int ftrylockfile(FILE *stream) {
+    pthread_mutex_t *lock = lock_of(stream);
+    return lock ? pthread_mutex_trylock(lock) : 0;
+}
+
+void funlockfile(FILE *stream) {
+    pthread_mutex_t *lock = lock_of(stream);
+    if (lock) pthread_mutex_unlock(lock);
+}
+
+/* --- Writing ------------------------------------------------------------------------------------------------------ */
+
+/* Answers the state of cancellation, for `end_writing`. */
+static int begin_writing(FILE *stream) {
+    int state;
+    pthread_setcancelstate(PTHREAD_CANCEL_DISABLE, &state);
+    flockfile(stream);
+    return state;
+}
+
+static void end_writing(FILE *stream, int state) {
+    funlockfile(stream);
+    pthread_setcancelstate(state, NULL);
+}
+
+/* A call __wrap_NAME that writes to `stream` by __real_NAME. */
+#define WRITING(type, name, stream, parameters, arguments) \
+    type __real_##name parameters;                         \
+    type __wrap_##name parameters {                        \
+        int state = begin_writing(stream);                 \
+        type result = __real_##name arguments;             \
+        end_writing(stream, state);                        \
+        return result;                                     \
+    }
+
+WRITING(int, fputc, to, (int byte, FILE *to), (byte, to))
+WRITING(int, putc, to, (int byte, FILE *to), (byte, to))
+WRITING(int, fputs, to, (const char *text, FILE *to), (text, to))
+WRITING(int, puts, stdout, (const char *text), (text))
+WRITING(size_t, fwrite, to, (const void *from, size_t size, size_t count, FILE *to), (from, size, count, to))
+WRITING(int, vfprintf, to, (FILE *to, const char *format, va_list values), (to, format, values))
+
+/* --- Reading ------------------------------------------------------------------------------------------------------ */
+
+static void unlock(void *stream) { funlockfile(stream); }
+
+/* A call __wrap_NAME that reads from `stream` by __real_NAME. */
+#define READING(type, name, stream, parameters, arguments) \
+    type __real_##name parameters;                         \
+    type __wrap_##name parameters {                        \
+        type result;                                       \
+        flockfile(stream);                                 \
+        pthread_cleanup_push(unlock, stream);              \
+        result = __real_##name arguments;                  \
+        pthread_cleanup_pop(1);                            \
+        return result;                                     \
+    }
+
+READING(int, fgetc, from, (FILE *from), (from))
+READING(int, getc, from, (FILE *from), (from))
+READING(int, ungetc, from, (int byte, FILE *from), (byte, from))
+READING(char *, fgets, from, (char *to, int size, FILE *from), (to, size, from))
+READING(size_t, fread, from, (void *to, size_t size, size_t count, FILE *from), (to, size, count, from))
+READING(int, vfscanf, from, (FILE *from, const char *format, va_list places), (from, format, places))

@@ -1,0 +1,21 @@
+/* What malloc takes its memory from. The C library calls it under its lock. */
+#include "heap.h"
+#include <errno.h>
+#include <stddef.h>
+#include <unistd.h>
+
+extern char __guest_heap[];
+
+static char *heap_top = __guest_heap, *heap_end;
+
+void __guest_set_heap_end(char *end) { heap_end = end; }
+
+void *sbrk(ptrdiff_t bytes) {
+    if (bytes > heap_end - heap_top || bytes < __guest_heap - heap_top) {
+        errno = ENOMEM;
+        return (void *)-1;
+    }
+    char *old_top = heap_top;
+    heap_top += bytes;
+    return old_top;
+}

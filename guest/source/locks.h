@@ -1,0 +1,16 @@
+/* The locks of the C library: one for its heap and its list of exit routines, and two for the console. */
+#ifndef GUEST_LOCKS_H
+#define GUEST_LOCKS_H
+
+#include <pthread.h>
+
+struct __lock {
+    pthread_mutex_t mutex;
+};
+
+extern struct __lock __guest_output_lock, __guest_input_lock;
+
+/* Makes the locks recursive. To be called once, before the first use of any. */
+void __guest_make_locks(void);
+
+#endif

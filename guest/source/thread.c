@@ -1,0 +1,165 @@
+/*
+ * Threads: their memory, their begin and their end.
+ *
+ * `threads_lock` guards the table of threads, the count and the marks of each record. A joined thread's memory is freed by
+ * who joined it: the thread has ended then. A detached thread frees its own, standing on a spare stack: see
+ * thread_end.S. Either may happen in `pthread_detach` too, where the thread has left its memory but wasn't joined.
+ */
+#include "thread.h"
+#include "calls.h"
+#include <stdlib.h>
+#include <string.h>
+
+enum { STACK_BYTES = 8192, STACK_ALIGNMENT = 16 };
+
+pthread_mutex_t __guest_threads_lock;
+
+static struct thread first_thread;
+static struct thread *threads[PTHREAD_THREADS_MAX + 1] = {[1] = &first_thread};
+static unsigned thread_count = 1;
+
+int pthread_attr_init(pthread_attr_t *attributes) {
+    *attributes = (pthread_attr_t){.detach_state = PTHREAD_CREATE_JOINABLE, .stack_size = STACK_BYTES};
+    return 0;
+}
+
+int pthread_attr_destroy(pthread_attr_t *attributes) {
+    (void)attributes;
+    return 0;
+}
+
+int pthread_attr_setdetachstate(pthread_attr_t *attributes, int state) {
+    if (state != PTHREAD_CREATE_JOINABLE && state != PTHREAD_CREATE_DETACHED) return EINVAL;
+    attributes->detach_state = state;
+    return 0;
+}
+
+int pthread_attr_getdetachstate(const pthread_attr_t *attributes, int *state) {
+    *state = attributes->detach_state;
+    return 0;
+}
+
+int pthread_attr_setstacksize(pthread_attr_t *attributes, size_t bytes) {
+    if (bytes < PTHREAD_STACK_MIN) return EINVAL;
+    attributes->stack_size = bytes;
+    return 0;
+}
+
+int pthread_attr_getstacksize(const pthread_attr_t *attributes, size_t *bytes) {
+    *bytes = attributes->stack_size;
+    return 0;
+}
+
+/* The alignment is a power of two. */
+static uintptr_t round_down(uintptr_t address, uintptr_t alignment) { return address & -alignment; }
+
+/* The block's parts from its end down: thread-local variables, the record, the stack. NULL where the heap has no room. */
+static struct thread *new_thread(size_t stack_bytes) {
+    uintptr_t locals_bytes = (uintptr_t)__guest_locals_size, locals_align = (uintptr_t)__guest_locals_align;
+    size_t others = sizeof(struct thread) + STACK_ALIGNMENT + locals_bytes + locals_align;
+    if (stack_bytes > SIZE_MAX - others) return NULL;
+    char *memory = malloc(stack_bytes + others);
+    if (!memory) return NULL;
+
+    uintptr_t locals = round_down((uintptr_t)memory + stack_bytes + others - locals_bytes, locals_align);
+    struct thread *thread = (struct thread *)round_down(locals - sizeof *thread, STACK_ALIGNMENT);
+    *thread = (struct thread){.memory = memory, .locals = (void *)locals};
+    __guest_set_locals(thread->locals);
+    return thread;
+}
+
+void __guest_enter_first_thread(void) {
+    /* Of this type a mutex is in use for good, so that no lock of it finds all 256 in use by others. */
+    pthread_mutexattr_t attributes = {.type = PTHREAD_MUTEX_RECURSIVE};
+    pthread_mutex_init(&__guest_threads_lock, &attributes);
+    __guest_cleanup_push(__guest_thread_end, &first_thread);
+}
+
+/* Where a new thread begins, with nothing but its stack and its argument in registers. */
+static void begin(struct thread *thread) {
+    __asm__ volatile("mv tp, %0" : : "r"(thread->locals) : "memory");
+    __guest_cleanup_push(__guest_thread_end, thread);
+    /* Waits for who created it, so that its id is stored and its place in the table is filled. */
+    pthread_mutex_lock(&__guest_threads_lock);
+    pthread_mutex_unlock(&__guest_threads_lock);
+    pthread_exit(thread->start(thread->argument));
+}
+
+int pthread_create(pthread_t *restrict id, const pthread_attr_t *restrict attributes, void *(*start)(void *),
+                   void *restrict argument) {
+    struct thread *thread = new_thread(attributes ? attributes->stack_size : STACK_BYTES);
+    if (!thread) return EAGAIN;
+    thread->start = start;
+    thread->argument = argument;
+    thread->is_detached = attributes && attributes->detach_state == PTHREAD_CREATE_DETACHED;
+
+    pthread_mutex_lock(&__guest_threads_lock);
+    struct answer made =
+        runtime(CALL_CREATE, (uint32_t)begin, (uint32_t)thread, (uint32_t)thread, thread->is_detached);
+    if (made.result == 0) {
+        threads[made.value] = thread;
+        thread_count++;
+        *id = made.value;
+    }
+    pthread_mutex_unlock(&__guest_threads_lock);
+
+    if (made.result != 0) free(thread->memory);
+    return error_of(made.result);
+}
+
+/* The record of a thread, by its id, under the lock; of no meaning where the runtime doesn't know the id. */
+static struct thread *thread_of(pthread_t id) { return id <= PTHREAD_THREADS_MAX ? threads[id] : NULL; }
+
+/* The record is looked up before the join, since afterwards the id may be a new thread's. */
+int pthread_join(pthread_t id, void **value) {
+    pthread_mutex_lock(&__guest_threads_lock);
+    struct thread *thread = thread_of(id);
+    pthread_mutex_unlock(&__guest_threads_lock);
+
+    struct answer joined = runtime(CALL_JOIN, id, 0, 0, 0);
+    if (joined.result != 0) return error_of(joined.result);
+    free(thread->memory);
+    if (value) *value = (void *)joined.value;
+    return 0;
+}
+
+int pthread_detach(pthread_t id) {
+    void *left_memory = NULL;
+    pthread_mutex_lock(&__guest_threads_lock);
+    uint32_t result = runtime(CALL_DETACH, id, 0, 0, 0).result;
+    if (result == 0) {
+        struct thread *thread = thread_of(id);
+        thread->is_detached = true;
+        if (thread->has_left) left_memory = thread->memory;
+    }
+    pthread_mutex_unlock(&__guest_threads_lock);
+    free(left_memory);
+    return error_of(result);
+}
+
+/* Called by a thread that ends, under the lock. Answers the memory that it is to free, if any. The last thread goes on to
+   the routines of atexit, and is still counted: these may make threads, and join them. */
+void *__guest_thread_leave(struct thread *thread) {
+    if (thread_count == 1) {
+        pthread_mutex_unlock(&__guest_threads_lock);
+        exit(0);
+    }
+    thread_count--;
+    thread->has_left = true;
+    return thread->is_detached ? thread->memory : NULL;
+}
+
+void pthread_exit(void *value) {
+    runtime(CALL_THREAD_EXIT, (uint32_t)value, 0, 0, 0);
+    __builtin_unreachable();
+}
+
+pthread_t pthread_self(void) { return runtime(CALL_SELF, 0, 0, 0, 0).result; }
+
+extern const char __guest_locals_initial[], __guest_locals_initial_size[];
+
+void __guest_set_locals(void *locals) {
+    size_t initial = (size_t)__guest_locals_initial_size;
+    memcpy(locals, __guest_locals_initial, initial);
+    memset((char *)locals + initial, 0, (size_t)__guest_locals_size - initial);
+}

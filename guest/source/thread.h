@@ -1,0 +1,35 @@
+/* What the C side and the assembler side of threads share. */
+#ifndef GUEST_THREAD_H
+#define GUEST_THREAD_H
+
+#define SPARE_STACK_BYTES 512
+
+#ifndef __ASSEMBLER__
+
+#include <pthread.h>
+#include <stdbool.h>
+
+/* A new thread's memory is one block of the heap: its stack, this record above it, and its thread-local variables. */
+struct thread {
+    void *memory; /* the block; NULL for the first thread */
+    void *(*start)(void *);
+    void *argument;
+    void *locals; /* x4 while the thread runs */
+    bool is_detached;
+    bool has_left; /* it never touches its memory again */
+};
+
+/* The size of thread-local variables and their alignment, as addresses of these symbols. */
+extern char __guest_locals_size[], __guest_locals_align[];
+
+/* Makes one thread's copy of the thread-local variables. */
+void __guest_set_locals(void *locals);
+
+/* The clean-up handler of every thread that runs last. */
+void __guest_thread_end(void *thread);
+
+/* Makes the lock of the table of threads, and gives the first thread its last handler, as every other thread has it. */
+void __guest_enter_first_thread(void);
+
+#endif
+#endif

@@ -1,0 +1,47 @@
+# The end of a thread, and the end of a clean-up handler's turn: what can't be said in C.
+#include "calls.h"
+#include "thread.h"
+
+    .section .text.__guest_thread_end, "ax", @progbits
+    .globl __guest_thread_end
+
+# The clean-up handler that runs last, with the thread's record in x10. The thread unwinds, so no request is acted on.
+#
+# A detached thread frees the memory that it stands on. So it first goes over to the spare stack (and to the first thread's
+# thread-local variables, which are never freed). One thread at a time stands there, the one that holds the lock; and from
+# the unlock on it touches no memory: what is left is done in registers.
+__guest_thread_end:
+    mv      s0, a0
+    la      s1, __guest_threads_lock
+    mv      a0, s1
+    li      a7, CALL_MUTEX_LOCK
+    ecall
+    mv      a0, s0
+    call    __guest_thread_leave
+    beqz    a0, 1f
+    la      sp, spare_stack_end
+    la      tp, __guest_first_locals
+    call    free
+1:  mv      a0, s1
+    li      a7, CALL_MUTEX_UNLOCK
+    ecall
+    li      t0, UNWINDING_GATE
+    jr      t0
+
+    .section .bss.spare_stack, "aw", @nobits
+    .balign 16
+    .zero   SPARE_STACK_BYTES
+spare_stack_end:
+
+    .section .text.__guest_cleanup_pop, "ax", @progbits
+    .globl __guest_cleanup_pop
+
+# void __guest_cleanup_pop(int execute). The call may run the handler, which overwrites x1 and returns behind the ECALL.
+__guest_cleanup_pop:
+    addi    sp, sp, -16
+    sw      ra, 12(sp)
+    li      a7, CALL_CLEANUP_POP
+    ecall
+    lw      ra, 12(sp)
+    addi    sp, sp, 16
+    ret
