@@ -178,11 +178,11 @@ impl Barriers {
         ensures threads { threads.now ≡ (destroy_row address threads.now self.old).threads }
         ensures barriers { self.new ≡ (destroy_row address threads.now self.old).barriers }
     {
-        self.forget(threads, address)
+        self.forget_idle(threads, address)
     }
 
     /// The row of `destroy`.
-    fn forget(&mut self, threads: &Threads, address: u32) -> CallResult
+    fn forget_idle(&mut self, threads: &Threads, address: u32) -> CallResult
         ensures result { result ≡ (destroy_row address threads.now self.old).result }
         ensures threads { threads.now ≡ (destroy_row address threads.now self.old).threads }
         ensures barriers { self.new ≡ (destroy_row address threads.now self.old).barriers }

@@ -15,19 +15,12 @@ use Rattle.ckrt_rwlock.specs.declared.records.RwLock.{RwLock}
 use Rattle.ckrt_rwlock.specs.WellFormed as rwlock
 use Rattle.ckrt_calls.specs.declared.table.Status.TheVariants.{Running}
 use Rattle.ckrt_calls.specs.declared.table.Tables.{Tables}
-use Rattle.ckrt_calls.specs.WellFormed.{IsWellFormed, lies_ahead, lacks_input}
+use Rattle.ckrt_calls.specs.WellFormed.{IsWellFormed, MayCall, lies_ahead, lacks_input}
 use Rattle.ckrt_calls.proofs.ThreadRows.{IsWaitRule, AllWaits, all_rule, any_live_one}
 use Rattle.ckrt_calls.proofs.Queues.{SameQueues, barriers_same, locks_same}
 
 abbrev pub AnyLive : threads.State → Type 0
 AnyLive z = is_any_live z ≡ true
-
--- what a call counts on: the thread t is on a hart, and the program runs
-pub record MayCall (t : ℕ) (s : Tables) : Type 0 where
-  pub live : threads.is_live s.threads t ≡ true
-  pub free : threads.is_waiting s.threads t ≡ false
-  pub running : s.status ≡ Running
-  pub well_formed : IsWellFormed s
 
 -- where the thread that calls lives, some thread does
 pub caller_lives : (t : ℕ) (z : threads.State) → threads.is_live z t ≡ true → is_any_live z ≡ true

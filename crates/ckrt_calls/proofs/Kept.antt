@@ -16,7 +16,7 @@ use Rattle.ckrt_calls.proofs.KeptBarriers.{kept_barrier}
 use Rattle.ckrt_calls.proofs.KeptRwLocks.{kept_rwlock}
 use Rattle.ckrt_calls.proofs.KeptCancellation.{kept_cancellation}
 use Rattle.ckrt_calls.proofs.KeptInput.{kept_process}
-pub use Rattle.ckrt_calls.proofs.Calling.{MayCall}
+pub use Rattle.ckrt_calls.specs.WellFormed.{MayCall}
 pub use Rattle.ckrt_calls.proofs.KeptEnds.{well_formed_change, well_formed_fault, well_formed_exited, well_formed_acted, well_formed_unwound, well_formed_begun}
 
 kept_row : (c : Call) (t : ℕ) (r : Registers) (s : Tables) → MayCall t s → IsWellFormed (row c t r s).tables

@@ -19,11 +19,11 @@ use Rattle.ckrt_calls.specs.declared.number.BarrierCall.{BarrierCall}
 use Rattle.ckrt_calls.specs.declared.number.BarrierCall.TheVariants as barrier_call
 use Rattle.ckrt_calls.specs.declared.table.Tables.{Tables}
 use Rattle.ckrt_calls.specs.Table.{barrier_row}
-use Rattle.ckrt_calls.specs.WellFormed.{IsWellFormed}
+use Rattle.ckrt_calls.specs.WellFormed.{IsWellFormed, MayCall}
 use Rattle.ckrt_calls.proofs.ThreadRows.{AllWaits, all_woken, all_blocked, any_live_woken}
 use Rattle.ckrt_calls.proofs.Queues as queues
 use Rattle.ckrt_calls.proofs.MutexRows.{wait_rule}
-use Rattle.ckrt_calls.proofs.Calling.{AnyLive, MayCall, some_live, ahead, lacks, all_ahead, all_lack, AreAfter, all_changed}
+use Rattle.ckrt_calls.proofs.Calling.{AnyLive, some_live, ahead, lacks, all_ahead, all_lack, AreAfter, all_changed}
 use Rattle.ckrt_calls.proofs.KeptConditions.{conditions_woken}
 
 kept_barrier_init : (t b n : ℕ) (s : Tables) → MayCall t s → AreAfter s (barrier_rows.init_row b n s.threads s.barriers).threads s.mutexes (barrier_rows.init_row b n s.threads s.barriers).barriers s.rwlocks

@@ -16,11 +16,11 @@ use Rattle.ckrt_calls.specs.declared.number.CancellationCall.{CancellationCall}
 use Rattle.ckrt_calls.specs.declared.number.CancellationCall.TheVariants as cancellation_call
 use Rattle.ckrt_calls.specs.declared.table.Tables.{Tables}
 use Rattle.ckrt_calls.specs.Table.{cancellation_row}
-use Rattle.ckrt_calls.specs.WellFormed.{IsWellFormed}
+use Rattle.ckrt_calls.specs.WellFormed.{IsWellFormed, MayCall}
 use Rattle.ckrt_calls.proofs.ThreadRows.{IsWaitRule, AllWaits, all_blocked}
 use Rattle.ckrt_calls.proofs.Queues as queues
 use Rattle.ckrt_calls.proofs.MutexRows.{wait_rule, condition_rule}
-use Rattle.ckrt_calls.proofs.Calling.{MayCall, caller_lives, ahead, lacks, all_ahead, all_lack, ahead_rule, lacks_rule, IsAfter, changed}
+use Rattle.ckrt_calls.proofs.Calling.{caller_lives, ahead, lacks, all_ahead, all_lack, ahead_rule, lacks_rule, IsAfter, changed}
 
 -- the waits are the same, and who calls lives
 kept_same : (t : ℕ) (s : Tables) (z : threads.State) → MayCall t s → threads.IsWellFormed z → z.waits ≡ s.threads.waits → threads.is_live z t ≡ true → IsAfter s z s.mutexes

@@ -27,12 +27,12 @@ use Rattle.ckrt_calls.specs.declared.number.ConditionCall.{ConditionCall}
 use Rattle.ckrt_calls.specs.declared.number.ConditionCall.TheVariants as condition_call
 use Rattle.ckrt_calls.specs.declared.table.Tables.{Tables}
 use Rattle.ckrt_calls.specs.Table.{condition_row, moment_of}
-use Rattle.ckrt_calls.specs.WellFormed.{IsWellFormed}
+use Rattle.ckrt_calls.specs.WellFormed.{IsWellFormed, MayCall}
 use Rattle.ckrt_calls.proofs.ThreadRows as rows
 use Rattle.ckrt_calls.proofs.ThreadRows.{IsWaitRule, AllWaits, all_blocked, any_live_change}
 use Rattle.ckrt_calls.proofs.Queues as queues
 use Rattle.ckrt_calls.proofs.MutexRows as mutex
-use Rattle.ckrt_calls.proofs.Calling.{AnyLive, MayCall, caller_lives, some_live, ahead, lacks, all_ahead, all_lack, ahead_rule, lacks_rule, IsAfter, changed, later}
+use Rattle.ckrt_calls.proofs.Calling.{AnyLive, caller_lives, some_live, ahead, lacks, all_ahead, all_lack, ahead_rule, lacks_rule, IsAfter, changed, later}
 
 pub conditions_woken : (t v : ℕ) (z : threads.State) → conditions.IsWellFormed z → conditions.IsWellFormed (woken t v z)
 conditions_woken t v z h = conditions_unwaited t z (woken t v z) refl h

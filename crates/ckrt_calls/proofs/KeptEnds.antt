@@ -16,13 +16,13 @@ use Rattle.ckrt_rwlock.proofs.WellFormed as locks
 use Rattle.ckrt_calls.specs.declared.table.Status.TheVariants.{Exited, Faulted}
 use Rattle.ckrt_calls.specs.declared.table.Tables.{Tables}
 use Rattle.ckrt_calls.specs.Table.{status_with, by_unwinding, unwound, begun_unwind, acted}
-use Rattle.ckrt_calls.specs.WellFormed.{IsWellFormed}
+use Rattle.ckrt_calls.specs.WellFormed.{IsWellFormed, MayCall}
 use Rattle.ckrt_calls.proofs.ThreadRows as rows
 use Rattle.ckrt_calls.proofs.ThreadRows.{AllWaits, any_live_change}
 use Rattle.ckrt_calls.proofs.Queues as queues
 use Rattle.ckrt_calls.proofs.Queues.{SameQueues, barriers_same, locks_same}
 use Rattle.ckrt_calls.proofs.MutexRows.{wait_rule, condition_rule}
-use Rattle.ckrt_calls.proofs.Calling.{MayCall, ahead, lacks, all_ahead, all_lack, ahead_rule, lacks_rule, changed}
+use Rattle.ckrt_calls.proofs.Calling.{ahead, lacks, all_ahead, all_lack, ahead_rule, lacks_rule, changed}
 
 -- WHAT A STEP OF A HART DOES BESIDES CALLS
 

@@ -21,12 +21,12 @@ use Rattle.ckrt_calls.specs.declared.number.ProcessCall.{ProcessCall}
 use Rattle.ckrt_calls.specs.declared.number.ProcessCall.TheVariants as process_call
 use Rattle.ckrt_calls.specs.declared.table.Tables.{Tables}
 use Rattle.ckrt_calls.specs.Table.{After, process_row, done, waits, getc_of, sleep_row, moment_of, END_OF_INPUT}
-use Rattle.ckrt_calls.specs.WellFormed.{IsWellFormed, lacks_input}
+use Rattle.ckrt_calls.specs.WellFormed.{IsWellFormed, lacks_input, MayCall}
 use Rattle.ckrt_calls.proofs.Choices.{choice_else}
 use Rattle.ckrt_calls.proofs.ThreadRows.{all_blocked}
 use Rattle.ckrt_calls.proofs.Queues as queues
 use Rattle.ckrt_calls.proofs.Queues.{IsApart}
-use Rattle.ckrt_calls.proofs.Calling.{MayCall, some_live, ahead, lacks, all_ahead, all_lack, changed, later}
+use Rattle.ckrt_calls.proofs.Calling.{some_live, ahead, lacks, all_ahead, all_lack, changed, later}
 use Rattle.ckrt_calls.proofs.KeptEnds.{well_formed_change, well_formed_exited}
 
 -- the thread that calls waits

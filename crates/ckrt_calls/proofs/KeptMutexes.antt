@@ -13,12 +13,12 @@ use Rattle.ckrt_calls.specs.declared.number.MutexCall.{MutexCall}
 use Rattle.ckrt_calls.specs.declared.number.MutexCall.TheVariants as mutex_call
 use Rattle.ckrt_calls.specs.declared.table.Tables.{Tables}
 use Rattle.ckrt_calls.specs.Table.{mutex_row, moment_of}
-use Rattle.ckrt_calls.specs.WellFormed.{IsWellFormed}
+use Rattle.ckrt_calls.specs.WellFormed.{IsWellFormed, MayCall}
 use Rattle.ckrt_calls.proofs.ThreadRows.{AllWaits, all_blocked}
 use Rattle.ckrt_calls.proofs.Queues as queues
 use Rattle.ckrt_calls.proofs.MutexRows as mutex
 use Rattle.ckrt_calls.proofs.MutexRows.{condition_rule}
-use Rattle.ckrt_calls.proofs.Calling.{AnyLive, MayCall, caller_lives, some_live, ahead, lacks, all_ahead, all_lack, ahead_rule, lacks_rule, IsAfter, changed, range, later}
+use Rattle.ckrt_calls.proofs.Calling.{AnyLive, caller_lives, some_live, ahead, lacks, all_ahead, all_lack, ahead_rule, lacks_rule, IsAfter, changed, range, later}
 
 kept_init : (t a k : ℕ) (s : Tables) → MayCall t s → IsAfter s (init_row a k s.threads s.mutexes).threads (init_row a k s.threads s.mutexes).mutexes
 kept_init t a k s m = record {

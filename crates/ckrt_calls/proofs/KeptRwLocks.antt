@@ -22,11 +22,11 @@ use Rattle.ckrt_calls.specs.declared.number.RwLockCall.{RwLockCall}
 use Rattle.ckrt_calls.specs.declared.number.RwLockCall.TheVariants as rwlock_call
 use Rattle.ckrt_calls.specs.declared.table.Tables.{Tables}
 use Rattle.ckrt_calls.specs.Table.{rwlock_row}
-use Rattle.ckrt_calls.specs.WellFormed.{IsWellFormed}
+use Rattle.ckrt_calls.specs.WellFormed.{IsWellFormed, MayCall}
 use Rattle.ckrt_calls.proofs.ThreadRows as rows
 use Rattle.ckrt_calls.proofs.ThreadRows.{IsWaitRule, AllWaits, all_blocked}
 use Rattle.ckrt_calls.proofs.MutexRows.{wait_rule, condition_rule}
-use Rattle.ckrt_calls.proofs.Calling.{AnyLive, MayCall, caller_lives, some_live, ahead, lacks, all_ahead, all_lack, ahead_rule, lacks_rule, AreAfter, all_changed, range}
+use Rattle.ckrt_calls.proofs.Calling.{AnyLive, caller_lives, some_live, ahead, lacks, all_ahead, all_lack, ahead_rule, lacks_rule, AreAfter, all_changed, range}
 
 barrier_rule : (bs : List (Entry Barrier)) → IsWaitRule (λ z. barrier.IsWellFormedWith z bs)
 barrier_rule bs = record {

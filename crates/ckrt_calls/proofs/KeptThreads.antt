@@ -8,12 +8,12 @@ use Rattle.ckrt_calls.specs.declared.number.ThreadCall.{ThreadCall}
 use Rattle.ckrt_calls.specs.declared.number.ThreadCall.TheVariants as thread_call
 use Rattle.ckrt_calls.specs.declared.table.Tables.{Tables}
 use Rattle.ckrt_calls.specs.Table.{thread_row}
-use Rattle.ckrt_calls.specs.WellFormed.{IsWellFormed}
+use Rattle.ckrt_calls.specs.WellFormed.{IsWellFormed, MayCall}
 use Rattle.ckrt_calls.proofs.ThreadRows as rows
 use Rattle.ckrt_calls.proofs.ThreadRows.{any_live_create, any_live_join, any_live_detach}
 use Rattle.ckrt_calls.proofs.Queues as queues
 use Rattle.ckrt_calls.proofs.MutexRows.{wait_rule, condition_rule}
-use Rattle.ckrt_calls.proofs.Calling.{MayCall, some_live, all_ahead, all_lack, ahead_rule, lacks_rule, IsAfter, changed}
+use Rattle.ckrt_calls.proofs.Calling.{some_live, all_ahead, all_lack, ahead_rule, lacks_rule, IsAfter, changed}
 use Rattle.ckrt_calls.proofs.KeptEnds.{well_formed_begun}
 
 kept_create : (t a b c d : ℕ) (s : Tables) → MayCall t s → IsAfter s (create_row t a b c d s.threads).threads s.mutexes

@@ -4,7 +4,7 @@ ghost use Rattle.ckrt_rv32i.specs.Registers.{Registers};
 ghost use Rattle.ckrt_thread.specs.State.{is_live, is_waiting};
 ghost use Rattle.ckrt_calls.specs.declared.table.Status.TheVariants.{Running};
 ghost use Rattle.ckrt_calls.specs.Table.{process_row, thread_row, mutex_row, condition_row, barrier_row, rwlock_row, cancellation_row, row, row_or_point, called};
-ghost use Rattle.ckrt_calls.specs.WellFormed.{IsWellFormed};
+ghost use Rattle.ckrt_calls.specs.WellFormed.{IsWellFormed, MayCall};
 
 use crate::console::getc;
 use crate::number::{
@@ -35,10 +35,7 @@ pub fn call(tables: &mut Tables, thread: ThreadId) -> (CallResult, Option<u8>)
 
 /// The change of [`call`], and what it answers.
 fn dispatch(tables: &mut Tables, thread: ThreadId) -> (CallResult, Option<u8>)
-    requires live { is_live tables.old.threads thread ≡ true }
-    requires free { is_waiting tables.old.threads thread ≡ false }
-    requires running { tables.old.status ≡ Running }
-    requires well_formed { IsWellFormed tables.old }
+    requires { MayCall thread tables.old }
     ensures result { result.0 ≡ (called thread tables.old).result }
     ensures put { result.1 ≡ (called thread tables.old).put }
     ensures tables { tables.new ≡ (called thread tables.old).tables }
@@ -59,10 +56,7 @@ fn act_or_perform(
     thread: ThreadId,
     regs: &Regs,
 ) -> (CallResult, Option<u8>)
-    requires live { is_live tables.old.threads thread ≡ true }
-    requires free { is_waiting tables.old.threads thread ≡ false }
-    requires running { tables.old.status ≡ Running }
-    requires well_formed { IsWellFormed tables.old }
+    requires { MayCall thread tables.old }
     ensures result { result.0 ≡ (row_or_point call thread regs.now tables.old).result }
     ensures put { result.1 ≡ (row_or_point call thread regs.now tables.old).put }
     ensures tables { tables.new ≡ (row_or_point call thread regs.now tables.old).tables }
@@ -80,10 +74,7 @@ fn perform(
     thread: ThreadId,
     regs: &Regs,
 ) -> (CallResult, Option<u8>)
-    requires live { is_live tables.old.threads thread ≡ true }
-    requires free { is_waiting tables.old.threads thread ≡ false }
-    requires running { tables.old.status ≡ Running }
-    requires well_formed { IsWellFormed tables.old }
+    requires { MayCall thread tables.old }
     ensures result { result.0 ≡ (row call thread regs.now tables.old).result }
     ensures put { result.1 ≡ (row call thread regs.now tables.old).put }
     ensures tables { tables.new ≡ (row call thread regs.now tables.old).tables }
@@ -106,10 +97,7 @@ fn perform_for_process(
     thread: ThreadId,
     regs: &Regs,
 ) -> (CallResult, Option<u8>)
-    requires live { is_live tables.old.threads thread ≡ true }
-    requires free { is_waiting tables.old.threads thread ≡ false }
-    requires running { tables.old.status ≡ Running }
-    requires well_formed { IsWellFormed tables.old }
+    requires { MayCall thread tables.old }
     ensures result { result.0 ≡ (process_row call thread regs.now tables.old).result }
     ensures put { result.1 ≡ (process_row call thread regs.now tables.old).put }
     ensures tables { tables.new ≡ (process_row call thread regs.now tables.old).tables }
@@ -137,10 +125,7 @@ fn perform_on_threads(
     thread: ThreadId,
     regs: &Regs,
 ) -> CallResult
-    requires live { is_live tables.old.threads thread ≡ true }
-    requires free { is_waiting tables.old.threads thread ≡ false }
-    requires running { tables.old.status ≡ Running }
-    requires well_formed { IsWellFormed tables.old }
+    requires { MayCall thread tables.old }
     ensures result { result ≡ (thread_row call thread regs.now tables.old).result }
     ensures put { None ≡ (thread_row call thread regs.now tables.old).put }
     ensures tables { tables.new ≡ (thread_row call thread regs.now tables.old).tables }
@@ -170,10 +155,7 @@ fn perform_on_mutexes(
     thread: ThreadId,
     regs: &Regs,
 ) -> CallResult
-    requires live { is_live tables.old.threads thread ≡ true }
-    requires free { is_waiting tables.old.threads thread ≡ false }
-    requires running { tables.old.status ≡ Running }
-    requires well_formed { IsWellFormed tables.old }
+    requires { MayCall thread tables.old }
     ensures result { result ≡ (mutex_row call thread regs.now tables.old).result }
     ensures put { None ≡ (mutex_row call thread regs.now tables.old).put }
     ensures tables { tables.new ≡ (mutex_row call thread regs.now tables.old).tables }
@@ -203,10 +185,7 @@ fn perform_on_conditions(
     thread: ThreadId,
     regs: &Regs,
 ) -> CallResult
-    requires live { is_live tables.old.threads thread ≡ true }
-    requires free { is_waiting tables.old.threads thread ≡ false }
-    requires running { tables.old.status ≡ Running }
-    requires well_formed { IsWellFormed tables.old }
+    requires { MayCall thread tables.old }
     ensures result { result ≡ (condition_row call thread regs.now tables.old).result }
     ensures put { None ≡ (condition_row call thread regs.now tables.old).put }
     ensures tables { tables.new ≡ (condition_row call thread regs.now tables.old).tables }
@@ -236,10 +215,7 @@ fn perform_on_barriers(
     thread: ThreadId,
     regs: &Regs,
 ) -> CallResult
-    requires live { is_live tables.old.threads thread ≡ true }
-    requires free { is_waiting tables.old.threads thread ≡ false }
-    requires running { tables.old.status ≡ Running }
-    requires well_formed { IsWellFormed tables.old }
+    requires { MayCall thread tables.old }
     ensures result { result ≡ (barrier_row call thread regs.now tables.old).result }
     ensures put { None ≡ (barrier_row call thread regs.now tables.old).put }
     ensures tables { tables.new ≡ (barrier_row call thread regs.now tables.old).tables }
@@ -259,10 +235,7 @@ fn perform_on_rwlocks(
     thread: ThreadId,
     regs: &Regs,
 ) -> CallResult
-    requires live { is_live tables.old.threads thread ≡ true }
-    requires free { is_waiting tables.old.threads thread ≡ false }
-    requires running { tables.old.status ≡ Running }
-    requires well_formed { IsWellFormed tables.old }
+    requires { MayCall thread tables.old }
     ensures result { result ≡ (rwlock_row call thread regs.now tables.old).result }
     ensures put { None ≡ (rwlock_row call thread regs.now tables.old).put }
     ensures tables { tables.new ≡ (rwlock_row call thread regs.now tables.old).tables }
@@ -288,10 +261,7 @@ fn perform_on_cancellation(
     thread: ThreadId,
     regs: &Regs,
 ) -> CallResult
-    requires live { is_live tables.old.threads thread ≡ true }
-    requires free { is_waiting tables.old.threads thread ≡ false }
-    requires running { tables.old.status ≡ Running }
-    requires well_formed { IsWellFormed tables.old }
+    requires { MayCall thread tables.old }
     ensures result { result ≡ (cancellation_row call thread regs.now tables.old).result }
     ensures put { None ≡ (cancellation_row call thread regs.now tables.old).put }
     ensures tables { tables.new ≡ (cancellation_row call thread regs.now tables.old).tables }

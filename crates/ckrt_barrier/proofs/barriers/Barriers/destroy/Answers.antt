@@ -5,5 +5,5 @@ use Rattle.ckrt_barrier.proofs.barriers.Barriers.destroy.Goals as goal
 
 pub returns-clause-well_formed : goal.returns-clause-well_formed
 returns-clause-well_formed c =
-    subst (λ z. IsWellFormedWith z c.forget.new.self) (sym c.forget.ensures.threads)
-    (rw c.forget.ensures.barriers (well_formed_destroy c.args.address c.args.threads.now c.args.self.now c.requires.well_formed))
+    subst (λ z. IsWellFormedWith z c.forget_idle.new.self) (sym c.forget_idle.ensures.threads)
+    (rw c.forget_idle.ensures.barriers (well_formed_destroy c.args.address c.args.threads.now c.args.self.now c.requires.well_formed))
