@@ -1,6 +1,6 @@
 /*
- * A guest's memory, from 0x1000 on: the program, its variables, the heap, and the first thread's stack down from the end.
- * The end is known only where a disk is made for the guest, so the heap and the stack aren't sections.
+ * A guest's memory, from 0x1000 on: the program, its variables, the heap, and the first thread's stack down from the
+ * end. The end is known only where a disk is made for the guest, so the heap and the stack aren't sections.
  */
 ENTRY(__guest_start)
 

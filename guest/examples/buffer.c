@@ -55,6 +55,6 @@ int main(void) {
         total += sums[i];
     }
     printf("the numbers 1 to %d add up to %d\n", NUMBERS, total);
-    printf("the buffer %s its room, and is %s\n", most <= ROOM ? "kept within" : "outgrew", count ? "not empty" : "empty");
+    printf("the buffer %s its room\n", most <= ROOM ? "kept within" : "outgrew");
     return 0;
 }

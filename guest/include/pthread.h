@@ -6,9 +6,9 @@
  * before its memory is used for something else, and a copy of an object is another object.
  *
  * A call that can fail answers 0 or an error number of <errno.h>, and never EINTR: a guest has no signals.
- * What a guest can't have isn't declared: signals, priorities and scheduling, processes, robust, priority-inheriting and
- * process-shared objects, spin locks, timed read-write locks, thread-specific data by keys (`_Thread_local` variables
- * are each thread's own).
+ * What a guest can't have isn't declared: signals, priorities and scheduling, processes, robust, priority-inheriting
+ * and process-shared objects, spin locks, timed read-write locks, thread-specific data by keys (`_Thread_local`
+ * variables are each thread's own).
  */
 #ifndef GUEST_PTHREAD_H
 #define GUEST_PTHREAD_H
@@ -77,13 +77,13 @@ enum { PTHREAD_CANCEL_DEFERRED, PTHREAD_CANCEL_ASYNCHRONOUS };
 #define PTHREAD_CANCELED ((void *)-1)
 
 /*
- * The cancellation points are pthread_join, pthread_cond_wait, pthread_cond_timedwait, pthread_testcancel, the sleeps of
- * <time.h> and <unistd.h>, and the reading calls of <stdio.h>. The writing ones are none.
- * Only the three calls that set something may be made by a thread while it is asynchronous.
+ * The cancellation points are pthread_join, pthread_cond_wait, pthread_cond_timedwait, pthread_testcancel, the sleeps
+ * of <time.h> and <unistd.h>, and the reading calls of <stdio.h>. The writing ones are none.
+ * While a thread is asynchronous it may call pthread_cancel, pthread_setcancelstate and pthread_setcanceltype alone.
  */
-int pthread_cancel(pthread_t id);                            /* ESRCH: no such thread; an ended one that wasn't joined: 0 */
-int pthread_setcancelstate(int state, int *old_state);       /* EINVAL: no such state; the old one's place may be NULL */
-int pthread_setcanceltype(int type, int *old_type);          /* EINVAL: no such type; the old one's place may be NULL */
+int pthread_cancel(pthread_t id);                            /* ESRCH: no such thread */
+int pthread_setcancelstate(int state, int *old_state);       /* EINVAL: no such state; old_state may be NULL */
+int pthread_setcanceltype(int type, int *old_type);          /* EINVAL: no such type; old_type may be NULL */
 void pthread_testcancel(void);
 
 /*
@@ -121,15 +121,16 @@ int pthread_mutexattr_destroy(pthread_mutexattr_t *attributes);
 int pthread_mutexattr_settype(pthread_mutexattr_t *attributes, int type);              /* EINVAL: no such type */
 int pthread_mutexattr_gettype(const pthread_mutexattr_t *attributes, int *type);
 
-/* At most 256 mutexes are in use: locked, waited for, or of a type other than normal (the library uses four). The call that
-   would use one more answers EAGAIN. */
+/* At most 256 mutexes are in use: locked, waited for, or of a type other than normal (the library uses four). The call
+   that would use one more answers EAGAIN. */
 int pthread_mutex_init(pthread_mutex_t *restrict mutex, const pthread_mutexattr_t *restrict attributes); /* EBUSY */
 int pthread_mutex_destroy(pthread_mutex_t *mutex);           /* EBUSY: locked, or waited for */
 int pthread_mutex_lock(pthread_mutex_t *mutex);              /* EAGAIN, EDEADLK */
 int pthread_mutex_trylock(pthread_mutex_t *mutex);           /* EAGAIN; EBUSY: locked */
 int pthread_mutex_unlock(pthread_mutex_t *mutex);            /* EPERM, for every type: the caller isn't the owner */
 
-/* The deadline is a moment of the clock, see <time.h>; it is looked at only where the call would wait. ETIMEDOUT, EINVAL. */
+/* The deadline is a moment of the clock, see <time.h>. It is looked at only where the call would wait: EINVAL where it
+   is none, ETIMEDOUT once it has come. */
 int pthread_mutex_timedlock(pthread_mutex_t *restrict mutex, const struct timespec *restrict deadline);
 
 /* --- Condition variables ------------------------------------------------------------------------------------------ */
@@ -152,8 +153,8 @@ int pthread_condattr_getclock(const pthread_condattr_t *restrict attributes, clo
 int pthread_cond_init(pthread_cond_t *restrict condition, const pthread_condattr_t *restrict attributes); /* EBUSY */
 int pthread_cond_destroy(pthread_cond_t *condition);         /* EBUSY: waited for */
 
-/* Cancellation points. There are no spurious wake-ups: only a signal, a broadcast or the deadline ends a wait. EPERM: the
-   mutex isn't the caller's. EINVAL: others wait with another mutex; no such deadline. ETIMEDOUT. */
+/* Cancellation points. There are no spurious wake-ups: only a signal, a broadcast or the deadline ends a wait. EPERM:
+   the mutex isn't the caller's. EINVAL: others wait with another mutex; no such deadline. ETIMEDOUT. */
 int pthread_cond_wait(pthread_cond_t *restrict condition, pthread_mutex_t *restrict mutex);
 int pthread_cond_timedwait(pthread_cond_t *restrict condition, pthread_mutex_t *restrict mutex,
                            const struct timespec *restrict deadline);
@@ -180,7 +181,7 @@ int pthread_barrierattr_destroy(pthread_barrierattr_t *attributes);
 int pthread_barrier_init(pthread_barrier_t *restrict barrier, const pthread_barrierattr_t *restrict attributes,
                          unsigned int count);
 int pthread_barrier_destroy(pthread_barrier_t *barrier);     /* EBUSY: waited for. EINVAL: no barrier */
-int pthread_barrier_wait(pthread_barrier_t *barrier);        /* 0, or for the last to come PTHREAD_BARRIER_SERIAL_THREAD */
+int pthread_barrier_wait(pthread_barrier_t *barrier);        /* 0; for the last PTHREAD_BARRIER_SERIAL_THREAD */
 
 /* --- Read-write locks --------------------------------------------------------------------------------------------- */
 
@@ -200,8 +201,8 @@ int pthread_rwlockattr_destroy(pthread_rwlockattr_t *attributes);
 int pthread_rwlock_init(pthread_rwlock_t *restrict lock, const pthread_rwlockattr_t *restrict attributes); /* EBUSY */
 int pthread_rwlock_destroy(pthread_rwlock_t *lock);          /* EBUSY: held, or waited for */
 
-/* No reader passes a waiting thread, but one that reads already. EDEADLK: the caller writes; for a writer also: it reads.
-   EAGAIN: 64 locks are held; 65,535 read locks of one thread. */
+/* No reader passes a waiting thread, but one that reads already. EDEADLK: the caller writes; for a writer also: it
+   reads. EAGAIN: 64 locks are held; the caller has 65,535 read locks. */
 int pthread_rwlock_rdlock(pthread_rwlock_t *lock);
 int pthread_rwlock_wrlock(pthread_rwlock_t *lock);
 int pthread_rwlock_tryrdlock(pthread_rwlock_t *lock);        /* EBUSY where the call would wait, or be EDEADLK */

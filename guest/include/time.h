@@ -1,8 +1,8 @@
 /*
  * The time of a guest: the C library's <time.h> and the clocks of POSIX.
  *
- * There is one clock, whatever its name. It begins at 0, and grows by the ticks that whoever runs the guest hands in: one
- * tick is one millisecond. A moment between two ticks counts as the later one.
+ * There is one clock, whatever its name. It begins at 0, and grows by the ticks that whoever runs the guest hands in:
+ * one tick is one millisecond. A moment between two ticks counts as the later one.
  */
 #ifndef GUEST_TIME_H
 #define GUEST_TIME_H

@@ -2,9 +2,9 @@
  * stdin, stdout and stderr over the console.
  *
  * The C library's calls on streams know of no locks. So the linker sends each call that moves bytes here first (its
- * option --wrap, see `build`), and the call itself has the name __real_..: a writing call holds the output's lock and is no
- * cancellation point, since it mustn't end in its middle; a reading call holds the input's lock, which a clean-up handler
- * gives up where the thread is cancelled as it waits for input. The other calls of the C library are made of these.
+ * option --wrap, see `build`), and the call itself has the name __real_..: a writing call holds the output's lock, and
+ * is no cancellation point, since it mustn't end in its middle; a reading call holds the input's lock, which a clean-up
+ * handler gives up where the thread is cancelled as it waits for input. The library's other calls are made of these.
  */
 #include "calls.h"
 #include "locks.h"

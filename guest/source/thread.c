@@ -1,9 +1,9 @@
 /*
  * Threads: their memory, their begin and their end.
  *
- * `threads_lock` guards the table of threads, the count and the marks of each record. A joined thread's memory is freed by
+ * One lock guards the table of threads, their count and the marks of each record. A joined thread's memory is freed by
  * who joined it: the thread has ended then. A detached thread frees its own, standing on a spare stack: see
- * thread_end.S. Either may happen in `pthread_detach` too, where the thread has left its memory but wasn't joined.
+ * thread_end.S. One that is detached after it has left its memory has it freed by who detaches it.
  */
 #include "thread.h"
 #include "calls.h"
@@ -53,7 +53,7 @@ int pthread_attr_getstacksize(const pthread_attr_t *attributes, size_t *bytes) {
 /* The alignment is a power of two. */
 static uintptr_t round_down(uintptr_t address, uintptr_t alignment) { return address & -alignment; }
 
-/* The block's parts from its end down: thread-local variables, the record, the stack. NULL where the heap has no room. */
+/* The block's parts, from its end down: thread-local variables, the record, the stack. NULL: the heap has no room. */
 static struct thread *new_thread(size_t stack_bytes) {
     uintptr_t locals_bytes = (uintptr_t)__guest_locals_size, locals_align = (uintptr_t)__guest_locals_align;
     size_t others = sizeof(struct thread) + STACK_ALIGNMENT + locals_bytes + locals_align;
@@ -137,8 +137,8 @@ int pthread_detach(pthread_t id) {
     return error_of(result);
 }
 
-/* Called by a thread that ends, under the lock. Answers the memory that it is to free, if any. The last thread goes on to
-   the routines of atexit, and is still counted: these may make threads, and join them. */
+/* Called by a thread that ends, under the lock. Answers the memory that it is to free, if any. The last thread goes on
+   to the routines of atexit, and is still counted: these may make threads, and join them. */
 void *__guest_thread_leave(struct thread *thread) {
     if (thread_count == 1) {
         pthread_mutex_unlock(&__guest_threads_lock);

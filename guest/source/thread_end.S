@@ -7,9 +7,9 @@
 
 # The clean-up handler that runs last, with the thread's record in x10. The thread unwinds, so no request is acted on.
 #
-# A detached thread frees the memory that it stands on. So it first goes over to the spare stack (and to the first thread's
-# thread-local variables, which are never freed). One thread at a time stands there, the one that holds the lock; and from
-# the unlock on it touches no memory: what is left is done in registers.
+# A detached thread frees the memory that it stands on. So it first goes over to the spare stack (and to the first
+# thread's thread-local variables, which are never freed). One thread at a time stands there, the one that holds the
+# lock; and from the unlock on it touches no memory: what is left is done in registers.
 __guest_thread_end:
     mv      s0, a0
     la      s1, __guest_threads_lock

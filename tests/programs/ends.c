@@ -1,4 +1,4 @@
-/* The ends of threads: by return, by pthread_exit and by cancellation, joined and detached, and the first thread's last. */
+/* The ends of threads: by return, by pthread_exit and by cancellation, joined and detached; and the process's own. */
 #include <pthread.h>
 #include <stdint.h>
 #include <stdio.h>

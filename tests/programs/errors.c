@@ -84,7 +84,8 @@ int main(void) {
     say("destroy", pthread_mutex_destroy(&checked));
     say("barrier for nobody", pthread_barrier_init(&barrier, NULL, 0));
     say("barrier for one", pthread_barrier_init(&barrier, NULL, 1));
-    printf("the wait for one is %s\n", pthread_barrier_wait(&barrier) == PTHREAD_BARRIER_SERIAL_THREAD ? "serial" : "not");
+    int is_serial = pthread_barrier_wait(&barrier) == PTHREAD_BARRIER_SERIAL_THREAD;
+    printf("the wait for one is %s\n", is_serial ? "serial" : "not serial");
     say("no such state", pthread_setcancelstate(99, NULL));
     say("no such type", pthread_setcanceltype(99, NULL));
     return 0;

@@ -1,4 +1,4 @@
-/* What one call prints stands together, and so does what stands between flockfile and funlockfile. In any order of lines. */
+/* What one call prints stands together, and so does what is printed between flockfile and funlockfile. */
 #include <pthread.h>
 #include <stdint.h>
 #include <stdio.h>
