@@ -1,4 +1,5 @@
 pub mod Disk
+pub mod Frame
 pub mod Failing
 pub mod FileCalls
 pub mod FileDisk
