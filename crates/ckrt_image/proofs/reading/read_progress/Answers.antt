@@ -1,8 +1,8 @@
 use Rattle.std.proofs.Common.{◌≡◌, sym, subst, rules, Ok, Err}
 use Rattle.ckrt_image.specs.Recovery.{Agrees, AgreesOnFault, recovery_of}
-use Rattle.ckrt_image.specs.Surveys.{in_use, recovered_of}
+use Rattle.ckrt_image.specs.Progress.{in_use, recovered_of}
 use Rattle.ckrt_image.proofs.ReplayLemmas.{fault_in_use, recovered_from_area}
-use Rattle.ckrt_image.proofs.reading.read_survey.Goals as goal
+use Rattle.ckrt_image.proofs.reading.read_progress.Goals as goal
 
 pub returns-in_err-config-clause-exact : goal.returns-in_err-config-clause-exact
 returns-in_err-config-clause-exact g c = λ honest.
