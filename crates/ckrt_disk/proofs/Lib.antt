@@ -1,3 +1,4 @@
 pub mod Images
 pub mod Moments
+pub mod FrameLemmas
 mod Walks

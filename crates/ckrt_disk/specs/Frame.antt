@@ -4,6 +4,10 @@ use Rattle.std.specs.Prelude.{◌≡◌, ◌⊎◌, ◌↔◌, ◌+◌, ℕ, Boo
 use Rattle.ckrt_disk.specs.Disk.{IsImage, LeavesOnly, IsStopped, HasFailed}
 use Rattle.ckrt_disk.specs.declared.disk.Disk.{Ghosts}
 
+-- the region without an offset
+abbrev pub Nowhere : ℕ → Type 0
+Nowhere i = ⊥
+
 -- new has the bytes of old outside a region, which is given by its offsets
 abbrev pub IsSameOutside : (ℕ → Type 0) → List ℕ → List ℕ → Type 0
 IsSameOutside region old new = IsImage old region new
@@ -55,3 +59,7 @@ pub record WritesWithin {D : Type 0} (d : Ghosts D) (region : ℕ → Type 0) (n
   pub well : failed ≡ false → d.failures new ≡ d.failures old
   -- where it failed the failures grew
   pub fault : failed ≡ true → HasFailed (d.failures old) (d.failures new)
+
+-- where the disk names a stop and has reached it, some call failed
+abbrev pub FailsBehindStop : {D : Type 0} → Ghosts D → D → Bool → Type 0
+FailsBehindStop d disk failed = (s : ℕ) → d.named_stop disk ≡ Some s → IsStopped s (d.calls disk) → failed ≡ true

@@ -1,4 +1,4 @@
--- What stands on a freshly formatted disk, and what its image recovers to.
+-- What stands on a freshly formatted disk, what its image recovers to, and where formatting writes at which moments.
 use Rattle.std.proofs.Common.{◌≡◌, ◌⊎◌, inl, inr, ⊎_elim, ℕ, ◌+◌, ◌-◌, ◌≤◌, ◌<◌, ◌^◌, ◌&&◌, Bool, true, false, cond, nat_eq, nat_lt, nat_le, List, [], ◌∷◌, length, get_or, take, drop, None, Result, Ok, Err, lit<, refl, sym, ◌∙◌, ap, arith}
 use Rattle.std.proofs.lemmas.List.{drop-drop, drop-take, take-take, get_or-take, get_or-drop, append-nil}
 use Rattle.std.proofs.lemmas.Bool.Decides.{nat_tests}
@@ -7,8 +7,11 @@ use Rattle.std.specs.Cmp.Lexicographic.{pointwise}
 use Rattle.byteorder.specs.Endian.{little_number, little_bytes}
 use Rattle.byteorder.specs.Numbers.{little_number-reads_back}
 use Rattle.ckrt_disk.specs.Disk.{IsImage, IsOverwritten, IsWithin, LeavesOnly}
+use Rattle.ckrt_disk.specs.Frame.{Nowhere, WritesWithin}
+use Rattle.ckrt_disk.specs.declared.disk.Disk.{Ghosts}
+use Rattle.ckrt_disk.proofs.FrameLemmas.{wider, writes_on_within, byte_left}
 use Rattle.ckrt_disk.proofs.Moments.{weaker, goes_on}
-use Rattle.ckrt_disk.proofs.Images.{part_same, written_size, written_elsewhere, written_there, written_image}
+use Rattle.ckrt_disk.proofs.Images.{part_same, wider_image, written_size, written_elsewhere, written_there, written_image}
 use Rattle.ckrt_journal.specs.Chain.{batches_of, journal_bytes, found_then, batch_of_length}
 use Rattle.ckrt_journal.proofs.ChainLemmas.{chain_more}
 use Rattle.ckrt_calls.specs.Table as calls
@@ -19,11 +22,11 @@ use Rattle.ckrt_image.specs.declared.area.Area.{Area}
 use Rattle.ckrt_image.specs.declared.fault.RecoverFault.TheVariants.{NotFormatted, Damaged}
 use Rattle.ckrt_image.specs.declared.fault.RecoverFault.{RecoverFault}
 use Rattle.ckrt_image.specs.Layout.{is_valid, is_open, memory_size, size_needed, area_at, tables_at, memory_at, journal_of, number_at, MAGIC, superblock_in, superblock_of, header_in, header_of, fresh_tables, tables_of, memory_of, config_within}
-use Rattle.ckrt_image.specs.Areas.{area_of, picked_area}
+use Rattle.ckrt_image.specs.Areas.{area_of, newest_area}
 use Rattle.ckrt_image.specs.Recovery.{◌>>=◌, recovery_of, area_state, unreplayed, replayed_journal, replayed_batches}
 use Rattle.ckrt_image.specs.Programs.{start_of}
 use Rattle.ckrt_image.specs.Fields.{superblock_fields, header_fields, fresh_header, fresh_memory, HasBytes, HasFreshArea, IsFresh}
-use Rattle.ckrt_image.specs.Format.{IsFormatted, IsFormatting, StaysClosed}
+use Rattle.ckrt_image.specs.Format.{FormatsAt, FormatsBehindGate, IsFormatted, IsFormatting}
 
 -- WRITES
 
@@ -165,7 +168,7 @@ within c size valid room =
 header_is : (block : List ℕ) → is_open block ≡ true → number_at 8 8 block ≡ 1 → number_at 8 16 block ≡ 0 → number_at 8 24 block ≡ 0 → number_at 4 32 block ≡ 170 → number_at 4 36 block ≡ 1 → header_in block ≡ fresh_header
 header_is block opened generation count offset tables version = rw (opened, generation, count, offset, tables, version) refl
 
-picked : (second : Header) → second.is_open ≡ false → picked_area fresh_header second ≡ Ok (record { index = 0; header = fresh_header })
+picked : (second : Header) → second.is_open ≡ false → newest_area fresh_header second ≡ Ok (record { index = 0; header = fresh_header })
 picked second closed = rw closed refl
 
 -- a gate that isn't open ends the chain
@@ -202,7 +205,7 @@ module _ (c : Config) (guest image : List ℕ) (valid : is_valid c ≡ true) (gu
       (number_is 4 32 40 170 block 8 24 (header_fields fresh_header) refl (omega arith) (omega arith) has refl (lit< tt))
       (number_is 4 36 40 1 block 8 28 (header_fields fresh_header) refl (omega arith) (omega arith) has refl (lit< tt)) in
       let other : (header_of c 1 image).is_open ≡ false = ap (λ x. nat_eq x 165) (byte_is image (area_at c 1) 40 0 (omega arith) fresh.other_area) in
-      ap (λ h. picked_area h (header_of c 1 image)) header ∙ picked (header_of c 1 image) other
+      ap (λ h. newest_area h (header_of c 1 image)) header ∙ picked (header_of c 1 image) other
 
   state : area_state c (record { index = 0; header = fresh_header }) image ≡ Ok (start_of (record { config = c; image = guest }))
   state =
@@ -268,21 +271,54 @@ module _ (c : Config) (guest content : List ℕ) (valid : is_valid c ≡ true) (
       byte_first : (new : List ℕ) → HasBytes new 0 (165 ∷ []) → get_or new 0 0 ≡ 165
       byte_first new has = sym (get_or-drop 0 new 0 0) ∙ sym (get_or-take 1 (drop 0 new) 0 0 (omega arith)) ∙ ap (λ (l : List ℕ). get_or l 0 0) has
 
+-- WHERE IT WRITES
+
+module _ {D : Type 0} (d : Ghosts D) (c : Config) where
+  lies_behind : (at n : ℕ) → 1 ≤ at → at + n ≤ (journal_of c 1).at → (i : ℕ) → IsWithin at n i → FormatsBehindGate c i
+  lies_behind at n behind below i w = (omega (arith, w.0), (omega (arith, w.1), λ v. omega (arith, w.1, v.0)))
+
+  -- the first of some writes
+  pub first_part : (at n : ℕ) (old new : D) (failed : Bool) → 1 ≤ at → at + n ≤ (journal_of c 1).at → WritesWithin d (IsWithin at n) 1 old new failed → WritesWithin d (FormatsBehindGate c) 1 old new failed
+  first_part at n old new failed behind below = wider d (IsWithin at n) (FormatsBehindGate c) 1 old new failed (lies_behind at n behind below)
+
+  -- one more
+  pub next_part : (m at n : ℕ) (old mid new : D) (failed : Bool) → 1 ≤ at → at + n ≤ (journal_of c 1).at → WritesWithin d (FormatsBehindGate c) m old mid false → WritesWithin d (IsWithin at n) 1 mid new failed → WritesWithin d (FormatsBehindGate c) (m + 1) old new failed
+  next_part m at n old mid new failed behind below = writes_on_within d (FormatsBehindGate c) (IsWithin at n) m 1 old mid new failed (lies_behind at n behind below)
+
+  -- the look at the first gate, and then the writes behind it
+  pub looked : (old read : D) (failed : Bool) → WritesWithin d Nowhere 1 old read failed → WritesWithin d (FormatsAt c) 1 old read failed
+  looked old read failed = wider d Nowhere (FormatsAt c) 1 old read failed (λ i no. absurd no)
+
+  pub laid : (old read new : D) (failed : Bool) → WritesWithin d Nowhere 1 old read false → WritesWithin d (FormatsBehindGate c) 8 read new failed → WritesWithin d (FormatsAt c) 9 old new failed
+  laid old read new failed first = writes_on_within d (FormatsAt c) (FormatsBehindGate c) 1 8 old read new failed (λ i behind. behind.1) (looked old read false first)
+
+  pub opened_last : (old read new last : D) (failed : Bool) → WritesWithin d Nowhere 1 old read false → WritesWithin d (FormatsBehindGate c) 8 read new false → WritesWithin d (IsWithin 0 1) 2 new last failed → WritesWithin d (FormatsAt c) 11 old last failed
+  opened_last old read new last failed first second = writes_on_within d (FormatsAt c) (IsWithin 0 1) 9 2 old new last failed (λ i w. (omega (arith, w.1), λ v. omega (arith, w.1, v.0))) (laid old read new false first second)
+
 -- MOMENTS
 
-module _ {D : Type 0} (moment : D → ℕ) (left_since : D → ℕ → List ℕ → Type 0) (content : D → List ℕ) (pending : D → ℕ → Type 0) (c : Config) (guest : List ℕ) where
-  -- a stop up to the last write
-  pub in_layout : (old read laid : D) → LeavesOnly moment left_since old read (IsImage (content old) (pending old)) → StaysClosed moment left_since content pending read laid
-      → LeavesOnly moment left_since old laid (IsFormatting c (content old) (pending old) guest)
-  in_layout old read laid first second = goes_on moment left_since old read laid _
-      (weaker moment left_since old read _ (IsFormatting c (content old) (pending old) guest) first (λ image left. inl left))
-      (weaker moment left_since read laid _ (IsFormatting c (content old) (pending old) guest) second.any_moment (λ image closed. inr (inl (closed_recovers image closed))))
+module _ {D : Type 0} (d : Ghosts D) (c : Config) (guest : List ℕ) where
+  -- a stop of the look at the first gate
+  pub in_look : (old read : D) (failed : Bool) → d.is_honest read → WritesWithin d Nowhere 1 old read failed → LeavesOnly d.moment d.left_since old read (IsImage (d.content old) (d.pending old))
+  in_look old read failed honest look = weaker d.moment d.left_since old read _ _ (look.any_moment honest)
+      (λ image left. wider_image _ (d.pending old) (d.content old) image (λ i either. ⊎_elim (λ p. p) (λ no. absurd no) either) left)
+
+  -- up to the last write
+  pub in_layout : (old read laid : D) (failed : Bool) → d.is_honest laid → LeavesOnly d.moment d.left_since old read (IsImage (d.content old) (d.pending old))
+      → is_open (d.content read) ≡ false → ((i : ℕ) → ¬ d.pending read i) → WritesWithin d (FormatsBehindGate c) 8 read laid failed
+      → LeavesOnly d.moment d.left_since old laid (IsFormatting c (d.content old) (d.pending old) guest)
+  in_layout old read laid failed honest first closed durable second = goes_on d.moment d.left_since old read laid _
+      (weaker d.moment d.left_since old read _ (IsFormatting c (d.content old) (d.pending old) guest) first (λ image left. inl left))
+      (weaker d.moment d.left_since read laid _ (IsFormatting c (d.content old) (d.pending old) guest) (byte_left d (FormatsBehindGate c) 8 read laid failed second honest 0 (durable 0) (λ behind. omega (arith, behind.0)))
+      (λ image same. inr (inl (closed_recovers image (ap (λ x. nat_eq x 165) same ∙ closed)))))
 
   -- and in it
-  pub in_last_write : (old read laid new : D) → is_valid c ≡ true → length guest ≤ memory_size c → size_needed c ≤ length (content laid)
-      → LeavesOnly moment left_since old read (IsImage (content old) (pending old)) → StaysClosed moment left_since content pending read laid
-      → IsFresh c (fresh_memory c guest) (content laid) → ((i : ℕ) → ¬ pending laid i)
-      → LeavesOnly moment left_since laid new (IsImage (content laid) (λ i. pending laid i ⊎ IsWithin 0 1 i)) → LeavesOnly moment left_since old new (IsFormatting c (content old) (pending old) guest)
-  in_last_write old read laid new valid guest_fits room first second fresh nothing_pending last = goes_on moment left_since old laid new _ (in_layout old read laid first second)
-      (weaker moment left_since laid new _ (IsFormatting c (content old) (pending old) guest) last (λ image left. inr (last_moment c guest (content laid) valid guest_fits room fresh image
+  pub in_last_write : (old read laid new : D) (failed : Bool) → d.is_honest laid → d.is_honest new → is_valid c ≡ true → length guest ≤ memory_size c → size_needed c ≤ length (d.content laid)
+      → LeavesOnly d.moment d.left_since old read (IsImage (d.content old) (d.pending old))
+      → is_open (d.content read) ≡ false → ((i : ℕ) → ¬ d.pending read i) → WritesWithin d (FormatsBehindGate c) 8 read laid false
+      → IsFresh c (fresh_memory c guest) (d.content laid) → ((i : ℕ) → ¬ d.pending laid i)
+      → WritesWithin d (IsWithin 0 1) 2 laid new failed → LeavesOnly d.moment d.left_since old new (IsFormatting c (d.content old) (d.pending old) guest)
+  in_last_write old read laid new failed honest-1 honest valid guest_fits room first closed durable second fresh nothing_pending last =
+      goes_on d.moment d.left_since old laid new _ (in_layout old read laid false honest-1 first closed durable second)
+      (weaker d.moment d.left_since laid new _ (IsFormatting c (d.content old) (d.pending old) guest) (last.any_moment honest) (λ image left. inr (last_moment c guest (d.content laid) valid guest_fits room fresh image
       (record { size = left.size; same = λ i out. left.same i (λ either. ⊎_elim (nothing_pending i) out either) }))))

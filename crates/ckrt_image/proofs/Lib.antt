@@ -1,4 +1,3 @@
 pub mod ReplayLemmas
-mod ReadsLemmas
 pub mod GrowthLemmas
 mod FormatLemmas

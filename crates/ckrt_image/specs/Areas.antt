@@ -5,11 +5,12 @@ use Rattle.ckrt_image.specs.declared.fault.RecoverFault.{RecoverFault}
 use Rattle.ckrt_image.specs.declared.fault.RecoverFault.TheVariants.{Version, Damaged}
 use Rattle.ckrt_image.specs.declared.header.Header.{Header}
 use Rattle.ckrt_image.specs.declared.area.Area.{Area}
+use Rattle.ckrt_image.specs.declared.picking.TheConstants.{TABLES_LIMIT}
 use Rattle.ckrt_image.specs.Layout.{header_of}
 
 -- the fields are in range: a state of fewer than 2^62 events and bytes of output
 abbrev pub is_in_range : Header → Bool
-is_in_range h = nat_lt h.count (2 ^ 62) && (nat_lt h.offset (2 ^ 62) && nat_le h.tables 98304)
+is_in_range h = nat_lt h.count (2 ^ 62) && (nat_lt h.offset (2 ^ 62) && nat_le h.tables TABLES_LIMIT)
 
 -- the first that applies: generation 0, another version, a field out of range
 abbrev pub checked_area : Area → Result Area RecoverFault
@@ -20,12 +21,12 @@ checked_area area =
     else Err Damaged
 
 -- the open area; of two open ones that of the greater generation
-abbrev pub picked_area : Header → Header → Result Area RecoverFault
-picked_area first second =
+abbrev pub newest_area : Header → Header → Result Area RecoverFault
+newest_area first second =
     if not first.is_open && not second.is_open then Err Damaged
     else if first.is_open && second.is_open && nat_eq first.generation second.generation then Err Damaged
     else if first.is_open && (not second.is_open || nat_lt second.generation first.generation) then checked_area (record { index = 0; header = first })
     else checked_area (record { index = 1; header = second })
 
 abbrev pub area_of : Config → List ℕ → Result Area RecoverFault
-area_of c image = picked_area (header_of c 0 image) (header_of c 1 image)
+area_of c image = newest_area (header_of c 0 image) (header_of c 1 image)

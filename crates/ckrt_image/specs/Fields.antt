@@ -3,6 +3,7 @@ use Rattle.std.specs.Prelude.{◌≡◌, ◌+◌, ◌-◌, ℕ, true, List, [], 
 use Rattle.byteorder.specs.Endian.{little_bytes}
 use Rattle.ckrt_image.specs.declared.config.Config.{Config}
 use Rattle.ckrt_image.specs.declared.header.Header.{Header}
+use Rattle.ckrt_image.specs.declared.layout.TheConstants.{CLOSED, FRESH_TABLES_SIZE, OPEN}
 use Rattle.ckrt_image.specs.Layout.{MAGIC, memory_size, area_at, tables_at, memory_at, journal_of, fresh_tables}
 
 -- bytes 8..32 of a superblock
@@ -15,7 +16,7 @@ header_fields h = little_bytes 8 h.generation ++ little_bytes 8 h.count ++ littl
 
 -- the header of area 0 before the first event
 abbrev pub fresh_header : Header
-fresh_header = record { is_open = true; generation = 1; count = 0; offset = 0; tables = 170; version = 1 }
+fresh_header = record { is_open = true; generation = 1; count = 0; offset = 0; tables = FRESH_TABLES_SIZE; version = 1 }
 
 -- the guest's memory before the first event: the image, and zeros behind it
 abbrev pub fresh_memory : Config → List ℕ → List ℕ
@@ -27,7 +28,7 @@ HasBytes content at bytes = take (length bytes) (drop at content) ≡ bytes
 
 -- area 0 is open, and has this memory and no event
 pub record HasFreshArea (c : Config) (memory content : List ℕ) : Type 0 where
-  pub gate : HasBytes content (area_at c 0) (165 ∷ [])
+  pub gate : HasBytes content (area_at c 0) (OPEN ∷ [])
   pub header : HasBytes content (area_at c 0 + 8) (header_fields fresh_header)
   pub tables : HasBytes content (tables_at c 0) (fresh_tables c)
   pub pages : HasBytes content (memory_at c 0) memory
@@ -35,6 +36,6 @@ pub record HasFreshArea (c : Config) (memory content : List ℕ) : Type 0 where
 -- all that a freshly formatted disk has beside its first gate
 pub record IsFresh (c : Config) (memory content : List ℕ) : Type 0 where
   pub area : HasFreshArea c memory content
-  pub journal : HasBytes content (journal_of c 0).at (0 ∷ [])
-  pub other_area : HasBytes content (area_at c 1) (0 ∷ [])
+  pub journal : HasBytes content (journal_of c 0).at (CLOSED ∷ [])
+  pub other_area : HasBytes content (area_at c 1) (CLOSED ∷ [])
   pub superblock : HasBytes content 8 (superblock_fields c)

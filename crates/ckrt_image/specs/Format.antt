@@ -1,12 +1,12 @@
--- What formatting refuses, and what a stop of it leaves.
-use Rattle.std.specs.Prelude.{◌≡◌, ◌+◌, ◌⊎◌, not, ℕ, Bool, true, false, List, length, nat_lt, if◌then◌else◌, Option, Some, None, Err, Ok}
-use Rattle.ckrt_disk.specs.Disk.{IsImage, LeavesOnly, HasFailed}
+-- What formatting refuses, where it writes, and what a stop of it leaves.
+use Rattle.std.specs.Prelude.{◌≡◌, ◌+◌, ◌≤◌, ◌<◌, ◌⊎◌, not, ℕ, Bool, true, false, List, length, nat_lt, if◌then◌else◌, Option, Some, None, Result, Err, Ok, IfErr}
+use Rattle.ckrt_disk.specs.Disk.{IsImage, IsWithin, LeavesOnly}
 use Rattle.ckrt_disk.specs.declared.disk.Disk.{Ghosts}
 use Rattle.ckrt_image.specs.declared.config.Config.{Config}
 use Rattle.ckrt_image.specs.declared.fault.FormatFault.{FormatFault}
 use Rattle.ckrt_image.specs.declared.fault.FormatFault.TheVariants.{AlreadyFormatted, TooSmall, BadConfig, ImageTooLong, Device, OutOfMemory}
 use Rattle.ckrt_image.specs.declared.fault.RecoverFault.TheVariants.{NotFormatted}
-use Rattle.ckrt_image.specs.Layout.{is_valid, memory_size, size_needed, is_open}
+use Rattle.ckrt_image.specs.Layout.{is_valid, memory_size, size_needed, journal_of, is_open}
 use Rattle.ckrt_image.specs.Recovery.{recovery_of}
 use Rattle.ckrt_image.specs.Programs.{formatted}
 
@@ -35,23 +35,55 @@ IsFormatted c guest image = recovery_of image ≡ Ok (formatted (record { config
 abbrev pub IsFormatting : Config → List ℕ → (ℕ → Type 0) → List ℕ → List ℕ → Type 0
 IsFormatting c content pending guest image = IsImage content pending image ⊎ (recovery_of image ≡ Err NotFormatted) ⊎ IsFormatted c guest image
 
--- the first byte is no open gate, and a stop leaves it so
-pub record HasClosedGate (content : List ℕ) (pending : ℕ → Type 0) : Type 0 where
-  pub gate : is_open content ≡ false
-  pub durable : ¬ pending 0
+-- where formatting writes: neither in journal 1 nor behind the size that the configuration needs
+abbrev pub FormatsAt : Config → ℕ → Type 0
+FormatsAt c i = (i < size_needed c) × ¬ IsWithin (journal_of c 1).at (journal_of c 1).size i
 
--- From old to new the first gate stayed closed: a stop at any moment since old leaves an image whose first gate is closed, or one that
--- it might have left before.
-pub record StaysClosed {D : Type 0} (moment : D → ℕ) (left_since : D → ℕ → List ℕ → Type 0) (content : D → List ℕ) (pending : D → ℕ → Type 0) (old new : D) : Type 0 where
-  pub any_moment : LeavesOnly moment left_since old new (λ image. is_open image ≡ false)
-  pub closed : HasClosedGate (content new) (pending new)
+-- and behind the first gate
+abbrev pub FormatsBehindGate : Config → ℕ → Type 0
+FormatsBehindGate c i = (1 ≤ i) × FormatsAt c i
 
--- From old to new some calls wrote behind the first gate or synced, and no other did: n of them, or fewer where the last one failed.
-pub record IsBehindGate {D : Type 0} (d : Ghosts D) (old new : D) (n : ℕ) (failed : Bool) : Type 0 where
-  pub closed : d.is_honest new → HasClosedGate (d.content old) (d.pending old) → StaysClosed d.moment d.left_since d.content d.pending old new
-  pub honest : d.is_honest new → d.is_honest old
-  pub size : d.size new ≡ d.size old
-  pub named_stop : d.named_stop new ≡ d.named_stop old
-  pub calls : failed ≡ false → d.calls new ≡ d.calls old + n
-  pub well : failed ≡ false → d.failures new ≡ d.failures old
-  pub fault : failed ≡ true → HasFailed (d.failures old) (d.failures new)
+-- the disk failed it
+abbrev pub is_device : {X : Type 0} → Result X FormatFault → Bool
+is_device (Ok x) = false
+is_device (Err AlreadyFormatted) = false
+is_device (Err TooSmall) = false
+is_device (Err BadConfig) = false
+is_device (Err ImageTooLong) = false
+is_device (Err Device) = true
+is_device (Err OutOfMemory) = false
+
+-- how many writes and syncs formatting makes, where the disk fails none of its calls
+abbrev pub calls_of : {X : Type 0} → Result X FormatFault → ℕ
+calls_of (Ok x) = 11
+calls_of (Err AlreadyFormatted) = 1
+calls_of (Err TooSmall) = 0
+calls_of (Err BadConfig) = 0
+calls_of (Err ImageTooLong) = 0
+calls_of (Err Device) = 0
+calls_of (Err OutOfMemory) = 0
+
+-- where there is a refusal the answer is that one, and else none of them
+abbrev pub IsRefusedBy : {X : Type 0} → Option FormatFault → Result X FormatFault → Type 0
+IsRefusedBy (Some fault) result = result ≡ Err fault
+IsRefusedBy None result = IfErr result (λ fault. ¬ IsRefusal fault)
+
+-- the faults that come before the first call of the disk
+abbrev pub ComesBeforeCalls : FormatFault → Type 0
+ComesBeforeCalls fault = IsRefusal fault ⊎ (fault ≡ OutOfMemory)
+
+-- A disk whose first gate is open stays formatted: it was synced at most once, and neither read otherwise nor written.
+pub record StaysFormatted {D : Type 0} (d : Ghosts D) (old new : D) : Type 0 where
+  -- a stop at any moment since old leaves what a stop before might have left
+  pub any_moment : LeavesOnly d.moment d.left_since old new (IsImage (d.content old) (d.pending old))
+  -- the sync is the only call that is counted
+  pub calls : d.calls new ≤ d.calls old + 1
+
+-- A disk was formatted with this configuration and this guest image.
+pub record IsMade {D : Type 0} (d : Ghosts D) (c : Config) (guest : List ℕ) (old new : D) : Type 0 where
+  -- it wasn't before
+  pub was_closed : is_open (d.content old) ≡ false
+  -- all of it is durable
+  pub nothing_pending : (i : ℕ) → ¬ d.pending new i
+  -- whatever a stop leaves of it recovers to the program before its first event
+  pub formatted : (left : List ℕ) → IsImage (d.content new) (d.pending new) left → IsFormatted c guest left

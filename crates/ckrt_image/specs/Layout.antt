@@ -6,6 +6,7 @@ use Rattle.ckrt_image.specs.declared.config.Config.{Config}
 use Rattle.ckrt_image.specs.declared.fault.RecoverFault.{RecoverFault}
 use Rattle.ckrt_image.specs.declared.fault.RecoverFault.TheVariants.{NotFormatted, Version, Damaged}
 use Rattle.ckrt_image.specs.declared.header.Header.{Header}
+use Rattle.ckrt_image.specs.declared.layout.TheConstants.{FRESH_TABLES_SIZE, OPEN}
 
 -- CONFIGURATIONS
 
@@ -43,7 +44,7 @@ memory_at c area = area_at c area + 106496
 
 -- journal 0 or 1, at its first gate
 abbrev pub journal_of : Config → ℕ → Journal
-journal_of c area = record { at = 4096 + 2 * area_size c + area * c.journal; size = c.journal; place = 0 }
+journal_of c area = record { at = 4096 + 2 * area_size c + area * c.journal; size = c.journal; next_gate = 0 }
 
 -- FIELDS
 
@@ -51,9 +52,9 @@ journal_of c area = record { at = 4096 + 2 * area_size c + area * c.journal; siz
 unfoldable pub number_at : (n at : ℕ) → List ℕ → ℕ
 number_at n at bytes = little_number n (take n (drop at bytes))
 
--- a gate is open exactly where it is A5
+-- a gate is open exactly where it is the byte A5
 abbrev pub is_open : List ℕ → Bool
-is_open bytes = nat_eq (slice_index bytes 0) 165
+is_open bytes = nat_eq (slice_index bytes 0) OPEN
 
 -- "CKRTDISK"
 abbrev pub MAGIC : ℕ
@@ -103,9 +104,9 @@ fresh_tables c =
     ++ little_bytes 4 (4096 * c.pages)
     ++ replicate 125 0
 
--- the bytes of an area's tables
+-- the bytes of an area's tables, where they are those of a program that hasn't begun
 abbrev pub tables_of : Config → ℕ → List ℕ → List ℕ
-tables_of c area image = take 170 (drop (tables_at c area) image)
+tables_of c area image = take FRESH_TABLES_SIZE (drop (tables_at c area) image)
 
 -- the guest's memory in an area
 abbrev pub memory_of : Config → ℕ → List ℕ → List ℕ

@@ -1,12 +1,12 @@
 // Formatting a disk. Its first byte is the superblock's gate, which is opened last: until then a stop leaves a disk that
 // isn't formatted.
-ghost use Rattle.std.specs.Prelude.{◌≡◌, ◌≢◌, ◌≤◌, ◌<◌, ◌+◌, ℕ, true, false, List, Some, None, Err, length, IsOk, IsErr, is_err, IfOk, IfErr, OnOk};
-ghost use Rattle.ckrt_disk.specs.Disk.{IsImage, IsOverwritten, LeavesOnly, HasFailed};
-ghost use Rattle.ckrt_image.specs.declared.fault.FormatFault.{FormatFault};
+ghost use Rattle.std.specs.Prelude.{◌≡◌, ◌≤◌, ◌+◌, ℕ, true, List, Some, None, Err, length, is_err, IfOk, IfErr, OnOk};
+ghost use Rattle.ckrt_disk.specs.Disk.{IsOverwritten, IsWithin, LeavesOnly};
+ghost use Rattle.ckrt_disk.specs.Frame.{WritesWithin, Nowhere};
 ghost use Rattle.ckrt_image.specs.declared.fault.FormatFault.TheVariants.{AlreadyFormatted, Device, OutOfMemory};
 ghost use Rattle.ckrt_image.specs.Layout.{is_valid, is_open, memory_size, size_needed};
-ghost use Rattle.ckrt_image.specs.Fields.{HasFreshArea, IsFresh, fresh_memory, fresh_header};
-ghost use Rattle.ckrt_image.specs.Format.{format_refusal, IsRefusal, IsFormatted, IsFormatting, IsBehindGate};
+ghost use Rattle.ckrt_image.specs.Fields.{HasFreshArea, IsFresh, fresh_memory};
+ghost use Rattle.ckrt_image.specs.Format.{format_refusal, calls_of, is_device, ComesBeforeCalls, FormatsAt, FormatsBehindGate, IsFormatting, IsMade, IsRefusedBy, StaysFormatted};
 
 use crate::config::Config;
 use crate::fault::FormatFault;
@@ -73,16 +73,11 @@ fn guest_memory(alloc: Global, config: &Config, image: &[u8]) -> Result<Vec<u8>,
 // Syncs, and looks whether the first gate is open.
 fn is_formatted<D: Disk>(disk: &mut D) -> Result<bool, DeviceFault>
     requires { 1 ≤ D.size disk.old }
+    ensures within { WritesWithin D.Disk Nowhere 1 disk.old disk.new (is_err result) }
     ensures exact { IfOk result (λ found. D.is_honest disk.new → found ≡ is_open (D.content disk.old)) }
     ensures content { OnOk result (D.is_honest disk.new → D.content disk.new ≡ D.content disk.old) }
     ensures nothing_pending { OnOk result (D.is_honest disk.new → (i : ℕ) → ¬ D.pending disk.new i) }
-    ensures any_moment { D.is_honest disk.new → LeavesOnly D.moment D.left_since disk.old disk.new (IsImage (D.content disk.old) (D.pending disk.old)) }
-    ensures honest { D.is_honest disk.new → D.is_honest disk.old }
-    ensures size { D.size disk.new ≡ D.size disk.old }
-    ensures named_stop { D.named_stop disk.new ≡ D.named_stop disk.old }
     ensures calls { D.calls disk.new ≡ D.calls disk.old + 1 }
-    ensures failures { IsOk result → D.failures disk.new ≡ D.failures disk.old }
-    ensures fault { IsErr result → HasFailed (D.failures disk.old) (D.failures disk.new) }
 {
     disk.sync()?;
     let mut gate = [0];
@@ -90,11 +85,10 @@ fn is_formatted<D: Disk>(disk: &mut D) -> Result<bool, DeviceFault>
     Ok(gate[0] == OPEN)
 }
 
-// Writes bytes behind the first gate.
-fn write_behind<D: Disk>(disk: &mut D, at: usize, bytes: &[u8]) -> Result<(), DeviceFault>
+// Writes bytes.
+fn write_part<D: Disk>(disk: &mut D, at: usize, bytes: &[u8]) -> Result<(), DeviceFault>
     requires inside { at + length bytes.now ≤ D.size disk.old }
-    requires behind { 1 ≤ at }
-    ensures behind { IsBehindGate D.Disk disk.old disk.new 1 (is_err result) }
+    ensures within { WritesWithin D.Disk (IsWithin at (length bytes.now)) 1 disk.old disk.new (is_err result) }
     ensures written { OnOk result (D.is_honest disk.new → IsOverwritten (D.content disk.old) at bytes.now (D.content disk.new)) }
 {
     disk.write(at, bytes)
@@ -105,7 +99,7 @@ fn write_area<D: Disk>(disk: &mut D, config: &Config, memory: &[u8]) -> Result<(
     requires valid { is_valid config.now ≡ true }
     requires memory { length memory.now ≡ memory_size config.now }
     requires room { size_needed config.now ≤ D.size disk.old }
-    ensures behind { IsBehindGate D.Disk disk.old disk.new 4 (is_err result) }
+    ensures within { WritesWithin D.Disk (FormatsBehindGate config.now) 4 disk.old disk.new (is_err result) }
     ensures written { OnOk result (D.is_honest disk.new → HasFreshArea config.now memory.now (D.content disk.new)) }
 {
     let header = header_fields(&Header {
@@ -117,23 +111,23 @@ fn write_area<D: Disk>(disk: &mut D, config: &Config, memory: &[u8]) -> Result<(
         version: VERSION,
     });
     let tables = fresh_tables(config);
-    write_behind(disk, config.area_at(0), &[OPEN])?;
-    write_behind(disk, config.area_at(0) + FIELDS_AT, header.as_slice())?;
-    write_behind(disk, config.tables_at(0), tables.as_slice())?;
-    write_behind(disk, config.memory_at(0), memory)
+    write_part(disk, config.area_at(0), &[OPEN])?;
+    write_part(disk, config.area_at(0) + FIELDS_AT, header.as_slice())?;
+    write_part(disk, config.tables_at(0), tables.as_slice())?;
+    write_part(disk, config.memory_at(0), memory)
 }
 
 // No batch in journal 0, area 1 closed, and the superblock's fields.
 fn write_blocks<D: Disk>(disk: &mut D, config: &Config) -> Result<(), DeviceFault>
     requires valid { is_valid config.now ≡ true }
     requires room { size_needed config.now ≤ D.size disk.old }
-    ensures behind { IsBehindGate D.Disk disk.old disk.new 3 (is_err result) }
+    ensures within { WritesWithin D.Disk (FormatsBehindGate config.now) 3 disk.old disk.new (is_err result) }
     ensures written { OnOk result (D.is_honest disk.new → (memory : List ℕ) → length memory ≡ memory_size config.now → HasFreshArea config.now memory (D.content disk.old) → IsFresh config.now memory (D.content disk.new)) }
 {
     let superblock = superblock_fields(config);
-    write_behind(disk, config.journal_of(0).at, &[CLOSED])?;
-    write_behind(disk, config.area_at(1), &[CLOSED])?;
-    write_behind(disk, FIELDS_AT, superblock.as_slice())
+    write_part(disk, config.journal_of(0).at, &[CLOSED])?;
+    write_part(disk, config.area_at(1), &[CLOSED])?;
+    write_part(disk, FIELDS_AT, superblock.as_slice())
 }
 
 // All that a freshly formatted disk has beside its first gate, durably.
@@ -145,7 +139,7 @@ fn write_behind_gate<D: Disk>(
     requires valid { is_valid config.now ≡ true }
     requires memory { length memory.now ≡ memory_size config.now }
     requires room { size_needed config.now ≤ D.size disk.old }
-    ensures behind { IsBehindGate D.Disk disk.old disk.new 8 (is_err result) }
+    ensures within { WritesWithin D.Disk (FormatsBehindGate config.now) 8 disk.old disk.new (is_err result) }
     ensures written { OnOk result (D.is_honest disk.new → IsFresh config.now memory.now (D.content disk.new)) }
     ensures nothing_pending { OnOk result (D.is_honest disk.new → (i : ℕ) → ¬ D.pending disk.new i) }
 {
@@ -159,32 +153,21 @@ fn write_behind_gate<D: Disk>(
 /// bytes than the guest's memory, 4,096·(pages - 1), `TooSmall` where the disk has fewer bytes than the configuration
 /// needs, `OutOfMemory` where there was no memory for a copy of the guest's memory. Then it syncs and reads the first
 /// byte, and answers `AlreadyFormatted` where that is an open gate, without a write. `Device` comes where the disk failed
-/// a call. A stop at any moment leaves what a stop before might have left, a disk that isn't formatted, or one that is.
+/// a call. A stop at any moment leaves what a stop before might have left, a disk that isn't formatted, or one that is; it
+/// touches neither the second journal nor the bytes behind the size that the configuration needs.
 pub fn format<D: Disk>(
     alloc: Global,
     disk: &mut D,
     config: Config,
     image: &[u8],
 ) -> Result<(), FormatFault>
-    ensures refused { (fault : FormatFault) → format_refusal (D.size disk.old) config image.now ≡ Some fault → result ≡ Err fault }
-    ensures refusal { IfErr result (λ fault. IsRefusal fault → format_refusal (D.size disk.old) config image.now ≡ Some fault) }
-    ensures unchanged { IfErr result (λ fault. IsRefusal fault → disk.new ≡ disk.old) }
-    ensures out_of_memory { result ≡ Err OutOfMemory → disk.new ≡ disk.old }
-    ensures already_formatted { result ≡ Err AlreadyFormatted → D.is_honest disk.new → is_open (D.content disk.old) ≡ true }
-    ensures already_content { result ≡ Err AlreadyFormatted → D.is_honest disk.new → D.content disk.new ≡ D.content disk.old }
-    ensures already_calls { result ≡ Err AlreadyFormatted → D.calls disk.new ≡ D.calls disk.old + 1 }
-    ensures open_moments { D.is_honest disk.new → is_open (D.content disk.old) ≡ true → LeavesOnly D.moment D.left_since disk.old disk.new (IsImage (D.content disk.old) (D.pending disk.old)) }
-    ensures open_calls { D.is_honest disk.new → is_open (D.content disk.old) ≡ true → D.calls disk.new ≤ D.calls disk.old + 1 }
-    ensures closed { OnOk result (D.is_honest disk.new → is_open (D.content disk.old) ≡ false) }
     ensures any_moment { D.is_honest disk.new → LeavesOnly D.moment D.left_since disk.old disk.new (IsFormatting config (D.content disk.old) (D.pending disk.old) image.now) }
-    ensures formatted { OnOk result (D.is_honest disk.new → (left : List ℕ) → IsImage (D.content disk.new) (D.pending disk.new) left → IsFormatted config image.now left) }
-    ensures nothing_pending { OnOk result (D.is_honest disk.new → (i : ℕ) → ¬ D.pending disk.new i) }
-    ensures honest { D.is_honest disk.new → D.is_honest disk.old }
-    ensures size { D.size disk.new ≡ D.size disk.old }
-    ensures named_stop { D.named_stop disk.new ≡ D.named_stop disk.old }
-    ensures calls { OnOk result (D.calls disk.new ≡ D.calls disk.old + 11) }
-    ensures failures { result ≢ Err Device → D.failures disk.new ≡ D.failures disk.old }
-    ensures device { result ≡ Err Device → HasFailed (D.failures disk.old) (D.failures disk.new) }
+    ensures within { WritesWithin D.Disk (FormatsAt config) (calls_of result) disk.old disk.new (is_device result) }
+    ensures refused { IsRefusedBy (format_refusal (D.size disk.old) config image.now) result }
+    ensures unchanged { IfErr result (λ fault. ComesBeforeCalls fault → disk.new ≡ disk.old) }
+    ensures already_formatted { result ≡ Err AlreadyFormatted → D.is_honest disk.new → (is_open (D.content disk.old) ≡ true) × (D.content disk.new ≡ D.content disk.old) }
+    ensures stays { D.is_honest disk.new → is_open (D.content disk.old) ≡ true → StaysFormatted D.Disk disk.old disk.new }
+    ensures made { OnOk result (D.is_honest disk.new → IsMade D.Disk config image.now disk.old disk.new) }
 {
     check(disk.size(), &config, image)?;
     let memory = guest_memory(alloc, &config, image)?;

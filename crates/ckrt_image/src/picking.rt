@@ -1,7 +1,7 @@
 // Which of the two areas is in use.
 ghost use Rattle.std.specs.Prelude.{◌≡◌, ◌≢◌, Err, ◌≤◌, ◌<◌, ◌^◌, IfOk};
 ghost use Rattle.ckrt_image.specs.declared.fault.RecoverFault.TheVariants.{Device, OutOfMemory};
-ghost use Rattle.ckrt_image.specs.Areas.{checked_area, picked_area};
+ghost use Rattle.ckrt_image.specs.Areas.{checked_area, newest_area};
 ghost use Rattle.ckrt_image.specs.Recovery.{Agrees};
 ghost use Rattle.ckrt_image.specs.Progress.{IsPicked};
 
@@ -36,8 +36,8 @@ fn checked(area: Area) -> Result<Area, RecoverFault>
 }
 
 /// The open area, and of two open ones that of the greater generation.
-pub(crate) fn pick(first: Header, second: Header) -> Result<Area, RecoverFault>
-    ensures exact { Agrees (λ a. a) (λ e. e) result (picked_area first second) }
+pub(crate) fn newest_area(first: Header, second: Header) -> Result<Area, RecoverFault>
+    ensures exact { Agrees (λ a. a) (λ e. e) result (newest_area first second) }
     ensures no_device { result ≢ Err Device }
     ensures no_memory { result ≢ Err OutOfMemory }
     ensures picked { IfOk result IsPicked }

@@ -2,10 +2,10 @@
 use Rattle.std.proofs.Common.{◌≡◌, ◌+◌, ◌-◌, ◌^◌, ◌⊎◌, ◌↔◌, inl, inr, ⊎_elim, ℕ, Bool, true, false, List, Option, Some, Result, Ok, Err, OnOk, OnErr, is_err, refl, sym, ◌∙◌, ap, subst, arith}
 use Rattle.std.proofs.lemmas.Bool.{cases_lt}
 use Rattle.ckrt_disk.specs.Disk.{IsImage, LeavesOnly, Elapses, CountsFault, HasFailed, IsStopped, StopsAt}
-use Rattle.ckrt_disk.specs.Frame.{IsSameDisk}
+use Rattle.ckrt_disk.specs.Frame.{IsSameDisk, IsOnlyRead}
 use Rattle.ckrt_disk.specs.declared.disk.Disk.{Ghosts}
+use Rattle.ckrt_disk.proofs.FrameLemmas.{same_on}
 use Rattle.ckrt_disk.proofs.Moments.{over_call, goes_on, weaker}
-use Rattle.ckrt_image.specs.Reads.{IsOnlyRead}
 use Rattle.ckrt_recovery.specs.Opening.{IsSettled, IsTorn, IsSyncedAndRead}
 
 -- the failures grew
@@ -51,10 +51,10 @@ module _ {D : Type 0} (d : Ghosts D) where
   -- and then reads
   pub then_read : (old mid new : D) (failed : Bool) → IsSyncedAndRead d old mid false → IsOnlyRead d mid new failed → IsSyncedAndRead d old new failed
   then_read old mid new failed first reads = record {
-    any_moment = λ h. goes_on d.moment d.left_since old mid new _ (first.any_moment (reads.honest h)) (weaker d.moment d.left_since mid new (λ _. ⊥) _ (reads.any_moment h) (λ image no. absurd no));
+    any_moment = λ h. goes_on d.moment d.left_since old mid new _ (first.any_moment (reads.same.honest h)) (weaker d.moment d.left_since mid new (λ _. ⊥) _ (reads.any_moment h) (λ image no. absurd no));
     settled = λ _ h. still h;
     torn = λ h. inl (still h);
-    same = record { honest = λ h. first.same.honest (reads.honest h); size = reads.size ∙ first.same.size; named_stop = reads.named_stop ∙ first.same.named_stop };
+    same = same_on d old mid new first.same reads.same;
     calls = reads.calls ∙ first.calls;
     well = λ e. reads.well e ∙ first.well refl;
     fault = λ e. subst (λ n. HasFailed n (d.failures new)) (first.well refl) (reads.fault e);
@@ -66,5 +66,5 @@ module _ {D : Type 0} (d : Ghosts D) where
     where
       still : d.is_honest new → IsSettled d old new
       still h =
-          let before = first.settled refl (reads.honest h) in
+          let before = first.settled refl (reads.same.honest h) in
           record { content = reads.content h ∙ before.content; durable = λ i p. before.durable i ((reads.pending h i).0 p) }

@@ -1,5 +1,5 @@
 use Rattle.std.proofs.Common.{false}
-use Rattle.ckrt_image.proofs.ReadsLemmas.{read_on}
+use Rattle.ckrt_disk.proofs.FrameLemmas.{read_on}
 use Rattle.ckrt_image.proofs.reading.read_machine.Goals as goal
 
 pub returns-clause-read : goal.returns-clause-read

@@ -2,7 +2,7 @@ use Rattle.std.proofs.Common.{◌≡◌, sym, subst, rules, Ok, Err}
 use Rattle.ckrt_image.specs.Reads.{is_device}
 use Rattle.ckrt_image.specs.Recovery.{Agrees, AgreesOnFault, recovery_of}
 use Rattle.ckrt_image.specs.Progress.{in_use, recovered_of}
-use Rattle.ckrt_image.proofs.ReadsLemmas.{read_on}
+use Rattle.ckrt_disk.proofs.FrameLemmas.{read_on}
 use Rattle.ckrt_image.proofs.ReplayLemmas.{fault_in_use, recovered_from_area}
 use Rattle.ckrt_image.proofs.reading.read_progress.Goals as goal
 
@@ -20,7 +20,7 @@ returns-clause-exact g c = λ honest.
     let config = c.in_ok-config.config in
     let area = c.in_ok-config.area in
     let image = d.content c.args.disk.now in
-    let before : d.is_honest c.read_in_use.new.disk = c.read_replayed.ensures.read.honest honest in
+    let before : d.is_honest c.read_in_use.new.disk = c.read_replayed.ensures.read.same.honest honest in
     let used : in_use image ≡ Ok (config, area) = search rules in
     let same : d.content c.read_in_use.new.disk ≡ image = c.read_in_use.ensures.read.content before in
     subst (λ v. Agrees recovered_of (λ e. e) c.read_replayed.result v) (sym (recovered_from_area image (d.content c.read_in_use.new.disk) config area used same)) (c.read_replayed.ensures.exact honest)

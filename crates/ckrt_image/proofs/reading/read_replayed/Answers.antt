@@ -1,7 +1,7 @@
 use Rattle.std.proofs.Common.{arith}
 use Rattle.std.proofs.lemmas.Grind.{common_steps}
 use Rattle.ckrt_image.specs.Reads.{is_device}
-use Rattle.ckrt_image.proofs.ReadsLemmas.{read_on}
+use Rattle.ckrt_disk.proofs.FrameLemmas.{read_on}
 use Rattle.ckrt_image.proofs.reading.read_replayed.Goals as goal
 
 pub returns-clause-exact : goal.returns-clause-exact
