@@ -306,10 +306,10 @@ module _ {D : Type 0} (d : Ghosts D) (c : Config) (guest : List ℕ) where
   -- up to the last write
   pub in_layout : (old read laid : D) (failed : Bool) → d.is_honest laid → LeavesOnly d.moment d.left_since old read (IsImage (d.content old) (d.pending old))
       → is_open (d.content read) ≡ false → ((i : ℕ) → ¬ d.pending read i) → WritesWithin d (FormatsBehindGate c) 8 read laid failed
-      → LeavesOnly d.moment d.left_since old laid (IsFormatting c (d.content old) (d.pending old) guest)
+      → LeavesOnly d.moment d.left_since old laid (IsFormatting c guest d old)
   in_layout old read laid failed honest first closed durable second = goes_on d.moment d.left_since old read laid _
-      (weaker d.moment d.left_since old read _ (IsFormatting c (d.content old) (d.pending old) guest) first (λ image left. inl left))
-      (weaker d.moment d.left_since read laid _ (IsFormatting c (d.content old) (d.pending old) guest) (byte_left d (FormatsBehindGate c) 8 read laid failed second honest 0 (durable 0) (λ behind. omega (arith, behind.0)))
+      (weaker d.moment d.left_since old read _ (IsFormatting c guest d old) first (λ image left. inl left))
+      (weaker d.moment d.left_since read laid _ (IsFormatting c guest d old) (byte_left d (FormatsBehindGate c) 8 read laid failed second honest 0 (durable 0) (λ behind. omega (arith, behind.0)))
       (λ image same. inr (inl (closed_recovers image (ap (λ x. nat_eq x 165) same ∙ closed)))))
 
   -- and in it
@@ -317,8 +317,8 @@ module _ {D : Type 0} (d : Ghosts D) (c : Config) (guest : List ℕ) where
       → LeavesOnly d.moment d.left_since old read (IsImage (d.content old) (d.pending old))
       → is_open (d.content read) ≡ false → ((i : ℕ) → ¬ d.pending read i) → WritesWithin d (FormatsBehindGate c) 8 read laid false
       → IsFresh c (fresh_memory c guest) (d.content laid) → ((i : ℕ) → ¬ d.pending laid i)
-      → WritesWithin d (IsWithin 0 1) 2 laid new failed → LeavesOnly d.moment d.left_since old new (IsFormatting c (d.content old) (d.pending old) guest)
+      → WritesWithin d (IsWithin 0 1) 2 laid new failed → LeavesOnly d.moment d.left_since old new (IsFormatting c guest d old)
   in_last_write old read laid new failed honest-1 honest valid guest_fits room first closed durable second fresh nothing_pending last =
       goes_on d.moment d.left_since old laid new _ (in_layout old read laid false honest-1 first closed durable second)
-      (weaker d.moment d.left_since laid new _ (IsFormatting c (d.content old) (d.pending old) guest) (last.any_moment honest) (λ image left. inr (last_moment c guest (d.content laid) valid guest_fits room fresh image
+      (weaker d.moment d.left_since laid new _ (IsFormatting c guest d old) (last.any_moment honest) (λ image left. inr (last_moment c guest (d.content laid) valid guest_fits room fresh image
       (record { size = left.size; same = λ i out. left.same i (λ either. ⊎_elim (nothing_pending i) out either) }))))

@@ -1,6 +1,7 @@
 -- What formatting refuses, where it writes, and what a stop of it leaves.
 use Rattle.std.specs.Prelude.{◌≡◌, ◌+◌, ◌≤◌, ◌<◌, ◌⊎◌, not, ℕ, Bool, true, false, List, length, nat_lt, if◌then◌else◌, Option, Some, None, Result, Err, Ok, IfErr}
-use Rattle.ckrt_disk.specs.Disk.{IsImage, IsWithin, LeavesOnly}
+use Rattle.ckrt_disk.specs.Disk.{IsWithin}
+use Rattle.ckrt_disk.specs.Frame.{AtAnyMoment, MayBeLeft}
 use Rattle.ckrt_disk.specs.declared.disk.Disk.{Ghosts}
 use Rattle.ckrt_image.specs.declared.config.Config.{Config}
 use Rattle.ckrt_image.specs.declared.fault.FormatFault.{FormatFault}
@@ -32,8 +33,8 @@ abbrev pub IsFormatted : Config → List ℕ → List ℕ → Type 0
 IsFormatted c guest image = recovery_of image ≡ Ok (formatted (record { config = c; image = guest }))
 
 -- What a stop of formatting may leave: an image that was possible before it, one that isn't formatted, or one that is and has no event.
-abbrev pub IsFormatting : Config → List ℕ → (ℕ → Type 0) → List ℕ → List ℕ → Type 0
-IsFormatting c content pending guest image = IsImage content pending image ⊎ (recovery_of image ≡ Err NotFormatted) ⊎ IsFormatted c guest image
+abbrev pub IsFormatting : {D : Type 0} → Config → List ℕ → Ghosts D → D → List ℕ → Type 0
+IsFormatting c guest d disk image = MayBeLeft d disk image ⊎ (recovery_of image ≡ Err NotFormatted) ⊎ IsFormatted c guest image
 
 -- where formatting writes: neither in journal 1 nor behind the size that the configuration needs
 abbrev pub FormatsAt : Config → ℕ → Type 0
@@ -72,18 +73,25 @@ IsRefusedBy None result = IfErr result (λ fault. ¬ IsRefusal fault)
 abbrev pub ComesBeforeCalls : FormatFault → Type 0
 ComesBeforeCalls fault = IsRefusal fault ⊎ (fault ≡ OutOfMemory)
 
--- A disk whose first gate is open stays formatted: it was synced at most once, and neither read otherwise nor written.
+-- A disk whose first gate is open stays as it is: it is synced at most once, and not written.
 pub record StaysFormatted {D : Type 0} (d : Ghosts D) (old new : D) : Type 0 where
   -- a stop at any moment since old leaves what a stop before might have left
-  pub any_moment : LeavesOnly d.moment d.left_since old new (IsImage (d.content old) (d.pending old))
+  pub any_moment : AtAnyMoment d old new (MayBeLeft d old)
   -- the sync is the only call that is counted
   pub calls : d.calls new ≤ d.calls old + 1
 
+-- The disk had an open first gate already, and reads as before.
+pub record WasFormatted {D : Type 0} (d : Ghosts D) (old new : D) : Type 0 where
+  -- its first gate
+  pub gate : is_open (d.content old) ≡ true
+  -- its bytes
+  pub content : d.content new ≡ d.content old
+
 -- A disk was formatted with this configuration and this guest image.
 pub record IsMade {D : Type 0} (d : Ghosts D) (c : Config) (guest : List ℕ) (old new : D) : Type 0 where
-  -- it wasn't before
+  -- its first gate was closed before
   pub was_closed : is_open (d.content old) ≡ false
-  -- all of it is durable
+  -- what was written is durable
   pub nothing_pending : (i : ℕ) → ¬ d.pending new i
   -- whatever a stop leaves of it recovers to the program before its first event
-  pub formatted : (left : List ℕ) → IsImage (d.content new) (d.pending new) left → IsFormatted c guest left
+  pub formatted : (left : List ℕ) → MayBeLeft d new left → IsFormatted c guest left

@@ -1,12 +1,12 @@
 // Formatting a disk. Its first byte is the superblock's gate, which is opened last: until then a stop leaves a disk that
 // isn't formatted.
-ghost use Rattle.std.specs.Prelude.{◌≡◌, ◌≤◌, ◌+◌, ℕ, true, List, Some, None, Err, length, is_err, IfOk, IfErr, OnOk};
-ghost use Rattle.ckrt_disk.specs.Disk.{IsOverwritten, IsWithin, LeavesOnly};
-ghost use Rattle.ckrt_disk.specs.Frame.{WritesWithin, Nowhere};
+ghost use Rattle.std.specs.Prelude.{◌≡◌, ◌≤◌, ◌+◌, ℕ, true, Some, None, Err, length, is_err, IfOk, IfErr, OnOk};
+ghost use Rattle.ckrt_disk.specs.Disk.{IsOverwritten, IsWithin};
+ghost use Rattle.ckrt_disk.specs.Frame.{AtAnyMoment, Nowhere, WritesWithin};
 ghost use Rattle.ckrt_image.specs.declared.fault.FormatFault.TheVariants.{AlreadyFormatted, Device, OutOfMemory};
 ghost use Rattle.ckrt_image.specs.Layout.{is_valid, is_open, memory_size, size_needed};
-ghost use Rattle.ckrt_image.specs.Fields.{HasFreshArea, IsFresh, fresh_memory};
-ghost use Rattle.ckrt_image.specs.Format.{format_refusal, calls_of, is_device, ComesBeforeCalls, FormatsAt, FormatsBehindGate, IsFormatting, IsMade, IsRefusedBy, StaysFormatted};
+ghost use Rattle.ckrt_image.specs.Fields.{BecomesFresh, HasFreshArea, IsFresh, fresh_memory};
+ghost use Rattle.ckrt_image.specs.Format.{format_refusal, calls_of, is_device, ComesBeforeCalls, FormatsAt, FormatsBehindGate, IsFormatting, IsMade, IsRefusedBy, StaysFormatted, WasFormatted};
 
 use crate::config::Config;
 use crate::fault::FormatFault;
@@ -122,7 +122,7 @@ fn write_blocks<D: Disk>(disk: &mut D, config: &Config) -> Result<(), DeviceFaul
     requires valid { is_valid config.now ≡ true }
     requires room { size_needed config.now ≤ D.size disk.old }
     ensures within { WritesWithin D.Disk (FormatsBehindGate config.now) 3 disk.old disk.new (is_err result) }
-    ensures written { OnOk result (D.is_honest disk.new → (memory : List ℕ) → length memory ≡ memory_size config.now → HasFreshArea config.now memory (D.content disk.old) → IsFresh config.now memory (D.content disk.new)) }
+    ensures written { OnOk result (D.is_honest disk.new → BecomesFresh config.now (D.content disk.old) (D.content disk.new)) }
 {
     let superblock = superblock_fields(config);
     write_part(disk, config.journal_of(0).at, &[CLOSED])?;
@@ -161,11 +161,11 @@ pub fn format<D: Disk>(
     config: Config,
     image: &[u8],
 ) -> Result<(), FormatFault>
-    ensures any_moment { D.is_honest disk.new → LeavesOnly D.moment D.left_since disk.old disk.new (IsFormatting config (D.content disk.old) (D.pending disk.old) image.now) }
+    ensures any_moment { AtAnyMoment D.Disk disk.old disk.new (IsFormatting config image.now D.Disk disk.old) }
     ensures within { WritesWithin D.Disk (FormatsAt config) (calls_of result) disk.old disk.new (is_device result) }
     ensures refused { IsRefusedBy (format_refusal (D.size disk.old) config image.now) result }
     ensures unchanged { IfErr result (λ fault. ComesBeforeCalls fault → disk.new ≡ disk.old) }
-    ensures already_formatted { result ≡ Err AlreadyFormatted → D.is_honest disk.new → (is_open (D.content disk.old) ≡ true) × (D.content disk.new ≡ D.content disk.old) }
+    ensures already_formatted { result ≡ Err AlreadyFormatted → D.is_honest disk.new → WasFormatted D.Disk disk.old disk.new }
     ensures stays { D.is_honest disk.new → is_open (D.content disk.old) ≡ true → StaysFormatted D.Disk disk.old disk.new }
     ensures made { OnOk result (D.is_honest disk.new → IsMade D.Disk config image.now disk.old disk.new) }
 {
