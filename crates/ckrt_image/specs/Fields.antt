@@ -39,3 +39,7 @@ pub record IsFresh (c : Config) (memory content : List ℕ) : Type 0 where
   pub journal : HasBytes content (journal_of c 0).at (CLOSED ∷ [])
   pub other_area : HasBytes content (area_at c 1) (CLOSED ∷ [])
   pub superblock : HasBytes content 8 (superblock_fields c)
+
+-- a disk whose area 0 has some memory and no event has all of it now
+abbrev pub BecomesFresh : Config → List ℕ → List ℕ → Type 0
+BecomesFresh c old new = (memory : List ℕ) → length memory ≡ memory_size c → HasFreshArea c memory old → IsFresh c memory new

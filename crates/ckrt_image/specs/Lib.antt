@@ -1,7 +1,7 @@
 pub mod Layout
 pub mod Areas
 pub mod Recovery
-pub mod Surveys
+pub mod Progress
 pub mod Reads
 pub mod Programs
 pub mod Fields

@@ -69,7 +69,7 @@ impl From<AllocError> for RecoverFault {
 }
 
 impl From<JournalFault> for RecoverFault {
-    ghost use Rattle.ckrt_image.specs.Surveys.{of_journal};
+    ghost use Rattle.ckrt_image.specs.Progress.{of_journal};
 
     ghost from_gives = { λ fault e. e ≡ of_journal fault };
 

@@ -1,11 +1,11 @@
 // Formatting a disk. Its first byte is the superblock's gate, which is opened last: until then a stop leaves a disk that
 // isn't formatted.
-ghost use Rattle.std.specs.Prelude.{◌≡◌, ◌≤◌, ◌+◌, ℕ, true, List, Some, None, Err, length, is_err, IfOk, IfErr, OnOk};
+ghost use Rattle.std.specs.Prelude.{◌≡◌, ◌≤◌, ◌+◌, ℕ, true, Some, None, Err, length, is_err, IfOk, IfErr, OnOk};
 ghost use Rattle.ckrt_disk.specs.Disk.{IsOverwritten, IsWithin};
 ghost use Rattle.ckrt_disk.specs.Frame.{AtAnyMoment, Nowhere, WritesWithin};
 ghost use Rattle.ckrt_image.specs.declared.fault.FormatFault.TheVariants.{AlreadyFormatted, Device, OutOfMemory};
 ghost use Rattle.ckrt_image.specs.Layout.{is_valid, is_open, memory_size, size_needed};
-ghost use Rattle.ckrt_image.specs.Fields.{HasFreshArea, IsFresh, fresh_memory};
+ghost use Rattle.ckrt_image.specs.Fields.{BecomesFresh, HasFreshArea, IsFresh, fresh_memory};
 ghost use Rattle.ckrt_image.specs.Format.{format_refusal, calls_of, is_device, ComesBeforeCalls, FormatsAt, FormatsBehindGate, IsFormatting, IsMade, IsRefusedBy, StaysFormatted, WasFormatted};
 
 use crate::config::Config;
@@ -122,7 +122,7 @@ fn write_blocks<D: Disk>(disk: &mut D, config: &Config) -> Result<(), DeviceFaul
     requires valid { is_valid config.now ≡ true }
     requires room { size_needed config.now ≤ D.size disk.old }
     ensures within { WritesWithin D.Disk (FormatsBehindGate config.now) 3 disk.old disk.new (is_err result) }
-    ensures written { OnOk result (D.is_honest disk.new → (memory : List ℕ) → length memory ≡ memory_size config.now → HasFreshArea config.now memory (D.content disk.old) → IsFresh config.now memory (D.content disk.new)) }
+    ensures written { OnOk result (D.is_honest disk.new → BecomesFresh config.now (D.content disk.old) (D.content disk.new)) }
 {
     let superblock = superblock_fields(config);
     write_part(disk, config.journal_of(0).at, &[CLOSED])?;

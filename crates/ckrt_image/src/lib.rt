@@ -9,13 +9,12 @@ mod formatting;
 mod header;
 mod layout;
 mod picking;
+mod progress;
 mod reading;
 mod replay;
-mod survey;
 
 pub use config::Config;
 pub use fault::{FormatFault, RecoverFault};
 pub use formatting::format;
-pub use reading::read_survey;
-pub use replay::{COUNT_LIMIT, HELD_BYTES, STEP_OUTPUT};
-pub use survey::Survey;
+pub use progress::{COUNT_LIMIT, HELD_BYTES, Progress};
+pub use reading::read_progress;

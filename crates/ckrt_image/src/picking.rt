@@ -3,13 +3,13 @@ ghost use Rattle.std.specs.Prelude.{◌≡◌, ◌≢◌, Err, ◌≤◌, ◌<�
 ghost use Rattle.ckrt_image.specs.declared.fault.RecoverFault.TheVariants.{Device, OutOfMemory};
 ghost use Rattle.ckrt_image.specs.Areas.{checked_area, newest_area};
 ghost use Rattle.ckrt_image.specs.Recovery.{Agrees};
-ghost use Rattle.ckrt_image.specs.Surveys.{IsPicked};
+ghost use Rattle.ckrt_image.specs.Progress.{IsPicked};
 
 use crate::area::Area;
 use crate::fault::RecoverFault;
 use crate::header::Header;
 use crate::layout::VERSION;
-use crate::replay::COUNT_LIMIT;
+use crate::progress::COUNT_LIMIT;
 
 /// The most bytes that tables have.
 const TABLES_LIMIT: u32 = 98_304;

@@ -1,14 +1,13 @@
 -- How a job ends.
-use Rattle.std.specs.Prelude.{ℕ, ◌+◌, length, List, [], ◌∷◌, ◌++◌, codes, decimal, Result, Ok, Err}
+use Rattle.std.specs.Prelude.{ℕ, List, [], ◌∷◌, ◌++◌, codes, decimal, Result, Ok, Err}
 use Rattle.ckrt_jobs.specs.declared.fault.JobFault.{JobFault}
 use Rattle.ckrt_jobs.specs.declared.fault.JobFault.TheVariants as job
 use Rattle.ckrt_jobs.specs.declared.fault.ProgramFault.{ProgramFault}
 use Rattle.ckrt_jobs.specs.declared.fault.ProgramFault.TheVariants as program
 use Rattle.ckrt_image.specs.declared.fault.FormatFault.TheVariants as format
 use Rattle.ckrt_image.specs.declared.fault.RecoverFault.{RecoverFault}
-use Rattle.ckrt_image.specs.Recovery.{AgreesOnFault, Recovered, room_of}
+use Rattle.ckrt_image.specs.Recovery.{AgreesOnFault, Recovered}
 use Rattle.ckrt_image.specs.Layout.{size_needed}
-use Rattle.ckrt_recovery.specs.View.{View}
 use Rattle.ckrt_image.specs.declared.config.Config.{Config}
 use Rattle.ckrt_words.specs.Jobs.{Formatting}
 
@@ -38,19 +37,6 @@ status_of (Err (program.Job fault)) = 1
 abbrev pub IsUsage : ProgramFault → Type 0
 IsUsage (program.Usage text) = Unit {0}
 IsUsage (program.Job fault) = ⊥
-
--- the view of a session that was just recovered: nothing is pending, and all of the held output is released
-abbrev pub view_after_recovery : Recovered → View
-view_after_recovery r = record {
-  state = r.state;
-  count = r.count;
-  pending = 0;
-  room = room_of r.journal;
-  generation = r.generation;
-  held = r.held;
-  confirmed = r.confirmed;
-  released = r.confirmed + length r.held;
-}
 
 -- a fault of recovery is the one that the content has
 abbrev pub AgreesOnJob : JobFault → Result Recovered RecoverFault → Type 0

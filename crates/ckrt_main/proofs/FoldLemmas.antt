@@ -17,14 +17,14 @@ use Rattle.ckrt_recovery.specs.Transcript.{Transcript, written, preceded_by, unl
 
 -- the events of a transcript lead from the session before it to the session after it
 record Leads (v : View) (t : Transcript) : Type 0 where
-  state : t.view.state ≡ (fold t.events v.state).state
-  count : t.view.count ≡ v.count + length t.events
+  state : t.view.recovered.state ≡ (fold t.events v.recovered.state).state
+  count : t.view.recovered.count ≡ v.recovered.count + length t.events
 
 fold_append : (xs ys : List Event) (s : State) → (fold (xs ++ ys) s).state ≡ (fold ys (fold xs s).state).state
 fold_append [] ys s = refl
 fold_append (x ∷ xs) ys s = fold_append xs ys (step x s).state
 
-leads_written : (text : List ℕ) (v w : View) → w.state ≡ v.state → w.count ≡ v.count → Leads v (written text w)
+leads_written : (text : List ℕ) (v w : View) → w.recovered.state ≡ v.recovered.state → w.recovered.count ≡ v.recovered.count → Leads v (written text w)
 leads_written text v w p q = record { state = p; count = omega (arith, q) }
 
 leads_unless : (q : Bool) (v : View) (more : View → Transcript) → Leads v (more v) → Leads v (unless_quit q v more)
@@ -33,7 +33,7 @@ leads_unless false v more h = h
 
 leads_preceded : (v : View) (t u : Transcript) → Leads v t → Leads t.view u → Leads v (preceded_by t.text t.events u)
 leads_preceded v t u p q = record {
-  state = q.state ∙ (ap (λ (s : State). (fold u.events s).state) p.state ∙ sym (fold_append t.events u.events v.state));
+  state = q.state ∙ (ap (λ (s : State). (fold u.events s).state) p.state ∙ sym (fold_append t.events u.events v.recovered.state));
   count = omega (arith, p.count, q.count, length-append t.events u.events);
 }
 
@@ -59,11 +59,11 @@ leads_output : (v : View) → Leads v (output v)
 leads_output v = leads_written (output v).text v (confirmed_to v v.released) refl refl
 
 leads_commit : (v : View) → Leads v (commit v)
-leads_commit v = leads_followed v (written (ack_line v.count) (committed v)) output (leads_written (ack_line v.count) v (committed v) refl refl) (λ w. leads_output w)
+leads_commit v = leads_followed v (written (ack_line v.recovered.count) (committed v)) output (leads_written (ack_line v.recovered.count) v (committed v) refl refl) (λ w. leads_output w)
 
 leads_respond : (command : Result Command LineFault) (v : View) → Leads v (respond command v)
 leads_respond (Ok (Submit e)) v = leads_submit e v
-leads_respond (Ok (Auto h n)) v = leads_planned (planned h v.state.tables) h n v
+leads_respond (Ok (Auto h n)) v = leads_planned (planned h v.recovered.state.tables) h n v
 leads_respond (Ok Commit) v = leads_commit v
 leads_respond (Ok Checkpoint) v = leads_written (no_line (line_fault_text Unknown)) v v refl refl
 leads_respond (Ok Quit) v = record { state = refl; count = omega arith }
@@ -77,8 +77,8 @@ leads_all (line ∷ more) v = leads_followed v (respond (command_of line) v) (re
 leads_transcript : (v : View) (bytes : List ℕ) → Leads v (transcript v bytes)
 leads_transcript v bytes = leads_followed v (output v) (respond_all (lines bytes)) (leads_output v) (λ w. leads_all (lines bytes) w)
 
-pub state_folds : (v : View) (bytes : List ℕ) → (view_after v bytes).state ≡ (fold (accepted_events v bytes) v.state).state
+pub state_folds : (v : View) (bytes : List ℕ) → (view_after v bytes).recovered.state ≡ (fold (accepted_events v bytes) v.recovered.state).state
 state_folds v bytes = (leads_transcript v bytes).state
 
-pub count_grows : (v : View) (bytes : List ℕ) → (view_after v bytes).count ≡ v.count + length (accepted_events v bytes)
+pub count_grows : (v : View) (bytes : List ℕ) → (view_after v bytes).recovered.count ≡ v.recovered.count + length (accepted_events v bytes)
 count_grows v bytes = (leads_transcript v bytes).count

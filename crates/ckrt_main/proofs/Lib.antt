@@ -2,7 +2,7 @@ pub mod OutputLemmas
 pub mod AcceptLemmas
 pub mod ResponseLemmas
 pub mod LineLemmas
-pub mod HearLemmas
+pub mod ProcessLemmas
 pub mod EventLemmas
 pub mod FreshLemmas
 pub mod FoldLemmas

@@ -10,10 +10,8 @@ use Rattle.ckrt_recovery.specs.declared.fault.SubmitFault.TheVariants.{Failed}
 use Rattle.ckrt_recovery.specs.declared.session.Session.{Session}
 use Rattle.ckrt_image.specs.Programs.{Program}
 use Rattle.ckrt_recovery.specs.Represents.{Represents}
-use Rattle.ckrt_recovery.specs.Parts.{Parts, parts_of}
-use Rattle.ckrt_image.specs.Recovery.{room_of}
 use Rattle.ckrt_recovery.specs.Replies.{ok_line, ack_line, no_line, submit_fault_text, out_lines}
-use Rattle.ckrt_recovery.specs.View.{View, view_of, refusal_of, submit_refusal, after_event, committed, confirmed_to, released_output}
+use Rattle.ckrt_recovery.specs.View.{View, view_of, refusal_of, refusal_when_running, after_event, committed, confirmed_to, released_output}
 use Rattle.ckrt_recovery.specs.Transcript.{Transcript, written, preceded_by, unless_quit, followed_by, submitted, submit, unless_refused, output}
 use Rattle.ckrt_main.specs.Service.{IsBeginningOf, Accepts, Follows, Responds, Interrupted}
 use Rattle.ckrt_main.proofs.EventLemmas.{submitted_goes_on, refused_alone, accepted_before}
@@ -29,13 +27,10 @@ on_err (Err e) P p = p
 pub goes_on_with : (t : Transcript) (more : View → Transcript) → t.quit ≡ false → followed_by t more ≡ preceded_by t.text t.events (more t.view)
 goes_on_with t more e = ap (λ (q : Bool). preceded_by t.text t.events (unless_quit q t.view more)) e
 
-unless_failed : (b : Bool) (o x : Option SubmitFault) → b ≡ false → (if b then Some Failed else o) ≡ x → o ≡ x
-unless_failed true o x e h = cc
-unless_failed false o x e h = h
-
-taken_by : (b : Bool) (o : Option SubmitFault) → (if b then Some Failed else o) ≡ None → (b ≡ false) × (o ≡ None)
-taken_by true o h = cc
-taken_by false o h = (refl, h)
+-- a session that takes an event hasn't failed
+runs_by : (b : Bool) (o : Option SubmitFault) → (if b then Some Failed else o) ≡ None → b ≡ false
+runs_by true o h = cc
+runs_by false o h = refl
 
 joined : (t : Transcript) (more : View → Transcript) (a b c : Option (List ℕ)) (xs ys : List Event) (v w : View) → t.quit ≡ false → Follows t a b xs v → Follows (more v) b c ys w → Follows (followed_by t more) a c (xs ++ ys) w
 joined t more a b c xs ys v w quit first second =
@@ -50,9 +45,6 @@ is_none-true : (o : Option SubmitFault) → is_none o ≡ true → o ≡ None
 is_none-true None h = refl
 is_none-true (Some fault) h = cc
 
-abbrev view_by : {D : Type 0} → Parts D → View
-view_by q = record { state = q.machine.state; count = q.count; pending = length q.pending; room = room_of q.journal; generation = q.generation; held = q.held; confirmed = q.confirmed; released = q.released }
-
 module _ {D : Type 0} {g : Ghosts D} where
   -- NOTHING ACCEPTED
 
@@ -60,15 +52,15 @@ module _ {D : Type 0} {g : Ghosts D} where
   responds_still t a b old events view written = record {
     accepted = [];
     part = nothing_begins t.events;
-    accepts = accepts_kept old old refl;
+    accepts = accepts_kept old old refl refl;
     run = λ _. record { all = sym events; view = sym view; written = written };
   }
 
   pub interrupted_with : (t : Transcript) (old new : Session D g) → Accepts [] old new → Interrupted t old new
   interrupted_with t old new accepts = record { accepted = []; part = nothing_begins t.events; accepts = accepts }
 
-  pub interrupted_kept : (t : Transcript) (old new : Session D g) → parts_of new ≡ parts_of old → Interrupted t old new
-  interrupted_kept t old new parts = interrupted_with t old new (accepts_kept old new parts)
+  pub interrupted_kept : (t : Transcript) (old new : Session D g) → view_of new ≡ view_of old → new.disk ≡ old.disk → Interrupted t old new
+  interrupted_kept t old new view disk = interrupted_with t old new (accepts_kept old new view disk)
 
   -- a session that has failed, whatever was written
   pub responds_failed : (t : Transcript) (a b : Option (List ℕ)) (old new : Session D g) → Accepts [] old new → new.failed ≡ true → Responds t a b old new
@@ -85,50 +77,39 @@ module _ {D : Type 0} {g : Ghosts D} where
 
   -- EVENTS
 
-  refused_follows : (e : Event) (fault : SubmitFault) (a b : Option (List ℕ)) (old : Session D g) → submit_refusal old e ≡ Some fault → Appends a b (no_line (submit_fault_text fault)) → old.failed ≡ false → Follows (submit e (view_of old)) a b [] (view_of old)
-  refused_follows e fault a b old refused written well =
-      let is : refusal_of (view_of old) e ≡ Some fault = unless_failed old.failed (refusal_of (view_of old) e) (Some fault) well refused in
-      subst (λ o. Follows (submitted (view_of old) e o) a b [] (view_of old)) (sym is) (record { all = refl; view = refl; written = written })
-
-  pub responds_refused : (e : Event) (fault : SubmitFault) (a b : Option (List ℕ)) (old new : Session D g) → new ≡ old → submit_refusal old e ≡ Some fault → Appends a b (no_line (submit_fault_text fault)) → Responds (submit e (view_of old)) a b old new
-  responds_refused e fault a b old new same refused written = subst (λ (s : Session D g). Responds (submit e (view_of old)) a b old s) (sym same) (record {
+  pub responds_refused : (e : Event) (fault : SubmitFault) (a b : Option (List ℕ)) (old new : Session D g) → new ≡ old → refusal_of (view_of old) e ≡ Some fault → Appends a b (no_line (submit_fault_text fault)) → Responds (submit e (view_of old)) a b old new
+  responds_refused e fault a b old new same refused text = subst (λ (s : Session D g). Responds (submit e (view_of old)) a b old s) (sym same) (record {
     accepted = [];
     part = nothing_begins (submit e (view_of old)).events;
-    accepts = accepts_kept old old refl;
-    run = λ well. refused_follows e fault a b old refused written well;
+    accepts = accepts_kept old old refl refl;
+    run = λ _. subst (λ o. Follows (submitted (view_of old) e o) a b [] (view_of old)) (sym refused) (record { all = refl; view = refl; written = text });
   })
 
-  taken_part : (e : Event) (old : Session D g) → submit_refusal old e ≡ None → IsBeginningOf (e ∷ []) (submit e (view_of old)).events
-  taken_part e old none =
-      let is = taken_by old.failed (refusal_of (view_of old) e) none in
-      subst (λ o. IsBeginningOf (e ∷ []) (submitted (view_of old) e o).events) (sym is.1) ([], refl)
+  taken_part : (e : Event) (old : Session D g) → refusal_of (view_of old) e ≡ None → IsBeginningOf (e ∷ []) (submit e (view_of old)).events
+  taken_part e old none = subst (λ o. IsBeginningOf (e ∷ []) (submitted (view_of old) e o).events) (sym none) ([], refl)
 
-  taken_follows : (e : Event) (a b : Option (List ℕ)) (old new : Session D g) → submit_refusal old e ≡ None → view_of new ≡ after_event (view_of old) e → Appends a b (ok_line (old.count + 1) (machine.step e old.machine.state).answer) → Follows (submit e (view_of old)) a b (e ∷ []) (view_of new)
-  taken_follows e a b old new none view written =
-      let is = taken_by old.failed (refusal_of (view_of old) e) none in
-      subst (λ o. Follows (submitted (view_of old) e o) a b (e ∷ []) (view_of new)) (sym is.1) (record { all = refl; view = view; written = written })
-
-  accepts_taken : (e : Event) (old new : Session D g) → submit_refusal old e ≡ None → new.disk ≡ old.disk → new.failed ≡ old.failed → new.acknowledged ≡ old.acknowledged → new.confirmed ≡ old.confirmed
+  accepts_taken : (e : Event) (old new : Session D g) → refusal_of (view_of old) e ≡ None → view_of new ≡ after_event (view_of old) e → new.disk ≡ old.disk
       → ((p : Program) (events : List Event) → Represents p events old → Represents p (events ++ e ∷ []) new) → Accepts (e ∷ []) old new
-  accepts_taken e old new none disk failed acknowledged confirmed represents =
-      let is = taken_by old.failed (refusal_of (view_of old) e) none in
-      accepts_still (e ∷ []) old new disk failed acknowledged (omega (arith, confirmed)) (λ was. let no : true ≡ false = sym was ∙ is.0 in absurd (cc)) represents
+  accepts_taken e old new none view disk represents =
+      let confirmed : new.progress.confirmed ≡ old.progress.confirmed = ap (λ (v : View). v.recovered.confirmed) view in
+      let runs : old.failed ≡ false = runs_by old.failed (refusal_when_running (view_of old) e) none in
+      accepts_still (e ∷ []) old new disk (ap (λ (v : View). v.failed) view) (ap (λ (v : View). v.acknowledged) view) (omega (arith, confirmed)) (λ was. let no : true ≡ false = sym was ∙ runs in absurd (cc)) represents
 
-  pub responds_taken : (e : Event) (a b : Option (List ℕ)) (old new : Session D g) → submit_refusal old e ≡ None → view_of new ≡ after_event (view_of old) e → new.disk ≡ old.disk → new.failed ≡ old.failed → new.acknowledged ≡ old.acknowledged → new.confirmed ≡ old.confirmed
-      → ((p : Program) (events : List Event) → Represents p events old → Represents p (events ++ e ∷ []) new) → Appends a b (ok_line (old.count + 1) (machine.step e old.machine.state).answer) → Responds (submit e (view_of old)) a b old new
-  responds_taken e a b old new none view disk failed acknowledged confirmed represents written = record {
+  pub responds_taken : (e : Event) (a b : Option (List ℕ)) (old new : Session D g) → refusal_of (view_of old) e ≡ None → view_of new ≡ after_event (view_of old) e → new.disk ≡ old.disk
+      → ((p : Program) (events : List Event) → Represents p events old → Represents p (events ++ e ∷ []) new) → Appends a b (ok_line (old.progress.count + 1) (machine.step e old.progress.machine.state).answer) → Responds (submit e (view_of old)) a b old new
+  responds_taken e a b old new none view disk represents text = record {
     accepted = e ∷ [];
     part = taken_part e old none;
-    accepts = accepts_taken e old new none disk failed acknowledged confirmed represents;
-    run = λ _. taken_follows e a b old new none view written;
+    accepts = accepts_taken e old new none view disk represents;
+    run = λ _. subst (λ o. Follows (submitted (view_of old) e o) a b (e ∷ []) (view_of new)) (sym none) (record { all = refl; view = view; written = text });
   }
 
-  pub interrupted_taken : (e : Event) (old new : Session D g) → submit_refusal old e ≡ None → new.disk ≡ old.disk → new.failed ≡ old.failed → new.acknowledged ≡ old.acknowledged → new.confirmed ≡ old.confirmed
+  pub interrupted_taken : (e : Event) (old new : Session D g) → refusal_of (view_of old) e ≡ None → view_of new ≡ after_event (view_of old) e → new.disk ≡ old.disk
       → ((p : Program) (events : List Event) → Represents p events old → Represents p (events ++ e ∷ []) new) → Interrupted (submit e (view_of old)) old new
-  interrupted_taken e old new none disk failed acknowledged confirmed represents = record {
+  interrupted_taken e old new none view disk represents = record {
     accepted = e ∷ [];
     part = taken_part e old none;
-    accepts = accepts_taken e old new none disk failed acknowledged confirmed represents;
+    accepts = accepts_taken e old new none view disk represents;
   }
 
   -- ONE PIECE AFTER ANOTHER
@@ -166,31 +147,20 @@ module _ {D : Type 0} {g : Ghosts D} where
   }
 
   -- an event, and what follows unless it is refused
-  pub accepted_then : (e : Event) (more : View → Transcript) (a b c : Option (List ℕ)) (s m u : Session D g) → is_none (submit_refusal s e) ≡ true → Responds (submit e (view_of s)) a b s m → Responds (more (view_of m)) b c m u → Responds (unless_refused (view_of s) e (refusal_of (view_of s) e) more) a c s u
+  pub accepted_then : (e : Event) (more : View → Transcript) (a b c : Option (List ℕ)) (s m u : Session D g) → is_none (refusal_of (view_of s) e) ≡ true → Responds (submit e (view_of s)) a b s m → Responds (more (view_of m)) b c m u → Responds (unless_refused (view_of s) e (refusal_of (view_of s) e) more) a c s u
   accepted_then e more a b c s m u accepted first second =
-      let is = taken_by s.failed (refusal_of (view_of s) e) (is_none-true (submit_refusal s e) accepted) in
-      subst (λ (t : Transcript). Responds t a c s u) (sym (accepted_before (view_of s) e (refusal_of (view_of s) e) more is.1))
+      let is = is_none-true (refusal_of (view_of s) e) accepted in
+      subst (λ (t : Transcript). Responds t a c s u) (sym (accepted_before (view_of s) e (refusal_of (view_of s) e) more is))
       (responds_more (submit e (view_of s)) more a b c s m u (submitted_goes_on (view_of s) e (refusal_of (view_of s) e)) first second)
 
-  pub accepted_interrupted : (e : Event) (more : View → Transcript) (a b : Option (List ℕ)) (s m u : Session D g) → is_none (submit_refusal s e) ≡ true → Responds (submit e (view_of s)) a b s m → Interrupted (more (view_of m)) m u → Interrupted (unless_refused (view_of s) e (refusal_of (view_of s) e) more) s u
+  pub accepted_interrupted : (e : Event) (more : View → Transcript) (a b : Option (List ℕ)) (s m u : Session D g) → is_none (refusal_of (view_of s) e) ≡ true → Responds (submit e (view_of s)) a b s m → Interrupted (more (view_of m)) m u → Interrupted (unless_refused (view_of s) e (refusal_of (view_of s) e) more) s u
   accepted_interrupted e more a b s m u accepted first second =
-      let is = taken_by s.failed (refusal_of (view_of s) e) (is_none-true (submit_refusal s e) accepted) in
-      subst (λ (t : Transcript). Interrupted t s u) (sym (accepted_before (view_of s) e (refusal_of (view_of s) e) more is.1))
+      let is = is_none-true (refusal_of (view_of s) e) accepted in
+      subst (λ (t : Transcript). Interrupted t s u) (sym (accepted_before (view_of s) e (refusal_of (view_of s) e) more is))
       (interrupted_more (submit e (view_of s)) more a b s m u (submitted_goes_on (view_of s) e (refusal_of (view_of s) e)) first second)
 
-  refused_at : (x : Bool) (e : Event) (more : View → Transcript) (a b : Option (List ℕ)) (s m : Session D g) → s.failed ≡ x → (if x then Some Failed else refusal_of (view_of s) e) ≡ submit_refusal s e → is_none (submit_refusal s e) ≡ false → Responds (submit e (view_of s)) a b s m → Responds (unless_refused (view_of s) e (refusal_of (view_of s) e) more) a b s m
-  refused_at true e more a b s m is same refused first =
-      let after = first.accepts.after_failure is in record {
-        accepted = first.accepted;
-        part = subst (λ (l : List Event). IsBeginningOf l (unless_refused (view_of s) e (refusal_of (view_of s) e) more).events) (sym after.0) (nothing_begins (unless_refused (view_of s) e (refusal_of (view_of s) e) more).events);
-        accepts = first.accepts;
-        run = λ well. let no : true ≡ false = sym after.1 ∙ well in absurd (cc);
-      }
-  refused_at false e more a b s m is same refused first =
-      subst (λ (t : Transcript). Responds t a b s m) (sym (refused_alone (view_of s) e (refusal_of (view_of s) e) more (ap is_none same ∙ refused))) first
-
-  pub refused_then : (e : Event) (more : View → Transcript) (a b : Option (List ℕ)) (s m : Session D g) → is_none (submit_refusal s e) ≡ false → Responds (submit e (view_of s)) a b s m → Responds (unless_refused (view_of s) e (refusal_of (view_of s) e) more) a b s m
-  refused_then e more a b s m refused first = refused_at s.failed e more a b s m refl refl refused first
+  pub refused_then : (e : Event) (more : View → Transcript) (a b : Option (List ℕ)) (s m : Session D g) → is_none (refusal_of (view_of s) e) ≡ false → Responds (submit e (view_of s)) a b s m → Responds (unless_refused (view_of s) e (refusal_of (view_of s) e) more) a b s m
+  refused_then e more a b s m refused first = subst (λ (t : Transcript). Responds t a b s m) (sym (refused_alone (view_of s) e (refusal_of (view_of s) e) more refused)) first
 
   interrupted_at : (o : Option SubmitFault) (e : Event) (more : View → Transcript) (v : View) (s u : Session D g) → Interrupted (submitted v e o) s u → Interrupted (unless_refused v e o more) s u
   interrupted_at None e more v s u first = interrupted_early (submitted v e None) more s u first
@@ -201,15 +171,16 @@ module _ {D : Type 0} {g : Ghosts D} where
 
   -- A COMMIT
 
-  pub responds_committed : (a b : Option (List ℕ)) (old new : Session D g) → Accepts [] old new → view_of new ≡ committed (view_of old) → Appends a b (ack_line old.count) → Responds (written (ack_line old.count) (committed (view_of old))) a b old new
+  pub responds_committed : (a b : Option (List ℕ)) (old new : Session D g) → Accepts [] old new → view_of new ≡ committed (view_of old) → Appends a b (ack_line old.progress.count) → Responds (written (ack_line old.progress.count) (committed (view_of old))) a b old new
   responds_committed a b old new accepts view written = record { accepted = []; part = nothing_begins []; accepts = accepts; run = λ _. record { all = refl; view = view; written = written } }
 
   -- OUTPUT
 
-  pub responds_output : (a b : Option (List ℕ)) (old mid new : Session D g) → parts_of mid ≡ parts_of old → Accepts [] mid new → view_of new ≡ confirmed_to (view_of mid) old.released → Appends a b (out_lines old.confirmed (released_output (view_of old))) → Responds (output (view_of old)) a b old new
-  responds_output a b old mid new parts accepts view written = record {
+  pub responds_output : (a b : Option (List ℕ)) (old mid new : Session D g) → view_of mid ≡ view_of old → mid.disk ≡ old.disk → Accepts [] mid new → view_of new ≡ confirmed_to (view_of mid) old.released
+      → Appends a b (out_lines old.progress.confirmed (released_output (view_of old))) → Responds (output (view_of old)) a b old new
+  responds_output a b old mid new kept disk accepts view text = record {
     accepted = [];
     part = nothing_begins [];
-    accepts = accepts_more [] [] old mid new (accepts_kept old mid parts) accepts;
-    run = λ _. record { all = refl; view = view ∙ ap (λ (q : Parts D). confirmed_to (view_by q) old.released) parts; written = written };
+    accepts = accepts_more [] [] old mid new (accepts_kept old mid kept disk) accepts;
+    run = λ _. record { all = refl; view = view ∙ ap (λ (v : View). confirmed_to v old.released) kept; written = text };
   }

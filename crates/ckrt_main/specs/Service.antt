@@ -49,9 +49,9 @@ pub record RecoversBetween (p : Program) (acknowledged all : List Event) (limit 
 pub record Accepts {D : Type 0} {g : Ghosts D} (accepted : List Event) (old new : Session D g) : Type 0 where
   pub represents : g.is_honest new.disk → (p : Program) (events : List Event) → Represents p events old → Represents p (events ++ accepted) new
   pub any_moment : g.is_honest new.disk → (p : Program) (events : List Event) → Represents p events old
-      → LeavesOnly g.moment g.left_since old.disk new.disk (RecoversBetween p (acknowledged_of events old) (events ++ accepted) new.confirmed)
+      → LeavesOnly g.moment g.left_since old.disk new.disk (RecoversBetween p (acknowledged_of events old) (events ++ accepted) new.progress.confirmed)
   pub acknowledged : old.acknowledged ≤ new.acknowledged
-  pub confirmed : old.confirmed ≤ new.confirmed
+  pub confirmed : old.progress.confirmed ≤ new.progress.confirmed
   pub after_failure : old.failed ≡ true → (accepted ≡ []) × (new.failed ≡ true) × (new.disk ≡ old.disk)
   pub failed : new.failed ≡ true → (old.failed ≡ true) ⊎ HasFailed (g.failures old.disk) (g.failures new.disk)
   pub well : new.failed ≡ false → (old.failed ≡ false) × (g.failures new.disk ≡ g.failures old.disk)
@@ -61,14 +61,14 @@ pub record Accepts {D : Type 0} {g : Ghosts D} (accepted : List Event) (old new 
 
 -- A whole service, whatever failed: of the events that the lines of what was read get accepted where no device fails, the session took a
 -- beginning, and what a stop since the start left recovers to a list between the acknowledged events and all of them.
-pub record Hears {D : Type 0} {g : Ghosts D} (r s : Option (List ℕ)) (old new : Session D g) : Type 0 where
+pub record Processes {D : Type 0} {g : Ghosts D} (r s : Option (List ℕ)) (old new : Session D g) : Type 0 where
   pub read : List ℕ
   pub consumed : Consumes r s read
   pub accepted : List Event
   pub part : IsBeginningOf accepted (accepted_events (view_of old) read)
   pub accepts : Accepts accepted old new
   pub since_start : g.is_honest new.disk → (p : Program) (events : List Event) → Represents p events old
-      → (image : List ℕ) → g.left_since new.disk (g.moment old.disk) image → RecoversBetween p (acknowledged_of events old) (events ++ accepted) new.confirmed image
+      → (image : List ℕ) → g.left_since new.disk (g.moment old.disk) image → RecoversBetween p (acknowledged_of events old) (events ++ accepted) new.progress.confirmed image
 
 -- PARTS OF A SERVICE
 
@@ -117,20 +117,20 @@ abbrev pub IsPart : List Event → View → (line bytes : List ℕ) → Type 0
 IsPart accepted v line bytes = (more : List ℕ) → IsBeginningOf accepted (respond_all (lines (line ++ (bytes ++ more))) v).events
 
 -- bytes of input, behind a line's first bytes
-pub record Heard {D : Type 0} {g : Ghosts D} (a b : Option (List ℕ)) (line bytes : List ℕ) (old new : Session D g) (rest : List ℕ) (quit : Bool) : Type 0 where
+pub record Processed {D : Type 0} {g : Ghosts D} (a b : Option (List ℕ)) (line bytes : List ℕ) (old new : Session D g) (rest : List ℕ) (quit : Bool) : Type 0 where
   pub accepted : List Event
   pub part : IsPart accepted (view_of old) line bytes
   pub accepts : Accepts accepted old new
   pub run : new.failed ≡ false → Consumed a b (view_of old) line bytes (view_of new) rest quit accepted
 
 -- and where a fault of the writer ended the service
-pub record HeardPart {D : Type 0} {g : Ghosts D} (line bytes : List ℕ) (old new : Session D g) : Type 0 where
+pub record ProcessedPart {D : Type 0} {g : Ghosts D} (line bytes : List ℕ) (old new : Session D g) : Type 0 where
   pub accepted : List Event
   pub part : IsPart accepted (view_of old) line bytes
   pub accepts : Accepts accepted old new
 
 -- all bytes so far
-pub record HeardSoFar {D : Type 0} {g : Ghosts D} (a b r s : Option (List ℕ)) (old new : Session D g) (rest : List ℕ) (quit : Bool) : Type 0 where
+pub record ProcessedSoFar {D : Type 0} {g : Ghosts D} (a b r s : Option (List ℕ)) (old new : Session D g) (rest : List ℕ) (quit : Bool) : Type 0 where
   pub read : List ℕ
   pub consumed : Consumes r s read
   pub accepted : List Event

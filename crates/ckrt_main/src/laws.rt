@@ -7,6 +7,6 @@ ghost use Rattle.ckrt_recovery.specs.Transcript.{accepted_events, view_after};
 /// The accepted events of a transcript are all that happened to the machine: the session goes on from
 /// their plain fold, and has counted each of them once.
 pub fn transcript_folds_events()
-    ensures state { (v : View) (bytes : List ℕ) → (view_after v bytes).state ≡ (fold (accepted_events v bytes) v.state).state }
-    ensures count { (v : View) (bytes : List ℕ) → (view_after v bytes).count ≡ v.count + length (accepted_events v bytes) }
+    ensures state { (v : View) (bytes : List ℕ) → (view_after v bytes).recovered.state ≡ (fold (accepted_events v bytes) v.recovered.state).state }
+    ensures count { (v : View) (bytes : List ℕ) → (view_after v bytes).recovered.count ≡ v.recovered.count + length (accepted_events v bytes) }
 {}

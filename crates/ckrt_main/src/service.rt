@@ -8,12 +8,11 @@ ghost use Rattle.ckrt_events.specs.Line.{command_of, IsInRangeCommand};
 ghost use Rattle.ckrt_events.specs.declared.event.Event.TheVariants.{Place, Run};
 ghost use Rattle.ckrt_events.specs.declared.command.Command.TheVariants.{Auto};
 ghost use Rattle.ckrt_machine.specs.Events as machine;
-ghost use Rattle.ckrt_recovery.specs.Parts.{parts_of};
 ghost use Rattle.ckrt_recovery.specs.Replies.{out_lines, no_line, commit_fault_text};
 ghost use Rattle.ckrt_recovery.specs.Transcript as transcript;
 ghost use Rattle.ckrt_recovery.specs.Transcript.{view_after};
-ghost use Rattle.ckrt_recovery.specs.View.{view_of, submit_refusal};
-ghost use Rattle.ckrt_main.specs.Service.{is_open, Responds, Interrupted, Heard, HeardPart, Hears, Served};
+ghost use Rattle.ckrt_recovery.specs.View.{view_of, refusal_of};
+ghost use Rattle.ckrt_main.specs.Service.{is_open, Responds, Interrupted, Processed, ProcessedPart, Processes, Served};
 
 use crate::fault::ServeFault;
 use crate::replies::{self, OUTPUT_BYTES};
@@ -61,7 +60,7 @@ fn write_output<W: Write, D: Disk>(
     writer: &mut W,
 ) -> Result<(), ServeFault>
     ensures ok { OnOk result (Responds (transcript.output (view_of session.old)) (W.contents writer.old) (W.contents writer.new) session.old session.new) }
-    ensures unchanged { OnErr result (parts_of session.new ≡ parts_of session.old) }
+    ensures unchanged { OnErr result ((view_of session.new ≡ view_of session.old) × (session.new.disk ≡ session.old.disk)) }
     ensures failed { session.new.failed ≡ session.old.failed }
     ensures err { IfErr result (λ e. e ≡ ServeFault.Write) }
 {
@@ -79,11 +78,11 @@ fn submit<W: Write, D: Disk>(
     event: &Event,
 ) -> Result<bool, ServeFault>
     requires { IsInRange event.now }
-    ensures accepted { IfOk result (λ accepted. accepted ≡ is_none (submit_refusal session.old event.now)) }
-    ensures text { OnOk result (Appends (W.contents writer.old) (W.contents writer.new) (transcript.submitted (view_of session.old) event.now (submit_refusal session.old event.now)).text) }
+    ensures accepted { IfOk result (λ accepted. accepted ≡ is_none (refusal_of (view_of session.old) event.now)) }
+    ensures text { OnOk result (Appends (W.contents writer.old) (W.contents writer.new) (transcript.submitted (view_of session.old) event.now (refusal_of (view_of session.old) event.now)).text) }
     ensures ok { OnOk result (Responds (transcript.submit event.now (view_of session.old)) (W.contents writer.old) (W.contents writer.new) session.old session.new) }
     ensures interrupted { OnErr result (Interrupted (transcript.submit event.now (view_of session.old)) session.old session.new) }
-    ensures unconfirmed { session.new.confirmed ≡ session.old.confirmed }
+    ensures unconfirmed { session.new.progress.confirmed ≡ session.old.progress.confirmed }
     ensures err { IfErr result (λ e. e ≡ ServeFault.Write) }
 {
     match session.submit(event) {
@@ -110,7 +109,7 @@ fn place_and_run<W: Write, D: Disk>(
     requires run { IsInRange (Run hart steps) }
     ensures ok { OnOk result (Responds (transcript.run_planned (Some thread) hart steps (view_of session.old)) (W.contents writer.old) (W.contents writer.new) session.old session.new) }
     ensures interrupted { OnErr result (Interrupted (transcript.run_planned (Some thread) hart steps (view_of session.old)) session.old session.new) }
-    ensures unconfirmed { session.new.confirmed ≡ session.old.confirmed }
+    ensures unconfirmed { session.new.progress.confirmed ≡ session.old.progress.confirmed }
     ensures err { IfErr result (λ e. e ≡ ServeFault.Write) }
 {
     if submit(session, writer, &Event::Place(hart, thread))? {
@@ -137,7 +136,7 @@ fn run_planned<W: Write, D: Disk>(
     requires { IsInRange (Run hart steps) }
     ensures ok { OnOk result (Responds (transcript.respond (Ok (Auto hart steps)) (view_of session.old)) (W.contents writer.old) (W.contents writer.new) session.old session.new) }
     ensures interrupted { OnErr result (Interrupted (transcript.respond (Ok (Auto hart steps)) (view_of session.old)) session.old session.new) }
-    ensures unconfirmed { session.new.confirmed ≡ session.old.confirmed }
+    ensures unconfirmed { session.new.progress.confirmed ≡ session.old.progress.confirmed }
     ensures err { IfErr result (λ e. e ≡ ServeFault.Write) }
 {
     match planned(session, hart) {
@@ -155,7 +154,7 @@ fn commit<W: Write, D: Disk>(session: &mut Session<D>, writer: &mut W) -> Result
     ensures refused { OnOk result (session.old.failed ≡ true → Appends (W.contents writer.old) (W.contents writer.new) (no_line (commit_fault_text CommitFault.Failed))) }
     ensures device { OnOk result (session.old.failed ≡ false → session.new.failed ≡ true → Appends (W.contents writer.old) (W.contents writer.new) (no_line (commit_fault_text CommitFault.Device))) }
     ensures interrupted { OnErr result (Interrupted (transcript.commit (view_of session.old)) session.old session.new) }
-    ensures unconfirmed { OnErr result (session.new.confirmed ≡ session.old.confirmed) }
+    ensures unconfirmed { OnErr result (session.new.progress.confirmed ≡ session.old.progress.confirmed) }
     ensures err { IfErr result (λ e. e ≡ ServeFault.Write) }
 {
     match session.commit() {
@@ -181,7 +180,7 @@ fn answer<W: Write, D: Disk>(
     ensures quit { IfOk result (λ quit. quit ≡ (transcript.respond command (view_of session.old)).quit) }
     ensures ok { OnOk result (Responds (transcript.respond command (view_of session.old)) (W.contents writer.old) (W.contents writer.new) session.old session.new) }
     ensures interrupted { OnErr result (Interrupted (transcript.respond command (view_of session.old)) session.old session.new) }
-    ensures unconfirmed { OnErr result (session.new.confirmed ≡ session.old.confirmed) }
+    ensures unconfirmed { OnErr result (session.new.progress.confirmed ≡ session.old.progress.confirmed) }
     ensures err { IfErr result (λ e. e ≡ ServeFault.Write) }
 {
     match command {
@@ -211,7 +210,7 @@ fn respond<W: Write, D: Disk>(
     ensures quit { IfOk result (λ quit. quit ≡ (transcript.respond (command_of line.now) (view_of session.old)).quit) }
     ensures ok { OnOk result (Responds (transcript.respond (command_of line.now) (view_of session.old)) (W.contents writer.old) (W.contents writer.new) session.old session.new) }
     ensures interrupted { OnErr result (Interrupted (transcript.respond (command_of line.now) (view_of session.old)) session.old session.new) }
-    ensures unconfirmed { OnErr result (session.new.confirmed ≡ session.old.confirmed) }
+    ensures unconfirmed { OnErr result (session.new.progress.confirmed ≡ session.old.progress.confirmed) }
     ensures err { IfErr result (λ e. e ≡ ServeFault.Write) }
 {
     answer(session, writer, parse_command(line))
@@ -236,8 +235,8 @@ fn take_byte<W: Write, D: Disk>(
 ) -> Result<bool, ServeFault>
     requires { is_open line.old.items ≡ true }
     ensures open { OnOk result (is_open line.new.items ≡ true) }
-    ensures heard { IfOk result (λ quit. Heard (W.contents writer.old) (W.contents writer.new) line.old.items (byte ∷ []) session.old session.new line.new.items quit) }
-    ensures interrupted { OnErr result (HeardPart line.old.items (byte ∷ []) session.old session.new) }
+    ensures processed { IfOk result (λ quit. Processed (W.contents writer.old) (W.contents writer.new) line.old.items (byte ∷ []) session.old session.new line.new.items quit) }
+    ensures interrupted { OnErr result (ProcessedPart line.old.items (byte ∷ []) session.old session.new) }
     ensures err { IfErr result (λ e. e ≡ ServeFault.Write) }
 {
     if byte == b'\n' {
@@ -261,8 +260,8 @@ fn take_bytes<W: Write, D: Disk>(
 ) -> Result<bool, ServeFault>
     requires { is_open line.old.items ≡ true }
     ensures open { OnOk result (is_open line.new.items ≡ true) }
-    ensures heard { IfOk result (λ quit. Heard (W.contents writer.old) (W.contents writer.new) line.old.items bytes.now session.old session.new line.new.items quit) }
-    ensures interrupted { OnErr result (HeardPart line.old.items bytes.now session.old session.new) }
+    ensures processed { IfOk result (λ quit. Processed (W.contents writer.old) (W.contents writer.new) line.old.items bytes.now session.old session.new line.new.items quit) }
+    ensures interrupted { OnErr result (ProcessedPart line.old.items bytes.now session.old session.new) }
     ensures err { IfErr result (λ e. e ≡ ServeFault.Write) }
 {
     for byte in bytes {
@@ -298,7 +297,7 @@ fn serve_lines<R: Read, W: Write, D: Disk>(
     session: &mut Session<D>,
 ) -> Result<(), ServeFault>
     ensures ok { OnOk result (session.old.failed ≡ false → ¬ HasFailed (D.failures session.old.disk) (D.failures session.new.disk) → (served : Served (W.contents writer.old) (W.contents writer.new) (R.remaining reader.old) (R.remaining reader.new) (view_of session.old)) × (view_of session.new ≡ view_after (view_of session.old) served.read)) }
-    ensures heard { Hears (R.remaining reader.old) (R.remaining reader.new) session.old session.new }
+    ensures processed { Processes (R.remaining reader.old) (R.remaining reader.new) session.old session.new }
     ensures err { IfErr result (λ e. (e ≡ ServeFault.Read) ⊎ (e ≡ ServeFault.Write)) }
 {
     write_output(session, writer)?;
@@ -336,7 +335,7 @@ pub fn serve<R: Read, W: Write, D: Disk>(
     session: &mut Session<D>,
 ) -> Result<(), ServeFault>
     ensures ok { OnOk result (session.old.failed ≡ false → ¬ HasFailed (D.failures session.old.disk) (D.failures session.new.disk) → (served : Served (W.contents writer.old) (W.contents writer.new) (R.remaining reader.old) (R.remaining reader.new) (view_of session.old)) × (view_of session.new ≡ view_after (view_of session.old) served.read)) }
-    ensures heard { Hears (R.remaining reader.old) (R.remaining reader.new) session.old session.new }
+    ensures processed { Processes (R.remaining reader.old) (R.remaining reader.new) session.old session.new }
     ensures failed { session.new.failed ≡ true → (session.old.failed ≡ true) ⊎ HasFailed (D.failures session.old.disk) (D.failures session.new.disk) }
     ensures honest { D.is_honest session.new.disk → D.is_honest session.old.disk }
     ensures size { D.size session.new.disk ≡ D.size session.old.disk }

@@ -1,30 +1,70 @@
--- From what was read of a disk to a session.
-use Rattle.std.proofs.Common.{◌≡◌, ℕ, false, List, Result, Ok, Err, OnOk, is_err, sym, ◌∙◌, ap}
+-- What recovery makes of a disk: a sync, and then reads.
+use Rattle.std.proofs.Common.{◌≡◌, ◌+◌, ◌-◌, ◌^◌, ◌⊎◌, ◌↔◌, inl, inr, ⊎_elim, ℕ, Bool, true, false, List, Option, Some, Result, Ok, Err, OnOk, OnErr, is_err, refl, sym, ◌∙◌, ap, subst, arith}
+use Rattle.std.proofs.lemmas.Bool.{cases_lt}
+use Rattle.ckrt_disk.specs.Disk.{IsImage, LeavesOnly, Elapses, CountsFault, HasFailed, IsStopped, StopsAt}
+use Rattle.ckrt_disk.specs.Frame.{IsSameDisk, IsOnlyRead}
 use Rattle.ckrt_disk.specs.declared.disk.Disk.{Ghosts}
-use Rattle.ckrt_events.specs.declared.event.Event.{Event}
-use Rattle.ckrt_recovery.specs.declared.session.Session.{Session}
-use Rattle.ckrt_image.specs.declared.survey.Survey.{Survey}
-use Rattle.ckrt_image.specs.Surveys.{recovered_of}
-use Rattle.ckrt_recovery.specs.View.{recovered_by}
-use Rattle.ckrt_image.specs.Recovery.{Recovered, recovery_of}
-use Rattle.ckrt_image.specs.Programs.{Program, RecoversTo}
+use Rattle.ckrt_disk.proofs.FrameLemmas.{same_on}
+use Rattle.ckrt_disk.proofs.Moments.{over_call, goes_on, weaker}
+use Rattle.ckrt_recovery.specs.Opening.{IsSettled, IsTorn, IsSyncedAndRead}
 
--- what holds on Ok, where there was no error
-pub where_ok : {T E : Type 0} (r : Result T E) (P : Type 0) → OnOk r P → is_err r ≡ false → P
-where_ok (Ok x) P holds fine = holds
-where_ok (Err e) P holds fine = absurd (cc)
+-- the failures grew
+a_failure : {T E : Type 0} (before now : ℕ) (e : E) (result : Result T E) → result ≡ Err e → CountsFault before now result → HasFailed before now
+a_failure before now e result is count =
+    let now_is = count.err (ap is_err is) in
+    elim (cases_lt before (2 ^ 64 - 1)) [ inl lt ↦ inl (omega arith) | inr le ↦ inr (omega arith) ]
 
--- a session has what was read
-pub recovered_by_survey : {D : Type 0} {g : Ghosts D} (s : Session D g) (v : Survey) → s.config ≡ v.config → s.area ≡ v.area → s.generation ≡ v.generation → s.journal ≡ v.journal → s.machine ≡ v.machine → s.count ≡ v.count → s.held ≡ v.held → s.confirmed ≡ v.confirmed
-    → recovered_by s ≡ recovered_of v
-recovered_by_survey s v config area generation journal machine count held confirmed =
-    let state : s.machine.state ≡ v.machine.state = ap (λ (m : _). m.state) machine in
-    let items : s.held.items ≡ v.held.items = ap (λ (b : _). b.items) held in
-    cc
+module _ {D : Type 0} (d : Ghosts D) where
+  -- the sync
+  pub synced : {T E : Type 0} (old new : D) (result : Result T E)
+      → OnOk result (d.is_honest new → d.content new ≡ d.content old)
+      → OnOk result (d.is_honest new → (i : ℕ) → ¬ d.pending new i)
+      → OnErr result (d.is_honest new → IsImage (d.content old) (d.pending old) (d.content new))
+      → OnErr result (d.is_honest new → (i : ℕ) → (d.pending new i ↔ d.pending old i))
+      → (d.is_honest new → Elapses (d.moment old) (d.moment new) (d.left_since old) (d.left_since new) (IsImage (d.content old) (d.pending old)))
+      → IsSameDisk d old new
+      → CountsFault (d.failures old) (d.failures new) result
+      → d.calls new ≡ d.calls old + 1
+      → StopsAt (d.named_stop old) (d.calls old + 1) result
+      → IsSyncedAndRead d old new (is_err result)
+  synced old new (Ok x) content durable torn pending time same failures calls stop = record {
+    any_moment = λ h. over_call d.moment d.left_since old new _ _ (time h) (λ image left. left);
+    settled = λ _ h. record { content = content h; durable = durable h };
+    torn = λ h. inl (record { content = content h; durable = durable h });
+    same = same;
+    calls = calls;
+    well = λ _. failures.ok refl;
+    fault = λ e. absurd (cc);
+    stop = stop;
+  }
+  synced old new (Err x) content durable torn pending time same failures calls stop = record {
+    any_moment = λ h. over_call d.moment d.left_since old new _ _ (time h) (λ image left. left);
+    settled = λ e. absurd (cc);
+    torn = λ h. inr (record { content = torn h; pending = pending h });
+    same = same;
+    calls = calls;
+    well = λ e. absurd (cc);
+    fault = λ _. a_failure (d.failures old) (d.failures new) x (Err x) refl failures;
+    stop = stop;
+  }
 
--- the output is held from where it is in the image
-pub confirmed_there : {D : Type 0} {g : Ghosts D} (p : Program) (events : List Event) (limit : ℕ) (image : List ℕ) (s : Session D g) (to : RecoversTo p events limit image) → recovery_of image ≡ Ok (recovered_by s) → s.confirmed ≡ to.recovered.confirmed
-confirmed_there p events limit image s to is =
-    let both : Ok to.recovered ≡ Ok (recovered_by s) = sym to.recovers ∙ is in
-    let same : to.recovered ≡ recovered_by s = cc in
-    ap (λ (r : Recovered). r.confirmed) (sym same)
+  -- and then reads
+  pub then_read : (old mid new : D) (failed : Bool) → IsSyncedAndRead d old mid false → IsOnlyRead d mid new failed → IsSyncedAndRead d old new failed
+  then_read old mid new failed first reads = record {
+    any_moment = λ h. goes_on d.moment d.left_since old mid new _ (first.any_moment (reads.same.honest h)) (weaker d.moment d.left_since mid new (λ _. ⊥) _ (reads.any_moment h) (λ image no. absurd no));
+    settled = λ _ h. still h;
+    torn = λ h. inl (still h);
+    same = same_on d old mid new first.same reads.same;
+    calls = reads.calls ∙ first.calls;
+    well = λ e. reads.well e ∙ first.well refl;
+    fault = λ e. subst (λ n. HasFailed n (d.failures new)) (first.well refl) (reads.fault e);
+    stop = λ s named. (
+      λ e. subst (λ n. IsStopped s n) first.calls (reads.never s (first.same.named_stop ∙ named) e),
+      λ is. let no : false ≡ true = (first.stop s named).1 is in absurd (cc),
+    );
+  }
+    where
+      still : d.is_honest new → IsSettled d old new
+      still h =
+          let before = first.settled refl (reads.same.honest h) in
+          record { content = reads.content h ∙ before.content; durable = λ i p. before.durable i ((reads.pending h i).0 p) }

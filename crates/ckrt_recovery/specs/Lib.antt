@@ -1,6 +1,6 @@
 pub mod Represents
 pub mod Opening
 pub mod View
-pub mod Parts
+pub mod Calls
 pub mod Replies
 pub mod Transcript

@@ -42,7 +42,7 @@ followed_by t more = preceded_by t.text t.events (unless_quit t.quit t.view more
 abbrev pub submitted : View → Event → Option SubmitFault → Transcript
 submitted v e (Some fault) = written (no_line (submit_fault_text fault)) v
 submitted v e None = record {
-  text = ok_line (v.count + 1) (machine.step e v.state).answer;
+  text = ok_line (v.recovered.count + 1) (machine.step e v.recovered.state).answer;
   events = e ∷ [];
   view = after_event v e;
   quit = false;
@@ -64,10 +64,10 @@ run_planned (Some t) h n v = unless_refused v (Place h t) (refusal_of v (Place h
 
 -- the committed output that isn't confirmed, written and then confirmed
 abbrev pub output : View → Transcript
-output v = written (out_lines v.confirmed (released_output v)) (confirmed_to v v.released)
+output v = written (out_lines v.recovered.confirmed (released_output v)) (confirmed_to v v.released)
 
 abbrev pub commit : View → Transcript
-commit v = followed_by (written (ack_line v.count) (committed v)) output
+commit v = followed_by (written (ack_line v.recovered.count) (committed v)) output
 
 abbrev pub refused_line : LineFault → View → Transcript
 refused_line fault v = written (no_line (line_fault_text fault)) v
@@ -75,7 +75,7 @@ refused_line fault v = written (no_line (line_fault_text fault)) v
 -- what a line gets
 abbrev pub respond : Result Command LineFault → View → Transcript
 respond (Ok (Submit e)) v = submit e v
-respond (Ok (Auto h n)) v = run_planned (machine.planned h v.state.tables) h n v
+respond (Ok (Auto h n)) v = run_planned (machine.planned h v.recovered.state.tables) h n v
 respond (Ok Commit) v = commit v
 respond (Ok Checkpoint) v = refused_line Unknown v
 respond (Ok Quit) v = record { text = []; events = []; view = v; quit = true }

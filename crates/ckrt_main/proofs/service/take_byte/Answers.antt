@@ -8,12 +8,12 @@ use Rattle.ckrt_recovery.specs.Transcript.{respond}
 use Rattle.ckrt_recovery.specs.View.{view_of}
 use Rattle.ckrt_main.specs.Service.{Responds, Interrupted}
 use Rattle.ckrt_main.proofs.LineLemmas.{is_open-more}
-use Rattle.ckrt_main.proofs.HearLemmas.{heard_newline, heard_newline_part, heard_byte, heard_full}
+use Rattle.ckrt_main.proofs.ProcessLemmas.{processed_newline, processed_newline_part, processed_byte, processed_full}
 use Rattle.ckrt_main.proofs.ResponseLemmas.{on_err}
 use Rattle.ckrt_main.proofs.service.take_byte.Goals as goal
 
-pub returns-then-byte-eq10-clause-heard : goal.returns-then-byte-eq10-clause-heard
-returns-then-byte-eq10-clause-heard g c =
+pub returns-then-byte-eq10-clause-processed : goal.returns-then-byte-eq10-clause-processed
+returns-then-byte-eq10-clause-processed g c =
     let a = g.W.Write.contents c.args.writer.now in
     let b = g.W.Write.contents c.respond.new.writer in
     let old = c.args.session.now in
@@ -22,24 +22,24 @@ returns-then-byte-eq10-clause-heard g c =
     let f = c.in_ok-quit.ensures in
     let quit = f.quit ∙ ap (λ (l : List ℕ). (respond (command_of l) (view_of old)).quit) e in
     let responds = subst (λ (l : List ℕ). Responds (respond (command_of l) (view_of old)) a b old c.respond.new.session) e f.ok in
-    rw (c.if-byte-eq10.true, c.clear.ensures) (heard_newline a b line old c.respond.new.session c.in_ok-quit.quit c.requires quit responds)
+    rw (c.if-byte-eq10.true, c.clear.ensures) (processed_newline a b line old c.respond.new.session c.in_ok-quit.quit c.requires quit responds)
 
 pub returns-in_err-quit-clause-interrupted : goal.returns-in_err-quit-clause-interrupted
 returns-in_err-quit-clause-interrupted g c =
     let old = c.args.session.now in
     let e : c.without_carriage_return.result.now ≡ strip_carriage_return c.args.line.now.items = c.without_carriage_return.ensures ∙ ap strip_carriage_return c.deref.ensures.0 in
     let part = subst (λ (l : List ℕ). Interrupted (respond (command_of l) (view_of old)) old c.respond.new.session) e c.in_err-quit.ensures.interrupted in
-    rw c.if-byte-eq10.true (on_err _ _ (heard_newline_part c.args.line.now.items old c.respond.new.session c.requires part))
+    rw c.if-byte-eq10.true (on_err _ _ (processed_newline_part c.args.line.now.items old c.respond.new.session c.requires part))
 
-pub returns-then-is_full-clause-heard : goal.returns-then-is_full-clause-heard
-returns-then-is_full-clause-heard g c =
+pub returns-then-is_full-clause-processed : goal.returns-then-is_full-clause-processed
+returns-then-is_full-clause-processed g c =
     let no : (c.args.byte == 10) ≡ false = grind (arith, nat_tests) in
-    heard_full (g.W.Write.contents c.args.writer.now) c.args.line.now.items c.args.byte c.args.session.now c.requires (eqb-true (length c.args.line.now.items) 162 (sym c.if-is_full.ensures.value)) no
+    processed_full (g.W.Write.contents c.args.writer.now) c.args.line.now.items c.args.byte c.args.session.now c.requires (eqb-true (length c.args.line.now.items) 162 (sym c.if-is_full.ensures.value)) no
 
 pub returns-clause-open : goal.returns-clause-open
 returns-clause-open g c =
     let no : (c.args.byte == 10) ≡ false = grind (arith, nat_tests) in
     rw c.push.ensures.items (is_open-more c.args.line.now.items c.args.byte c.requires no)
 
-pub returns-clause-heard : goal.returns-clause-heard
-returns-clause-heard g c = rw c.push.ensures.items (heard_byte (g.W.Write.contents c.args.writer.now) c.args.line.now.items c.args.byte c.args.session.now)
+pub returns-clause-processed : goal.returns-clause-processed
+returns-clause-processed g c = rw c.push.ensures.items (processed_byte (g.W.Write.contents c.args.writer.now) c.args.line.now.items c.args.byte c.args.session.now)

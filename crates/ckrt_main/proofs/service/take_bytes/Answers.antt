@@ -2,39 +2,39 @@ use Rattle.std.proofs.Common.{◌<◌, ◌+◌, ℕ, List, ◌∷◌, [], Bool, 
 use Rattle.std.proofs.lemmas.List.{take_more, take-append-drop}
 use Rattle.ckrt_disk.specs.declared.disk.Disk.{Ghosts}
 use Rattle.ckrt_recovery.specs.declared.session.Session.{Session}
-use Rattle.ckrt_main.specs.Service.{Heard, HeardPart}
-use Rattle.ckrt_main.proofs.HearLemmas.{heard_more, heard_quit, heard_nothing, heard_part_more, heard_part_longer}
+use Rattle.ckrt_main.specs.Service.{Processed, ProcessedPart}
+use Rattle.ckrt_main.proofs.ProcessLemmas.{processed_more, processed_quit, processed_nothing, processed_part_more, processed_part_longer}
 use Rattle.ckrt_main.proofs.ResponseLemmas.{on_err}
 use Rattle.ckrt_main.proofs.service.take_bytes.Goals as goal
 
 module _ {D : Type 0} {g : Ghosts D} where
   -- the bytes up to the next
   next : (a b c : Option (List ℕ)) (line bs : List ℕ) (i : ℕ) (rest last : List ℕ) (s m u : Session D g) (quit : Bool) → i < length bs
-      → Heard a b line (take i bs) s m rest false → Heard b c rest (get_or bs i 0 ∷ []) m u last quit → Heard a c line (take (i + 1) bs) s u last quit
-  next a b c line bs i rest last s m u quit lt p q = rw (take_more bs i 0 lt) (heard_more a b c line (take i bs) rest (get_or bs i 0 ∷ []) last s m u quit p q)
+      → Processed a b line (take i bs) s m rest false → Processed b c rest (get_or bs i 0 ∷ []) m u last quit → Processed a c line (take (i + 1) bs) s u last quit
+  next a b c line bs i rest last s m u quit lt p q = rw (take_more bs i 0 lt) (processed_more a b c line (take i bs) rest (get_or bs i 0 ∷ []) last s m u quit p q)
 
   next_part : (a b : Option (List ℕ)) (line bs : List ℕ) (i : ℕ) (rest : List ℕ) (s m u : Session D g) → i < length bs
-      → Heard a b line (take i bs) s m rest false → HeardPart rest (get_or bs i 0 ∷ []) m u → HeardPart line bs s u
+      → Processed a b line (take i bs) s m rest false → ProcessedPart rest (get_or bs i 0 ∷ []) m u → ProcessedPart line bs s u
   next_part a b line bs i rest s m u lt p q =
-      let h : HeardPart line (take (i + 1) bs) s u = rw (take_more bs i 0 lt) (heard_part_more a b line (take i bs) rest (get_or bs i 0 ∷ []) s m u p q) in
-      rw (← take-append-drop (i + 1) bs) (heard_part_longer line (take (i + 1) bs) (drop (i + 1) bs) s u h)
+      let h : ProcessedPart line (take (i + 1) bs) s u = rw (take_more bs i 0 lt) (processed_part_more a b line (take i bs) rest (get_or bs i 0 ∷ []) s m u p q) in
+      rw (← take-append-drop (i + 1) bs) (processed_part_longer line (take (i + 1) bs) (drop (i + 1) bs) s u h)
 
-pub returns-then-branch-clause-heard : goal.returns-then-branch-clause-heard
-returns-then-branch-clause-heard g c =
+pub returns-then-branch-clause-processed : goal.returns-then-branch-clause-processed
+returns-then-branch-clause-processed g c =
     let a = g.W.Write.contents c.args.writer.now in
     let b = g.W.Write.contents c.loop-byte.writer in
     let d = g.W.Write.contents c.take_byte.new.writer in
     let bs = c.args.bytes.now in
     let i = c.loop-byte.byte-index in
     let lt : c.loop-byte.byte-index < length c.args.bytes.now = omega arith in
-    let h = next a b d c.args.line.now.items bs i c.loop-byte.line.items c.take_byte.new.line.items c.args.session.now c.loop-byte.session c.take_byte.new.session c.in_ok-take_byte.field-0 lt c.loop-byte.invariant.heard c.in_ok-take_byte.ensures.heard in
+    let h = next a b d c.args.line.now.items bs i c.loop-byte.line.items c.take_byte.new.line.items c.args.session.now c.loop-byte.session c.take_byte.new.session c.in_ok-take_byte.field-0 lt c.loop-byte.invariant.processed c.in_ok-take_byte.ensures.processed in
     let h2 = rw c.if-branch.true at h in
-    rw (← take-append-drop (i + 1) bs) (heard_quit a d c.args.line.now.items (take (i + 1) bs) c.take_byte.new.line.items (drop (i + 1) bs) c.args.session.now c.take_byte.new.session h2)
+    rw (← take-append-drop (i + 1) bs) (processed_quit a d c.args.line.now.items (take (i + 1) bs) c.take_byte.new.line.items (drop (i + 1) bs) c.args.session.now c.take_byte.new.session h2)
 
 pub returns-in_err-take_byte-clause-interrupted : goal.returns-in_err-take_byte-clause-interrupted
 returns-in_err-take_byte-clause-interrupted g c =
     let lt : c.loop-byte.byte-index < length c.args.bytes.now = omega arith in
-    on_err _ _ (next_part (g.W.Write.contents c.args.writer.now) (g.W.Write.contents c.loop-byte.writer) c.args.line.now.items c.args.bytes.now c.loop-byte.byte-index c.loop-byte.line.items c.args.session.now c.loop-byte.session c.take_byte.new.session lt c.loop-byte.invariant.heard c.in_err-take_byte.ensures.interrupted)
+    on_err _ _ (next_part (g.W.Write.contents c.args.writer.now) (g.W.Write.contents c.loop-byte.writer) c.args.line.now.items c.args.bytes.now c.loop-byte.byte-index c.loop-byte.line.items c.args.session.now c.loop-byte.session c.take_byte.new.session lt c.loop-byte.invariant.processed c.in_err-take_byte.ensures.interrupted)
 
 pub loop-byte-preserved : goal.loop-byte-preserved
 loop-byte-preserved g c =
@@ -44,14 +44,14 @@ loop-byte-preserved g c =
     let bs = c.args.bytes.now in
     let i = c.loop-byte.byte-index in
     let lt : c.loop-byte.byte-index < length c.args.bytes.now = omega arith in
-    let h = next a b d c.args.line.now.items bs i c.loop-byte.line.items c.take_byte.new.line.items c.args.session.now c.loop-byte.session c.take_byte.new.session c.in_ok-take_byte.field-0 lt c.loop-byte.invariant.heard c.in_ok-take_byte.ensures.heard in
+    let h = next a b d c.args.line.now.items bs i c.loop-byte.line.items c.take_byte.new.line.items c.args.session.now c.loop-byte.session c.take_byte.new.session c.in_ok-take_byte.field-0 lt c.loop-byte.invariant.processed c.in_ok-take_byte.ensures.processed in
     record {
       open_line = c.in_ok-take_byte.ensures.open;
-      heard = rw c.if-branch.false at h;
+      processed = rw c.if-branch.false at h;
     }
 
 pub loop-byte-init : goal.loop-byte-init
 loop-byte-init g c = record {
   open_line = c.requires;
-  heard = heard_nothing (g.W.Write.contents c.args.writer.now) c.args.line.now.items c.args.session.now;
+  processed = processed_nothing (g.W.Write.contents c.args.writer.now) c.args.line.now.items c.args.session.now;
 }

@@ -4,7 +4,7 @@ use Rattle.std.proofs.lemmas.List.{nil_from_length}
 use Rattle.ckrt_recovery.specs.Transcript.{respond_all}
 use Rattle.ckrt_recovery.specs.View.{view_of}
 use Rattle.ckrt_main.specs.Service.{Responds}
-use Rattle.ckrt_main.proofs.HearLemmas.{responds_last, interrupted_last}
+use Rattle.ckrt_main.proofs.ProcessLemmas.{responds_last, interrupted_last}
 use Rattle.ckrt_main.proofs.OutputLemmas.{Appends-nothing}
 use Rattle.ckrt_main.proofs.ResponseLemmas.{on_err, responds_still}
 use Rattle.ckrt_main.proofs.service.take_end.Goals as goal

@@ -1,8 +1,7 @@
-use Rattle.std.proofs.Common.{◌≤◌, ◌∙◌, ◌-◌, drop, ap, subst, arith}
+use Rattle.std.proofs.Common.{◌≤◌, ◌∙◌, ap, subst, arith}
 use Rattle.std.specs.Io.KnownBytes.{Appends}
-use Rattle.ckrt_recovery.specs.Parts.{Parts}
 use Rattle.ckrt_recovery.specs.Replies.{out_lines}
-use Rattle.ckrt_recovery.specs.View.{view_of, confirmed_to}
+use Rattle.ckrt_recovery.specs.View.{View, view_of, confirmed_to}
 use Rattle.ckrt_main.proofs.AcceptLemmas.{accepts_confirmed}
 use Rattle.ckrt_main.proofs.ResponseLemmas.{responds_output}
 use Rattle.ckrt_main.proofs.service.write_output.Goals as goal
@@ -14,30 +13,30 @@ returns-clause-ok g c =
     let new = c.confirm.new.self in
     let a = g.W.Write.contents c.args.writer.now in
     let b = g.W.Write.contents c.write_lines.new.writer in
-    let parts = c.take_output.follows.holds-at-none.parts in
-    let same = ap (λ (q : Parts _). q.confirmed) parts in
+    let lent = c.take_output.follows.holds-at-none in
+    let same = ap (λ (v : View). v.recovered.confirmed) lent.view in
     let released = c.released-released.ensures in
-    let le : mid.confirmed ≤ c.released-released.result = omega (arith, same, released, old.released_from) in
-    let text = ap (λ n. out_lines n c.take_output.result.1.now) c.take_output.ensures.offset ∙ ap (out_lines old.confirmed) c.take_output.ensures.bytes in
-    responds_output a b old mid new parts
-    (accepts_confirmed mid new (drop (c.released-released.result - mid.confirmed) mid.held.items) c.released-released.result le c.confirm.ensures.parts c.confirm.ensures.represents)
+    let le : mid.progress.confirmed ≤ c.released-released.result = omega (arith, same, released, old.released_from) in
+    let text = ap (λ n. out_lines n c.take_output.result.1.now) c.take_output.ensures.offset ∙ ap (out_lines old.progress.confirmed) c.take_output.ensures.bytes in
+    responds_output a b old mid new lent.view lent.disk
+    (accepts_confirmed mid new c.released-released.result le c.confirm.ensures.view c.confirm.ensures.disk c.confirm.ensures.represents)
     (c.confirm.ensures.view ∙ ap (λ n. confirmed_to (view_of mid) n) released)
     (subst (Appends a b) text c.in_ok-write_lines.ensures.ok)
 
 pub returns-clause-failed : goal.returns-clause-failed
-returns-clause-failed g c = ap (λ (q : Parts _). q.failed) c.confirm.ensures.parts ∙ ap (λ (q : Parts _). q.failed) c.take_output.follows.holds-at-none.parts
+returns-clause-failed g c = ap (λ (v : View). v.failed) c.confirm.ensures.view ∙ ap (λ (v : View). v.failed) c.take_output.follows.holds-at-none.view
 
 pub write_lines-requires : goal.write_lines-requires
 write_lines-requires g c =
     let s = c.args.session.now in
-    omega (arith, s.released_from, s.released_to, s.output_end, c.take_output.ensures.offset, c.take_output.ensures.length)
+    omega (arith, s.released_from, s.released_to, s.progress.bounded_end, c.take_output.ensures.offset, c.take_output.ensures.length)
 
 pub confirm-requires-clause-from : goal.confirm-requires-clause-from
 confirm-requires-clause-from g c =
-    let same = ap (λ (q : Parts _). q.confirmed) c.take_output.follows.holds-at-none.parts in
+    let same = ap (λ (v : View). v.recovered.confirmed) c.take_output.follows.holds-at-none.view in
     omega (arith, same, c.released-released.ensures, c.args.session.now.released_from)
 
 pub confirm-requires-clause-to : goal.confirm-requires-clause-to
 confirm-requires-clause-to g c =
-    let same = ap (λ (q : Parts _). q.released) c.take_output.follows.holds-at-none.parts in
+    let same = ap (λ (v : View). v.released) c.take_output.follows.holds-at-none.view in
     omega (arith, same, c.released-released.ensures)

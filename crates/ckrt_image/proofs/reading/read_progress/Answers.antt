@@ -1,8 +1,10 @@
 use Rattle.std.proofs.Common.{◌≡◌, sym, subst, rules, Ok, Err}
+use Rattle.ckrt_image.specs.Reads.{is_device}
 use Rattle.ckrt_image.specs.Recovery.{Agrees, AgreesOnFault, recovery_of}
-use Rattle.ckrt_image.specs.Surveys.{in_use, recovered_of}
+use Rattle.ckrt_image.specs.Progress.{in_use, recovered_of}
+use Rattle.ckrt_disk.proofs.FrameLemmas.{read_on}
 use Rattle.ckrt_image.proofs.ReplayLemmas.{fault_in_use, recovered_from_area}
-use Rattle.ckrt_image.proofs.reading.read_survey.Goals as goal
+use Rattle.ckrt_image.proofs.reading.read_progress.Goals as goal
 
 pub returns-in_err-config-clause-exact : goal.returns-in_err-config-clause-exact
 returns-in_err-config-clause-exact g c = λ honest.
@@ -22,3 +24,6 @@ returns-clause-exact g c = λ honest.
     let used : in_use image ≡ Ok (config, area) = search rules in
     let same : d.content c.read_in_use.new.disk ≡ image = c.read_in_use.ensures.read.content before in
     subst (λ v. Agrees recovered_of (λ e. e) c.read_replayed.result v) (sym (recovered_from_area image (d.content c.read_in_use.new.disk) config area used same)) (c.read_replayed.ensures.exact honest)
+
+pub returns-clause-read : goal.returns-clause-read
+returns-clause-read g c = read_on g.D.Disk c.args.disk.now c.read_in_use.new.disk c.read_replayed.new.disk (is_device c.read_replayed.result) c.in_ok-config.ensures.read c.read_replayed.ensures.read
