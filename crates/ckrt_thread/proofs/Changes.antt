@@ -19,7 +19,8 @@ use Rattle.ckrt_thread.specs.Cancellation.{is_unwinding, is_consistent, is_align
 use Rattle.ckrt_thread.specs.Rows.{detached}
 use Rattle.ckrt_thread.specs.Unwinding.{with_cancellation_of, pushed}
 use Rattle.ckrt_thread.specs.Waits.{is_of, is_for, is_reason_for, without, is_deadline_of, has_proper_deadline, joins_another, is_to_unwind, is_unwind_of}
-use Rattle.ckrt_thread.specs.State.{State, IsWellFormed, thread_of, is_live, is_live_thread, is_initial, is_joinable, is_waiting, is_ready, holds, off, count_of, places, joiners, unwind_waits, is_aligned, is_proper_live, is_proper_slot, fresh, first_of_program, with_word, with_regs, change_live, change_thread, with_slot, off_hart, placed_on, may_join, may_wait, blocked}
+use Rattle.ckrt_thread.specs.State.{State, IsWellFormed, thread_of, is_live, is_live_thread, is_initial, is_joinable, is_waiting, is_ready, holds, off, count_of, places, joiners, unwind_waits, is_aligned, is_proper_live, is_proper_slot, with_word, with_regs, change_live, change_thread, with_slot, off_hart, placed_on, may_join, may_wait, blocked}
+use Rattle.ckrt_thread.specs.Contents.{empty}
 use Rattle.ckrt_thread.proofs.Counting.{count_of-append, count_of_none}
 use Rattle.ckrt_thread.proofs.WaitLemmas.{count_of-without, list_all-without, unwind_of, no_unwind}
 use Rattle.ckrt_thread.proofs.SlotLemmas.{changed_at, kept_at, slot_at, empty_slot, live_change}
@@ -198,15 +199,20 @@ pub record MayStand (s : State) (t : ℕ) (y : Option Thread) : Type 0 where
   pub placed : places s t ≤ (if is_live_thread y then 1 else 0)
   pub joined : joiners s t ≤ (if is_joinable y then 1 else 0)
   pub unwinding : unwind_waits s t ≤ (if is_unwinding y then 1 else 0)
-  pub initial : is_initial y ≡ true → is_initial (thread_of s t) ≡ true
+  pub initial : (q : ℕ) → is_initial y ≡ true → is_initial (thread_of s q) ≡ true → t ≡ q
   pub proper : is_proper_slot y ≡ true
+
+-- at most one thread is the initial one, where that is so of the others and of what is written
+sole : (s : State) (t : ℕ) (y : Option Thread) → IsWellFormed s → MayStand s t y → (p q : ℕ) → is_initial (cond (eqb t p) y (thread_of s p)) ≡ true → is_initial (cond (eqb t q) y (thread_of s q)) ≡ true → p ≡ q
+sole s t y h m p q =
+    written (λ o i. is_initial o ≡ true → is_initial (cond (eqb t q) y (thread_of s q)) ≡ true → i ≡ q) t p y (thread_of s p)
+    (λ e. written (λ o j. is_initial y ≡ true → is_initial o ≡ true → p ≡ j) t q y (thread_of s q) (λ f _ _. sym e ∙ f) (λ b c. sym e ∙ m.initial q b c))
+    (written (λ o j. is_initial (thread_of s p) ≡ true → is_initial o ≡ true → p ≡ j) t q y (thread_of s q) (λ f b c. sym (m.initial p c b) ∙ f) (λ b c. h.one_initial p q b c))
 
 pub well_formed_slot : (s : State) (t : ℕ) (y : Option Thread) → IsWellFormed s → 0 < t → t ≤ 64 → MayStand s t y → IsWellFormed (with_slot t y s)
 well_formed_slot s t y h n l m =
     let w : t < length s.threads = (let z = h.size in omega arith) in
     let at : (q : ℕ) → thread_of (with_slot t y s) q ≡ cond (eqb t q) y (thread_of s q) = λ q. slot_at s.threads t q y w in
-    let initial : (q : ℕ) → is_initial (thread_of (with_slot t y s) q) ≡ true → is_initial (thread_of s q) ≡ true =
-    λ q. rw (at q) (written (λ o p. is_initial o ≡ true → is_initial (thread_of s p) ≡ true) t q y (thread_of s q) (λ e. subst (λ p. is_initial y ≡ true → is_initial (thread_of s p) ≡ true) e m.initial) (λ x. x)) in
     record {
       size = length-set s.threads t y ∙ h.size;
       zero = at 0 ∙ written (λ o p. o ≡ None) t 0 y (thread_of s 0) (λ e. absurd (omega arith)) h.zero;
@@ -214,7 +220,7 @@ well_formed_slot s t y h n l m =
       hart_count = h.hart_count;
       idle = h.idle;
       proper = λ q. rw (at q) (written (λ o p. is_proper_slot o ≡ true) t q y (thread_of s q) (λ e. m.proper) (h.proper q));
-      one_initial = λ p q b c. h.one_initial p q (initial p b) (initial q c);
+      one_initial = λ p q b c. sole s t y h m p q (rw (at p) at b) (rw (at q) at c);
       placed = λ q. rw (at q) (written (λ o p. places s p ≤ (if is_live_thread o then 1 else 0)) t q y (thread_of s q) (λ e. subst (λ p. places s p ≤ (if is_live_thread y then 1 else 0)) e m.placed) (h.placed q));
       joined_target = λ q. rw (at q) (written (λ o p. joiners s p ≤ (if is_joinable o then 1 else 0)) t q y (thread_of s q) (λ e. subst (λ p. joiners s p ≤ (if is_joinable y then 1 else 0)) e m.joined) (h.joined_target q));
       joined_by_another = h.joined_by_another;
@@ -230,7 +236,7 @@ no_unwind_waits : (s : State) (t : ℕ) → places s t ≡ 0 → unwind_waits s 
 no_unwind_waits s t e = (let l = unwind_of t s.waits in omega (arith, l, e))
 
 -- anything proper may stand for an id at which nobody waits or is on a hart, and which nobody joins
-pub may_stand_free : (s : State) (t : ℕ) (y : Option Thread) → places s t ≡ 0 → joiners s t ≡ 0 → (is_initial y ≡ true → is_initial (thread_of s t) ≡ true) → is_proper_slot y ≡ true → MayStand s t y
+pub may_stand_free : (s : State) (t : ℕ) (y : Option Thread) → places s t ≡ 0 → joiners s t ≡ 0 → ((q : ℕ) → is_initial y ≡ true → is_initial (thread_of s q) ≡ true → t ≡ q) → is_proper_slot y ≡ true → MayStand s t y
 may_stand_free s t y f j i p = record {
   placed = none_at_most (places s t) (if is_live_thread y then 1 else 0) f;
   joined = none_at_most (joiners s t) (if is_joinable y then 1 else 0) j;
@@ -252,7 +258,7 @@ module _ (s : State) (t : ℕ) (f : Live → Live) (h : IsWellFormed s) (i : (l 
     placed = subst (λ (b : Bool). places s t ≤ (if b then 1 else 0)) (sym (live_change f (thread_of s t))) (h.placed t);
     joined = j;
     unwinding = still_at_most (unwind_waits s t) (is_unwinding (thread_of s t)) (is_unwinding (change_live f (thread_of s t))) u (h.unwinding_waits t);
-    initial = λ x. sym (initial_change f i (thread_of s t)) ∙ x;
+    initial = λ q x. h.one_initial t q (sym (initial_change f i (thread_of s t)) ∙ x);
     proper = p;
   }
 
@@ -388,26 +394,24 @@ well_formed_placed s h t k l r =
 
 -- A PROGRAM BEGINS
 
-fresh_at : (stack harts t : ℕ) → thread_of (fresh stack harts) t ≡ cond (eqb 1 t) (Some (first_of_program stack)) None
-fresh_at stack harts t =
-    let e : option_flatten (slice_get (replicate 65 None) t) ≡ None = empty_slot {X = Thread} 65 t in
-    slot_at (replicate 65 None) 1 t (Some (first_of_program stack)) (omega arith) ∙ ap (cond (eqb 1 t) (Some (first_of_program stack))) e
-
-fresh_initial : (stack harts t : ℕ) → is_initial (thread_of (fresh stack harts) t) ≡ true → 1 ≡ t
-fresh_initial stack harts t = rw (fresh_at stack harts t) (written (λ o p. is_initial o ≡ true → 1 ≡ p) 1 t (Some (first_of_program stack)) None (λ e _. e) (λ x. absurd (cc)))
-
-pub well_formed_fresh : (stack harts : ℕ) → harts ≤ 8 → IsWellFormed (fresh stack harts)
-well_formed_fresh stack harts l = record {
+pub well_formed_empty : (harts : ℕ) → harts ≤ 8 → IsWellFormed (empty harts)
+well_formed_empty harts l = record {
   size = refl;
   zero = refl;
   harts = refl;
   hart_count = l;
   idle = λ h _. empty_slot {X = ℕ} 8 h;
-  proper = λ t. rw (fresh_at stack harts t) (either (λ o. is_proper_slot o ≡ true) (eqb 1 t) (Some (first_of_program stack)) None refl refl);
-  one_initial = λ t q a b. sym (fresh_initial stack harts t a) ∙ fresh_initial stack harts q b;
+  proper = λ t. ap is_proper_slot (empty_slot {X = Thread} 65 t);
+  one_initial = λ t q a b. absurd (let e = ap is_initial (empty_slot {X = Thread} 65 t) in cc);
   placed = λ t. let e = none_held 8 t in omega arith;
   joined_target = λ t. omega arith;
   joined_by_another = refl;
   deadlines = refl;
   unwinding_waits = λ t. omega arith;
 }
+
+-- an empty table has no initial thread
+pub initial_in_empty : (s : State) (harts t : ℕ) → s ≡ empty harts → is_initial (thread_of s t) ≡ true → 1 ≡ t
+initial_in_empty s harts t e i =
+    let none : is_initial (thread_of s t) ≡ false = ap (λ z. is_initial (thread_of z t)) e ∙ ap is_initial (empty_slot {X = Thread} 65 t) in
+    absurd (cc)

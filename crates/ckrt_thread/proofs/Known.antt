@@ -1,10 +1,11 @@
 -- What follows from well-formedness.
-use Rattle.std.proofs.Common.{◌≡◌, ℕ, zero, suc, ◌+◌, ◌≤◌, ◌<◌, Bool, true, false, eqb, ◌∷◌, length, Option, Some, None, refl, sym, ap, arith, slice_get, IfSome, is_none, drop}
+use Rattle.std.proofs.Common.{◌≡◌, ℕ, List, [], zero, suc, ◌+◌, ◌≤◌, ◌<◌, Bool, true, false, eqb, ◌∷◌, length, Option, Some, None, refl, sym, ap, arith, slice_get, IfSome, is_none, drop}
 use Rattle.std.specs.List.{list_any, IsDistinct, find, position}
 use Rattle.std.specs.Option.{option_flatten}
 use Rattle.std.proofs.lemmas.List.{length-map}
 use Rattle.std.proofs.lemmas.Bool.Decides.{nat_tests}
 use Rattle.std.proofs.lemmas.Map.Steps.{length-le_from_distinct_below}
+use Rattle.ckrt_thread.specs.declared.records.Thread.{Thread}
 use Rattle.ckrt_thread.specs.declared.records.Thread.TheVariants as thread
 use Rattle.ckrt_thread.specs.declared.records.Wait.{Wait}
 use Rattle.ckrt_thread.specs.declared.records.Object.TheVariants as object
@@ -14,6 +15,16 @@ use Rattle.ckrt_thread.proofs.Counting.{count_of_none, count_of_some, none_of_co
 use Rattle.ckrt_thread.proofs.WaitLemmas.{ids, apart, ids_distinct, ids_any, found_waits, count_of-find, count_of-without, count_of-without_found}
 use Rattle.ckrt_thread.proofs.SlotLemmas.{live_below, free_slot_none}
 use Rattle.ckrt_thread.proofs.HartLemmas.{count_of-off, held_at}
+
+-- the id of a thread
+some_slot : {X : Type 0} (xs : List (Option X)) (i : ℕ) (x : X) → option_flatten (slice_get xs i) ≡ Some x → i < length xs
+some_slot [] i x e = absurd (cc)
+some_slot (y ∷ xs) zero x e = omega arith
+some_slot (y ∷ xs) (suc i) x e = (let r = some_slot xs i x e in omega (arith, r))
+
+pub thread_range : (s : State) (t : ℕ) (x : Thread) → IsWellFormed s → thread_of s t ≡ Some x → (0 < t) × (t ≤ 64)
+thread_range s zero x h e = absurd (let z = h.zero in cc)
+thread_range s (suc t) x h e = (omega arith, let b = some_slot s.threads (suc t) x e in let n = h.size in omega (arith, b, n))
 
 -- the number of a thread that has not ended
 pub live_range : (s : State) (t : ℕ) → IsWellFormed s → is_live s t ≡ true → (0 < t) × (t ≤ 64)

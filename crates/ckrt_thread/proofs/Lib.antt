@@ -10,3 +10,6 @@ pub mod Waking
 pub mod DueWaits
 pub mod Unwound
 pub mod RowsKept
+pub mod ThreadRows
+pub mod Taking
+pub mod Beginnings

@@ -10,7 +10,7 @@ use Rattle.ckrt_thread.specs.Abi.{A1}
 use Rattle.ckrt_thread.specs.State.{State, IsWellFormed, thread_of, is_live, is_waiting, is_joined, free_place, is_proper_slot, with_slot, may_join}
 use Rattle.ckrt_thread.specs.Rows.{After, new_thread, create_at, create_row, join_at, join_row, detach_at, detach_row}
 use Rattle.ckrt_thread.proofs.Changes.{well_formed_blocked, well_formed_word, well_formed_slot, may_stand_free, well_formed_detached}
-use Rattle.ckrt_thread.proofs.Known.{absent_places, absent_joiners, ended_live, not_joined, free_places, free_joiners}
+use Rattle.ckrt_thread.proofs.Known.{thread_range, absent_places, absent_joiners, ended_live, not_joined, free_places, free_joiners}
 use Rattle.ckrt_thread.proofs.SlotLemmas.{free_slot_none}
 
 abbrev IsKept : After → Type 0
@@ -27,16 +27,6 @@ some_below [] i x e = absurd (cc)
 some_below (y ∷ xs) zero x e = omega arith
 some_below (y ∷ xs) (suc i) x e = (let r = some_below xs i x e in omega (arith, r))
 
--- the id of a thread
-some_slot : {X : Type 0} (xs : List (Option X)) (i : ℕ) (x : X) → option_flatten (slice_get xs i) ≡ Some x → i < length xs
-some_slot [] i x e = absurd (cc)
-some_slot (y ∷ xs) zero x e = omega arith
-some_slot (y ∷ xs) (suc i) x e = (let r = some_slot xs i x e in omega (arith, r))
-
-thread_range : (s : State) (t : ℕ) (x : Thread) → IsWellFormed s → thread_of s t ≡ Some x → (0 < t) × (t ≤ 64)
-thread_range s zero x h e = absurd (let z = h.zero in cc)
-thread_range s (suc t) x h e = (omega arith, let b = some_slot s.threads (suc t) x e in let n = h.size in omega (arith, b, n))
-
 module _ (by : ℕ) (s : State) (h : IsWellFormed s) where
   -- CREATE
 
@@ -52,7 +42,7 @@ module _ (by : ℕ) (s : State) (h : IsWellFormed s) where
       let f = rw e at (free_places s h) in
       let j = rw e at (free_joiners s h) in
       well_formed_word (with_slot (i + 1) y s) by A1 (i + 1)
-      (well_formed_slot s (i + 1) y h (omega arith) (omega (arith, b, n)) (may_stand_free s (i + 1) y f j (λ x. absurd (cc)) (new_proper start arg sp d a)))
+      (well_formed_slot s (i + 1) y h (omega arith) (omega (arith, b, n)) (may_stand_free s (i + 1) y f j (λ q x _. absurd (cc)) (new_proper start arg sp d a)))
 
   or_false_left : (b c : Bool) → (b || c) ≡ false → b ≡ false
   or_false_left true c e = absurd (cc)
@@ -68,7 +58,7 @@ module _ (by : ℕ) (s : State) (h : IsWellFormed s) where
   freed id v e =
       let r = thread_range s id (thread.Ended v) h e in
       let l = ended_live s id v e in
-      well_formed_slot s id None h r.0 r.1 (may_stand_free s id None (absent_places s id h l) (absent_joiners s id h l) (λ x. absurd (cc)) refl)
+      well_formed_slot s id None h r.0 r.1 (may_stand_free s id None (absent_places s id h l) (absent_joiners s id h l) (λ q x _. absurd (cc)) refl)
 
   -- JOIN
 

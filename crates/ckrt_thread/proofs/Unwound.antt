@@ -79,7 +79,7 @@ module _ (t v : ℕ) (s : State) (h : IsWellFormed s) (l : is_live s t ≡ true)
   -- an id at which nothing is left becomes free, or has a value
   end_free : (y : Option Thread) → first_waiter (object.End t) s ≡ None → is_live_thread y ≡ false → is_proper_slot y ≡ true → (is_initial y ≡ true → is_initial (thread_of s t) ≡ true) → IsWellFormed (with_slot t y (off_hart t s))
   end_free y e d p i = (let r = live_range s t h l in
-      well_formed_slot (off_hart t s) t y (well_formed_off s t h) r.0 r.1 (may_stand_free (off_hart t s) t y (off_places s t n) (unjoined (off_hart t s) t e) i p))
+      well_formed_slot (off_hart t s) t y (well_formed_off s t h) r.0 r.1 (may_stand_free (off_hart t s) t y (off_places s t n) (unjoined (off_hart t s) t e) (λ q x z. h.one_initial t q (i x) z) p))
 
   end_joined : (w : Wait) → first_waiter (object.End t) s ≡ Some w → IsWellFormed (with_slot t None (set_word w.thread A1 v (woken w.thread 0 (off_hart t s))))
   end_joined w e =
@@ -89,7 +89,7 @@ module _ (t v : ℕ) (s : State) (h : IsWellFormed s) (l : is_live s t ≡ true)
       let woke = well_formed_word (unwaited w.thread z) w.thread A0 0 (well_formed_without z w.thread kz) in
       let told = well_formed_word (woken w.thread 0 z) w.thread A1 v woke in
       well_formed_slot (set_word w.thread A1 v (woken w.thread 0 z)) t None told r.0 r.1
-      (may_stand_free (set_word w.thread A1 v (woken w.thread 0 z)) t None (off_woken_places s t w.thread 0 A1 v n) (woken_joiner z t 0 A1 v w kz e) (λ x. absurd (cc)) refl)
+      (may_stand_free (set_word w.thread A1 v (woken w.thread 0 z)) t None (off_woken_places s t w.thread 0 A1 v n) (woken_joiner z t 0 A1 v w kz e) (λ q x _. absurd (cc)) refl)
 
   well_formed_end : (o : Option Wait) → first_waiter (object.End t) s ≡ o → IsWellFormed (end_with o t v (off_hart t s))
   well_formed_end None e = elim (is_detached (thread_of (off_hart t s) t)) as (λ (c : Bool). IsWellFormed (cond c (with_slot t None (off_hart t s)) (with_slot t (Some (thread.Ended v)) (off_hart t s)))) [

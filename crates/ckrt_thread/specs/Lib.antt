@@ -8,3 +8,4 @@ pub mod State
 pub mod Rows
 pub mod Unwinding
 pub mod Granting
+pub mod Contents

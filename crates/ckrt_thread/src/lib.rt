@@ -3,6 +3,7 @@
 #![tactic(auto)]
 
 mod abi;
+mod contents;
 mod deadlines;
 mod errors;
 mod harts;
@@ -15,7 +16,10 @@ mod waits;
 
 pub use abi::{PROGRAM_START, RETURN_GATE, UNWIND_GATE};
 pub use errors::{EAGAIN, EBUSY, EDEADLK, EINVAL, ENOSYS, EPERM, ESRCH, ETIMEDOUT};
-pub use laws::{first_of_queue, grants_every_admissible};
+pub use laws::{
+    first_of_queue, grants_every_admissible, known_by_rows, next_on_hart, next_thread, next_wait,
+    thread_behind,
+};
 pub use records::{
     CANCELED, CallResult, Cancellation, Handler, Live, MAX_HANDLERS, MAX_HARTS, MAX_THREADS,
     MOMENT_END, Object, Reason, RetakeResult, Thread, ThreadId, Wait,

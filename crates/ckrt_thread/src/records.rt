@@ -43,7 +43,7 @@ pub struct Cancellation {
 
 impl Cancellation {
     ghost use Rattle.std.specs.Prelude.{◌≡◌};
-    ghost use Rattle.ckrt_thread.specs.Cancellation.{at_the_start, is_pending, is_immediate, unwinding_with, acted_on};
+    ghost use Rattle.ckrt_thread.specs.Cancellation.{at_the_start, is_consistent, is_pending, is_immediate, unwinding_with, acted_on};
 
     /// A new thread's: enabled, deferred, with no request.
     pub fn new() -> Self
@@ -55,6 +55,13 @@ impl Cancellation {
             is_requested: false,
             unwinding: None,
         }
+    }
+
+    /// Whether a thread can be cancelled so: who unwinds is disabled and deferred.
+    pub fn is_consistent(&self) -> bool
+        ensures { result ≡ is_consistent self.now }
+    {
+        self.unwinding.is_none() || !self.is_enabled && !self.is_asynchronous
     }
 
     /// Whether the thread acts on a request at its next cancellation point.

@@ -83,31 +83,15 @@ pub fn free_slot(table: &[Option<Thread>]) -> Option<usize>
 }
 
 /// Writes one register of a thread that has not ended.
-fn put_word(slot: &mut Option<Thread>, register: u8, value: u32)
-    requires { register < 32 }
-    ensures { slot.new ≡ change_live (with_word register value) slot.old }
-{
-    if let Some(Thread::Live(live)) = slot {
-        live.regs.put(register, value);
-    }
-}
-
-/// Writes one register of a thread that has not ended.
 #[tactic(auto, using(crate::proofs::SlotLemmas::slot_read))]
 pub fn set_word_of(table: &mut Vec<Option<Thread>>, thread: ThreadId, register: u8, value: u32)
     requires register { register < 32 }
     requires within { thread < length table.old.items }
     ensures { table.new.items ≡ change_thread (with_word register value) thread table.old.items }
 {
-    put_word(&mut table[thread as usize], register, value);
-}
-
-/// Writes the registers of a thread that has not ended.
-fn put_regs(slot: &mut Option<Thread>, regs: &Regs)
-    ensures { slot.new ≡ change_live (with_regs regs.now) slot.old }
-{
+    let slot = &mut table[thread as usize];
     if let Some(Thread::Live(live)) = slot {
-        live.regs = *regs;
+        live.regs.put(register, value);
     }
 }
 
@@ -117,15 +101,9 @@ pub fn set_regs_of(table: &mut Vec<Option<Thread>>, thread: ThreadId, regs: &Reg
     requires within { thread < length table.old.items }
     ensures { table.new.items ≡ change_thread (with_regs regs.now) thread table.old.items }
 {
-    put_regs(&mut table[thread as usize], regs);
-}
-
-/// A thread that has not ended is detached from now on.
-fn detach(slot: &mut Option<Thread>)
-    ensures { slot.new ≡ change_live detached slot.old }
-{
+    let slot = &mut table[thread as usize];
     if let Some(Thread::Live(live)) = slot {
-        live.detached = true;
+        live.regs = *regs;
     }
 }
 
@@ -135,15 +113,9 @@ pub fn detach_in(table: &mut Vec<Option<Thread>>, thread: ThreadId)
     requires within { thread < length table.old.items }
     ensures { table.new.items ≡ change_thread detached thread table.old.items }
 {
-    detach(&mut table[thread as usize]);
-}
-
-/// Writes the cancellation of a thread that has not ended.
-fn put_cancellation(slot: &mut Option<Thread>, cancellation: &Cancellation)
-    ensures { slot.new ≡ change_live (with_cancellation cancellation.now) slot.old }
-{
+    let slot = &mut table[thread as usize];
     if let Some(Thread::Live(live)) = slot {
-        live.cancellation = *cancellation;
+        live.detached = true;
     }
 }
 
@@ -157,16 +129,9 @@ pub fn set_cancellation_of(
     requires within { thread < length table.old.items }
     ensures { table.new.items ≡ change_thread (with_cancellation cancellation.now) thread table.old.items }
 {
-    put_cancellation(&mut table[thread as usize], cancellation);
-}
-
-/// A thread that has not ended has one handler more. It must have room for it.
-fn put_handler(slot: &mut Option<Thread>, handler: Handler)
-    requires { length (handlers_of slot.old) < MAX_HANDLERS }
-    ensures { slot.new ≡ change_live (pushing handler) slot.old }
-{
+    let slot = &mut table[thread as usize];
     if let Some(Thread::Live(live)) = slot {
-        live.handlers.push(handler);
+        live.cancellation = *cancellation;
     }
 }
 
@@ -177,15 +142,9 @@ pub fn push_handler_of(table: &mut Vec<Option<Thread>>, thread: ThreadId, handle
     requires room { length (handlers_of (option_flatten (slice_get table.old.items thread))) < MAX_HANDLERS }
     ensures { table.new.items ≡ change_thread (pushing handler) thread table.old.items }
 {
-    put_handler(&mut table[thread as usize], handler);
-}
-
-/// A thread that has not ended has its newest handler no more.
-fn drop_handler(slot: &mut Option<Thread>)
-    ensures { slot.new ≡ change_live popping slot.old }
-{
+    let slot = &mut table[thread as usize];
     if let Some(Thread::Live(live)) = slot {
-        live.handlers.pop();
+        live.handlers.push(handler);
     }
 }
 
@@ -195,17 +154,9 @@ pub fn pop_handler_of(table: &mut Vec<Option<Thread>>, thread: ThreadId)
     requires within { thread < length table.old.items }
     ensures { table.new.items ≡ change_thread popping thread table.old.items }
 {
-    drop_handler(&mut table[thread as usize]);
-}
-
-/// A thread that has not ended goes to the routine of a handler, which returns to an address.
-fn put_entry(slot: &mut Option<Thread>, handler: Handler, back: u32)
-    ensures { slot.new ≡ change_live (entering back handler) slot.old }
-{
+    let slot = &mut table[thread as usize];
     if let Some(Thread::Live(live)) = slot {
-        live.regs.set_pc(handler.routine);
-        live.regs.put(RA, back);
-        live.regs.put(A0, handler.argument);
+        live.handlers.pop();
     }
 }
 
@@ -215,5 +166,10 @@ pub fn enter_in(table: &mut Vec<Option<Thread>>, thread: ThreadId, handler: Hand
     requires within { thread < length table.old.items }
     ensures { table.new.items ≡ change_thread (entering back handler) thread table.old.items }
 {
-    put_entry(&mut table[thread as usize], handler, back);
+    let slot = &mut table[thread as usize];
+    if let Some(Thread::Live(live)) = slot {
+        live.regs.set_pc(handler.routine);
+        live.regs.put(RA, back);
+        live.regs.put(A0, handler.argument);
+    }
 }

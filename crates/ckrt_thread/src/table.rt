@@ -1,5 +1,5 @@
 //! The table of threads.
-ghost use Rattle.std.specs.Prelude.{◌≡◌, ◌+◌, ◌≤◌, ◌<◌, ◌%◌, length, slice_get, IfSome, IfOk, true, false, Some, None, is_some, []};
+ghost use Rattle.std.specs.Prelude.{◌≡◌, ℕ, ◌+◌, ◌≤◌, ◌<◌, ◌%◌, length, slice_get, IfSome, IfOk, true, false, Some, None, is_some, []};
 ghost use Rattle.std.specs.List.{find};
 ghost use Rattle.std.specs.Option.{option_flatten, option_copied};
 ghost use Rattle.ckrt_thread.specs.Abi.{A0, A1};
@@ -9,6 +9,7 @@ ghost use Rattle.ckrt_thread.specs.Unwinding.{newest_handler, pushed, popped, en
 ghost use Rattle.ckrt_thread.specs.Deadlines.{earliest_due};
 ghost use Rattle.ckrt_thread.specs.Granting.{queue_of, answered, obtained};
 ghost use Rattle.ckrt_thread.specs.Waits.{is_of};
+ghost use Rattle.ckrt_thread.specs.Contents.{empty};
 ghost use Rattle.ckrt_thread.specs.declared.records.Thread.TheVariants as slots;
 ghost use Rattle.ckrt_thread.specs.Rows.{create_row, join_row, detach_row, detached, finished};
 
@@ -60,10 +61,19 @@ impl Threads {
         requires { harts ≤ 8 }
         ensures { IfOk result (λ threads. threads ≡ fresh stack harts) }
     {
-        let mut table = free_slots(alloc, SLOTS)?;
-        table[1] = Some(first_thread(stack));
+        let mut threads = Threads::empty(alloc, harts)?;
+        threads.set_slot(1, Some(first_thread(stack)));
+        Ok(threads)
+    }
+
+    /// No thread, no wait, and `harts` idle harts, at most 8: what `append_thread`, `append_wait` and `append_on_hart`
+    /// build on.
+    pub fn empty(alloc: Global, harts: usize) -> Result<Self, AllocError>
+        requires { harts ≤ 8 }
+        ensures { IfOk result (λ threads. threads ≡ empty harts) }
+    {
         Ok(Threads {
-            table,
+            table: free_slots(alloc, SLOTS)?,
             waits: WaitList::new(),
             harts: [None; MAX_HARTS],
             hart_count: harts,
@@ -92,6 +102,14 @@ impl Threads {
         ensures { result ≡ self.now.hart_count }
     {
         self.hart_count
+    }
+
+    /// What stands for each number from 0 to 64: a thread, or nothing. Nothing stands for 0.
+    pub fn slots(&self) -> &[Option<Thread>]
+        ensures slots { result.now ≡ self.now.threads }
+        ensures size { length result.now ≡ 65 }
+    {
+        self.table.as_slice()
     }
 
     /// What stands for the number: a thread, or nothing.
@@ -136,6 +154,23 @@ impl Threads {
         match self.table.get(thread as usize) {
             Some(slot) => is_live_slot(slot),
             None => false,
+        }
+    }
+
+    /// Whether the thread has not ended and is not detached.
+    pub(crate) fn is_joinable(&self, thread: ThreadId) -> bool
+        ensures { result ≡ is_joinable (thread_of self.now thread) }
+    {
+        self.is_live(thread) && !self.is_detached(thread)
+    }
+
+    /// Whether the thread unwinds.
+    pub(crate) fn is_unwinding(&self, thread: ThreadId) -> bool
+        ensures { result ≡ is_unwinding (thread_of self.now thread) }
+    {
+        match self.table.get(thread as usize) {
+            Some(Some(Thread::Live(live))) => live.cancellation.unwinding.is_some(),
+            _ => false,
         }
     }
 
@@ -259,7 +294,7 @@ impl Threads {
     }
 
     /// Whether a thread joins this one.
-    fn is_joined(&self, thread: ThreadId) -> bool
+    pub(crate) fn is_joined(&self, thread: ThreadId) -> bool
         ensures { result ≡ is_joined thread self.now }
     {
         self.first_waiter(Object::End(thread)).is_some()
@@ -364,11 +399,11 @@ impl Threads {
     }
 
     /// The number, at which nobody waits or is on a hart and which nobody joins, stands for this from now on.
-    fn set_slot(&mut self, id: ThreadId, slot: Option<Thread>)
+    pub(crate) fn set_slot(&mut self, id: ThreadId, slot: Option<Thread>)
         requires number { (0 < id) × (id ≤ 64) }
         requires free { places self.old id ≡ 0 }
         requires unjoined { joiners self.old id ≡ 0 }
-        requires initial { is_initial slot ≡ true → is_initial (thread_of self.old id) ≡ true }
+        requires initial { (t : ℕ) → is_initial slot ≡ true → is_initial (thread_of self.old t) ≡ true → id ≡ t }
         requires proper { is_proper_slot slot ≡ true }
         ensures { self.new ≡ with_slot id slot self.old }
     {

@@ -10,6 +10,3 @@ pub invariant_of-self : goal.invariant_of-self
 invariant_of-self c =
     rw (c.push.ensures.items, c.take_off.ensures)
     (well_formed_blocked _ c.args.thread c.args.reason c.args.deadline c.self.invariant (rw (← c.self.view_is) at c.requires.live) (rw (← c.self.view_is) at c.requires.free) (rw (← c.self.view_is) at c.requires.allowed))
-
-pub returns : goal.returns
-returns c = search rules

@@ -8,6 +8,3 @@ set_slot-requires-clause-free c =
 
 pub set_detached-requires-clause-unjoined : goal.set_detached-requires-clause-unjoined
 set_detached-requires-clause-unjoined c = not_joined c.args.self.now c.args.id (sym c.is_joined.ensures ∙ c.if-is_joined.false)
-
-pub returns-else-is_joined-clause-threads : goal.returns-else-is_joined-clause-threads
-returns-else-is_joined-clause-threads c = search rules

@@ -5,6 +5,3 @@ use Rattle.ckrt_thread.proofs.table.Threads.join.Goals as goal
 pub set_slot-requires-clause-free : goal.set_slot-requires-clause-free
 set_slot-requires-clause-free c =
     absent_places c.args.self.now c.args.id c.known.ensures (ended_live c.args.self.now c.args.id c.in-Ended.value (sym c.in-Some.ensures.thread ∙ ap (λ x. Some x) c.in-Ended.is))
-
-pub returns-in-Ended-clause-threads : goal.returns-in-Ended-clause-threads
-returns-in-Ended-clause-threads c = search rules

@@ -1,5 +1,5 @@
-use Rattle.ckrt_thread.proofs.Changes.{well_formed_fresh}
+use Rattle.ckrt_thread.proofs.Changes.{initial_in_empty}
 use Rattle.ckrt_thread.proofs.table.Threads.new.Goals as goal
 
-pub invariant_of-result : goal.invariant_of-result
-invariant_of-result c = rw (c.in_ok-table.ensures, c.first_thread.ensures, c.new.ensures) (well_formed_fresh c.args.stack c.args.harts c.requires)
+pub set_slot-requires-clause-initial : goal.set_slot-requires-clause-initial
+set_slot-requires-clause-initial c = λ t i j. initial_in_empty _ c.args.harts t c.in_ok-threads.ensures j

@@ -8,6 +8,3 @@ answer-requires-clause-live c = rw c.take_wait.ensures (waiting_live c.args.self
 
 pub answer-requires-clause-free : goal.answer-requires-clause-free
 answer-requires-clause-free c = rw c.take_wait.ensures (gone c.args.wait.now.thread c.args.self.now.waits (waits_at_most_once c.args.self.now c.args.wait.now.thread c.known.ensures))
-
-pub returns : goal.returns
-returns c = search rules

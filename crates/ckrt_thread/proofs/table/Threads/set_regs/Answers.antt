@@ -13,6 +13,3 @@ pub invariant_of-self : goal.invariant_of-self
 invariant_of-self c =
     rw c.set_regs_of.ensures
     (well_formed_change _ (with_regs c.args.regs.now) c.args.thread (changes_regs c.args.regs.now c.requires.aligned) c.self.invariant)
-
-pub returns : goal.returns
-returns c = search rules

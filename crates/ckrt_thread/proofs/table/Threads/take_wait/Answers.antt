@@ -8,6 +8,3 @@ take_out-requires c = waits_at_most_once _ c.args.thread c.self.invariant
 
 pub invariant_of-self : goal.invariant_of-self
 invariant_of-self c = rw c.take_out.ensures (well_formed_without _ c.args.thread c.self.invariant)
-
-pub returns : goal.returns
-returns c = search rules

@@ -6,6 +6,3 @@ use Rattle.ckrt_thread.proofs.table.Threads.waiter_count.Goals as goal
 pub returns-clause-few : goal.returns-clause-few
 returns-clause-few c =
     rw (c.count_for.ensures, c.as_slice.ensures.value) (let l = length-part (is_for c.args.object) c.self.inside.waits in let f = rw c.as_slice.ensures.value at c.as_slice.ensures.fits in omega arith)
-
-pub returns-clause-count : goal.returns-clause-count
-returns-clause-count c = search rules
