@@ -1,15 +1,17 @@
 //! The calls on barriers.
-ghost use Rattle.std.specs.Prelude.{◌≡◌, true, false, []};
+ghost use Rattle.std.specs.Prelude.{◌≡◌, ◌<◌, ◌↔◌, true, false, [], length, slice_get, Some};
+ghost use Rattle.std.specs.List.{list_all};
 ghost use Rattle.ckrt_thread.specs.State.{is_live, is_waiting};
 ghost use Rattle.ckrt_thread.specs.declared.records.CallResult.TheVariants.{Done};
 ghost use Rattle.ckrt_objects.specs.AddressMap.{has_entry, lookup};
+ghost use Rattle.ckrt_objects.specs.Appended.{Appends};
 ghost use Rattle.ckrt_barrier.specs.Rows.{SERIAL_THREAD, waiters, has_waiters, is_full, init_row, destroy_row, wait_row};
-ghost use Rattle.ckrt_barrier.specs.WellFormed.{IsTable, IsWellFormedWith};
+ghost use Rattle.ckrt_barrier.specs.WellFormed.{IsTable, IsWellFormedWith, awaits_more, waits_where_a_barrier_is};
 
 use crate::barrier::{Barrier, MAX_BARRIERS, SERIAL_THREAD};
 use arrayvec::ArrayVec;
-use ckrt_objects::{Entry, get, remove, store};
-use ckrt_thread::{CallResult, EAGAIN, EBUSY, EINVAL, Object, Reason, ThreadId, Threads};
+use ckrt_objects::{Entry, append, get, remove, store};
+use ckrt_thread::{CallResult, EAGAIN, EBUSY, EINVAL, Object, Reason, ThreadId, Threads, Wait};
 use std::marker::Model;
 
 /// The barriers of a program, by their addresses: at most [`MAX_BARRIERS`].
@@ -38,6 +40,25 @@ fn has_waiters(threads: &Threads, address: u32) -> bool
     threads.first_waiter(Object::Barrier(address)).is_some()
 }
 
+/// Whether fewer threads wait at each of the barriers than its count.
+fn each_awaits_more(threads: &Threads, entries: &[Entry<Barrier>]) -> bool
+    ensures { result ≡ list_all (awaits_more threads.now) entries.now }
+{
+    entries.iter().all(|entry| {
+        threads.waiter_count(Object::Barrier(entry.address)) < entry.value.count as usize
+    })
+}
+
+/// Whether each wait at a barrier is where one is.
+fn each_waits_where_a_barrier_is(barriers: &Barriers, waits: &[Wait]) -> bool
+    ensures { result ≡ list_all (waits_where_a_barrier_is barriers.now) waits.now }
+{
+    waits.iter().all(|wait| match wait.reason {
+        Reason::Barrier(address) => barriers.exists(address),
+        _ => true,
+    })
+}
+
 impl Barriers {
     /// There is no barrier.
     pub fn new() -> Self
@@ -53,6 +74,46 @@ impl Barriers {
         ensures { IsTable self.now }
     {
         let _ = self.table.as_slice();
+    }
+
+    /// The barriers by rising address.
+    pub fn rows(&self) -> &[Entry<Barrier>]
+        ensures { result.now ≡ self.now }
+    {
+        self.table.as_slice()
+    }
+
+    /// How many barriers there are, at most [`MAX_BARRIERS`].
+    pub fn count(&self) -> usize
+        ensures { result ≡ length self.now }
+    {
+        self.table.len()
+    }
+
+    /// The barrier at a place of the table, from 0 by rising address.
+    pub fn row(&self, place: usize) -> Entry<Barrier>
+        requires { place < length self.now }
+        ensures { slice_get self.now place ≡ Some result }
+    {
+        self.rows()[place]
+    }
+
+    /// A barrier goes behind the others, where a table may have it: its address is above theirs, its count is at least 1,
+    /// and there are fewer than [`MAX_BARRIERS`]. Says whether it did; else nothing changes.
+    pub fn append(&mut self, entry: Entry<Barrier>) -> bool
+        ensures { Appends IsTable entry self.old self.new result }
+    {
+        entry.value.count > 0 && append(&mut self.table, entry)
+    }
+
+    /// Whether threads and barriers are well-formed together: fewer wait at each barrier than its count, and nobody waits
+    /// where there is none.
+    pub fn is_well_formed_with(&self, threads: &Threads) -> bool
+        ensures { (result ≡ true) ↔ IsWellFormedWith threads.now self.now }
+    {
+        self.known();
+        each_awaits_more(threads, self.rows())
+            && each_waits_where_a_barrier_is(self, threads.waits())
     }
 
     /// The barrier at an address, if there is one.

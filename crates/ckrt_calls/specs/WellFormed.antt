@@ -1,5 +1,5 @@
 -- Which tables a program may have: the rules of its parts, and those that join the parts. Where no page is named they are this project's choice.
-use Rattle.std.specs.Prelude.{◌≡◌, ◌%◌, ◌<◌, ◌≤◌, ◌^◌, ℕ, Bool, true, not, if◌then◌else◌, List, [], ◌∷◌, length}
+use Rattle.std.specs.Prelude.{◌≡◌, ◌==◌, ◌%◌, ◌<◌, ◌≤◌, ◌^◌, ℕ, Bool, true, not, ◌&&◌, if◌then◌else◌, List, [], ◌∷◌, length}
 use Rattle.std.specs.List.{list_all}
 use Rattle.ckrt_rv32i.specs.declared.execution.Cause.{Cause}
 use Rattle.ckrt_thread.specs.declared.records.Wait.{Wait}
@@ -12,7 +12,8 @@ use Rattle.ckrt_cond.specs.WellFormed as condition
 use Rattle.ckrt_barrier.specs.WellFormed as barrier
 use Rattle.ckrt_rwlock.specs.WellFormed as rwlock
 use Rattle.ckrt_calls.specs.declared.input.TheConstants.{INPUT_LIMIT}
-use Rattle.ckrt_calls.specs.declared.table.Status.TheVariants.{Running, Faulted}
+use Rattle.ckrt_calls.specs.declared.table.Status.{Status}
+use Rattle.ckrt_calls.specs.declared.table.Status.TheVariants.{Running, Exited, Faulted}
 use Rattle.ckrt_calls.specs.declared.table.Tables.{Tables}
 
 -- a byte, or the end of the input, is there to be read
@@ -51,3 +52,9 @@ pub record IsWellFormed (s : Tables) : Type 0 where
   -- a thread that faulted has not ended, and the pc of its fault is a multiple of 4
   pub fault : (t pc : ℕ) (cause : Cause) → s.status ≡ Faulted t pc cause → thread.is_live s.threads t ≡ true
   pub fault_pc : (t pc : ℕ) (cause : Cause) → s.status ≡ Faulted t pc cause → pc % 4 ≡ 0
+
+-- THE SAME AS A TEST of the status: who must not have ended, and which deadlines may not have come.
+abbrev pub may_be_its_status : Status → ℕ → thread.State → Bool
+may_be_its_status Running clock s = thread.is_any_live s && list_all (lies_ahead clock) s.waits
+may_be_its_status (Exited code) clock s = true
+may_be_its_status (Faulted t pc cause) clock s = thread.is_live s t && pc % 4 == 0

@@ -10,6 +10,7 @@ mod number;
 mod table;
 mod time;
 mod unwinding;
+mod well_formed;
 
 pub use calls::call;
 pub use console::END_OF_INPUT;

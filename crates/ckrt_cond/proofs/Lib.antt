@@ -4,3 +4,4 @@ pub mod Rows
 pub mod ThreadsKept
 pub mod Kept
 pub mod Elsewhere
+pub mod Test

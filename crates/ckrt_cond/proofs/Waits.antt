@@ -72,7 +72,7 @@ same_reason c a b (reason.Read l) n h = absurd (cc)
 same_reason c a b (reason.Write l) n h = absurd (cc)
 
 -- where nobody waits with another mutex, who waits does with this one
-same_mutex : (c a b : ℕ) (ws : List Wait) → list_any (λ w. is_with_other c a w.reason) ws ≡ false → list_any (λ w. is_with c b w.reason) ws ≡ true → a ≡ b
+pub same_mutex : (c a b : ℕ) (ws : List Wait) → list_any (λ w. is_with_other c a w.reason) ws ≡ false → list_any (λ w. is_with c b w.reason) ws ≡ true → a ≡ b
 same_mutex c a b [] n h = absurd (cc)
 same_mutex c a b (w ∷ ws) n h = grind (arith, nat_tests, same_reason c a b w.reason, same_mutex c a b ws)
 
@@ -123,7 +123,7 @@ other_same c a (reason.Read l) f = refl
 other_same c a (reason.Write l) f = refl
 
 -- where all who wait have this mutex, nobody has another
-all_same : (c a : ℕ) (ws : List Wait) → ((x : ℕ) → list_any (λ w. is_with c x w.reason) ws ≡ true → a ≡ x) → list_any (λ w. is_with_other c a w.reason) ws ≡ false
+pub all_same : (c a : ℕ) (ws : List Wait) → ((x : ℕ) → list_any (λ w. is_with c x w.reason) ws ≡ true → a ≡ x) → list_any (λ w. is_with_other c a w.reason) ws ≡ false
 all_same c a [] f = refl
 all_same c a (w ∷ ws) f =
     let first = other_same c a w.reason (λ x h. f x (grind (arith, nat_tests, h))) in

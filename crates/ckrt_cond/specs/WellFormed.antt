@@ -1,6 +1,7 @@
 -- Which waits at conditions there may be.
-use Rattle.std.specs.Prelude.{◌≡◌, ℕ, ◌==◌, Bool, true, false, ◌&&◌, List}
+use Rattle.std.specs.Prelude.{◌≡◌, ℕ, ◌==◌, Bool, true, false, not, ◌&&◌, List}
 use Rattle.std.specs.List.{list_any}
+use Rattle.ckrt_thread.specs.declared.records.Wait.{Wait}
 use Rattle.ckrt_thread.specs.declared.records.Reason.{Reason}
 use Rattle.ckrt_thread.specs.declared.records.Reason.TheVariants as reason
 use Rattle.ckrt_thread.specs.Waits.{is_of}
@@ -24,6 +25,16 @@ is_waited_with c a s = list_any (λ w. is_with c a w.reason) s.waits
 pub record IsWellFormed (s : State) : Type 0 where
   -- the waiters of one condition name one mutex
   pub one_mutex : (c a b : ℕ) → is_waited_with c a s ≡ true → is_waited_with c b s ≡ true → a ≡ b
+
+-- THE SAME AS A TEST of each wait.
+
+abbrev pub is_alone_with : State → Reason → Bool
+is_alone_with s (reason.Condition c a) = not (has_other_mutex c a s)
+is_alone_with s _ = true
+
+-- nobody waits at the wait's condition with another mutex
+abbrev pub names_the_one_mutex : State → Wait → Bool
+names_the_one_mutex s w = is_alone_with s w.reason
 
 -- WHO MAY RESUME
 

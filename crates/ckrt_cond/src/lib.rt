@@ -3,7 +3,9 @@
 #![tactic(auto)]
 
 mod conditions;
+mod one_mutex;
 mod waiters;
 
 pub use conditions::{broadcast, destroy, init, signal, timedwait, wait};
+pub use one_mutex::are_conditions_well_formed;
 pub use waiters::resume;

@@ -18,7 +18,7 @@ pub fn has_waiters(threads: &Threads, condition: u32) -> bool
 }
 
 /// Whether who waits for this reason waits at the condition with another mutex.
-fn is_with_other(reason: Reason, condition: u32, mutex: u32) -> bool
+pub fn is_with_other(reason: Reason, condition: u32, mutex: u32) -> bool
     ensures { result ≡ is_with_other condition mutex reason }
 {
     match reason {

@@ -4,3 +4,5 @@ pub mod Table
 pub mod Kept
 pub mod WellFormed
 pub mod ThreadsKept
+pub mod Appended
+pub mod Test

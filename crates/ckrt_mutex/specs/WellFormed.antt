@@ -44,6 +44,10 @@ can_retake t m = if is_owner t m then is_recursive m.kind && nat_lt m.count 6553
 abbrev pub can_wake : Mutex → Wait → Bool
 can_wake m w = if is_condition w.reason then can_retake w.thread m else true
 
+-- the four rules
+abbrev pub may_wait_at : Mutex → Wait → Bool
+may_wait_at m w = waits_at_owned m w && relocks_normal m w && retakes_of_another m w && can_wake m w
+
 abbrev pub meets_at : (Mutex → Wait → Bool) → List (Entry Mutex) → Option ℕ → Wait → Bool
 meets_at rule ms None w = true
 meets_at rule ms (Some a) w = rule (mutex_at a ms) w

@@ -2,11 +2,12 @@
 //! what it has.
 ghost use Rattle.std.specs.Prelude.{◌≡◌, ◌≤◌, length, true};
 ghost use Rattle.ckrt_objects.specs.AddressMap.{has_room, is_rising};
-ghost use Rattle.ckrt_mutex.specs.Mutex.{mutex_at, put, kept, is_proper, AreEntries};
+ghost use Rattle.ckrt_objects.specs.Appended.{Appends, IsTableUpTo};
+ghost use Rattle.ckrt_mutex.specs.Mutex.{mutex_at, put, kept, is_proper, AreEntries, IsTable};
 
 use crate::records::{Kind, Mutex};
 use arrayvec::ArrayVec;
-use ckrt_objects::{Entry, get, store};
+use ckrt_objects::{Entry, append, get, store};
 
 /// The mutex at an address: free and normal where there is no entry.
 pub fn mutex_of(entries: &[Entry<Mutex>], address: u32) -> Mutex
@@ -55,4 +56,35 @@ pub fn put_entry(entries: &mut ArrayVec<Entry<Mutex>, 256>, address: u32, mutex:
 {
     make_room(entries, address);
     store(entries, address, mutex);
+}
+
+/// How many entries there are without those of free normal mutexes.
+pub fn kept_count(entries: &[Entry<Mutex>]) -> usize
+    ensures { result ≡ length (kept entries.now) }
+{
+    entries
+        .iter()
+        .filter(|entry| !entry.value.is_plain())
+        .count()
+}
+
+/// Appends an entry behind those of mutexes that aren't free and normal, where a table goes on so, and says whether it
+/// did. The entries of free normal mutexes go where they are in the way.
+pub fn append_entry(entries: &mut ArrayVec<Entry<Mutex>, 256>, entry: Entry<Mutex>) -> bool
+    requires entries { AreEntries entries.old.items }
+    ensures entries { AreEntries entries.new.items }
+    ensures appends { Appends (IsTableUpTo 256 IsTable) entry (kept entries.old.items) (kept entries.new.items) result }
+{
+    if entry.value.is_plain() || !entry.value.is_proper() {
+        return false;
+    }
+    if append(entries, entry) {
+        return true;
+    }
+    let mut left = kept_of(entries.as_slice());
+    if !append(&mut left, entry) {
+        return false;
+    }
+    *entries = left;
+    true
 }

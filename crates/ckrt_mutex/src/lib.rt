@@ -7,4 +7,4 @@ mod mutexes;
 mod records;
 
 pub use mutexes::Mutexes;
-pub use records::{Kind, Mutex};
+pub use records::{Kind, MAX_RECURSIVE_COUNT, Mutex};

@@ -1,21 +1,23 @@
 //! The calls on mutexes.
-ghost use Rattle.std.specs.Prelude.{◌≡◌, ◌<◌, ◌≤◌, length, true, false, []};
+ghost use Rattle.std.specs.Prelude.{◌≡◌, ◌<◌, ◌≤◌, ◌↔◌, length, slice_get, nat_le, true, false, [], Some};
+ghost use Rattle.std.specs.List.{list_all};
 ghost use Rattle.ckrt_thread.specs.State.{is_live, is_waiting, may_unwind};
 ghost use Rattle.ckrt_thread.specs.Waits.{retake_code};
 ghost use Rattle.ckrt_thread.specs.declared.records.Reason.TheVariants.{Retake};
 ghost use Rattle.ckrt_objects.specs.AddressMap.{has_room};
+ghost use Rattle.ckrt_objects.specs.Appended.{Appends, IsTableUpTo};
 ghost use Rattle.ckrt_mutex.specs.Mutex.{mutex_at, put, free, is_proper, is_available, is_owned, IsTable};
 ghost use Rattle.ckrt_mutex.specs.Rows.{init_row, destroy_row, lock_row, timedlock_row, trylock_row, taken, unlock_row, released, answer_of, retake_row, used_count, is_full, is_busy};
-ghost use Rattle.ckrt_mutex.specs.WellFormed.{IsWellFormedWith, can_retake};
+ghost use Rattle.ckrt_mutex.specs.WellFormed.{IsWellFormedWith, can_retake, may_wait_at, meets};
 ghost use Rattle.ckrt_mutex.specs.declared.records.Kind.TheVariants.{Normal};
 
-use crate::entries::{kept_of, mutex_of, put_entry};
+use crate::entries::{append_entry, kept_count, kept_of, mutex_of, put_entry};
 use crate::records::{Kind, Mutex};
 use arrayvec::ArrayVec;
-use ckrt_objects::{Entry, are_limit_in_use, is_full, is_named_by_wait, remove};
+use ckrt_objects::{Entry, Named, are_limit_in_use, is_full, is_named_by_wait, remove};
 use ckrt_thread::{
     CallResult, EAGAIN, EBUSY, EDEADLK, EINVAL, EPERM, ETIMEDOUT, MOMENT_END, Object, Reason,
-    RetakeResult, Threads,
+    RetakeResult, Threads, Wait,
 };
 use std::marker::Model;
 
@@ -53,6 +55,23 @@ fn answer_of(outcome: RetakeResult) -> CallResult
     }
 }
 
+/// Whether a wait may name the mutex that it names, if it names one.
+fn may_wait(mutexes: &Mutexes, wait: &Wait) -> bool
+    ensures { result ≡ meets may_wait_at mutexes.now wait.now }
+{
+    match Mutex::named_by(wait) {
+        Some(address) => mutexes.mutex(address).may_be_named_by(wait),
+        None => true,
+    }
+}
+
+/// Whether each wait may name the mutex that it names.
+fn may_all_wait(mutexes: &Mutexes, waits: &[Wait]) -> bool
+    ensures { result ≡ list_all (meets may_wait_at mutexes.now) waits.now }
+{
+    waits.iter().all(|wait| may_wait(mutexes, wait))
+}
+
 impl Mutexes {
     /// Each mutex is free and normal.
     pub fn new() -> Self
@@ -69,6 +88,55 @@ impl Mutexes {
         ensures size { length self.now ≤ 256 }
     {
         let _ = self.table.as_slice();
+    }
+
+    /// The mutexes that aren't free and normal, by rising address.
+    pub fn rows(&self) -> ArrayVec<Entry<Mutex>, LIMIT>
+        ensures { result.items ≡ self.now }
+    {
+        kept_of(self.table.as_slice())
+    }
+
+    /// How many mutexes aren't free and normal.
+    pub fn count(&self) -> usize
+        ensures { result ≡ length self.now }
+    {
+        kept_count(self.table.as_slice())
+    }
+
+    /// The mutex at a place among those that aren't free and normal, from 0 by rising address. It looks at all of them:
+    /// [`Mutexes::rows`] has them at once.
+    pub fn row(&self, place: usize) -> Entry<Mutex>
+        requires { place < length self.now }
+        ensures { slice_get self.now place ≡ Some result }
+    {
+        self.rows()[place]
+    }
+
+    /// A mutex goes behind the others, where a table may have it: its address is above theirs, it isn't free and normal,
+    /// its count is one that its kind and its owner allow, and there are fewer than 256. Says whether it did; else nothing
+    /// changes.
+    pub fn append(&mut self, entry: Entry<Mutex>) -> bool
+        ensures { Appends (IsTableUpTo 256 IsTable) entry self.old self.new result }
+    {
+        append_entry(&mut self.table, entry)
+    }
+
+    /// Whether threads and mutexes are well-formed together: at most 256 mutexes are in use, and each wait may name the
+    /// mutex that it names.
+    pub fn is_well_formed_with(&self, threads: &Threads) -> bool
+        ensures { (result ≡ true) ↔ IsWellFormedWith threads.now self.now }
+    {
+        self.known();
+        self.are_few_in_use(threads) && may_all_wait(self, threads.waits())
+    }
+
+    /// Whether at most 256 mutexes are in use.
+    fn are_few_in_use(&self, threads: &Threads) -> bool
+        ensures { result ≡ nat_le (used_count threads.now self.now) 256 }
+    {
+        self.known();
+        !are_limit_in_use(threads, self.rows().as_slice(), LIMIT + 1)
     }
 
     /// The mutex at an address.

@@ -1,10 +1,14 @@
 //! A mutex.
 ghost use Rattle.std.specs.Prelude.{◌≡◌, ◌&&◌, Some, None};
-ghost use Rattle.ckrt_mutex.specs.Mutex.{free, owned, is_owned, is_owner, is_available, is_errorcheck, is_plain};
+ghost use Rattle.ckrt_mutex.specs.Mutex.{free, owned, max_count, is_owned, is_owner, is_available, is_normal, is_recursive, is_errorcheck, is_plain, is_proper};
 ghost use Rattle.ckrt_mutex.specs.Rows.{kind_of};
+ghost use Rattle.ckrt_mutex.specs.WellFormed.{can_retake, may_wait_at};
 
 use ckrt_objects::Named;
 use ckrt_thread::{Reason, Wait};
+
+/// How often the owner of a recursive mutex can lock it.
+pub const MAX_RECURSIVE_COUNT: u32 = 65535;
 
 /// What becomes of a thread that locks a mutex that it owns (POSIX.1-2017, pthread_mutexattr_settype).
 #[derive(Clone, Copy, Debug, Default, Drop, PartialEq, Eq)]
@@ -38,6 +42,16 @@ impl Kind {
             1 => Some(Kind::Recursive),
             2 => Some(Kind::ErrorCheck),
             _ => None,
+        }
+    }
+
+    /// How often its owner can lock a mutex of the kind.
+    pub fn max_count(self) -> u32
+        ensures { result ≡ max_count self }
+    {
+        match self {
+            Kind::Recursive => MAX_RECURSIVE_COUNT,
+            _ => 1,
         }
     }
 }
@@ -101,6 +115,41 @@ impl Mutex {
         ensures { result ≡ is_plain self.now }
     {
         matches!(self.kind, Kind::Normal) && self.owner.is_none()
+    }
+
+    /// Whether the mutex is locked as often as it can be: not at all if it is free, else by a thread, 1 to 64, and from
+    /// once to as often as its kind allows.
+    pub fn is_proper(&self) -> bool
+        ensures { result ≡ is_proper self.now }
+    {
+        match self.owner {
+            None => self.count == 0,
+            Some(owner) => {
+                owner > 0 && owner <= 64 && self.count > 0 && self.count <= self.kind.max_count()
+            }
+        }
+    }
+
+    /// Whether this thread, where it owns the mutex, can lock it once more.
+    fn can_be_retaken_by(&self, thread: u8) -> bool
+        ensures { result ≡ can_retake thread self.now }
+    {
+        !self.is_owned_by(thread)
+            || (matches!(self.kind, Kind::Recursive) && self.count < MAX_RECURSIVE_COUNT)
+    }
+
+    /// Whether a wait may name the mutex: who waits for it finds it owned, and by another if it waits to retake it; who
+    /// waits to lock its own mutex waits for a normal one; and who waits at a condition can retake it.
+    pub fn may_be_named_by(&self, wait: &Wait) -> bool
+        ensures { result ≡ may_wait_at self.now wait.now }
+    {
+        let is_own = self.is_owned_by(wait.thread);
+        match wait.reason {
+            Reason::Lock(_) => self.is_owned() && (!is_own || matches!(self.kind, Kind::Normal)),
+            Reason::Retake(_, _) => self.is_owned() && !is_own,
+            Reason::Condition(_, _) => self.can_be_retaken_by(wait.thread),
+            _ => true,
+        }
     }
 }
 

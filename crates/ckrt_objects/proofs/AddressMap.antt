@@ -167,3 +167,29 @@ module _ {T : Type 0} where
   pub lookup_all : (p : T → Bool) (a : ℕ) (es : List (Entry T)) (d : T) → list_all (λ e. p e.value) es ≡ true → p d ≡ true → p (unwrap_or (lookup a es) d) ≡ true
   lookup_all p a [] d h n = n
   lookup_all p a (x ∷ es) d h n = unwrapped p (is_at a x) x.value (lookup a es) d (grind (arith, nat_tests)) (lookup_all p a es d (grind (arith, nat_tests)) n)
+
+  -- WHAT HOLDS OF EACH ENTRY holds of what the map has at each address
+
+  module _ (p : ℕ → T → Bool) where
+    here_or_there : (b : Bool) (a : ℕ) (e : Entry T) (es : List (Entry T)) (v : T) → is_at a e ≡ b → p e.address e.value ≡ true → (lookup a es ≡ Some v → p a v ≡ true) → (if b then Some e.value else lookup a es) ≡ Some v → p a v ≡ true
+    here_or_there true a e es v at h more l = (let same : a ≡ e.address = grind (arith, nat_tests, at) in let is : e.value ≡ v = cc in rw (same, ← is) h)
+    here_or_there false a e es v at h more l = more l
+
+    pub all_found : (es : List (Entry T)) → list_all (λ e. p e.address e.value) es ≡ true → (a : ℕ) (v : T) → lookup a es ≡ Some v → p a v ≡ true
+    all_found [] h a v l = absurd (cc)
+    all_found (e ∷ es) h a v l =
+        here_or_there (is_at a e) a e es v refl (grind (arith, nat_tests, h)) (all_found es (grind (arith, nat_tests, h)) a v) l
+
+    not_first : (b : Bool) (a : ℕ) (e : Entry T) (es : List (Entry T)) (v : T) → is_at a e ≡ b → are_above e.address es ≡ true → lookup a es ≡ Some v → (if b then Some e.value else lookup a es) ≡ Some v
+    not_first true a e es v at h l =
+        let none : lookup a es ≡ None = no_lookup a es (above_no_entry e.address a es (grind (arith, nat_tests, at)) h) in
+        absurd (cc)
+    not_first false a e es v at h l = l
+
+    pub all_entries : (es : List (Entry T)) → is_rising es ≡ true → ((a : ℕ) (v : T) → lookup a es ≡ Some v → p a v ≡ true) → list_all (λ e. p e.address e.value) es ≡ true
+    all_entries [] r f = refl
+    all_entries (e ∷ es) r f =
+        let first : p e.address e.value ≡ true = f e.address e.value (grind (arith, nat_tests)) in
+        let rest : list_all (λ x. p x.address x.value) es ≡ true =
+        all_entries es (grind (arith, nat_tests, r)) (λ a v l. f a v (not_first (is_at a e) a e es v refl (grind (arith, nat_tests, r)) l)) in
+        grind (arith, nat_tests, first, rest)

@@ -1,4 +1,5 @@
 pub mod AddressMap
+pub mod Appended
 pub mod Changes
 pub mod Waits
 pub mod Obtained

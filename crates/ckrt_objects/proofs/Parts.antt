@@ -5,6 +5,7 @@ use Rattle.std.proofs.lemmas.Bool.Decides.{nat_tests}
 use Rattle.ckrt_thread.specs.declared.records.Wait.{Wait}
 use Rattle.ckrt_objects.specs.declared.address_map.Entry.{Entry}
 use Rattle.ckrt_objects.specs.AddressMap.{has_entry, removed, are_above, is_rising}
+use Rattle.ckrt_objects.specs.Appended.{with_last}
 use Rattle.ckrt_objects.specs.InUse.{addresses_in_use, count_in_use}
 use Rattle.ckrt_objects.proofs.AddressMap.{above_no_entry, not_removed}
 use Rattle.ckrt_objects.proofs.InUse.{any_in_use, distinct_le}
@@ -34,6 +35,10 @@ module _ {T : Type 0} (p : Entry T → Bool) where
   pub length_part : (es : List (Entry T)) → length (filter p es) ≤ length es
   length_part [] = omega arith
   length_part (e ∷ es) = grind (arith, nat_tests, length_part es)
+
+  pub last_part : (e : Entry T) (es : List (Entry T)) → p e ≡ true → filter p (with_last e es) ≡ with_last e (filter p es)
+  last_part e [] h = grind (arith, nat_tests)
+  last_part e (x ∷ es) h = grind (arith, nat_tests, last_part e es)
 
   pub entry_part : (a : ℕ) (es : List (Entry T)) → has_entry a (filter p es) ≡ true → has_entry a es ≡ true
   entry_part a [] h = h

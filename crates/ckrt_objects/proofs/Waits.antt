@@ -1,5 +1,5 @@
 -- Lists of waits: what is found in one, and what stays when a wait has ended or begun.
-use Rattle.std.proofs.Common.{◌≡◌, ℕ, ◌≤◌, eqb, eqb-true, Bool, true, false, if◌then◌else◌, not, List, [], ◌∷◌, ◌++◌, Some, None, refl, ap, arith}
+use Rattle.std.proofs.Common.{◌≡◌, ℕ, ◌≤◌, eqb, eqb-true, Bool, true, false, if◌then◌else◌, not, ◌&&◌, List, [], ◌∷◌, ◌++◌, Some, None, refl, ap, arith}
 use Rattle.std.specs.List.{list_any, list_all, find, filter}
 use Rattle.std.proofs.lemmas.Bool.Decides.{nat_tests}
 use Rattle.ckrt_thread.specs.declared.records.Wait.{Wait}
@@ -26,6 +26,23 @@ none_of_all p (x ∷ xs) h = grind (arith, nat_tests, none_of_all p xs)
 pub all_true : {X : Type 0} (xs : List X) → list_all (λ x. true) xs ≡ true
 all_true [] = refl
 all_true (x ∷ xs) = all_true xs
+
+-- a test that has four parts
+pub all_four : {X : Type 0} (p q r t f : X → Bool) → ((x : X) → f x ≡ (p x && q x && r x && t x)) → (xs : List X) → list_all f xs ≡ (list_all p xs && list_all q xs && list_all r xs && list_all t xs)
+all_four p q r t f e [] = refl
+all_four p q r t f e (x ∷ xs) = grind (arith, nat_tests, e x, all_four p q r t f e xs)
+
+-- A PART that is empty
+
+pub first_left_out : {X : Type 0} (p : X → Bool) (x : X) (xs : List X) → filter p (x ∷ xs) ≡ [] → p x ≡ false
+first_left_out p x xs e =
+    elim (p x) as (λ b. p x ≡ b → p x ≡ false) [
+      | true ↦ λ t. (let there : filter p (x ∷ xs) ≡ x ∷ filter p xs = grind (arith, nat_tests, t) in absurd (cc))
+      | false ↦ λ f. f
+    ] refl
+
+pub rest_left_out : {X : Type 0} (p : X → Bool) (x : X) (xs : List X) → filter p (x ∷ xs) ≡ [] → filter p xs ≡ []
+rest_left_out p x xs e = (let f = first_left_out p x xs e in grind (arith, nat_tests, f, e))
 
 -- THE FIRST that passes a test
 

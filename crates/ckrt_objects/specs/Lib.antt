@@ -1,3 +1,4 @@
 pub mod AddressMap
+pub mod Appended
 pub mod Granting
 pub mod InUse

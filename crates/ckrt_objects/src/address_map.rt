@@ -1,6 +1,7 @@
 //! A map from guest addresses, with its entries by rising address.
 ghost use Rattle.std.specs.Prelude.{◌≡◌, ◌≤◌, length, true, slice_get};
 ghost use Rattle.ckrt_objects.specs.AddressMap.{lookup, removed, stored, is_rising, has_room, place_in, is_entry_of};
+ghost use Rattle.ckrt_objects.specs.Appended.{Appends, IsTableUpTo};
 
 use arrayvec::ArrayVec;
 
@@ -76,4 +77,19 @@ pub fn remove<T: Copy + Default + Drop, const N: usize>(
     if is_entry_at(entries.as_slice(), place, address) {
         entries.remove(place);
     }
+}
+
+/// Appends an entry, where its address is above all others and there is room for it, and says whether it did.
+pub fn append<T: Copy + Default + Drop, const N: usize>(
+    entries: &mut ArrayVec<Entry<T>, N>,
+    entry: Entry<T>,
+) -> bool
+    requires { is_rising entries.old.items ≡ true }
+    ensures { Appends (IsTableUpTo N (λ es. is_rising es ≡ true)) entry entries.old.items entries.new.items result }
+{
+    if entries.is_full() || place_of(entries.as_slice(), entry.address) < entries.len() {
+        return false;
+    }
+    entries.push(entry);
+    true
 }

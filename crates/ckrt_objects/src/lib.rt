@@ -5,9 +5,11 @@
 mod address_map;
 mod grants;
 mod in_use;
+mod laws;
 mod named;
 
-pub use address_map::{Entry, get, remove, store};
+pub use address_map::{Entry, append, get, remove, store};
 pub use grants::{Grant, grant_waiters};
 pub use in_use::{are_limit_in_use, is_full, is_in_use, is_named_by_wait};
+pub use laws::{map_after_a_change, map_stays_rising};
 pub use named::Named;

@@ -60,3 +60,11 @@ none_set (m ∷ ns) (suc n) l h =
     let head : m ≡ 0 = grind (arith, nat_tests) in
     let tail : ns ≡ replicate n 0 = none_set ns n (omega arith) (grind (arith, nat_tests)) in
     rw (head, tail) refl
+
+small_counts : (ns : List ℕ) → ((i : ℕ) → slice_index_or ns i 0 ≤ 65535) → list_all (λ m. nat_le m 65535) ns ≡ true
+small_counts [] f = refl
+small_counts (m ∷ ns) f = (let first = f 0 in let rest = small_counts ns (λ i. f (suc i)) in grind (arith, nat_tests, first, rest))
+
+-- 65 numbers of 16 bits are proper counts where the first is 0
+pub are_proper : (ns : List ℕ) → length ns ≡ 65 → ((i : ℕ) → slice_index_or ns i 0 ≤ 65535) → eqb (slice_index_or ns 0 0) 0 ≡ are_proper_counts ns
+are_proper ns l f = (let small = small_counts ns f in grind (arith, nat_tests, l, small))

@@ -5,3 +5,5 @@ pub mod WellFormed
 pub mod Rows
 pub mod Kept
 pub mod ThreadsKept
+pub mod Appended
+pub mod Test

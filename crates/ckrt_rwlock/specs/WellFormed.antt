@@ -1,6 +1,7 @@
 -- Which tables of threads and read-write locks are well-formed together.
-use Rattle.std.specs.Prelude.{◌≡◌, ◌≤◌, ℕ, Bool, true, false, ◌&&◌, List}
+use Rattle.std.specs.Prelude.{◌≡◌, ◌≤◌, ℕ, Bool, true, false, ◌&&◌, not, List, Option, Some, None}
 use Rattle.std.specs.List.{list_any}
+use Rattle.ckrt_thread.specs.declared.records.Wait.{Wait}
 use Rattle.ckrt_thread.specs.declared.records.Object.TheVariants as object
 use Rattle.ckrt_thread.specs.Waits.{is_of, is_for}
 use Rattle.ckrt_thread.specs.State.{State}
@@ -8,7 +9,7 @@ use Rattle.ckrt_thread.specs.Granting.{has_admissible_waiter}
 use Rattle.ckrt_objects.specs.declared.address_map.Entry.{Entry}
 use Rattle.ckrt_rwlock.specs.declared.records.RwLock.{RwLock}
 use Rattle.ckrt_rwlock.specs.RwLock.{is_holder, lock_at, IsTable}
-use Rattle.ckrt_rwlock.specs.Rows.{rwlock_rule, used_count}
+use Rattle.ckrt_rwlock.specs.Rows.{named, rwlock_rule, used_count}
 
 -- the thread waits for the lock at the address
 abbrev pub is_waiting_for : ℕ → ℕ → State → Bool
@@ -21,3 +22,13 @@ pub record IsWellFormedWith (s : State) (ls : List (Entry RwLock)) : Type 0 wher
   pub no_waiter_holds : (a t : ℕ) → is_waiting_for a t s ≡ true → is_holder t (lock_at a ls) ≡ false
   -- a first reader faces a writer, and a first writer a holder
   pub no_first_waiter_is_admissible : (a : ℕ) → has_admissible_waiter (rwlock_rule a) (lock_at a ls, s) ≡ false
+
+-- THE SAME AS A TEST of the table's size and of each wait: at other addresses nobody waits.
+
+-- a thread that waits for the lock does not hold it, and the first who waits for it is not admissible
+abbrev pub may_wait_at : State → List (Entry RwLock) → ℕ → Option ℕ → Bool
+may_wait_at s ls t None = true
+may_wait_at s ls t (Some a) = not (is_holder t (lock_at a ls)) && not (has_admissible_waiter (rwlock_rule a) (lock_at a ls, s))
+
+abbrev pub may_wait : State → List (Entry RwLock) → Wait → Bool
+may_wait s ls w = may_wait_at s ls w.thread (named w)

@@ -1,16 +1,22 @@
 //! The calls on read-write locks.
-ghost use Rattle.std.specs.Prelude.{◌≡◌, ◌<◌, ◌≤◌, ◌+◌, length, true, false, []};
+ghost use Rattle.std.specs.Prelude.{◌≡◌, ◌<◌, ◌≤◌, ◌+◌, ◌↔◌, length, slice_get, nat_le, true, false, [], Some};
+ghost use Rattle.std.specs.List.{list_all};
 ghost use Rattle.ckrt_thread.specs.State.{is_live, is_waiting};
 ghost use Rattle.ckrt_objects.specs.AddressMap.{has_room};
+ghost use Rattle.ckrt_objects.specs.Appended.{Appends, IsTableUpTo};
 ghost use Rattle.ckrt_rwlock.specs.RwLock.{lock_at, put, is_proper, is_exclusive, is_reader, is_written, read_count, with_read_count, IsTable};
 ghost use Rattle.ckrt_rwlock.specs.Rows.{if_unused, init_row, destroy_row, rdlock_row, reading_again, tryrdlock_row, wrlock_row, trywrlock_row, unlock_row, released, used_count, is_used, is_full};
-ghost use Rattle.ckrt_rwlock.specs.WellFormed.{IsWellFormedWith};
+ghost use Rattle.ckrt_rwlock.specs.WellFormed.{IsWellFormedWith, may_wait};
 
 use crate::records::RwLock;
-use crate::waiters::has_to_wait;
+use crate::waiters::{has_admissible_waiter, has_to_wait};
 use arrayvec::ArrayVec;
-use ckrt_objects::{Entry, get, grant_waiters, is_full, is_in_use, remove, store};
-use ckrt_thread::{CallResult, EAGAIN, EBUSY, EDEADLK, EPERM, Object, Reason, ThreadId, Threads};
+use ckrt_objects::{
+    Entry, Named, append, are_limit_in_use, get, grant_waiters, is_full, is_in_use, remove, store,
+};
+use ckrt_thread::{
+    CallResult, EAGAIN, EBUSY, EDEADLK, EPERM, Object, Reason, ThreadId, Threads, Wait,
+};
 use std::marker::Model;
 
 /// How many read locks of one lock a thread can have.
@@ -39,6 +45,26 @@ impl Model for RwLocks {
     ghost invariant = { λ a. IsTable a.table.items };
 }
 
+/// Whether a wait may be at the lock that it names, if it names one.
+fn may_wait(locks: &RwLocks, threads: &Threads, wait: &Wait) -> bool
+    ensures { result ≡ may_wait threads.now locks.now wait.now }
+{
+    match RwLock::named_by(wait) {
+        Some(address) => {
+            let lock = locks.lock(address);
+            !lock.is_holder(wait.thread) && !has_admissible_waiter(threads, &lock, address)
+        }
+        None => true,
+    }
+}
+
+/// Whether each wait may be at the lock that it names.
+fn may_all_wait(locks: &RwLocks, threads: &Threads, waits: &[Wait]) -> bool
+    ensures { result ≡ list_all (may_wait threads.now locks.now) waits.now }
+{
+    waits.iter().all(|wait| may_wait(locks, threads, wait))
+}
+
 impl RwLocks {
     /// Nobody holds a lock.
     pub fn new() -> Self
@@ -55,6 +81,57 @@ impl RwLocks {
         ensures size { length self.now ≤ 64 }
     {
         let _ = self.table.as_slice();
+    }
+
+    /// The locks that threads hold, by rising address.
+    pub fn rows(&self) -> &[Entry<RwLock>]
+        ensures { result.now ≡ self.now }
+    {
+        self.table.as_slice()
+    }
+
+    /// How many locks threads hold, at most 64.
+    pub fn count(&self) -> usize
+        ensures { result ≡ length self.now }
+    {
+        self.table.len()
+    }
+
+    /// The lock at a place among those that threads hold, from 0 by rising address.
+    pub fn row(&self, place: usize) -> &Entry<RwLock>
+        requires { place < length self.now }
+        ensures { slice_get self.now place ≡ Some result.now }
+    {
+        &self.rows()[place]
+    }
+
+    /// A lock goes behind the others, where a table may have it: its address is above theirs, a thread holds it, writer
+    /// and readers are threads, no thread reads beside one that writes, and there are fewer than 64. Says whether it did;
+    /// else nothing changes.
+    pub fn append(&mut self, entry: Entry<RwLock>) -> bool
+        ensures { Appends (IsTableUpTo 64 IsTable) entry self.old self.new result }
+    {
+        entry.value.is_held()
+            && entry.value.is_proper()
+            && entry.value.is_exclusive()
+            && append(&mut self.table, entry)
+    }
+
+    /// Whether threads and locks are well-formed together: at most 64 locks are in use, no thread waits for a lock that it
+    /// holds, and no first waiter is admissible.
+    pub fn is_well_formed_with(&self, threads: &Threads) -> bool
+        ensures { (result ≡ true) ↔ IsWellFormedWith threads.now self.now }
+    {
+        self.known();
+        self.are_few_in_use(threads) && may_all_wait(self, threads, threads.waits())
+    }
+
+    /// Whether at most 64 locks are in use.
+    fn are_few_in_use(&self, threads: &Threads) -> bool
+        ensures { result ≡ nat_le (used_count threads.now self.now) 64 }
+    {
+        self.known();
+        !are_limit_in_use(threads, self.rows(), MAX_IN_USE + 1)
     }
 
     /// The lock at an address.

@@ -1,7 +1,7 @@
 //! A read-write lock.
 ghost use Rattle.std.specs.Prelude.{◌≡◌, nat_lt, ◌<◌, ◌≤◌, ◌+◌, ◌-◌, length, true, Some, None};
 ghost use Rattle.std.specs.List.{list_any};
-ghost use Rattle.ckrt_rwlock.specs.RwLock.{unheld, read_count, is_writer, is_reader, is_holder, is_written, is_read, is_held, with_writer, with_read_count, given_up};
+ghost use Rattle.ckrt_rwlock.specs.RwLock.{unheld, read_count, is_writer, is_reader, is_holder, is_written, is_read, is_held, is_thread_or_none, are_proper_counts, is_exclusive, is_proper, with_writer, with_read_count, given_up};
 
 use ckrt_objects::{Grant, Named};
 use ckrt_thread::{MAX_THREADS, Reason, ThreadId, Wait};
@@ -77,12 +77,11 @@ impl RwLock {
         }
     }
 
-    /// How many read locks the thread has.
+    /// How many read locks the thread has: none where there is no such thread.
     pub fn read_count(&self, thread: ThreadId) -> u16
-        requires { thread ≤ 64 }
         ensures { result ≡ read_count thread self.now }
     {
-        self.readers[thread as usize]
+        self.readers.get(thread as usize).copied().unwrap_or(0)
     }
 
     /// Whether the thread writes under the lock.
@@ -97,7 +96,6 @@ impl RwLock {
 
     /// Whether the thread reads under the lock.
     pub fn is_reader(&self, thread: ThreadId) -> bool
-        requires { thread ≤ 64 }
         ensures { result ≡ is_reader thread self.now }
     {
         self.read_count(thread) > 0
@@ -105,7 +103,6 @@ impl RwLock {
 
     /// Whether the thread holds the lock, to write or to read.
     pub fn is_holder(&self, thread: ThreadId) -> bool
-        requires { thread ≤ 64 }
         ensures { result ≡ is_holder thread self.now }
     {
         self.is_writer(thread) || self.is_reader(thread)
@@ -122,7 +119,28 @@ impl RwLock {
     pub fn is_held(&self) -> bool
         ensures { result ≡ is_held self.now }
     {
-        self.is_written() || is_any_above_0(self.readers.as_slice())
+        self.is_written() || self.is_read()
+    }
+
+    /// Whether a thread reads under the lock.
+    pub fn is_read(&self) -> bool
+        ensures { result ≡ is_read self.now }
+    {
+        is_any_above_0(self.readers.as_slice())
+    }
+
+    /// Whether no thread reads beside one that writes.
+    pub fn is_exclusive(&self) -> bool
+        ensures { result ≡ is_exclusive self.now }
+    {
+        !(self.is_written() && self.is_read())
+    }
+
+    /// Whether writer and readers are threads, 1 to 64.
+    pub fn is_proper(&self) -> bool
+        ensures { result ≡ is_proper self.now }
+    {
+        is_thread_or_none(self.writer) && are_proper_counts(self.readers.as_slice())
     }
 
     /// The lock with this writer, or with none.
@@ -158,6 +176,24 @@ impl RwLock {
             self.with_read_count(thread, self.read_count(thread) - 1)
         }
     }
+}
+
+/// Whether this is none, or the number of a thread.
+fn is_thread_or_none(writer: Option<ThreadId>) -> bool
+    ensures { result ≡ is_thread_or_none writer }
+{
+    match writer {
+        Some(thread) => thread > 0 && thread <= 64,
+        None => true,
+    }
+}
+
+/// Whether the counts, one for each thread by its number, have nothing at 0.
+fn are_proper_counts(counts: &[u16]) -> bool
+    requires { length counts.now ≡ 65 }
+    ensures { result ≡ are_proper_counts counts.now }
+{
+    counts[0] == 0
 }
 
 /// Whether one of the counts is above 0.

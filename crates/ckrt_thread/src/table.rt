@@ -248,6 +248,14 @@ impl Threads {
         self.waits.as_slice()[place]
     }
 
+    /// The waits in order of the start of waiting.
+    pub fn waits(&self) -> &[Wait]
+        ensures waits { result.now ≡ self.now.waits }
+        ensures few { length result.now ≤ 64 }
+    {
+        self.waits.as_slice()
+    }
+
     /// The wait of a thread, if it waits.
     pub fn wait_of(&self, thread: ThreadId) -> Option<Wait>
         ensures { result ≡ find (is_of thread) self.now.waits }
