@@ -1,0 +1,47 @@
+-- The one encoding of the tables of a program and the output that it holds: part by part, nothing between.
+use Rattle.std.specs.Prelude.{ℕ, ◌≤◌, List, [], ◌∷◌, ◌++◌, length}
+use Rattle.std.specs.List.{concat, flat_map}
+use Rattle.byteorder.specs.Endian.{little_bytes}
+use Rattle.ckrt_calls.specs.declared.table.Status.{Status}
+use Rattle.ckrt_calls.specs.declared.table.Status.TheVariants as status
+use Rattle.ckrt_calls.specs.declared.table.Tables.{Tables}
+use Rattle.ckrt_tables.specs.Records.{flag, cause_number, counted, one_byte, two_bytes, thread_rows, hart_bytes, thread_bytes, wait_bytes, mutex_bytes, barrier_bytes, rwlock_bytes}
+
+-- THE PROGRAM'S STATUS, 7 bytes: whether it runs (0), exited (1) or faulted (2); the thread and the cause of the fault; the
+-- exit status, or the pc of the fault
+
+abbrev pub status_bytes : Status → List ℕ
+status_bytes status.Running = 0 ∷ 0 ∷ 0 ∷ little_bytes 4 0
+status_bytes (status.Exited code) = 1 ∷ 0 ∷ 0 ∷ little_bytes 4 code
+status_bytes (status.Faulted t pc c) = 2 ∷ t ∷ cause_number c ∷ little_bytes 4 pc
+
+-- PARTS
+
+-- how many bytes, and the bytes, first one first
+abbrev pub queue_bytes : List ℕ → List ℕ
+queue_bytes bytes = little_bytes 2 (length bytes) ++ bytes
+
+abbrev pub parts_of : Tables → List ℕ → List (List ℕ)
+parts_of s held =
+    little_bytes 8 s.clock
+    ∷ (flag 1 s.closed ∷ [])
+    ∷ status_bytes s.status
+    ∷ flat_map hart_bytes s.threads.harts
+    ∷ counted one_byte thread_bytes (thread_rows s.threads)
+    ∷ counted one_byte wait_bytes s.threads.waits
+    ∷ counted two_bytes mutex_bytes s.mutexes
+    ∷ counted one_byte barrier_bytes s.barriers
+    ∷ counted one_byte rwlock_bytes s.rwlocks
+    ∷ queue_bytes s.input
+    ∷ queue_bytes held
+    ∷ []
+
+abbrev pub encoding_of : Tables → List ℕ → List ℕ
+encoding_of s held = concat (parts_of s held)
+
+-- how many bytes of output a program holds at most
+abbrev pub HELD_LIMIT : ℕ
+HELD_LIMIT = 16384
+
+abbrev pub IsHeld : List ℕ → Type 0
+IsHeld held = length held ≤ HELD_LIMIT

@@ -1,0 +1,5 @@
+pub mod Records
+pub mod Encoding
+pub mod Savable
+pub mod Writing
+pub mod Reading

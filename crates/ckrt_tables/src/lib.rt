@@ -1,0 +1,7 @@
+//! Saved tables: the one encoding of a program's tables and of the output that it holds, written and read.
+#![tactic(auto)]
+
+mod numbers;
+mod objects;
+mod threads;
+mod writing;
