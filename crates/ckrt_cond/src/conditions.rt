@@ -17,14 +17,14 @@ use ckrt_thread::{
 };
 
 /// Initialises a condition (POSIX.1-2017, pthread_cond_init). EBUSY where threads wait at it; else 0.
-pub fn init(threads: &mut Threads, mutexes: &mut Mutexes, condition: u32) -> CallResult
-    requires well_formed { IsWellFormedWith threads.old mutexes.old }
-    requires conditions { IsWellFormed threads.old }
-    ensures well_formed { IsWellFormedWith threads.new mutexes.new }
-    ensures conditions { IsWellFormed threads.new }
-    ensures result { result ≡ (init_row condition threads.old mutexes.old).result }
-    ensures threads { threads.new ≡ (init_row condition threads.old mutexes.old).threads }
-    ensures mutexes { mutexes.new ≡ (init_row condition threads.old mutexes.old).mutexes }
+pub fn init(threads: &Threads, mutexes: &Mutexes, condition: u32) -> CallResult
+    requires well_formed { IsWellFormedWith threads.now mutexes.now }
+    requires conditions { IsWellFormed threads.now }
+    ensures well_formed { IsWellFormedWith threads.now mutexes.now }
+    ensures conditions { IsWellFormed threads.now }
+    ensures result { result ≡ (init_row condition threads.now mutexes.now).result }
+    ensures threads { threads.now ≡ (init_row condition threads.now mutexes.now).threads }
+    ensures mutexes { mutexes.now ≡ (init_row condition threads.now mutexes.now).mutexes }
 {
     if has_waiters(threads, condition) {
         return CallResult::Done(EBUSY);
@@ -33,14 +33,14 @@ pub fn init(threads: &mut Threads, mutexes: &mut Mutexes, condition: u32) -> Cal
 }
 
 /// Destroys a condition (POSIX.1-2017, pthread_cond_destroy). EBUSY where threads wait at it; else 0.
-pub fn destroy(threads: &mut Threads, mutexes: &mut Mutexes, condition: u32) -> CallResult
-    requires well_formed { IsWellFormedWith threads.old mutexes.old }
-    requires conditions { IsWellFormed threads.old }
-    ensures well_formed { IsWellFormedWith threads.new mutexes.new }
-    ensures conditions { IsWellFormed threads.new }
-    ensures result { result ≡ (destroy_row condition threads.old mutexes.old).result }
-    ensures threads { threads.new ≡ (destroy_row condition threads.old mutexes.old).threads }
-    ensures mutexes { mutexes.new ≡ (destroy_row condition threads.old mutexes.old).mutexes }
+pub fn destroy(threads: &Threads, mutexes: &Mutexes, condition: u32) -> CallResult
+    requires well_formed { IsWellFormedWith threads.now mutexes.now }
+    requires conditions { IsWellFormed threads.now }
+    ensures well_formed { IsWellFormedWith threads.now mutexes.now }
+    ensures conditions { IsWellFormed threads.now }
+    ensures result { result ≡ (destroy_row condition threads.now mutexes.now).result }
+    ensures threads { threads.now ≡ (destroy_row condition threads.now mutexes.now).threads }
+    ensures mutexes { mutexes.now ≡ (destroy_row condition threads.now mutexes.now).mutexes }
 {
     if has_waiters(threads, condition) {
         return CallResult::Done(EBUSY);

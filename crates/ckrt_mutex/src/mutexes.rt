@@ -184,22 +184,22 @@ impl Mutexes {
     /// Initialises a mutex of a kind, 0 normal, 1 recursive or 2 error-checking (POSIX.1-2017, pthread_mutex_init).
     /// Another kind is EINVAL; a mutex that is owned or named by a wait is EBUSY; a kind other than normal is EAGAIN
     /// where 256 other mutexes are in use; else 0.
-    pub fn init(&mut self, threads: &mut Threads, address: u32, kind: u32) -> CallResult
-        requires well_formed { IsWellFormedWith threads.old self.old }
-        ensures well_formed { IsWellFormedWith threads.new self.new }
-        ensures result { result ≡ (init_row address kind threads.old self.old).result }
-        ensures threads { threads.new ≡ (init_row address kind threads.old self.old).threads }
-        ensures mutexes { self.new ≡ (init_row address kind threads.old self.old).mutexes }
+    pub fn init(&mut self, threads: &Threads, address: u32, kind: u32) -> CallResult
+        requires well_formed { IsWellFormedWith threads.now self.old }
+        ensures well_formed { IsWellFormedWith threads.now self.new }
+        ensures result { result ≡ (init_row address kind threads.now self.old).result }
+        ensures threads { threads.now ≡ (init_row address kind threads.now self.old).threads }
+        ensures mutexes { self.new ≡ (init_row address kind threads.now self.old).mutexes }
     {
         self.set_kind(threads, address, kind)
     }
 
     /// The row of `init`.
-    fn set_kind(&mut self, threads: &mut Threads, address: u32, kind: u32) -> CallResult
-        requires few { used_count threads.old self.old ≤ 256 }
-        ensures result { result ≡ (init_row address kind threads.old self.old).result }
-        ensures threads { threads.new ≡ (init_row address kind threads.old self.old).threads }
-        ensures mutexes { self.new ≡ (init_row address kind threads.old self.old).mutexes }
+    fn set_kind(&mut self, threads: &Threads, address: u32, kind: u32) -> CallResult
+        requires few { used_count threads.now self.old ≤ 256 }
+        ensures result { result ≡ (init_row address kind threads.now self.old).result }
+        ensures threads { threads.now ≡ (init_row address kind threads.now self.old).threads }
+        ensures mutexes { self.new ≡ (init_row address kind threads.now self.old).mutexes }
     {
         let Some(kind) = Kind::from_number(kind) else {
             return CallResult::Done(EINVAL);
@@ -221,21 +221,21 @@ impl Mutexes {
 
     /// Destroys a mutex, which is free and normal again (POSIX.1-2017, pthread_mutex_destroy). One that is owned or
     /// named by a wait is EBUSY; else 0.
-    pub fn destroy(&mut self, threads: &mut Threads, address: u32) -> CallResult
-        requires well_formed { IsWellFormedWith threads.old self.old }
-        ensures well_formed { IsWellFormedWith threads.new self.new }
-        ensures result { result ≡ (destroy_row address threads.old self.old).result }
-        ensures threads { threads.new ≡ (destroy_row address threads.old self.old).threads }
-        ensures mutexes { self.new ≡ (destroy_row address threads.old self.old).mutexes }
+    pub fn destroy(&mut self, threads: &Threads, address: u32) -> CallResult
+        requires well_formed { IsWellFormedWith threads.now self.old }
+        ensures well_formed { IsWellFormedWith threads.now self.new }
+        ensures result { result ≡ (destroy_row address threads.now self.old).result }
+        ensures threads { threads.now ≡ (destroy_row address threads.now self.old).threads }
+        ensures mutexes { self.new ≡ (destroy_row address threads.now self.old).mutexes }
     {
         self.forget_idle(threads, address)
     }
 
     /// The row of `destroy`.
-    fn forget_idle(&mut self, threads: &mut Threads, address: u32) -> CallResult
-        ensures result { result ≡ (destroy_row address threads.old self.old).result }
-        ensures threads { threads.new ≡ (destroy_row address threads.old self.old).threads }
-        ensures mutexes { self.new ≡ (destroy_row address threads.old self.old).mutexes }
+    fn forget_idle(&mut self, threads: &Threads, address: u32) -> CallResult
+        ensures result { result ≡ (destroy_row address threads.now self.old).result }
+        ensures threads { threads.now ≡ (destroy_row address threads.now self.old).threads }
+        ensures mutexes { self.new ≡ (destroy_row address threads.now self.old).mutexes }
     {
         if self.is_busy(threads, address) {
             return CallResult::Done(EBUSY);
@@ -358,26 +358,26 @@ impl Mutexes {
 
     /// Locks a mutex where that needs no wait (POSIX.1-2017, pthread_mutex_trylock). EAGAIN as `lock`; EBUSY where it
     /// is owned, unless it is recursive and the thread's own; else 0.
-    pub fn trylock(&mut self, threads: &mut Threads, thread: u8, address: u32) -> CallResult
-        requires live { is_live threads.old thread ≡ true }
-        requires free { is_waiting threads.old thread ≡ false }
-        requires well_formed { IsWellFormedWith threads.old self.old }
-        ensures well_formed { IsWellFormedWith threads.new self.new }
-        ensures result { result ≡ (trylock_row thread address threads.old self.old).result }
-        ensures threads { threads.new ≡ (trylock_row thread address threads.old self.old).threads }
-        ensures mutexes { self.new ≡ (trylock_row thread address threads.old self.old).mutexes }
+    pub fn trylock(&mut self, threads: &Threads, thread: u8, address: u32) -> CallResult
+        requires live { is_live threads.now thread ≡ true }
+        requires free { is_waiting threads.now thread ≡ false }
+        requires well_formed { IsWellFormedWith threads.now self.old }
+        ensures well_formed { IsWellFormedWith threads.now self.new }
+        ensures result { result ≡ (trylock_row thread address threads.now self.old).result }
+        ensures threads { threads.now ≡ (trylock_row thread address threads.now self.old).threads }
+        ensures mutexes { self.new ≡ (trylock_row thread address threads.now self.old).mutexes }
     {
         threads.known_live(thread);
         self.take_or_refuse(threads, thread, address)
     }
 
     /// The row of `trylock`.
-    fn take_or_refuse(&mut self, threads: &mut Threads, thread: u8, address: u32) -> CallResult
-        requires live { is_live threads.old thread ≡ true }
-        requires few { used_count threads.old self.old ≤ 256 }
-        ensures result { result ≡ (trylock_row thread address threads.old self.old).result }
-        ensures threads { threads.new ≡ (trylock_row thread address threads.old self.old).threads }
-        ensures mutexes { self.new ≡ (trylock_row thread address threads.old self.old).mutexes }
+    fn take_or_refuse(&mut self, threads: &Threads, thread: u8, address: u32) -> CallResult
+        requires live { is_live threads.now thread ≡ true }
+        requires few { used_count threads.now self.old ≤ 256 }
+        ensures result { result ≡ (trylock_row thread address threads.now self.old).result }
+        ensures threads { threads.now ≡ (trylock_row thread address threads.now self.old).threads }
+        ensures mutexes { self.new ≡ (trylock_row thread address threads.now self.old).mutexes }
     {
         threads.known_live(thread);
         let mutex = self.mutex(address);

@@ -182,23 +182,23 @@ impl RwLocks {
     }
 
     /// Initialises a lock (POSIX.1-2017, pthread_rwlock_init). EBUSY where it is held or named by a wait; else 0.
-    pub fn init(&mut self, threads: &mut Threads, address: u32) -> CallResult
-        requires well_formed { IsWellFormedWith threads.old self.old }
-        ensures well_formed { IsWellFormedWith threads.new self.new }
-        ensures result { result ≡ (init_row address threads.old self.old).result }
-        ensures threads { threads.new ≡ (init_row address threads.old self.old).threads }
-        ensures locks { self.new ≡ (init_row address threads.old self.old).locks }
+    pub fn init(&mut self, threads: &Threads, address: u32) -> CallResult
+        requires well_formed { IsWellFormedWith threads.now self.old }
+        ensures well_formed { IsWellFormedWith threads.now self.new }
+        ensures result { result ≡ (init_row address threads.now self.old).result }
+        ensures threads { threads.now ≡ (init_row address threads.now self.old).threads }
+        ensures locks { self.new ≡ (init_row address threads.now self.old).locks }
     {
         self.if_unused(threads, address)
     }
 
     /// Destroys a lock (POSIX.1-2017, pthread_rwlock_destroy). EBUSY where it is held or named by a wait; else 0.
-    pub fn destroy(&mut self, threads: &mut Threads, address: u32) -> CallResult
-        requires well_formed { IsWellFormedWith threads.old self.old }
-        ensures well_formed { IsWellFormedWith threads.new self.new }
-        ensures result { result ≡ (destroy_row address threads.old self.old).result }
-        ensures threads { threads.new ≡ (destroy_row address threads.old self.old).threads }
-        ensures locks { self.new ≡ (destroy_row address threads.old self.old).locks }
+    pub fn destroy(&mut self, threads: &Threads, address: u32) -> CallResult
+        requires well_formed { IsWellFormedWith threads.now self.old }
+        ensures well_formed { IsWellFormedWith threads.now self.new }
+        ensures result { result ≡ (destroy_row address threads.now self.old).result }
+        ensures threads { threads.now ≡ (destroy_row address threads.now self.old).threads }
+        ensures locks { self.new ≡ (destroy_row address threads.now self.old).locks }
     {
         self.if_unused(threads, address)
     }
@@ -289,31 +289,26 @@ impl RwLocks {
     /// Locks a lock to read where that needs no wait (POSIX.1-2017, pthread_rwlock_tryrdlock). EAGAIN as `rdlock`;
     /// EBUSY where a thread writes under it, the caller too, or where threads wait for it and the thread has no read
     /// lock of it; else 0.
-    pub fn tryrdlock(&mut self, threads: &mut Threads, thread: ThreadId, address: u32) -> CallResult
-        requires live { is_live threads.old thread ≡ true }
-        requires free { is_waiting threads.old thread ≡ false }
-        requires well_formed { IsWellFormedWith threads.old self.old }
-        ensures well_formed { IsWellFormedWith threads.new self.new }
-        ensures result { result ≡ (tryrdlock_row thread address threads.old self.old).result }
-        ensures threads { threads.new ≡ (tryrdlock_row thread address threads.old self.old).threads }
-        ensures locks { self.new ≡ (tryrdlock_row thread address threads.old self.old).locks }
+    pub fn tryrdlock(&mut self, threads: &Threads, thread: ThreadId, address: u32) -> CallResult
+        requires live { is_live threads.now thread ≡ true }
+        requires free { is_waiting threads.now thread ≡ false }
+        requires well_formed { IsWellFormedWith threads.now self.old }
+        ensures well_formed { IsWellFormedWith threads.now self.new }
+        ensures result { result ≡ (tryrdlock_row thread address threads.now self.old).result }
+        ensures threads { threads.now ≡ (tryrdlock_row thread address threads.now self.old).threads }
+        ensures locks { self.new ≡ (tryrdlock_row thread address threads.now self.old).locks }
     {
         threads.known_live(thread);
         self.read_or_refuse(threads, thread, address)
     }
 
     /// The row of `tryrdlock`.
-    fn read_or_refuse(
-        &mut self,
-        threads: &mut Threads,
-        thread: ThreadId,
-        address: u32,
-    ) -> CallResult
-        requires live { is_live threads.old thread ≡ true }
-        requires few { used_count threads.old self.old ≤ 64 }
-        ensures result { result ≡ (tryrdlock_row thread address threads.old self.old).result }
-        ensures threads { threads.new ≡ (tryrdlock_row thread address threads.old self.old).threads }
-        ensures locks { self.new ≡ (tryrdlock_row thread address threads.old self.old).locks }
+    fn read_or_refuse(&mut self, threads: &Threads, thread: ThreadId, address: u32) -> CallResult
+        requires live { is_live threads.now thread ≡ true }
+        requires few { used_count threads.now self.old ≤ 64 }
+        ensures result { result ≡ (tryrdlock_row thread address threads.now self.old).result }
+        ensures threads { threads.now ≡ (tryrdlock_row thread address threads.now self.old).threads }
+        ensures locks { self.new ≡ (tryrdlock_row thread address threads.now self.old).locks }
     {
         threads.known_live(thread);
         let lock = self.lock(address);
@@ -377,31 +372,26 @@ impl RwLocks {
 
     /// Locks a lock to write where that needs no wait (POSIX.1-2017, pthread_rwlock_trywrlock). EBUSY where a thread
     /// holds it, the caller too; EAGAIN as `wrlock`; else 0.
-    pub fn trywrlock(&mut self, threads: &mut Threads, thread: ThreadId, address: u32) -> CallResult
-        requires live { is_live threads.old thread ≡ true }
-        requires free { is_waiting threads.old thread ≡ false }
-        requires well_formed { IsWellFormedWith threads.old self.old }
-        ensures well_formed { IsWellFormedWith threads.new self.new }
-        ensures result { result ≡ (trywrlock_row thread address threads.old self.old).result }
-        ensures threads { threads.new ≡ (trywrlock_row thread address threads.old self.old).threads }
-        ensures locks { self.new ≡ (trywrlock_row thread address threads.old self.old).locks }
+    pub fn trywrlock(&mut self, threads: &Threads, thread: ThreadId, address: u32) -> CallResult
+        requires live { is_live threads.now thread ≡ true }
+        requires free { is_waiting threads.now thread ≡ false }
+        requires well_formed { IsWellFormedWith threads.now self.old }
+        ensures well_formed { IsWellFormedWith threads.now self.new }
+        ensures result { result ≡ (trywrlock_row thread address threads.now self.old).result }
+        ensures threads { threads.now ≡ (trywrlock_row thread address threads.now self.old).threads }
+        ensures locks { self.new ≡ (trywrlock_row thread address threads.now self.old).locks }
     {
         threads.known_live(thread);
         self.write_or_refuse(threads, thread, address)
     }
 
     /// The row of `trywrlock`.
-    fn write_or_refuse(
-        &mut self,
-        threads: &mut Threads,
-        thread: ThreadId,
-        address: u32,
-    ) -> CallResult
-        requires live { is_live threads.old thread ≡ true }
-        requires few { used_count threads.old self.old ≤ 64 }
-        ensures result { result ≡ (trywrlock_row thread address threads.old self.old).result }
-        ensures threads { threads.new ≡ (trywrlock_row thread address threads.old self.old).threads }
-        ensures locks { self.new ≡ (trywrlock_row thread address threads.old self.old).locks }
+    fn write_or_refuse(&mut self, threads: &Threads, thread: ThreadId, address: u32) -> CallResult
+        requires live { is_live threads.now thread ≡ true }
+        requires few { used_count threads.now self.old ≤ 64 }
+        ensures result { result ≡ (trywrlock_row thread address threads.now self.old).result }
+        ensures threads { threads.now ≡ (trywrlock_row thread address threads.now self.old).threads }
+        ensures locks { self.new ≡ (trywrlock_row thread address threads.now self.old).locks }
     {
         threads.known_live(thread);
         let lock = self.lock(address);

@@ -17,6 +17,3 @@ pub returns-in-Some-from_number-clause-tables : goal.returns-in-Some-from_number
 returns-in-Some-from_number-clause-tables c =
     c.act_or_perform.ensures.tables
     ∙ ap (λ (x : After). x.tables) (called_as c.args.thread c.args.tables.now c.regs.result c.in-Some.regs c.get.result c.from_number.result c.in-Some-from_number.call c.regs.ensures.regs c.in-Some.is c.get.ensures c.from_number.ensures c.in-Some-from_number.is)
-
-pub returns-in-None-clause-result : goal.returns-in-None-clause-result
-returns-in-None-clause-result c = search rules

@@ -10,6 +10,3 @@ wake-requires-in_default c = found_waiting c.args.tables.now.threads c.args.wait
 
 pub resume-requires-clause-waiting : goal.resume-requires-clause-waiting
 resume-requires-clause-waiting c = found_resumes c.args.wait.now c.in-Condition.field-0 c.in-Condition.mutex c.args.tables.now.threads c.requires.found c.in-Condition.is
-
-pub returns-in-Condition : goal.returns-in-Condition
-returns-in-Condition c = search rules

@@ -5,9 +5,6 @@ use Rattle.ckrt_objects.proofs.address_map.store.Goals as goal
 pub place_of-place-requires : goal.place_of-place-requires
 place_of-place-requires g c = rw c.as_slice.ensures.value c.requires.rising
 
-pub deref_mut-requires : goal.deref_mut-requires
-deref_mut-requires g c = search rules
-
 pub bounds-deref_mut-place : goal.bounds-deref_mut-place
 bounds-deref_mut-place g c =
     let e = rw c.as_slice-2.ensures.value at (sym c.is_entry_at.ensures ∙ c.if-is_entry_at.true) in

@@ -14,6 +14,3 @@ loop-preserved g c =
       left = rw (c.grant.ensures.granted, c.obtain.ensures) (sym step ∙ (ap (λ k. grant_up_to rule k c.loop.value c.loop.threads) (sym more) ∙ c.loop.invariant.left));
       proper = c.grant.ensures.proper;
     }
-
-pub loop-init : goal.loop-init
-loop-init g c = search rules

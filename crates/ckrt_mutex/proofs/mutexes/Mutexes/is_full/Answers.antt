@@ -12,6 +12,3 @@ returns-then-not-are_limit_in_use c =
 pub is_full-requires-clause-rising : goal.is_full-requires-clause-rising
 is_full-requires-clause-rising c =
     rw (c.as_slice.ensures.value, c.kept_of.ensures, c.as_slice-entries.ensures.value) (rising_part is_kept c.self.inside.table.items c.self.invariant.rising)
-
-pub returns : goal.returns
-returns c = search rules

@@ -6,6 +6,3 @@ use Rattle.ckrt_mutex.proofs.mutexes.Mutexes.take.Goals as goal
 pub put-requires-clause-room : goal.put-requires-clause-room
 put-requires-clause-room c =
     room_of_not_full named 256 c.args.address c.args.threads.now.waits c.args.self.now c.known.ensures.table.rising c.requires.few (sym c.is_full.ensures ∙ c.if-is_full.false)
-
-pub put-requires-clause-proper : goal.put-requires-clause-proper
-put-requires-clause-proper c = search rules

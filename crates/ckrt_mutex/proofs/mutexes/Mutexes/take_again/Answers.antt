@@ -6,6 +6,3 @@ use Rattle.ckrt_mutex.proofs.mutexes.Mutexes.take_again.Goals as goal
 pub put-requires-clause-room : goal.put-requires-clause-room
 put-requires-clause-room c =
     room_of_not_full named 256 c.args.address c.args.threads.now.waits c.args.self.now c.known.ensures.table.rising c.requires.few c.requires.room
-
-pub returns-clause-result : goal.returns-clause-result
-returns-clause-result c = search rules

@@ -10,6 +10,3 @@ release-requires-clause-room c =
 pub release-requires-clause-proper : goal.release-requires-clause-proper
 release-requires-clause-proper c =
     rw c.given_up_by.ensures (proper_given_up c.lock-lock.result c.args.thread c.lock-lock.ensures.proper c.known_live.ensures.0)
-
-pub given_up_by-requires-clause-holder : goal.given_up_by-requires-clause-holder
-given_up_by-requires-clause-holder c = search rules

@@ -1,5 +1,0 @@
-use Rattle.std.proofs.Common.{rules}
-use Rattle.ckrt_objects.proofs.in_use.is_in_use.Goals as goal
-
-pub returns : goal.returns
-returns g c = search rules
