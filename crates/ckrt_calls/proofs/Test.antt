@@ -1,5 +1,5 @@
 -- The test of the tables says that they are well-formed: who waits for input, and the status.
-use Rattle.std.proofs.Common.{◌≡◌, ◌==◌, ◌%◌, ℕ, Bool, true, false, not, ◌&&◌, if◌then◌else◌, List, [], ◌∷◌, is_some, refl, sym, subst, arith}
+use Rattle.std.proofs.Common.{◌≡◌, ◌%◌, ℕ, Bool, true, false, not, if◌then◌else◌, List, [], ◌∷◌, is_some, refl, sym, subst, arith}
 use Rattle.std.specs.List.{list_all, find}
 use Rattle.std.proofs.lemmas.Bool.Decides.{nat_tests}
 use Rattle.ckrt_rv32i.specs.declared.execution.Cause.{Cause}

@@ -1,12 +1,12 @@
 -- The test of each wait says that the waiters of each condition name one mutex.
-use Rattle.std.proofs.Common.{◌≡◌, ℕ, ◌==◌, Bool, true, false, not, ◌&&◌, List, [], ◌∷◌, refl, sym, arith}
+use Rattle.std.proofs.Common.{◌≡◌, ℕ, true, false, List, [], ◌∷◌, refl, arith}
 use Rattle.std.specs.List.{list_all, list_any}
 use Rattle.std.proofs.lemmas.Bool.Decides.{nat_tests}
 use Rattle.ckrt_thread.specs.declared.records.Wait.{Wait}
 use Rattle.ckrt_thread.specs.declared.records.Reason.{Reason}
 use Rattle.ckrt_thread.specs.declared.records.Reason.TheVariants as reason
 use Rattle.ckrt_thread.specs.State.{State}
-use Rattle.ckrt_cond.specs.Rows.{is_with_other, has_other_mutex}
+use Rattle.ckrt_cond.specs.Rows.{has_other_mutex}
 use Rattle.ckrt_cond.specs.WellFormed.{is_with, is_waited_with, is_alone_with, names_the_one_mutex, IsWellFormed}
 use Rattle.ckrt_cond.proofs.Waits.{same_mutex, all_same}
 

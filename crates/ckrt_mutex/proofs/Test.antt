@@ -1,6 +1,5 @@
 -- The test of each wait says that threads and mutexes are well-formed together.
-use Rattle.std.proofs.Common.{◌≡◌, ℕ, ◌≤◌, nat_le, Bool, true, false, ◌&&◌, List, Option, Some, None, refl, arith}
-use Rattle.std.specs.Prelude.{◌↔◌}
+use Rattle.std.proofs.Common.{◌≡◌, ℕ, nat_le, Bool, true, false, ◌&&◌, List, Option, Some, None, refl, arith}
 use Rattle.std.specs.List.{list_all}
 use Rattle.std.proofs.lemmas.Bool.Decides.{nat_tests}
 use Rattle.ckrt_thread.specs.declared.records.Wait.{Wait}
@@ -8,9 +7,9 @@ use Rattle.ckrt_thread.specs.State.{State}
 use Rattle.ckrt_objects.specs.declared.address_map.Entry.{Entry}
 use Rattle.ckrt_objects.proofs.Waits.{all_four}
 use Rattle.ckrt_mutex.specs.declared.records.Mutex.{Mutex}
-use Rattle.ckrt_mutex.specs.Mutex.{mutex_at, IsTable}
+use Rattle.ckrt_mutex.specs.Mutex.{IsTable}
 use Rattle.ckrt_mutex.specs.Rows.{named, used_count}
-use Rattle.ckrt_mutex.specs.WellFormed.{waits_at_owned, relocks_normal, retakes_of_another, can_wake, may_wait_at, meets, meets_at, AllMeet, IsWellFormedWith}
+use Rattle.ckrt_mutex.specs.WellFormed.{waits_at_owned, relocks_normal, retakes_of_another, can_wake, may_wait_at, meets, meets_at, IsWellFormedWith}
 
 four_at : (ms : List (Entry Mutex)) (o : Option ℕ) (w : Wait) → meets_at may_wait_at ms o w ≡ (meets_at waits_at_owned ms o w && meets_at relocks_normal ms o w && meets_at retakes_of_another ms o w && meets_at can_wake ms o w)
 four_at ms None w = refl

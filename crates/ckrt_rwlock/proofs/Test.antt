@@ -1,6 +1,6 @@
 -- The test of each wait says that threads and locks are well-formed together: at other addresses nobody waits.
-use Rattle.std.proofs.Common.{◌≡◌, ℕ, ◌≤◌, eqb, nat_le, Bool, true, false, not, ◌&&◌, List, [], ◌∷◌, Option, Some, None, refl, sym, ap, ◌∙◌, arith}
-use Rattle.std.specs.List.{list_all, list_any, find}
+use Rattle.std.proofs.Common.{◌≡◌, ℕ, nat_le, Bool, true, false, not, ◌&&◌, List, [], ◌∷◌, Option, Some, None, refl, ap, arith}
+use Rattle.std.specs.List.{list_all, list_any}
 use Rattle.std.proofs.lemmas.Bool.Decides.{nat_tests}
 use Rattle.ckrt_thread.specs.declared.records.Wait.{Wait}
 use Rattle.ckrt_thread.specs.declared.records.Reason.{Reason}
@@ -10,12 +10,11 @@ use Rattle.ckrt_thread.specs.Waits.{is_for, is_reason_for, is_of}
 use Rattle.ckrt_thread.specs.State.{State, first_waiter}
 use Rattle.ckrt_thread.specs.Granting.{has_admissible_waiter, is_first_admissible}
 use Rattle.ckrt_objects.specs.declared.address_map.Entry.{Entry}
-use Rattle.ckrt_objects.specs.InUse.{is_name}
 use Rattle.ckrt_objects.proofs.Waits.{found_holds, found_all}
 use Rattle.ckrt_rwlock.specs.declared.records.RwLock.{RwLock}
 use Rattle.ckrt_rwlock.specs.RwLock.{is_holder, lock_at, IsTable}
 use Rattle.ckrt_rwlock.specs.Rows.{named, lock_of, rwlock_rule, used_count}
-use Rattle.ckrt_rwlock.specs.WellFormed.{is_waiting_for, may_wait_at, may_wait, IsWellFormedWith}
+use Rattle.ckrt_rwlock.specs.WellFormed.{may_wait, IsWellFormedWith}
 
 -- who waits for a lock names it
 names_its_lock : (a : ℕ) (r : Reason) → is_reason_for (object.RwLock a) r ≡ true → lock_of r ≡ Some a

@@ -1,4 +1,4 @@
-use Rattle.std.proofs.Common.{rules, ap, ◌∙◌}
+use Rattle.std.proofs.Common.{ap, ◌∙◌}
 use Rattle.ckrt_calls.specs.Table.{After}
 use Rattle.ckrt_calls.proofs.Dispatch.{called_as}
 use Rattle.ckrt_calls.proofs.calls.dispatch.Goals as goal

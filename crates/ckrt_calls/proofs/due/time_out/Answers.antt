@@ -1,4 +1,3 @@
-use Rattle.std.proofs.Common.{rules}
 use Rattle.ckrt_calls.proofs.Ticks.{found_waiting, found_resumes}
 use Rattle.ckrt_calls.proofs.due.time_out.Goals as goal
 

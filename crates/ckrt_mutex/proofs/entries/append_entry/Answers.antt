@@ -1,4 +1,4 @@
-use Rattle.std.proofs.Common.{◌≡◌, rules, true, false, refl}
+use Rattle.std.proofs.Common.{◌≡◌, rules, true, false}
 use Rattle.ckrt_mutex.specs.Mutex.{is_plain, is_proper, kept}
 use Rattle.ckrt_mutex.proofs.Kept.{entries_kept}
 use Rattle.ckrt_mutex.proofs.Appended.{entries_last, appends_first, appends_second}

@@ -1,4 +1,4 @@
-use Rattle.std.proofs.Common.{rules, ◌≡◌, ◌-◌, ◌+◌, suc, sym, ap, ◌∙◌, arith}
+use Rattle.std.proofs.Common.{◌≡◌, ◌-◌, ◌+◌, suc, sym, ap, ◌∙◌, arith}
 use Rattle.ckrt_thread.specs.Granting.{grant_up_to}
 use Rattle.ckrt_objects.specs.Granting.{rule_of}
 use Rattle.ckrt_objects.proofs.Granting.{step_up_to}

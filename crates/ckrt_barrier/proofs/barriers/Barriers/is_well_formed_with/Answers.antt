@@ -1,4 +1,4 @@
-use Rattle.std.proofs.Common.{◌≡◌, true, sym, ◌∙◌}
+use Rattle.std.proofs.Common.{◌≡◌, sym, ◌∙◌}
 use Rattle.std.specs.List.{list_all}
 use Rattle.ckrt_barrier.specs.WellFormed.{awaits_more, waits_where_a_barrier_is}
 use Rattle.ckrt_barrier.proofs.Test.{tested, more_awaited, barriers_there}

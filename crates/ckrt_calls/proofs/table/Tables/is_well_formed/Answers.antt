@@ -1,6 +1,5 @@
-use Rattle.std.proofs.Common.{◌≡◌, ◌<◌, ◌^◌, true, arith, sym, ◌∙◌}
-use Rattle.std.specs.List.{list_all}
-use Rattle.ckrt_calls.specs.WellFormed.{lacks_input, may_be_its_status}
+use Rattle.std.proofs.Common.{◌≡◌, true, arith, sym, ◌∙◌}
+use Rattle.ckrt_calls.specs.WellFormed.{may_be_its_status}
 use Rattle.ckrt_calls.proofs.Test.{some_live, none_due, live_at_fault, aligned_at_fault, status_met}
 use Rattle.ckrt_calls.proofs.table.Tables.is_well_formed.Goals as goal
 

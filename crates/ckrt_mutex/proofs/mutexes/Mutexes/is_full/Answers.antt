@@ -1,4 +1,4 @@
-use Rattle.std.proofs.Common.{rules, sym, ◌∙◌}
+use Rattle.std.proofs.Common.{sym, ◌∙◌}
 use Rattle.ckrt_mutex.specs.Mutex.{is_kept}
 use Rattle.ckrt_objects.proofs.Parts.{rising_part}
 use Rattle.ckrt_mutex.proofs.Kept.{not_full_kept}

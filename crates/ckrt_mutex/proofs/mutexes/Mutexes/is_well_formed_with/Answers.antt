@@ -1,4 +1,4 @@
-use Rattle.std.proofs.Common.{◌≡◌, true, sym, ap, ◌∙◌}
+use Rattle.std.proofs.Common.{◌≡◌, sym, ◌∙◌}
 use Rattle.std.specs.List.{list_all}
 use Rattle.ckrt_mutex.specs.WellFormed.{may_wait_at, meets}
 use Rattle.ckrt_mutex.proofs.Test.{tested, rules_met}

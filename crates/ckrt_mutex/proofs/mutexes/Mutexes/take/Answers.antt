@@ -1,4 +1,4 @@
-use Rattle.std.proofs.Common.{rules, sym, ◌∙◌}
+use Rattle.std.proofs.Common.{sym, ◌∙◌}
 use Rattle.ckrt_objects.proofs.Changes.{room_of_not_full}
 use Rattle.ckrt_mutex.specs.Rows.{named}
 use Rattle.ckrt_mutex.proofs.mutexes.Mutexes.take.Goals as goal

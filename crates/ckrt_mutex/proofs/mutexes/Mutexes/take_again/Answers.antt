@@ -1,4 +1,3 @@
-use Rattle.std.proofs.Common.{rules}
 use Rattle.ckrt_objects.proofs.Changes.{room_of_not_full}
 use Rattle.ckrt_mutex.specs.Rows.{named}
 use Rattle.ckrt_mutex.proofs.mutexes.Mutexes.take_again.Goals as goal

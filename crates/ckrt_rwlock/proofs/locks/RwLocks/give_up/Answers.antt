@@ -1,4 +1,4 @@
-use Rattle.std.proofs.Common.{rules, sym, ◌∙◌}
+use Rattle.std.proofs.Common.{sym, ◌∙◌}
 use Rattle.ckrt_rwlock.proofs.Holders.{proper_given_up}
 use Rattle.ckrt_rwlock.proofs.WellFormed.{room_of_holder}
 use Rattle.ckrt_rwlock.proofs.locks.RwLocks.give_up.Goals as goal

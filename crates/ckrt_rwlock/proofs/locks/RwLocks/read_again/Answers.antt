@@ -1,4 +1,3 @@
-use Rattle.std.proofs.Common.{rules}
 use Rattle.ckrt_rwlock.proofs.WellFormed.{room_of_reader}
 use Rattle.ckrt_rwlock.proofs.locks.RwLocks.read_again.Goals as goal
 

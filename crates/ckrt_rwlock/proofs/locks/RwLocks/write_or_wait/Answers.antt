@@ -1,4 +1,4 @@
-use Rattle.std.proofs.Common.{rules, sym, ◌∙◌}
+use Rattle.std.proofs.Common.{sym, ◌∙◌}
 use Rattle.ckrt_rwlock.proofs.WellFormed.{room_of_unfull}
 use Rattle.ckrt_rwlock.proofs.locks.RwLocks.write_or_wait.Goals as goal
 
