@@ -37,7 +37,7 @@ SECTIONS
     .tbss (NOLOAD) : {
         *(.tbss .tbss.* .tcommon)
     }
-    __guest_locals_align = MAX(ALIGNOF(.tdata), ALIGNOF(.tbss));
+    __guest_locals_align = MAX(4, MAX(ALIGNOF(.tdata), ALIGNOF(.tbss)));
     __guest_locals_initial = ADDR(.tdata);
     __guest_locals_initial_size = SIZEOF(.tdata);
     __guest_locals_size = ADDR(.tbss) + SIZEOF(.tbss) - ADDR(.tdata);

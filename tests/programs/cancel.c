@@ -67,6 +67,15 @@ static void *reads(void *unused) {
     return (void *)(intptr_t)getchar();
 }
 
+static void *prints(void *unused) {
+    (void)unused;
+    pthread_cancel(pthread_self());
+    printf("who prints is not cancelled within a %s\n", "line");
+    pthread_testcancel();
+    puts("never printed");
+    return NULL;
+}
+
 static void *loops(void *unused) {
     (void)unused;
     pthread_setcanceltype(PTHREAD_CANCEL_ASYNCHRONOUS, NULL);
@@ -119,7 +128,7 @@ static void cancel(const char *name, void *(*start)(void *), int place) {
 }
 
 int main(void) {
-    pthread_t sleeper, joiner, disabled;
+    pthread_t sleeper, joiner, printer, disabled;
     cancel("who waits", waits, 1);
     pthread_create(&sleeper, NULL, sleeps, NULL);
     wait_for(2);
@@ -132,6 +141,8 @@ int main(void) {
     cancel("who reads", reads, 4);
     printf("stdin is %s\n", ftrylockfile(stdin) == 0 ? "free" : "locked");
     funlockfile(stdin);
+    pthread_create(&printer, NULL, prints, NULL);
+    end("who prints", printer);
     cancel("who loops", loops, 0);
     pthread_create(&disabled, NULL, refuses, NULL);
     wait_for(5);

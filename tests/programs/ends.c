@@ -3,37 +3,28 @@
 #include <stdint.h>
 #include <stdio.h>
 #include <stdlib.h>
+#include <time.h>
 
-enum { AT_ONCE = 8, DETACHED = 400, JOINED = 200 };
+enum { ROUNDS = 50, AT_ONCE = 8, JOINED = 200 };
 
+static pthread_barrier_t barrier;
 static pthread_mutex_t mutex = PTHREAD_MUTEX_INITIALIZER;
 static pthread_cond_t changed = PTHREAD_COND_INITIALIZER;
-static int running, ended;
+static int ended;
 
-static void count(int *counter, int change) {
-    pthread_mutex_lock(&mutex);
-    *counter += change;
-    pthread_cond_broadcast(&changed);
-    pthread_mutex_unlock(&mutex);
-}
-
-static void wait_for_room(void) {
-    pthread_mutex_lock(&mutex);
-    while (running >= AT_ONCE) pthread_cond_wait(&changed, &mutex);
-    running++;
-    pthread_mutex_unlock(&mutex);
-}
-
-static void leave(void *unused) {
+static void count(void *unused) {
     (void)unused;
-    count(&ended, 1);
-    count(&running, -1);
+    pthread_mutex_lock(&mutex);
+    ended++;
+    pthread_cond_signal(&changed);
+    pthread_mutex_unlock(&mutex);
 }
 
-/* Ends in one of four ways; two of them make it detached by itself. */
+/* Ends in one of three ways, together with others. */
 static void *detached(void *way) {
-    pthread_cleanup_push(leave, NULL);
-    switch ((int)(intptr_t)way % 4) {
+    pthread_cleanup_push(count, NULL);
+    pthread_barrier_wait(&barrier);
+    switch ((int)(intptr_t)way % 3) {
     case 0: pthread_exit(NULL);
     case 1: pthread_cancel(pthread_self()), pthread_testcancel();
     }
@@ -46,23 +37,36 @@ static void *joined(void *value) {
     return value;
 }
 
+static void create(pthread_t *id, const pthread_attr_t *attributes, void *(*start)(void *), int argument) {
+    if (pthread_create(id, attributes, start, (void *)(intptr_t)argument) != 0) puts("no room");
+}
+
+/* Half of the threads begin detached; the others are detached by this one, some of them surely after their end. */
+static void round_of_detached(const pthread_attr_t *attributes, int round) {
+    const struct timespec short_time = {0, 1000000};
+    pthread_t ids[AT_ONCE];
+    for (int i = 0; i < AT_ONCE; i++) create(&ids[i], i % 2 ? attributes : NULL, detached, i);
+    pthread_mutex_lock(&mutex);
+    while (round % 2 && ended < (round + 1) * AT_ONCE) pthread_cond_wait(&changed, &mutex);
+    pthread_mutex_unlock(&mutex);
+    if (round % 2) nanosleep(&short_time, NULL);
+    for (int i = 0; i < AT_ONCE; i += 2) {
+        if (pthread_detach(ids[i]) != 0) puts("not detached");
+    }
+    pthread_mutex_lock(&mutex);
+    while (ended < (round + 1) * AT_ONCE) pthread_cond_wait(&changed, &mutex);
+    pthread_mutex_unlock(&mutex);
+}
+
 /* The memory of all these threads together is many times the guest's: each one's has to be free for later ones. */
 static void many_detached(void) {
     pthread_attr_t attributes;
     pthread_attr_init(&attributes);
     pthread_attr_setdetachstate(&attributes, PTHREAD_CREATE_DETACHED);
-    for (int i = 0; i < DETACHED; i++) {
-        pthread_t id;
-        wait_for_room();
-        int is_late = i % 3 == 0; /* detached by another thread, before or after its end */
-        if (pthread_create(&id, is_late ? NULL : &attributes, detached, (void *)(intptr_t)i) != 0) puts("no room");
-        if (is_late && pthread_detach(id) != 0) puts("not detached");
-    }
-    pthread_mutex_lock(&mutex);
-    while (ended < DETACHED) pthread_cond_wait(&changed, &mutex);
-    printf("%d detached threads have ended\n", ended);
-    pthread_mutex_unlock(&mutex);
+    pthread_barrier_init(&barrier, NULL, AT_ONCE);
+    for (int round = 0; round < ROUNDS; round++) round_of_detached(&attributes, round);
     pthread_attr_destroy(&attributes);
+    printf("%d detached threads have ended\n", ended);
 }
 
 static void many_joined(void) {
@@ -70,7 +74,7 @@ static void many_joined(void) {
     for (int i = 0; i < JOINED; i++) {
         pthread_t id;
         void *value;
-        if (pthread_create(&id, NULL, joined, (void *)(intptr_t)i) != 0) puts("no room");
+        create(&id, NULL, joined, i);
         if (pthread_join(id, &value) != 0) puts("not joined");
         sum += (intptr_t)value;
     }

@@ -5,7 +5,7 @@
 #include <stdio.h>
 #include <time.h>
 
-enum { THREADS = 4, STEP = 60000000 };
+enum { THREADS = 4, STEP = 60400000 };
 
 static pthread_mutex_t mutex = PTHREAD_MUTEX_INITIALIZER;
 static pthread_cond_t never = PTHREAD_COND_INITIALIZER;
