@@ -36,6 +36,13 @@ impl InputQueue {
         })
     }
 
+    /// What always holds of the queue, for a proof.
+    pub fn known(&self)
+        ensures { length self.now ≤ INPUT_LIMIT }
+    {
+        let _ = &self.bytes;
+    }
+
     /// How many bytes wait to be read, at most [`INPUT_LIMIT`].
     pub fn len(&self) -> usize
         ensures len { result ≡ length self.now }
