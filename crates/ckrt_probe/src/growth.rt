@@ -1,6 +1,6 @@
 //! Formats a disk in memory and recovers a session from it, and says what it met.
 //!
-//! It is run with each growth of memory refused in turn (`bench/growths`): whatever growth that is, the answer is
+//! It is run with each growth of memory refused in turn (`tests/growths`): whatever growth that is, the answer is
 //! `OutOfMemory`, or there was no disk to begin with, and the bytes of the disk are as they were.
 
 use ckrt_disk::{Disk, MemoryDisk};

@@ -1,21 +1,43 @@
 //! The slots of the table, and the threads that begin in them.
-ghost use Rattle.std.specs.Prelude.{◌≡◌, ◌<◌, length, drop, is_none, slice_get, replicate, None, IfOk};
-ghost use Rattle.std.specs.Option.{option_flatten};
+ghost use Rattle.std.specs.Prelude.{◌≡◌, ◌<◌, ◌≤◌, length, drop, is_none, slice_get, slice_set, replicate, vec_capacity, None, IfOk};
+ghost use Rattle.std.specs.Option.{option_flatten, option_copied};
 ghost use Rattle.std.specs.List.{position, list_any};
 ghost use Rattle.ckrt_thread.specs.Cancellation.{handlers_of, with_cancellation, pushing, popping, entering};
 ghost use Rattle.ckrt_thread.specs.State.{is_live_thread, change_live, change_thread, with_word, with_regs, first_of_program};
 ghost use Rattle.ckrt_thread.specs.Rows.{new_thread, detached};
 
 use crate::abi::{A0, PROGRAM_START, RA, RETURN_GATE, SP};
-use crate::records::{Cancellation, Handler, Live, MAX_HANDLERS, Thread, ThreadId};
+use crate::records::{Cancellation, Handler, Live, MAX_HANDLERS, MAX_THREADS, Thread, ThreadId};
 use arrayvec::ArrayVec;
 use ckrt_rv32i::Regs;
 use std::alloc::{AllocError, Global};
+use std::marker::Model;
 
-/// A table of so many free slots. The only error is that the memory for it is refused.
+/// How many slots there are: one for each thread's number, and slot 0.
+const SLOTS: usize = MAX_THREADS + 1;
+
+/// What stands for each number from 0 to 64: a thread, or nothing. Only `new` takes memory.
+#[derive(Drop)]
+pub struct Slots {
+    slots: Vec<Option<Thread>>,
+}
+
+impl Model for Slots {
+    ghost use Rattle.std.specs.Prelude.{List, Option, length, vec_capacity, ◌≡◌, ◌≤◌};
+    ghost use Rattle.ckrt_thread.specs.declared.records.Thread.{Thread};
+
+    ghost Value = { List (Option Thread) };
+
+    ghost view = { λ a. a.slots.items };
+
+    ghost invariant = { λ a. (length a.slots.items ≡ 65) × (65 ≤ vec_capacity a.slots) };
+}
+
+/// So many free slots. The only error is that the memory for them is refused.
 #[tactic(auto, using(crate::proofs::SlotLemmas::one_more))]
-pub fn free_slots(alloc: Global, count: usize) -> Result<Vec<Option<Thread>>, AllocError>
-    ensures { IfOk result (λ table. table.items ≡ replicate count None) }
+fn free_slots(alloc: Global, count: usize) -> Result<Vec<Option<Thread>>, AllocError>
+    ensures items { IfOk result (λ table. table.items ≡ replicate count None) }
+    ensures room { IfOk result (λ table. count ≤ vec_capacity table) }
 {
     let mut table = Vec::with_capacity(alloc, count)?;
     for _ in 0..count {
@@ -24,6 +46,131 @@ pub fn free_slots(alloc: Global, count: usize) -> Result<Vec<Option<Thread>>, Al
         }
     }
     Ok(table)
+}
+
+impl Slots {
+    /// All slots are free. The only error is that the memory for them is refused.
+    pub fn new(alloc: Global) -> Result<Self, AllocError>
+        ensures { IfOk result (λ slots. slots ≡ replicate 65 None) }
+    {
+        Ok(Slots {
+            slots: free_slots(alloc, SLOTS)?,
+        })
+    }
+
+    /// The slots, from that of 0 on.
+    pub fn as_slice(&self) -> &[Option<Thread>]
+        ensures slots { result.now ≡ self.now }
+        ensures size { length result.now ≡ 65 }
+    {
+        self.slots.as_slice()
+    }
+
+    /// What stands for the number, if a thread does.
+    pub fn get(&self, id: usize) -> Option<&Thread>
+        ensures { option_copied result ≡ option_flatten (slice_get self.now id) }
+    {
+        match self.slots.get(id) {
+            Some(Some(thread)) => Some(thread),
+            _ => None,
+        }
+    }
+
+    /// The number stands for this from now on.
+    pub fn set(&mut self, id: ThreadId, slot: Option<Thread>)
+        requires { id < length self.old }
+        ensures { self.new ≡ slice_set self.old id slot }
+    {
+        self.slots[id as usize] = slot;
+    }
+
+    /// Writes one register of a thread that has not ended.
+    #[tactic(auto, using(crate::proofs::SlotLemmas::slot_read))]
+    pub fn set_word(&mut self, thread: ThreadId, register: u8, value: u32)
+        requires register { register < 32 }
+        requires within { thread < length self.old }
+        ensures { self.new ≡ change_thread (with_word register value) thread self.old }
+    {
+        let slot = &mut self.slots[thread as usize];
+        if let Some(Thread::Live(live)) = slot {
+            live.regs.put(register, value);
+        }
+    }
+
+    /// Writes the registers of a thread that has not ended.
+    #[tactic(auto, using(crate::proofs::SlotLemmas::slot_read))]
+    pub fn set_regs(&mut self, thread: ThreadId, regs: &Regs)
+        requires within { thread < length self.old }
+        ensures { self.new ≡ change_thread (with_regs regs.now) thread self.old }
+    {
+        let slot = &mut self.slots[thread as usize];
+        if let Some(Thread::Live(live)) = slot {
+            live.regs = *regs;
+        }
+    }
+
+    /// A thread that has not ended is detached from now on.
+    #[tactic(auto, using(crate::proofs::SlotLemmas::slot_read))]
+    pub fn detach(&mut self, thread: ThreadId)
+        requires within { thread < length self.old }
+        ensures { self.new ≡ change_thread detached thread self.old }
+    {
+        let slot = &mut self.slots[thread as usize];
+        if let Some(Thread::Live(live)) = slot {
+            live.detached = true;
+        }
+    }
+
+    /// Writes the cancellation of a thread that has not ended.
+    #[tactic(auto, using(crate::proofs::SlotLemmas::slot_read))]
+    pub fn set_cancellation(&mut self, thread: ThreadId, cancellation: &Cancellation)
+        requires within { thread < length self.old }
+        ensures { self.new ≡ change_thread (with_cancellation cancellation.now) thread self.old }
+    {
+        let slot = &mut self.slots[thread as usize];
+        if let Some(Thread::Live(live)) = slot {
+            live.cancellation = *cancellation;
+        }
+    }
+
+    /// A thread that has not ended has one handler more. It must have room for it.
+    #[tactic(auto, using(crate::proofs::SlotLemmas::slot_read))]
+    pub fn push_handler(&mut self, thread: ThreadId, handler: Handler)
+        requires within { thread < length self.old }
+        requires room { length (handlers_of (option_flatten (slice_get self.old thread))) < MAX_HANDLERS }
+        ensures { self.new ≡ change_thread (pushing handler) thread self.old }
+    {
+        let slot = &mut self.slots[thread as usize];
+        if let Some(Thread::Live(live)) = slot {
+            live.handlers.push(handler);
+        }
+    }
+
+    /// A thread that has not ended has its newest handler no more.
+    #[tactic(auto, using(crate::proofs::SlotLemmas::slot_read))]
+    pub fn pop_handler(&mut self, thread: ThreadId)
+        requires within { thread < length self.old }
+        ensures { self.new ≡ change_thread popping thread self.old }
+    {
+        let slot = &mut self.slots[thread as usize];
+        if let Some(Thread::Live(live)) = slot {
+            live.handlers.pop();
+        }
+    }
+
+    /// A thread that has not ended goes to the routine of a handler, which returns to an address.
+    #[tactic(auto, using(crate::proofs::SlotLemmas::slot_read))]
+    pub fn enter(&mut self, thread: ThreadId, handler: Handler, back: u32)
+        requires within { thread < length self.old }
+        ensures { self.new ≡ change_thread (entering back handler) thread self.old }
+    {
+        let slot = &mut self.slots[thread as usize];
+        if let Some(Thread::Live(live)) = slot {
+            live.regs.set_pc(handler.routine);
+            live.regs.put(RA, back);
+            live.regs.put(A0, handler.argument);
+        }
+    }
 }
 
 /// The thread that a program begins with.
@@ -60,7 +207,7 @@ pub fn new_thread(start: u32, arg: u32, stack: u32, detached: bool) -> Thread
 }
 
 /// Whether there is a thread, and it has not ended.
-pub fn is_live_slot(slot: &Option<Thread>) -> bool
+fn is_live_slot(slot: &Option<Thread>) -> bool
     ensures { result ≡ is_live_thread slot.now }
 {
     matches!(slot, Some(Thread::Live(_)))
@@ -80,96 +227,4 @@ pub fn free_slot(table: &[Option<Thread>]) -> Option<usize>
 {
     let (_, slots) = table.split_at(1);
     slots.iter().position(|slot| slot.is_none())
-}
-
-/// Writes one register of a thread that has not ended.
-#[tactic(auto, using(crate::proofs::SlotLemmas::slot_read))]
-pub fn set_word_of(table: &mut Vec<Option<Thread>>, thread: ThreadId, register: u8, value: u32)
-    requires register { register < 32 }
-    requires within { thread < length table.old.items }
-    ensures { table.new.items ≡ change_thread (with_word register value) thread table.old.items }
-{
-    let slot = &mut table[thread as usize];
-    if let Some(Thread::Live(live)) = slot {
-        live.regs.put(register, value);
-    }
-}
-
-/// Writes the registers of a thread that has not ended.
-#[tactic(auto, using(crate::proofs::SlotLemmas::slot_read))]
-pub fn set_regs_of(table: &mut Vec<Option<Thread>>, thread: ThreadId, regs: &Regs)
-    requires within { thread < length table.old.items }
-    ensures { table.new.items ≡ change_thread (with_regs regs.now) thread table.old.items }
-{
-    let slot = &mut table[thread as usize];
-    if let Some(Thread::Live(live)) = slot {
-        live.regs = *regs;
-    }
-}
-
-/// A thread that has not ended is detached from now on.
-#[tactic(auto, using(crate::proofs::SlotLemmas::slot_read))]
-pub fn detach_in(table: &mut Vec<Option<Thread>>, thread: ThreadId)
-    requires within { thread < length table.old.items }
-    ensures { table.new.items ≡ change_thread detached thread table.old.items }
-{
-    let slot = &mut table[thread as usize];
-    if let Some(Thread::Live(live)) = slot {
-        live.detached = true;
-    }
-}
-
-/// Writes the cancellation of a thread that has not ended.
-#[tactic(auto, using(crate::proofs::SlotLemmas::slot_read))]
-pub fn set_cancellation_of(
-    table: &mut Vec<Option<Thread>>,
-    thread: ThreadId,
-    cancellation: &Cancellation,
-)
-    requires within { thread < length table.old.items }
-    ensures { table.new.items ≡ change_thread (with_cancellation cancellation.now) thread table.old.items }
-{
-    let slot = &mut table[thread as usize];
-    if let Some(Thread::Live(live)) = slot {
-        live.cancellation = *cancellation;
-    }
-}
-
-/// A thread that has not ended has one handler more. It must have room for it.
-#[tactic(auto, using(crate::proofs::SlotLemmas::slot_read))]
-pub fn push_handler_of(table: &mut Vec<Option<Thread>>, thread: ThreadId, handler: Handler)
-    requires within { thread < length table.old.items }
-    requires room { length (handlers_of (option_flatten (slice_get table.old.items thread))) < MAX_HANDLERS }
-    ensures { table.new.items ≡ change_thread (pushing handler) thread table.old.items }
-{
-    let slot = &mut table[thread as usize];
-    if let Some(Thread::Live(live)) = slot {
-        live.handlers.push(handler);
-    }
-}
-
-/// A thread that has not ended has its newest handler no more.
-#[tactic(auto, using(crate::proofs::SlotLemmas::slot_read))]
-pub fn pop_handler_of(table: &mut Vec<Option<Thread>>, thread: ThreadId)
-    requires within { thread < length table.old.items }
-    ensures { table.new.items ≡ change_thread popping thread table.old.items }
-{
-    let slot = &mut table[thread as usize];
-    if let Some(Thread::Live(live)) = slot {
-        live.handlers.pop();
-    }
-}
-
-/// A thread that has not ended goes to the routine of a handler, which returns to an address.
-#[tactic(auto, using(crate::proofs::SlotLemmas::slot_read))]
-pub fn enter_in(table: &mut Vec<Option<Thread>>, thread: ThreadId, handler: Handler, back: u32)
-    requires within { thread < length table.old.items }
-    ensures { table.new.items ≡ change_thread (entering back handler) thread table.old.items }
-{
-    let slot = &mut table[thread as usize];
-    if let Some(Thread::Live(live)) = slot {
-        live.regs.set_pc(handler.routine);
-        live.regs.put(RA, back);
-        live.regs.put(A0, handler.argument);
-    }
 }

@@ -18,27 +18,21 @@ use crate::deadlines::earliest_due;
 use crate::errors::{EAGAIN, EDEADLK, EINVAL, ESRCH};
 use crate::harts::{harts_any, take_off};
 use crate::records::{
-    CallResult, Cancellation, Handler, Live, MAX_HANDLERS, MAX_HARTS, MAX_THREADS, Object, Reason,
-    Thread, ThreadId, Wait,
+    CallResult, Cancellation, Handler, Live, MAX_HANDLERS, MAX_HARTS, Object, Reason, Thread,
+    ThreadId, Wait,
 };
-use crate::slots::{
-    any_live, detach_in, enter_in, first_thread, free_slot, free_slots, is_live_slot, new_thread,
-    pop_handler_of, push_handler_of, set_cancellation_of, set_regs_of, set_word_of,
-};
+use crate::slots::{Slots, any_live, first_thread, free_slot, new_thread};
 use crate::wait_list::WaitList;
 use crate::waits::{count_for, first_for, wait_of};
 use ckrt_rv32i::Regs;
 use std::alloc::{AllocError, Global};
 use std::marker::Model;
 
-/// The slots of the table: one for each thread's number, and slot 0, which stays empty.
-const SLOTS: usize = MAX_THREADS + 1;
-
 /// The threads of a program by number, the list of waits in order of the start of waiting, and who is on which hart.
 /// Only `new` takes memory.
 #[derive(Drop)]
 pub struct Threads {
-    table: Vec<Option<Thread>>,
+    slots: Slots,
     waits: WaitList,
     harts: [Option<ThreadId>; MAX_HARTS],
     hart_count: usize,
@@ -49,9 +43,9 @@ impl Model for Threads {
 
     ghost Value = { State };
 
-    ghost view = { λ a. record { threads = a.table.items; waits = a.waits; harts = a.harts; hart_count = a.hart_count } };
+    ghost view = { λ a. record { threads = a.slots; waits = a.waits; harts = a.harts; hart_count = a.hart_count } };
 
-    ghost invariant = { λ a. IsWellFormed (record { threads = a.table.items; waits = a.waits; harts = a.harts; hart_count = a.hart_count }) };
+    ghost invariant = { λ a. IsWellFormed (record { threads = a.slots; waits = a.waits; harts = a.harts; hart_count = a.hart_count }) };
 }
 
 impl Threads {
@@ -73,7 +67,7 @@ impl Threads {
         ensures { IfOk result (λ threads. threads ≡ empty harts) }
     {
         Ok(Threads {
-            table: free_slots(alloc, SLOTS)?,
+            slots: Slots::new(alloc)?,
             waits: WaitList::new(),
             harts: [None; MAX_HARTS],
             hart_count: harts,
@@ -84,7 +78,7 @@ impl Threads {
     pub fn known(&self)
         ensures { IsWellFormed self.now }
     {
-        let _ = &self.table;
+        let _ = &self.slots;
     }
 
     /// That the number of a thread that has not ended is 1 to 64, for a proof.
@@ -92,7 +86,7 @@ impl Threads {
         requires { is_live self.now thread ≡ true }
         ensures { (0 < thread) × (thread ≤ 64) }
     {
-        let _ = &self.table;
+        let _ = &self.slots;
     }
 
     // Questions.
@@ -109,7 +103,7 @@ impl Threads {
         ensures slots { result.now ≡ self.now.threads }
         ensures size { length result.now ≡ 65 }
     {
-        self.table.as_slice()
+        self.slots.as_slice()
     }
 
     /// What stands for the number: a thread, or nothing.
@@ -117,10 +111,7 @@ impl Threads {
         ensures thread { option_copied result ≡ thread_of self.now id }
         ensures number { IfSome result (λ _. (0 < id) × (id ≤ 64)) }
     {
-        match self.table.get(id as usize) {
-            Some(Some(thread)) => Some(thread),
-            _ => None,
-        }
+        self.slots.get(id as usize)
     }
 
     /// A thread that has not ended.
@@ -130,7 +121,7 @@ impl Threads {
         ensures aligned { is_aligned result.now.regs ≡ true }
         ensures proper { is_proper_live result.now ≡ true }
     {
-        let Some(Thread::Live(live)) = &self.table[thread as usize] else {
+        let Some(Thread::Live(live)) = self.slots.get(thread as usize) else {
             unreachable!()
         };
         live
@@ -141,8 +132,8 @@ impl Threads {
         ensures regs { result ≡ regs_of (thread_of self.now thread) }
         ensures aligned { IfSome result (λ regs. is_aligned regs ≡ true) }
     {
-        match self.table.get(thread as usize) {
-            Some(Some(Thread::Live(live))) => Some(live.regs),
+        match self.slots.get(thread as usize) {
+            Some(Thread::Live(live)) => Some(live.regs),
             _ => None,
         }
     }
@@ -151,10 +142,7 @@ impl Threads {
     fn is_live(&self, thread: ThreadId) -> bool
         ensures { result ≡ is_live self.now thread }
     {
-        match self.table.get(thread as usize) {
-            Some(slot) => is_live_slot(slot),
-            None => false,
-        }
+        matches!(self.slots.get(thread as usize), Some(Thread::Live(_)))
     }
 
     /// Whether the thread has not ended and is not detached.
@@ -168,8 +156,8 @@ impl Threads {
     pub(crate) fn is_unwinding(&self, thread: ThreadId) -> bool
         ensures { result ≡ is_unwinding (thread_of self.now thread) }
     {
-        match self.table.get(thread as usize) {
-            Some(Some(Thread::Live(live))) => live.cancellation.unwinding.is_some(),
+        match self.slots.get(thread as usize) {
+            Some(Thread::Live(live)) => live.cancellation.unwinding.is_some(),
             _ => false,
         }
     }
@@ -178,8 +166,8 @@ impl Threads {
     fn is_detached(&self, thread: ThreadId) -> bool
         ensures { result ≡ is_detached (thread_of self.now thread) }
     {
-        match self.table.get(thread as usize) {
-            Some(Some(Thread::Live(live))) => live.detached,
+        match self.slots.get(thread as usize) {
+            Some(Thread::Live(live)) => live.detached,
             _ => false,
         }
     }
@@ -216,7 +204,7 @@ impl Threads {
     pub fn is_any_live(&self) -> bool
         ensures { result ≡ is_any_live self.now }
     {
-        any_live(self.table.as_slice())
+        any_live(self.slots.as_slice())
     }
 
     /// Whether the thread has not ended, does not wait, and is on no hart.
@@ -316,7 +304,7 @@ impl Threads {
         requires aligned { is_aligned regs.now ≡ true }
         ensures { self.new ≡ with_thread_regs thread regs.now self.old }
     {
-        set_regs_of(&mut self.table, thread, regs);
+        self.slots.set_regs(thread, regs);
     }
 
     /// A value goes to a register of a thread. One that has ended keeps what it is.
@@ -325,7 +313,7 @@ impl Threads {
         requires register { register < 32 }
         ensures { self.new ≡ set_word thread register value self.old }
     {
-        set_word_of(&mut self.table, thread, register, value);
+        self.slots.set_word(thread, register, value);
     }
 
     /// A result goes to x10 of a thread. One that has ended keeps what it is.
@@ -350,7 +338,7 @@ impl Threads {
         requires ready { is_ready self.old thread ≡ true }
         ensures { self.new ≡ placed_on hart thread self.old }
     {
-        let _ = &self.table;
+        let _ = &self.slots;
         self.harts[hart] = Some(thread);
     }
 
@@ -415,7 +403,7 @@ impl Threads {
         requires proper { is_proper_slot slot ≡ true }
         ensures { self.new ≡ with_slot id slot self.old }
     {
-        self.table[id as usize] = slot;
+        self.slots.set(id, slot);
     }
 
     /// A thread that has not ended, and that nobody joins, is detached from now on.
@@ -424,7 +412,7 @@ impl Threads {
         requires unjoined { joiners self.old thread ≡ 0 }
         ensures { self.new ≡ record self.old { threads = change_thread detached thread self.old.threads } }
     {
-        detach_in(&mut self.table, thread);
+        self.slots.detach(thread);
     }
 
     // Cancellation and clean-up handlers.
@@ -437,7 +425,7 @@ impl Threads {
         requires unwinding { is_unwinding (thread_of self.old thread) ≡ true → is_some cancellation.now.unwinding ≡ true }
         ensures { self.new ≡ with_cancellation_of thread cancellation.now self.old }
     {
-        set_cancellation_of(&mut self.table, thread, cancellation);
+        self.slots.set_cancellation(thread, cancellation);
     }
 
     /// A thread that has not ended has one clean-up handler more, the newest. It must have room for it: fewer than
@@ -448,7 +436,7 @@ impl Threads {
         requires room { length (handlers_of (thread_of self.old thread)) < MAX_HANDLERS }
         ensures { self.new ≡ pushed handler thread self.old }
     {
-        push_handler_of(&mut self.table, thread, handler);
+        self.slots.push_handler(thread, handler);
     }
 
     /// The newest clean-up handler of a thread that has not ended, which it has no more, if it has one.
@@ -470,7 +458,7 @@ impl Threads {
         requires { is_live self.old thread ≡ true }
         ensures { self.new ≡ record self.old { threads = change_thread popping thread self.old.threads } }
     {
-        pop_handler_of(&mut self.table, thread);
+        self.slots.pop_handler(thread);
     }
 
     /// A thread that has not ended goes to the routine of a handler, with the handler's argument in x10. The routine
@@ -480,7 +468,7 @@ impl Threads {
         requires aligned { is_aligned_handler handler ≡ true }
         ensures { self.new ≡ entered back handler thread self.old }
     {
-        enter_in(&mut self.table, thread, handler, back);
+        self.slots.enter(thread, handler, back);
     }
 
     /// A thread, which does not wait, goes to its newest clean-up handler, which it has no more. With none left it
@@ -532,7 +520,7 @@ impl Threads {
         ensures free { IfSome result (λ i. places self.now (i + 1) ≡ 0) }
         ensures unjoined { IfSome result (λ i. joiners self.now (i + 1) ≡ 0) }
     {
-        free_slot(self.table.as_slice())
+        free_slot(self.slots.as_slice())
     }
 
     /// `pthread_create`: a thread with the least free number, which goes to x11 of the caller. It begins at `start`

@@ -1,6 +1,6 @@
-use Rattle.std.proofs.Common.{◌≡◌, None, replicate}
+use Rattle.std.proofs.Common.{◌≡◌, ◌≤◌, None, replicate, vec_capacity}
 use Rattle.ckrt_thread.proofs.slots.free_slots.Given as goal
 
--- so many slots are free
+-- so many slots are free, and there is memory for all
 abbrev pub invariant-loop : goal.invariant-loop
-invariant-loop l = l.table.items ≡ replicate l.counter None
+invariant-loop l = record { items : l.table.items ≡ replicate l.counter None; room : l.count ≤ vec_capacity l.table }

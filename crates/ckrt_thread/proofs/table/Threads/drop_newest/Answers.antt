@@ -4,4 +4,4 @@ use Rattle.ckrt_thread.proofs.table.Threads.drop_newest.Goals as goal
 
 pub invariant_of-self : goal.invariant_of-self
 invariant_of-self c =
-    rw c.pop_handler_of.ensures (well_formed_change _ popping c.args.thread changes_popping c.self.invariant)
+    rw c.pop_handler.ensures (well_formed_change _ popping c.args.thread changes_popping c.self.invariant)

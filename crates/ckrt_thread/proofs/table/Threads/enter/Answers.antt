@@ -4,4 +4,4 @@ use Rattle.ckrt_thread.proofs.table.Threads.enter.Goals as goal
 
 pub invariant_of-self : goal.invariant_of-self
 invariant_of-self c =
-    rw c.enter_in.ensures (well_formed_change _ (entering c.args.back c.args.handler) c.args.thread (changes_entering c.args.back c.args.handler c.requires.aligned) c.self.invariant)
+    rw c.enter.ensures (well_formed_change _ (entering c.args.back c.args.handler) c.args.thread (changes_entering c.args.back c.args.handler c.requires.aligned) c.self.invariant)
