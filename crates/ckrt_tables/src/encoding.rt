@@ -118,8 +118,20 @@ fn put_parts(out: &mut [u8], tables: &Tables, held: &Held) -> usize
     put_held(out, input, held)
 }
 
+/// That the tables have few enough rows for their counts, for a proof.
+fn known_few(tables: &Tables)
+    ensures { IsFew tables.now }
+{
+    let _ = tables.threads.waits();
+    let _ = tables.mutexes.rows();
+    tables.barriers.known();
+    tables.rwlocks.known();
+    let _ = tables.input.as_slices();
+}
+
 /// Writes the encoding of tables and held output at the front of `out`, and answers how many bytes it has; what is behind
 /// it stays. `out` must have room for [`TABLES_ROOM`] bytes.
+#[tactic(auto, using(crate::proofs::Bounds::encoding_bound))]
 pub fn encode_tables(tables: &Tables, held: &Held, out: &mut [u8]) -> usize
     requires well_formed { IsWellFormed tables.now }
     requires held { IsHeld held.now.items }
@@ -128,5 +140,6 @@ pub fn encode_tables(tables: &Tables, held: &Held, out: &mut [u8]) -> usize
     ensures front { take result out.new ≡ encoding_of tables.now held.now.items }
     ensures back { drop result out.new ≡ drop result out.old }
 {
+    known_few(tables);
     put_parts(out, tables, held)
 }
