@@ -18,7 +18,7 @@ use Rattle.ckrt_calls.specs.declared.table.Tables.{Tables}
 use Rattle.ckrt_calls.specs.WellFormed.{IsWellFormed}
 use Rattle.ckrt_tables.specs.Records.{hart_bytes, handlers_of, handler_bytes, thread_bytes, wait_bytes, mutex_bytes, barrier_bytes, reader_at, readers_from, reader_bytes, rwlock_bytes}
 use Rattle.ckrt_tables.specs.Encoding.{encoding_of, IsHeld}
-use Rattle.ckrt_tables.specs.Writing.{IsFew}
+use Rattle.ckrt_tables.proofs.Few.{few}
 use Rattle.ckrt_tables.proofs.Slots.{length_reader_at}
 use Rattle.ckrt_tables.proofs.Lengths.{encoding_length, status_length}
 
@@ -86,13 +86,25 @@ rwlocks_bound (l ∷ ls) is =
 
 -- ALL
 
-pub encoding_bound : (s : Tables) (held : List ℕ) → IsWellFormed s → IsFew s → IsHeld held → length (encoding_of s held) ≤ 53922
-encoding_bound s held is few is_held =
-    omega (arith, encoding_length s held, status_length s.status,
-      length_each hart_bytes 1 (λ h. refl) s.threads.harts, is.threads.harts,
-      threads_bound 0 s.threads.threads is.threads.proper, few_threads s.threads is.threads,
-      length_each wait_bytes 20 (λ w. refl) s.threads.waits, few.waits,
-      length_each mutex_bytes 8 (λ m. refl) s.mutexes, few.mutexes,
-      length_each barrier_bytes 8 (λ b. refl) s.barriers, few.barriers,
-      rwlocks_bound s.rwlocks is.rwlocks.table.proper, few.rwlocks,
-      few.input, is_held)
+pub encoding_bound : (s : Tables) (held : List ℕ) → IsWellFormed s → IsHeld held → length (encoding_of s held) ≤ 53922
+encoding_bound s held is is_held =
+    let at_most = few s is in
+    omega (
+      arith,
+      encoding_length s held,
+      status_length s.status,
+      length_each hart_bytes 1 (λ h. refl) s.threads.harts,
+      is.threads.harts,
+      threads_bound 0 s.threads.threads is.threads.proper,
+      few_threads s.threads is.threads,
+      length_each wait_bytes 20 (λ w. refl) s.threads.waits,
+      at_most.waits,
+      length_each mutex_bytes 8 (λ m. refl) s.mutexes,
+      at_most.mutexes,
+      length_each barrier_bytes 8 (λ b. refl) s.barriers,
+      at_most.barriers,
+      rwlocks_bound s.rwlocks is.rwlocks.table.proper,
+      at_most.rwlocks,
+      at_most.input,
+      is_held,
+    )

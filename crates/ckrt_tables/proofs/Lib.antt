@@ -2,4 +2,5 @@ pub mod Rows
 pub mod Puts
 pub mod Slots
 pub mod Lengths
+pub mod Few
 pub mod Bounds
