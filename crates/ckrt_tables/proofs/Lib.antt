@@ -1,3 +1,4 @@
 pub mod Rows
 pub mod Puts
 pub mod Slots
+pub mod Bounds
