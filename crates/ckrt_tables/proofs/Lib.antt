@@ -2,3 +2,4 @@ pub mod Rows
 pub mod Puts
 pub mod Slots
 pub mod Bounds
+pub mod Lengths

@@ -110,6 +110,6 @@ pub record Fit (s : Tables) : Type 0 where
 pub record CanBeSaved (harts : ℕ) (s : Tables) (held : List ℕ) : Type 0 where
   pub well_formed : IsWellFormed s
   pub fit : Fit s
-  pub harts : s.threads.hart_count ≡ harts
-  pub held : IsHeld held
+  pub hart_count : s.threads.hart_count ≡ harts
+  pub is_held : IsHeld held
   pub held_bytes : list_all is_byte held ≡ true

@@ -1,7 +1,9 @@
 //! Tables and held output as bytes.
-ghost use Rattle.std.specs.Prelude.{◌≡◌, ◌≤◌, ◌+◌, ◌++◌, length, take, drop};
+ghost use Rattle.std.specs.Prelude.{◌≡◌, ◌≤◌, ◌+◌, ◌∷◌, ◌++◌, [], length, take, drop};
+ghost use Rattle.byteorder.specs.Endian.{little_bytes};
 ghost use Rattle.ckrt_calls.specs.WellFormed.{IsWellFormed};
 ghost use Rattle.ckrt_tables.specs.Encoding.{encoding_of, status_bytes, framed, queue_bytes, IsHeld};
+ghost use Rattle.ckrt_tables.specs.Records.{flag};
 ghost use Rattle.ckrt_tables.specs.Writing.{IsPut, IsFew};
 
 use crate::numbers::{cause_number, flag};
@@ -9,7 +11,7 @@ use crate::objects::{put_barriers, put_mutexes, put_rwlocks};
 use crate::threads::{put_harts, put_threads, put_waits};
 use crate::writing::put;
 use byteorder::{ByteOrder, LittleEndian};
-use ckrt_calls::{Status, Tables};
+use ckrt_calls::{InputQueue, Status, Tables};
 use circular_buffer::HeapCircularBuffer;
 
 /// The output that a program holds, first byte first: at most [`HELD_LIMIT`] bytes.
@@ -41,16 +43,59 @@ fn status_bytes(status: Status) -> [u8; 7]
     }
 }
 
-/// How many bytes there are, at most 65,535, and the bytes, which lie in two slices.
+/// The clock.
+fn put_clock(out: &mut [u8], at: usize, clock: u64) -> usize
+    requires { at + length (little_bytes 8 clock) ≤ length out.old }
+    ensures { IsPut out.old at (little_bytes 8 clock) out.new result }
+{
+    put(out, at, &clock.to_le_bytes())
+}
+
+/// Whether no more input comes.
+fn put_closed(out: &mut [u8], at: usize, is_closed: bool) -> usize
+    requires { at + length (flag 1 is_closed ∷ []) ≤ length out.old }
+    ensures { IsPut out.old at (flag 1 is_closed ∷ []) out.new result }
+{
+    put(out, at, &[flag(1, is_closed)])
+}
+
+/// The status of the program.
+fn put_status(out: &mut [u8], at: usize, status: Status) -> usize
+    requires { at + length (status_bytes status) ≤ length out.old }
+    ensures { IsPut out.old at (status_bytes status) out.new result }
+{
+    put(out, at, &status_bytes(status))
+}
+
+/// How many bytes there are, at most 16,384, and the bytes, which lie in two slices.
 fn put_queue(out: &mut [u8], at: usize, first: &[u8], second: &[u8]) -> usize
     requires few { length (first.now ++ second.now) ≤ HELD_LIMIT }
     requires room { at + length (queue_bytes (first.now ++ second.now)) ≤ length out.old }
     ensures { IsPut out.old at (queue_bytes (first.now ++ second.now)) out.new result }
 {
     let count = (first.len() + second.len()) as u16;
-    let end = put(out, at, &count.to_le_bytes());
-    let end = put(out, end, first);
-    put(out, end, second)
+    let head = put(out, at, &count.to_le_bytes());
+    let middle = put(out, head, first);
+    put(out, middle, second)
+}
+
+/// The input that no thread has read.
+fn put_input(out: &mut [u8], at: usize, input: &InputQueue) -> usize
+    requires { at + length (queue_bytes input.now) ≤ length out.old }
+    ensures { IsPut out.old at (queue_bytes input.now) out.new result }
+{
+    let (first, second) = input.as_slices();
+    put_queue(out, at, first, second)
+}
+
+/// The held output.
+fn put_held(out: &mut [u8], at: usize, held: &Held) -> usize
+    requires held { IsHeld held.now.items }
+    requires room { at + length (queue_bytes held.now.items) ≤ length out.old }
+    ensures { IsPut out.old at (queue_bytes held.now.items) out.new result }
+{
+    let (first, second) = held.as_slices();
+    put_queue(out, at, first, second)
 }
 
 /// All parts, one behind another.
@@ -60,19 +105,17 @@ fn put_parts(out: &mut [u8], tables: &Tables, held: &Held) -> usize
     requires room { length (encoding_of tables.now held.now.items) ≤ length out.old }
     ensures { IsPut out.old 0 (encoding_of tables.now held.now.items) out.new result }
 {
-    let clock = put(out, 0, &tables.clock.to_le_bytes());
-    let closed = put(out, clock, &[flag(1, tables.closed)]);
-    let status = put(out, closed, &status_bytes(tables.status));
+    let clock = put_clock(out, 0, tables.clock);
+    let closed = put_closed(out, clock, tables.closed);
+    let status = put_status(out, closed, tables.status);
     let harts = put_harts(out, status, &tables.threads);
     let threads = put_threads(out, harts, &tables.threads);
-    let waits = put_waits(out, threads, tables.threads.waits());
-    let mutexes = put_mutexes(out, waits, tables.mutexes.rows().as_slice());
-    let barriers = put_barriers(out, mutexes, tables.barriers.rows());
-    let rwlocks = put_rwlocks(out, barriers, tables.rwlocks.rows());
-    let (first, second) = tables.input.as_slices();
-    let input = put_queue(out, rwlocks, first, second);
-    let (first, second) = held.as_slices();
-    put_queue(out, input, first, second)
+    let waits = put_waits(out, threads, &tables.threads);
+    let mutexes = put_mutexes(out, waits, &tables.mutexes);
+    let barriers = put_barriers(out, mutexes, &tables.barriers);
+    let rwlocks = put_rwlocks(out, barriers, &tables.rwlocks);
+    let input = put_input(out, rwlocks, &tables.input);
+    put_held(out, input, held)
 }
 
 /// Writes the encoding of tables and held output at the front of `out`, and answers how many bytes it has; what is behind

@@ -143,11 +143,11 @@ impl Record for Wait {
 }
 
 /// The waits in order, at most 64.
-pub fn put_waits(out: &mut [u8], at: usize, waits: &[Wait]) -> usize
-    requires few { length waits.now ≤ 64 }
-    requires room { at + length (counted one_byte wait_bytes waits.now) ≤ length out.old }
-    ensures { IsPut out.old at (counted one_byte wait_bytes waits.now) out.new result }
+pub fn put_waits(out: &mut [u8], at: usize, threads: &Threads) -> usize
+    requires { at + length (counted one_byte wait_bytes threads.now.waits) ≤ length out.old }
+    ensures { IsPut out.old at (counted one_byte wait_bytes threads.now.waits) out.new result }
 {
+    let waits = threads.waits();
     let end = put(out, at, &[waits.len() as u8]);
     put_all(out, end, waits)
 }
