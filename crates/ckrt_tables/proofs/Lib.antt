@@ -3,3 +3,4 @@ pub mod Puts
 pub mod Slots
 pub mod Bounds
 pub mod Lengths
+pub mod Distinct
