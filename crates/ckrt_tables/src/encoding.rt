@@ -11,8 +11,8 @@ use crate::objects::{put_barriers, put_mutexes, put_rwlocks};
 use crate::threads::{put_harts, put_threads, put_waits};
 use crate::writing::put;
 use byteorder::{ByteOrder, LittleEndian};
-use ckrt_calls::{InputQueue, Status, Tables};
 use circular_buffer::HeapCircularBuffer;
+use ckrt_calls::{InputQueue, Status, Tables};
 
 /// The output that a program holds, first byte first: at most [`HELD_LIMIT`] bytes.
 pub type Held = HeapCircularBuffer<u8>;
@@ -20,8 +20,13 @@ pub type Held = HeapCircularBuffer<u8>;
 /// How many bytes of output a program holds at most.
 pub const HELD_LIMIT: usize = 16_384;
 
-/// The room that saved tables have, in bytes. The longest have 53,922.
+/// The room that saved tables have, in bytes.
 pub const TABLES_ROOM: usize = 98_304;
+
+/// How many bytes the longest saved tables have: 16 for clock, input and status, 8 for harts, and the counts and records of
+/// 64 threads with 16 handlers each, 64 waits, 256 mutexes, 64 barriers, 64 read-write locks with 64 readers each, 4,096
+/// bytes of input and 16,384 of output.
+pub const LONGEST_TABLES: usize = 53_922;
 
 /// What a status and its parts are saved as.
 fn framed(kind: u8, thread: u8, cause: u8, word: u32) -> [u8; 7]
@@ -120,11 +125,13 @@ fn put_parts(out: &mut [u8], tables: &Tables, held: &Held) -> usize
 
 /// Writes the encoding of tables and held output at the front of `out`, and answers how many bytes it has; what is behind
 /// it stays. `out` must have room for [`TABLES_ROOM`] bytes.
+#[tactic(auto, using(crate::proofs::Bounds::encoding_bound))]
 pub fn encode_tables(tables: &Tables, held: &Held, out: &mut [u8]) -> usize
     requires well_formed { IsWellFormed tables.now }
     requires held { IsHeld held.now.items }
     requires room { TABLES_ROOM ≤ length out.old }
     ensures length { result ≡ length (encoding_of tables.now held.now.items) }
+    ensures longest { result ≤ LONGEST_TABLES }
     ensures front { take result out.new ≡ encoding_of tables.now held.now.items }
     ensures back { drop result out.new ≡ drop result out.old }
 {

@@ -2,9 +2,11 @@
 #![tactic(auto)]
 
 mod encoding;
+mod laws;
 mod numbers;
 mod objects;
 mod threads;
 mod writing;
 
-pub use encoding::{HELD_LIMIT, Held, TABLES_ROOM, encode_tables};
+pub use encoding::{HELD_LIMIT, Held, LONGEST_TABLES, TABLES_ROOM, encode_tables};
+pub use laws::{fresh_encoding, longest_encoding};

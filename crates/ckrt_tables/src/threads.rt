@@ -6,7 +6,6 @@ ghost use Rattle.ckrt_thread.specs.Contents.{thread_rows, rows_of};
 ghost use Rattle.ckrt_thread.specs.State.{thread_of};
 ghost use Rattle.ckrt_thread.specs.declared.records.Thread.TheVariants as thread;
 ghost use Rattle.ckrt_tables.specs.Records.{counted, one_byte, hart_bytes, registers_bytes, handler_bytes, thread_bytes, wait_bytes};
-
 ghost use Rattle.ckrt_tables.specs.Writing.{IsPut};
 
 use crate::numbers::{first_name, flag, flags_of, id_or_0, kind_of, result_of, second_name};
