@@ -18,7 +18,8 @@ use Rattle.ckrt_thread.specs.declared.records.Reason.{Reason}
 use Rattle.ckrt_thread.specs.declared.records.Reason.TheVariants as reason
 use Rattle.ckrt_thread.specs.declared.records.RetakeResult.{RetakeResult}
 use Rattle.ckrt_thread.specs.declared.records.RetakeResult.TheVariants as retake
-use Rattle.ckrt_thread.specs.Contents.{ThreadRow, rows_from}
+use Rattle.ckrt_thread.specs.Contents.{ThreadRow, rows_from, thread_rows}
+use Rattle.ckrt_thread.proofs.ThreadRows.{known_by_rows}
 use Rattle.ckrt_objects.specs.declared.address_map.Entry.{Entry}
 use Rattle.ckrt_mutex.specs.declared.records.Kind.{Kind}
 use Rattle.ckrt_mutex.specs.declared.records.Kind.TheVariants as kind
@@ -27,9 +28,11 @@ use Rattle.ckrt_barrier.specs.declared.barrier.Barrier.{Barrier}
 use Rattle.ckrt_rwlock.specs.declared.records.RwLock.{RwLock}
 use Rattle.ckrt_calls.specs.declared.table.Status.{Status}
 use Rattle.ckrt_calls.specs.declared.table.Status.TheVariants as status
+use Rattle.ckrt_calls.specs.declared.table.Tables.{Tables}
 use Rattle.ckrt_tables.specs.Records.{id_or_0, cause_number, counted, one_byte, two_bytes, hart_bytes, flag, flags_of, value_of, registers_of, handlers_of, register_bytes, registers_bytes, handler_bytes, thread_bytes, kind_of, retake_number, result_of, first_name, second_name, wait_bytes, mutex_kind_number, mutex_bytes, barrier_bytes, Reader, reader_at, readers_from, readers_of, reader_bytes, rwlock_bytes}
-use Rattle.ckrt_tables.specs.Encoding.{status_bytes, queue_bytes}
-use Rattle.ckrt_tables.specs.Savable.{is_byte, is_half, is_word, is_long, if_there, fit_registers, fits_handler, fits_thread, fits_slot, fits_reason, fits_wait, is_id, fits_mutex, fits_barrier, fits_rwlock, fits_status}
+use Rattle.ckrt_tables.specs.Encoding.{status_bytes, queue_bytes, encoding_of}
+use Rattle.ckrt_tables.specs.Savable.{is_byte, is_half, is_word, is_long, if_there, fit_registers, fits_handler, fits_thread, fits_slot, fits_reason, fits_wait, is_id, fits_mutex, fits_barrier, fits_rwlock, fits_status, CanBeSaved, AreDistinct}
+use Rattle.ckrt_tables.proofs.Few.{few}
 
 abbrev pub IsPrefixFree : {X : Type 0} → (X → Type 0) → (X → List ℕ) → Type 0
 IsPrefixFree {X = X} Fits encoding = (x y : X) (a b : List ℕ) → Fits x → Fits y → encoding x ++ a ≡ encoding y ++ b → (x ≡ y) × (a ≡ b)
@@ -162,7 +165,7 @@ registers_free r q a b fr fq e =
     let p = registers_fit r fr in
     let k = registers_fit q fq in
     let spelt : (x : Registers) → length x.x ≡ 32 → (c : List ℕ) → registers_bytes x ++ c ≡ little_bytes 4 x.pc ++ (flat_map (little_bytes 4) (drop 1 x.x) ++ c) =
-      λ x n c. ap (λ l. little_bytes 4 x.pc ++ (l ++ c)) (words_at x.x 1 31 (omega (arith, n))) in
+    λ x n c. ap (λ l. little_bytes 4 x.pc ++ (l ++ c)) (words_at x.x 1 31 (omega (arith, n))) in
     let pcs = word_free r.pc q.pc (flat_map (little_bytes 4) (drop 1 r.x) ++ a) (flat_map (little_bytes 4) (drop 1 q.x) ++ b) p.pc k.pc (sym (spelt r p.size a) ∙ e ∙ spelt q k.size b) in
     let sizes : length (drop 1 r.x) ≡ length (drop 1 q.x) = length_drop_1 r.x 31 p.size ∙ sym (length_drop_1 q.x 31 k.size) in
     let words = parts_free is_word (little_bytes 4) word_free (drop 1 r.x) (drop 1 q.x) a b (all_drop is_word r.x p.words) (all_drop is_word q.x k.words) sizes pcs.1 in
@@ -211,7 +214,7 @@ six_free a b c d e f a' b' c' d' e' f' same =
 flags_free : (l m : Live) → flags_of (thread.Live l) ≡ flags_of (thread.Live m) → SameFlags l m
 flags_free l m e =
     let all = six_free l.initial l.detached (not l.cancellation.is_enabled) l.cancellation.is_asynchronous l.cancellation.is_requested (is_some l.cancellation.unwinding)
-      m.initial m.detached (not m.cancellation.is_enabled) m.cancellation.is_asynchronous m.cancellation.is_requested (is_some m.cancellation.unwinding) e in
+    m.initial m.detached (not m.cancellation.is_enabled) m.cancellation.is_asynchronous m.cancellation.is_requested (is_some m.cancellation.unwinding) e in
     record {
       initial = all.0;
       detached = all.1;
@@ -241,7 +244,7 @@ thread_known (thread.Live l) (thread.Live m) s =
     let r = s.registers in
     let h = s.handlers in
     let same : record { regs = l.regs; initial = l.initial; detached = l.detached; cancellation = record { is_enabled = l.cancellation.is_enabled; is_asynchronous = l.cancellation.is_asynchronous; is_requested = l.cancellation.is_requested; unwinding = l.cancellation.unwinding }; handlers = record { items = l.handlers.items } } ≡ m =
-      rw (r, f.initial, f.detached, f.enabled, f.asynchronous, f.requested, u, h) refl in
+    rw (r, f.initial, f.detached, f.enabled, f.asynchronous, f.requested, u, h) refl in
     ap (λ z. thread.Live z) same
 
 record FitThread (x : Thread) : Type 0 where
@@ -515,3 +518,67 @@ status_free (status.Faulted t pc c) (status.Faulted u qc d) a b fx fy e =
     let w = word_free pc qc a b (grind (arith, nat_tests, fx)) (grind (arith, nat_tests, fy)) (ap (λ l. drop 3 l) e) in
     let same : status.Faulted t pc c ≡ status.Faulted u qc d = rw (i, w.0, cause_known c d n) refl in
     (same, w.1)
+
+-- PARTS WITH THEIR COUNT, AND THE WHOLE
+
+few_free : {X : Type 0} (p : X → Bool) (each : X → List ℕ) → IsPrefixFree (λ x. p x ≡ true) each → (xs ys : List X) (a b : List ℕ) → list_all p xs ≡ true → list_all p ys ≡ true
+    → counted one_byte each xs ++ a ≡ counted one_byte each ys ++ b → (xs ≡ ys) × (a ≡ b)
+few_free p each free xs ys a b ps qs e =
+    let n = byte_free (length xs) (length ys) (flat_map each xs ++ a) (flat_map each ys ++ b) e in
+    parts_free p each free xs ys a b ps qs n.0 n.1
+
+many_free : {X : Type 0} (p : X → Bool) (each : X → List ℕ) → IsPrefixFree (λ x. p x ≡ true) each → (xs ys : List X) (a b : List ℕ) → list_all p xs ≡ true → list_all p ys ≡ true
+    → length xs ≤ 256 → length ys ≤ 256 → counted two_bytes each xs ++ a ≡ counted two_bytes each ys ++ b → (xs ≡ ys) × (a ≡ b)
+many_free p each free xs ys a b ps qs m k e =
+    let n = number_free 2 (length xs) (length ys) (flat_map each xs ++ a) (flat_map each ys ++ b) (omega (arith, m)) (omega (arith, k)) e in
+    parts_free p each free xs ys a b ps qs n.0 n.1
+
+queue_free : (xs ys a b : List ℕ) → length xs ≤ 16384 → length ys ≤ 16384 → queue_bytes xs ++ a ≡ queue_bytes ys ++ b → (xs ≡ ys) × (a ≡ b)
+queue_free xs ys a b m k e =
+    let n = number_free 2 (length xs) (length ys) (xs ++ a) (ys ++ b) (omega (arith, m)) (omega (arith, k)) e in
+    split_free xs ys a b n.0 n.1
+
+same_tables : (s t : Tables) → s.threads ≡ t.threads → s.mutexes ≡ t.mutexes → s.barriers ≡ t.barriers → s.rwlocks ≡ t.rwlocks → s.clock ≡ t.clock → s.input ≡ t.input → s.closed ≡ t.closed → s.status ≡ t.status → s ≡ t
+same_tables s t e₁ e₂ e₃ e₄ e₅ e₆ e₇ e₈ =
+    let fields : record { threads = s.threads; mutexes = s.mutexes; barriers = s.barriers; rwlocks = s.rwlocks; clock = s.clock; input = s.input; closed = s.closed; status = s.status } ≡ t = rw (e₁, e₂, e₃, e₄, e₅, e₆, e₇, e₈) refl in
+    fields
+
+pub distinct : (harts : ℕ) → AreDistinct harts
+distinct harts s t held out h k e =
+    let f = h.fit in
+    let g = k.fit in
+    let ws = h.well_formed in
+    let wt = k.well_formed in
+    let s10 = queue_bytes held ++ [] in
+    let t10 = queue_bytes out ++ [] in
+    let s9 = queue_bytes s.input ++ s10 in
+    let t9 = queue_bytes t.input ++ t10 in
+    let s8 = counted one_byte rwlock_bytes s.rwlocks ++ s9 in
+    let t8 = counted one_byte rwlock_bytes t.rwlocks ++ t9 in
+    let s7 = counted one_byte barrier_bytes s.barriers ++ s8 in
+    let t7 = counted one_byte barrier_bytes t.barriers ++ t8 in
+    let s6 = counted two_bytes mutex_bytes s.mutexes ++ s7 in
+    let t6 = counted two_bytes mutex_bytes t.mutexes ++ t7 in
+    let s5 = counted one_byte wait_bytes s.threads.waits ++ s6 in
+    let t5 = counted one_byte wait_bytes t.threads.waits ++ t6 in
+    let s4 = counted one_byte thread_bytes (thread_rows s.threads) ++ s5 in
+    let t4 = counted one_byte thread_bytes (thread_rows t.threads) ++ t5 in
+    let s3 = flat_map hart_bytes s.threads.harts ++ s4 in
+    let t3 = flat_map hart_bytes t.threads.harts ++ t4 in
+    let s2 = status_bytes s.status ++ s3 in
+    let t2 = status_bytes t.status ++ t3 in
+    let r0 = long_free s.clock t.clock (flag 1 s.closed ∷ s2) (flag 1 t.closed ∷ t2) f.clock g.clock e in
+    let r1 = byte_free (flag 1 s.closed) (flag 1 t.closed) s2 t2 r0.1 in
+    let r2 = status_free s.status t.status s3 t3 f.status g.status r1.1 in
+    let r3 = parts_free (if_there is_id) hart_bytes hart_free s.threads.harts t.threads.harts s4 t4 f.harts g.harts (ws.threads.harts ∙ sym wt.threads.harts) r2.1 in
+    let r4 = few_free (λ (r : ThreadRow). fits_thread r.thread) thread_bytes thread_free (thread_rows s.threads) (thread_rows t.threads) s5 t5 (rows_fit 0 s.threads.threads f.threads) (rows_fit 0 t.threads.threads g.threads) r3.1 in
+    let r5 = few_free fits_wait wait_bytes wait_free s.threads.waits t.threads.waits s6 t6 f.waits g.waits r4.1 in
+    let r6 = many_free fits_mutex mutex_bytes mutex_free s.mutexes t.mutexes s7 t7 f.mutexes g.mutexes (few s ws).mutexes (few t wt).mutexes r5.1 in
+    let r7 = few_free fits_barrier barrier_bytes barrier_free s.barriers t.barriers s8 t8 f.barriers g.barriers r6.1 in
+    let r8 = few_free fits_rwlock rwlock_bytes rwlock_free s.rwlocks t.rwlocks s9 t9 f.rwlocks g.rwlocks r7.1 in
+    let si = ws.input in
+    let ti = wt.input in
+    let r9 = queue_free s.input t.input s10 t10 (omega (arith, si)) (omega (arith, ti)) r8.1 in
+    let r10 = queue_free held out [] [] h.is_held k.is_held r9.1 in
+    let threads = known_by_rows s.threads t.threads ws.threads wt.threads (record { threads = r4.0; waits = r5.0; harts = r3.0; hart_count = h.hart_count ∙ sym k.hart_count }) in
+    (same_tables s t threads r6.0 r7.0 r8.0 r0.0 r9.0 (flag_free s.closed t.closed r1.0) r2.0, r10.0)
