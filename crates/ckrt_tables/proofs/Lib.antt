@@ -4,3 +4,4 @@ pub mod Slots
 pub mod Lengths
 pub mod Few
 pub mod Bounds
+pub mod Distinct

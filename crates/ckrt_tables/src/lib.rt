@@ -9,4 +9,4 @@ mod threads;
 mod writing;
 
 pub use encoding::{HELD_LIMIT, Held, LONGEST_TABLES, TABLES_ROOM, encode_tables};
-pub use laws::{fresh_encoding, longest_encoding};
+pub use laws::{encodings_are_distinct, fresh_encoding, longest_encoding};
