@@ -3,4 +3,3 @@ pub mod Encoding
 pub mod Savable
 pub mod Fresh
 pub mod Writing
-pub mod Reading

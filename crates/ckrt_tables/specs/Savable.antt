@@ -108,10 +108,15 @@ pub record Fit (s : Tables) : Type 0 where
 
 -- well-formed tables with so many harts, and the output that the program holds
 pub record CanBeSaved (harts : ℕ) (s : Tables) (held : List ℕ) : Type 0 where
+  -- the rules of tables hold
   pub well_formed : IsWellFormed s
+  -- each number is one that its field can have
   pub fit : Fit s
+  -- there are so many harts
   pub hart_count : s.threads.hart_count ≡ harts
+  -- it is no more output than a program holds
   pub is_held : IsHeld held
+  -- and made of bytes
   pub held_bytes : list_all is_byte held ≡ true
 
 -- no two states that can be saved have one encoding

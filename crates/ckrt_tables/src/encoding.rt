@@ -4,7 +4,7 @@ ghost use Rattle.byteorder.specs.Endian.{little_bytes};
 ghost use Rattle.ckrt_calls.specs.WellFormed.{IsWellFormed};
 ghost use Rattle.ckrt_tables.specs.Encoding.{encoding_of, status_bytes, framed, queue_bytes, IsHeld};
 ghost use Rattle.ckrt_tables.specs.Records.{flag};
-ghost use Rattle.ckrt_tables.specs.Writing.{IsPut, IsFew};
+ghost use Rattle.ckrt_tables.specs.Writing.{HasRoom, IsPut, IsFew};
 
 use crate::numbers::{cause_number, flag};
 use crate::objects::{put_barriers, put_mutexes, put_rwlocks};
@@ -50,7 +50,7 @@ fn status_bytes(status: Status) -> [u8; 7]
 
 /// The clock.
 fn put_clock(out: &mut [u8], at: usize, clock: u64) -> usize
-    requires { at + length (little_bytes 8 clock) ≤ length out.old }
+    requires { HasRoom out.old at (little_bytes 8 clock) }
     ensures { IsPut out.old at (little_bytes 8 clock) out.new result }
 {
     put(out, at, &clock.to_le_bytes())
@@ -58,7 +58,7 @@ fn put_clock(out: &mut [u8], at: usize, clock: u64) -> usize
 
 /// Whether no more input comes.
 fn put_closed(out: &mut [u8], at: usize, is_closed: bool) -> usize
-    requires { at + length (flag 1 is_closed ∷ []) ≤ length out.old }
+    requires { HasRoom out.old at (flag 1 is_closed ∷ []) }
     ensures { IsPut out.old at (flag 1 is_closed ∷ []) out.new result }
 {
     put(out, at, &[flag(1, is_closed)])
@@ -66,7 +66,7 @@ fn put_closed(out: &mut [u8], at: usize, is_closed: bool) -> usize
 
 /// The status of the program.
 fn put_status(out: &mut [u8], at: usize, status: Status) -> usize
-    requires { at + length (status_bytes status) ≤ length out.old }
+    requires { HasRoom out.old at (status_bytes status) }
     ensures { IsPut out.old at (status_bytes status) out.new result }
 {
     put(out, at, &status_bytes(status))
@@ -75,7 +75,7 @@ fn put_status(out: &mut [u8], at: usize, status: Status) -> usize
 /// How many bytes there are, at most 16,384, and the bytes, which lie in two slices.
 fn put_queue(out: &mut [u8], at: usize, first: &[u8], second: &[u8]) -> usize
     requires few { length (first.now ++ second.now) ≤ HELD_LIMIT }
-    requires room { at + length (queue_bytes (first.now ++ second.now)) ≤ length out.old }
+    requires room { HasRoom out.old at (queue_bytes (first.now ++ second.now)) }
     ensures { IsPut out.old at (queue_bytes (first.now ++ second.now)) out.new result }
 {
     let count = (first.len() + second.len()) as u16;
@@ -86,7 +86,7 @@ fn put_queue(out: &mut [u8], at: usize, first: &[u8], second: &[u8]) -> usize
 
 /// The input that no thread has read.
 fn put_input(out: &mut [u8], at: usize, input: &InputQueue) -> usize
-    requires { at + length (queue_bytes input.now) ≤ length out.old }
+    requires { HasRoom out.old at (queue_bytes input.now) }
     ensures { IsPut out.old at (queue_bytes input.now) out.new result }
 {
     let (first, second) = input.as_slices();
@@ -96,7 +96,7 @@ fn put_input(out: &mut [u8], at: usize, input: &InputQueue) -> usize
 /// The held output.
 fn put_held(out: &mut [u8], at: usize, held: &Held) -> usize
     requires held { IsHeld held.now.items }
-    requires room { at + length (queue_bytes held.now.items) ≤ length out.old }
+    requires room { HasRoom out.old at (queue_bytes held.now.items) }
     ensures { IsPut out.old at (queue_bytes held.now.items) out.new result }
 {
     let (first, second) = held.as_slices();

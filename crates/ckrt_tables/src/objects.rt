@@ -3,7 +3,7 @@ ghost use Rattle.std.specs.Prelude.{◌≡◌, ◌≤◌, ◌+◌, ◌==◌, if�
 ghost use Rattle.std.specs.List.{flat_map};
 ghost use Rattle.byteorder.specs.Endian.{little_bytes};
 ghost use Rattle.ckrt_tables.specs.Records.{counted, one_byte, two_bytes, id_or_0, mutex_bytes, barrier_bytes, rwlock_bytes, reader_bytes, reader_at, readers_from};
-ghost use Rattle.ckrt_tables.specs.Writing.{IsPut};
+ghost use Rattle.ckrt_tables.specs.Writing.{HasRoom, IsPut};
 
 use crate::numbers::{id_or_0, mutex_kind_number};
 use crate::writing::{Record, put, put_all};
@@ -80,7 +80,7 @@ fn one_if_any(count: u16) -> u8
 
 /// A reader, where it has read locks.
 fn put_reader(out: &mut [u8], at: usize, id: ThreadId, count: u16) -> usize
-    requires { at + length (flat_map reader_bytes (reader_at id count)) ≤ length out.old }
+    requires { HasRoom out.old at (flat_map reader_bytes (reader_at id count)) }
     ensures { IsPut out.old at (flat_map reader_bytes (reader_at id count)) out.new result }
 {
     if count == 0 {
@@ -92,7 +92,7 @@ fn put_reader(out: &mut [u8], at: usize, id: ThreadId, count: u16) -> usize
 
 /// The readers by rising id.
 fn put_readers(out: &mut [u8], at: usize, counts: &[u16; PLACES]) -> usize
-    requires { at + length (flat_map reader_bytes (readers_from 0 counts.now)) ≤ length out.old }
+    requires { HasRoom out.old at (flat_map reader_bytes (readers_from 0 counts.now)) }
     ensures { IsPut out.old at (flat_map reader_bytes (readers_from 0 counts.now)) out.new result }
 {
     let mut end = at;
@@ -128,7 +128,7 @@ impl Record for Entry<RwLock> {
 /// Mutexes by rising address, at most 256.
 pub fn put_mutexes(out: &mut [u8], at: usize, mutexes: &Mutexes) -> usize
     requires few { length mutexes.now ≤ 256 }
-    requires room { at + length (counted two_bytes mutex_bytes mutexes.now) ≤ length out.old }
+    requires room { HasRoom out.old at (counted two_bytes mutex_bytes mutexes.now) }
     ensures { IsPut out.old at (counted two_bytes mutex_bytes mutexes.now) out.new result }
 {
     let rows = mutexes.rows();
@@ -140,7 +140,7 @@ pub fn put_mutexes(out: &mut [u8], at: usize, mutexes: &Mutexes) -> usize
 /// Barriers by rising address, at most 64.
 pub fn put_barriers(out: &mut [u8], at: usize, barriers: &Barriers) -> usize
     requires few { length barriers.now ≤ 64 }
-    requires room { at + length (counted one_byte barrier_bytes barriers.now) ≤ length out.old }
+    requires room { HasRoom out.old at (counted one_byte barrier_bytes barriers.now) }
     ensures { IsPut out.old at (counted one_byte barrier_bytes barriers.now) out.new result }
 {
     let rows = barriers.rows();
@@ -151,7 +151,7 @@ pub fn put_barriers(out: &mut [u8], at: usize, barriers: &Barriers) -> usize
 /// Read-write locks by rising address, at most 64.
 pub fn put_rwlocks(out: &mut [u8], at: usize, rwlocks: &RwLocks) -> usize
     requires few { length rwlocks.now ≤ 64 }
-    requires room { at + length (counted one_byte rwlock_bytes rwlocks.now) ≤ length out.old }
+    requires room { HasRoom out.old at (counted one_byte rwlock_bytes rwlocks.now) }
     ensures { IsPut out.old at (counted one_byte rwlock_bytes rwlocks.now) out.new result }
 {
     let rows = rwlocks.rows();
