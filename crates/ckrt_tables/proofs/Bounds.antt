@@ -1,5 +1,5 @@
 -- How many bytes an encoding has at most.
-use Rattle.std.proofs.Common.{◌≡◌, ℕ, zero, suc, ◌+◌, ◌*◌, ◌≤◌, ◌==◌, Bool, true, false, Option, Some, None, List, [], ◌∷◌, ◌++◌, length, length-append, refl, sym, ap, ◌∙◌, arith}
+use Rattle.std.proofs.Common.{◌≡◌, ℕ, suc, ◌+◌, ◌*◌, ◌≤◌, ◌==◌, Bool, true, false, Option, Some, None, List, [], ◌∷◌, ◌++◌, length, length-append, refl, ap, arith}
 use Rattle.std.specs.Prelude.{if◌then◌else◌, slice_get, slice_index_or}
 use Rattle.std.specs.List.{list_all, flat_map}
 use Rattle.std.specs.Option.{option_flatten}
@@ -7,13 +7,12 @@ use Rattle.std.proofs.lemmas.Bool.Decides.{nat_tests}
 use Rattle.ckrt_thread.specs.declared.records.Handler.{Handler}
 use Rattle.ckrt_thread.specs.declared.records.Thread.{Thread}
 use Rattle.ckrt_thread.specs.declared.records.Thread.TheVariants as thread
-use Rattle.ckrt_thread.specs.declared.records.Wait.{Wait}
-use Rattle.ckrt_thread.specs.State.{is_proper_slot, is_proper_live}
-use Rattle.ckrt_thread.specs.Contents.{ThreadRow, rows_from, thread_rows}
+use Rattle.ckrt_thread.specs.State.{is_proper_slot}
+use Rattle.ckrt_thread.specs.Contents.{ThreadRow, rows_from}
 use Rattle.ckrt_thread.proofs.ThreadRows.{few_threads}
 use Rattle.ckrt_objects.specs.declared.address_map.Entry.{Entry}
 use Rattle.ckrt_rwlock.specs.declared.records.RwLock.{RwLock}
-use Rattle.ckrt_rwlock.specs.RwLock.{is_proper, are_proper_counts}
+use Rattle.ckrt_rwlock.specs.RwLock.{is_proper}
 use Rattle.ckrt_calls.specs.declared.table.Tables.{Tables}
 use Rattle.ckrt_calls.specs.WellFormed.{IsWellFormed}
 use Rattle.ckrt_tables.specs.Records.{hart_bytes, handlers_of, handler_bytes, thread_bytes, wait_bytes, mutex_bytes, barrier_bytes, reader_at, readers_from, reader_bytes, rwlock_bytes}

@@ -16,7 +16,6 @@ use Rattle.ckrt_thread.specs.declared.records.Thread.TheVariants as thread
 use Rattle.ckrt_thread.specs.declared.records.Wait.{Wait}
 use Rattle.ckrt_thread.specs.declared.records.Reason.{Reason}
 use Rattle.ckrt_thread.specs.declared.records.Reason.TheVariants as reason
-use Rattle.ckrt_thread.specs.declared.records.RetakeResult.{RetakeResult}
 use Rattle.ckrt_thread.specs.declared.records.RetakeResult.TheVariants as retake
 use Rattle.ckrt_thread.specs.Contents.{ThreadRow, rows_from, thread_rows}
 use Rattle.ckrt_thread.proofs.ThreadRows.{known_by_rows}
@@ -26,12 +25,11 @@ use Rattle.ckrt_mutex.specs.declared.records.Kind.TheVariants as kind
 use Rattle.ckrt_mutex.specs.declared.records.Mutex.{Mutex}
 use Rattle.ckrt_barrier.specs.declared.barrier.Barrier.{Barrier}
 use Rattle.ckrt_rwlock.specs.declared.records.RwLock.{RwLock}
-use Rattle.ckrt_calls.specs.declared.table.Status.{Status}
 use Rattle.ckrt_calls.specs.declared.table.Status.TheVariants as status
 use Rattle.ckrt_calls.specs.declared.table.Tables.{Tables}
-use Rattle.ckrt_tables.specs.Records.{id_or_0, cause_number, counted, one_byte, two_bytes, hart_bytes, flag, flags_of, value_of, registers_of, handlers_of, register_bytes, registers_bytes, handler_bytes, thread_bytes, kind_of, retake_number, result_of, first_name, second_name, wait_bytes, mutex_kind_number, mutex_bytes, barrier_bytes, Reader, reader_at, readers_from, readers_of, reader_bytes, rwlock_bytes}
-use Rattle.ckrt_tables.specs.Encoding.{status_bytes, queue_bytes, encoding_of}
-use Rattle.ckrt_tables.specs.Savable.{is_byte, is_half, is_word, is_long, if_there, fit_registers, fits_handler, fits_thread, fits_slot, fits_reason, fits_wait, is_id, fits_mutex, fits_barrier, fits_rwlock, fits_status, CanBeSaved, AreDistinct}
+use Rattle.ckrt_tables.specs.Records.{id_or_0, cause_number, counted, one_byte, two_bytes, hart_bytes, flag, flags_of, value_of, registers_of, handlers_of, registers_bytes, handler_bytes, thread_bytes, kind_of, result_of, first_name, second_name, wait_bytes, mutex_kind_number, mutex_bytes, barrier_bytes, Reader, reader_at, readers_from, readers_of, reader_bytes, rwlock_bytes}
+use Rattle.ckrt_tables.specs.Encoding.{status_bytes, queue_bytes}
+use Rattle.ckrt_tables.specs.Savable.{is_half, is_word, is_long, if_there, fit_registers, fits_handler, fits_thread, fits_slot, fits_reason, fits_wait, is_id, fits_mutex, fits_barrier, fits_rwlock, fits_status, AreDistinct}
 use Rattle.ckrt_tables.proofs.Few.{few}
 
 abbrev pub IsPrefixFree : {X : Type 0} → (X → Type 0) → (X → List ℕ) → Type 0

@@ -1,13 +1,12 @@
 -- The records of saved tables, byte by byte (this project's own format). Numbers have their lowest byte first, and what a
 -- record doesn't use is 0.
-use Rattle.std.specs.Prelude.{ℕ, suc, ◌+◌, ◌==◌, Bool, not, if◌then◌else◌, Option, Some, None, is_some, unwrap_or, List, [], ◌∷◌, ◌++◌, length, replicate}
+use Rattle.std.specs.Prelude.{ℕ, suc, ◌+◌, ◌==◌, Bool, not, if◌then◌else◌, Option, is_some, unwrap_or, List, [], ◌∷◌, ◌++◌, length, replicate}
 use Rattle.std.specs.List.{flat_map, range_with_len}
 use Rattle.byteorder.specs.Endian.{little_bytes}
 use Rattle.ckrt_rv32i.specs.Registers.{Registers, get}
 use Rattle.ckrt_rv32i.specs.declared.execution.Cause.{Cause}
 use Rattle.ckrt_rv32i.specs.declared.execution.Cause.TheVariants as cause
 use Rattle.ckrt_thread.specs.declared.records.Handler.{Handler}
-use Rattle.ckrt_thread.specs.declared.records.Live.{Live}
 use Rattle.ckrt_thread.specs.declared.records.Thread.{Thread}
 use Rattle.ckrt_thread.specs.declared.records.Thread.TheVariants as thread
 use Rattle.ckrt_thread.specs.declared.records.Wait.{Wait}

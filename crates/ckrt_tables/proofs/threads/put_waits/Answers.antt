@@ -1,6 +1,5 @@
 use Rattle.std.proofs.Common.{rules, ◌∷◌, [], length, subst}
 use Rattle.std.specs.List.{flat_map}
-use Rattle.byteorder.specs.Endian.{little_bytes}
 use Rattle.ckrt_tables.specs.Records.{wait_bytes}
 use Rattle.ckrt_tables.specs.Writing.{IsPut}
 use Rattle.ckrt_tables.proofs.Puts.{put_next}
