@@ -15,3 +15,4 @@ pub mod KeptInput
 pub mod Kept
 pub mod Readers
 pub mod Ticks
+pub mod Test

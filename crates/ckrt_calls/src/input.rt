@@ -36,12 +36,27 @@ impl InputQueue {
         })
     }
 
+    /// What always holds of the queue, for a proof.
+    pub fn known(&self)
+        ensures { length self.now ≤ INPUT_LIMIT }
+    {
+        let _ = &self.bytes;
+    }
+
     /// How many bytes wait to be read, at most [`INPUT_LIMIT`].
     pub fn len(&self) -> usize
         ensures len { result ≡ length self.now }
         ensures within { result ≤ INPUT_LIMIT }
     {
         self.bytes.len()
+    }
+
+    /// The bytes, first one first, in two slices.
+    pub fn as_slices(&self) -> (&[u8], &[u8])
+        ensures bytes { result.0.now ++ result.1.now ≡ self.now }
+        ensures within { length self.now ≤ INPUT_LIMIT }
+    {
+        self.bytes.as_slices()
     }
 
     /// The first byte, which the queue doesn't have any more, if there is one.

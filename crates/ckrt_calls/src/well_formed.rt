@@ -65,12 +65,22 @@ impl Tables {
         ensures { (result ≡ true) ↔ IsWellFormed self.now }
     {
         self.threads.known();
-        self.mutexes.is_well_formed_with(&self.threads)
-            && are_conditions_well_formed(&self.threads)
-            && self.barriers.is_well_formed_with(&self.threads)
-            && self.rwlocks.is_well_formed_with(&self.threads)
-            && self.clock < MOMENT_END
-            && all_lack_input(&self.threads, &self.input, self.closed)
-            && may_be_its_status(&self.threads, self.clock, self.status)
+        self.input.known();
+        if !self.mutexes.is_well_formed_with(&self.threads) {
+            return false;
+        }
+        if !are_conditions_well_formed(&self.threads) {
+            return false;
+        }
+        if !self.barriers.is_well_formed_with(&self.threads) {
+            return false;
+        }
+        if !self.rwlocks.is_well_formed_with(&self.threads) {
+            return false;
+        }
+        if self.clock >= MOMENT_END || !all_lack_input(&self.threads, &self.input, self.closed) {
+            return false;
+        }
+        may_be_its_status(&self.threads, self.clock, self.status)
     }
 }

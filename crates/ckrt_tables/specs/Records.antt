@@ -15,29 +15,13 @@ use Rattle.ckrt_thread.specs.declared.records.Reason.{Reason}
 use Rattle.ckrt_thread.specs.declared.records.Reason.TheVariants as reason
 use Rattle.ckrt_thread.specs.declared.records.RetakeResult.{RetakeResult}
 use Rattle.ckrt_thread.specs.declared.records.RetakeResult.TheVariants as retake
-use Rattle.ckrt_thread.specs.State.{State}
+use Rattle.ckrt_thread.specs.Contents.{ThreadRow}
 use Rattle.ckrt_objects.specs.declared.address_map.Entry.{Entry}
 use Rattle.ckrt_mutex.specs.declared.records.Kind.{Kind}
 use Rattle.ckrt_mutex.specs.declared.records.Kind.TheVariants as kind
 use Rattle.ckrt_mutex.specs.declared.records.Mutex.{Mutex}
 use Rattle.ckrt_barrier.specs.declared.barrier.Barrier.{Barrier}
 use Rattle.ckrt_rwlock.specs.declared.records.RwLock.{RwLock}
-
--- ROWS: temporarily here
-pub record ThreadRow : Type 0 where
-  pub id : ℕ
-  pub thread : Thread
-
-abbrev pub rows_of : ℕ → Option Thread → List ThreadRow
-rows_of id None = []
-rows_of id (Some t) = (record { id = id; thread = t }) ∷ []
-
-abbrev pub rows_from : ℕ → List (Option Thread) → List ThreadRow
-rows_from id [] = []
-rows_from id (slot ∷ slots) = rows_of id slot ++ rows_from (suc id) slots
-
-abbrev pub thread_rows : State → List ThreadRow
-thread_rows s = rows_from 0 s.threads
 
 -- NUMBERS
 

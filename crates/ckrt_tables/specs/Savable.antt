@@ -16,7 +16,7 @@ use Rattle.ckrt_calls.specs.declared.table.Status.{Status}
 use Rattle.ckrt_calls.specs.declared.table.Status.TheVariants as status
 use Rattle.ckrt_calls.specs.declared.table.Tables.{Tables}
 use Rattle.ckrt_calls.specs.WellFormed.{IsWellFormed}
-use Rattle.ckrt_tables.specs.Encoding.{IsHeld}
+use Rattle.ckrt_tables.specs.Encoding.{encoding_of, IsHeld}
 
 -- NUMBERS OF ONE, TWO, FOUR AND EIGHT BYTES
 
@@ -110,6 +110,11 @@ pub record Fit (s : Tables) : Type 0 where
 pub record CanBeSaved (harts : ℕ) (s : Tables) (held : List ℕ) : Type 0 where
   pub well_formed : IsWellFormed s
   pub fit : Fit s
-  pub harts : s.threads.hart_count ≡ harts
-  pub held : IsHeld held
+  pub hart_count : s.threads.hart_count ≡ harts
+  pub is_held : IsHeld held
   pub held_bytes : list_all is_byte held ≡ true
+
+-- no two states that can be saved have one encoding
+abbrev pub AreDistinct : ℕ → Type 0
+AreDistinct harts = (s t : Tables) (held out : List ℕ) → CanBeSaved harts s held → CanBeSaved harts t out
+    → encoding_of s held ≡ encoding_of t out → (s ≡ t) × (held ≡ out)

@@ -2,10 +2,10 @@
 ghost use Rattle.std.specs.Prelude.{◌≡◌, ◌≤◌, ◌<◌, ◌+◌, ◌∷◌, ◌++◌, [], length};
 ghost use Rattle.std.specs.List.{flat_map};
 ghost use Rattle.byteorder.specs.Endian.{little_bytes};
+ghost use Rattle.ckrt_thread.specs.Contents.{thread_rows, rows_of};
 ghost use Rattle.ckrt_thread.specs.State.{thread_of};
 ghost use Rattle.ckrt_thread.specs.declared.records.Thread.TheVariants as thread;
-ghost use Rattle.ckrt_tables.specs.Records.{counted, one_byte, thread_rows, rows_of, hart_bytes, registers_bytes, handler_bytes, thread_bytes, wait_bytes};
-
+ghost use Rattle.ckrt_tables.specs.Records.{counted, one_byte, hart_bytes, registers_bytes, handler_bytes, thread_bytes, wait_bytes};
 ghost use Rattle.ckrt_tables.specs.Writing.{IsPut};
 
 use crate::numbers::{first_name, flag, flags_of, id_or_0, kind_of, result_of, second_name};
@@ -103,13 +103,12 @@ fn put_slot(out: &mut [u8], at: usize, threads: &Threads, id: ThreadId) -> usize
 }
 
 /// The threads by rising id.
-pub fn put_threads(out: &mut [u8], at: usize, threads: &Threads, count: u8) -> usize
-    requires count { count ≡ length (thread_rows threads.now) }
-    requires room { at + length (counted one_byte thread_bytes (thread_rows threads.now)) ≤ length out.old }
+pub fn put_threads(out: &mut [u8], at: usize, threads: &Threads) -> usize
+    requires { at + length (counted one_byte thread_bytes (thread_rows threads.now)) ≤ length out.old }
     ensures { IsPut out.old at (counted one_byte thread_bytes (thread_rows threads.now)) out.new result }
 {
     threads.known();
-    let mut end = put(out, at, &[count]);
+    let mut end = put(out, at, &[threads.thread_count() as u8]);
     for id in 0..65u8 {
         end = put_slot(out, end, threads, id);
     }
@@ -143,11 +142,11 @@ impl Record for Wait {
 }
 
 /// The waits in order, at most 64.
-pub fn put_waits(out: &mut [u8], at: usize, waits: &[Wait]) -> usize
-    requires few { length waits.now ≤ 64 }
-    requires room { at + length (counted one_byte wait_bytes waits.now) ≤ length out.old }
-    ensures { IsPut out.old at (counted one_byte wait_bytes waits.now) out.new result }
+pub fn put_waits(out: &mut [u8], at: usize, threads: &Threads) -> usize
+    requires { at + length (counted one_byte wait_bytes threads.now.waits) ≤ length out.old }
+    ensures { IsPut out.old at (counted one_byte wait_bytes threads.now.waits) out.new result }
 {
+    let waits = threads.waits();
     let end = put(out, at, &[waits.len() as u8]);
     put_all(out, end, waits)
 }
