@@ -1,5 +1,5 @@
 -- Each row of a well-formed state goes on from the rows before it.
-use Rattle.std.proofs.Common.{◌≡◌, ℕ, zero, suc, ◌+◌, ◌≤◌, ◌<◌, nat_lt, Bool, true, false, eqb, eqb-true, cond, if◌then◌else◌, List, [], ◌∷◌, ◌++◌, length, Option, Some, None, refl, sym, ap, subst, ◌∙◌, arith, slice_get, slice_set, append_assoc}
+use Rattle.std.proofs.Common.{◌≡◌, ℕ, zero, suc, ◌+◌, ◌≤◌, ◌<◌, nat_lt, Bool, true, false, eqb, eqb-true, cond, List, [], ◌∷◌, ◌++◌, length, Option, Some, None, refl, sym, ap, subst, ◌∙◌, arith, slice_get, slice_set, append_assoc}
 use Rattle.std.specs.List.{list_all}
 use Rattle.std.specs.Option.{option_flatten}
 use Rattle.std.proofs.lemmas.Bool.Decides.{nat_tests}
@@ -9,8 +9,8 @@ use Rattle.ckrt_thread.specs.declared.records.Thread.{Thread}
 use Rattle.ckrt_thread.specs.declared.records.Wait.{Wait}
 use Rattle.ckrt_thread.specs.declared.records.Object.TheVariants as object
 use Rattle.ckrt_thread.specs.Waits.{is_of, is_for, has_proper_deadline, joins_another, is_unwind_of}
-use Rattle.ckrt_thread.specs.State.{State, IsWellFormed, thread_of, is_live, is_initial, is_proper_slot, holds, count_of}
-use Rattle.ckrt_thread.specs.Contents.{ThreadRow, rows_from, thread_rows, who_is_on, wait_appended, hart_appended, GoesOnWithThread, GoesOnWithWait, GoesOnWithHart, HasNextThread, HasNextWait, HasNextOnHart, NextGoesOn}
+use Rattle.ckrt_thread.specs.State.{State, IsWellFormed, thread_of, is_initial, is_proper_slot, holds, count_of}
+use Rattle.ckrt_thread.specs.Contents.{ThreadRow, rows_from, thread_rows, who_is_on, GoesOnWithThread, GoesOnWithWait, GoesOnWithHart, HasNextThread, HasNextWait, HasNextOnHart, NextGoesOn}
 use Rattle.ckrt_thread.proofs.Counting.{count_of-append}
 use Rattle.ckrt_thread.proofs.SlotLemmas.{slot_at}
 use Rattle.ckrt_thread.proofs.HartLemmas.{idle_put}

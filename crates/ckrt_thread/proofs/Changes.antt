@@ -1,5 +1,5 @@
 -- Each small change keeps states well-formed.
-use Rattle.std.proofs.Common.{◌≡◌, ℕ, zero, suc, ◌+◌, ◌-◌, ◌≤◌, ◌<◌, Bool, true, false, cond, eqb, eqb-true, not, List, [], ◌∷◌, ◌++◌, length, take, IfSome, Option, Some, None, is_some, refl, sym, ap, subst, ◌∙◌, arith, slice_get, slice_set, replicate, if◌then◌else◌, ◌&&◌}
+use Rattle.std.proofs.Common.{◌≡◌, ℕ, zero, suc, ◌+◌, ◌-◌, ◌≤◌, ◌<◌, Bool, true, false, cond, eqb, eqb-true, not, List, [], ◌∷◌, ◌++◌, length, take, IfSome, Option, Some, None, is_some, refl, sym, ap, subst, ◌∙◌, arith, slice_get, slice_set, if◌then◌else◌, ◌&&◌}
 use Rattle.std.specs.List.{list_all}
 use Rattle.std.specs.Option.{option_flatten}
 use Rattle.std.proofs.lemmas.List.{length-map, length-set, length-append}
@@ -19,7 +19,7 @@ use Rattle.ckrt_thread.specs.Cancellation.{is_unwinding, is_consistent, is_align
 use Rattle.ckrt_thread.specs.Rows.{detached}
 use Rattle.ckrt_thread.specs.Unwinding.{with_cancellation_of, pushed}
 use Rattle.ckrt_thread.specs.Waits.{is_of, is_for, is_reason_for, without, is_deadline_of, has_proper_deadline, joins_another, is_to_unwind, is_unwind_of}
-use Rattle.ckrt_thread.specs.State.{State, IsWellFormed, thread_of, is_live, is_live_thread, is_initial, is_joinable, is_waiting, is_ready, holds, off, count_of, places, joiners, unwind_waits, is_aligned, is_proper_live, is_proper_slot, with_word, with_regs, change_live, change_thread, with_slot, off_hart, placed_on, may_join, may_wait, blocked}
+use Rattle.ckrt_thread.specs.State.{State, IsWellFormed, thread_of, is_live, is_live_thread, is_initial, is_joinable, is_waiting, is_ready, holds, off, count_of, places, joiners, unwind_waits, is_aligned, is_proper_live, is_proper_slot, fresh, first_of_program, with_word, with_regs, change_live, change_thread, with_slot, off_hart, placed_on, may_join, may_wait, blocked}
 use Rattle.ckrt_thread.specs.Contents.{empty}
 use Rattle.ckrt_thread.proofs.Counting.{count_of-append, count_of_none}
 use Rattle.ckrt_thread.proofs.WaitLemmas.{count_of-without, list_all-without, unwind_of, no_unwind}
@@ -415,3 +415,10 @@ pub initial_in_empty : (s : State) (harts t : ℕ) → s ≡ empty harts → is_
 initial_in_empty s harts t e i =
     let none : is_initial (thread_of s t) ≡ false = ap (λ z. is_initial (thread_of z t)) e ∙ ap is_initial (empty_slot {X = Thread} 65 t) in
     absurd (cc)
+
+pub well_formed_fresh : (stack harts : ℕ) → harts ≤ 8 → IsWellFormed (fresh stack harts)
+well_formed_fresh stack harts l =
+    let first : Option Thread = Some (first_of_program stack) in
+    let none = none_held 8 1 in
+    well_formed_slot (empty harts) 1 first (well_formed_empty harts l) (omega arith) (omega arith)
+    (may_stand_free (empty harts) 1 first (omega (arith, none)) refl (λ q i j. initial_in_empty (empty harts) harts q refl j) refl)

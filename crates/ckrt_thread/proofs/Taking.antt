@@ -1,24 +1,21 @@
 -- The tests of a row are exact: they hold exactly where the state with the row behind the others is well-formed.
-use Rattle.std.proofs.Common.{◌≡◌, ℕ, zero, suc, ◌+◌, ◌≤◌, ◌<◌, nat_lt, nat_le, Bool, true, false, not, eqb, eqb-true, cond, if◌then◌else◌, ◌&&◌, ◌↔◌, List, [], ◌∷◌, ◌++◌, length, map, drop, Option, Some, None, is_some, is_none, refl, sym, ap, subst, ◌∙◌, arith, slice_get, slice_set}
+use Rattle.std.proofs.Common.{◌≡◌, ℕ, zero, suc, ◌+◌, ◌≤◌, ◌<◌, Bool, true, false, eqb, eqb-true, cond, ◌↔◌, List, [], ◌∷◌, ◌++◌, length, map, drop, Option, Some, None, is_some, is_none, refl, sym, ap, subst, ◌∙◌, arith, slice_get, slice_set}
 use Rattle.std.specs.List.{list_any, list_all, find}
 use Rattle.std.specs.Option.{option_flatten}
 use Rattle.std.proofs.lemmas.Bool.Decides.{nat_tests}
-use Rattle.std.proofs.lemmas.List.{length-set}
 use Rattle.std.proofs.lemmas.List.Folds.{list_all-append}
 use Rattle.ckrt_thread.specs.declared.records.Thread.{Thread}
 use Rattle.ckrt_thread.specs.declared.records.Wait.{Wait}
 use Rattle.ckrt_thread.specs.declared.records.Reason.{Reason}
 use Rattle.ckrt_thread.specs.declared.records.Reason.TheVariants as reason
 use Rattle.ckrt_thread.specs.declared.records.Object.TheVariants as object
-use Rattle.ckrt_thread.specs.Waits.{is_of, is_for, is_reason_for, is_deadline_of, has_proper_deadline, joins_another, is_to_unwind, is_unwind_of}
-use Rattle.ckrt_thread.specs.Cancellation.{is_unwinding}
-use Rattle.ckrt_thread.specs.State.{State, IsWellFormed, thread_of, is_live, is_live_thread, is_initial, is_joinable, is_waiting, is_on_hart, is_ready, is_joined, is_proper_slot, holds, off, count_of, places, joiners, unwind_waits, with_slot, may_join, may_unwind, may_wait, blocked, placed_on}
-use Rattle.ckrt_thread.specs.Contents.{ThreadRow, GoesOnWithThread, GoesOnWithWait, GoesOnWithHart, who_is_on, thread_appended, wait_appended, hart_appended, is_next_id, is_sole_initial, takes_thread, takes_wait, takes_on_hart}
-use Rattle.ckrt_thread.proofs.Counting.{count_of-append, count_of_none, none_of_count}
+use Rattle.ckrt_thread.specs.Waits.{is_of, is_for, is_reason_for, is_deadline_of, has_proper_deadline, joins_another, is_unwind_of}
+use Rattle.ckrt_thread.specs.State.{State, IsWellFormed, thread_of, is_live, is_live_thread, is_initial, is_ready, is_joined, is_proper_slot, holds, off, count_of, places, joiners, may_join, may_unwind, blocked}
+use Rattle.ckrt_thread.specs.Contents.{ThreadRow, GoesOnWithThread, GoesOnWithWait, GoesOnWithHart, who_is_on, thread_appended, wait_appended, is_sole_initial, takes_thread, takes_wait, takes_on_hart}
+use Rattle.ckrt_thread.proofs.Counting.{count_of-append, none_of_count}
 use Rattle.ckrt_thread.proofs.SlotLemmas.{slot_at}
-use Rattle.ckrt_thread.proofs.HartLemmas.{held_at}
 use Rattle.ckrt_thread.proofs.Known.{absent_places, absent_joiners}
-use Rattle.ckrt_thread.proofs.Changes.{MayStand, may_stand_free, well_formed_slot, well_formed_blocked, well_formed_placed}
+use Rattle.ckrt_thread.proofs.Changes.{may_stand_free, well_formed_slot, well_formed_blocked, well_formed_placed}
 use Rattle.ckrt_thread.proofs.ThreadRows.{at}
 
 -- a test that is exact, as it came out

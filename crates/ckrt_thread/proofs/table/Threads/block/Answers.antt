@@ -1,4 +1,3 @@
-use Rattle.std.proofs.Common.{rules}
 use Rattle.ckrt_thread.proofs.Known.{waits_room}
 use Rattle.ckrt_thread.proofs.Changes.{well_formed_blocked}
 use Rattle.ckrt_thread.proofs.table.Threads.block.Goals as goal

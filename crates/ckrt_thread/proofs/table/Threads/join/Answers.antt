@@ -1,4 +1,4 @@
-use Rattle.std.proofs.Common.{rules, Some, sym, ap, ◌∙◌}
+use Rattle.std.proofs.Common.{Some, sym, ap, ◌∙◌}
 use Rattle.ckrt_thread.proofs.Known.{absent_places, ended_live}
 use Rattle.ckrt_thread.proofs.table.Threads.join.Goals as goal
 

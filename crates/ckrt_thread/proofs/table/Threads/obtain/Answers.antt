@@ -1,4 +1,3 @@
-use Rattle.std.proofs.Common.{rules}
 use Rattle.ckrt_thread.proofs.Known.{waiting_live, waits_at_most_once}
 use Rattle.ckrt_thread.proofs.WaitLemmas.{gone}
 use Rattle.ckrt_thread.proofs.table.Threads.obtain.Goals as goal

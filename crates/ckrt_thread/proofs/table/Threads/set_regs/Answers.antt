@@ -1,4 +1,4 @@
-use Rattle.std.proofs.Common.{rules, arith}
+use Rattle.std.proofs.Common.{arith}
 use Rattle.ckrt_thread.specs.State.{with_regs}
 use Rattle.ckrt_thread.proofs.Known.{live_index}
 use Rattle.ckrt_thread.proofs.Changes.{well_formed_change, changes_regs}

@@ -1,4 +1,3 @@
-use Rattle.std.proofs.Common.{rules}
 use Rattle.ckrt_thread.proofs.Known.{waits_at_most_once}
 use Rattle.ckrt_thread.proofs.Changes.{well_formed_without}
 use Rattle.ckrt_thread.proofs.table.Threads.take_wait.Goals as goal

@@ -1,4 +1,4 @@
-use Rattle.std.proofs.Common.{rules, arith}
+use Rattle.std.proofs.Common.{arith}
 use Rattle.ckrt_thread.specs.Waits.{is_for}
 use Rattle.ckrt_thread.proofs.WaitLemmas.{length-part}
 use Rattle.ckrt_thread.proofs.table.Threads.waiter_count.Goals as goal

@@ -1,4 +1,3 @@
-use Rattle.std.proofs.Common.{rules}
 use Rattle.ckrt_thread.proofs.Known.{waiting_range}
 use Rattle.ckrt_thread.proofs.table.Threads.wake.Goals as goal
 
