@@ -1,4 +1,4 @@
-//! Saved tables: the one encoding of a program's tables and of the output that it holds, written and read.
+//! Saved tables: a program's tables and the output that it holds are written as bytes, by the one encoding that they have.
 #![tactic(auto)]
 
 mod encoding;

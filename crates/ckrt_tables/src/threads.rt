@@ -102,7 +102,7 @@ fn put_slot(out: &mut [u8], at: usize, threads: &Threads, id: ThreadId) -> usize
     }
 }
 
-/// The threads by rising id.
+/// The threads by rising id. There is a place for each id of 1 to 64, and place 0, which stays empty.
 pub fn put_threads(out: &mut [u8], at: usize, threads: &Threads) -> usize
     requires { HasRoom out.old at (counted one_byte thread_bytes (thread_rows threads.now)) }
     ensures { IsPut out.old at (counted one_byte thread_bytes (thread_rows threads.now)) out.new result }
