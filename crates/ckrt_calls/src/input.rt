@@ -51,6 +51,14 @@ impl InputQueue {
         self.bytes.len()
     }
 
+    /// The bytes, first one first, in two slices.
+    pub fn as_slices(&self) -> (&[u8], &[u8])
+        ensures bytes { result.0.now ++ result.1.now ≡ self.now }
+        ensures within { length self.now ≤ INPUT_LIMIT }
+    {
+        self.bytes.as_slices()
+    }
+
     /// The first byte, which the queue doesn't have any more, if there is one.
     pub fn pop_first(&mut self) -> Option<u8>
         ensures byte { result ≡ slice_get self.old 0 }

@@ -42,6 +42,8 @@ mod recovery;
 #[cfg(test)]
 mod rwlocks;
 #[cfg(test)]
+mod saved_tables;
+#[cfg(test)]
 mod schedules;
 #[cfg(test)]
 mod seats;

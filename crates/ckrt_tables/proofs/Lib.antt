@@ -1,3 +1,7 @@
 pub mod Rows
 pub mod Puts
 pub mod Slots
+pub mod Lengths
+pub mod Few
+pub mod Bounds
+pub mod Distinct

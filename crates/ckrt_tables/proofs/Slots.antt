@@ -1,10 +1,11 @@
 -- Readers and threads by their places: the lemmas of `Puts` and `Rows` at these two.
-use Rattle.std.proofs.Common.{◌≡◌, ℕ, suc, ◌+◌, ◌≤◌, ◌<◌, ◌==◌, Bool, true, false, List, [], ◌∷◌, ◌++◌, length, length-append, take, get_or, refl, ap, arith}
+use Rattle.std.proofs.Common.{◌≡◌, ℕ, suc, ◌+◌, ◌≤◌, ◌<◌, ◌==◌, Bool, true, false, List, [], ◌∷◌, ◌++◌, length, take, get_or, refl}
 use Rattle.std.specs.Prelude.{if◌then◌else◌, Option, None}
 use Rattle.std.specs.List.{flat_map}
 use Rattle.std.proofs.lemmas.Grind.{flat_map-append}
 use Rattle.ckrt_thread.specs.declared.records.Thread.{Thread}
-use Rattle.ckrt_tables.specs.Records.{Reader, reader_at, readers_from, reader_bytes, ThreadRow, rows_of, rows_from, thread_bytes}
+use Rattle.ckrt_thread.specs.Contents.{rows_of, rows_from}
+use Rattle.ckrt_tables.specs.Records.{Reader, reader_at, readers_from, reader_bytes, thread_bytes}
 use Rattle.ckrt_tables.specs.Writing.{IsPut}
 use Rattle.ckrt_tables.proofs.Rows.{from_next}
 use Rattle.ckrt_tables.proofs.Puts.{put_place, room_place}

@@ -2,18 +2,22 @@
 use Rattle.std.specs.Prelude.{ℕ, ◌≤◌, List, [], ◌∷◌, ◌++◌, length}
 use Rattle.std.specs.List.{concat, flat_map}
 use Rattle.byteorder.specs.Endian.{little_bytes}
+use Rattle.ckrt_thread.specs.Contents.{thread_rows}
 use Rattle.ckrt_calls.specs.declared.table.Status.{Status}
 use Rattle.ckrt_calls.specs.declared.table.Status.TheVariants as status
 use Rattle.ckrt_calls.specs.declared.table.Tables.{Tables}
-use Rattle.ckrt_tables.specs.Records.{flag, cause_number, counted, one_byte, two_bytes, thread_rows, hart_bytes, thread_bytes, wait_bytes, mutex_bytes, barrier_bytes, rwlock_bytes}
+use Rattle.ckrt_tables.specs.Records.{flag, cause_number, counted, one_byte, two_bytes, hart_bytes, thread_bytes, wait_bytes, mutex_bytes, barrier_bytes, rwlock_bytes}
 
 -- THE PROGRAM'S STATUS, 7 bytes: whether it runs (0), exited (1) or faulted (2); the thread and the cause of the fault; the
 -- exit status, or the pc of the fault
 
+abbrev pub framed : ℕ → ℕ → ℕ → ℕ → List ℕ
+framed kind thread cause word = kind ∷ thread ∷ cause ∷ little_bytes 4 word
+
 abbrev pub status_bytes : Status → List ℕ
-status_bytes status.Running = 0 ∷ 0 ∷ 0 ∷ little_bytes 4 0
-status_bytes (status.Exited code) = 1 ∷ 0 ∷ 0 ∷ little_bytes 4 code
-status_bytes (status.Faulted t pc c) = 2 ∷ t ∷ cause_number c ∷ little_bytes 4 pc
+status_bytes status.Running = framed 0 0 0 0
+status_bytes (status.Exited code) = framed 1 0 0 code
+status_bytes (status.Faulted t pc c) = framed 2 t (cause_number c) pc
 
 -- PARTS
 

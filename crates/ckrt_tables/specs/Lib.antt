@@ -1,5 +1,5 @@
 pub mod Records
 pub mod Encoding
 pub mod Savable
+pub mod Fresh
 pub mod Writing
-pub mod Reading

@@ -1,13 +1,12 @@
 -- The records of saved tables, byte by byte (this project's own format). Numbers have their lowest byte first, and what a
 -- record doesn't use is 0.
-use Rattle.std.specs.Prelude.{ℕ, suc, ◌+◌, ◌==◌, Bool, not, if◌then◌else◌, Option, Some, None, is_some, unwrap_or, List, [], ◌∷◌, ◌++◌, length, replicate}
+use Rattle.std.specs.Prelude.{ℕ, suc, ◌+◌, ◌==◌, Bool, not, if◌then◌else◌, Option, is_some, unwrap_or, List, [], ◌∷◌, ◌++◌, length, replicate}
 use Rattle.std.specs.List.{flat_map, range_with_len}
 use Rattle.byteorder.specs.Endian.{little_bytes}
 use Rattle.ckrt_rv32i.specs.Registers.{Registers, get}
 use Rattle.ckrt_rv32i.specs.declared.execution.Cause.{Cause}
 use Rattle.ckrt_rv32i.specs.declared.execution.Cause.TheVariants as cause
 use Rattle.ckrt_thread.specs.declared.records.Handler.{Handler}
-use Rattle.ckrt_thread.specs.declared.records.Live.{Live}
 use Rattle.ckrt_thread.specs.declared.records.Thread.{Thread}
 use Rattle.ckrt_thread.specs.declared.records.Thread.TheVariants as thread
 use Rattle.ckrt_thread.specs.declared.records.Wait.{Wait}
@@ -15,29 +14,13 @@ use Rattle.ckrt_thread.specs.declared.records.Reason.{Reason}
 use Rattle.ckrt_thread.specs.declared.records.Reason.TheVariants as reason
 use Rattle.ckrt_thread.specs.declared.records.RetakeResult.{RetakeResult}
 use Rattle.ckrt_thread.specs.declared.records.RetakeResult.TheVariants as retake
-use Rattle.ckrt_thread.specs.State.{State}
+use Rattle.ckrt_thread.specs.Contents.{ThreadRow}
 use Rattle.ckrt_objects.specs.declared.address_map.Entry.{Entry}
 use Rattle.ckrt_mutex.specs.declared.records.Kind.{Kind}
 use Rattle.ckrt_mutex.specs.declared.records.Kind.TheVariants as kind
 use Rattle.ckrt_mutex.specs.declared.records.Mutex.{Mutex}
 use Rattle.ckrt_barrier.specs.declared.barrier.Barrier.{Barrier}
 use Rattle.ckrt_rwlock.specs.declared.records.RwLock.{RwLock}
-
--- ROWS: temporarily here
-pub record ThreadRow : Type 0 where
-  pub id : ℕ
-  pub thread : Thread
-
-abbrev pub rows_of : ℕ → Option Thread → List ThreadRow
-rows_of id None = []
-rows_of id (Some t) = (record { id = id; thread = t }) ∷ []
-
-abbrev pub rows_from : ℕ → List (Option Thread) → List ThreadRow
-rows_from id [] = []
-rows_from id (slot ∷ slots) = rows_of id slot ++ rows_from (suc id) slots
-
-abbrev pub thread_rows : State → List ThreadRow
-thread_rows s = rows_from 0 s.threads
 
 -- NUMBERS
 

@@ -16,7 +16,7 @@ use Rattle.ckrt_calls.specs.declared.table.Status.{Status}
 use Rattle.ckrt_calls.specs.declared.table.Status.TheVariants as status
 use Rattle.ckrt_calls.specs.declared.table.Tables.{Tables}
 use Rattle.ckrt_calls.specs.WellFormed.{IsWellFormed}
-use Rattle.ckrt_tables.specs.Encoding.{IsHeld}
+use Rattle.ckrt_tables.specs.Encoding.{encoding_of, IsHeld}
 
 -- NUMBERS OF ONE, TWO, FOUR AND EIGHT BYTES
 
@@ -108,8 +108,18 @@ pub record Fit (s : Tables) : Type 0 where
 
 -- well-formed tables with so many harts, and the output that the program holds
 pub record CanBeSaved (harts : ℕ) (s : Tables) (held : List ℕ) : Type 0 where
+  -- the rules of tables hold
   pub well_formed : IsWellFormed s
+  -- each number is one that its field can have
   pub fit : Fit s
-  pub harts : s.threads.hart_count ≡ harts
-  pub held : IsHeld held
+  -- there are so many harts
+  pub hart_count : s.threads.hart_count ≡ harts
+  -- it is no more output than a program holds
+  pub is_held : IsHeld held
+  -- and made of bytes
   pub held_bytes : list_all is_byte held ≡ true
+
+-- no two states that can be saved have one encoding
+abbrev pub AreDistinct : ℕ → Type 0
+AreDistinct harts = (s t : Tables) (held out : List ℕ) → CanBeSaved harts s held → CanBeSaved harts t out
+    → encoding_of s held ≡ encoding_of t out → (s ≡ t) × (held ≡ out)

@@ -1,7 +1,12 @@
-//! Saved tables: the one encoding of a program's tables and of the output that it holds, written and read.
+//! Saved tables: a program's tables and the output that it holds are written as bytes, by the one encoding that they have.
 #![tactic(auto)]
 
+mod encoding;
+mod laws;
 mod numbers;
 mod objects;
 mod threads;
 mod writing;
+
+pub use encoding::{HELD_LIMIT, Held, LONGEST_TABLES, TABLES_ROOM, encode_tables};
+pub use laws::{encodings_are_distinct, fresh_encoding, longest_encoding};

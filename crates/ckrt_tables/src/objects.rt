@@ -3,15 +3,15 @@ ghost use Rattle.std.specs.Prelude.{◌≡◌, ◌≤◌, ◌+◌, ◌==◌, if�
 ghost use Rattle.std.specs.List.{flat_map};
 ghost use Rattle.byteorder.specs.Endian.{little_bytes};
 ghost use Rattle.ckrt_tables.specs.Records.{counted, one_byte, two_bytes, id_or_0, mutex_bytes, barrier_bytes, rwlock_bytes, reader_bytes, reader_at, readers_from};
-ghost use Rattle.ckrt_tables.specs.Writing.{IsPut};
+ghost use Rattle.ckrt_tables.specs.Writing.{HasRoom, IsPut};
 
 use crate::numbers::{id_or_0, mutex_kind_number};
 use crate::writing::{Record, put, put_all};
 use byteorder::{ByteOrder, LittleEndian};
-use ckrt_barrier::Barrier;
-use ckrt_mutex::Mutex;
+use ckrt_barrier::{Barrier, Barriers};
+use ckrt_mutex::{Mutex, Mutexes};
 use ckrt_objects::Entry;
-use ckrt_rwlock::RwLock;
+use ckrt_rwlock::{RwLock, RwLocks};
 use ckrt_thread::{MAX_THREADS, ThreadId};
 
 /// A mutex. Its count is below 65,536, so two bytes have it whole.
@@ -80,7 +80,7 @@ fn one_if_any(count: u16) -> u8
 
 /// A reader, where it has read locks.
 fn put_reader(out: &mut [u8], at: usize, id: ThreadId, count: u16) -> usize
-    requires { at + length (flat_map reader_bytes (reader_at id count)) ≤ length out.old }
+    requires { HasRoom out.old at (flat_map reader_bytes (reader_at id count)) }
     ensures { IsPut out.old at (flat_map reader_bytes (reader_at id count)) out.new result }
 {
     if count == 0 {
@@ -92,7 +92,7 @@ fn put_reader(out: &mut [u8], at: usize, id: ThreadId, count: u16) -> usize
 
 /// The readers by rising id.
 fn put_readers(out: &mut [u8], at: usize, counts: &[u16; PLACES]) -> usize
-    requires { at + length (flat_map reader_bytes (readers_from 0 counts.now)) ≤ length out.old }
+    requires { HasRoom out.old at (flat_map reader_bytes (readers_from 0 counts.now)) }
     ensures { IsPut out.old at (flat_map reader_bytes (readers_from 0 counts.now)) out.new result }
 {
     let mut end = at;
@@ -126,32 +126,35 @@ impl Record for Entry<RwLock> {
 }
 
 /// Mutexes by rising address, at most 256.
-pub fn put_mutexes(out: &mut [u8], at: usize, entries: &[Entry<Mutex>]) -> usize
-    requires few { length entries.now ≤ 256 }
-    requires room { at + length (counted two_bytes mutex_bytes entries.now) ≤ length out.old }
-    ensures { IsPut out.old at (counted two_bytes mutex_bytes entries.now) out.new result }
+pub fn put_mutexes(out: &mut [u8], at: usize, mutexes: &Mutexes) -> usize
+    requires few { length mutexes.now ≤ 256 }
+    requires room { HasRoom out.old at (counted two_bytes mutex_bytes mutexes.now) }
+    ensures { IsPut out.old at (counted two_bytes mutex_bytes mutexes.now) out.new result }
 {
-    let count = entries.len() as u16;
+    let rows = mutexes.rows();
+    let count = rows.len() as u16;
     let end = put(out, at, &count.to_le_bytes());
-    put_all(out, end, entries)
+    put_all(out, end, rows.as_slice())
 }
 
 /// Barriers by rising address, at most 64.
-pub fn put_barriers(out: &mut [u8], at: usize, entries: &[Entry<Barrier>]) -> usize
-    requires few { length entries.now ≤ 64 }
-    requires room { at + length (counted one_byte barrier_bytes entries.now) ≤ length out.old }
-    ensures { IsPut out.old at (counted one_byte barrier_bytes entries.now) out.new result }
+pub fn put_barriers(out: &mut [u8], at: usize, barriers: &Barriers) -> usize
+    requires few { length barriers.now ≤ 64 }
+    requires room { HasRoom out.old at (counted one_byte barrier_bytes barriers.now) }
+    ensures { IsPut out.old at (counted one_byte barrier_bytes barriers.now) out.new result }
 {
-    let end = put(out, at, &[entries.len() as u8]);
-    put_all(out, end, entries)
+    let rows = barriers.rows();
+    let end = put(out, at, &[rows.len() as u8]);
+    put_all(out, end, rows)
 }
 
 /// Read-write locks by rising address, at most 64.
-pub fn put_rwlocks(out: &mut [u8], at: usize, entries: &[Entry<RwLock>]) -> usize
-    requires few { length entries.now ≤ 64 }
-    requires room { at + length (counted one_byte rwlock_bytes entries.now) ≤ length out.old }
-    ensures { IsPut out.old at (counted one_byte rwlock_bytes entries.now) out.new result }
+pub fn put_rwlocks(out: &mut [u8], at: usize, rwlocks: &RwLocks) -> usize
+    requires few { length rwlocks.now ≤ 64 }
+    requires room { HasRoom out.old at (counted one_byte rwlock_bytes rwlocks.now) }
+    ensures { IsPut out.old at (counted one_byte rwlock_bytes rwlocks.now) out.new result }
 {
-    let end = put(out, at, &[entries.len() as u8]);
-    put_all(out, end, entries)
+    let rows = rwlocks.rows();
+    let end = put(out, at, &[rows.len() as u8]);
+    put_all(out, end, rows)
 }

@@ -2,11 +2,11 @@
 ghost use Rattle.std.specs.Prelude.{◌≡◌, ◌≤◌, ◌<◌, ◌+◌, ◌∷◌, ◌++◌, [], length};
 ghost use Rattle.std.specs.List.{flat_map};
 ghost use Rattle.byteorder.specs.Endian.{little_bytes};
+ghost use Rattle.ckrt_thread.specs.Contents.{thread_rows, rows_of};
 ghost use Rattle.ckrt_thread.specs.State.{thread_of};
 ghost use Rattle.ckrt_thread.specs.declared.records.Thread.TheVariants as thread;
-ghost use Rattle.ckrt_tables.specs.Records.{counted, one_byte, thread_rows, rows_of, hart_bytes, registers_bytes, handler_bytes, thread_bytes, wait_bytes};
-
-ghost use Rattle.ckrt_tables.specs.Writing.{IsPut};
+ghost use Rattle.ckrt_tables.specs.Records.{counted, one_byte, hart_bytes, registers_bytes, handler_bytes, thread_bytes, wait_bytes};
+ghost use Rattle.ckrt_tables.specs.Writing.{HasRoom, IsPut};
 
 use crate::numbers::{first_name, flag, flags_of, id_or_0, kind_of, result_of, second_name};
 use crate::writing::{Record, put, put_all};
@@ -16,7 +16,7 @@ use ckrt_thread::{Handler, Live, MAX_HARTS, MAX_THREADS, Thread, ThreadId, Threa
 
 /// Who is on each hart.
 pub fn put_harts(out: &mut [u8], at: usize, threads: &Threads) -> usize
-    requires { at + length (flat_map hart_bytes threads.now.harts) ≤ length out.old }
+    requires { HasRoom out.old at (flat_map hart_bytes threads.now.harts) }
     ensures { IsPut out.old at (flat_map hart_bytes threads.now.harts) out.new result }
 {
     threads.known();
@@ -29,7 +29,7 @@ pub fn put_harts(out: &mut [u8], at: usize, threads: &Threads) -> usize
 
 /// The pc, and x1 to x31.
 fn put_registers(out: &mut [u8], at: usize, regs: &Regs) -> usize
-    requires { at + length (registers_bytes regs.now) ≤ length out.old }
+    requires { HasRoom out.old at (registers_bytes regs.now) }
     ensures { IsPut out.old at (registers_bytes regs.now) out.new result }
 {
     let mut end = put(out, at, &regs.pc().to_le_bytes());
@@ -70,7 +70,7 @@ fn thread_head(id: ThreadId, flags: u8, handlers: u8, value: u32) -> [u8; 8]
 
 /// A thread that has not ended.
 fn put_live(out: &mut [u8], at: usize, id: ThreadId, live: &Live) -> usize
-    requires { at + length (thread_bytes (record { id = id; thread = thread.Live live.now })) ≤ length out.old }
+    requires { HasRoom out.old at (thread_bytes (record { id = id; thread = thread.Live live.now })) }
     ensures { IsPut out.old at (thread_bytes (record { id = id; thread = thread.Live live.now })) out.new result }
 {
     let handlers = live.handlers.as_slice();
@@ -83,7 +83,7 @@ fn put_live(out: &mut [u8], at: usize, id: ThreadId, live: &Live) -> usize
 
 /// A thread that has ended with a value.
 fn put_ended(out: &mut [u8], at: usize, id: ThreadId, value: u32) -> usize
-    requires { at + length (thread_bytes (record { id = id; thread = thread.Ended value })) ≤ length out.old }
+    requires { HasRoom out.old at (thread_bytes (record { id = id; thread = thread.Ended value })) }
     ensures { IsPut out.old at (thread_bytes (record { id = id; thread = thread.Ended value })) out.new result }
 {
     let end = put(out, at, &thread_head(id, 64, 0, value));
@@ -92,7 +92,7 @@ fn put_ended(out: &mut [u8], at: usize, id: ThreadId, value: u32) -> usize
 
 /// What stands for an id: a thread, or nothing.
 fn put_slot(out: &mut [u8], at: usize, threads: &Threads, id: ThreadId) -> usize
-    requires { at + length (flat_map thread_bytes (rows_of id (thread_of threads.now id))) ≤ length out.old }
+    requires { HasRoom out.old at (flat_map thread_bytes (rows_of id (thread_of threads.now id))) }
     ensures { IsPut out.old at (flat_map thread_bytes (rows_of id (thread_of threads.now id))) out.new result }
 {
     match threads.thread(u32::from(id)) {
@@ -102,14 +102,13 @@ fn put_slot(out: &mut [u8], at: usize, threads: &Threads, id: ThreadId) -> usize
     }
 }
 
-/// The threads by rising id.
-pub fn put_threads(out: &mut [u8], at: usize, threads: &Threads, count: u8) -> usize
-    requires count { count ≡ length (thread_rows threads.now) }
-    requires room { at + length (counted one_byte thread_bytes (thread_rows threads.now)) ≤ length out.old }
+/// The threads by rising id. There is a place for each id of 1 to 64, and place 0, which stays empty.
+pub fn put_threads(out: &mut [u8], at: usize, threads: &Threads) -> usize
+    requires { HasRoom out.old at (counted one_byte thread_bytes (thread_rows threads.now)) }
     ensures { IsPut out.old at (counted one_byte thread_bytes (thread_rows threads.now)) out.new result }
 {
     threads.known();
-    let mut end = put(out, at, &[count]);
+    let mut end = put(out, at, &[threads.thread_count() as u8]);
     for id in 0..65u8 {
         end = put_slot(out, end, threads, id);
     }
@@ -143,11 +142,11 @@ impl Record for Wait {
 }
 
 /// The waits in order, at most 64.
-pub fn put_waits(out: &mut [u8], at: usize, waits: &[Wait]) -> usize
-    requires few { length waits.now ≤ 64 }
-    requires room { at + length (counted one_byte wait_bytes waits.now) ≤ length out.old }
-    ensures { IsPut out.old at (counted one_byte wait_bytes waits.now) out.new result }
+pub fn put_waits(out: &mut [u8], at: usize, threads: &Threads) -> usize
+    requires { HasRoom out.old at (counted one_byte wait_bytes threads.now.waits) }
+    ensures { IsPut out.old at (counted one_byte wait_bytes threads.now.waits) out.new result }
 {
+    let waits = threads.waits();
     let end = put(out, at, &[waits.len() as u8]);
     put_all(out, end, waits)
 }

@@ -1,5 +1,4 @@
 use Rattle.std.proofs.Common.{◌≡◌, ◌<◌, ◌∷◌, [], None, length, get_or, ap, subst, ◌∙◌, arith}
-use Rattle.std.specs.List.{flat_map}
 use Rattle.ckrt_tables.specs.Records.{id_or_0, hart_bytes}
 use Rattle.ckrt_tables.specs.Writing.{IsPut}
 use Rattle.ckrt_tables.proofs.Puts.{room_for, put_one, put_all}

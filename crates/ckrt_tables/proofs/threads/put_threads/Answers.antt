@@ -1,7 +1,8 @@
-use Rattle.std.proofs.Common.{◌≡◌, ◌<◌, ◌∷◌, [], ◌++◌, None, length, get_or, subst, sym, ap, arith}
+use Rattle.std.proofs.Common.{◌<◌, ◌∷◌, [], ◌++◌, length, subst, ap, arith}
 use Rattle.std.specs.List.{flat_map}
 use Rattle.std.proofs.lemmas.List.{take_all}
-use Rattle.ckrt_tables.specs.Records.{thread_bytes, thread_rows, rows_of, rows_from}
+use Rattle.ckrt_thread.specs.Contents.{thread_rows, rows_of, rows_from}
+use Rattle.ckrt_tables.specs.Records.{thread_bytes}
 use Rattle.ckrt_tables.specs.Writing.{IsPut}
 use Rattle.ckrt_tables.proofs.Rows.{at_place}
 use Rattle.ckrt_tables.proofs.Slots.{put_thread_next, room_thread_next}
@@ -12,7 +13,7 @@ put_slot-end-requires c =
     let ts = c.args.threads.now.threads in
     let head = length (thread_rows c.args.threads.now) ∷ [] in
     let within : c.loop-id.id < length ts = omega (arith, c.known.ensures.size, c.loop-id-test.true) in
-    let room = room_thread_next c.args.out.now c.args.at head ts c.loop-id.id c.loop-id.out c.loop-id.end within c.loop-id.invariant c.requires.room in
+    let room = room_thread_next c.args.out.now c.args.at head ts c.loop-id.id c.loop-id.out c.loop-id.end within c.loop-id.invariant c.requires in
     let same = ap (λ t. length (flat_map thread_bytes (rows_of c.loop-id.id t))) (at_place ts c.loop-id.id within) in
     omega (arith, room, same, c.loop-id.auto.out)
 

@@ -1,6 +1,7 @@
 use Rattle.std.proofs.Common.{◌∷◌, [], ◌++◌, take, length}
 use Rattle.std.specs.List.{flat_map}
-use Rattle.ckrt_tables.specs.Records.{thread_bytes, rows_from, thread_rows}
+use Rattle.ckrt_thread.specs.Contents.{rows_from, thread_rows}
+use Rattle.ckrt_tables.specs.Records.{thread_bytes}
 use Rattle.ckrt_tables.specs.Writing.{IsPut}
 use Rattle.ckrt_tables.proofs.threads.put_threads.Given as goal
 

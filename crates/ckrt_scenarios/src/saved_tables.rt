@@ -1,0 +1,446 @@
+//! Saved tables: their bytes, field by field as the format lists them.
+//!
+//! All numbers have their lowest byte first. No byte here comes from the program: each was written down from the format.
+
+use crate::expect::{expect_bytes, expect_eq};
+use arrayvec::ArrayVec;
+use circular_buffer::HeapCircularBuffer;
+use ckrt_barrier::{Barrier, Barriers};
+use ckrt_calls::{InputQueue, Status, Tables};
+use ckrt_mutex::{Kind, Mutex, Mutexes};
+use ckrt_objects::Entry;
+use ckrt_rv32i::Regs;
+use ckrt_rwlock::{RwLock, RwLocks};
+use ckrt_tables::{HELD_LIMIT, Held, TABLES_ROOM, encode_tables};
+use ckrt_thread::{
+    Cancellation, Handler, Live, MAX_HANDLERS, Reason, RetakeResult, Thread, ThreadId, Threads,
+    Wait,
+};
+use std::process::Abort;
+
+/// Held output of these bytes.
+fn held<R: Abort + AllocGlobal>(rt: &R, bytes: &[u8]) -> Held {
+    let mut held = HeapCircularBuffer::with_capacity(rt.alloc(), HELD_LIMIT).expect(
+        rt,
+        "memory for output",
+    );
+    assert!(rt; bytes.len() <= HELD_LIMIT);
+    held.fill_from_slice(bytes);
+    held
+}
+
+/// What the tables and this output are saved as.
+fn expect_encoding<R: Abort + AllocGlobal>(rt: &R, tables: &Tables, output: &[u8], want: &[u8]) {
+    let held = held(rt, output);
+    let mut room = Vec::new(rt.alloc());
+    room.resize(TABLES_ROOM, 0xEE)
+        .expect(rt, "memory for tables");
+    assert!(rt; tables.is_well_formed());
+    assert!(rt; held.len() <= HELD_LIMIT);
+    let length = encode_tables(tables, &held, room.as_mut_slice());
+    assert!(rt; length <= room.len());
+    let (front, back) = room.as_slice().split_at(length);
+    expect_bytes(rt, front, want);
+    assert!(rt; back.iter().all(|byte| *byte == 0xEE));
+}
+
+/// More bytes behind those that there are.
+fn push<R: Abort>(rt: &R, bytes: &mut Vec<u8>, more: &[u8]) {
+    bytes.extend_from_slice(more).expect(rt, "memory for bytes");
+}
+
+/// So many zeros behind the bytes that there are.
+fn push_zeros<R: Abort>(rt: &R, bytes: &mut Vec<u8>, count: usize) {
+    for _ in 0..count {
+        push(rt, bytes, &[0]);
+    }
+}
+
+/// The tables of a program that hasn't begun: 170 bytes.
+#[test]
+fn fresh_tables_have_170_bytes(rt: HostRuntime) {
+    let tables = Tables::new(rt.alloc(), 16, 1).expect(&rt, "memory for tables");
+    let mut want = Vec::new(rt.alloc());
+    // The clock, whether the input ended, the status, and eight idle harts.
+    push_zeros(&rt, &mut want, 8 + 1 + 7 + 8);
+    // One thread: its number, the flag of the initial thread, no handler; it doesn't unwind.
+    push(&rt, &mut want, &[1, 1, 1, 0, 0, 0, 0, 0, 0]);
+    // It begins at 0x1000, returns to 0xFFFFFFF0, and has its stack at 65,536.
+    push(&rt, &mut want, &[0x00, 0x10, 0x00, 0x00]);
+    push(&rt, &mut want, &[0xF0, 0xFF, 0xFF, 0xFF]);
+    push(&rt, &mut want, &[0x00, 0x00, 0x01, 0x00]);
+    push_zeros(&rt, &mut want, 29 * 4);
+    // No wait, mutex, barrier or read-write lock, no input and no output.
+    push_zeros(&rt, &mut want, 1 + 2 + 1 + 1 + 2 + 2);
+    expect_eq(&rt, want.len(), 170);
+    expect_encoding(&rt, &tables, b"", want.as_slice());
+}
+
+/// A thread with zeros in its registers, at a pc.
+fn live(pc: u32) -> Live {
+    Live {
+        regs: Regs::new(pc),
+        initial: false,
+        detached: false,
+        cancellation: Cancellation::new(),
+        handlers: ArrayVec::new(),
+    }
+}
+
+/// Registers with a number of its own in each.
+fn numbered_registers(pc: u32) -> Regs {
+    let mut regs = Regs::new(pc);
+    for register in 1..32u8 {
+        regs.put(register, register as u32);
+    }
+    regs
+}
+
+/// Two handlers.
+fn two_handlers() -> ArrayVec<Handler, MAX_HANDLERS> {
+    let mut handlers = ArrayVec::new();
+    handlers.push(Handler {
+        routine: 0x2000,
+        argument: 7,
+    });
+    handlers.push(Handler {
+        routine: 0x2004,
+        argument: 8,
+    });
+    handlers
+}
+
+/// The thread that the program began with: with a request, a number of its own in each register, and two handlers.
+fn first_thread() -> Thread {
+    let mut first = live(0x1004);
+    first.regs = numbered_registers(0x1004);
+    first.initial = true;
+    first.cancellation.is_requested = true;
+    first.handlers = two_handlers();
+    Thread::Live(first)
+}
+
+/// A thread that can be cancelled at any instruction.
+fn asynchronous_thread(pc: u32) -> Thread {
+    let mut thread = live(pc);
+    thread.cancellation.is_asynchronous = true;
+    Thread::Live(thread)
+}
+
+/// A thread that was cancelled, and runs its handlers.
+fn unwinding_thread(pc: u32) -> Thread {
+    let mut thread = live(pc);
+    thread.cancellation = Cancellation::new().acted_on();
+    Thread::Live(thread)
+}
+
+/// A detached thread that can't be cancelled.
+fn detached_thread(pc: u32) -> Thread {
+    let mut thread = live(pc);
+    thread.detached = true;
+    thread.cancellation.is_enabled = false;
+    Thread::Live(thread)
+}
+
+/// Twelve threads: the first one, one that nothing is said of for each wait, one that is ready, and one that has ended.
+fn add_threads<R: Abort>(rt: &R, threads: &mut Threads) {
+    assert!(rt; threads.append_thread(1, first_thread()));
+    assert!(rt; threads.append_thread(2, Thread::Live(live(0x1008))));
+    assert!(rt; threads.append_thread(3, asynchronous_thread(0x100C)));
+    assert!(rt; threads.append_thread(4, Thread::Live(live(0x1010))));
+    assert!(rt; threads.append_thread(5, unwinding_thread(0x1014)));
+    assert!(rt; threads.append_thread(6, Thread::Live(live(0x1018))));
+}
+
+/// The other six of the twelve threads.
+fn add_more_threads<R: Abort>(rt: &R, threads: &mut Threads) {
+    assert!(rt; threads.append_thread(7, Thread::Live(live(0x101C))));
+    assert!(rt; threads.append_thread(8, Thread::Live(live(0x1020))));
+    assert!(rt; threads.append_thread(9, Thread::Live(live(0x1024))));
+    assert!(rt; threads.append_thread(10, detached_thread(0x1028)));
+    assert!(rt; threads.append_thread(11, Thread::Live(live(0x102C))));
+    assert!(rt; threads.append_thread(12, Thread::Ended(0x0102_0304)));
+}
+
+/// A wait behind those that there are.
+fn add_wait<R: Abort>(
+    rt: &R,
+    threads: &mut Threads,
+    thread: ThreadId,
+    reason: Reason,
+    deadline: Option<u64>,
+) {
+    let wait = Wait {
+        thread,
+        reason,
+        deadline,
+    };
+    assert!(rt; threads.append_wait(wait));
+}
+
+/// A wait of each kind but that for input, and not in order of thread.
+fn add_waits<R: Abort>(rt: &R, threads: &mut Threads) {
+    add_wait(rt, threads, 11, Reason::Sleep, Some(9));
+    add_wait(rt, threads, 3, Reason::Lock(0x3000), Some(0x2_0000_0001));
+    add_wait(rt, threads, 2, Reason::Join(3), None);
+    add_wait(
+        rt,
+        threads,
+        4,
+        Reason::Retake(0x3000, RetakeResult::TimedOut),
+        None,
+    );
+    add_wait(
+        rt,
+        threads,
+        5,
+        Reason::Retake(0x3000, RetakeResult::Unwind),
+        None,
+    );
+    add_wait(rt, threads, 6, Reason::Condition(0x3010, 0x3000), None);
+    add_wait(rt, threads, 7, Reason::Barrier(0x3020), None);
+    add_wait(rt, threads, 8, Reason::Read(0x3030), None);
+    add_wait(rt, threads, 9, Reason::Write(0x3040), None);
+}
+
+/// Twelve threads, nine waits, and one of two harts with a thread.
+fn threads_with_everything<R: Abort + AllocGlobal>(rt: &R) -> Threads {
+    let mut threads = Threads::empty(rt.alloc(), 2).expect(rt, "memory for threads");
+    add_threads(rt, &mut threads);
+    add_more_threads(rt, &mut threads);
+    add_waits(rt, &mut threads);
+    assert!(rt; threads.append_on_hart(1, 1));
+    threads
+}
+
+/// A recursive mutex that thread 1 locked thrice, a free one that checks for errors, and a normal one of thread 10.
+fn mutexes<R: Abort>(rt: &R) -> Mutexes {
+    let mut mutexes = Mutexes::new();
+    assert!(rt;
+        mutexes.append(Entry {
+            address: 0x3000,
+            value: Mutex::owned(Kind::Recursive, 1, 3)
+        })
+    );
+    assert!(rt;
+        mutexes.append(Entry {
+            address: 0x3004,
+            value: Mutex::free(Kind::ErrorCheck)
+        })
+    );
+    assert!(rt;
+        mutexes.append(Entry {
+            address: 0x3008,
+            value: Mutex::owned(Kind::Normal, 10, 1)
+        })
+    );
+    mutexes
+}
+
+/// A lock that thread 1 writes under, and one that threads 1 and 10 read under, the first twice.
+fn rwlocks<R: Abort>(rt: &R) -> RwLocks {
+    let mut rwlocks = RwLocks::new();
+    let written = RwLock::unheld().with_writer(Some(1));
+    let read = RwLock::unheld()
+        .with_read_count(1, 2)
+        .with_read_count(10, 1);
+    assert!(rt;
+        rwlocks.append(Entry {
+            address: 0x3030,
+            value: written
+        })
+    );
+    assert!(rt;
+        rwlocks.append(Entry {
+            address: 0x3040,
+            value: read
+        })
+    );
+    rwlocks
+}
+
+/// One barrier, for three threads.
+fn barriers<R: Abort>(rt: &R) -> Barriers {
+    let mut barriers = Barriers::new();
+    assert!(rt;
+        barriers.append(Entry {
+            address: 0x3020,
+            value: Barrier { count: 3 }
+        })
+    );
+    barriers
+}
+
+/// Two bytes of input.
+fn input<R: Abort + AllocGlobal>(rt: &R) -> InputQueue {
+    let mut input = InputQueue::new(rt.alloc()).expect(rt, "memory for input");
+    input.append(b"hi");
+    input
+}
+
+/// A thread's record with zeros in its registers and no handler.
+fn push_thread<R: Abort>(rt: &R, want: &mut Vec<u8>, id: u8, flags: u8, value: u8, pc: u8) {
+    push(rt, want, &[id, flags, 0, 0, value, value, value, value]);
+    push(rt, want, &[pc, 0x10, 0x00, 0x00]);
+    push_zeros(rt, want, 31 * 4);
+}
+
+/// The record of the first thread.
+fn push_first_thread<R: Abort>(rt: &R, want: &mut Vec<u8>) {
+    // Initial (1), with a request (16), two handlers, not unwinding, at 0x1004.
+    push(rt, want, &[1, 17, 2, 0, 0, 0, 0, 0, 0x04, 0x10, 0, 0]);
+    for register in 1..32u8 {
+        push(rt, want, &[register, 0, 0, 0]);
+    }
+    push(rt, want, &[0x00, 0x20, 0, 0, 7, 0, 0, 0]);
+    push(rt, want, &[0x04, 0x20, 0, 0, 8, 0, 0, 0]);
+}
+
+/// The twelve threads.
+fn push_threads<R: Abort>(rt: &R, want: &mut Vec<u8>) {
+    push(rt, want, &[12]);
+    push_first_thread(rt, want);
+    push_thread(rt, want, 2, 0, 0, 0x08);
+    push_thread(rt, want, 3, 8, 0, 0x0C);
+    push_thread(rt, want, 4, 0, 0, 0x10);
+    // Disabled (4) and unwinding (32), to end with 0xFFFFFFFF.
+    push_thread(rt, want, 5, 36, 0xFF, 0x14);
+    push_thread(rt, want, 6, 0, 0, 0x18);
+    push_thread(rt, want, 7, 0, 0, 0x1C);
+    push_thread(rt, want, 8, 0, 0, 0x20);
+    push_thread(rt, want, 9, 0, 0, 0x24);
+    // Detached (2) and disabled (4).
+    push_thread(rt, want, 10, 6, 0, 0x28);
+    push_thread(rt, want, 11, 0, 0, 0x2C);
+    // Ended, with 0x01020304; all else is 0.
+    push(rt, want, &[12, 64, 0, 0, 4, 3, 2, 1]);
+    push_zeros(rt, want, 32 * 4);
+}
+
+/// The nine waits, 20 bytes each: thread, kind, result, whether there is a deadline; two names; the deadline.
+fn push_waits<R: Abort>(rt: &R, want: &mut Vec<u8>) {
+    push(rt, want, &[9]);
+    push(
+        rt,
+        want,
+        &[11, 9, 0, 1, 0, 0, 0, 0, 0, 0, 0, 0, 9, 0, 0, 0, 0, 0, 0, 0],
+    );
+    push(
+        rt,
+        want,
+        &[
+            3, 2, 0, 1, 0, 0x30, 0, 0, 0, 0, 0, 0, 1, 0, 0, 0, 2, 0, 0, 0,
+        ],
+    );
+    push(
+        rt,
+        want,
+        &[2, 1, 0, 0, 3, 0, 0, 0, 0, 0, 0, 0, 0, 0, 0, 0, 0, 0, 0, 0],
+    );
+    push(
+        rt,
+        want,
+        &[
+            4, 3, 110, 0, 0, 0x30, 0, 0, 0, 0, 0, 0, 0, 0, 0, 0, 0, 0, 0, 0,
+        ],
+    );
+    push(
+        rt,
+        want,
+        &[
+            5, 3, 255, 0, 0, 0x30, 0, 0, 0, 0, 0, 0, 0, 0, 0, 0, 0, 0, 0, 0,
+        ],
+    );
+    push(
+        rt,
+        want,
+        &[
+            6, 4, 0, 0, 0x10, 0x30, 0, 0, 0, 0x30, 0, 0, 0, 0, 0, 0, 0, 0, 0, 0,
+        ],
+    );
+    push(
+        rt,
+        want,
+        &[
+            7, 5, 0, 0, 0x20, 0x30, 0, 0, 0, 0, 0, 0, 0, 0, 0, 0, 0, 0, 0, 0,
+        ],
+    );
+    push(
+        rt,
+        want,
+        &[
+            8, 6, 0, 0, 0x30, 0x30, 0, 0, 0, 0, 0, 0, 0, 0, 0, 0, 0, 0, 0, 0,
+        ],
+    );
+    push(
+        rt,
+        want,
+        &[
+            9, 7, 0, 0, 0x40, 0x30, 0, 0, 0, 0, 0, 0, 0, 0, 0, 0, 0, 0, 0, 0,
+        ],
+    );
+}
+
+/// Three mutexes, one barrier, two read-write locks.
+fn push_objects<R: Abort>(rt: &R, want: &mut Vec<u8>) {
+    push(rt, want, &[3, 0]);
+    push(rt, want, &[0x00, 0x30, 0, 0, 1, 1, 3, 0]);
+    push(rt, want, &[0x04, 0x30, 0, 0, 2, 0, 0, 0]);
+    push(rt, want, &[0x08, 0x30, 0, 0, 0, 10, 1, 0]);
+    push(rt, want, &[1, 0x20, 0x30, 0, 0, 3, 0, 0, 0]);
+    push(rt, want, &[2, 0x30, 0x30, 0, 0, 1, 0]);
+    push(rt, want, &[0x40, 0x30, 0, 0, 0, 2, 1, 2, 0, 10, 1, 0]);
+}
+
+/// Everything that tables can hold, but for a wait for input, has the bytes of the format.
+#[test]
+fn tables_with_everything_have_their_bytes(rt: HostRuntime) {
+    let tables = Tables {
+        threads: threads_with_everything(&rt),
+        mutexes: mutexes(&rt),
+        barriers: barriers(&rt),
+        rwlocks: rwlocks(&rt),
+        clock: 5,
+        input: input(&rt),
+        closed: true,
+        status: Status::Running,
+    };
+    let mut want = Vec::new(rt.alloc());
+    // The clock, that the input has ended, that the program runs, and thread 1 on hart 1.
+    push(&rt, &mut want, &[5, 0, 0, 0, 0, 0, 0, 0]);
+    push(&rt, &mut want, &[1, 0, 0, 0, 0, 0, 0, 0]);
+    push(&rt, &mut want, &[0, 1, 0, 0, 0, 0, 0, 0]);
+    push_threads(&rt, &mut want);
+    push_waits(&rt, &mut want);
+    push_objects(&rt, &mut want);
+    push(&rt, &mut want, &[2, 0, 0x68, 0x69]);
+    push(&rt, &mut want, &[3, 0, 0x6F, 0x75, 0x74]);
+    expect_encoding(&rt, &tables, b"out", want.as_slice());
+}
+
+/// A row that no well-formed table goes on with is refused, and the table stays as it was.
+#[test]
+fn rows_that_fit_nowhere_are_refused(rt: HostRuntime) {
+    let mut threads = threads_with_everything(&rt);
+    assert!(&rt; !threads.append_thread(12, Thread::Ended(0)));
+    assert!(&rt; !threads.append_thread(65, Thread::Ended(0)));
+    assert!(&rt; !threads.append_thread(13, first_thread()));
+    assert!(&rt; !threads.append_thread(13, Thread::Live(live(0x1002))));
+    let of_ended = Wait {
+        thread: 12,
+        reason: Reason::Input,
+        deadline: None,
+    };
+    assert!(&rt; !threads.append_wait(of_ended));
+    let for_itself = Wait {
+        thread: 10,
+        reason: Reason::Join(10),
+        deadline: None,
+    };
+    assert!(&rt; !threads.append_wait(for_itself));
+    assert!(&rt; !threads.append_on_hart(0, 1));
+    assert!(&rt; !threads.append_on_hart(2, 10));
+    expect_eq(&rt, threads.thread_count(), 12);
+    expect_eq(&rt, threads.wait_count(), 9);
+    assert!(&rt; threads.append_on_hart(0, 10));
+}

@@ -1,0 +1,109 @@
+-- How many bytes an encoding has at most.
+use Rattle.std.proofs.Common.{◌≡◌, ℕ, suc, ◌+◌, ◌*◌, ◌≤◌, ◌==◌, Bool, true, false, Option, Some, None, List, [], ◌∷◌, ◌++◌, length, length-append, refl, ap, arith}
+use Rattle.std.specs.Prelude.{if◌then◌else◌, slice_get, slice_index_or}
+use Rattle.std.specs.List.{list_all, flat_map}
+use Rattle.std.specs.Option.{option_flatten}
+use Rattle.std.proofs.lemmas.Bool.Decides.{nat_tests}
+use Rattle.ckrt_thread.specs.declared.records.Handler.{Handler}
+use Rattle.ckrt_thread.specs.declared.records.Thread.{Thread}
+use Rattle.ckrt_thread.specs.declared.records.Thread.TheVariants as thread
+use Rattle.ckrt_thread.specs.State.{is_proper_slot}
+use Rattle.ckrt_thread.specs.Contents.{ThreadRow, rows_from}
+use Rattle.ckrt_thread.proofs.ThreadRows.{few_threads}
+use Rattle.ckrt_objects.specs.declared.address_map.Entry.{Entry}
+use Rattle.ckrt_rwlock.specs.declared.records.RwLock.{RwLock}
+use Rattle.ckrt_rwlock.specs.RwLock.{is_proper}
+use Rattle.ckrt_calls.specs.declared.table.Tables.{Tables}
+use Rattle.ckrt_calls.specs.WellFormed.{IsWellFormed}
+use Rattle.ckrt_tables.specs.Records.{hart_bytes, handlers_of, handler_bytes, thread_bytes, wait_bytes, mutex_bytes, barrier_bytes, reader_at, readers_from, reader_bytes, rwlock_bytes}
+use Rattle.ckrt_tables.specs.Encoding.{encoding_of, IsHeld}
+use Rattle.ckrt_tables.proofs.Few.{few}
+use Rattle.ckrt_tables.proofs.Slots.{length_reader_at}
+use Rattle.ckrt_tables.proofs.Lengths.{encoding_length, status_length}
+
+-- records of one size
+pub length_each : {X : Type 0} (each : X → List ℕ) (n : ℕ) → ((x : X) → length (each x) ≡ n) → (xs : List X) → length (flat_map each xs) ≡ n * length xs
+length_each each n one [] = omega arith
+length_each each n one (x ∷ xs) =
+    let e : length (each x ++ flat_map each xs) ≡ length (each x) + length (flat_map each xs) = length-append (each x) (flat_map each xs) in
+    omega (arith, e, one x, length_each each n one xs)
+
+-- THREADS
+
+thread_length : (r : ThreadRow) → length (thread_bytes r) ≡ 136 + length (flat_map handler_bytes (handlers_of r.thread))
+thread_length r = omega arith
+
+handlers_length : (hs : List Handler) → length (flat_map handler_bytes hs) ≡ 8 * length hs
+handlers_length hs = length_each handler_bytes 8 (λ h. refl) hs
+
+few_handlers : (t : Thread) → is_proper_slot (Some t) ≡ true → length (handlers_of t) ≤ 16
+few_handlers (thread.Ended v) is = omega arith
+few_handlers (thread.Live l) is = grind (arith, nat_tests, is)
+
+threads_bound : (k : ℕ) (slots : List (Option Thread)) → ((i : ℕ) → is_proper_slot (option_flatten (slice_get slots i)) ≡ true)
+    → length (flat_map thread_bytes (rows_from k slots)) ≤ 264 * length (rows_from k slots)
+threads_bound k [] is = omega arith
+threads_bound k (None ∷ slots) is = threads_bound (suc k) slots (λ i. is (suc i))
+threads_bound k (Some t ∷ slots) is =
+    let r : ThreadRow = record { id = k; thread = t } in
+    let more = threads_bound (suc k) slots (λ i. is (suc i)) in
+    let e : length (thread_bytes r ++ flat_map thread_bytes (rows_from (suc k) slots)) ≡ length (thread_bytes r) + length (flat_map thread_bytes (rows_from (suc k) slots)) =
+    length-append (thread_bytes r) (flat_map thread_bytes (rows_from (suc k) slots)) in
+    omega (arith, e, thread_length r, handlers_length (handlers_of t), few_handlers t (is 0), more)
+
+-- READ-WRITE LOCKS
+
+readers_fewer : (k : ℕ) (ns : List ℕ) → length (readers_from k ns) ≤ length ns
+readers_fewer k [] = omega arith
+readers_fewer k (n ∷ ns) =
+    let e : length (reader_at k n ++ readers_from (suc k) ns) ≡ length (reader_at k n) + length (readers_from (suc k) ns) = length-append (reader_at k n) (readers_from (suc k) ns) in
+    omega (arith, e, at_most_one (n == 0) (length (reader_at k n)) (length_reader_at k n), readers_fewer (suc k) ns)
+  where
+    at_most_one : (b : Bool) (m : ℕ) → m ≡ (if b then 0 else 1) → m ≤ 1
+    at_most_one true m e = omega (arith, e)
+    at_most_one false m e = omega (arith, e)
+
+few_readers : (ns : List ℕ) → length ns ≡ 65 → slice_index_or ns 0 0 ≡ 0 → length (readers_from 0 ns) ≤ 64
+few_readers [] size none = omega arith
+few_readers (n ∷ ns) size none =
+    let zero_first : reader_at 0 n ≡ [] = rw none refl in
+    let e : length (reader_at 0 n ++ readers_from 1 ns) ≡ length (readers_from 1 ns) = ap (λ l. length (l ++ readers_from 1 ns)) zero_first in
+    omega (arith, e, size, readers_fewer 1 ns)
+
+rwlock_length : (e : Entry RwLock) → length (rwlock_bytes e) ≡ 6 + length (flat_map reader_bytes (readers_from 0 e.value.readers))
+rwlock_length e = omega arith
+
+rwlocks_bound : (ls : List (Entry RwLock)) → list_all (λ e. is_proper e.value) ls ≡ true → length (flat_map rwlock_bytes ls) ≤ 198 * length ls
+rwlocks_bound [] is = omega arith
+rwlocks_bound (l ∷ ls) is =
+    let here : is_proper l.value ≡ true = grind (arith, is) in
+    let there : list_all (λ e. is_proper e.value) ls ≡ true = grind (arith, is) in
+    let size : length l.value.readers ≡ 65 = grind (arith, nat_tests, here) in
+    let none : slice_index_or l.value.readers 0 0 ≡ 0 = grind (arith, nat_tests, here) in
+    let e : length (rwlock_bytes l ++ flat_map rwlock_bytes ls) ≡ length (rwlock_bytes l) + length (flat_map rwlock_bytes ls) = length-append (rwlock_bytes l) (flat_map rwlock_bytes ls) in
+    omega (arith, e, rwlock_length l, length_each reader_bytes 3 (λ r. refl) (readers_from 0 l.value.readers), few_readers l.value.readers size none, rwlocks_bound ls there)
+
+-- ALL
+
+pub encoding_bound : (s : Tables) (held : List ℕ) → IsWellFormed s → IsHeld held → length (encoding_of s held) ≤ 53922
+encoding_bound s held is is_held =
+    let at_most = few s is in
+    omega (
+      arith,
+      encoding_length s held,
+      status_length s.status,
+      length_each hart_bytes 1 (λ h. refl) s.threads.harts,
+      is.threads.harts,
+      threads_bound 0 s.threads.threads is.threads.proper,
+      few_threads s.threads is.threads,
+      length_each wait_bytes 20 (λ w. refl) s.threads.waits,
+      at_most.waits,
+      length_each mutex_bytes 8 (λ m. refl) s.mutexes,
+      at_most.mutexes,
+      length_each barrier_bytes 8 (λ b. refl) s.barriers,
+      at_most.barriers,
+      rwlocks_bound s.rwlocks is.rwlocks.table.proper,
+      at_most.rwlocks,
+      at_most.input,
+      is_held,
+    )

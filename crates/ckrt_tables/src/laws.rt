@@ -1,0 +1,25 @@
+//! Laws of saved tables. Each is the contract of a function with an empty body.
+ghost use Rattle.std.specs.Prelude.{◌≡◌, ◌≤◌, ℕ, List, length};
+ghost use Rattle.ckrt_calls.specs.declared.table.Tables.{Tables};
+ghost use Rattle.ckrt_calls.specs.WellFormed.{IsWellFormed};
+ghost use Rattle.ckrt_tables.specs.Encoding.{encoding_of, IsHeld};
+ghost use Rattle.ckrt_tables.specs.declared.encoding.TheConstants.{LONGEST_TABLES};
+ghost use Rattle.ckrt_tables.specs.Savable.{AreDistinct};
+ghost use Rattle.ckrt_tables.specs.Fresh.{IsFreshEncoding, fresh_bytes};
+
+/// The tables of a program that hasn't begun, without output, have these 170 bytes, whatever its harts.
+pub fn fresh_encoding()
+    ensures bytes { IsFreshEncoding }
+    ensures length { (pages : ℕ) → length (fresh_bytes pages) ≡ 170 }
+{}
+
+/// No well-formed tables with held output have a longer encoding than [`crate::LONGEST_TABLES`] bytes.
+#[tactic(auto, using(crate::proofs::Bounds::encoding_bound))]
+pub fn longest_encoding()
+    ensures { (s : Tables) (held : List ℕ) → IsWellFormed s → IsHeld held → length (encoding_of s held) ≤ LONGEST_TABLES }
+{}
+
+/// No two savable states of a program with so many harts have one encoding.
+pub fn encodings_are_distinct()
+    ensures { (harts : ℕ) → AreDistinct harts }
+{}
