@@ -1,5 +1,5 @@
 // Which of the two areas is in use.
-ghost use Rattle.std.specs.Prelude.{◌≡◌, ◌≢◌, Err, ◌≤◌, ◌<◌, ◌^◌, IfOk};
+ghost use Rattle.std.specs.Prelude.{◌≢◌, Err, ◌<◌, IfOk};
 ghost use Rattle.ckrt_image.specs.declared.fault.RecoverFault.TheVariants.{Device, OutOfMemory};
 ghost use Rattle.ckrt_image.specs.Areas.{checked_area, newest_area};
 ghost use Rattle.ckrt_image.specs.Recovery.{Agrees};

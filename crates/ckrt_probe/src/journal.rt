@@ -38,7 +38,7 @@ fn append<D: Disk>(
         "no batch of 1 to 4096 bytes"
     );
     ensure!(
-        journal.at == 0 && journal.size <= disk.size() && journal.place < journal.size,
+        journal.at == 0 && journal.size <= disk.size() && journal.next_gate < journal.size,
         "the journal isn't on the disk"
     );
     if journal.room() < batch.len() + 3 {
@@ -85,7 +85,7 @@ fn full_journal(rt: &HostRuntime) -> Result<MemoryDisk> {
             break;
         }
     }
-    if journal.place < journal.size {
+    if journal.next_gate < journal.size {
         let last = batch_of(journal.room().saturating_sub(3));
         append(rt, &mut journal, &mut disk, &last)?;
     }
