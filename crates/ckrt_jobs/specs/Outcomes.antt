@@ -4,6 +4,7 @@ use Rattle.ckrt_jobs.specs.declared.fault.JobFault.{JobFault}
 use Rattle.ckrt_jobs.specs.declared.fault.JobFault.TheVariants as job
 use Rattle.ckrt_jobs.specs.declared.fault.ProgramFault.{ProgramFault}
 use Rattle.ckrt_jobs.specs.declared.fault.ProgramFault.TheVariants as program
+use Rattle.ckrt_jobs.specs.declared.running.Unserved.{Unserved}
 use Rattle.ckrt_image.specs.declared.fault.FormatFault.TheVariants as format
 use Rattle.ckrt_image.specs.declared.fault.RecoverFault.{RecoverFault}
 use Rattle.ckrt_image.specs.Recovery.{AgreesOnFault, Recovered}
@@ -42,6 +43,11 @@ IsUsage (program.Job fault) = ⊥
 abbrev pub AgreesOnJob : JobFault → Result Recovered RecoverFault → Type 0
 AgreesOnJob (job.Recover f) found = AgreesOnFault f found
 AgreesOnJob _ found = Unit {0}
+
+-- the disk that a run hands back
+abbrev pub disk_of : {D : Type 0} → Result D (Unserved D) → D
+disk_of (Ok disk) = disk
+disk_of (Err u) = u.disk
 
 -- what a disk is made with
 abbrev pub config_of : Formatting → Config

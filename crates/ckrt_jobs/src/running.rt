@@ -1,10 +1,11 @@
 //! Running a disk.
 ghost use Rattle.std.specs.Prelude.{◌≡◌, Ok, IfOk, IfErr};
 ghost use Rattle.ckrt_disk.specs.Disk.{HasFailed};
+ghost use Rattle.ckrt_disk.specs.Frame.{IsSameDisk};
 ghost use Rattle.ckrt_main.specs.Service.{Served};
 ghost use Rattle.ckrt_image.specs.Recovery.{Recovered, recovery_of};
 ghost use Rattle.ckrt_recovery.specs.View.{opened};
-ghost use Rattle.ckrt_jobs.specs.Outcomes.{AgreesOnJob, IsBeforeService};
+ghost use Rattle.ckrt_jobs.specs.Outcomes.{AgreesOnJob, IsBeforeService, disk_of};
 
 use crate::fault::JobFault;
 use ckrt_disk::Disk;
@@ -35,10 +36,7 @@ pub fn run_disk<D: Disk + Drop, R: Read, W: Write>(
     ensures unrecovered { IfErr result (λ u. D.is_honest u.disk → AgreesOnJob u.fault (recovery_of (D.content disk))) }
     ensures unread { IfErr result (λ u. IsBeforeService u.fault → reader.new ≡ reader.old) }
     ensures unwritten { IfErr result (λ u. IsBeforeService u.fault → writer.new ≡ writer.old) }
-    ensures honest { IfOk result (λ end. D.is_honest end → D.is_honest disk) }
-    ensures honest_err { IfErr result (λ u. D.is_honest u.disk → D.is_honest disk) }
-    ensures size { IfOk result (λ end. D.size end ≡ D.size disk) }
-    ensures size_err { IfErr result (λ u. D.size u.disk ≡ D.size disk) }
+    ensures disk { IsSameDisk D.Disk disk (disk_of result) }
 {
     let mut session = match recover(alloc, disk) {
         Ok(session) => session,

@@ -57,13 +57,13 @@ module _ {D : Type 0} {g : Ghosts D} where
   processed_newline_part line old new o r = record { accepted = r.accepted; part = newline_part (view_of old) line r.accepted o r.part; accepts = r.accepts }
 
   pub processed_byte : (a : Option (List ℕ)) (line : List ℕ) (b : ℕ) (old : Session D g) → Processed a a line (b ∷ []) old old (line ++ b ∷ []) false
-  processed_byte a line b old = record { accepted = []; part = nothing_part (view_of old) line (b ∷ []); accepts = accepts_kept old old refl; run = λ _. Consumed-byte a (view_of old) line b }
+  processed_byte a line b old = record { accepted = []; part = nothing_part (view_of old) line (b ∷ []); accepts = accepts_kept old old refl refl; run = λ _. Consumed-byte a (view_of old) line b }
 
   pub processed_full : (a : Option (List ℕ)) (line : List ℕ) (b : ℕ) (old : Session D g) → is_open line ≡ true → length line ≡ 162 → (b == 10) ≡ false → Processed a a line (b ∷ []) old old line false
-  processed_full a line b old o h e = record { accepted = []; part = nothing_part (view_of old) line (b ∷ []); accepts = accepts_kept old old refl; run = λ _. Consumed-full a (view_of old) line b o h e }
+  processed_full a line b old o h e = record { accepted = []; part = nothing_part (view_of old) line (b ∷ []); accepts = accepts_kept old old refl refl; run = λ _. Consumed-full a (view_of old) line b o h e }
 
   pub processed_nothing : (a : Option (List ℕ)) (line : List ℕ) (old : Session D g) → Processed a a line [] old old line false
-  processed_nothing a line old = record { accepted = []; part = nothing_part (view_of old) line []; accepts = accepts_kept old old refl; run = λ _. Consumed-nothing a (view_of old) line }
+  processed_nothing a line old = record { accepted = []; part = nothing_part (view_of old) line []; accepts = accepts_kept old old refl refl; run = λ _. Consumed-nothing a (view_of old) line }
 
   -- BYTES AFTER BYTES
 

@@ -120,7 +120,7 @@ fn place_and_run<W: Write, D: Disk>(
 
 /// The thread to place onto a hart next, 1 to 64.
 fn planned<D: Disk>(session: &Session<D>, hart: u8) -> Option<u8>
-    ensures planned { result ≡ machine.planned hart session.now.machine.state.tables }
+    ensures planned { result ≡ machine.planned hart session.now.progress.machine.state.tables }
     ensures in_range { IfSome result (λ thread. (1 ≤ thread) × (thread ≤ 64)) }
 {
     session.machine().planned(hart)

@@ -36,7 +36,7 @@ returns-in_ok-write_reply-in-Err-clause-ok g c =
 pub returns-in_err-write_reply-in-Err-clause-interrupted : goal.returns-in_err-write_reply-in-Err-clause-interrupted
 returns-in_err-write_reply-in-Err-clause-interrupted g c =
     let s = c.args.session.now in
-    on_err _ _ (interrupted_kept (respond c.args.command (view_of s)) s s refl)
+    on_err _ _ (interrupted_kept (respond c.args.command (view_of s)) s s refl refl)
 
 pub returns-in_ok-submit-in-Ok-Submit-clause-quit : goal.returns-in_ok-submit-in-Ok-Submit-clause-quit
 returns-in_ok-submit-in-Ok-Submit-clause-quit g c =
@@ -48,7 +48,7 @@ pub returns-in_ok-run_planned-in-Ok-Auto-clause-quit : goal.returns-in_ok-run_pl
 returns-in_ok-run_planned-in-Ok-Auto-clause-quit g c =
     let v = view_of c.args.session.now in
     let e : Ok (Auto c.in-Ok-Auto.hart c.in-Ok-Auto.steps) ≡ c.args.command = search rules in
-    subst (λ r. false ≡ (respond r v).quit) e (sym (planned_goes_on (planned c.in-Ok-Auto.hart v.state.tables) c.in-Ok-Auto.hart c.in-Ok-Auto.steps v))
+    subst (λ r. false ≡ (respond r v).quit) e (sym (planned_goes_on (planned c.in-Ok-Auto.hart v.recovered.state.tables) c.in-Ok-Auto.hart c.in-Ok-Auto.steps v))
 
 pub returns-in_ok-submit-in-Ok-Submit-clause-ok : goal.returns-in_ok-submit-in-Ok-Submit-clause-ok
 returns-in_ok-submit-in-Ok-Submit-clause-ok g c =
@@ -86,4 +86,4 @@ returns-in_ok-write_reply-in-Ok-Checkpoint-clause-ok g c =
 pub returns-in_err-write_reply-in-Ok-Checkpoint-clause-interrupted : goal.returns-in_err-write_reply-in-Ok-Checkpoint-clause-interrupted
 returns-in_err-write_reply-in-Ok-Checkpoint-clause-interrupted g c =
     let s = c.args.session.now in
-    on_err _ _ (interrupted_kept (respond c.args.command (view_of s)) s s refl)
+    on_err _ _ (interrupted_kept (respond c.args.command (view_of s)) s s refl refl)
