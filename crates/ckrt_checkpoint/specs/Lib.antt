@@ -2,3 +2,4 @@ pub mod Layout
 pub mod Fields
 pub mod Areas
 pub mod Answers
+pub mod Holds
