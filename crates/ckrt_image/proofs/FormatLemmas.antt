@@ -17,7 +17,7 @@ use Rattle.ckrt_journal.proofs.ChainLemmas.{chain_more}
 use Rattle.ckrt_calls.specs.Table as calls
 use Rattle.ckrt_machine.specs.Steps.{State}
 use Rattle.ckrt_tables.specs.Fresh.{fresh_bytes, IsFreshEncoding}
-use Rattle.ckrt_tables.specs.Savable.{CanBeSaved}
+use Rattle.ckrt_tables.proofs.AllFit.{fresh_savable}
 use Rattle.ckrt_checkpoint.specs.declared.config.Config.{Config}
 use Rattle.ckrt_checkpoint.specs.declared.header.Header.{Header}
 use Rattle.ckrt_checkpoint.specs.declared.area.Area.{Area}
@@ -107,15 +107,12 @@ some_pages c valid = (grind (arith, nat_tests, valid), grind (arith, nat_tests, 
 fits : (c : Config) → is_valid c ≡ true → (c.pages < 256 ^ 4) × (c.harts < 256 ^ 4) × (c.journal < 256 ^ 4)
 fits c valid = (grind (arith, nat_tests, valid), grind (arith, nat_tests, valid), grind (arith, nat_tests, valid))
 
-in_ranges : (c : Config) → is_valid c ≡ true → (16 ≤ c.pages) × (c.pages ≤ 1024) × (1 ≤ c.harts) × (c.harts ≤ 8)
-in_ranges c valid = (grind (arith, nat_tests, valid), grind (arith, nat_tests, valid), grind (arith, nat_tests, valid), grind (arith, nat_tests, valid))
+few : (c : Config) → is_valid c ≡ true → (c.pages ≤ 1024) × (c.harts ≤ 8)
+few c valid = (grind (arith, nat_tests, valid), grind (arith, nat_tests, valid))
 
 -- the encoding of the tables of a program that hasn't begun
 encoded : IsFreshEncoding
 encoded pages harts = refl
-
-fresh_savable : (pages harts : ℕ) → (16 ≤ pages) × (pages ≤ 1024) × (1 ≤ harts) × (harts ≤ 8) → CanBeSaved harts (calls.fresh pages harts) []
-fresh_savable pages harts ranges = ?
 
 -- THE FIRST GATE
 
@@ -171,7 +168,7 @@ module _ (c : Config) (guest image : List ℕ) (valid : is_valid c ≡ true) (gu
         opened = refl;
         checked = refl;
         end = refl;
-        savable = fresh_savable c.pages c.harts (in_ranges c valid);
+        savable = fresh_savable c.pages c.harts (few c valid).0 (few c valid).1;
         tables = fresh.area.tables ∙ sym (encoded c.pages c.harts);
         pages = ap (λ n. take n (drop (memory_at c 0) image)) (sym size) ∙ fresh.area.pages;
         no_batch = ap (λ x. nat_eq x 165) (byte_is image (journal_of c 0).at c.journal 0 (some_pages c valid).1 fresh.journal);
