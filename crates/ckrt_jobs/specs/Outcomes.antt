@@ -39,10 +39,10 @@ abbrev pub IsUsage : ProgramFault → Type 0
 IsUsage (program.Usage text) = Unit {0}
 IsUsage (program.Job fault) = ⊥
 
--- a fault of recovery is the one that the content has
-abbrev pub AgreesOnJob : JobFault → Result Recovered RecoverFault → Type 0
-AgreesOnJob (job.Recover f) found = AgreesOnFault f found
-AgreesOnJob _ found = Unit {0}
+-- a fault of recovery is the one that the content recovers to
+abbrev pub AgreesOnJob : JobFault → (Result Recovered RecoverFault → Type 0) → Type 0
+AgreesOnJob (job.Recover f) Holds = AgreesOnFault f Holds
+AgreesOnJob _ Holds = Unit {0}
 
 -- the disk that a run hands back
 abbrev pub disk_of : {D : Type 0} → Result D (Unserved D) → D
