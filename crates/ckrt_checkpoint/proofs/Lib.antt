@@ -1,2 +1,3 @@
 pub mod PickLemmas
 pub mod ByteLemmas
+pub mod WriteLemmas
