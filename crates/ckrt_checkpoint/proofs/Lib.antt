@@ -1,3 +1,4 @@
 pub mod PickLemmas
 pub mod ByteLemmas
 pub mod WriteLemmas
+pub mod SaveLemmas

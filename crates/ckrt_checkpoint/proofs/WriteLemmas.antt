@@ -1,5 +1,5 @@
 -- How the calls that write an area join, and what they leave standing.
-use Rattle.std.proofs.Common.{◌≡◌, ◌⊎◌, inl, inr, ⊎_elim, ℕ, ◌+◌, ◌-◌, ◌*◌, ◌≤◌, ◌<◌, Bool, true, false, List, [], ◌∷◌, length, take, drop, Result, Ok, Err, OnOk, is_err, refl, sym, ◌∙◌, ap, subst, arith, length-drop}
+use Rattle.std.proofs.Common.{◌≡◌, inl, inr, ℕ, ◌+◌, ◌-◌, ◌*◌, ◌≤◌, ◌<◌, Bool, true, false, List, [], ◌∷◌, length, take, drop, Result, Ok, Err, OnOk, is_err, refl, sym, ◌∙◌, ap, subst, arith, length-drop}
 use Rattle.std.proofs.lemmas.Bool.{cases_lt}
 use Rattle.std.proofs.lemmas.Bool.Decides.{nat_tests}
 use Rattle.std.proofs.lemmas.List.{length-take-le}
@@ -14,7 +14,7 @@ use Rattle.ckrt_checkpoint.specs.declared.header.Header.{Header}
 use Rattle.ckrt_checkpoint.specs.Fields.{HasBytes, header_fields}
 use Rattle.ckrt_checkpoint.specs.Holds.{HasNoBatch, slot, slot_at}
 use Rattle.ckrt_checkpoint.proofs.PickLemmas.{area_end}
-use Rattle.ckrt_checkpoint.specs.Layout.{is_valid, area_at, area_size, journal_of, memory_at, memory_size, size_needed, tables_at}
+use Rattle.ckrt_checkpoint.specs.Layout.{is_valid, area_at, area_size, journal_of, size_needed, tables_at}
 use Rattle.ckrt_checkpoint.specs.Write.{FillsAt, IsFilled, PagesAt}
 
 -- what holds where the last call answered Ok, from what it says of that
