@@ -2,3 +2,4 @@ pub mod PickLemmas
 pub mod ByteLemmas
 pub mod WriteLemmas
 pub mod SaveLemmas
+pub mod HoldLemmas
