@@ -89,11 +89,11 @@ module _ {D : Type 0} (d : Ghosts D) (c : Config) (area gate_at : ℕ) (h : Head
   filling k m old mid new failed honest_mid honest durable closed first gate fill =
       goes_on d.moment d.left_since old mid new (AnyOf old) (closing old mid first)
       (weaker d.moment d.left_since mid new _ (AnyOf old) (fill.any_moment honest) (λ image left.
-          let now : IsSameOutside (FillsAt c area) (d.content mid) image = record { size = left.size; same = λ i out. left.same i (λ risk. ⊎_elim (durable i) out risk) } in
-          inr (inl (record {
-            gate = subst (λ n. is_gate_open n image ≡ false) there (same_gate gate_at image (d.content mid) (now.same gate_at spared) ∙ closed);
-            outside = outside_both old mid image (gate.content refl honest_mid) now;
-          }))))
+      let now : IsSameOutside (FillsAt c area) (d.content mid) image = record { size = left.size; same = λ i out. left.same i (λ risk. ⊎_elim (durable i) out risk) } in
+      inr (inl (record {
+        gate = subst (λ n. is_gate_open n image ≡ false) there (same_gate gate_at image (d.content mid) (now.same gate_at spared) ∙ closed);
+        outside = outside_both old mid image (gate.content refl honest_mid) now;
+      }))))
 
   -- as before but for the gate, of what was filled
   outside_all : (old mid : D) (content image : List ℕ) → IsSameOutside (WritesAt c area) (d.content old) content → IsSameOutside (GateAt c area) content image → IsSameOutside (WritesAt c area) (d.content old) image
@@ -115,10 +115,10 @@ module _ {D : Type 0} (d : Ghosts D) (c : Config) (area gate_at : ℕ) (h : Head
     pub saved_or_filling : (image : List ℕ) → IsSameOutside (GateAt c area) (d.content full) image → IsFilling c area (d.content old) image ⊎ HasSaved c area h tables memory (d.content old) image
     saved_or_filling image same = ⊎_elim
         (λ opened. inr (record {
-            holds = holds c area h tables memory (d.content full) image low filled same opened;
-            no_batch = has_no_batch c area h tables memory (d.content full) image low filled same;
-            outside = outside_all old mid (d.content full) image so_far same;
-          }))
+          holds = holds c area h tables memory (d.content full) image low filled same opened;
+          no_batch = has_no_batch c area h tables memory (d.content full) image low filled same;
+          outside = outside_all old mid (d.content full) image so_far same;
+        }))
         (λ shut. inl (record { gate = shut; outside = outside_all old mid (d.content full) image so_far same }))
         (open_or_not (is_gate_open (area_at c area) image))
 
@@ -128,7 +128,7 @@ module _ {D : Type 0} (d : Ghosts D) (c : Config) (area gate_at : ℕ) (h : Head
     opening durable closed first durable_full last =
         goes_on d.moment d.left_since old full new (AnyOf old) (filling k m old mid full false honest_mid honest_full durable closed first gate fill)
         (weaker d.moment d.left_since full new _ (AnyOf old) (last.any_moment honest) (λ image left.
-            inr (saved_or_filling image (at_gate (d.content full) image (record { size = left.size; same = λ i out. left.same i (λ risk. ⊎_elim (durable_full i) out risk) })))))
+        inr (saved_or_filling image (at_gate (d.content full) image (record { size = left.size; same = λ i out. left.same i (λ risk. ⊎_elim (durable_full i) out risk) })))))
 
     -- and then
     pub has_saved : HasBytes (d.content new) gate_at (165 ∷ []) → WritesWithin d (IsWithin gate_at 1) 2 full new false → HasSaved c area h tables memory (d.content old) (d.content new)

@@ -4,3 +4,4 @@ pub mod Areas
 pub mod Answers
 pub mod Holds
 pub mod Write
+pub mod Read

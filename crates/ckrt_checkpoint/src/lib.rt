@@ -9,6 +9,7 @@ mod fields;
 mod header;
 mod layout;
 mod picking;
+mod reading;
 mod save_point;
 mod writing;
 
@@ -19,5 +20,6 @@ pub use fields::{header_fields, number_32, number_64, put};
 pub use header::Header;
 pub use layout::{CLOSED, COUNT_LIMIT, FIELDS_AT, OPEN, VERSION};
 pub use picking::pick_area;
+pub use reading::read_area;
 pub use save_point::SavePoint;
 pub use writing::write_area;
