@@ -3,3 +3,4 @@ pub mod Encoding
 pub mod Savable
 pub mod Fresh
 pub mod Writing
+pub mod Decoding

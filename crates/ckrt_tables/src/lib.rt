@@ -1,12 +1,16 @@
 //! Saved tables: a program's tables and the output that it holds are written as bytes, by the one encoding that they have.
 #![tactic(auto)]
 
+mod cursor;
+mod decoding;
 mod encoding;
 mod laws;
 mod numbers;
 mod objects;
+mod reading;
 mod threads;
 mod writing;
 
+pub use decoding::decode_tables;
 pub use encoding::{HELD_LIMIT, Held, LONGEST_TABLES, TABLES_ROOM, encode_tables};
 pub use laws::{encodings_are_distinct, fresh_encoding, longest_encoding};
