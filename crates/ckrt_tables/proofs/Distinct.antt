@@ -27,7 +27,7 @@ use Rattle.ckrt_barrier.specs.declared.barrier.Barrier.{Barrier}
 use Rattle.ckrt_rwlock.specs.declared.records.RwLock.{RwLock}
 use Rattle.ckrt_calls.specs.declared.table.Status.TheVariants as status
 use Rattle.ckrt_calls.specs.declared.table.Tables.{Tables}
-use Rattle.ckrt_tables.specs.Records.{id_or_0, cause_number, counted, one_byte, two_bytes, hart_bytes, flag, flags_of, value_of, registers_of, handlers_of, registers_bytes, handler_bytes, thread_bytes, kind_of, result_of, first_name, second_name, wait_bytes, mutex_kind_number, mutex_bytes, barrier_bytes, Reader, reader_at, readers_from, readers_of, reader_bytes, rwlock_bytes}
+use Rattle.ckrt_tables.specs.Records.{id_or_0, cause_number, cause_from, counted, one_byte, two_bytes, hart_bytes, flag, flags_of, value_of, registers_of, handlers_of, registers_bytes, handler_bytes, thread_bytes, kind_of, result_of, first_name, second_name, reason_from, wait_bytes, mutex_kind_number, mutex_bytes, barrier_bytes, Reader, reader_at, readers_from, readers_of, reader_bytes, rwlock_bytes}
 use Rattle.ckrt_tables.specs.Encoding.{status_bytes, queue_bytes}
 use Rattle.ckrt_tables.specs.Savable.{is_half, is_word, is_long, if_there, fit_registers, fits_handler, fits_thread, fits_slot, fits_reason, fits_wait, is_id, fits_mutex, fits_barrier, fits_rwlock, fits_status, AreDistinct}
 use Rattle.ckrt_tables.proofs.Few.{few}
@@ -86,7 +86,7 @@ flag_free false false e = refl
 flag_free true false e = absurd (omega (arith, e))
 flag_free false true e = absurd (omega (arith, e))
 
-flag_times : (k : ℕ) (b : Bool) → flag k b ≡ k * flag 1 b
+pub flag_times : (k : ℕ) (b : Bool) → flag k b ≡ k * flag 1 b
 flag_times k true = omega arith
 flag_times k false = omega arith
 
@@ -106,7 +106,7 @@ not_free false false e = refl
 not_free true false e = absurd (cc)
 not_free false true e = absurd (cc)
 
-option_free : (o p : Option ℕ) → is_some o ≡ is_some p → unwrap_or o 0 ≡ unwrap_or p 0 → o ≡ p
+pub option_free : (o p : Option ℕ) → is_some o ≡ is_some p → unwrap_or o 0 ≡ unwrap_or p 0 → o ≡ p
 option_free None None s e = refl
 option_free None (Some n) s e = absurd (cc)
 option_free (Some m) None s e = absurd (cc)
@@ -123,7 +123,7 @@ hart_free x y a b fx fy e = (let one = byte_free (id_or_0 x) (id_or_0 y) a b e i
 
 -- THREADS
 
-words_at : (xs : List ℕ) (j n : ℕ) → j + n ≡ length xs → flat_map (λ k. little_bytes 4 (get_or xs k 0)) (range_with_len j n) ≡ flat_map (little_bytes 4) (drop j xs)
+pub words_at : (xs : List ℕ) (j n : ℕ) → j + n ≡ length xs → flat_map (λ k. little_bytes 4 (get_or xs k 0)) (range_with_len j n) ≡ flat_map (little_bytes 4) (drop j xs)
 words_at xs j zero e = ap (flat_map (little_bytes 4)) (sym (drop_all j xs (omega (arith, e))))
 words_at xs j (suc n) e =
     let next : suc j ≡ j + 1 = omega arith in
@@ -144,13 +144,13 @@ length_drop_1 : (xs : List ℕ) (n : ℕ) → length xs ≡ suc n → length (dr
 length_drop_1 [] n e = absurd (omega (arith, e))
 length_drop_1 (x ∷ xs) n e = omega (arith, e)
 
-record FitRegisters (r : Registers) : Type 0 where
-  pc : is_word r.pc ≡ true
-  size : length r.x ≡ 32
-  first : get_or r.x 0 0 ≡ 0
-  words : list_all is_word r.x ≡ true
+pub record FitRegisters (r : Registers) : Type 0 where
+  pub pc : is_word r.pc ≡ true
+  pub size : length r.x ≡ 32
+  pub first : get_or r.x 0 0 ≡ 0
+  pub words : list_all is_word r.x ≡ true
 
-registers_fit : (r : Registers) → fit_registers r ≡ true → FitRegisters r
+pub registers_fit : (r : Registers) → fit_registers r ≡ true → FitRegisters r
 registers_fit r f = record {
   pc = grind (arith, nat_tests, f);
   size = grind (arith, nat_tests, f);
@@ -226,13 +226,13 @@ live_below_64 : (l : Live) → flags_of (thread.Live l) < 64
 live_below_64 l = omega (arith, flag_few 1 l.initial, flag_few 2 l.detached, flag_few 4 (not l.cancellation.is_enabled), flag_few 8 l.cancellation.is_asynchronous, flag_few 16 l.cancellation.is_requested, flag_few 32 (is_some l.cancellation.unwinding))
 
 -- what the bytes of a thread say of it
-record SameThread (x y : Thread) : Type 0 where
-  flags : flags_of x ≡ flags_of y
-  value : value_of x ≡ value_of y
-  registers : registers_of x ≡ registers_of y
-  handlers : handlers_of x ≡ handlers_of y
+pub record SameThread (x y : Thread) : Type 0 where
+  pub flags : flags_of x ≡ flags_of y
+  pub value : value_of x ≡ value_of y
+  pub registers : registers_of x ≡ registers_of y
+  pub handlers : handlers_of x ≡ handlers_of y
 
-thread_known : (x y : Thread) → SameThread x y → x ≡ y
+pub thread_known : (x y : Thread) → SameThread x y → x ≡ y
 thread_known (thread.Ended v) (thread.Ended w) s = ap (λ n. thread.Ended n) s.value
 thread_known (thread.Ended v) (thread.Live m) s = absurd (let f = s.flags in let b = live_below_64 m in omega (arith, f, b))
 thread_known (thread.Live l) (thread.Ended w) s = absurd (let f = s.flags in let b = live_below_64 l in omega (arith, f, b))
@@ -245,16 +245,16 @@ thread_known (thread.Live l) (thread.Live m) s =
     rw (r, f.initial, f.detached, f.enabled, f.asynchronous, f.requested, u, h) refl in
     ap (λ z. thread.Live z) same
 
-record FitThread (x : Thread) : Type 0 where
-  value : is_word (value_of x) ≡ true
-  registers : fit_registers (registers_of x) ≡ true
-  handlers : list_all fits_handler (handlers_of x) ≡ true
+pub record FitThread (x : Thread) : Type 0 where
+  pub value : is_word (value_of x) ≡ true
+  pub registers : fit_registers (registers_of x) ≡ true
+  pub handlers : list_all fits_handler (handlers_of x) ≡ true
 
 value_fits : (o : Option ℕ) → if_there is_word o ≡ true → is_word (unwrap_or o 0) ≡ true
 value_fits None f = refl
 value_fits (Some n) f = f
 
-thread_fits : (x : Thread) → fits_thread x ≡ true → FitThread x
+pub thread_fits : (x : Thread) → fits_thread x ≡ true → FitThread x
 thread_fits (thread.Ended v) f = record { value = f; registers = refl; handlers = refl }
 thread_fits (thread.Live l) f = record {
   value = value_fits l.cancellation.unwinding (grind (arith, nat_tests, f));
@@ -262,7 +262,7 @@ thread_fits (thread.Live l) f = record {
   handlers = grind (arith, nat_tests, f);
 }
 
-spelt : (v r h a : List ℕ) → (v ++ (r ++ h)) ++ a ≡ v ++ (r ++ (h ++ a))
+pub spelt : (v r h a : List ℕ) → (v ++ (r ++ h)) ++ a ≡ v ++ (r ++ (h ++ a))
 spelt v r h a = append_assoc v (r ++ h) a ∙ ap (λ l. v ++ l) (append_assoc r h a)
 
 thread_free : IsPrefixFree (λ (r : ThreadRow). fits_thread r.thread ≡ true) thread_bytes
@@ -295,43 +295,29 @@ rows_fit k (Some x ∷ slots) f = (let rest = rows_fit (suc k) slots (grind (ari
 
 -- WAITS
 
--- the reason that its numbers stand for
+pub reason_is : (r : Reason) → fits_reason r ≡ true → reason_from (kind_of r) (result_of r) (first_name r) (second_name r) ≡ r
+reason_is (reason.Join id) f = ap (λ k. reason.Join k) (let small : id < 256 = grind (arith, nat_tests, f) in omega (arith, small))
+reason_is (reason.Lock a) f = refl
+reason_is (reason.Retake a retake.Done) f = refl
+reason_is (reason.Retake a retake.TimedOut) f = refl
+reason_is (reason.Retake a retake.Unwind) f = refl
+reason_is (reason.Condition c a) f = refl
+reason_is (reason.Barrier a) f = refl
+reason_is (reason.Read a) f = refl
+reason_is (reason.Write a) f = refl
+reason_is reason.Input f = refl
+reason_is reason.Sleep f = refl
 
-abbrev reason_from : ℕ → ℕ → ℕ → ℕ → Reason
-reason_from k n a b =
-    if k == 1 then reason.Join a
-    else if k == 2 then reason.Lock a
-    else if k == 3 then reason.Retake a (if n == 0 then retake.Done else if n == 110 then retake.TimedOut else retake.Unwind)
-    else if k == 4 then reason.Condition a b
-    else if k == 5 then reason.Barrier a
-    else if k == 6 then reason.Read a
-    else if k == 7 then reason.Write a
-    else if k == 8 then reason.Input
-    else reason.Sleep
-
-reason_is : (r : Reason) → reason_from (kind_of r) (result_of r) (first_name r) (second_name r) ≡ r
-reason_is (reason.Join id) = refl
-reason_is (reason.Lock a) = refl
-reason_is (reason.Retake a retake.Done) = refl
-reason_is (reason.Retake a retake.TimedOut) = refl
-reason_is (reason.Retake a retake.Unwind) = refl
-reason_is (reason.Condition c a) = refl
-reason_is (reason.Barrier a) = refl
-reason_is (reason.Read a) = refl
-reason_is (reason.Write a) = refl
-reason_is reason.Input = refl
-reason_is reason.Sleep = refl
-
-reason_known : (r q : Reason) → kind_of r ≡ kind_of q → result_of r ≡ result_of q → first_name r ≡ first_name q → second_name r ≡ second_name q → r ≡ q
-reason_known r q k n a b =
-    sym (reason_is r)
+reason_known : (r q : Reason) → fits_reason r ≡ true → fits_reason q ≡ true → kind_of r ≡ kind_of q → result_of r ≡ result_of q → first_name r ≡ first_name q → second_name r ≡ second_name q → r ≡ q
+reason_known r q fr fq k n a b =
+    sym (reason_is r fr)
     ∙ ap (λ x. reason_from x (result_of r) (first_name r) (second_name r)) k
     ∙ ap (λ x. reason_from (kind_of q) x (first_name r) (second_name r)) n
     ∙ ap (λ x. reason_from (kind_of q) (result_of q) x (second_name r)) a
     ∙ ap (λ x. reason_from (kind_of q) (result_of q) (first_name q) x) b
-    ∙ reason_is q
+    ∙ reason_is q fq
 
-names_fit : (r : Reason) → fits_reason r ≡ true → (is_word (first_name r) ≡ true) × (is_word (second_name r) ≡ true)
+pub names_fit : (r : Reason) → fits_reason r ≡ true → (is_word (first_name r) ≡ true) × (is_word (second_name r) ≡ true)
 names_fit (reason.Join id) f = (grind (arith, nat_tests, f), refl)
 names_fit (reason.Lock a) f = (f, refl)
 names_fit (reason.Retake a r) f = (f, refl)
@@ -342,7 +328,7 @@ names_fit (reason.Write a) f = (f, refl)
 names_fit reason.Input f = (refl, refl)
 names_fit reason.Sleep f = (refl, refl)
 
-moment_fits : (o : Option ℕ) → if_there is_long o ≡ true → is_long (unwrap_or o 0) ≡ true
+pub moment_fits : (o : Option ℕ) → if_there is_long o ≡ true → is_long (unwrap_or o 0) ≡ true
 moment_fits None f = refl
 moment_fits (Some n) f = f
 
@@ -361,7 +347,7 @@ wait_free w v a b fw fv e =
     let x = word_free (first_name w.reason) (first_name v.reason) (little_bytes 4 (second_name w.reason) ++ wm) (little_bytes 4 (second_name v.reason) ++ vm) p.0 q.0 d.1 in
     let y = word_free (second_name w.reason) (second_name v.reason) wm vm p.1 q.1 x.1 in
     let m = long_free (unwrap_or w.deadline 0) (unwrap_or v.deadline 0) a b (moment_fits w.deadline (grind (arith, nat_tests, fw))) (moment_fits v.deadline (grind (arith, nat_tests, fv))) y.1 in
-    let reason = reason_known w.reason v.reason k.0 r.0 x.0 y.0 in
+    let reason = reason_known w.reason v.reason (grind (arith, nat_tests, fw)) (grind (arith, nat_tests, fv)) k.0 r.0 x.0 y.0 in
     let deadline = option_free w.deadline v.deadline (flag_free (is_some w.deadline) (is_some v.deadline) d.0) m.0 in
     (same w.thread w.reason w.deadline v t.0 reason deadline, m.1)
   where
@@ -473,19 +459,7 @@ rwlock_free m k a b fm fk e =
 
 -- THE STATUS
 
-abbrev cause_from : ℕ → Cause
-cause_from n =
-    if n == 1 then cause.FetchRange
-    else if n == 2 then cause.Illegal
-    else if n == 3 then cause.JumpMisaligned
-    else if n == 4 then cause.LoadMisaligned
-    else if n == 5 then cause.LoadRange
-    else if n == 6 then cause.StoreMisaligned
-    else if n == 7 then cause.StoreRange
-    else if n == 8 then cause.Breakpoint
-    else cause.Gate
-
-cause_is : (c : Cause) → cause_from (cause_number c) ≡ c
+pub cause_is : (c : Cause) → cause_from (cause_number c) ≡ c
 cause_is cause.FetchRange = refl
 cause_is cause.Illegal = refl
 cause_is cause.JumpMisaligned = refl

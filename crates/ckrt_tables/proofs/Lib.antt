@@ -5,3 +5,4 @@ pub mod Lengths
 pub mod Few
 pub mod Bounds
 pub mod Distinct
+pub mod RowsRead

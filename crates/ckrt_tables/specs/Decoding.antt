@@ -1,7 +1,8 @@
 -- What decoding gives, and what its readers do. A reader always answers: bytes that are no encoding give any value, and the whole is
 -- encoded again and compared at the end.
-use Rattle.std.specs.Prelude.{◌≡◌, ◌×◌, ◌<◌, ℕ, Bool, true, ⊥, Option, Some, None, List, [], ◌++◌, length}
+use Rattle.std.specs.Prelude.{◌≡◌, ◌<◌, ◌≤◌, ℕ, Bool, true, Option, Some, None, List, [], ◌++◌, length}
 use Rattle.std.specs.List.{list_all}
+use Rattle.arrayvec.specs.ArrayVec.{ArrayVec}
 use Rattle.circular_buffer.specs.Buffer.{Buffer}
 use Rattle.ckrt_calls.specs.declared.table.Tables.{Tables}
 use Rattle.ckrt_tables.specs.Encoding.{encoding_of}
@@ -18,7 +19,7 @@ pub record Saved : Type 0 where
 -- for a program with so many harts the bytes are the encoding of a state that can be saved
 pub record IsEncodingOf (harts : ℕ) (bytes : List ℕ) (s : Saved) : Type 0 where
   pub savable : CanBeSaved harts s.tables s.held
-  pub bytes : bytes ≡ encoding_of s.tables s.held
+  pub encoded : bytes ≡ encoding_of s.tables s.held
 
 -- what the bytes decode to: the state whose encoding they are, or nothing where they are the encoding of none
 abbrev pub DecodesTo : ℕ → List ℕ → Option Saved → Type 0
@@ -47,3 +48,7 @@ abbrev pub Reaches : {T R : Type 0} → (T → List R → T → Type 0) → (R �
 Reaches {T = T} {R = R} LeadsTo fits encoding IsCount bytes begun reached left =
     (goal : T) (rows : List R) (rest : List ℕ) → IsCount (length rows) → list_all fits rows ≡ true → LeadsTo begun rows goal
     → bytes ≡ encoding rows ++ rest → LeadsTo reached [] goal × (left ≡ rest)
+
+-- a vector with room for so many is on the way to another, which has these items behind its own
+abbrev pub FillsUp : {X : Type 0} → ℕ → ArrayVec X → List X → ArrayVec X → Type 0
+FillsUp room begun items goal = (goal.items ≡ begun.items ++ items) × (length goal.items ≤ room)

@@ -1,6 +1,6 @@
 -- The records of saved tables, byte by byte (this project's own format). Numbers have their lowest byte first, and what a
 -- record doesn't use is 0.
-use Rattle.std.specs.Prelude.{ℕ, suc, ◌+◌, ◌==◌, Bool, not, if◌then◌else◌, Option, is_some, unwrap_or, List, [], ◌∷◌, ◌++◌, length, replicate}
+use Rattle.std.specs.Prelude.{ℕ, suc, ◌+◌, ◌%◌, ◌==◌, Bool, not, if◌then◌else◌, Option, is_some, unwrap_or, List, [], ◌∷◌, ◌++◌, length, replicate}
 use Rattle.std.specs.List.{flat_map, range_with_len}
 use Rattle.byteorder.specs.Endian.{little_bytes}
 use Rattle.ckrt_rv32i.specs.Registers.{Registers, get}
@@ -40,6 +40,19 @@ cause_number cause.StoreMisaligned = 6
 cause_number cause.StoreRange = 7
 cause_number cause.Breakpoint = 8
 cause_number cause.Gate = 9
+
+-- the cause that a number stands for
+abbrev pub cause_from : ℕ → Cause
+cause_from n =
+    if n == 1 then cause.FetchRange
+    else if n == 2 then cause.Illegal
+    else if n == 3 then cause.JumpMisaligned
+    else if n == 4 then cause.LoadMisaligned
+    else if n == 5 then cause.LoadRange
+    else if n == 6 then cause.StoreMisaligned
+    else if n == 7 then cause.StoreRange
+    else if n == 8 then cause.Breakpoint
+    else cause.Gate
 
 -- LISTS
 
@@ -140,6 +153,23 @@ first_name reason.Sleep = 0
 abbrev pub second_name : Reason → ℕ
 second_name (reason.Condition c a) = a
 second_name _ = 0
+
+-- what the number of a retake's end stands for
+abbrev pub retake_from : ℕ → RetakeResult
+retake_from n = if n == 0 then retake.Done else if n == 110 then retake.TimedOut else retake.Unwind
+
+-- the reason that its kind, its result and its names stand for
+abbrev pub reason_from : ℕ → ℕ → ℕ → ℕ → Reason
+reason_from k n a b =
+    if k == 1 then reason.Join (a % 256)
+    else if k == 2 then reason.Lock a
+    else if k == 3 then reason.Retake a (retake_from n)
+    else if k == 4 then reason.Condition a b
+    else if k == 5 then reason.Barrier a
+    else if k == 6 then reason.Read a
+    else if k == 7 then reason.Write a
+    else if k == 8 then reason.Input
+    else reason.Sleep
 
 abbrev pub wait_bytes : Wait → List ℕ
 wait_bytes w =

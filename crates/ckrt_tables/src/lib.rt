@@ -8,6 +8,7 @@ mod laws;
 mod numbers;
 mod objects;
 mod reading;
+mod reading_threads;
 mod threads;
 mod writing;
 

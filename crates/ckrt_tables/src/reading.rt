@@ -29,7 +29,7 @@ pub trait Row: Drop {
 }
 
 /// So many rows, which go onto the table.
-fn read_rows<R: Row>(cursor: &mut Cursor<'_>, table: &mut R::Table, count: usize)
+pub fn read_rows<R: Row>(cursor: &mut Cursor<'_>, table: &mut R::Table, count: usize)
     ensures { Reaches R.LeadsTo R.fits (flat_map R.encoding) (λ n. n ≡ count) cursor.old table.old table.new cursor.new }
 {
     for _ in 0..count {
