@@ -3,5 +3,8 @@ pub mod Puts
 pub mod Slots
 pub mod Lengths
 pub mod Few
+pub mod Fields
+pub mod Counts
+pub mod Entries
 pub mod Bounds
 pub mod Distinct

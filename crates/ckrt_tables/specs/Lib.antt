@@ -4,3 +4,4 @@ pub mod Savable
 pub mod Fresh
 pub mod Writing
 pub mod Decoding
+pub mod Objects
