@@ -27,9 +27,12 @@ use Rattle.ckrt_barrier.specs.declared.barrier.Barrier.{Barrier}
 use Rattle.ckrt_rwlock.specs.declared.records.RwLock.{RwLock}
 use Rattle.ckrt_calls.specs.declared.table.Status.TheVariants as status
 use Rattle.ckrt_calls.specs.declared.table.Tables.{Tables}
-use Rattle.ckrt_tables.specs.Records.{id_or_0, cause_number, cause_from, counted, one_byte, two_bytes, hart_bytes, flag, flags_of, value_of, registers_of, handlers_of, registers_bytes, handler_bytes, thread_bytes, kind_of, result_of, first_name, second_name, reason_from, wait_bytes, mutex_kind_number, mutex_bytes, barrier_bytes, Reader, reader_at, readers_from, readers_of, reader_bytes, rwlock_bytes}
+use Rattle.ckrt_tables.specs.declared.reading_objects.Reader.{Reader}
+use Rattle.ckrt_tables.specs.Records.{id_or_0, cause_number, cause_from, counted, one_byte, two_bytes, hart_bytes, flag, flags_of, value_of, registers_of, handlers_of, registers_bytes, handler_bytes, thread_bytes, kind_of, result_of, first_name, second_name, reason_from, wait_bytes, mutex_kind_number, mutex_bytes, barrier_bytes, reader_at, readers_from, readers_of, reader_bytes, rwlock_bytes}
 use Rattle.ckrt_tables.specs.Encoding.{status_bytes, queue_bytes}
 use Rattle.ckrt_tables.specs.Savable.{is_half, is_word, is_long, if_there, fit_registers, fits_handler, fits_thread, fits_slot, fits_reason, fits_wait, is_id, fits_mutex, fits_barrier, fits_rwlock, fits_status, AreDistinct}
+use Rattle.ckrt_tables.specs.Objects.{fits_reader, with_readers}
+use Rattle.ckrt_tables.proofs.Counts.{readers_fit, counts_found}
 use Rattle.ckrt_tables.proofs.Few.{few}
 
 abbrev pub IsPrefixFree : {X : Type 0} → (X → Type 0) → (X → List ℕ) → Type 0
@@ -390,10 +393,10 @@ barrier_free m k a b fm fk e =
     same : (address count : ℕ) (k : Entry Barrier) → address ≡ k.address → count ≡ k.value.count → record { address = address; value = record { count = count } } ≡ k
     same address count k e₁ e₂ = rw (e₁, e₂) refl
 
-reader_free : IsPrefixFree (λ (r : Reader). is_half r.count ≡ true) reader_bytes
+reader_free : IsPrefixFree (λ r. fits_reader r ≡ true) reader_bytes
 reader_free m k a b fm fk e =
     let id = byte_free m.id k.id (little_bytes 2 m.count ++ a) (little_bytes 2 k.count ++ b) e in
-    let co = half_free m.count k.count a b fm fk id.1 in
+    let co = half_free m.count k.count a b (grind (arith, nat_tests, fm)) (grind (arith, nat_tests, fk)) id.1 in
     (same m.id m.count k id.0 co.0, co.1)
   where
     same : (id count : ℕ) (k : Reader) → id ≡ k.id → count ≡ k.count → record { id = id; count = count } ≡ k
@@ -401,44 +404,8 @@ reader_free m k a b fm fk e =
 
 -- counts are known by the readers that they are
 
-reads : (k n : ℕ) → reader_at k (suc n) ≡ (record { id = k; count = suc n }) ∷ []
-reads k n = (let some : (suc n == 0) ≡ false = grind (arith, nat_tests) in ap (λ (b : Bool). if b then [] else (record { id = k; count = suc n }) ∷ []) some)
-
-reader_here : (k n : ℕ) (ns : List ℕ) → readers_from k (suc n ∷ ns) ≡ (record { id = k; count = suc n }) ∷ readers_from (suc k) ns
-reader_here k n ns = ap (λ l. l ++ readers_from (suc k) ns) (reads k n)
-
-reader_later : (k j : ℕ) (ns : List ℕ) (r : Reader) (more : List Reader) → j < k → readers_from k ns ≡ r ∷ more → j < r.id
-reader_later k j [] r more l e = absurd (cc)
-reader_later k j (zero ∷ ns) r more l e = reader_later (suc k) j ns r more (omega arith) e
-reader_later k j (suc n ∷ ns) r more l e =
-    let f : (record { id = k; count = suc n }) ∷ readers_from (suc k) ns ≡ r ∷ more = sym (reader_here k n ns) ∙ e in
-    let same : record { id = k; count = suc n } ≡ r = cc in
-    let i : k ≡ r.id = ap (λ (q : Reader). q.id) same in
-    omega (arith, i)
-
-counts_known : (k : ℕ) (ns ms : List ℕ) → length ns ≡ length ms → readers_from k ns ≡ readers_from k ms → ns ≡ ms
-counts_known k [] [] l e = refl
-counts_known k [] (m ∷ ms) l e = absurd (omega arith)
-counts_known k (n ∷ ns) [] l e = absurd (omega arith)
-counts_known k (zero ∷ ns) (zero ∷ ms) l e = ap (λ z. 0 ∷ z) (counts_known (suc k) ns ms (omega arith) e)
-counts_known k (zero ∷ ns) (suc m ∷ ms) l e =
-    absurd (let i = reader_later (suc k) k ns (record { id = k; count = suc m }) (readers_from (suc k) ms) (omega arith) (e ∙ reader_here k m ms) in omega (arith, i))
-counts_known k (suc n ∷ ns) (zero ∷ ms) l e =
-    absurd (let i = reader_later (suc k) k ms (record { id = k; count = suc n }) (readers_from (suc k) ns) (omega arith) (sym e ∙ reader_here k n ns) in omega (arith, i))
-counts_known k (suc n ∷ ns) (suc m ∷ ms) l e =
-    let f : (record { id = k; count = suc n }) ∷ readers_from (suc k) ns ≡ (record { id = k; count = suc m }) ∷ readers_from (suc k) ms = sym (reader_here k n ns) ∙ (e ∙ reader_here k m ms) in
-    let row : record { id = k; count = suc n } ≡ record { id = k; count = suc m } = cc in
-    let rest : readers_from (suc k) ns ≡ readers_from (suc k) ms = cc in
-    let here : suc n ≡ suc m = ap (λ (q : Reader). q.count) row in
-    let there = counts_known (suc k) ns ms (omega arith) rest in
-    rw (here, there) refl
-
-readers_fit : (k : ℕ) (ns : List ℕ) → list_all is_half ns ≡ true → list_all (λ (r : Reader). is_half r.count) (readers_from k ns) ≡ true
-readers_fit k [] f = refl
-readers_fit k (zero ∷ ns) f = readers_fit (suc k) ns (grind (arith, nat_tests, f))
-readers_fit k (suc n ∷ ns) f =
-    let rest = readers_fit (suc k) ns (grind (arith, nat_tests, f)) in
-    ap (list_all (λ (r : Reader). is_half r.count)) (reader_here k n ns) ∙ grind (arith, nat_tests, f, rest)
+counts_known : (ns ms : List ℕ) → length ns ≡ 65 → length ms ≡ 65 → readers_from 0 ns ≡ readers_from 0 ms → ns ≡ ms
+counts_known ns ms sn sm e = sym (counts_found ns sn) ∙ ap (λ rs. with_readers rs (replicate 65 0)) e ∙ counts_found ms sm
 
 rwlock_free : IsPrefixFree (λ e. fits_rwlock e ≡ true) rwlock_bytes
 rwlock_free m k a b fm fk e =
@@ -447,10 +414,12 @@ rwlock_free m k a b fm fk e =
     let ad = word_free m.address k.address (id_or_0 m.value.writer ∷ length (readers_of m.value) ∷ mr) (id_or_0 k.value.writer ∷ length (readers_of k.value) ∷ kr) (grind (arith, nat_tests, fm)) (grind (arith, nat_tests, fk)) e in
     let wr = byte_free (id_or_0 m.value.writer) (id_or_0 k.value.writer) (length (readers_of m.value) ∷ mr) (length (readers_of k.value) ∷ kr) ad.1 in
     let n = byte_free (length (readers_of m.value)) (length (readers_of k.value)) mr kr wr.1 in
-    let re = parts_free (λ (r : Reader). is_half r.count) reader_bytes reader_free (readers_of m.value) (readers_of k.value) a b (readers_fit 0 m.value.readers (grind (arith, nat_tests, fm))) (readers_fit 0 k.value.readers (grind (arith, nat_tests, fk))) n.0 n.1 in
     let sm : length m.value.readers ≡ 65 = grind (arith, nat_tests, fm) in
     let sk : length k.value.readers ≡ 65 = grind (arith, nat_tests, fk) in
-    let readers = counts_known 0 m.value.readers k.value.readers (sm ∙ sym sk) re.0 in
+    let pm = readers_fit 0 m.value.readers (omega (arith, sm)) (grind (arith, nat_tests, fm)) in
+    let pk = readers_fit 0 k.value.readers (omega (arith, sk)) (grind (arith, nat_tests, fk)) in
+    let re = parts_free fits_reader reader_bytes reader_free (readers_of m.value) (readers_of k.value) a b pm pk n.0 n.1 in
+    let readers = counts_known m.value.readers k.value.readers sm sk re.0 in
     let writer = id_free m.value.writer k.value.writer (grind (arith, nat_tests, fm)) (grind (arith, nat_tests, fk)) wr.0 in
     (same m.address m.value.writer m.value.readers k ad.0 writer readers, re.1)
   where

@@ -3,6 +3,9 @@ pub mod Puts
 pub mod Slots
 pub mod Lengths
 pub mod Few
+pub mod Fields
+pub mod Counts
+pub mod Entries
 pub mod Bounds
 pub mod Distinct
 pub mod RowsRead

@@ -21,6 +21,7 @@ use Rattle.ckrt_mutex.specs.declared.records.Kind.TheVariants as kind
 use Rattle.ckrt_mutex.specs.declared.records.Mutex.{Mutex}
 use Rattle.ckrt_barrier.specs.declared.barrier.Barrier.{Barrier}
 use Rattle.ckrt_rwlock.specs.declared.records.RwLock.{RwLock}
+use Rattle.ckrt_tables.specs.declared.reading_objects.Reader.{Reader}
 
 -- NUMBERS
 
@@ -194,11 +195,6 @@ barrier_bytes e = little_bytes 4 e.address ++ little_bytes 4 e.value.count
 -- A READ-WRITE LOCK, 6 bytes and 3 a reader: address, writer or 0, how many readers it has, and each reader's id and count, by
 -- rising id
 
--- a thread that has read locks, and how many
-pub record Reader : Type 0 where
-  pub id : ℕ
-  pub count : ℕ
-
 abbrev pub reader_at : ℕ → ℕ → List Reader
 reader_at id n = if n == 0 then [] else (record { id = id; count = n }) ∷ []
 
@@ -213,6 +209,9 @@ readers_of l = readers_from 0 l.readers
 abbrev pub reader_bytes : Reader → List ℕ
 reader_bytes r = r.id ∷ little_bytes 2 r.count
 
+-- the counts of all ids, as their readers
+abbrev pub counts_bytes : List ℕ → List ℕ
+counts_bytes ns = counted one_byte reader_bytes (readers_from 0 ns)
+
 abbrev pub rwlock_bytes : Entry RwLock → List ℕ
-rwlock_bytes e =
-    little_bytes 4 e.address ++ (id_or_0 e.value.writer ∷ length (readers_of e.value) ∷ flat_map reader_bytes (readers_of e.value))
+rwlock_bytes e = little_bytes 4 e.address ++ (id_or_0 e.value.writer ∷ counts_bytes e.value.readers)

@@ -8,6 +8,8 @@ mod laws;
 mod numbers;
 mod objects;
 mod reading;
+mod reading_objects;
+mod reading_queues;
 mod reading_threads;
 mod threads;
 mod writing;

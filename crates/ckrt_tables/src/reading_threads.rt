@@ -8,11 +8,12 @@ ghost use Rattle.ckrt_thread.specs.State.{State};
 ghost use Rattle.ckrt_thread.specs.Contents.{who_is_on};
 ghost use Rattle.ckrt_tables.specs.Decoding.{Finds, FillsUp};
 ghost use Rattle.ckrt_tables.specs.DecodingThreads.{AreThreadBytes, BuildsThreads, HartsLeadTo, PutsOnHarts};
-ghost use Rattle.ckrt_tables.specs.Records.{flag, flags_of, hart_bytes, reason_from, registers_bytes, retake_from};
-ghost use Rattle.ckrt_tables.specs.Savable.{fit_registers, if_there, is_id};
+ghost use Rattle.ckrt_tables.specs.Records.{flag, flags_of, reason_from, registers_bytes, retake_from};
+ghost use Rattle.ckrt_tables.specs.Savable.{fit_registers};
 
 use crate::cursor::Cursor;
 use crate::reading::{Row, read_few, read_rows};
+use crate::reading_objects::read_id;
 use arrayvec::ArrayVec;
 use ckrt_rv32i::Regs;
 use ckrt_thread::{
@@ -52,14 +53,6 @@ fn push_if_room<T: Drop, const N: usize>(items: &mut ArrayVec<T, N>, item: T)
 }
 
 // Harts.
-
-/// The id of a thread, which 0 stands for none.
-pub fn read_id(cursor: &mut Cursor<'_>) -> Option<ThreadId>
-    ensures { Finds (if_there is_id) hart_bytes cursor.old result cursor.new }
-{
-    let id = cursor.byte();
-    if id == 0 { None } else { Some(id) }
-}
 
 impl Row for Option<ThreadId> {
     type Table = Harts;
