@@ -9,3 +9,6 @@ pub mod Entries
 pub mod Bounds
 pub mod Distinct
 pub mod RowsRead
+pub mod Filled
+pub mod RegistersRead
+pub mod ThreadsRead
