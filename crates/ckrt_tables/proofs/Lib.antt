@@ -12,3 +12,4 @@ pub mod RowsRead
 pub mod Filled
 pub mod RegistersRead
 pub mod ThreadsRead
+pub mod StatusRead

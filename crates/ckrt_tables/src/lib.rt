@@ -4,6 +4,7 @@
 mod cursor;
 mod decoding;
 mod encoding;
+mod fitting;
 mod laws;
 mod numbers;
 mod objects;
