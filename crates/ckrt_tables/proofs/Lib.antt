@@ -3,9 +3,11 @@ pub mod Puts
 pub mod Slots
 pub mod Lengths
 pub mod Few
+pub mod Fitting
 pub mod Fields
 pub mod Counts
 pub mod Entries
 pub mod Bounds
 pub mod Distinct
 pub mod RowsRead
+pub mod Decoded
