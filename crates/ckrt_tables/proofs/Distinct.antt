@@ -1,5 +1,5 @@
 -- No two savable states have one encoding: no encoding of a part begins another's.
-use Rattle.std.proofs.Common.{◌≡◌, ℕ, zero, suc, ◌+◌, ◌*◌, ◌<◌, ◌≤◌, ◌^◌, ◌==◌, Bool, true, false, not, if◌then◌else◌, Option, Some, None, is_some, unwrap_or, List, [], ◌∷◌, ◌++◌, length, replicate, get_or, drop, refl, sym, ap, ◌∙◌, append_assoc, arith}
+use Rattle.std.proofs.Common.{◌≡◌, ℕ, zero, suc, ◌+◌, ◌*◌, ◌<◌, ◌≤◌, ◌^◌, ◌==◌, Bool, true, false, not, if◌then◌else◌, Option, Some, None, is_some, unwrap_or, List, [], ◌∷◌, ◌++◌, length, get_or, drop, replicate, refl, sym, ap, ◌∙◌, append_assoc, arith}
 use Rattle.std.proofs.lemmas.Bool.Decides.{nat_tests}
 use Rattle.std.proofs.lemmas.List.{drop_at, drop_all}
 use Rattle.std.proofs.Math.Seq.{drop-cons}
@@ -134,7 +134,7 @@ words_at xs j (suc n) e =
     ap (λ l. little_bytes 4 (get_or xs j 0) ++ l) (rest ∙ ap (λ k. flat_map (little_bytes 4) (drop k xs)) (sym next))
     ∙ sym (ap (flat_map (little_bytes 4)) (drop-cons xs j 0 (omega (arith, e))))
 
-all_drop : {X : Type 0} (p : X → Bool) (xs : List X) → list_all p xs ≡ true → list_all p (drop 1 xs) ≡ true
+pub all_drop : {X : Type 0} (p : X → Bool) (xs : List X) → list_all p xs ≡ true → list_all p (drop 1 xs) ≡ true
 all_drop p [] h = refl
 all_drop p (x ∷ xs) h = grind (arith, h)
 
@@ -225,7 +225,7 @@ flags_free l m e =
       unwinding = all.5;
     }
 
-live_below_64 : (l : Live) → flags_of (thread.Live l) < 64
+pub live_below_64 : (l : Live) → flags_of (thread.Live l) < 64
 live_below_64 l = omega (arith, flag_few 1 l.initial, flag_few 2 l.detached, flag_few 4 (not l.cancellation.is_enabled), flag_few 8 l.cancellation.is_asynchronous, flag_few 16 l.cancellation.is_requested, flag_few 32 (is_some l.cancellation.unwinding))
 
 -- what the bytes of a thread say of it

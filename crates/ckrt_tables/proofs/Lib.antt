@@ -10,4 +10,7 @@ pub mod Entries
 pub mod Bounds
 pub mod Distinct
 pub mod RowsRead
+pub mod Filled
+pub mod RegistersRead
+pub mod ThreadsRead
 pub mod Decoded

@@ -9,17 +9,18 @@ use Rattle.ckrt_tables.specs.Decoding.{Finds, Reaches}
 use Rattle.ckrt_tables.specs.Records.{counted, one_byte, two_bytes}
 use Rattle.ckrt_tables.specs.Savable.{is_byte, is_half}
 
+-- an element of a list of which all pass a test
+pub fits_at : {X : Type 0} (fits : X → Bool) (xs : List X) (i : ℕ) (d : X) → list_all fits xs ≡ true → i < length xs → fits (get_or xs i d) ≡ true
+fits_at fits [] i d all lt = absurd (omega (arith, lt))
+fits_at fits (x ∷ xs) zero d all lt = grind (arith, all)
+fits_at fits (x ∷ xs) (suc i) d all lt = let all_xs : list_all fits xs ≡ true = grind (arith, all) in fits_at fits xs i d all_xs (omega arith)
+
 module _ {T R : Type 0} (LeadsTo : T → List R → T → Type 0) (fits : R → Bool) (each : R → List ℕ) where
   -- so far i of the rows were read, of so many
   abbrev pub HasRead : ℕ → ℕ → List ℕ → T → T → List ℕ → Type 0
   HasRead count i bytes begun reached left =
       (goal : T) (rows : List R) (rest : List ℕ) → length rows ≡ count → list_all fits rows ≡ true → LeadsTo begun rows goal → bytes ≡ flat_map each rows ++ rest
       → LeadsTo reached (drop i rows) goal × (left ≡ flat_map each (drop i rows) ++ rest)
-
-  fits_at : (rows : List R) (i : ℕ) (d : R) → list_all fits rows ≡ true → i < length rows → fits (get_or rows i d) ≡ true
-  fits_at [] i d all lt = absurd (omega (arith, lt))
-  fits_at (x ∷ xs) zero d all lt = grind (arith, all)
-  fits_at (x ∷ xs) (suc i) d all lt = let all_xs : list_all fits xs ≡ true = grind (arith, all) in fits_at xs i d all_xs (omega arith)
 
   -- one row more
   pub reads_more : (count i : ℕ) (bytes : List ℕ) (begun now new : T) (left after : List ℕ) (row : R) → i < count → HasRead count i bytes begun now left
@@ -31,7 +32,7 @@ module _ {T R : Type 0} (LeadsTo : T → List R → T → Type 0) (fits : R → 
       let x = get_or rows i row in
       let split : drop i rows ≡ x ∷ drop (i + 1) rows = drop-cons rows i row within ∙ ap (λ k. x ∷ drop k rows) (sym step) in
       let here : left ≡ each x ++ (flat_map each (drop (i + 1) rows) ++ rest) = h.1 ∙ ap (λ l. flat_map each l ++ rest) split ∙ append_assoc (each x) (flat_map each (drop (i + 1) rows)) rest in
-      let got = finds x (flat_map each (drop (i + 1) rows) ++ rest) (fits_at rows i row all within) here in
+      let got = finds x (flat_map each (drop (i + 1) rows) ++ rest) (fits_at fits rows i row all within) here in
       let ahead : drop i rows ≡ row ∷ drop (i + 1) rows = split ∙ ap (λ y. y ∷ drop (i + 1) rows) (sym got.0) in
       (append goal (drop (i + 1) rows) (subst (λ l. LeadsTo now l goal) ahead h.0), got.1)
 

@@ -1,7 +1,7 @@
 //! Reading rows, one behind another.
 ghost use Rattle.std.specs.Prelude.{◌≡◌, ◌<◌, ◌^◌, ℕ, List, [], ◌∷◌, Bool};
 ghost use Rattle.std.specs.List.{flat_map};
-ghost use Rattle.ckrt_tables.specs.Decoding.{Finds, Reaches};
+ghost use Rattle.ckrt_tables.specs.Decoding.{Finds, GoesOn, Reaches};
 ghost use Rattle.ckrt_tables.specs.Records.{counted, one_byte, two_bytes};
 
 use crate::cursor::Cursor;
@@ -25,7 +25,7 @@ pub trait Row: Drop {
 
     /// The row goes behind those that are there.
     fn append(self, table: &mut Self::Table)
-        ensures { (goal : Self.Table) (more : List Self) → LeadsTo table.old (self ∷ more) goal → LeadsTo table.new more goal };
+        ensures { GoesOn LeadsTo table.old self table.new };
 }
 
 /// So many rows, which go onto the table.

@@ -35,6 +35,7 @@ pub fn read_held(cursor: &mut Cursor<'_>, held: &mut Held)
     requires capacity { held.old.capacity ≡ HELD_LIMIT }
     ensures found { FindsAll (AreUpTo HELD_LIMIT) queue_bytes cursor.old held.new.items cursor.new }
     ensures capacity { held.new.capacity ≡ HELD_LIMIT }
+    ensures most { length held.new.items ≤ HELD_LIMIT }
 {
     held.fill_from_slice(read_queue(cursor, HELD_LIMIT));
 }

@@ -1,12 +1,11 @@
 //! Reading harts, threads and waits, and a table of threads that is built of them.
 ghost use Rattle.std.specs.Prelude.{◌≡◌, ◌<◌, ◌+◌, ◌*◌, ◌∷◌, ℕ, List, Bool, Option, true, is_some, unwrap_or};
-ghost use Rattle.arrayvec.specs.ArrayVec.{ArrayVec};
 ghost use Rattle.ckrt_thread.specs.declared.records.Live.{Live};
 ghost use Rattle.ckrt_thread.specs.declared.records.Thread.{Thread};
 ghost use Rattle.ckrt_thread.specs.declared.records.Thread.TheVariants as thread;
 ghost use Rattle.ckrt_thread.specs.State.{State};
 ghost use Rattle.ckrt_thread.specs.Contents.{who_is_on};
-ghost use Rattle.ckrt_tables.specs.Decoding.{Finds, FillsUp};
+ghost use Rattle.ckrt_tables.specs.Decoding.{Finds, FillsUp, GoesOn};
 ghost use Rattle.ckrt_tables.specs.DecodingThreads.{AreThreadBytes, BuildsThreads, HartsLeadTo, PutsOnHarts};
 ghost use Rattle.ckrt_tables.specs.Records.{flag, flags_of, reason_from, registers_bytes, retake_from};
 ghost use Rattle.ckrt_tables.specs.Savable.{fit_registers};
@@ -45,7 +44,7 @@ impl Model for ThreadRecord {
 
 /// The item goes behind the others, where there is room.
 fn push_if_room<T: Drop, const N: usize>(items: &mut ArrayVec<T, N>, item: T)
-    ensures { (goal : ArrayVec T) (more : List T) → FillsUp N items.old (item ∷ more) goal → FillsUp N items.new more goal }
+    ensures { GoesOn (FillsUp N) items.old item items.new }
 {
     if items.len() < N {
         items.push(item);
