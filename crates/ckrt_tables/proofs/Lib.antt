@@ -3,6 +3,7 @@ pub mod Puts
 pub mod Slots
 pub mod Lengths
 pub mod Few
+pub mod Fitting
 pub mod Fields
 pub mod Counts
 pub mod Entries
@@ -13,3 +14,4 @@ pub mod Filled
 pub mod RegistersRead
 pub mod ThreadsRead
 pub mod StatusRead
+pub mod Decoded

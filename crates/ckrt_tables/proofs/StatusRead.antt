@@ -1,11 +1,11 @@
 -- The status that is read.
-use Rattle.std.proofs.Common.{◌≡◌, ℕ, true, ◌++◌, refl, ap, ◌∙◌, arith}
+use Rattle.std.proofs.Common.{◌≡◌, ℕ, Bool, true, false, eqb, ◌++◌, refl, ap, ◌∙◌, arith}
 use Rattle.std.proofs.lemmas.Bool.Decides.{nat_tests}
 use Rattle.ckrt_rv32i.specs.declared.execution.Cause.{Cause}
 use Rattle.ckrt_rv32i.specs.declared.execution.Cause.TheVariants as cause
 use Rattle.ckrt_calls.specs.declared.table.Status.{Status}
 use Rattle.ckrt_calls.specs.declared.table.Status.TheVariants as status
-use Rattle.ckrt_tables.specs.Records.{cause_number}
+use Rattle.ckrt_tables.specs.Records.{flag, cause_number}
 use Rattle.ckrt_tables.specs.Encoding.{framed, status_bytes, status_from}
 use Rattle.ckrt_tables.specs.Savable.{is_byte, is_word, fits_status}
 use Rattle.ckrt_tables.proofs.Distinct.{cause_is}
@@ -57,3 +57,7 @@ status_found s p kind thread cause word k t c w =
     ∙ ap (λ x. status_from p.kind p.thread x word) c
     ∙ ap (λ x. status_from p.kind p.thread p.cause x) w
     ∙ p.back
+
+pub closed_found : (b : Bool) → eqb (flag 1 b) 1 ≡ b
+closed_found true = refl
+closed_found false = refl

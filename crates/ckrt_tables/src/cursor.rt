@@ -1,5 +1,5 @@
 //! Reading bytes from the front.
-ghost use Rattle.std.specs.Prelude.{◌≡◌, ℕ, List, ◌++◌, length};
+ghost use Rattle.std.specs.Prelude.{◌≡◌, ◌≤◌, ℕ, List, ◌++◌, length};
 ghost use Rattle.byteorder.specs.Endian.{little_bytes};
 ghost use Rattle.ckrt_tables.specs.Decoding.{Finds};
 ghost use Rattle.ckrt_tables.specs.Records.{one_byte};
@@ -81,8 +81,9 @@ impl<'a> Cursor<'a> {
 
     /// So many bytes; none where fewer are left.
     pub fn bytes(&mut self, count: usize) -> &'a [u8]
-        ensures { (front rest : List ℕ) → length front ≡ count → self.old ≡ front ++ rest
+        ensures found { (front rest : List ℕ) → length front ≡ count → self.old ≡ front ++ rest
             → (result.now ≡ front) × (self.new ≡ rest) }
+        ensures most { length result.now ≤ count }
     {
         if self.rest.len() < count {
             return &[];

@@ -17,4 +17,6 @@ mod writing;
 
 pub use decoding::decode_tables;
 pub use encoding::{HELD_LIMIT, Held, LONGEST_TABLES, TABLES_ROOM, encode_tables};
-pub use laws::{encodings_are_distinct, fresh_encoding, longest_encoding};
+pub use laws::{
+    decodes_to_one, encodings_are_distinct, fresh_encoding, fresh_is_savable, longest_encoding,
+};
