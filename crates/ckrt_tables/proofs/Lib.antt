@@ -3,7 +3,7 @@ pub mod Puts
 pub mod Slots
 pub mod Lengths
 pub mod Few
-pub mod Fitting
+pub mod AllFit
 pub mod Fields
 pub mod Counts
 pub mod Entries

@@ -8,6 +8,7 @@ ghost use Rattle.ckrt_tables.specs.Savable.{fits_status};
 
 use crate::cursor::Cursor;
 use crate::encoding::{HELD_LIMIT, Held, TABLES_ROOM, encode_tables};
+use crate::fitting::known_savable;
 use crate::reading_objects::{read_barriers, read_mutexes, read_rwlocks};
 use crate::reading_queues::{read_held, read_input};
 use crate::reading_threads::read_threads;
@@ -130,10 +131,10 @@ pub fn decode_tables(
     if !tables.is_well_formed() || tables.threads.hart_count() != harts {
         return Ok(None);
     }
+    known_savable(&tables, &held);
     let mut room = zeros(alloc, TABLES_ROOM)?;
     if !is_encoding(&tables, &held, room.as_mut_slice(), bytes) {
         return Ok(None);
     }
-    known_fit(&tables, &held);
     Ok(Some((tables, held)))
 }
