@@ -1,6 +1,6 @@
 //! The numbers of a program fit the types that the code has for them, and so the fields of saved tables: whatever
 //! well-formed tables and output are at hand, they can be saved. Nothing here does anything when it runs.
-ghost use Rattle.std.specs.Prelude.{◌≡◌, true, Option};
+ghost use Rattle.std.specs.Prelude.{◌≡◌, Bool, true};
 ghost use Rattle.std.specs.List.{list_all};
 ghost use Rattle.ckrt_thread.specs.State.{is_proper_live};
 ghost use Rattle.ckrt_calls.specs.WellFormed.{IsWellFormed};
