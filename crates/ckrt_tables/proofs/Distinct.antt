@@ -479,7 +479,7 @@ queue_free xs ys a b m k e =
     let n = number_free 2 (length xs) (length ys) (xs ++ a) (ys ++ b) (omega (arith, m)) (omega (arith, k)) e in
     split_free xs ys a b n.0 n.1
 
-same_tables : (s t : Tables) → s.threads ≡ t.threads → s.mutexes ≡ t.mutexes → s.barriers ≡ t.barriers → s.rwlocks ≡ t.rwlocks → s.clock ≡ t.clock → s.input ≡ t.input → s.closed ≡ t.closed → s.status ≡ t.status → s ≡ t
+pub same_tables : (s t : Tables) → s.threads ≡ t.threads → s.mutexes ≡ t.mutexes → s.barriers ≡ t.barriers → s.rwlocks ≡ t.rwlocks → s.clock ≡ t.clock → s.input ≡ t.input → s.closed ≡ t.closed → s.status ≡ t.status → s ≡ t
 same_tables s t e₁ e₂ e₃ e₄ e₅ e₆ e₇ e₈ =
     let fields : record { threads = s.threads; mutexes = s.mutexes; barriers = s.barriers; rwlocks = s.rwlocks; clock = s.clock; input = s.input; closed = s.closed; status = s.status } ≡ t = rw (e₁, e₂, e₃, e₄, e₅, e₆, e₇, e₈) refl in
     fields

@@ -13,4 +13,5 @@ pub mod RowsRead
 pub mod Filled
 pub mod RegistersRead
 pub mod ThreadsRead
+pub mod StatusRead
 pub mod Decoded

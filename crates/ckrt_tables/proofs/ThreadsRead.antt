@@ -189,7 +189,7 @@ result_fits (reason.Write a) = refl
 result_fits reason.Input = refl
 result_fits reason.Sleep = refl
 
-flag_fits : (b : Bool) → is_byte (flag 1 b) ≡ true
+pub flag_fits : (b : Bool) → is_byte (flag 1 b) ≡ true
 flag_fits true = refl
 flag_fits false = refl
 

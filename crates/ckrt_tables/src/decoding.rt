@@ -2,7 +2,7 @@
 ghost use Rattle.std.specs.Prelude.{◌≡◌, ◌≤◌, ◌∷◌, [], ◌↔◌, IsTrue, IfOk, IfSome, length, true};
 ghost use Rattle.ckrt_calls.specs.WellFormed.{IsWellFormed};
 ghost use Rattle.ckrt_tables.specs.Decoding.{DecodesTo, Finds, IsEncodingOf, Saved, saved};
-ghost use Rattle.ckrt_tables.specs.Encoding.{encoding_of, status_bytes, IsHeld};
+ghost use Rattle.ckrt_tables.specs.Encoding.{encoding_of, status_bytes, status_from, IsHeld};
 ghost use Rattle.ckrt_tables.specs.Records.{cause_from, flag};
 ghost use Rattle.ckrt_tables.specs.Savable.{fits_status};
 
@@ -41,19 +41,26 @@ fn read_closed(cursor: &mut Cursor<'_>) -> bool
     cursor.byte() == 1
 }
 
+/// The status of this kind, 0 to 2, with the thread and the cause of a fault, and the exit status or the pc of the fault.
+fn status_from(kind: u8, thread: u8, cause: u8, word: u32) -> Status
+    ensures { result ≡ status_from kind thread cause word }
+{
+    match kind {
+        0 => Status::Running,
+        1 => Status::Exited(word),
+        _ => Status::Faulted(thread, word, cause_from(cause)),
+    }
+}
+
 /// The status of the program.
 fn read_status(cursor: &mut Cursor<'_>) -> Status
     ensures { Finds fits_status status_bytes cursor.old result cursor.new }
 {
     let kind = cursor.byte();
     let thread = cursor.byte();
-    let cause = cause_from(cursor.byte());
+    let cause = cursor.byte();
     let word = cursor.word();
-    match kind {
-        0 => Status::Running,
-        1 => Status::Exited(word),
-        _ => Status::Faulted(thread, word, cause),
-    }
+    status_from(kind, thread, cause, word)
 }
 
 /// Tables and held output, read part by part. Where the bytes are the encoding of a state for so many harts, it is that state;
