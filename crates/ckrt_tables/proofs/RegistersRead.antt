@@ -61,5 +61,6 @@ reads_all bytes k regs left done so_far = λ r rest f e.
   where
     whole : (xs : List ℕ) → length xs ≡ 32 → take 32 xs ≡ xs
     whole xs e = take_all 32 xs (omega (arith, e))
+
     none : (xs : List ℕ) → length xs ≡ 32 → drop 32 xs ≡ []
     none xs e = drop_all 32 xs (omega (arith, e))

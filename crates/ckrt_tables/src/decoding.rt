@@ -65,11 +65,7 @@ fn read_status(cursor: &mut Cursor<'_>) -> Status
 
 /// Tables and held output, read part by part. Where the bytes are the encoding of a state for so many harts, it is that state;
 /// other bytes may give any.
-fn read_tables(
-    alloc: Global,
-    bytes: &[u8],
-    harts: usize,
-) -> Result<(Tables, Held), AllocError>
+fn read_tables(alloc: Global, bytes: &[u8], harts: usize) -> Result<(Tables, Held), AllocError>
     requires harts { harts ≤ 8 }
     ensures found { IfOk result (λ found. (s : Saved) → IsEncodingOf harts bytes.now s
         → (found.0 ≡ s.tables) × (found.1.items ≡ s.held)) }
