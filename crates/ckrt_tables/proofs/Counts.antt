@@ -35,11 +35,11 @@ readers_fit k (suc n ∷ ns) few f =
 counts_behind : (k : ℕ) (done ns : List ℕ) → length done ≡ k → with_readers (readers_from k ns) (done ++ replicate (length ns) 0) ≡ done ++ ns
 counts_behind k done [] at = refl
 counts_behind k done (zero ∷ ns) at =
-    let zeros = replicate (length ns) 0 in
+    let zeros : List ℕ = replicate (length ns) 0 in
     let size : length (done ++ 0 ∷ []) ≡ suc k = omega (arith, length-append done (0 ∷ []), at) in
     ap (with_readers (readers_from (suc k) ns)) (sym (append_assoc done (0 ∷ []) zeros)) ∙ counts_behind (suc k) (done ++ 0 ∷ []) ns size ∙ append_assoc done (0 ∷ []) ns
 counts_behind k done (suc n ∷ ns) at =
-    let zeros = replicate (length ns) 0 in
+    let zeros : List ℕ = replicate (length ns) 0 in
     let size : length (done ++ suc n ∷ []) ≡ suc k = omega (arith, length-append done (suc n ∷ []), at) in
     let here : slice_set (done ++ 0 ∷ zeros) k (suc n) ≡ (done ++ suc n ∷ []) ++ zeros =
     ap (λ i. slice_set (done ++ 0 ∷ zeros) i (suc n)) (sym at) ∙ set-append_seam done 0 zeros (suc n) ∙ sym (append_assoc done (suc n ∷ []) zeros) in
