@@ -55,6 +55,10 @@ number_at n at bytes = little_number n (take n (drop at bytes))
 abbrev pub is_open : List ℕ → Bool
 is_open bytes = nat_eq (slice_index bytes 0) OPEN
 
+-- the gate at an offset is open
+abbrev pub is_gate_open : ℕ → List ℕ → Bool
+is_gate_open at image = is_open (drop at image)
+
 -- the first 40 bytes of an area's header
 abbrev pub header_in : List ℕ → Header
 header_in block = record {

@@ -1,5 +1,6 @@
 // Where things lie on a disk.
 ghost use Rattle.std.specs.Prelude.{◌≡◌, ◌≤◌, ◌+◌, true};
+ghost use Rattle.ckrt_checkpoint.specs.Holds.{slot_at};
 ghost use Rattle.ckrt_checkpoint.specs.Layout.{is_valid, memory_size, area_size, size_needed, area_at, tables_at, memory_at, journal_of};
 
 use crate::config::Config;
@@ -75,6 +76,16 @@ impl Config {
         ensures { result ≡ memory_at self.now area }
     {
         self.area_at(area) + BLOCK_SIZE + TABLES_ROOM + PAGE_SIZE
+    }
+
+    /// The offset of a page in an area, from page 1 on.
+    pub(crate) fn slot_at(&self, area: usize, page: u32) -> usize
+        requires valid { is_valid self.now ≡ true }
+        requires area { area ≤ 1 }
+        requires page { page ≤ self.now.pages }
+        ensures { result ≡ slot_at self.now area page }
+    {
+        self.area_at(area) + BLOCK_SIZE + TABLES_ROOM + PAGE_SIZE * page as usize
     }
 
     /// The journal of an area, 0 or 1, at its first gate.

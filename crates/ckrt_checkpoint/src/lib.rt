@@ -10,6 +10,8 @@ mod header;
 mod layout;
 mod picking;
 mod reading;
+mod save_point;
+mod writing;
 
 pub use area::Area;
 pub use config::Config;
@@ -19,3 +21,5 @@ pub use header::Header;
 pub use layout::{CLOSED, COUNT_LIMIT, FIELDS_AT, OPEN, VERSION};
 pub use picking::pick_area;
 pub use reading::read_area;
+pub use save_point::SavePoint;
+pub use writing::write_area;

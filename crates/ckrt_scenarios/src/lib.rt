@@ -2,6 +2,8 @@
 #![tactic(auto)]
 
 #[cfg(test)]
+mod areas;
+#[cfg(test)]
 mod barriers;
 #[cfg(test)]
 mod calls;
@@ -13,6 +15,8 @@ mod cancelled_guests;
 mod conditions;
 #[cfg(test)]
 mod contention;
+#[cfg(test)]
+mod decoded_tables;
 #[cfg(test)]
 mod disks;
 #[cfg(test)]

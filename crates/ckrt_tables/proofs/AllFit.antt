@@ -35,6 +35,14 @@ pub all_more : {X : Type 0} (p : X → Bool) (xs : List X) (i : ℕ) (d : X) →
 all_more p xs i d lt so_far one =
     ap (list_all p) (take_more xs i d lt) ∙ list_all-append p (take i xs) (get_or xs i d ∷ []) ∙ grind (arith, so_far, one)
 
+pub all_true : {X : Type 0} (xs : List X) → list_all (λ x. true) xs ≡ true
+all_true [] = refl
+all_true (x ∷ xs) = all_true xs
+
+-- of a list that lies in two slices
+pub all_of_two : {X : Type 0} (p : X → Bool) (xs ys all : List X) → xs ++ ys ≡ all → list_all p xs ≡ true → list_all p ys ≡ true → list_all p all ≡ true
+all_of_two p xs ys all e first second = ap (list_all p) (sym e) ∙ list_all-append p xs ys ∙ grind (arith, first, second)
+
 -- THREADS
 
 slots_from : (slots : List (Option Thread)) → ((i : ℕ) → is_proper_slot (option_flatten (slice_get slots i)) ≡ true) → list_all is_proper_slot slots ≡ true

@@ -4,3 +4,5 @@ pub mod Savable
 pub mod Fresh
 pub mod Writing
 pub mod Decoding
+pub mod Objects
+pub mod DecodingThreads
