@@ -1,12 +1,14 @@
 // A disk that is a file of the system.
-ghost use Rattle.std.specs.Prelude.{◌≡◌, ◌⊎◌, ◌↔◌, ◌≤◌, ◌<◌, ◌+◌, ◌-◌, ◌^◌, ℕ, List, None, length, take, drop, refl, IfOk, OnOk, OnErr};
+ghost use Rattle.std.specs.Prelude.{◌≡◌, ◌⊎◌, ◌↔◌, ◌≤◌, ◌<◌, ◌+◌, ◌-◌, ◌^◌, ℕ, List, [], ◌∷◌, None, length, take, drop, refl, is_ok, IfOk, OnOk, OnErr};
 ghost use Rattle.std.proofs.Common.{inl, ◌∙◌};
 ghost use Rattle.ckrt_disk.specs.Disk.{IsImage, IsOverwritten, IsWithin};
+ghost use Rattle.ckrt_disk.specs.FileErrors.{CountsErrors, FailsWithFile, GivesUp};
 ghost use Rattle.ckrt_disk.specs.History.{Since, only_now};
 ghost use Rattle.ckrt_disk.specs.Stop.{named_none};
 
 use crate::disk::{DeviceFault, Disk};
 use crate::history::History;
+use crate::memory_file::MemoryFile;
 use crate::positioned::PositionedFile;
 use crate::system_file::{Holds, SystemFile};
 use crate::transfer::Transfer;
@@ -14,34 +16,58 @@ use std::fs::{File, Files, OpenOptions};
 use std::io;
 
 /// A disk over a file whose length at opening is its size. Nothing is written beyond that length. It is honest where
-/// the file keeps the disk model and is as long as it was, and it names no stop.
+/// the file keeps the disk model and is as long as it was, and it names no stop. It fails exactly where a call of its
+/// file fails, or where it gives up after 2^64 - 1 calls, which takes a file that is interrupted nearly always.
 #[derive(Drop)]
-pub struct FileDisk<F> {
+pub struct FileDisk<F: PositionedFile> {
     file: F,
     size: usize,
+    start: History<F>,
     history: History<F>,
     failures: u64,
     ghost small: { size < 2 ^ 64 },
+    ghost counted: { CountsErrors F.PositionedFile start.states file size failures },
 }
 
 impl<F: PositionedFile> FileDisk<F> {
-    ghost use Rattle.ckrt_disk.specs.FileDisk.{file_of};
+    ghost use Rattle.ckrt_disk.specs.FileDisk.{file_of, start_of};
 
     /// A disk over an open file of `size` bytes.
     pub fn new(file: F, size: usize) -> FileDisk<F>
         ensures file { file_of result ≡ file }
+        ensures start { start_of result ≡ file ∷ [] }
         ensures size { ⟦<FileDisk<F> as Disk>⟧.size result ≡ size }
         ensures calls { ⟦<FileDisk<F> as Disk>⟧.calls result ≡ 0 }
         ensures failures { ⟦<FileDisk<F> as Disk>⟧.failures result ≡ 0 }
         ensures named_stop { ⟦<FileDisk<F> as Disk>⟧.named_stop result ≡ None }
         ensures honest { ⟦<FileDisk<F> as Disk>⟧.is_honest result ↔ (F.keeps_model file × (F.len file ≡ size)) }
     {
+        let start = History::new().with(&file);
         FileDisk {
             file,
             size,
+            start,
             history: History::new(),
             failures: 0,
         }
+    }
+
+    /// What always holds of its failures: they are the errors of its file since it was made, and over a reliable file
+    /// of its size there is none.
+    pub fn known(&self)
+        ensures counted { CountsErrors F.PositionedFile (start_of self.now) (file_of self.now) (⟦<FileDisk<F> as Disk>⟧.size self.now) (⟦<FileDisk<F> as Disk>⟧.failures self.now) }
+    {
+        let _ = &self.file;
+    }
+}
+
+impl FileDisk<MemoryFile> {
+    /// A disk over a file in memory of its size hasn't failed, however few bytes its calls transfer and however often
+    /// they are interrupted.
+    pub fn never_failed(&self)
+        ensures { ⟦<FileDisk<MemoryFile> as Disk>⟧.is_honest self.now → ⟦<FileDisk<MemoryFile> as Disk>⟧.failures self.now ≡ 0 }
+    {
+        let _ = &self.file;
     }
 }
 
@@ -79,6 +105,12 @@ fn read_on<F: PositionedFile>(
     ensures pending { F.keeps_model file.new → (i : ℕ) → (F.pending file.new i ↔ F.pending file.old i) }
     ensures len { F.len file.new ≡ F.len file.old }
     ensures keeps_model { F.keeps_model file.new → F.keeps_model file.old }
+    ensures later { F.interruptions file.old ≤ F.interruptions file.new }
+    ensures errors { IfOk result (λ next. F.errors file.new ≡ F.errors file.old) }
+    ensures error { OnErr result (F.errors file.new ≡ F.errors file.old + 1) }
+    ensures progress { IfOk result (λ next. F.interruptions file.old + (done + 1) ≤ F.interruptions file.new + next) }
+    ensures reliable { OnErr result (F.is_reliable file.new → (done ≡ length buf.old) ⊎ (F.len file.old < at + length buf.old)) }
+    ensures is_reliable { F.is_reliable file.new → F.is_reliable file.old }
 {
     match file.read_some(at + done, &mut buf[done..]) {
         Transfer::Done(n) => Ok(done + n),
@@ -95,9 +127,12 @@ fn read_all<F: PositionedFile>(file: &mut F, at: usize, buf: &mut [u8]) -> Resul
     ensures pending { F.keeps_model file.new → (i : ℕ) → (F.pending file.new i ↔ F.pending file.old i) }
     ensures len { F.len file.new ≡ F.len file.old }
     ensures keeps_model { F.keeps_model file.new → F.keeps_model file.old }
+    ensures fails { FailsWithFile F.PositionedFile file.old file.new (GivesUp F.PositionedFile file.old file.new (length buf.old)) (is_ok result) }
+    ensures reliable { OnErr result (F.is_reliable file.new → F.len file.old < at + length buf.old) }
+    ensures is_reliable { F.is_reliable file.new → F.is_reliable file.old }
 {
     let mut done = 0;
-    for _ in 0..u64::MAX {
+    for turn in 0..u64::MAX {
         if done == buf.len() {
             return Ok(());
         }
@@ -122,6 +157,12 @@ fn write_on<F: PositionedFile>(
     ensures pending { F.keeps_model file.new → (i : ℕ) → (F.pending file.new i ↔ (F.pending file.old i ⊎ IsWithin (at + done) (length bytes.now - done) i)) }
     ensures len { F.len file.new ≡ F.len file.old }
     ensures keeps_model { F.keeps_model file.new → F.keeps_model file.old }
+    ensures later { F.interruptions file.old ≤ F.interruptions file.new }
+    ensures errors { IfOk result (λ next. F.errors file.new ≡ F.errors file.old) }
+    ensures error { OnErr result (F.errors file.new ≡ F.errors file.old + 1) }
+    ensures progress { IfOk result (λ next. F.interruptions file.old + (done + 1) ≤ F.interruptions file.new + next) }
+    ensures reliable { OnErr result (F.is_reliable file.new → (done ≡ length bytes.now) ⊎ (F.len file.old < at + length bytes.now)) }
+    ensures is_reliable { F.is_reliable file.new → F.is_reliable file.old }
 {
     let (_, rest) = bytes.split_at(done);
     match file.write_some(at + done, rest) {
@@ -139,6 +180,9 @@ fn write_all<F: PositionedFile>(file: &mut F, at: usize, bytes: &[u8]) -> Result
     ensures pending { F.keeps_model file.new → (i : ℕ) → (F.pending file.new i ↔ (F.pending file.old i ⊎ IsWithin at (length bytes.now) i)) }
     ensures len { F.len file.new ≡ F.len file.old }
     ensures keeps_model { F.keeps_model file.new → F.keeps_model file.old }
+    ensures fails { FailsWithFile F.PositionedFile file.old file.new (GivesUp F.PositionedFile file.old file.new (length bytes.now)) (is_ok result) }
+    ensures reliable { OnErr result (F.is_reliable file.new → F.len file.old < at + length bytes.now) }
+    ensures is_reliable { F.is_reliable file.new → F.is_reliable file.old }
 {
     let mut done = 0;
     for turn in 0..u64::MAX {
@@ -154,6 +198,8 @@ fn write_all<F: PositionedFile>(file: &mut F, at: usize, bytes: &[u8]) -> Result
 }
 
 impl<F: PositionedFile> Disk for FileDisk<F> {
+    ghost use Rattle.ckrt_disk.specs.FileDisk.{CallsFile};
+
     ghost size = { λ d. d.size };
 
     ghost content = { λ d. F.content d.file };
@@ -171,6 +217,12 @@ impl<F: PositionedFile> Disk for FileDisk<F> {
     ghost named_stop = { λ _. None };
 
     ghost is_honest = { λ d. F.keeps_model d.file × (F.len d.file ≡ d.size) };
+
+    ghost read_gives = { λ old at buf buf' ok new. CallsFile old new (GivesUp F.PositionedFile old.file new.file (length buf)) ok };
+
+    ghost write_gives = { λ old at bytes ok new. CallsFile old new (GivesUp F.PositionedFile old.file new.file (length bytes)) ok };
+
+    ghost sync_gives = { λ old ok new. CallsFile old new ⊥ ok × F.sync_gives old.file ok new.file };
 
     fn size(&self) -> usize {
         self.size

@@ -67,7 +67,7 @@ impl<H: Holds> SystemFile<H> {
 }
 
 impl<H: Holds> PositionedFile for SystemFile<H> {
-    ghost use Rattle.ckrt_disk.specs.FileCalls.{HasKept, pending_of, same_length};
+    ghost use Rattle.ckrt_disk.specs.FileCalls.{HasKept, pending_of, same_length, errors_of, interruptions_of};
     ghost use Rattle.ckrt_disk.specs.SystemFile.{calls_of};
     ghost use Rattle.ckrt_disk.specs.declared.file_call.FileCall.TheVariants.{Read, Write, Sync};
 
@@ -78,6 +78,12 @@ impl<H: Holds> PositionedFile for SystemFile<H> {
     ghost pending = { λ f. pending_of H.unsettled f.calls.made };
 
     ghost keeps_model = { λ f. HasKept H.held H.unsettled f.calls.made };
+
+    ghost errors = { λ f. errors_of f.calls.made };
+
+    ghost interruptions = { λ f. interruptions_of f.calls.made };
+
+    ghost is_reliable = { λ _. ⊥ };
 
     ghost read_gives = { λ old at buf answer new. calls_of new ≡ (Read at answer, buf) ∷ calls_of old };
 
@@ -105,4 +111,6 @@ impl<H: Holds> PositionedFile for SystemFile<H> {
     }
 
     ghost whole = { λ f keeps. same_length H.held H.unsettled f.calls.made keeps };
+
+    ghost patient = { λ f reliable. absurd reliable };
 }
