@@ -16,8 +16,8 @@ use std::fs::{File, Files, OpenOptions};
 use std::io;
 
 /// A disk over a file whose length at opening is its size. Nothing is written beyond that length. It is honest where
-/// the file keeps the disk model and is as long as it was, and it names no stop. It fails exactly where a call of its
-/// file fails, or where it gives up after 2^64 - 1 calls, which takes a file that is interrupted nearly always.
+/// the file keeps the disk model and is as long as it was, and it names no stop. Its call fails exactly where a call of
+/// the file does, or where it is given up after 2^64 - 1 calls, nearly all of which were interrupted then.
 #[derive(Drop)]
 pub struct FileDisk<F: PositionedFile> {
     file: F,
@@ -52,8 +52,8 @@ impl<F: PositionedFile> FileDisk<F> {
         }
     }
 
-    /// What always holds of its failures: they are the errors of its file since it was made, and over a reliable file
-    /// of its size there is none.
+    /// What always holds of its count of failures: it is that of its file's errors since the disk was made, and over a
+    /// reliable file of its size it is 0.
     pub fn known(&self)
         ensures counted { CountsErrors F.PositionedFile (start_of self.now) (file_of self.now) (⟦<FileDisk<F> as Disk>⟧.size self.now) (⟦<FileDisk<F> as Disk>⟧.failures self.now) }
     {
@@ -62,8 +62,8 @@ impl<F: PositionedFile> FileDisk<F> {
 }
 
 impl FileDisk<MemoryFile> {
-    /// A disk over a file in memory of its size hasn't failed, however few bytes its calls transfer and however often
-    /// they are interrupted.
+    /// A disk over a file in memory of its size has never failed, however few bytes the file's calls transfer and however
+    /// often they are interrupted.
     pub fn never_failed(&self)
         ensures { ⟦<FileDisk<MemoryFile> as Disk>⟧.is_honest self.now → ⟦<FileDisk<MemoryFile> as Disk>⟧.failures self.now ≡ 0 }
     {
@@ -72,10 +72,15 @@ impl FileDisk<MemoryFile> {
 }
 
 impl<H: Holds> FileDisk<SystemFile<H>> {
+    ghost use Rattle.ckrt_disk.specs.FileDisk.{file_of, start_of};
+    ghost use Rattle.ckrt_disk.specs.SystemFile.{calls_of};
+
     /// Opens the file at `path` to read and write it; its length in bytes is the disk's size. A missing file, a directory
     /// and what else the system refuses are its errors. The disk is honest exactly where `H` names as many bytes at
     /// opening.
     pub fn open<R: Files<File = File>>(rt: &R, path: &str) -> io::Result<FileDisk<SystemFile<H>>>
+        ensures file { IfOk result (λ disk. calls_of (file_of disk) ≡ []) }
+        ensures start { IfOk result (λ disk. start_of disk ≡ file_of disk ∷ []) }
         ensures honest { IfOk result (λ disk. ⟦<FileDisk<SystemFile<H>> as Disk>⟧.is_honest disk ↔ (length (H.held 0) ≡ ⟦<FileDisk<SystemFile<H>> as Disk>⟧.size disk)) }
         ensures content { IfOk result (λ disk. ⟦<FileDisk<SystemFile<H>> as Disk>⟧.content disk ≡ H.held 0) }
         ensures pending { IfOk result (λ disk. (i : ℕ) → (⟦<FileDisk<SystemFile<H>> as Disk>⟧.pending disk i ↔ H.unsettled i)) }

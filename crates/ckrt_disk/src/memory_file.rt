@@ -120,5 +120,5 @@ impl PositionedFile for MemoryFile {
 
     ghost whole = { λ f keeps. refl };
 
-    ghost patient = { λ f _. is_patient (interruptions_of f.calls.made) f.used (length f.limits.items) (length f.bytes.items) f.interrupted f.within f.few };
+    ghost patient = { λ f _. is_patient _ _ _ _ f.interrupted f.within f.few };
 }

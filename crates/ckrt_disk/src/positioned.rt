@@ -30,7 +30,8 @@ pub trait PositionedFile {
     /// The count of its calls that a signal interrupted.
     ghost interruptions: { Self → ℕ };
 
-    /// Whether no sync fails, and no read or write that asks for some bytes within it, and few calls are interrupted.
+    /// Whether the file is reliable up to now: no sync of it has failed, nor a read or write of one byte or more within
+    /// it, and few of its calls were interrupted.
     ghost is_reliable: { Self → Type 0 };
 
     /// What a kind of file says of a read beside the model: the file before it, the offset, the buffer after it, the
@@ -89,6 +90,6 @@ pub trait PositionedFile {
     /// A file that keeps the model reads as many bytes as it has.
     ghost whole: { (file : Self) → keeps_model file → length (content file) ≡ len file };
 
-    /// A reliable file interrupts too few calls for a transfer within it to be given up.
+    /// Too few calls of a reliable file are interrupted for a transfer within it to be given up.
     ghost patient: { (file : Self) → is_reliable file → interruptions file + len file < 2 ^ 64 - 1 };
 }

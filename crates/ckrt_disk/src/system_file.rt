@@ -1,6 +1,6 @@
 // A file of the system, and the record of what it was asked and answered.
 ghost use Rattle.std.specs.Prelude.{◌≡◌, ◌≤◌, ℕ, List, [], ◌∷◌, length, Ok};
-ghost use Rattle.ckrt_disk.specs.Transfer.{OnDone};
+ghost use Rattle.ckrt_disk.specs.Transfer.{OnDone, answer_of};
 
 use crate::calls::Calls;
 use crate::disk::DeviceFault;
@@ -41,7 +41,8 @@ pub struct SystemFile<H> {
 
 // What a call of the system answered. No byte at all is the end of the file, or no room.
 fn transfer_of(answer: io::Result<usize>) -> Transfer
-    ensures { OnDone result (λ n. (answer ≡ Ok n) × (1 ≤ n)) }
+    ensures done { OnDone result (λ n. (answer ≡ Ok n) × (1 ≤ n)) }
+    ensures exact { result ≡ answer_of answer }
 {
     match answer {
         Ok(0) => Transfer::Failed,
