@@ -1,5 +1,5 @@
 -- The disk that is a file.
-use Rattle.std.specs.Prelude.{◌≡◌, Bool, List}
+use Rattle.std.specs.Prelude.{◌≡◌, Bool, true, List}
 use Rattle.ckrt_disk.specs.FileErrors.{FailsWithFile}
 use Rattle.ckrt_disk.specs.declared.file.FileDisk.{FileDisk}
 use Rattle.ckrt_disk.specs.declared.positioned.PositionedFile.{Ghosts}
@@ -16,4 +16,6 @@ pub record CallsFile {F : Type 0} {g : Ghosts F} (old new : FileDisk F g) (given
   pub fails : FailsWithFile g (file_of old) (file_of new) given_up ok
   -- the file has as many bytes as it had
   pub len : g.len (file_of new) ≡ g.len (file_of old)
+  -- over a reliable file of the disk's size it answers Ok
+  pub reliable : g.is_reliable (file_of new) → g.len (file_of new) ≡ new.size → ok ≡ true
   pub start : start_of new ≡ start_of old
