@@ -1,12 +1,25 @@
 -- When a disk over a file fails, by the file's counts of errors and of interrupted calls. Each definition is over the ghosts g of a
 -- kind of file.
-use Rattle.std.specs.Prelude.{◌≡◌, ◌⊎◌, ◌≤◌, ◌<◌, ◌+◌, ◌-◌, ◌^◌, ℕ, min, Bool, true, false, List, [], ◌∷◌}
+use Rattle.std.specs.Prelude.{◌≡◌, ◌⊎◌, ◌≤◌, ◌<◌, ◌+◌, ◌-◌, ◌^◌, ℕ, min, Bool, true, false, List, [], ◌∷◌, Result, IsErr, IfOk}
 use native.Mathlib.Omega.{arith}
 use Rattle.ckrt_disk.specs.declared.positioned.PositionedFile.{Ghosts}
 
 -- a transfer of n bytes was given up after 2^64 - 1 calls: all of them but n at most were interrupted
 abbrev pub GivesUp : {F : Type 0} → Ghosts F → F → F → ℕ → Type 0
 GivesUp g old new n = g.interruptions old + (2 ^ 64 - 1) ≤ g.interruptions new + n
+
+-- One call of a file, from old to new, on the way of a call of a disk for n bytes from `at` on. `done` of them were transferred before it,
+-- and so many after it as `next` says.
+pub record GoesOn {F E : Type 0} (g : Ghosts F) (old new : F) (at n done : ℕ) (next : Result ℕ E) : Type 0 where
+  -- it goes on where the call is no error
+  pub well : IfOk next (λ _. g.errors new ≡ g.errors old)
+  pub fault : IsErr next → g.errors new ≡ g.errors old + 1
+  -- behind more bytes, or after one interruption more
+  pub progress : IfOk next (λ k. g.interruptions old + (done + 1) ≤ g.interruptions new + k)
+  pub interruptions : g.interruptions old ≤ g.interruptions new
+  -- a reliable file lets it go on to its end
+  pub reliable : IsErr next → g.is_reliable new → (done ≡ n) ⊎ (g.len old < at + n)
+  pub is_reliable : g.is_reliable new → g.is_reliable old
 
 -- The calls of a file, from old to new, that are one call of a disk. ok is whether that answers Ok: it doesn't exactly where one of
 -- them is an error, or where it is given up.

@@ -2,7 +2,7 @@
 ghost use Rattle.std.specs.Prelude.{◌≡◌, ◌⊎◌, ◌↔◌, ◌≤◌, ◌<◌, ◌+◌, ◌-◌, ◌^◌, ℕ, List, [], ◌∷◌, None, length, take, drop, refl, is_ok, IfOk, OnOk, OnErr};
 ghost use Rattle.std.proofs.Common.{inl, ◌∙◌};
 ghost use Rattle.ckrt_disk.specs.Disk.{IsImage, IsOverwritten, IsWithin};
-ghost use Rattle.ckrt_disk.specs.FileErrors.{CountsErrors, FailsWithFile, GivesUp};
+ghost use Rattle.ckrt_disk.specs.FileErrors.{CountsErrors, FailsWithFile, GivesUp, GoesOn};
 ghost use Rattle.ckrt_disk.specs.History.{Since, only_now};
 ghost use Rattle.ckrt_disk.specs.Stop.{named_none};
 
@@ -110,12 +110,7 @@ fn read_on<F: PositionedFile>(
     ensures pending { F.keeps_model file.new → (i : ℕ) → (F.pending file.new i ↔ F.pending file.old i) }
     ensures len { F.len file.new ≡ F.len file.old }
     ensures keeps_model { F.keeps_model file.new → F.keeps_model file.old }
-    ensures later { F.interruptions file.old ≤ F.interruptions file.new }
-    ensures errors { IfOk result (λ next. F.errors file.new ≡ F.errors file.old) }
-    ensures error { OnErr result (F.errors file.new ≡ F.errors file.old + 1) }
-    ensures progress { IfOk result (λ next. F.interruptions file.old + (done + 1) ≤ F.interruptions file.new + next) }
-    ensures reliable { OnErr result (F.is_reliable file.new → (done ≡ length buf.old) ⊎ (F.len file.old < at + length buf.old)) }
-    ensures is_reliable { F.is_reliable file.new → F.is_reliable file.old }
+    ensures goes_on { GoesOn F.PositionedFile file.old file.new at (length buf.old) done result }
 {
     match file.read_some(at + done, &mut buf[done..]) {
         Transfer::Done(n) => Ok(done + n),
@@ -162,12 +157,7 @@ fn write_on<F: PositionedFile>(
     ensures pending { F.keeps_model file.new → (i : ℕ) → (F.pending file.new i ↔ (F.pending file.old i ⊎ IsWithin (at + done) (length bytes.now - done) i)) }
     ensures len { F.len file.new ≡ F.len file.old }
     ensures keeps_model { F.keeps_model file.new → F.keeps_model file.old }
-    ensures later { F.interruptions file.old ≤ F.interruptions file.new }
-    ensures errors { IfOk result (λ next. F.errors file.new ≡ F.errors file.old) }
-    ensures error { OnErr result (F.errors file.new ≡ F.errors file.old + 1) }
-    ensures progress { IfOk result (λ next. F.interruptions file.old + (done + 1) ≤ F.interruptions file.new + next) }
-    ensures reliable { OnErr result (F.is_reliable file.new → (done ≡ length bytes.now) ⊎ (F.len file.old < at + length bytes.now)) }
-    ensures is_reliable { F.is_reliable file.new → F.is_reliable file.old }
+    ensures goes_on { GoesOn F.PositionedFile file.old file.new at (length bytes.now) done result }
 {
     let (_, rest) = bytes.split_at(done);
     match file.write_some(at + done, rest) {

@@ -31,7 +31,8 @@ impl Holds for Brand {
 }
 
 /// A file of the system that holds what `H` says, with the record of its calls and their answers, which takes no byte.
-/// It has kept the disk model up to now exactly where each answer so far is one of the model for the bytes of `H`.
+/// It has kept the disk model up to now exactly where each answer so far is one of the model for the bytes of `H`. Its
+/// errors are the calls in that record that failed.
 #[derive(Drop)]
 pub struct SystemFile<H> {
     file: File,
