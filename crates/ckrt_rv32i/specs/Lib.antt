@@ -5,3 +5,4 @@ pub mod Registers
 pub mod Memory
 pub mod Effect
 pub mod Names
+pub mod Text

@@ -12,6 +12,7 @@ mod laws;
 mod memory_bus;
 mod operations;
 mod registers;
+mod text;
 
 pub use decoding::decode;
 pub use encoding::encode;
@@ -22,3 +23,4 @@ pub use laws::{
 };
 pub use memory_bus::{Bus, Size};
 pub use registers::Regs;
+pub use text::instr_text;
