@@ -3,3 +3,4 @@ pub mod AlignmentLaws
 pub mod DecodingLaws
 pub mod EffectLaws
 pub mod TextLaws
+pub mod ParsingLaws

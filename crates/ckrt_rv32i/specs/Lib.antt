@@ -6,3 +6,4 @@ pub mod Memory
 pub mod Effect
 pub mod Names
 pub mod Text
+pub mod Reading
