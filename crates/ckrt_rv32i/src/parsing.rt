@@ -1,5 +1,5 @@
 //! From a text to its instruction.
-ghost use Rattle.std.specs.Prelude.{◌≡◌, ◌==◌, ◌≤◌, ◌<◌, ◌↔◌, ℕ, IsTrue, true, false, Some, drop, length, slice_index};
+ghost use Rattle.std.specs.Prelude.{◌≡◌, ◌==◌, ◌≤◌, ◌<◌, ◌↔◌, ℕ, IsTrue, true, false, Some, IfSome, drop, length, slice_index};
 ghost use Rattle.ckrt_rv32i.specs.declared.instruction.Instr.{Instr};
 ghost use Rattle.ckrt_rv32i.specs.Table.{IsInRange};
 ghost use Rattle.ckrt_rv32i.specs.Text.{text_of};
@@ -270,7 +270,8 @@ fn is_text_of(text: &[u8], instr: &Instr) -> bool
 
 /// The instruction whose text this is, byte by byte as `instr_text` gives it; `None` for every other text. Its fields are in range.
 pub fn parse_instr(text: &[u8]) -> Option<Instr>
-    ensures { (instr : Instr) → (result ≡ Some instr) ↔ (IsInRange instr × (text.now ≡ text_of instr)) }
+    ensures exact { (instr : Instr) → (result ≡ Some instr) ↔ (IsInRange instr × (text.now ≡ text_of instr)) }
+    ensures in_range { IfSome result IsInRange }
 {
     let instr = read(text)?;
     if is_text_of(text, &instr) {
