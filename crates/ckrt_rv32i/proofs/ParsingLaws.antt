@@ -1,14 +1,15 @@
 -- What is read of an instruction's text is the instruction; so no two instructions have one text.
-use Rattle.std.proofs.Common.{◌≡◌, ℕ, zero, suc, ◌+◌, ◌-◌, ◌*◌, ◌%◌, ◌<◌, ◌≤◌, ◌==◌, ◌&&◌, min, not, Bool, true, false, ℤ, pos, negsuc, List, [], ◌∷◌, ◌++◌, length, take, drop, get_or, Option, Some, None, ◌↔◌, codes, subst, refl, sym, ap, ◌∙◌, append_assoc, append-nil, arith, rules}
+use Rattle.std.proofs.Common.{◌≡◌, ℕ, zero, suc, ◌+◌, ◌-◌, ◌*◌, ◌%◌, ◌^◌, ◌<◌, ◌≤◌, ◌==◌, ◌&&◌, min, not, Bool, true, false, ℤ, pos, negsuc, List, [], ◌∷◌, ◌++◌, length, take, drop, get_or, Option, Some, None, ◌↔◌, codes, subst, refl, sym, ap, ◌∙◌, append_assoc, append-nil, arith, rules}
 use Rattle.std.specs.Fmt.{decimal, signed_decimal}
 use Rattle.std.specs.Prelude.{unsigned_abs}
 use Rattle.std.proofs.lemmas.Bool.Decides.{nat_tests}
 use Rattle.std.proofs.lemmas.Str.Parse.{IsNumeralModel, numerals_by_fold}
 use Rattle.std.proofs.lemmas.Fmt.{digits_decimal, digits_value-decimal, decimal_nonempty}
-use Rattle.std.proofs.lemmas.Int.{ints}
-use Rattle.ckrt_rv32i.specs.Table.{FitsBits, IsInRange}
+use Rattle.ckrt_rv32i.specs.Table.{IsInRange}
 use Rattle.ckrt_rv32i.specs.Text.{condition_name, load_name, store_name, imm_name, shift_name, alu_name, register, register_number, register_place, registers_number, text_of}
 use Rattle.ckrt_rv32i.specs.Reading.{word_of, behind_word, ends_word, is_digit, digits_from, signed, number_at, next_number, from_number, numbers_of, with_numbers, named, read}
+use Rattle.ckrt_rv32i.proofs.TableLaws.{FitsHalf}
+use Rattle.ckrt_rv32i.proofs.TextLaws.{abs-half}
 use Rattle.ckrt_rv32i.specs.declared.parsing.Numbers.{Numbers}
 use Rattle.ckrt_rv32i.specs.declared.parsing.Operation.{Operation}
 use Rattle.ckrt_rv32i.specs.declared.parsing.Operation.TheVariants as op
@@ -262,27 +263,18 @@ read-registers op name a b c h r q s = read-parts op name (register a ++ codes "
 low : (r : ℕ) → r < 32 → r % 32 ≡ r
 low r h = omega arith
 
-immediate_fits : (z : ℤ) → FitsBits 12 z → Fits z
-immediate_fits (pos n) h = omega (arith, ints)
-immediate_fits (negsuc n) h = omega (arith, ints)
-
-branch_fits : (z : ℤ) → FitsBits 13 z → Fits z
-branch_fits (pos n) h = omega (arith, ints)
-branch_fits (negsuc n) h = omega (arith, ints)
-
-jump_fits : (z : ℤ) → FitsBits 21 z → Fits z
-jump_fits (pos n) h = omega (arith, ints)
-jump_fits (negsuc n) h = omega (arith, ints)
+fits : (half : ℕ) (z : ℤ) → 0 < half → half ≤ NUMBER_LIMIT → FitsHalf half z → Fits z
+fits half z l m h = let small = abs-half half z l h in omega arith
 
 pub read-text_of : (i : Instr) → IsInRange i → read (text_of i) ≡ Some i
 read-text_of (Lui rd imm) (r, s) = read-register_number op.Lui (codes "lui") rd (pos imm) lui r (omega arith) ∙ rw (low rd r) refl
 read-text_of (Auipc rd imm) (r, s) = read-register_number op.Auipc (codes "auipc") rd (pos imm) auipc r (omega arith) ∙ rw (low rd r) refl
-read-text_of (Jal rd offset) (r, s) = read-register_number op.Jal (codes "jal") rd offset jal r (jump_fits offset s.0) ∙ rw (low rd r) refl
-read-text_of (Jalr rd rs1 offset) (r, q, s) = read-register_place op.Jalr (codes "jalr") rd offset rs1 jalr r (immediate_fits offset s) q ∙ rw (low rd r, low rs1 q) refl
-read-text_of (Branch c rs1 rs2 offset) (r, q, s) = read-registers_number (op.Branch c) (condition_name c) rs1 rs2 offset (branch c) r q (branch_fits offset s.0) ∙ rw (low rs1 r, low rs2 q) refl
-read-text_of (Load k rd rs1 offset) (r, q, s) = read-register_place (op.Load k) (load_name k) rd offset rs1 (load k) r (immediate_fits offset s) q ∙ rw (low rd r, low rs1 q) refl
-read-text_of (Store k rs1 rs2 offset) (r, q, s) = read-register_place (op.Store k) (store_name k) rs2 offset rs1 (store k) q (immediate_fits offset s) r ∙ rw (low rs1 r, low rs2 q) refl
-read-text_of (AluImm o rd rs1 imm) (r, q, s) = read-registers_number (op.AluImm o) (imm_name o) rd rs1 imm (immediate o) r q (immediate_fits imm s) ∙ rw (low rd r, low rs1 q) refl
+read-text_of (Jal rd offset) (r, s) = read-register_number op.Jal (codes "jal") rd offset jal r (fits (2 ^ 20) offset (omega arith) (omega arith) s.0) ∙ rw (low rd r) refl
+read-text_of (Jalr rd rs1 offset) (r, q, s) = read-register_place op.Jalr (codes "jalr") rd offset rs1 jalr r (fits (2 ^ 11) offset (omega arith) (omega arith) s) q ∙ rw (low rd r, low rs1 q) refl
+read-text_of (Branch c rs1 rs2 offset) (r, q, s) = read-registers_number (op.Branch c) (condition_name c) rs1 rs2 offset (branch c) r q (fits (2 ^ 12) offset (omega arith) (omega arith) s.0) ∙ rw (low rs1 r, low rs2 q) refl
+read-text_of (Load k rd rs1 offset) (r, q, s) = read-register_place (op.Load k) (load_name k) rd offset rs1 (load k) r (fits (2 ^ 11) offset (omega arith) (omega arith) s) q ∙ rw (low rd r, low rs1 q) refl
+read-text_of (Store k rs1 rs2 offset) (r, q, s) = read-register_place (op.Store k) (store_name k) rs2 offset rs1 (store k) q (fits (2 ^ 11) offset (omega arith) (omega arith) s) r ∙ rw (low rs1 r, low rs2 q) refl
+read-text_of (AluImm o rd rs1 imm) (r, q, s) = read-registers_number (op.AluImm o) (imm_name o) rd rs1 imm (immediate o) r q (fits (2 ^ 11) imm (omega arith) (omega arith) s) ∙ rw (low rd r, low rs1 q) refl
 read-text_of (Shift o rd rs1 shamt) (r, q, s) = read-registers_number (op.Shift o) (shift_name o) rd rs1 (pos shamt) (shift o) r q (omega arith) ∙ rw (low rd r, low rs1 q, low shamt s) refl
 read-text_of (Alu o rd rs1 rs2) (r, q, s) = read-registers (op.Alu o) (alu_name o) rd rs1 rs2 (registers o) r q s ∙ rw (low rd r, low rs1 q, low rs2 s) refl
 read-text_of (Fence rd rs1 imm) (r, q, s) = read-registers_number op.Fence (codes "fence") rd rs1 (pos imm) fence r q (omega arith) ∙ rw (low rd r, low rs1 q) refl

@@ -1,6 +1,6 @@
 -- The text of an instruction: names as in the RISC-V unprivileged manual, RV32I 2.1, in lower case, and one text each (this project's own format).
 -- Registers are x0 to x31, numbers are decimal, with '-' where negative; an offset is in bytes.
-use Rattle.std.specs.Prelude.{ℕ, ℤ, List, ◌++◌, codes, decimal}
+use Rattle.std.specs.Prelude.{ℕ, ℤ, List, [], ◌++◌, codes, decimal}
 use Rattle.std.specs.Fmt.{signed_decimal}
 use Rattle.ckrt_rv32i.specs.declared.instruction.Instr.{Instr}
 use Rattle.ckrt_rv32i.specs.declared.instruction.Instr.TheVariants.{Lui, Auipc, Jal, Jalr, Branch, Load, Store, AluImm, Shift, Alu, Fence, Ecall, Ebreak}
@@ -97,20 +97,27 @@ register_place a imm b = register_number a (signed_decimal imm ++ codes "(" ++ r
 abbrev pub registers_number : ℕ → ℕ → List ℕ → List ℕ
 registers_number a b imm = register_number a (register b ++ codes ", " ++ imm)
 
+-- what stands behind the name
 abbrev pub operands_of : Instr → List ℕ
+-- `NAME xD, IMM`
 operands_of (Lui rd imm) = register_number rd (decimal imm)
 operands_of (Auipc rd imm) = register_number rd (decimal imm)
 operands_of (Jal rd offset) = register_number rd (signed_decimal offset)
+-- `NAME xD, IMM(xS)`
 operands_of (Jalr rd rs1 offset) = register_place rd offset rs1
-operands_of (Branch c rs1 rs2 offset) = registers_number rs1 rs2 (signed_decimal offset)
 operands_of (Load k rd rs1 offset) = register_place rd offset rs1
+-- `NAME xT, IMM(xS)`
 operands_of (Store s rs1 rs2 offset) = register_place rs2 offset rs1
+-- `NAME xS, xT, IMM`
+operands_of (Branch c rs1 rs2 offset) = registers_number rs1 rs2 (signed_decimal offset)
+-- `NAME xD, xS, IMM`
 operands_of (AluImm op rd rs1 imm) = registers_number rd rs1 (signed_decimal imm)
 operands_of (Shift op rd rs1 shamt) = registers_number rd rs1 (decimal shamt)
-operands_of (Alu op rd rs1 rs2) = registers_number rd rs1 (register rs2)
 operands_of (Fence rd rs1 imm) = registers_number rd rs1 (decimal imm)
-operands_of Ecall = codes ""
-operands_of Ebreak = codes ""
+-- `NAME xD, xS, xT`
+operands_of (Alu op rd rs1 rs2) = registers_number rd rs1 (register rs2)
+operands_of Ecall = []
+operands_of Ebreak = []
 
 -- ---- the text
 

@@ -2,7 +2,6 @@ use Rattle.std.proofs.Common.{◌≡◌, Some, None, rules, sym, ◌∙◌, subs
 use Rattle.ckrt_rv32i.specs.declared.instruction.Instr.{Instr}
 use Rattle.ckrt_rv32i.specs.Table.{IsInRange}
 use Rattle.ckrt_rv32i.specs.Text.{text_of}
-use Rattle.ckrt_rv32i.specs.Reading.{read}
 use Rattle.ckrt_rv32i.proofs.ParsingLaws.{parsed, not_parsed, not_both}
 use Rattle.ckrt_rv32i.proofs.parsing.parse_instr.Goals as goal
 
