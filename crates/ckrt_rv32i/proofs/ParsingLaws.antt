@@ -66,7 +66,7 @@ own : IsNumeralModel (λ ds. all_digits ds ≡ true) (value_from 0)
 own = numerals_by_fold _ (search rules) value_from (search rules)
 
 -- whether the bytes are none, or begin with another byte than a digit
-abbrev pub ends_number : List ℕ → Bool
+abbrev ends_number : List ℕ → Bool
 ends_number [] = true
 ends_number (b ∷ bs) = not (is_digit b)
 
@@ -129,12 +129,12 @@ regroup_place : (s d : List ℕ) → ((s ++ codes "(") ++ (codes "x" ++ d)) ++ c
 regroup_place s d = ap (λ (t : List ℕ). t ++ codes ")") (append_assoc s (codes "(") (codes "x" ++ d)) ∙ append_assoc s (codes "(x" ++ d) (codes ")")
 
 -- ` xA, IMM`
-pub numbers_of-register_number : (a : ℕ) (z : ℤ) → a < 32 → Fits z → numbers_of (register_number a (signed_decimal z)) ≡ record { first = pos a; second = z; third = pos 0 }
+numbers_of-register_number : (a : ℕ) (z : ℤ) → a < 32 → Fits z → numbers_of (register_number a (signed_decimal z)) ≡ record { first = pos a; second = z; third = pos 0 }
 numbers_of-register_number a z r s =
     numbers_of-three (register_number a (signed_decimal z)) (codes ", " ++ signed_decimal z) [] [] _ _ _ (next_number-comma a (signed_decimal z) (omega arith)) (next_number-last z s) refl
 
 -- ` xA, IMM(xB)`
-pub numbers_of-register_place : (a : ℕ) (z : ℤ) (b : ℕ) → a < 32 → Fits z → b < 32 → numbers_of (register_place a z b) ≡ record { first = pos a; second = z; third = pos b }
+numbers_of-register_place : (a : ℕ) (z : ℤ) (b : ℕ) → a < 32 → Fits z → b < 32 → numbers_of (register_place a z b) ≡ record { first = pos a; second = z; third = pos b }
 numbers_of-register_place a z b r s q =
     let last : List ℕ = codes "(x" ++ (decimal b ++ codes ")") in
     let grouped : register_place a z b ≡ register_number a (signed_decimal z ++ last) = ap (register_number a) (regroup_place (signed_decimal z) (decimal b)) in
@@ -142,14 +142,14 @@ numbers_of-register_place a z b r s q =
     (next_number-comma a (signed_decimal z ++ last) (omega arith)) (next_number-signed z last s refl) (next_number-signed (pos b) (codes ")") (omega arith) refl)
 
 -- ` xA, xB, IMM`
-pub numbers_of-registers_number : (a b : ℕ) (z : ℤ) → a < 32 → b < 32 → Fits z → numbers_of (registers_number a b (signed_decimal z)) ≡ record { first = pos a; second = pos b; third = z }
+numbers_of-registers_number : (a b : ℕ) (z : ℤ) → a < 32 → b < 32 → Fits z → numbers_of (registers_number a b (signed_decimal z)) ≡ record { first = pos a; second = pos b; third = z }
 numbers_of-registers_number a b z r q s =
     let last : List ℕ = register b ++ codes ", " ++ signed_decimal z in
     numbers_of-three (registers_number a b (signed_decimal z)) (codes ", " ++ last) (codes ", " ++ signed_decimal z) [] _ _ _
     (next_number-comma a last (omega arith)) (next_number-comma b (signed_decimal z) (omega arith)) (next_number-last z s)
 
 -- ` xA, xB, xC`
-pub numbers_of-registers : (a b c : ℕ) → a < 32 → b < 32 → c < 32 → numbers_of (registers_number a b (register c)) ≡ record { first = pos a; second = pos b; third = pos c }
+numbers_of-registers : (a b c : ℕ) → a < 32 → b < 32 → c < 32 → numbers_of (registers_number a b (register c)) ≡ record { first = pos a; second = pos b; third = pos c }
 numbers_of-registers a b c r q s =
     let last : List ℕ = register b ++ codes ", " ++ register c in
     numbers_of-three (registers_number a b (register c)) (codes ", " ++ last) (codes ", " ++ register c) [] _ _ _
