@@ -1,5 +1,5 @@
 //! The registers of a hart.
-ghost use Rattle.std.specs.Prelude.{◌≡◌, ◌<◌, replicate};
+ghost use Rattle.std.specs.Prelude.{◌≡◌, ◌<◌, ◌^◌, ℕ, length, slice_index, replicate};
 ghost use Rattle.ckrt_rv32i.specs.Registers.{Registers, get, put};
 
 use std::marker::Model;
@@ -24,12 +24,26 @@ impl Model for Regs {
     ghost inverse = { λ h. record { pc = h.pc; x = h.x } };
 }
 
+/// What always holds of words, for a proof.
+fn known_words(words: &[u32])
+    ensures { (i : ℕ) → i < length words.now → slice_index words.now i < 2 ^ 32 }
+{}
+
 impl Regs {
     /// This pc, and 0 in each register.
     pub fn new(pc: u32) -> Self
         ensures { result ≡ record { pc = pc; x = replicate 32 0 } }
     {
         Regs { pc, x: [0; 32] }
+    }
+
+    /// What always holds of the registers, for a proof: there are 32, words each, and x0 is 0.
+    pub fn known(&self)
+        ensures size { length self.now.x ≡ 32 }
+        ensures zero { get self.now 0 ≡ 0 }
+        ensures words { (r : ℕ) → r < 32 → get self.now r < 2 ^ 32 }
+    {
+        known_words(self.x.as_slice());
     }
 
     /// The address of the instruction that is executed next.
