@@ -18,7 +18,7 @@ use Rattle.ckrt_calls.specs.WellFormed.{IsWellFormed}
 use Rattle.ckrt_tables.specs.Records.{hart_bytes, handlers_of, handler_bytes, thread_bytes, wait_bytes, mutex_bytes, barrier_bytes, reader_at, readers_from, reader_bytes, rwlock_bytes}
 use Rattle.ckrt_tables.specs.Encoding.{encoding_of, IsHeld}
 use Rattle.ckrt_tables.proofs.Few.{few}
-use Rattle.ckrt_tables.proofs.Slots.{length_reader_at}
+use Rattle.ckrt_tables.proofs.Counts.{readers_fewer}
 use Rattle.ckrt_tables.proofs.Lengths.{encoding_length, status_length}
 
 -- records of one size
@@ -52,16 +52,6 @@ threads_bound k (Some t ∷ slots) is =
     omega (arith, e, thread_length r, handlers_length (handlers_of t), few_handlers t (is 0), more)
 
 -- READ-WRITE LOCKS
-
-readers_fewer : (k : ℕ) (ns : List ℕ) → length (readers_from k ns) ≤ length ns
-readers_fewer k [] = omega arith
-readers_fewer k (n ∷ ns) =
-    let e : length (reader_at k n ++ readers_from (suc k) ns) ≡ length (reader_at k n) + length (readers_from (suc k) ns) = length-append (reader_at k n) (readers_from (suc k) ns) in
-    omega (arith, e, at_most_one (n == 0) (length (reader_at k n)) (length_reader_at k n), readers_fewer (suc k) ns)
-  where
-    at_most_one : (b : Bool) (m : ℕ) → m ≡ (if b then 0 else 1) → m ≤ 1
-    at_most_one true m e = omega (arith, e)
-    at_most_one false m e = omega (arith, e)
 
 few_readers : (ns : List ℕ) → length ns ≡ 65 → slice_index_or ns 0 0 ≡ 0 → length (readers_from 0 ns) ≤ 64
 few_readers [] size none = omega arith

@@ -1,5 +1,5 @@
 -- No two savable states have one encoding: no encoding of a part begins another's.
-use Rattle.std.proofs.Common.{◌≡◌, ℕ, zero, suc, ◌+◌, ◌*◌, ◌<◌, ◌≤◌, ◌^◌, ◌==◌, Bool, true, false, not, if◌then◌else◌, Option, Some, None, is_some, unwrap_or, List, [], ◌∷◌, ◌++◌, length, get_or, drop, refl, sym, ap, ◌∙◌, append_assoc, arith}
+use Rattle.std.proofs.Common.{◌≡◌, ℕ, zero, suc, ◌+◌, ◌*◌, ◌<◌, ◌≤◌, ◌^◌, ◌==◌, Bool, true, false, not, if◌then◌else◌, Option, Some, None, is_some, unwrap_or, List, [], ◌∷◌, ◌++◌, length, get_or, drop, replicate, refl, sym, ap, ◌∙◌, append_assoc, arith}
 use Rattle.std.proofs.lemmas.Bool.Decides.{nat_tests}
 use Rattle.std.proofs.lemmas.List.{drop_at, drop_all}
 use Rattle.std.proofs.Math.Seq.{drop-cons}
@@ -27,9 +27,12 @@ use Rattle.ckrt_barrier.specs.declared.barrier.Barrier.{Barrier}
 use Rattle.ckrt_rwlock.specs.declared.records.RwLock.{RwLock}
 use Rattle.ckrt_calls.specs.declared.table.Status.TheVariants as status
 use Rattle.ckrt_calls.specs.declared.table.Tables.{Tables}
-use Rattle.ckrt_tables.specs.Records.{id_or_0, cause_number, counted, one_byte, two_bytes, hart_bytes, flag, flags_of, value_of, registers_of, handlers_of, registers_bytes, handler_bytes, thread_bytes, kind_of, result_of, first_name, second_name, wait_bytes, mutex_kind_number, mutex_bytes, barrier_bytes, Reader, reader_at, readers_from, readers_of, reader_bytes, rwlock_bytes}
+use Rattle.ckrt_tables.specs.declared.reading_objects.Reader.{Reader}
+use Rattle.ckrt_tables.specs.Records.{id_or_0, cause_number, cause_from, counted, one_byte, two_bytes, hart_bytes, flag, flags_of, value_of, registers_of, handlers_of, registers_bytes, handler_bytes, thread_bytes, kind_of, result_of, first_name, second_name, reason_from, wait_bytes, mutex_kind_number, mutex_bytes, barrier_bytes, reader_at, readers_from, readers_of, reader_bytes, rwlock_bytes}
 use Rattle.ckrt_tables.specs.Encoding.{status_bytes, queue_bytes}
 use Rattle.ckrt_tables.specs.Savable.{is_half, is_word, is_long, if_there, fit_registers, fits_handler, fits_thread, fits_slot, fits_reason, fits_wait, is_id, fits_mutex, fits_barrier, fits_rwlock, fits_status, AreDistinct}
+use Rattle.ckrt_tables.specs.Objects.{fits_reader, with_readers}
+use Rattle.ckrt_tables.proofs.Counts.{readers_fit, counts_found}
 use Rattle.ckrt_tables.proofs.Few.{few}
 
 abbrev pub IsPrefixFree : {X : Type 0} → (X → Type 0) → (X → List ℕ) → Type 0
@@ -86,7 +89,7 @@ flag_free false false e = refl
 flag_free true false e = absurd (omega (arith, e))
 flag_free false true e = absurd (omega (arith, e))
 
-flag_times : (k : ℕ) (b : Bool) → flag k b ≡ k * flag 1 b
+pub flag_times : (k : ℕ) (b : Bool) → flag k b ≡ k * flag 1 b
 flag_times k true = omega arith
 flag_times k false = omega arith
 
@@ -106,7 +109,7 @@ not_free false false e = refl
 not_free true false e = absurd (cc)
 not_free false true e = absurd (cc)
 
-option_free : (o p : Option ℕ) → is_some o ≡ is_some p → unwrap_or o 0 ≡ unwrap_or p 0 → o ≡ p
+pub option_free : (o p : Option ℕ) → is_some o ≡ is_some p → unwrap_or o 0 ≡ unwrap_or p 0 → o ≡ p
 option_free None None s e = refl
 option_free None (Some n) s e = absurd (cc)
 option_free (Some m) None s e = absurd (cc)
@@ -123,7 +126,7 @@ hart_free x y a b fx fy e = (let one = byte_free (id_or_0 x) (id_or_0 y) a b e i
 
 -- THREADS
 
-words_at : (xs : List ℕ) (j n : ℕ) → j + n ≡ length xs → flat_map (λ k. little_bytes 4 (get_or xs k 0)) (range_with_len j n) ≡ flat_map (little_bytes 4) (drop j xs)
+pub words_at : (xs : List ℕ) (j n : ℕ) → j + n ≡ length xs → flat_map (λ k. little_bytes 4 (get_or xs k 0)) (range_with_len j n) ≡ flat_map (little_bytes 4) (drop j xs)
 words_at xs j zero e = ap (flat_map (little_bytes 4)) (sym (drop_all j xs (omega (arith, e))))
 words_at xs j (suc n) e =
     let next : suc j ≡ j + 1 = omega arith in
@@ -131,7 +134,7 @@ words_at xs j (suc n) e =
     ap (λ l. little_bytes 4 (get_or xs j 0) ++ l) (rest ∙ ap (λ k. flat_map (little_bytes 4) (drop k xs)) (sym next))
     ∙ sym (ap (flat_map (little_bytes 4)) (drop-cons xs j 0 (omega (arith, e))))
 
-all_drop : {X : Type 0} (p : X → Bool) (xs : List X) → list_all p xs ≡ true → list_all p (drop 1 xs) ≡ true
+pub all_drop : {X : Type 0} (p : X → Bool) (xs : List X) → list_all p xs ≡ true → list_all p (drop 1 xs) ≡ true
 all_drop p [] h = refl
 all_drop p (x ∷ xs) h = grind (arith, h)
 
@@ -144,13 +147,13 @@ length_drop_1 : (xs : List ℕ) (n : ℕ) → length xs ≡ suc n → length (dr
 length_drop_1 [] n e = absurd (omega (arith, e))
 length_drop_1 (x ∷ xs) n e = omega (arith, e)
 
-record FitRegisters (r : Registers) : Type 0 where
-  pc : is_word r.pc ≡ true
-  size : length r.x ≡ 32
-  first : get_or r.x 0 0 ≡ 0
-  words : list_all is_word r.x ≡ true
+pub record FitRegisters (r : Registers) : Type 0 where
+  pub pc : is_word r.pc ≡ true
+  pub size : length r.x ≡ 32
+  pub first : get_or r.x 0 0 ≡ 0
+  pub words : list_all is_word r.x ≡ true
 
-registers_fit : (r : Registers) → fit_registers r ≡ true → FitRegisters r
+pub registers_fit : (r : Registers) → fit_registers r ≡ true → FitRegisters r
 registers_fit r f = record {
   pc = grind (arith, nat_tests, f);
   size = grind (arith, nat_tests, f);
@@ -222,17 +225,17 @@ flags_free l m e =
       unwinding = all.5;
     }
 
-live_below_64 : (l : Live) → flags_of (thread.Live l) < 64
+pub live_below_64 : (l : Live) → flags_of (thread.Live l) < 64
 live_below_64 l = omega (arith, flag_few 1 l.initial, flag_few 2 l.detached, flag_few 4 (not l.cancellation.is_enabled), flag_few 8 l.cancellation.is_asynchronous, flag_few 16 l.cancellation.is_requested, flag_few 32 (is_some l.cancellation.unwinding))
 
 -- what the bytes of a thread say of it
-record SameThread (x y : Thread) : Type 0 where
-  flags : flags_of x ≡ flags_of y
-  value : value_of x ≡ value_of y
-  registers : registers_of x ≡ registers_of y
-  handlers : handlers_of x ≡ handlers_of y
+pub record SameThread (x y : Thread) : Type 0 where
+  pub flags : flags_of x ≡ flags_of y
+  pub value : value_of x ≡ value_of y
+  pub registers : registers_of x ≡ registers_of y
+  pub handlers : handlers_of x ≡ handlers_of y
 
-thread_known : (x y : Thread) → SameThread x y → x ≡ y
+pub thread_known : (x y : Thread) → SameThread x y → x ≡ y
 thread_known (thread.Ended v) (thread.Ended w) s = ap (λ n. thread.Ended n) s.value
 thread_known (thread.Ended v) (thread.Live m) s = absurd (let f = s.flags in let b = live_below_64 m in omega (arith, f, b))
 thread_known (thread.Live l) (thread.Ended w) s = absurd (let f = s.flags in let b = live_below_64 l in omega (arith, f, b))
@@ -245,16 +248,16 @@ thread_known (thread.Live l) (thread.Live m) s =
     rw (r, f.initial, f.detached, f.enabled, f.asynchronous, f.requested, u, h) refl in
     ap (λ z. thread.Live z) same
 
-record FitThread (x : Thread) : Type 0 where
-  value : is_word (value_of x) ≡ true
-  registers : fit_registers (registers_of x) ≡ true
-  handlers : list_all fits_handler (handlers_of x) ≡ true
+pub record FitThread (x : Thread) : Type 0 where
+  pub value : is_word (value_of x) ≡ true
+  pub registers : fit_registers (registers_of x) ≡ true
+  pub handlers : list_all fits_handler (handlers_of x) ≡ true
 
 value_fits : (o : Option ℕ) → if_there is_word o ≡ true → is_word (unwrap_or o 0) ≡ true
 value_fits None f = refl
 value_fits (Some n) f = f
 
-thread_fits : (x : Thread) → fits_thread x ≡ true → FitThread x
+pub thread_fits : (x : Thread) → fits_thread x ≡ true → FitThread x
 thread_fits (thread.Ended v) f = record { value = f; registers = refl; handlers = refl }
 thread_fits (thread.Live l) f = record {
   value = value_fits l.cancellation.unwinding (grind (arith, nat_tests, f));
@@ -262,7 +265,7 @@ thread_fits (thread.Live l) f = record {
   handlers = grind (arith, nat_tests, f);
 }
 
-spelt : (v r h a : List ℕ) → (v ++ (r ++ h)) ++ a ≡ v ++ (r ++ (h ++ a))
+pub spelt : (v r h a : List ℕ) → (v ++ (r ++ h)) ++ a ≡ v ++ (r ++ (h ++ a))
 spelt v r h a = append_assoc v (r ++ h) a ∙ ap (λ l. v ++ l) (append_assoc r h a)
 
 thread_free : IsPrefixFree (λ (r : ThreadRow). fits_thread r.thread ≡ true) thread_bytes
@@ -295,43 +298,29 @@ rows_fit k (Some x ∷ slots) f = (let rest = rows_fit (suc k) slots (grind (ari
 
 -- WAITS
 
--- the reason that its numbers stand for
+pub reason_is : (r : Reason) → fits_reason r ≡ true → reason_from (kind_of r) (result_of r) (first_name r) (second_name r) ≡ r
+reason_is (reason.Join id) f = ap (λ k. reason.Join k) (let small : id < 256 = grind (arith, nat_tests, f) in omega (arith, small))
+reason_is (reason.Lock a) f = refl
+reason_is (reason.Retake a retake.Done) f = refl
+reason_is (reason.Retake a retake.TimedOut) f = refl
+reason_is (reason.Retake a retake.Unwind) f = refl
+reason_is (reason.Condition c a) f = refl
+reason_is (reason.Barrier a) f = refl
+reason_is (reason.Read a) f = refl
+reason_is (reason.Write a) f = refl
+reason_is reason.Input f = refl
+reason_is reason.Sleep f = refl
 
-abbrev reason_from : ℕ → ℕ → ℕ → ℕ → Reason
-reason_from k n a b =
-    if k == 1 then reason.Join a
-    else if k == 2 then reason.Lock a
-    else if k == 3 then reason.Retake a (if n == 0 then retake.Done else if n == 110 then retake.TimedOut else retake.Unwind)
-    else if k == 4 then reason.Condition a b
-    else if k == 5 then reason.Barrier a
-    else if k == 6 then reason.Read a
-    else if k == 7 then reason.Write a
-    else if k == 8 then reason.Input
-    else reason.Sleep
-
-reason_is : (r : Reason) → reason_from (kind_of r) (result_of r) (first_name r) (second_name r) ≡ r
-reason_is (reason.Join id) = refl
-reason_is (reason.Lock a) = refl
-reason_is (reason.Retake a retake.Done) = refl
-reason_is (reason.Retake a retake.TimedOut) = refl
-reason_is (reason.Retake a retake.Unwind) = refl
-reason_is (reason.Condition c a) = refl
-reason_is (reason.Barrier a) = refl
-reason_is (reason.Read a) = refl
-reason_is (reason.Write a) = refl
-reason_is reason.Input = refl
-reason_is reason.Sleep = refl
-
-reason_known : (r q : Reason) → kind_of r ≡ kind_of q → result_of r ≡ result_of q → first_name r ≡ first_name q → second_name r ≡ second_name q → r ≡ q
-reason_known r q k n a b =
-    sym (reason_is r)
+reason_known : (r q : Reason) → fits_reason r ≡ true → fits_reason q ≡ true → kind_of r ≡ kind_of q → result_of r ≡ result_of q → first_name r ≡ first_name q → second_name r ≡ second_name q → r ≡ q
+reason_known r q fr fq k n a b =
+    sym (reason_is r fr)
     ∙ ap (λ x. reason_from x (result_of r) (first_name r) (second_name r)) k
     ∙ ap (λ x. reason_from (kind_of q) x (first_name r) (second_name r)) n
     ∙ ap (λ x. reason_from (kind_of q) (result_of q) x (second_name r)) a
     ∙ ap (λ x. reason_from (kind_of q) (result_of q) (first_name q) x) b
-    ∙ reason_is q
+    ∙ reason_is q fq
 
-names_fit : (r : Reason) → fits_reason r ≡ true → (is_word (first_name r) ≡ true) × (is_word (second_name r) ≡ true)
+pub names_fit : (r : Reason) → fits_reason r ≡ true → (is_word (first_name r) ≡ true) × (is_word (second_name r) ≡ true)
 names_fit (reason.Join id) f = (grind (arith, nat_tests, f), refl)
 names_fit (reason.Lock a) f = (f, refl)
 names_fit (reason.Retake a r) f = (f, refl)
@@ -342,7 +331,7 @@ names_fit (reason.Write a) f = (f, refl)
 names_fit reason.Input f = (refl, refl)
 names_fit reason.Sleep f = (refl, refl)
 
-moment_fits : (o : Option ℕ) → if_there is_long o ≡ true → is_long (unwrap_or o 0) ≡ true
+pub moment_fits : (o : Option ℕ) → if_there is_long o ≡ true → is_long (unwrap_or o 0) ≡ true
 moment_fits None f = refl
 moment_fits (Some n) f = f
 
@@ -361,7 +350,7 @@ wait_free w v a b fw fv e =
     let x = word_free (first_name w.reason) (first_name v.reason) (little_bytes 4 (second_name w.reason) ++ wm) (little_bytes 4 (second_name v.reason) ++ vm) p.0 q.0 d.1 in
     let y = word_free (second_name w.reason) (second_name v.reason) wm vm p.1 q.1 x.1 in
     let m = long_free (unwrap_or w.deadline 0) (unwrap_or v.deadline 0) a b (moment_fits w.deadline (grind (arith, nat_tests, fw))) (moment_fits v.deadline (grind (arith, nat_tests, fv))) y.1 in
-    let reason = reason_known w.reason v.reason k.0 r.0 x.0 y.0 in
+    let reason = reason_known w.reason v.reason (grind (arith, nat_tests, fw)) (grind (arith, nat_tests, fv)) k.0 r.0 x.0 y.0 in
     let deadline = option_free w.deadline v.deadline (flag_free (is_some w.deadline) (is_some v.deadline) d.0) m.0 in
     (same w.thread w.reason w.deadline v t.0 reason deadline, m.1)
   where
@@ -404,10 +393,10 @@ barrier_free m k a b fm fk e =
     same : (address count : ℕ) (k : Entry Barrier) → address ≡ k.address → count ≡ k.value.count → record { address = address; value = record { count = count } } ≡ k
     same address count k e₁ e₂ = rw (e₁, e₂) refl
 
-reader_free : IsPrefixFree (λ (r : Reader). is_half r.count ≡ true) reader_bytes
+reader_free : IsPrefixFree (λ r. fits_reader r ≡ true) reader_bytes
 reader_free m k a b fm fk e =
     let id = byte_free m.id k.id (little_bytes 2 m.count ++ a) (little_bytes 2 k.count ++ b) e in
-    let co = half_free m.count k.count a b fm fk id.1 in
+    let co = half_free m.count k.count a b (grind (arith, nat_tests, fm)) (grind (arith, nat_tests, fk)) id.1 in
     (same m.id m.count k id.0 co.0, co.1)
   where
     same : (id count : ℕ) (k : Reader) → id ≡ k.id → count ≡ k.count → record { id = id; count = count } ≡ k
@@ -415,44 +404,8 @@ reader_free m k a b fm fk e =
 
 -- counts are known by the readers that they are
 
-reads : (k n : ℕ) → reader_at k (suc n) ≡ (record { id = k; count = suc n }) ∷ []
-reads k n = (let some : (suc n == 0) ≡ false = grind (arith, nat_tests) in ap (λ (b : Bool). if b then [] else (record { id = k; count = suc n }) ∷ []) some)
-
-reader_here : (k n : ℕ) (ns : List ℕ) → readers_from k (suc n ∷ ns) ≡ (record { id = k; count = suc n }) ∷ readers_from (suc k) ns
-reader_here k n ns = ap (λ l. l ++ readers_from (suc k) ns) (reads k n)
-
-reader_later : (k j : ℕ) (ns : List ℕ) (r : Reader) (more : List Reader) → j < k → readers_from k ns ≡ r ∷ more → j < r.id
-reader_later k j [] r more l e = absurd (cc)
-reader_later k j (zero ∷ ns) r more l e = reader_later (suc k) j ns r more (omega arith) e
-reader_later k j (suc n ∷ ns) r more l e =
-    let f : (record { id = k; count = suc n }) ∷ readers_from (suc k) ns ≡ r ∷ more = sym (reader_here k n ns) ∙ e in
-    let same : record { id = k; count = suc n } ≡ r = cc in
-    let i : k ≡ r.id = ap (λ (q : Reader). q.id) same in
-    omega (arith, i)
-
-counts_known : (k : ℕ) (ns ms : List ℕ) → length ns ≡ length ms → readers_from k ns ≡ readers_from k ms → ns ≡ ms
-counts_known k [] [] l e = refl
-counts_known k [] (m ∷ ms) l e = absurd (omega arith)
-counts_known k (n ∷ ns) [] l e = absurd (omega arith)
-counts_known k (zero ∷ ns) (zero ∷ ms) l e = ap (λ z. 0 ∷ z) (counts_known (suc k) ns ms (omega arith) e)
-counts_known k (zero ∷ ns) (suc m ∷ ms) l e =
-    absurd (let i = reader_later (suc k) k ns (record { id = k; count = suc m }) (readers_from (suc k) ms) (omega arith) (e ∙ reader_here k m ms) in omega (arith, i))
-counts_known k (suc n ∷ ns) (zero ∷ ms) l e =
-    absurd (let i = reader_later (suc k) k ms (record { id = k; count = suc n }) (readers_from (suc k) ns) (omega arith) (sym e ∙ reader_here k n ns) in omega (arith, i))
-counts_known k (suc n ∷ ns) (suc m ∷ ms) l e =
-    let f : (record { id = k; count = suc n }) ∷ readers_from (suc k) ns ≡ (record { id = k; count = suc m }) ∷ readers_from (suc k) ms = sym (reader_here k n ns) ∙ (e ∙ reader_here k m ms) in
-    let row : record { id = k; count = suc n } ≡ record { id = k; count = suc m } = cc in
-    let rest : readers_from (suc k) ns ≡ readers_from (suc k) ms = cc in
-    let here : suc n ≡ suc m = ap (λ (q : Reader). q.count) row in
-    let there = counts_known (suc k) ns ms (omega arith) rest in
-    rw (here, there) refl
-
-readers_fit : (k : ℕ) (ns : List ℕ) → list_all is_half ns ≡ true → list_all (λ (r : Reader). is_half r.count) (readers_from k ns) ≡ true
-readers_fit k [] f = refl
-readers_fit k (zero ∷ ns) f = readers_fit (suc k) ns (grind (arith, nat_tests, f))
-readers_fit k (suc n ∷ ns) f =
-    let rest = readers_fit (suc k) ns (grind (arith, nat_tests, f)) in
-    ap (list_all (λ (r : Reader). is_half r.count)) (reader_here k n ns) ∙ grind (arith, nat_tests, f, rest)
+counts_known : (ns ms : List ℕ) → length ns ≡ 65 → length ms ≡ 65 → readers_from 0 ns ≡ readers_from 0 ms → ns ≡ ms
+counts_known ns ms sn sm e = sym (counts_found ns sn) ∙ ap (λ rs. with_readers rs (replicate 65 0)) e ∙ counts_found ms sm
 
 rwlock_free : IsPrefixFree (λ e. fits_rwlock e ≡ true) rwlock_bytes
 rwlock_free m k a b fm fk e =
@@ -461,10 +414,12 @@ rwlock_free m k a b fm fk e =
     let ad = word_free m.address k.address (id_or_0 m.value.writer ∷ length (readers_of m.value) ∷ mr) (id_or_0 k.value.writer ∷ length (readers_of k.value) ∷ kr) (grind (arith, nat_tests, fm)) (grind (arith, nat_tests, fk)) e in
     let wr = byte_free (id_or_0 m.value.writer) (id_or_0 k.value.writer) (length (readers_of m.value) ∷ mr) (length (readers_of k.value) ∷ kr) ad.1 in
     let n = byte_free (length (readers_of m.value)) (length (readers_of k.value)) mr kr wr.1 in
-    let re = parts_free (λ (r : Reader). is_half r.count) reader_bytes reader_free (readers_of m.value) (readers_of k.value) a b (readers_fit 0 m.value.readers (grind (arith, nat_tests, fm))) (readers_fit 0 k.value.readers (grind (arith, nat_tests, fk))) n.0 n.1 in
     let sm : length m.value.readers ≡ 65 = grind (arith, nat_tests, fm) in
     let sk : length k.value.readers ≡ 65 = grind (arith, nat_tests, fk) in
-    let readers = counts_known 0 m.value.readers k.value.readers (sm ∙ sym sk) re.0 in
+    let pm = readers_fit 0 m.value.readers (omega (arith, sm)) (grind (arith, nat_tests, fm)) in
+    let pk = readers_fit 0 k.value.readers (omega (arith, sk)) (grind (arith, nat_tests, fk)) in
+    let re = parts_free fits_reader reader_bytes reader_free (readers_of m.value) (readers_of k.value) a b pm pk n.0 n.1 in
+    let readers = counts_known m.value.readers k.value.readers sm sk re.0 in
     let writer = id_free m.value.writer k.value.writer (grind (arith, nat_tests, fm)) (grind (arith, nat_tests, fk)) wr.0 in
     (same m.address m.value.writer m.value.readers k ad.0 writer readers, re.1)
   where
@@ -473,19 +428,7 @@ rwlock_free m k a b fm fk e =
 
 -- THE STATUS
 
-abbrev cause_from : ℕ → Cause
-cause_from n =
-    if n == 1 then cause.FetchRange
-    else if n == 2 then cause.Illegal
-    else if n == 3 then cause.JumpMisaligned
-    else if n == 4 then cause.LoadMisaligned
-    else if n == 5 then cause.LoadRange
-    else if n == 6 then cause.StoreMisaligned
-    else if n == 7 then cause.StoreRange
-    else if n == 8 then cause.Breakpoint
-    else cause.Gate
-
-cause_is : (c : Cause) → cause_from (cause_number c) ≡ c
+pub cause_is : (c : Cause) → cause_from (cause_number c) ≡ c
 cause_is cause.FetchRange = refl
 cause_is cause.Illegal = refl
 cause_is cause.JumpMisaligned = refl
@@ -536,7 +479,7 @@ queue_free xs ys a b m k e =
     let n = number_free 2 (length xs) (length ys) (xs ++ a) (ys ++ b) (omega (arith, m)) (omega (arith, k)) e in
     split_free xs ys a b n.0 n.1
 
-same_tables : (s t : Tables) → s.threads ≡ t.threads → s.mutexes ≡ t.mutexes → s.barriers ≡ t.barriers → s.rwlocks ≡ t.rwlocks → s.clock ≡ t.clock → s.input ≡ t.input → s.closed ≡ t.closed → s.status ≡ t.status → s ≡ t
+pub same_tables : (s t : Tables) → s.threads ≡ t.threads → s.mutexes ≡ t.mutexes → s.barriers ≡ t.barriers → s.rwlocks ≡ t.rwlocks → s.clock ≡ t.clock → s.input ≡ t.input → s.closed ≡ t.closed → s.status ≡ t.status → s ≡ t
 same_tables s t e₁ e₂ e₃ e₄ e₅ e₆ e₇ e₈ =
     let fields : record { threads = s.threads; mutexes = s.mutexes; barriers = s.barriers; rwlocks = s.rwlocks; clock = s.clock; input = s.input; closed = s.closed; status = s.status } ≡ t = rw (e₁, e₂, e₃, e₄, e₅, e₆, e₇, e₈) refl in
     fields

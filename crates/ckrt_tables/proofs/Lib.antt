@@ -3,5 +3,15 @@ pub mod Puts
 pub mod Slots
 pub mod Lengths
 pub mod Few
+pub mod AllFit
+pub mod Fields
+pub mod Counts
+pub mod Entries
 pub mod Bounds
 pub mod Distinct
+pub mod RowsRead
+pub mod Filled
+pub mod RegistersRead
+pub mod ThreadsRead
+pub mod StatusRead
+pub mod Decoded

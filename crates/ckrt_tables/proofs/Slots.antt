@@ -5,7 +5,8 @@ use Rattle.std.specs.List.{flat_map}
 use Rattle.std.proofs.lemmas.Grind.{flat_map-append}
 use Rattle.ckrt_thread.specs.declared.records.Thread.{Thread}
 use Rattle.ckrt_thread.specs.Contents.{rows_of, rows_from}
-use Rattle.ckrt_tables.specs.Records.{Reader, reader_at, readers_from, reader_bytes, thread_bytes}
+use Rattle.ckrt_tables.specs.declared.reading_objects.Reader.{Reader}
+use Rattle.ckrt_tables.specs.Records.{reader_at, readers_from, reader_bytes, thread_bytes}
 use Rattle.ckrt_tables.specs.Writing.{IsPut}
 use Rattle.ckrt_tables.proofs.Rows.{from_next}
 use Rattle.ckrt_tables.proofs.Puts.{put_place, room_place}

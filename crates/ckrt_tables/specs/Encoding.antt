@@ -1,12 +1,12 @@
 -- The one encoding of the tables of a program and the output that it holds: part by part, nothing between.
-use Rattle.std.specs.Prelude.{ℕ, ◌≤◌, List, [], ◌∷◌, ◌++◌, length}
+use Rattle.std.specs.Prelude.{ℕ, ◌≤◌, ◌==◌, if◌then◌else◌, List, [], ◌∷◌, ◌++◌, length}
 use Rattle.std.specs.List.{concat, flat_map}
 use Rattle.byteorder.specs.Endian.{little_bytes}
 use Rattle.ckrt_thread.specs.Contents.{thread_rows}
 use Rattle.ckrt_calls.specs.declared.table.Status.{Status}
 use Rattle.ckrt_calls.specs.declared.table.Status.TheVariants as status
 use Rattle.ckrt_calls.specs.declared.table.Tables.{Tables}
-use Rattle.ckrt_tables.specs.Records.{flag, cause_number, counted, one_byte, two_bytes, hart_bytes, thread_bytes, wait_bytes, mutex_bytes, barrier_bytes, rwlock_bytes}
+use Rattle.ckrt_tables.specs.Records.{flag, cause_number, cause_from, counted, one_byte, two_bytes, hart_bytes, thread_bytes, wait_bytes, mutex_bytes, barrier_bytes, rwlock_bytes}
 
 -- THE PROGRAM'S STATUS, 7 bytes: whether it runs (0), exited (1) or faulted (2); the thread and the cause of the fault; the
 -- exit status, or the pc of the fault
@@ -18,6 +18,13 @@ abbrev pub status_bytes : Status → List ℕ
 status_bytes status.Running = framed 0 0 0 0
 status_bytes (status.Exited code) = framed 1 0 0 code
 status_bytes (status.Faulted t pc c) = framed 2 t (cause_number c) pc
+
+-- the status that its kind, its thread, its cause and its word stand for
+abbrev pub status_from : ℕ → ℕ → ℕ → ℕ → Status
+status_from kind thread cause word =
+    if kind == 0 then status.Running
+    else if kind == 1 then status.Exited word
+    else status.Faulted thread word (cause_from cause)
 
 -- PARTS
 

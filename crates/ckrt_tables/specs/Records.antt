@@ -1,6 +1,6 @@
 -- The records of saved tables, byte by byte (this project's own format). Numbers have their lowest byte first, and what a
 -- record doesn't use is 0.
-use Rattle.std.specs.Prelude.{ℕ, suc, ◌+◌, ◌==◌, Bool, not, if◌then◌else◌, Option, is_some, unwrap_or, List, [], ◌∷◌, ◌++◌, length, replicate}
+use Rattle.std.specs.Prelude.{ℕ, suc, ◌+◌, ◌%◌, ◌==◌, Bool, not, if◌then◌else◌, Option, is_some, unwrap_or, List, [], ◌∷◌, ◌++◌, length, replicate}
 use Rattle.std.specs.List.{flat_map, range_with_len}
 use Rattle.byteorder.specs.Endian.{little_bytes}
 use Rattle.ckrt_rv32i.specs.Registers.{Registers, get}
@@ -21,6 +21,7 @@ use Rattle.ckrt_mutex.specs.declared.records.Kind.TheVariants as kind
 use Rattle.ckrt_mutex.specs.declared.records.Mutex.{Mutex}
 use Rattle.ckrt_barrier.specs.declared.barrier.Barrier.{Barrier}
 use Rattle.ckrt_rwlock.specs.declared.records.RwLock.{RwLock}
+use Rattle.ckrt_tables.specs.declared.reading_objects.Reader.{Reader}
 
 -- NUMBERS
 
@@ -40,6 +41,19 @@ cause_number cause.StoreMisaligned = 6
 cause_number cause.StoreRange = 7
 cause_number cause.Breakpoint = 8
 cause_number cause.Gate = 9
+
+-- the cause that a number stands for
+abbrev pub cause_from : ℕ → Cause
+cause_from n =
+    if n == 1 then cause.FetchRange
+    else if n == 2 then cause.Illegal
+    else if n == 3 then cause.JumpMisaligned
+    else if n == 4 then cause.LoadMisaligned
+    else if n == 5 then cause.LoadRange
+    else if n == 6 then cause.StoreMisaligned
+    else if n == 7 then cause.StoreRange
+    else if n == 8 then cause.Breakpoint
+    else cause.Gate
 
 -- LISTS
 
@@ -141,6 +155,23 @@ abbrev pub second_name : Reason → ℕ
 second_name (reason.Condition c a) = a
 second_name _ = 0
 
+-- what the number of a retake's end stands for
+abbrev pub retake_from : ℕ → RetakeResult
+retake_from n = if n == 0 then retake.Done else if n == 110 then retake.TimedOut else retake.Unwind
+
+-- the reason that its kind, its result and its names stand for
+abbrev pub reason_from : ℕ → ℕ → ℕ → ℕ → Reason
+reason_from k n a b =
+    if k == 1 then reason.Join (a % 256)
+    else if k == 2 then reason.Lock a
+    else if k == 3 then reason.Retake a (retake_from n)
+    else if k == 4 then reason.Condition a b
+    else if k == 5 then reason.Barrier a
+    else if k == 6 then reason.Read a
+    else if k == 7 then reason.Write a
+    else if k == 8 then reason.Input
+    else reason.Sleep
+
 abbrev pub wait_bytes : Wait → List ℕ
 wait_bytes w =
     w.thread ∷ kind_of w.reason ∷ result_of w.reason ∷ flag 1 (is_some w.deadline) ∷ (little_bytes 4 (first_name w.reason)
@@ -164,11 +195,6 @@ barrier_bytes e = little_bytes 4 e.address ++ little_bytes 4 e.value.count
 -- A READ-WRITE LOCK, 6 bytes and 3 a reader: address, writer or 0, how many readers it has, and each reader's id and count, by
 -- rising id
 
--- a thread that has read locks, and how many
-pub record Reader : Type 0 where
-  pub id : ℕ
-  pub count : ℕ
-
 abbrev pub reader_at : ℕ → ℕ → List Reader
 reader_at id n = if n == 0 then [] else (record { id = id; count = n }) ∷ []
 
@@ -183,6 +209,9 @@ readers_of l = readers_from 0 l.readers
 abbrev pub reader_bytes : Reader → List ℕ
 reader_bytes r = r.id ∷ little_bytes 2 r.count
 
+-- the counts of all ids, as their readers
+abbrev pub counts_bytes : List ℕ → List ℕ
+counts_bytes ns = counted one_byte reader_bytes (readers_from 0 ns)
+
 abbrev pub rwlock_bytes : Entry RwLock → List ℕ
-rwlock_bytes e =
-    little_bytes 4 e.address ++ (id_or_0 e.value.writer ∷ length (readers_of e.value) ∷ flat_map reader_bytes (readers_of e.value))
+rwlock_bytes e = little_bytes 4 e.address ++ (id_or_0 e.value.writer ∷ counts_bytes e.value.readers)

@@ -1,11 +1,13 @@
 //! Tables and held output as bytes.
-ghost use Rattle.std.specs.Prelude.{◌≡◌, ◌≤◌, ◌+◌, ◌∷◌, ◌++◌, [], length, take, drop};
+ghost use Rattle.std.specs.Prelude.{◌≡◌, ◌≤◌, ◌+◌, ◌∷◌, ◌++◌, [], length, take, drop, Some};
 ghost use Rattle.byteorder.specs.Endian.{little_bytes};
 ghost use Rattle.ckrt_calls.specs.WellFormed.{IsWellFormed};
+ghost use Rattle.ckrt_tables.specs.Decoding.{DecodesTo};
 ghost use Rattle.ckrt_tables.specs.Encoding.{encoding_of, status_bytes, framed, queue_bytes, IsHeld};
 ghost use Rattle.ckrt_tables.specs.Records.{flag};
 ghost use Rattle.ckrt_tables.specs.Writing.{HasRoom, IsPut, IsFew};
 
+use crate::fitting::known_savable;
 use crate::numbers::{cause_number, flag};
 use crate::objects::{put_barriers, put_mutexes, put_rwlocks};
 use crate::threads::{put_harts, put_threads, put_waits};
@@ -124,7 +126,7 @@ fn put_parts(out: &mut [u8], tables: &Tables, held: &Held) -> usize
 }
 
 /// Writes the encoding of tables and held output at the front of `out`, and answers how many bytes it has; what is behind
-/// it stays. `out` must have room for [`TABLES_ROOM`] bytes.
+/// it stays. They decode to these tables and this output. `out` must have room for [`TABLES_ROOM`] bytes.
 #[tactic(auto, using(crate::proofs::Bounds::encoding_bound))]
 pub fn encode_tables(tables: &Tables, held: &Held, out: &mut [u8]) -> usize
     requires well_formed { IsWellFormed tables.now }
@@ -134,6 +136,8 @@ pub fn encode_tables(tables: &Tables, held: &Held, out: &mut [u8]) -> usize
     ensures longest { result ≤ LONGEST_TABLES }
     ensures front { take result out.new ≡ encoding_of tables.now held.now.items }
     ensures back { drop result out.new ≡ drop result out.old }
+    ensures decodes { DecodesTo tables.now.threads.hart_count (take result out.new) (Some (record { tables = tables.now; held = held.now.items })) }
 {
+    known_savable(tables, held);
     put_parts(out, tables, held)
 }

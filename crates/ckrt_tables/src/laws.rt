@@ -1,10 +1,12 @@
 //! Laws of saved tables. Each is the contract of a function with an empty body.
-ghost use Rattle.std.specs.Prelude.{◌≡◌, ◌≤◌, ℕ, List, length};
+ghost use Rattle.std.specs.Prelude.{◌≡◌, ◌≤◌, ℕ, Option, List, [], length};
 ghost use Rattle.ckrt_calls.specs.declared.table.Tables.{Tables};
+ghost use Rattle.ckrt_calls.specs.Table.{fresh};
 ghost use Rattle.ckrt_calls.specs.WellFormed.{IsWellFormed};
 ghost use Rattle.ckrt_tables.specs.Encoding.{encoding_of, IsHeld};
 ghost use Rattle.ckrt_tables.specs.declared.encoding.TheConstants.{LONGEST_TABLES};
-ghost use Rattle.ckrt_tables.specs.Savable.{AreDistinct};
+ghost use Rattle.ckrt_tables.specs.Savable.{AreDistinct, CanBeSaved};
+ghost use Rattle.ckrt_tables.specs.Decoding.{Saved, DecodesTo};
 ghost use Rattle.ckrt_tables.specs.Fresh.{IsFreshEncoding, fresh_bytes};
 
 /// The tables of a program that hasn't begun, without output, have these 170 bytes, whatever its harts.
@@ -22,4 +24,16 @@ pub fn longest_encoding()
 /// No two savable states of a program with so many harts have one encoding.
 pub fn encodings_are_distinct()
     ensures { (harts : ℕ) → AreDistinct harts }
+{}
+
+/// Bytes decode to one thing only: to one state, or to nothing.
+#[tactic(auto, using(crate::proofs::Decoded::decodes_once))]
+pub fn decodes_to_one()
+    ensures { (harts : ℕ) (bytes : List ℕ) (a b : Option Saved) → DecodesTo harts bytes a → DecodesTo harts bytes b → a ≡ b }
+{}
+
+/// The tables of a program that hasn't begun, without output, can be saved.
+#[tactic(auto, using(crate::proofs::AllFit::fresh_savable))]
+pub fn fresh_is_savable()
+    ensures { (pages harts : ℕ) → pages ≤ 1024 → harts ≤ 8 → CanBeSaved harts (fresh pages harts) [] }
 {}

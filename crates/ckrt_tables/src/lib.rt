@@ -1,12 +1,22 @@
 //! Saved tables: a program's tables and the output that it holds are written as bytes, by the one encoding that they have.
 #![tactic(auto)]
 
+mod cursor;
+mod decoding;
 mod encoding;
+mod fitting;
 mod laws;
 mod numbers;
 mod objects;
+mod reading;
+mod reading_objects;
+mod reading_queues;
+mod reading_threads;
 mod threads;
 mod writing;
 
+pub use decoding::decode_tables;
 pub use encoding::{HELD_LIMIT, Held, LONGEST_TABLES, TABLES_ROOM, encode_tables};
-pub use laws::{encodings_are_distinct, fresh_encoding, longest_encoding};
+pub use laws::{
+    decodes_to_one, encodings_are_distinct, fresh_encoding, fresh_is_savable, longest_encoding,
+};

@@ -1,0 +1,8 @@
+use Rattle.ckrt_objects.specs.Appended.{IsTableUpTo}
+use Rattle.ckrt_rwlock.specs.RwLock.{IsTable}
+use Rattle.ckrt_rwlock.proofs.Appended.{table_beginning}
+use Rattle.ckrt_tables.proofs.Entries.{goes_on}
+use Rattle.ckrt_tables.proofs.reading_objects.EntryRwLockRow.append.Goals as goal
+
+pub returns : goal.returns
+returns c = goes_on (IsTableUpTo 64 IsTable) table_beginning c.args.self c.args.table.now c.append.new.self c.append.result c.append.ensures

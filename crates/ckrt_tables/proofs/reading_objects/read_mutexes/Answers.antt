@@ -1,0 +1,12 @@
+use Rattle.std.proofs.Common.{◌≡◌, ◌<◌, ◌^◌, [], arith, rules}
+use Rattle.ckrt_objects.specs.Appended.{IsTableUpTo}
+use Rattle.ckrt_mutex.specs.Mutex.{IsTable}
+use Rattle.ckrt_tables.specs.Records.{counted, two_bytes, mutex_bytes}
+use Rattle.ckrt_tables.specs.Savable.{fits_mutex}
+use Rattle.ckrt_tables.proofs.Entries.{entries_found}
+use Rattle.ckrt_tables.proofs.reading_objects.read_mutexes.Goals as goal
+
+pub returns : goal.returns
+returns c =
+    entries_found (IsTableUpTo 256 IsTable) fits_mutex (counted two_bytes mutex_bytes) (λ n. n < 256 ^ 2) (λ es are. let few = are.table.size in omega (arith, few))
+    c.args.cursor.now c.new-mutexes.result c.read_many.new.table c.read_many.new.cursor (search rules) c.read_many.ensures

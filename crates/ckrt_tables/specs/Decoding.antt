@@ -1,0 +1,59 @@
+-- What decoding gives, and what its readers do. A reader always answers: bytes that are no encoding give any value, and the whole is
+-- encoded again and compared at the end.
+use Rattle.std.specs.Prelude.{◌≡◌, ◌<◌, ◌≤◌, ℕ, Bool, true, Option, Some, None, List, [], ◌∷◌, ◌++◌, length}
+use Rattle.std.specs.List.{list_all}
+use Rattle.arrayvec.specs.ArrayVec.{ArrayVec}
+use Rattle.circular_buffer.specs.Buffer.{Buffer}
+use Rattle.ckrt_calls.specs.declared.table.Tables.{Tables}
+use Rattle.ckrt_tables.specs.Encoding.{encoding_of}
+use Rattle.ckrt_tables.specs.Savable.{CanBeSaved}
+
+-- THE WHOLE
+
+-- what saved tables hold
+pub record Saved : Type 0 where
+  pub tables : Tables
+  -- the output that the program holds, first byte first
+  pub held : List ℕ
+
+-- for a program with so many harts the bytes are the encoding of a state that can be saved
+pub record IsEncodingOf (harts : ℕ) (bytes : List ℕ) (s : Saved) : Type 0 where
+  pub savable : CanBeSaved harts s.tables s.held
+  pub encoded : bytes ≡ encoding_of s.tables s.held
+
+-- what the bytes decode to: the state whose encoding they are, or nothing where they are the encoding of none
+abbrev pub DecodesTo : ℕ → List ℕ → Option Saved → Type 0
+DecodesTo harts bytes (Some s) = IsEncodingOf harts bytes s
+DecodesTo harts bytes None = (s : Saved) → IsEncodingOf harts bytes s → ⊥
+
+-- tables and the ring of held output, without the ring's shape
+abbrev pub saved : Option (Tables × Buffer ℕ) → Option Saved
+saved None = None
+saved (Some found) = Some (record { tables = found.0; held = found.1.items })
+
+-- A READER
+
+-- Where the bytes begin with the encoding of a value that fits its fields, that value is found, and the bytes behind it are left.
+abbrev pub Finds : {X : Type 0} → (X → Bool) → (X → List ℕ) → List ℕ → X → List ℕ → Type 0
+Finds {X = X} fits encoding bytes found left =
+    (x : X) (rest : List ℕ) → fits x ≡ true → bytes ≡ encoding x ++ rest → (found ≡ x) × (left ≡ rest)
+
+-- A READER OF ROWS, each of which goes onto a table at once. `LeadsTo begun rows goal`: the table that is begun is on the way to the
+-- other, and has it with these rows behind its own.
+
+-- The row went behind those that were there: what leads to a table by it and more, leads there by the rest.
+abbrev pub GoesOn : {T R : Type 0} → (T → List R → T → Type 0) → T → R → T → Type 0
+GoesOn {T = T} {R = R} LeadsTo begun row new =
+    (goal : T) (more : List R) → LeadsTo begun (row ∷ more) goal → LeadsTo new more goal
+
+-- Where the bytes begin with the encoding of so many rows, and these lead to a table, that table is reached, and the bytes behind
+-- the rows are left.
+abbrev pub Reaches : {T R : Type 0} → (T → List R → T → Type 0) → (R → Bool) → (List R → List ℕ) → (ℕ → Type 0)
+    → List ℕ → T → T → List ℕ → Type 0
+Reaches {T = T} {R = R} LeadsTo fits encoding IsCount bytes begun reached left =
+    (goal : T) (rows : List R) (rest : List ℕ) → IsCount (length rows) → list_all fits rows ≡ true → LeadsTo begun rows goal
+    → bytes ≡ encoding rows ++ rest → LeadsTo reached [] goal × (left ≡ rest)
+
+-- a vector with room for so many is on the way to another, which has these items behind its own
+abbrev pub FillsUp : {X : Type 0} → ℕ → ArrayVec X → List X → ArrayVec X → Type 0
+FillsUp room begun items goal = (goal.items ≡ begun.items ++ items) × (length goal.items ≤ room)

@@ -1,0 +1,143 @@
+//! Bytes as tables and held output.
+ghost use Rattle.std.specs.Prelude.{◌≡◌, ◌≤◌, ◌∷◌, [], ◌↔◌, IsTrue, IfOk, IfSome, length, true};
+ghost use Rattle.ckrt_calls.specs.WellFormed.{IsWellFormed};
+ghost use Rattle.ckrt_tables.specs.Decoding.{DecodesTo, Finds, IsEncodingOf, Saved, saved};
+ghost use Rattle.ckrt_tables.specs.Encoding.{encoding_of, status_bytes, status_from, IsHeld};
+ghost use Rattle.ckrt_tables.specs.Records.{cause_from, flag};
+ghost use Rattle.ckrt_tables.specs.Savable.{fits_status};
+
+use crate::cursor::Cursor;
+use crate::encoding::{HELD_LIMIT, Held, TABLES_ROOM, encode_tables};
+use crate::fitting::known_savable;
+use crate::reading_objects::{read_barriers, read_mutexes, read_rwlocks};
+use crate::reading_queues::{read_held, read_input};
+use crate::reading_threads::read_threads;
+use ckrt_calls::{InputQueue, Status, Tables};
+use ckrt_rv32i::Cause;
+use ckrt_thread::Threads;
+use std::alloc::{AllocError, Global};
+
+/// The cause that a number of 1 to 9 stands for.
+fn cause_from(number: u8) -> Cause
+    ensures { result ≡ cause_from number }
+{
+    match number {
+        1 => Cause::FetchRange,
+        2 => Cause::Illegal,
+        3 => Cause::JumpMisaligned,
+        4 => Cause::LoadMisaligned,
+        5 => Cause::LoadRange,
+        6 => Cause::StoreMisaligned,
+        7 => Cause::StoreRange,
+        8 => Cause::Breakpoint,
+        _ => Cause::Gate,
+    }
+}
+
+/// Whether no more input comes.
+fn read_closed(cursor: &mut Cursor<'_>) -> bool
+    ensures { Finds (λ b. true) (λ b. flag 1 b ∷ []) cursor.old result cursor.new }
+{
+    cursor.byte() == 1
+}
+
+/// The status of this kind, 0 to 2, with the thread and the cause of a fault, and the exit status or the pc of the fault.
+fn status_from(kind: u8, thread: u8, cause: u8, word: u32) -> Status
+    ensures { result ≡ status_from kind thread cause word }
+{
+    match kind {
+        0 => Status::Running,
+        1 => Status::Exited(word),
+        _ => Status::Faulted(thread, word, cause_from(cause)),
+    }
+}
+
+/// The status of the program.
+fn read_status(cursor: &mut Cursor<'_>) -> Status
+    ensures { Finds fits_status status_bytes cursor.old result cursor.new }
+{
+    let kind = cursor.byte();
+    let thread = cursor.byte();
+    let cause = cursor.byte();
+    let word = cursor.word();
+    status_from(kind, thread, cause, word)
+}
+
+/// Tables and held output, read part by part. Where the bytes are the encoding of a state for so many harts, it is that state;
+/// other bytes may give any.
+fn read_tables(alloc: Global, bytes: &[u8], harts: usize) -> Result<(Tables, Held), AllocError>
+    requires harts { harts ≤ 8 }
+    ensures found { IfOk result (λ found. (s : Saved) → IsEncodingOf harts bytes.now s
+        → (found.0 ≡ s.tables) × (found.1.items ≡ s.held)) }
+    ensures room { IfOk result (λ found. found.1.capacity ≡ HELD_LIMIT) }
+    ensures held { IfOk result (λ found. IsHeld found.1.items) }
+{
+    let mut threads = Threads::empty(alloc, harts)?;
+    let mut input = InputQueue::new(alloc)?;
+    let mut held = Held::with_capacity(alloc, HELD_LIMIT)?;
+    let mut cursor = Cursor::new(bytes);
+    let clock = cursor.long();
+    let closed = read_closed(&mut cursor);
+    let status = read_status(&mut cursor);
+    read_threads(&mut cursor, &mut threads);
+    let mutexes = read_mutexes(&mut cursor);
+    let barriers = read_barriers(&mut cursor);
+    let rwlocks = read_rwlocks(&mut cursor);
+    read_input(&mut cursor, &mut input);
+    read_held(&mut cursor, &mut held);
+    let tables = Tables {
+        threads,
+        mutexes,
+        barriers,
+        rwlocks,
+        clock,
+        input,
+        closed,
+        status,
+    };
+    Ok((tables, held))
+}
+
+/// So many zeros.
+fn zeros(alloc: Global, size: usize) -> Result<Vec<u8>, AllocError>
+    ensures { IfOk result (λ zeros. length zeros.items ≡ size) }
+{
+    let zeros = vec![in alloc; 0; size]?;
+    Ok(zeros)
+}
+
+/// Whether the bytes are the encoding of the tables and the held output, which is written into `room`.
+fn is_encoding(tables: &Tables, held: &Held, room: &mut [u8], bytes: &[u8]) -> bool
+    requires well_formed { IsWellFormed tables.now }
+    requires held { IsHeld held.now.items }
+    requires room { TABLES_ROOM ≤ length room.old }
+    ensures { IsTrue result ↔ (bytes.now ≡ encoding_of tables.now held.now.items) }
+{
+    let size = encode_tables(tables, held, room);
+    let (front, _) = room.split_at(size);
+    bytes == front
+}
+
+/// The tables and the held output that the bytes encode, for a program with so many harts (at most 8); `None` where the bytes
+/// are the encoding of no state that can be saved. The ring of output has room for [`HELD_LIMIT`] bytes. All memory that
+/// tables and ring need is taken here; the only error is that it is refused.
+pub fn decode_tables(
+    alloc: Global,
+    bytes: &[u8],
+    harts: usize,
+) -> Result<Option<(Tables, Held)>, AllocError>
+    requires harts { harts ≤ 8 }
+    ensures exact { IfOk result (λ found. DecodesTo harts bytes.now (saved found)) }
+    ensures room { IfOk result (λ found. IfSome found (λ parts. parts.1.capacity ≡ HELD_LIMIT)) }
+{
+    let (tables, held) = read_tables(alloc, bytes, harts)?;
+    if !tables.is_well_formed() || tables.threads.hart_count() != harts {
+        return Ok(None);
+    }
+    known_savable(&tables, &held);
+    let mut room = zeros(alloc, TABLES_ROOM)?;
+    if !is_encoding(&tables, &held, room.as_mut_slice(), bytes) {
+        return Ok(None);
+    }
+    Ok(Some((tables, held)))
+}
