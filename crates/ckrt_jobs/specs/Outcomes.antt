@@ -8,8 +8,8 @@ use Rattle.ckrt_jobs.specs.declared.running.Unserved.{Unserved}
 use Rattle.ckrt_image.specs.declared.fault.FormatFault.TheVariants as format
 use Rattle.ckrt_image.specs.declared.fault.RecoverFault.{RecoverFault}
 use Rattle.ckrt_image.specs.Recovery.{AgreesOnFault, Recovered}
-use Rattle.ckrt_image.specs.Layout.{size_needed}
-use Rattle.ckrt_image.specs.declared.config.Config.{Config}
+use Rattle.ckrt_checkpoint.specs.Layout.{size_needed}
+use Rattle.ckrt_checkpoint.specs.declared.config.Config.{Config}
 use Rattle.ckrt_words.specs.Jobs.{Formatting}
 
 -- the faults that come before the disk is asked for: configuration, image, and memory for it

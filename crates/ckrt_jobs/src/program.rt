@@ -2,7 +2,7 @@
 ghost use Rattle.std.specs.Prelude.{◌≡◌, ◌≢◌, ◌≤◌, ◌↔◌, [], Some, OnOk, IfErr, IsErrOf, map, true, false};
 ghost use Rattle.std.specs.Io.KnownBytes.{Appends};
 ghost use Rattle.clap.specs.Words.{takes};
-ghost use Rattle.ckrt_image.specs.Layout.{is_valid};
+ghost use Rattle.ckrt_checkpoint.specs.Layout.{is_valid};
 ghost use Rattle.ckrt_image.specs.declared.fault.FormatFault.TheVariants.{BadConfig};
 ghost use Rattle.ckrt_words.specs.Commands.{ckrt_app};
 ghost use Rattle.ckrt_words.specs.Jobs.{Formatting, Request, format, formatting_of, request_of, request_of_words};

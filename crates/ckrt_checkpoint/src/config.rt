@@ -1,5 +1,5 @@
 ghost use Rattle.std.specs.Prelude.{◌≡◌};
-ghost use Rattle.ckrt_image.specs.Layout.{is_valid};
+ghost use Rattle.ckrt_checkpoint.specs.Layout.{is_valid};
 
 /// What a disk is formatted with.
 #[derive(Clone, Copy, Debug, PartialEq, Eq)]

@@ -1,5 +1,5 @@
 use Rattle.std.proofs.Common.{rules}
-use Rattle.ckrt_image.proofs.picking.newest_area.Goals as goal
+use Rattle.ckrt_checkpoint.proofs.picking.newest_area.Goals as goal
 
 pub returns-in_err-area-clause-exact : goal.returns-in_err-area-clause-exact
 returns-in_err-area-clause-exact c = search rules

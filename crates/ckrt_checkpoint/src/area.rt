@@ -2,8 +2,9 @@ use crate::header::Header;
 
 /// One of the two areas, with its header.
 #[derive(Clone, Copy)]
-pub(crate) struct Area {
+pub struct Area {
     /// 0 or 1.
-    pub(crate) index: usize,
-    pub(crate) header: Header,
+    pub index: usize,
+    /// What its header says.
+    pub header: Header,
 }
