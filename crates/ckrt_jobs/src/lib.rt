@@ -4,6 +4,7 @@
 #![tactic(auto)]
 
 mod fault;
+mod file;
 mod filling;
 mod image;
 mod making;
@@ -13,8 +14,10 @@ mod running;
 mod sources;
 mod stored;
 mod system;
+mod version;
 
-pub use fault::{JobFault, ProgramFault};
+pub use fault::JobFault;
+pub use file::{FileFault, JobFile};
 pub use making::make_disk;
 pub use program::run_words;
 pub use running::{Unserved, run_disk};
