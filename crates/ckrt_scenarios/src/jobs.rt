@@ -256,6 +256,31 @@ fn expect_usages<R: Abort + Files<File = File> + AllocGlobal>(rt: &R) {
     expect_usage(rt, "--help");
     expect_usage(rt, "run");
     expect_usage(rt, "run a b");
+    expect_usage(rt, "--version now");
+}
+
+/// A number that isn't one: what is wrong with it, and how numbers are given.
+fn expect_number_usage<R: Abort + Files<File = File> + AllocGlobal>(rt: &R) {
+    let printed = ckrt(rt, "format jobs_h.disk jobs_none.img --pages x", LINES);
+    expect_eq(rt, printed.status, 2);
+    assert!(rt; printed.errors.as_slice().ends_with(NUMBER_USAGE.as_bytes()));
+}
+
+const NUMBER_USAGE: &str = "\nUsage: ckrt format <DISK> <IMAGE> [--pages 16 to 1024] [--harts 1 to 8] [--journal 4096 to 1048576 by 4096]\n";
+
+#[test]
+fn a_wrong_number_gets_the_usage(rt: HostRuntime) {
+    expect_number_usage(&rt);
+}
+
+#[test]
+fn the_version_names_the_kit(rt: HostRuntime) {
+    expect_output(
+        &rt,
+        "--version",
+        "",
+        "ckrt 0.1.0, proved with rattle-kit-13b logic dac8208d650f15bf\n",
+    );
 }
 
 #[test]
