@@ -129,7 +129,11 @@ def saved_case(chance, seed):
     before, after = cut_lines(chance, case)
     disk = case.disk()
     serve_and_save(chance, disk, before)
-    return Case(case.geometry, case.image, lives_of(chance, with_checkpoints(chance, after, 0.05)) + [b"checkpoint\n"], bytes(disk))
+    lives = lives_of(chance, with_checkpoints(chance, after, 0.05)) + [b"checkpoint\n"]
+    if chance.random() < 0.4:
+        ChangedArea(chance, disk).crowd()
+        lives.insert(0, joined(chance, asks(chance, case.geometry.harts)))
+    return Case(case.geometry, case.image, lives, bytes(disk))
 
 
 def tables_case(chance, seed):
@@ -137,15 +141,18 @@ def tables_case(chance, seed):
     case = guest_case(chance, seed)
     disk = case.disk()
     serve_and_save(chance, disk, cut_lines(chance, case)[0])
-    ChangedArea(chance, disk)
-    return Case(case.geometry, case.image, [joined(chance, asks(case.geometry.harts))], bytes(disk))
+    area = ChangedArea(chance, disk)
+    if chance.random() < 0.6:
+        area.crowd()
+    area.damage()
+    return Case(case.geometry, case.image, [joined(chance, asks(chance, case.geometry.harts))], bytes(disk))
 
 
 def stopped_case(chance, seed):
     """A disk as a stop within a commit or checkpoint leaves it."""
     case = guest_case(chance, seed)
     disk, after = stopped_disk(chance, case.disk(), cut_lines(chance, case)[0])
-    return Case(case.geometry, case.image, [joined(chance, after), joined(chance, asks(case.geometry.harts))], bytes(disk))
+    return Case(case.geometry, case.image, [joined(chance, after), joined(chance, asks(chance, case.geometry.harts))], bytes(disk))
 
 
 def checkpoints_case(chance, seed):

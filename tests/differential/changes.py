@@ -10,6 +10,7 @@ from objects import Mutex, ReadWriteLock
 from processor import Cause
 from threads import UNWIND, Handler, State, Status, Thread, Wait, WaitKind
 
+HELD = (WaitKind.LOCK, WaitKind.RETAKE, WaitKind.CONDITION, WaitKind.READ, WaitKind.WRITE)
 ODD_IDS = [0, 1, 2, 3, 63, 64, 65, 255]
 
 
@@ -112,6 +113,31 @@ def add_wait(chance, saved):
     state.waits.insert(chance.choice([0, len(state.waits)]), wait)
 
 
+def make_waiter_hold(chance, saved):
+    """A waiter comes to hold what it waits for, in a way that its wait may forbid."""
+    state = saved.state
+    wait = some(chance, [wait for wait in state.waits if wait.kind in HELD])
+    if wait is None:
+        return
+    if wait.kind in (WaitKind.READ, WaitKind.WRITE):
+        lock = state.locks.setdefault(wait.subject, ReadWriteLock())
+        if chance.random() < 0.5:
+            lock.readers[wait.thread] = 1
+        else:
+            lock.writer = wait.thread
+        return
+    address = wait.mutex if wait.kind is WaitKind.CONDITION else wait.subject
+    kind = chance.choice([0, 1, 1, 2])
+    state.mutexes[address] = Mutex(kind, wait.thread, chance.choice([1, 65534, 65535]) if kind == 1 else 1)
+
+
+def part_condition(chance, saved):
+    """One of a condition's waiters names another mutex."""
+    wait = some(chance, [wait for wait in saved.state.waits if wait.kind is WaitKind.CONDITION])
+    if wait is not None:
+        wait.mutex = chance.choice(saved.addresses())
+
+
 def change_harts(chance, saved):
     saved.state.harts[chance.randrange(8)] = chance.choice(saved.ids() + [0, 0, 65])
 
@@ -194,7 +220,7 @@ def change_status(chance, saved):
 
 
 CHANGES = {change_thread: 5, end_all: 1, change_wait: 6, add_wait: 5, change_harts: 2, change_mutex: 4, change_lock: 4,
-           change_barrier: 2, change_queues: 2, change_clock: 2, change_status: 3}
+           change_barrier: 2, change_queues: 2, change_clock: 2, change_status: 3, make_waiter_hold: 5, part_condition: 2}
 
 
 def change(chance, saved):

@@ -6,13 +6,13 @@ are left.
 import struct
 
 from changes import Saved, change, damaged_bytes
+from crowds import crowded
 from damage import batch
 from devices import MemoryDisk, StoppingDisk, filled
 from events import Place, Run, Tick
-from layout import (CLOSED, COUNTERS, HEADER, HEADER_AT, LAST_GENERATION, OPEN, SUPERBLOCK, SUPERBLOCK_AT, TABLES_LIMIT,
-                    Geometry, Header, header_of, write_gate)
+from layout import (CLOSED, COUNTERS, HEADER_AT, LAST_GENERATION, OPEN, TABLES_LIMIT, Header, header_of, write_gate)
 from lines import LineFault, parse, run_command, serve_disk
-from recovery import Unrecovered, pick_area, read_area, tables_of
+from recovery import Unrecovered, pick_area, read_area, read_superblock, tables_of
 from session import Session
 from streams import joined
 from tables import encode_tables
@@ -42,24 +42,33 @@ def serve_and_save(chance, disk, lines):
     serve_disk(disk, joined(chance, fed))
 
 
-def asks(harts):
+def asks(chance, harts):
     """Which threads are ready; then some steps for each that is."""
-    placed = [b"place %d %d" % (number % harts, number) for number in range(1, 8)]
-    return placed + ASKS + placed + [b"auto %d 50" % (harts - 1)] * 6 + [b"checkpoint"]
+    placed = [b"place %d %d" % (number % harts, number) for number in [*range(1, 8), *chance.sample(range(8, 65), 12)]]
+    return placed + ASKS + placed + [b"auto %d 50" % (harts - 1)] * 12 + [b"checkpoint"]
 
 
 class ChangedArea:
-    """Changes of what the area in use saves, or of its header; most leave nothing that recovery takes."""
+    """Changes of what the area in use saves, or of its header."""
 
     def __init__(self, chance, disk):
-        self.chance, self.disk, self.device = chance, disk, MemoryDisk(disk)
-        *_, pages, harts, journal = SUPERBLOCK.unpack(self.device.read(SUPERBLOCK_AT, SUPERBLOCK.size))
-        self.geometry = Geometry(pages, harts, journal)
+        self.chance, self.device = chance, MemoryDisk(disk)
+        self.geometry = read_superblock(self.device)
         self.area = pick_area(self.device, self.geometry)
+
+    def damage(self):
+        """Most leave nothing that recovery takes."""
         kinds = {self.change_state: 10, self.change_bytes: 2, self.change_header: 2, self.change_other_area: 1,
                  self.change_journal: 1}
-        for kind in chance.choices(list(kinds), kinds.values(), k=chance.choice([1, 1, 1, 2])):
+        for kind in self.chance.choices(list(kinds), kinds.values(), k=self.chance.choice([1, 1, 1, 2])):
             kind()
+
+    def crowd(self):
+        """A crowd in the place of the state; its journal is emptied."""
+        found = read_area(self.device, self.geometry)
+        state = crowded(self.chance, found.machine, found.held, self.geometry.harts)
+        self.write_tables(encode_tables(state, found.held))
+        write_gate(self.device, self.geometry.journal_at(self.area), CLOSED)
 
     def header(self):
         return header_of(self.device, self.geometry, self.area)
