@@ -7,6 +7,7 @@ from assembler import call_words, image_of, jump_form
 from call_by_call import Script, flavour_of
 from computations import computation
 from damage import Damage
+from formats import format_case
 from guests import Guest
 from layout import Geometry, format_disk
 from limits import limit_case
@@ -168,7 +169,7 @@ def checkpoints_case(chance, seed):
 KINDS = {
     "threads": threads_case, "calls": calls_case, "processor": processor_case, "lines": lines_case, "lives": lives_case,
     "disks": disks_case, "killed": killed_case, "limits": limits_case, "saved": saved_case, "tables": tables_case,
-    "stopped": stopped_case, "checkpoints": checkpoints_case,
+    "stopped": stopped_case, "checkpoints": checkpoints_case, "formats": format_case,
 }
 
 

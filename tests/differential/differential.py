@@ -12,6 +12,7 @@ from pathlib import Path
 from abi import Call
 from cases import KINDS, case_of
 from devices import MemoryDisk
+from formats import FormatCase
 from layout import fresh_tables
 from lines import serve_disk
 from listing import listing
@@ -71,13 +72,11 @@ def listing_of_model(disk):
 
 
 def listing_of_program(ckrt, path):
-    done = subprocess.run([ckrt, "inspect", path], stdin=subprocess.DEVNULL, capture_output=True, timeout=TIME_LIMIT)
-    return Life(done.returncode, done.stdout, done.stderr)
+    return shown_by(ckrt, ["inspect", path])
 
 
 def life_of_program(ckrt, path, data):
-    done = subprocess.run([ckrt, "run", path], input=data, capture_output=True, timeout=TIME_LIMIT)
-    return Life(done.returncode, done.stdout, done.stderr)
+    return shown_by(ckrt, ["run", path], data)
 
 
 def killed_life(ckrt, path, data, expected):
@@ -101,23 +100,42 @@ def killed_life(ckrt, path, data, expected):
         return Life(None, replies + (child.stdout.read() or b""), child.stderr.read())
 
 
-def formats_alike(ckrt, case, folder):
-    """The program's own formatting gives the model's bytes; what it prints is the size."""
+def shown_by(ckrt, words, data=b""):
+    """Of standard error the last line is compared: it has the name of the fault."""
+    done = subprocess.run([ckrt, *words], input=data, capture_output=True, timeout=TIME_LIMIT)
+    return Life(done.returncode, done.stdout, b"".join(done.stderr.splitlines(keepends=True)[-1:]))
+
+
+def difference_of_format(ckrt, case, folder, tally):
+    """None, or in a few words where the two differ."""
     disk, image = folder / "formatted", folder / "image"
     image.write_bytes(case.image)
     disk.unlink(missing_ok=True)
+    if case.before is not None:
+        disk.write_bytes(case.before)
     sizes = [str(number) for number in (case.geometry.pages, case.geometry.harts, case.geometry.journal)]
     options = [word for pair in zip(("--pages", "--harts", "--journal"), sizes) for word in pair]
-    done = subprocess.run([ckrt, "format", disk, image, *options], capture_output=True, timeout=TIME_LIMIT)
-    shown = (done.returncode, done.stdout, done.stderr)
-    return shown == (0, b"formatted %d\n" % case.geometry.size, b"") and disk.read_bytes() == case.disk()
+    shown = shown_by(ckrt, ["format", disk, image, *options])
+    refusal, after = case.outcome()
+    tally["format", refusal or "formatted"] += 1
+    if refusal is None:
+        expected = Life(0, b"formatted %d\n" % case.geometry.size, b"")
+    else:
+        expected = Life(1, b"", f"ckrt: {refusal}\n".encode())
+    if shown != expected:
+        return f"format: {place_of_difference(expected, shown)}"
+    return None if after == (disk.read_bytes() if disk.exists() else None) else "format: the disk's bytes"
 
 
 def first_difference(ckrt, case, folder, awaited, tally, count_life):
     """Runs a case; None, or in a few words where the two differ."""
+    if isinstance(case, FormatCase):
+        return difference_of_format(ckrt, case, folder, tally)
     disk, path = case.disk(), folder / "disk"
-    if case.damaged is None and not formats_alike(ckrt, case, folder):
-        return "format"
+    if case.damaged is None:
+        difference = difference_of_format(ckrt, FormatCase(case.geometry, case.image, None), folder, tally)
+        if difference is not None:
+            return difference
     path.write_bytes(disk)
     for number, data in enumerate(case.lives, 1):
         if "checkpoint" in awaited:
@@ -169,7 +187,8 @@ def run_case(ckrt, kind, seed, folder, awaited, totals):
             file.unlink()
         work.rmdir()
         return
-    (work / "disk.before").write_bytes(case.disk())
+    if not isinstance(case, FormatCase):
+        (work / "disk.before").write_bytes(case.disk())
     totals.differences.append(f"{kind} {seed}")
     print(f"DIFFERENCE {kind} {seed}: {difference}\n  files in {work}\n"
           f"  again: python3 {Path(__file__).name} {ckrt} {folder} --kinds {kind} --seed {seed} --count 1", flush=True)
