@@ -14,6 +14,8 @@ mod conditions;
 #[cfg(test)]
 mod contention;
 #[cfg(test)]
+mod decoded_tables;
+#[cfg(test)]
 mod disks;
 #[cfg(test)]
 mod events;

@@ -2,7 +2,7 @@
 //!
 //! All numbers have their lowest byte first. No byte here comes from the program: each was written down from the format.
 
-use crate::expect::{expect_bytes, expect_eq};
+use crate::expect::{expect_bytes, expect_eq, filled, push};
 use arrayvec::ArrayVec;
 use circular_buffer::HeapCircularBuffer;
 use ckrt_barrier::{Barrier, Barriers};
@@ -29,51 +29,59 @@ fn held<R: Abort + AllocGlobal>(rt: &R, bytes: &[u8]) -> Held {
     held
 }
 
-/// What the tables and this output are saved as.
-fn expect_encoding<R: Abort + AllocGlobal>(rt: &R, tables: &Tables, output: &[u8], want: &[u8]) {
-    let held = held(rt, output);
-    let mut room = Vec::new(rt.alloc());
-    room.resize(TABLES_ROOM, 0xEE)
-        .expect(rt, "memory for tables");
+/// What the tables and the output are saved as; the room behind it stays as it was.
+pub fn expect_encoding<R: Abort + AllocGlobal>(
+    rt: &R,
+    tables: &Tables,
+    held: &Held,
+    want: &[u8],
+) {
+    let mut room = filled(rt, 0xEE, TABLES_ROOM);
     assert!(rt; tables.is_well_formed());
     assert!(rt; held.len() <= HELD_LIMIT);
-    let length = encode_tables(tables, &held, room.as_mut_slice());
+    let length = encode_tables(tables, held, room.as_mut_slice());
     assert!(rt; length <= room.len());
     let (front, back) = room.as_slice().split_at(length);
     expect_bytes(rt, front, want);
     assert!(rt; back.iter().all(|byte| *byte == 0xEE));
 }
 
-/// More bytes behind those that there are.
-fn push<R: Abort>(rt: &R, bytes: &mut Vec<u8>, more: &[u8]) {
-    bytes.extend_from_slice(more).expect(rt, "memory for bytes");
-}
-
 /// So many zeros behind the bytes that there are.
-fn push_zeros<R: Abort>(rt: &R, bytes: &mut Vec<u8>, count: usize) {
+pub fn push_zeros<R: Abort>(rt: &R, bytes: &mut Vec<u8>, count: usize) {
     for _ in 0..count {
         push(rt, bytes, &[0]);
     }
+}
+
+/// The one thread of a program that hasn't begun, behind the count of threads.
+pub fn push_initial_thread<R: Abort>(rt: &R, bytes: &mut Vec<u8>) {
+    // Its number, the flag of the initial thread, no handler; it doesn't unwind.
+    push(rt, bytes, &[1, 1, 1, 0, 0, 0, 0, 0, 0]);
+    // It begins at 0x1000, returns to 0xFFFFFFF0, and has its stack at 65,536.
+    push(rt, bytes, &[0x00, 0x10, 0x00, 0x00]);
+    push(rt, bytes, &[0xF0, 0xFF, 0xFF, 0xFF]);
+    push(rt, bytes, &[0x00, 0x00, 0x01, 0x00]);
+    push_zeros(rt, bytes, 29 * 4);
+}
+
+/// The tables of a program that hasn't begun.
+pub fn fresh_bytes<R: Abort + AllocGlobal>(rt: &R) -> Vec<u8> {
+    let mut bytes = Vec::new(rt.alloc());
+    // The clock, whether the input ended, the status, and eight idle harts.
+    push_zeros(rt, &mut bytes, 8 + 1 + 7 + 8);
+    push_initial_thread(rt, &mut bytes);
+    // No wait, mutex, barrier or read-write lock, no input and no output.
+    push_zeros(rt, &mut bytes, 1 + 2 + 1 + 1 + 2 + 2);
+    bytes
 }
 
 /// The tables of a program that hasn't begun: 170 bytes.
 #[test]
 fn fresh_tables_have_170_bytes(rt: HostRuntime) {
     let tables = Tables::new(rt.alloc(), 16, 1).expect(&rt, "memory for tables");
-    let mut want = Vec::new(rt.alloc());
-    // The clock, whether the input ended, the status, and eight idle harts.
-    push_zeros(&rt, &mut want, 8 + 1 + 7 + 8);
-    // One thread: its number, the flag of the initial thread, no handler; it doesn't unwind.
-    push(&rt, &mut want, &[1, 1, 1, 0, 0, 0, 0, 0, 0]);
-    // It begins at 0x1000, returns to 0xFFFFFFF0, and has its stack at 65,536.
-    push(&rt, &mut want, &[0x00, 0x10, 0x00, 0x00]);
-    push(&rt, &mut want, &[0xF0, 0xFF, 0xFF, 0xFF]);
-    push(&rt, &mut want, &[0x00, 0x00, 0x01, 0x00]);
-    push_zeros(&rt, &mut want, 29 * 4);
-    // No wait, mutex, barrier or read-write lock, no input and no output.
-    push_zeros(&rt, &mut want, 1 + 2 + 1 + 1 + 2 + 2);
+    let want = fresh_bytes(&rt);
     expect_eq(&rt, want.len(), 170);
-    expect_encoding(&rt, &tables, b"", want.as_slice());
+    expect_encoding(&rt, &tables, &held(&rt, b""), want.as_slice());
 }
 
 /// A thread with zeros in its registers, at a pc.
@@ -392,30 +400,41 @@ fn push_objects<R: Abort>(rt: &R, want: &mut Vec<u8>) {
     push(rt, want, &[0x40, 0x30, 0, 0, 0, 2, 1, 2, 0, 10, 1, 0]);
 }
 
+/// Everything that tables can hold, but for a wait for input.
+fn tables_with_everything<R: Abort + AllocGlobal>(rt: &R) -> Tables {
+    Tables {
+        threads: threads_with_everything(rt),
+        mutexes: mutexes(rt),
+        barriers: barriers(rt),
+        rwlocks: rwlocks(rt),
+        clock: 5,
+        input: input(rt),
+        closed: true,
+        status: Status::Running,
+    }
+}
+
+/// The same as bytes, with the output `out`.
+pub fn bytes_of_everything<R: Abort + AllocGlobal>(rt: &R) -> Vec<u8> {
+    let mut bytes = Vec::new(rt.alloc());
+    // The clock, that the input has ended, that the program runs, and thread 1 on hart 1.
+    push(rt, &mut bytes, &[5, 0, 0, 0, 0, 0, 0, 0]);
+    push(rt, &mut bytes, &[1, 0, 0, 0, 0, 0, 0, 0]);
+    push(rt, &mut bytes, &[0, 1, 0, 0, 0, 0, 0, 0]);
+    push_threads(rt, &mut bytes);
+    push_waits(rt, &mut bytes);
+    push_objects(rt, &mut bytes);
+    push(rt, &mut bytes, &[2, 0, 0x68, 0x69]);
+    push(rt, &mut bytes, &[3, 0, 0x6F, 0x75, 0x74]);
+    bytes
+}
+
 /// Everything that tables can hold, but for a wait for input, has the bytes of the format.
 #[test]
 fn tables_with_everything_have_their_bytes(rt: HostRuntime) {
-    let tables = Tables {
-        threads: threads_with_everything(&rt),
-        mutexes: mutexes(&rt),
-        barriers: barriers(&rt),
-        rwlocks: rwlocks(&rt),
-        clock: 5,
-        input: input(&rt),
-        closed: true,
-        status: Status::Running,
-    };
-    let mut want = Vec::new(rt.alloc());
-    // The clock, that the input has ended, that the program runs, and thread 1 on hart 1.
-    push(&rt, &mut want, &[5, 0, 0, 0, 0, 0, 0, 0]);
-    push(&rt, &mut want, &[1, 0, 0, 0, 0, 0, 0, 0]);
-    push(&rt, &mut want, &[0, 1, 0, 0, 0, 0, 0, 0]);
-    push_threads(&rt, &mut want);
-    push_waits(&rt, &mut want);
-    push_objects(&rt, &mut want);
-    push(&rt, &mut want, &[2, 0, 0x68, 0x69]);
-    push(&rt, &mut want, &[3, 0, 0x6F, 0x75, 0x74]);
-    expect_encoding(&rt, &tables, b"out", want.as_slice());
+    let tables = tables_with_everything(&rt);
+    let held = held(&rt, b"out");
+    expect_encoding(&rt, &tables, &held, bytes_of_everything(&rt).as_slice());
 }
 
 /// A row that no well-formed table goes on with is refused, and the table stays as it was.

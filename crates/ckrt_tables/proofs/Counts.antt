@@ -1,11 +1,9 @@
 -- The counts of a lock's readers are known by the readers that they are.
-use Rattle.std.proofs.Common.{◌≡◌, ℕ, zero, suc, ◌+◌, ◌≤◌, ◌<◌, ◌==◌, Bool, true, false, if◌then◌else◌, List, [], ◌∷◌, ◌++◌, length, length-append, replicate, refl, sym, ap, ◌∙◌, append_assoc, arith}
+use Rattle.std.proofs.Common.{◌≡◌, ℕ, zero, suc, ◌+◌, ◌≤◌, ◌==◌, Bool, true, false, if◌then◌else◌, List, [], ◌∷◌, ◌++◌, length, length-append, replicate, refl, sym, ap, ◌∙◌, append_assoc, arith}
 use Rattle.std.proofs.lemmas.Bool.Decides.{nat_tests}
-use Rattle.std.proofs.lemmas.List.{append-nil}
 use Rattle.std.proofs.Math.Seq.{set-append_seam}
 use Rattle.std.specs.Prelude.{slice_set}
 use Rattle.std.specs.List.{list_all}
-use Rattle.ckrt_tables.specs.declared.reading_objects.Reader.{Reader}
 use Rattle.ckrt_tables.specs.Records.{reader_at, readers_from}
 use Rattle.ckrt_tables.specs.Savable.{is_half}
 use Rattle.ckrt_tables.specs.Objects.{fits_reader, with_readers}
@@ -35,11 +33,11 @@ readers_fit k (suc n ∷ ns) few f =
 counts_behind : (k : ℕ) (done ns : List ℕ) → length done ≡ k → with_readers (readers_from k ns) (done ++ replicate (length ns) 0) ≡ done ++ ns
 counts_behind k done [] at = refl
 counts_behind k done (zero ∷ ns) at =
-    let zeros = replicate (length ns) 0 in
+    let zeros : List ℕ = replicate (length ns) 0 in
     let size : length (done ++ 0 ∷ []) ≡ suc k = omega (arith, length-append done (0 ∷ []), at) in
     ap (with_readers (readers_from (suc k) ns)) (sym (append_assoc done (0 ∷ []) zeros)) ∙ counts_behind (suc k) (done ++ 0 ∷ []) ns size ∙ append_assoc done (0 ∷ []) ns
 counts_behind k done (suc n ∷ ns) at =
-    let zeros = replicate (length ns) 0 in
+    let zeros : List ℕ = replicate (length ns) 0 in
     let size : length (done ++ suc n ∷ []) ≡ suc k = omega (arith, length-append done (suc n ∷ []), at) in
     let here : slice_set (done ++ 0 ∷ zeros) k (suc n) ≡ (done ++ suc n ∷ []) ++ zeros =
     ap (λ i. slice_set (done ++ 0 ∷ zeros) i (suc n)) (sym at) ∙ set-append_seam done 0 zeros (suc n) ∙ sym (append_assoc done (suc n ∷ []) zeros) in

@@ -33,7 +33,6 @@ pub fn decodes_to_one()
 {}
 
 /// The tables of a program that hasn't begun, without output, can be saved.
-#[tactic(auto, using(crate::proofs::AllFit::fresh_savable))]
 pub fn fresh_is_savable()
     ensures { (pages harts : ℕ) → pages ≤ 1024 → harts ≤ 8 → CanBeSaved harts (fresh pages harts) [] }
 {}

@@ -1,0 +1,338 @@
+//! Bytes that are decoded as saved tables. All were written down from the format, and none comes from the program.
+
+use crate::expect::{expect_eq, expect_eq_at, push};
+use crate::saved_tables::{bytes_of_everything, expect_encoding, fresh_bytes, push_initial_thread, push_zeros};
+use ckrt_calls::{Status, Tables};
+use ckrt_rv32i::Cause;
+use ckrt_tables::{Held, decode_tables};
+use std::process::Abort;
+
+/// What bytes decode to.
+fn decoded<R: Abort + AllocGlobal>(rt: &R, bytes: &[u8], harts: usize) -> Option<(Tables, Held)> {
+    assert!(rt; harts <= 8);
+    decode_tables(rt.alloc(), bytes, harts).expect(rt, "memory for tables")
+}
+
+/// The bytes decode to nothing.
+fn expect_nothing<R: Abort + AllocGlobal>(rt: &R, bytes: &[u8], harts: usize) {
+    let found = decoded(rt, bytes, harts).is_some();
+    expect_eq_at(rt, bytes.len(), found, false);
+}
+
+/// What the bytes decode to, if they decode to anything, is saved as these bytes. Answers whether they do.
+fn is_exact<R: Abort + AllocGlobal>(rt: &R, bytes: &[u8], harts: usize) -> bool {
+    match decoded(rt, bytes, harts) {
+        Some((tables, held)) => {
+            expect_encoding(rt, &tables, &held, bytes);
+            true
+        }
+        None => false,
+    }
+}
+
+/// The bytes decode to what is saved as these bytes.
+fn expect_decoded<R: Abort + AllocGlobal>(rt: &R, bytes: &[u8], harts: usize) {
+    let found = is_exact(rt, bytes, harts);
+    expect_eq_at(rt, bytes.len(), found, true);
+}
+
+/// The status of what the bytes decode to.
+fn expect_status<R: Abort + AllocGlobal>(rt: &R, bytes: &[u8], want: Status) {
+    let status = decoded(rt, bytes, 1).map(|(tables, _)| tables.status);
+    expect_eq(rt, status, Some(want));
+}
+
+/// One byte becomes another.
+fn change<R: Abort>(rt: &R, bytes: &mut Vec<u8>, place: usize, byte: u8) {
+    assert!(rt; place < bytes.len());
+    bytes[place] = byte;
+}
+
+/// The bytes of a program that hasn't begun decode, and those of one with everything that tables can hold.
+#[test]
+fn what_was_saved_is_decoded(rt: HostRuntime) {
+    expect_decoded(&rt, fresh_bytes(&rt).as_slice(), 1);
+    expect_decoded(&rt, fresh_bytes(&rt).as_slice(), 8);
+    expect_decoded(&rt, bytes_of_everything(&rt).as_slice(), 2);
+}
+
+/// No byte may be missing, and none may stand behind.
+#[test]
+fn a_byte_more_or_fewer_is_nothing(rt: HostRuntime) {
+    let mut bytes = bytes_of_everything(&rt);
+    let length = bytes.len();
+    for size in 0..length {
+        let (front, _) = bytes.as_slice().split_at(size);
+        expect_nothing(&rt, front, 2);
+    }
+    push(&rt, &mut bytes, &[0]);
+    expect_nothing(&rt, bytes.as_slice(), 2);
+}
+
+/// Harts that the program doesn't have are idle.
+#[test]
+fn thread_on_a_missing_hart_is_nothing(rt: HostRuntime) {
+    expect_nothing(&rt, bytes_of_everything(&rt).as_slice(), 1);
+    expect_decoded(&rt, bytes_of_everything(&rt).as_slice(), 3);
+}
+
+/// 200 bytes of everything that tables can hold, one at a time with one bit turned: each time there is nothing, or what is
+/// saved as just these bytes.
+#[test]
+fn changed_bytes_are_nothing_or_exact(rt: HostRuntime) {
+    let mut bytes = bytes_of_everything(&rt);
+    let length = bytes.len();
+    assert!(&rt; length > 0);
+    for number in 0..200usize {
+        let place = number * 41 % length;
+        turn_a_bit(&rt, &mut bytes, place, number % 8);
+        is_exact(&rt, bytes.as_slice(), 2);
+        turn_a_bit(&rt, &mut bytes, place, number % 8);
+    }
+    expect_decoded(&rt, bytes.as_slice(), 2);
+}
+
+/// One bit of one byte, 0 to 7, is turned.
+fn turn_a_bit<R: Abort>(rt: &R, bytes: &mut Vec<u8>, place: usize, bit: usize) {
+    assert!(rt; place < bytes.len() && bit < 8);
+    bytes[place] ^= 1 << bit;
+}
+
+/// A byte of the tables of a program that hasn't begun, what it becomes, and whether the bytes decode then. The clock is
+/// at 0 to 7, whether the input ended at 8, the status at 9 to 15, the harts at 16 to 23; the record of the thread begins
+/// at 25, its flags are at 26, its value at 29, its pc at 33, x1 at 37; waits, mutexes, barriers and locks are counted at
+/// 161 to 165, input and output at 166 to 169.
+const CHANGES: [(usize, u8, bool); 36] = [
+    (0, 1, true),
+    (7, 0x7F, true),
+    (7, 0x80, false),
+    (8, 1, true),
+    (8, 2, false),
+    (9, 1, true),
+    (9, 2, false),
+    (9, 3, false),
+    (10, 1, false),
+    (11, 1, false),
+    (12, 1, false),
+    (16, 1, true),
+    (16, 2, false),
+    (17, 1, false),
+    (24, 0, false),
+    (24, 2, false),
+    (25, 0, false),
+    (25, 64, true),
+    (25, 65, false),
+    (26, 0, true),
+    (26, 31, true),
+    (26, 32, false),
+    (26, 36, true),
+    (26, 44, false),
+    (26, 64, false),
+    (26, 128, false),
+    (27, 1, false),
+    (28, 1, false),
+    (29, 1, false),
+    (33, 2, false),
+    (33, 4, true),
+    (37, 0, true),
+    (161, 1, false),
+    (162, 1, false),
+    (166, 1, false),
+    (168, 1, false),
+];
+
+/// The bytes of a program that hasn't begun with one of them changed.
+fn expect_changed<R: Abort + AllocGlobal>(rt: &R, place: usize, byte: u8, is_there: bool) {
+    let mut bytes = fresh_bytes(rt);
+    change(rt, &mut bytes, place, byte);
+    let found = is_exact(rt, bytes.as_slice(), 1);
+    expect_eq_at(rt, (place, byte), found, is_there);
+}
+
+/// Each field takes what it may hold, and no more.
+#[test]
+fn fields_take_what_they_may_hold(rt: HostRuntime) {
+    for (place, byte, is_there) in CHANGES.iter() {
+        expect_changed(&rt, *place, *byte, *is_there);
+    }
+}
+
+/// A program with this status that hasn't begun.
+fn bytes_with_status<R: Abort + AllocGlobal>(rt: &R, status: &[u8; 7]) -> Vec<u8> {
+    let mut bytes = Vec::new(rt.alloc());
+    push_zeros(rt, &mut bytes, 8 + 1);
+    push(rt, &mut bytes, status);
+    push_zeros(rt, &mut bytes, 8);
+    push_initial_thread(rt, &mut bytes);
+    push_zeros(rt, &mut bytes, 1 + 2 + 1 + 1 + 2 + 2);
+    bytes
+}
+
+/// A program that has exited, and one that has faulted.
+#[test]
+fn statuses_are_decoded(rt: HostRuntime) {
+    let exited = bytes_with_status(&rt, &[1, 0, 0, 4, 3, 2, 1]);
+    expect_status(&rt, exited.as_slice(), Status::Exited(0x0102_0304));
+    let faulted = bytes_with_status(&rt, &[2, 1, 2, 0x04, 0x10, 0, 0]);
+    let illegal = Status::Faulted(1, 0x1004, Cause::Illegal);
+    expect_status(&rt, faulted.as_slice(), illegal);
+    let at_gate = bytes_with_status(&rt, &[2, 1, 9, 0xF4, 0xFF, 0xFF, 0xFF]);
+    let gate = Status::Faulted(1, 0xFFFF_FFF4, Cause::Gate);
+    expect_status(&rt, at_gate.as_slice(), gate);
+}
+
+/// Statuses that no program has: of a thread that isn't there, a cause above 9, and a pc that is no multiple of 4.
+#[test]
+fn statuses_of_no_program_are_nothing(rt: HostRuntime) {
+    let no_thread = bytes_with_status(&rt, &[2, 2, 2, 0x04, 0x10, 0, 0]);
+    expect_nothing(&rt, no_thread.as_slice(), 1);
+    let no_cause = bytes_with_status(&rt, &[2, 1, 10, 0x04, 0x10, 0, 0]);
+    expect_nothing(&rt, no_cause.as_slice(), 1);
+    let no_pc = bytes_with_status(&rt, &[2, 1, 2, 0x06, 0x10, 0, 0]);
+    expect_nothing(&rt, no_pc.as_slice(), 1);
+}
+
+/// A program whose one thread has ended.
+fn bytes_of_ended<R: Abort + AllocGlobal>(rt: &R, status: u8) -> Vec<u8> {
+    let mut bytes = Vec::new(rt.alloc());
+    push_zeros(rt, &mut bytes, 8 + 1);
+    push(rt, &mut bytes, &[status]);
+    push_zeros(rt, &mut bytes, 6 + 8);
+    push(rt, &mut bytes, &[1, 1, 64, 0, 0, 4, 3, 2, 1]);
+    push_zeros(rt, &mut bytes, 32 * 4 + 1 + 2 + 1 + 1 + 2 + 2);
+    bytes
+}
+
+/// All threads have ended only in a program that has exited.
+#[test]
+fn threads_have_ended_in_an_exited_program(rt: HostRuntime) {
+    expect_decoded(&rt, bytes_of_ended(&rt, 1).as_slice(), 1);
+    expect_nothing(&rt, bytes_of_ended(&rt, 0).as_slice(), 1);
+}
+
+/// Waits and objects behind a program's only thread, the input, and whether all of it is decoded.
+struct Case {
+    waits: &'static [u8],
+    objects: &'static [u8],
+    input: &'static [u8],
+    is_there: bool,
+}
+
+/// No wait.
+const NO_WAIT: &[u8] = &[0];
+
+/// No mutex, barrier or read-write lock.
+const NO_OBJECT: &[u8] = &[0, 0, 0, 0];
+
+/// Thread 1 waits for input.
+const FOR_INPUT: &[u8] = &[1, 1, 8, 0, 0, 0, 0, 0, 0, 0, 0, 0, 0, 0, 0, 0, 0, 0, 0, 0, 0];
+
+/// Thread 1 waits to lock the mutex at 0x3000.
+const FOR_A_MUTEX: &[u8] = &[
+    1, 1, 2, 0, 0, 0, 0x30, 0, 0, 0, 0, 0, 0, 0, 0, 0, 0, 0, 0, 0, 0,
+];
+
+/// The bytes of a case.
+fn bytes_of<R: Abort + AllocGlobal>(rt: &R, case: &Case) -> Vec<u8> {
+    let mut bytes = Vec::new(rt.alloc());
+    push_zeros(rt, &mut bytes, 8 + 1 + 7 + 8);
+    push_initial_thread(rt, &mut bytes);
+    push(rt, &mut bytes, case.waits);
+    push(rt, &mut bytes, case.objects);
+    push(rt, &mut bytes, case.input);
+    push_zeros(rt, &mut bytes, 2);
+    bytes
+}
+
+/// A case of waits, mutexes and input.
+const fn waiting(
+    waits: &'static [u8],
+    objects: &'static [u8],
+    input: &'static [u8],
+    is_there: bool,
+) -> Case {
+    Case {
+        waits,
+        objects,
+        input,
+        is_there,
+    }
+}
+
+/// A case of objects alone.
+const fn holding(objects: &'static [u8], is_there: bool) -> Case {
+    waiting(NO_WAIT, objects, &[0, 0], is_there)
+}
+
+/// Who waits for input, and who waits for a mutex: its kind, its owner, its count.
+const WAITING: [Case; 11] = [
+    waiting(FOR_INPUT, NO_OBJECT, &[0, 0], true),
+    waiting(FOR_INPUT, NO_OBJECT, &[1, 0, 65], false),
+    waiting(NO_WAIT, NO_OBJECT, &[1, 0, 65], true),
+    waiting(FOR_A_MUTEX, NO_OBJECT, &[0, 0], false),
+    waiting(FOR_A_MUTEX, &[1, 0, 0, 0x30, 0, 0, 0, 1, 1, 0, 0, 0], &[0, 0], true),
+    waiting(FOR_A_MUTEX, &[1, 0, 0, 0x30, 0, 0, 0, 2, 1, 0, 0, 0], &[0, 0], true),
+    waiting(FOR_A_MUTEX, &[1, 0, 0, 0x30, 0, 0, 1, 1, 1, 0, 0, 0], &[0, 0], false),
+    waiting(FOR_A_MUTEX, &[1, 0, 0, 0x30, 0, 0, 1, 2, 7, 0, 0, 0], &[0, 0], true),
+    waiting(FOR_A_MUTEX, &[1, 0, 0, 0x30, 0, 0, 2, 0, 0, 0, 0, 0], &[0, 0], false),
+    waiting(FOR_A_MUTEX, &[1, 0, 4, 0x30, 0, 0, 0, 2, 1, 0, 0, 0], &[0, 0], false),
+    waiting(FOR_A_MUTEX, &[1, 0, 0, 0x30, 0, 0, 2, 2, 1, 0, 0, 0], &[0, 0], true),
+];
+
+/// Mutexes, barriers and locks that tables may have, and that they may not have.
+const HOLDING: [Case; 26] = [
+    // A mutex: normal and free, of kind 3, of owner 64 and 65, counted wrongly.
+    holding(&[1, 0, 0, 0x30, 0, 0, 0, 0, 0, 0, 0, 0], false),
+    holding(&[1, 0, 0, 0x30, 0, 0, 1, 0, 0, 0, 0, 0], true),
+    holding(&[1, 0, 0, 0x30, 0, 0, 3, 0, 0, 0, 0, 0], false),
+    holding(&[1, 0, 0, 0x30, 0, 0, 0, 64, 1, 0, 0, 0], true),
+    holding(&[1, 0, 0, 0x30, 0, 0, 0, 65, 1, 0, 0, 0], false),
+    holding(&[1, 0, 0, 0x30, 0, 0, 0, 1, 2, 0, 0, 0], false),
+    holding(&[1, 0, 0, 0x30, 0, 0, 1, 1, 0xFF, 0xFF, 0, 0], true),
+    holding(&[1, 0, 0, 0x30, 0, 0, 1, 1, 0, 0, 0, 0], false),
+    holding(&[1, 0, 0, 0x30, 0, 0, 1, 0, 1, 0, 0, 0], false),
+    // Two mutexes by rising, equal and falling addresses.
+    holding(&[2, 0, 0, 1, 0, 0, 2, 0, 0, 0, 1, 1, 0, 0, 2, 0, 0, 0, 0, 0], true),
+    holding(&[2, 0, 1, 1, 0, 0, 2, 0, 0, 0, 1, 1, 0, 0, 2, 0, 0, 0, 0, 0], false),
+    holding(&[2, 0, 2, 1, 0, 0, 2, 0, 0, 0, 1, 1, 0, 0, 2, 0, 0, 0, 0, 0], false),
+    // A barrier for one thread, for 2^32 - 1, and for none.
+    holding(&[0, 0, 1, 0, 0x30, 0, 0, 1, 0, 0, 0, 0], true),
+    holding(&[0, 0, 1, 0, 0x30, 0, 0, 0xFF, 0xFF, 0xFF, 0xFF, 0], true),
+    holding(&[0, 0, 1, 0, 0x30, 0, 0, 0, 0, 0, 0, 0], false),
+    // A lock that nobody holds, and that thread 64 or 65 writes under.
+    holding(&[0, 0, 0, 1, 0, 0x30, 0, 0, 0, 0], false),
+    holding(&[0, 0, 0, 1, 0, 0x30, 0, 0, 64, 0], true),
+    holding(&[0, 0, 0, 1, 0, 0x30, 0, 0, 65, 0], false),
+    // Readers: 1 and 64, by falling and by equal ids, 0 and 65, without a read lock, beside a writer.
+    holding(&[0, 0, 0, 1, 0, 0x30, 0, 0, 0, 2, 1, 1, 0, 64, 0xFF, 0xFF], true),
+    holding(&[0, 0, 0, 1, 0, 0x30, 0, 0, 0, 2, 64, 1, 0, 1, 1, 0], false),
+    holding(&[0, 0, 0, 1, 0, 0x30, 0, 0, 0, 2, 1, 1, 0, 1, 1, 0], false),
+    holding(&[0, 0, 0, 1, 0, 0x30, 0, 0, 0, 1, 0, 1, 0], false),
+    holding(&[0, 0, 0, 1, 0, 0x30, 0, 0, 0, 1, 65, 1, 0], false),
+    holding(&[0, 0, 0, 1, 0, 0x30, 0, 0, 0, 1, 1, 0, 0], false),
+    holding(&[0, 0, 0, 1, 0, 0x30, 0, 0, 2, 1, 1, 1, 0], false),
+    holding(&[0, 0, 0, 1, 0, 0x30, 0, 0, 0, 1, 1, 1, 0], true),
+];
+
+/// A case, by its number.
+fn expect_case<R: Abort + AllocGlobal>(rt: &R, number: usize, case: &Case) {
+    let bytes = bytes_of(rt, case);
+    let found = is_exact(rt, bytes.as_slice(), 1);
+    expect_eq_at(rt, number, found, case.is_there);
+}
+
+/// Nobody waits where it needn't.
+#[test]
+fn waits_are_decoded_where_they_may_be(rt: HostRuntime) {
+    for (number, case) in WAITING.iter().enumerate() {
+        expect_case(&rt, number, case);
+    }
+}
+
+/// Each kind of object has the numbers that it may have.
+#[test]
+fn objects_are_decoded_as_they_may_be(rt: HostRuntime) {
+    for (number, case) in HOLDING.iter().enumerate() {
+        expect_case(&rt, number, case);
+    }
+}
