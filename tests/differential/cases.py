@@ -112,8 +112,8 @@ def limits_case(chance, seed):
 
 
 def guest_case(chance, seed):
-    """A case of either guest, or at times one that fills something."""
-    kind = chance.choices([threads_case, calls_case, limits_case], [6, 8, 1])[0]
+    """A case of either guest, or at times one that fills something or computes."""
+    kind = chance.choices([threads_case, calls_case, limits_case, processor_case], [6, 8, 1, 1])[0]
     return kind(chance, seed)
 
 
