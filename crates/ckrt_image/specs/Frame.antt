@@ -1,5 +1,5 @@
 -- Which bytes of an image don't matter to what it recovers to, and how a checkpoint takes over.
-use Rattle.std.specs.Prelude.{◌≡◌, ◌≤◌, ◌<◌, ◌-◌, ◌⊎◌, ℕ, true, false, List, Ok}
+use Rattle.std.specs.Prelude.{◌≡◌, ◌≤◌, ◌<◌, ◌+◌, ◌-◌, ◌⊎◌, ℕ, true, false, List, Ok}
 use Rattle.ckrt_disk.specs.Disk.{IsWithin}
 use Rattle.ckrt_disk.specs.Frame.{IsSameOutside}
 use Rattle.ckrt_journal.specs.Chain.{journal_bytes}
@@ -46,3 +46,9 @@ IsNewest c area image = (header_of c (1 - area.index) image).is_open ≡ true �
 abbrev pub IsSwitched : Type 0
 IsSwitched = (c : Config) (area : Area) (memory : List ℕ) (s : Saved) (image : List ℕ) → superblock_of image ≡ Ok c → HoldsState c area memory s image → IsNewest c area image
     → Recovers image (Ok (unreplayed c area memory s))
+
+-- CHECKPOINTS
+
+-- what was recovered, in the other area, of one generation more, and no event is journaled behind it
+abbrev pub in_other_area : Recovered → Recovered
+in_other_area r = record r { area = 1 - r.area; generation = r.generation + 1; journal = journal_of r.config (1 - r.area) }
