@@ -25,6 +25,7 @@ use Rattle.ckrt_checkpoint.specs.Areas.{area_of, newest_area}
 use Rattle.ckrt_checkpoint.specs.Fields.{HasBytes, header_fields}
 use Rattle.ckrt_checkpoint.specs.Layout.{is_valid, is_open, memory_size, size_needed, area_at, tables_at, memory_at, journal_of, number_at, header_in, header_of, memory_of}
 use Rattle.ckrt_checkpoint.proofs.ByteLemmas.{stays, number_is, byte_is}
+use Rattle.ckrt_checkpoint.proofs.HoldLemmas.{header_gate, header_stands}
 use Rattle.ckrt_image.specs.declared.fault.RecoverFault.TheVariants.{NotFormatted, Damaged}
 use Rattle.ckrt_image.specs.declared.fault.RecoverFault.{RecoverFault}
 use Rattle.ckrt_image.specs.Superblock.{MAGIC, config_within, superblock_fields, superblock_in, superblock_of}
@@ -34,7 +35,7 @@ use Rattle.ckrt_image.specs.Programs.{start_of}
 use Rattle.ckrt_image.specs.Fields.{fresh_header, fresh_memory, HasFreshArea, IsFresh}
 use Rattle.ckrt_image.specs.Format.{FormatsAt, FormatsBehindGate, IsFormatted, IsFormatting}
 use Rattle.ckrt_image.proofs.RecoverLemmas.{found, from_fault}
-use Rattle.ckrt_image.proofs.SwitchLemmas.{header_stands, switched}
+use Rattle.ckrt_image.proofs.SwitchLemmas.{switched}
 
 -- WRITES
 
@@ -164,7 +165,8 @@ module _ (c : Config) (guest image : List ℕ) (valid : is_valid c ≡ true) (gu
       let size : length (fresh_memory c guest) ≡ memory_size c = grind (arith, common_steps, guest_fits) in
       record {
         index = omega arith;
-        header = header_stands c 0 fresh_header image refl (lit< tt) (lit< tt) (lit< tt) (lit< tt) (lit< tt) fresh.area.gate fresh.area.header;
+        header = header_stands c 0 fresh_header image (record { generation = lit< tt; count = lit< tt; offset = lit< tt; tables = lit< tt; version = lit< tt })
+            (sym (header_gate c 0 image) ∙ ap (λ x. nat_eq x 165) (byte_is image (area_at c 0) 40 165 (omega arith) fresh.area.gate)) fresh.area.header;
         opened = refl;
         checked = refl;
         end = refl;

@@ -1,19 +1,13 @@
--- How the newest area of an image takes over, and what stands in an area by its bytes.
-use Rattle.std.proofs.Common.{◌≡◌, ◌⊎◌, inl, inr, ℕ, ◌+◌, ◌≤◌, ◌<◌, ◌^◌, true, false, cond, nat_eq, List, [], ◌∷◌, length, get_or, take, drop, None, Result, Ok, Err, refl, sym, ◌∙◌, ap, subst, arith}
+-- How the newest area of an image takes over.
+use Rattle.std.proofs.Common.{◌≡◌, ◌⊎◌, inl, inr, ℕ, ◌+◌, ◌≤◌, false, cond, List, [], length, take, drop, None, Ok, ◌∙◌, ap, subst, arith}
 use Rattle.std.proofs.lemmas.Bool.{cases_lt}
-use Rattle.std.proofs.lemmas.List.{drop-drop}
 use Rattle.byteorder.specs.Endian.{little_number}
 use Rattle.ckrt_journal.specs.Chain.{batches_of, batch_of_length, found_then, journal_bytes}
 use Rattle.ckrt_journal.proofs.ChainLemmas.{chain_more}
-use Rattle.ckrt_tables.specs.Decoding.{DecodesTo, Saved}
-use Rattle.ckrt_tables.specs.Encoding.{encoding_of}
+use Rattle.ckrt_tables.specs.Decoding.{Saved}
 use Rattle.ckrt_checkpoint.specs.declared.area.Area.{Area}
 use Rattle.ckrt_checkpoint.specs.declared.config.Config.{Config}
-use Rattle.ckrt_checkpoint.specs.declared.header.Header.{Header}
-use Rattle.ckrt_checkpoint.specs.Fields.{HasBytes, header_fields}
-use Rattle.ckrt_checkpoint.specs.Layout.{area_at, header_in, header_of, is_open, journal_of, memory_of, number_at, tables_of}
-use Rattle.ckrt_checkpoint.proofs.ByteLemmas.{byte_is, number_is}
-use Rattle.ckrt_image.specs.declared.fault.RecoverFault.{RecoverFault}
+use Rattle.ckrt_checkpoint.specs.Layout.{is_open, journal_of, memory_of}
 use Rattle.ckrt_image.specs.Frame.{HoldsState, IsNewest, IsSwitched}
 use Rattle.ckrt_image.specs.Superblock.{superblock_of}
 use Rattle.ckrt_image.specs.Recovery.{Recovered, Recovers, replayed_batches, replayed_journal, unreplayed}
@@ -37,22 +31,3 @@ switched c area memory s image superblock holds newest =
     let begun : Recovered = unreplayed c area (memory_of c area.index image) s in
     let no_events : replayed_journal image begun ≡ ok begun = ap (λ t. replayed_batches begun t) (no_batch (journal_bytes (journal_of c area.index) image) holds.no_batch) ∙ replayed-none begun holds.savable.is_held in
     subst (Recovers image) (no_events ∙ ap (λ (m : List ℕ). ok (unreplayed c area m s)) holds.pages) (from_state image c area s is (record { savable = holds.savable; encoded = holds.tables }) holds.end)
-
--- AN AREA BY ITS BYTES
-
--- the header whose gate and fields stand there
-pub header_stands : (c : Config) (b : ℕ) (h : Header) (image : List ℕ) → h.is_open ≡ true → h.generation < 256 ^ 8 → h.count < 256 ^ 8 → h.offset < 256 ^ 8 → h.tables < 256 ^ 4 → h.version < 256 ^ 4
-    → HasBytes image (area_at c b) (165 ∷ []) → HasBytes image (area_at c b + 8) (header_fields h) → header_of c b image ≡ h
-header_stands c b h image opened generation count offset tables version gate fields =
-    let wide : length (header_fields h) ≡ 32 = refl in
-    let block = drop (area_at c b) image in
-    let has : HasBytes block 8 (header_fields h) = ap (λ (l : List ℕ). take 32 l) (drop-drop 8 (area_at c b) image) ∙ fields in
-    is (take 40 block) (ap (λ x. nat_eq x 165) (byte_is image (area_at c b) 40 165 (omega arith) gate) ∙ sym opened)
-    (number_is 8 8 40 h.generation block 8 0 (header_fields h) refl (omega arith) (omega arith) has refl generation)
-    (number_is 8 16 40 h.count block 8 8 (header_fields h) refl (omega arith) (omega arith) has refl count)
-    (number_is 8 24 40 h.offset block 8 16 (header_fields h) refl (omega arith) (omega arith) has refl offset)
-    (number_is 4 32 40 h.tables block 8 24 (header_fields h) refl (omega arith) (omega arith) has refl tables)
-    (number_is 4 36 40 h.version block 8 28 (header_fields h) refl (omega arith) (omega arith) has refl version)
-  where
-    is : (block : List ℕ) → is_open block ≡ h.is_open → number_at 8 8 block ≡ h.generation → number_at 8 16 block ≡ h.count → number_at 8 24 block ≡ h.offset → number_at 4 32 block ≡ h.tables → number_at 4 36 block ≡ h.version → header_in block ≡ h
-    is block o g n f t v = rw (o, g, n, f, t, v) refl
