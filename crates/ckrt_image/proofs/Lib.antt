@@ -3,4 +3,5 @@ pub mod RecoverLemmas
 pub mod ReplayLemmas
 pub mod GrowthLemmas
 pub mod SwitchLemmas
+mod SaveLemmas
 mod FormatLemmas

@@ -4,7 +4,7 @@ use thiserror::Error;
 /// Why a session refuses an event.
 #[derive(Clone, Copy, Debug, PartialEq, Eq, Error)]
 pub enum SubmitFault {
-    /// The disk failed a commit before: the session has to be recovered.
+    /// The disk failed a commit or a checkpoint before: the session has to be recovered.
     #[error("Failed")]
     Failed,
     /// The machine refuses it.
@@ -21,13 +21,16 @@ pub enum SubmitFault {
     CountersUsed,
 }
 
-/// Why a commit acknowledged nothing.
+/// Why a commit or a checkpoint acknowledged nothing.
 #[derive(Clone, Copy, Debug, PartialEq, Eq, Error)]
 pub enum CommitFault {
-    /// The disk failed a commit before: the session has to be recovered.
+    /// The disk failed a commit or a checkpoint before: the session has to be recovered.
     #[error("Failed")]
     Failed,
     /// The disk failed a call.
     #[error("Device")]
     Device,
+    /// The area in use has the last generation, 2^64 - 1. Only a checkpoint answers it, and changes nothing.
+    #[error("GenerationsUsed")]
+    GenerationsUsed,
 }
