@@ -18,7 +18,7 @@ returns-then-not-ends_in_range-clause-exact g c = λ honest.
     let past : is_end_in_range area s.held ≡ false = search rules in
     record {
       saved = Some s;
-      decodes = read.0;
+      decodes = read.decodes;
       gives = ap (λ b. cond b (ok (unreplayed config area (memory_of config area.index image) s)) (Err Damaged)) past;
     }
 
@@ -33,9 +33,9 @@ returns-clause-exact g c = λ honest.
     let within : is_end_in_range area s.held ≡ true = search rules in
     record {
       saved = Some s;
-      decodes = read.0;
+      decodes = read.decodes;
       gives = ap (λ b. cond b (ok (unreplayed config area (memory_of config area.index image) s)) (Err Damaged)) within
-          ∙ ap (λ (m : List _). ok (unreplayed config area m s)) (sym read.1)
+          ∙ ap (λ (m : List _). ok (unreplayed config area m s)) (sym read.pages)
           ∙ ap (λ (j : Journal). ok (record (unreplayed config area memory s) { journal = j })) (sym c.journal_of.ensures)
           ∙ ap (λ (x : State). ok (record (unreplayed config area memory s) { journal = c.journal_of.result; state = x })) (sym c.from_parts.ensures.state);
     }
