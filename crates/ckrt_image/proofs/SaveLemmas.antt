@@ -169,7 +169,7 @@ pub saving_recovers : (p : Progress) (tables content image : List ℕ) (r : Reco
 saving_recovers p tables content image r was savable encoded few last saving = ⊎_elim
     (λ closed. inl (closing p tables content image r was closed))
     (λ more. ⊎_elim
-        (λ (filling : IsFilling p.config (1 - p.area) content image). inl (kept p tables content image r was filling.outside filling.gate))
-        (λ has. inr (saved_recovers p tables content image r was savable encoded few last has))
-        more)
+    (λ (filling : IsFilling p.config (1 - p.area) content image). inl (kept p tables content image r was filling.outside filling.gate))
+    (λ has. inr (saved_recovers p tables content image r was savable encoded few last has))
+    more)
     saving
