@@ -18,12 +18,11 @@ const ECHO: [u8; 16] = [
 
 /// Where area 0 begins, and its tables.
 const AREA: usize = 4_096;
+
 const TABLES: usize = 8_192;
 
 /// After 2 events, with the first 5 bytes of output confirmed, and 192 bytes of tables: the header from its byte 16 on.
-const FIELDS: [u8; 20] = [
-    2, 0, 0, 0, 0, 0, 0, 0, 5, 0, 0, 0, 0, 0, 0, 0, 192, 0, 0, 0,
-];
+const FIELDS: [u8; 20] = [2, 0, 0, 0, 0, 0, 0, 0, 5, 0, 0, 0, 0, 0, 0, 0, 192, 0, 0, 0];
 
 /// Thread 1 waits for input behind its first call, on no hart, and "xy" is held.
 fn waiting_tables<R: Abort + AllocGlobal>(rt: &R) -> Vec<u8> {
@@ -32,7 +31,11 @@ fn waiting_tables<R: Abort + AllocGlobal>(rt: &R) -> Vec<u8> {
     push_zeros(rt, &mut bytes, 24);
     // One thread: id 1, initial, no handler, pc 0x1008, x1 the return gate, x2 the memory's end, x17 the call's number.
     push(rt, &mut bytes, &[1, 1, 1, 0, 0, 0, 0, 0, 0]);
-    push(rt, &mut bytes, &[8, 0x10, 0, 0, 0xf0, 0xff, 0xff, 0xff, 0, 0, 1, 0]);
+    push(
+        rt,
+        &mut bytes,
+        &[8, 0x10, 0, 0, 0xf0, 0xff, 0xff, 0xff, 0, 0, 1, 0],
+    );
     push_zeros(rt, &mut bytes, 14 * 4);
     push(rt, &mut bytes, &[3, 0, 0, 0]);
     push_zeros(rt, &mut bytes, 14 * 4);
