@@ -8,6 +8,8 @@ import statistics
 import subprocess
 import sys
 
+from results import note
+
 ROUNDS = 7
 # Guests with threads, and their harts: the plain interpreter has no threads, so they have no ratio.
 THREADED = {"locks-4": 4, "locks-crowded": 4, "matmul-big": 4, "plain-4": 4}
@@ -55,6 +57,7 @@ def calls(machine, guests):
     print(f"a plain instruction: {plain / steps * 1e9:.1f} ns")
     for name in ("locks-4", "locks-crowded"):
         cost = (seconds_of(machine, os.path.join(guests, name + ".bin"), steps) - plain) / CALLS
+        note("run", f"a call in {name}", "ns", cost * 1e9, plain / steps * 1e9)
         print(f"a call in {name}: {cost * 1e9:.0f} ns, {cost * steps / plain:.0f} plain instructions")
 
 
@@ -71,6 +74,7 @@ def main():
             continue
         base, ours = compare(plain, machine, path)
         ratios.append(ours / base)
+        note("run", name, "steps/s", ours, base, ("", ours / base, ""))
         print(f"{name:14} {base / 1e6:15.0f} {ours / 1e6:17.0f} {ours / base:6.2f}")
     if ratios:
         print(f"geometric mean of the ratios: {statistics.geometric_mean(ratios):.2f}")

@@ -11,6 +11,8 @@ import statistics
 import subprocess
 import sys
 
+from results import note
+
 ROUNDS = 60
 APPENDS = 12
 # The first appends to a file that was just made are slow in both, and not counted.
@@ -73,10 +75,12 @@ def main():
     programs = [plain, proved]
     for size in (7, 4096):
         (base, ours), (low, middle, high) = appends(programs, folder, size)
+        note("journal", f"append of at most {size} bytes", "us", ours, base, (low, middle, high))
         print(f"append of at most {size} bytes: plain {base:.1f} us, proved {ours:.1f} us, ratio {middle:.3f} ({low:.3f} to {high:.3f})")
     ((_, base), (reading, rest)), events = decoding(programs)
     print(f"{events} events: plain {events / base * 1e3:.0f} million a second")
     print(f"proved: read_chain {events / reading * 1e3:.0f}, decode_events and its iterator {events / rest * 1e3:.0f}, both {events / (reading + rest) * 1e3:.0f}")
+    note("journal", "reading and decoding an event", "ns", (reading + rest) / events, base / events)
     print(f"both beside the plain loop: {(reading + rest) / base:.2f} times its time")
 
 

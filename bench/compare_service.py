@@ -15,6 +15,8 @@ import subprocess
 import sys
 import time
 
+from results import note
+
 ROUNDS = 30
 STEP_ROUNDS = 15
 COMMITS = 40
@@ -61,9 +63,10 @@ def plain_time(plain, path):
     return statistics.mean(int(word) for word in text.split()[WARM_UP:])
 
 
-def ratio_of(ours, base):
-    """The median of the rounds' ratios, and its quartiles."""
+def noted(what, unit, ours, base):
+    """The median of the rounds' ratios, and its quartiles, as they are printed and kept."""
     low, middle, high = statistics.quantiles([mine / plain for mine, plain in zip(ours, base)], n=4)
+    note("service", what, unit, statistics.median(ours), statistics.median(base), (low, middle, high))
     return f"ratio {middle:.3f} ({low:.3f} to {high:.3f})"
 
 
@@ -79,7 +82,7 @@ def commits(plain, ckrt, image, folder):
             ours.append(commit_time(ckrt, disk))
             base.append(plain_time(plain, journal))
     os.remove(disk)
-    print(f"commit: plain {statistics.median(base) / 1e3:.1f} us, ckrt run {statistics.median(ours) / 1e3:.1f} us, {ratio_of(ours, base)}")
+    print(f"commit: plain {statistics.median(base) / 1e3:.1f} us, ckrt run {statistics.median(ours) / 1e3:.1f} us, {noted('commit', 'ns', ours, base)}")
 
 
 def piped(command, lines, _folder):
@@ -134,7 +137,7 @@ def steps(ckrt, machine, image, folder):
             ours[name].append(service_rate(ckrt, disk, image, count // 65_535, feed))
     print(f"steps: machine alone {statistics.median(base) / 1e6:.0f} million a second")
     for name, rates in ours.items():
-        print(f"steps, {name}: ckrt run {statistics.median(rates) / 1e6:.0f} million a second, {ratio_of(rates, base)}")
+        print(f"steps, {name}: ckrt run {statistics.median(rates) / 1e6:.0f} million a second, {noted('steps, ' + name, 'steps/s', rates, base)}")
 
 
 def recovery(ckrt, machine, image, folder):
@@ -154,7 +157,7 @@ def recovery(ckrt, machine, image, folder):
         run([ckrt, "run", disk])
         ours.append(time.perf_counter() - start)
     os.remove(disk)
-    print(f"recovery: bytes and steps {statistics.median(base) * 1e3:.0f} ms, ckrt run {statistics.median(ours) * 1e3:.0f} ms, {ratio_of(ours, base)}")
+    print(f"recovery: bytes and steps {statistics.median(base) * 1e3:.0f} ms, ckrt run {statistics.median(ours) * 1e3:.0f} ms, {noted('recovery', 's', ours, base)}")
 
 
 def resident(ckrt, path, image, pages):
@@ -180,6 +183,8 @@ def main():
     recovery(ckrt, machine, image, folder)
     disk = os.path.join(folder, "service.disk")
     alone, mapped = resident(ckrt, disk, image, 1_024)
+    note("service", "resident, process alone", "KiB", alone)
+    note("service", "resident, with program and C library", "KiB", mapped)
     print(f"resident with 1,024 pages: {alone} KiB, with program and C library {mapped} KiB")
 
 

@@ -4,9 +4,11 @@ The model runs along while the lines are made: so the next call can depend on wh
 """
 from abi import ALL_ONES, RETURN_GATE, UNWIND_GATE, Call
 from choices import FLAVOURS, RETURN_TO_X1, Chooser
-from disk import Geometry, Session, format_disk
+from devices import MemoryDisk
+from layout import Geometry, format_disk
 from lines import parse, run_command
 from record_guest import (DUMP_STEPS, LABELS, STEPS_TO_CALL, STEPS_TO_TOP, image_with, next_record, write_record)
+from session import Session
 from threads import THREAD_IDS
 
 PRINTER = 2  # the id of the printing thread
@@ -21,7 +23,7 @@ class Script:
         self.chance, self.flavour = chance, flavour
         self.geometry = Geometry(16, chance.choice([1, 2, 3, 8]), 1 << 20)
         self.records, self.lines, self.idle_turns = [], [], 0
-        self.session = Session(format_disk(self.geometry, image_with([])))
+        self.session = Session(MemoryDisk(format_disk(self.geometry, image_with([]))))
         self.machine = self.session.machine
         self.chooser = Chooser(chance, self.machine, flavour)
         self.begin()

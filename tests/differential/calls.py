@@ -9,7 +9,7 @@ from typing import Callable
 
 from abi import ALL_ONES, MOMENTS, Call, Error
 from objects import retake_mutex
-from threads import THREAD_IDS, UNWIND, Handler, Status, WaitKind, new_thread
+from threads import THREAD_IDS, UNWIND, Handler, WaitKind, new_thread
 
 HANDLERS = 16
 
@@ -72,8 +72,8 @@ def moment_of(low, high):
 
 @guest_call(Call.EXIT, arguments=1)
 def exit_process(state, caller, status):
-    """No handler runs. No reply tells the status."""
-    state.status = Status.EXITED
+    """No handler runs. No reply tells the status, but saved tables do."""
+    state.end_process(status)
     return MOVED
 
 

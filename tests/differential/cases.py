@@ -7,9 +7,11 @@ from assembler import call_words, image_of, jump_form
 from call_by_call import Script, flavour_of
 from computations import computation
 from damage import Damage
-from disk import Geometry, format_disk
+from formats import format_case
 from guests import Guest
+from layout import Geometry, format_disk
 from limits import limit_case
+from saved_disks import ChangedArea, asks, serve_and_save, stopped_disk, with_checkpoints
 from streams import MALFORMED, joined, last_lines, mangled, random_lines
 
 
@@ -109,9 +111,65 @@ def limits_case(chance, seed):
     return Case(*limit_case(chance, seed))
 
 
+def guest_case(chance, seed):
+    """A case of either guest, or at times one that fills something or computes."""
+    kind = chance.choices([threads_case, calls_case, limits_case, processor_case], [6, 8, 1, 1])[0]
+    return kind(chance, seed)
+
+
+def cut_lines(chance, case):
+    """The lines of the first life, cut in two."""
+    lines = case.lives[0].splitlines()
+    cut = chance.randrange(1, len(lines) + 1)
+    return lines[:cut], lines[cut:]
+
+
+def saved_case(chance, seed):
+    """A disk with a saved state that the model reached, and the lines that are left."""
+    case = guest_case(chance, seed)
+    before, after = cut_lines(chance, case)
+    disk = case.disk()
+    serve_and_save(chance, disk, before)
+    lives = lives_of(chance, with_checkpoints(chance, after, 0.05)) + [b"checkpoint\n"]
+    if chance.random() < 0.4:
+        ChangedArea(chance, disk).crowd()
+        lives.insert(0, joined(chance, asks(chance, case.geometry.harts)))
+    return Case(case.geometry, case.image, lives, bytes(disk))
+
+
+def tables_case(chance, seed):
+    """A saved state, changed: mostly one that is well-formed no more."""
+    case = guest_case(chance, seed)
+    disk = case.disk()
+    serve_and_save(chance, disk, cut_lines(chance, case)[0])
+    area = ChangedArea(chance, disk)
+    if chance.random() < 0.6:
+        area.crowd()
+    area.damage()
+    return Case(case.geometry, case.image, [joined(chance, asks(chance, case.geometry.harts))], bytes(disk))
+
+
+def stopped_case(chance, seed):
+    """A disk as a stop within a commit or checkpoint leaves it."""
+    case = guest_case(chance, seed)
+    disk, after = stopped_disk(chance, case.disk(), cut_lines(chance, case)[0])
+    return Case(case.geometry, case.image, [joined(chance, after), joined(chance, asks(chance, case.geometry.harts))], bytes(disk))
+
+
+def checkpoints_case(chance, seed):
+    """Lives with checkpoints, at times killed."""
+    case = guest_case(chance, seed)
+    lines = with_checkpoints(chance, case.lives[0].splitlines(), chance.choice([0.02, 0.1, 0.3]))
+    case.lives, case.is_killed = lives_of(chance, lines), chance.random() < 0.2
+    if case.is_killed:
+        case.lives = [life.replace(b"quit\n", b"") for life in case.lives]
+    return case
+
+
 KINDS = {
     "threads": threads_case, "calls": calls_case, "processor": processor_case, "lines": lines_case, "lives": lives_case,
-    "disks": disks_case, "killed": killed_case, "limits": limits_case,
+    "disks": disks_case, "killed": killed_case, "limits": limits_case, "saved": saved_case, "tables": tables_case,
+    "stopped": stopped_case, "checkpoints": checkpoints_case, "formats": format_case,
 }
 
 

@@ -2,10 +2,12 @@
 import struct
 
 from abi import ALL_ONES
-from disk import CLOSED, OPEN, TABLES_AT, Geometry, Session, format_disk
+from devices import MemoryDisk
 from events import Eof, Input, Place, Run, Tick
 from guests import Guest
-from lines import serve
+from layout import CLOSED, OPEN, TABLES_AT, Geometry, format_disk
+from lines import serve_disk
+from session import Session
 from streams import random_lines
 
 TICK = Tick(1).encoding()
@@ -31,8 +33,8 @@ class Damage:
         self.disk = format_disk(self.geometry, Guest(chance).image)
         lines = random_lines(chance, self.geometry.harts)[:chance.choice([3, 8, 20])]
         commits = [b"commit\n" if chance.random() < 0.3 else b"" for _ in lines]
-        serve(self.disk, b"".join(line + b"\n" + commit for line, commit in zip(lines, commits)) + b"commit\n")
-        self.used = Session(self.disk).journal_used
+        serve_disk(self.disk, b"".join(line + b"\n" + commit for line, commit in zip(lines, commits)) + b"commit\n")
+        self.used = Session(MemoryDisk(self.disk)).journal_used
         self.areas = [self.geometry.area_at(area) for area in (0, 1)]
         self.journal = self.geometry.journal_at(0)
         kinds = [self.superblock, self.header, self.second_header, self.second_area, self.journal_byte, self.journal_tail,

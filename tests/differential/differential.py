@@ -11,10 +11,19 @@ from pathlib import Path
 
 from abi import Call
 from cases import KINDS, case_of
-from disk import Unrecovered
-from lines import serve
+from devices import MemoryDisk
+from formats import FormatCase
+from layout import fresh_tables
+from lines import serve_disk
+from listing import listing
+from recovery import Unrecovered, tables_of
+from session import Session
 
 TIME_LIMIT = 60
+# What the program doesn't do yet, until it does: saved tables other than the fresh ones (Damaged till then), the line
+# `checkpoint`, the word `inspect`.
+AWAITED = {"tables", "checkpoint", "inspect"}
+NEEDS = {"saved": "tables", "tables": "tables", "stopped": "tables", "checkpoints": "checkpoint"}
 
 
 @dataclass(frozen=True)
@@ -34,10 +43,12 @@ class Totals:
     answers: Counter = field(default_factory=Counter)
 
 
-def life_of_model(disk, data, is_killed, tally):
+def life_of_model(disk, data, is_killed, awaited, tally):
     """Changes the disk's bytes."""
     try:
-        replies = serve(disk, data, tally)
+        if "tables" in awaited:
+            refuse_saved_tables(disk)
+        replies = serve_disk(disk, data, tally)
     except Unrecovered as fault:
         tally["recovery", str(fault)] += 1
         return Life(1, b"", f"ckrt: {fault}\n".encode())
@@ -45,9 +56,27 @@ def life_of_model(disk, data, is_killed, tally):
     return Life(None if is_killed else 0, b"".join(reply.encode() + b"\n" for reply in replies), b"")
 
 
+def refuse_saved_tables(disk):
+    """Damage, where the disk recovers by tables that aren't those of a fresh machine."""
+    session = Session(MemoryDisk(bytearray(disk)))
+    if tables_of(session.disk, session.geometry, session.recovered.area) != fresh_tables(session.geometry.pages):
+        raise Unrecovered("Damaged")
+
+
+def listing_of_model(disk):
+    """What `inspect` shows, as a life."""
+    try:
+        return Life(0, listing(bytearray(disk)).encode(), b"")
+    except Unrecovered as fault:
+        return Life(1, b"", f"ckrt: {fault}\n".encode())
+
+
+def listing_of_program(ckrt, path):
+    return shown_by(ckrt, ["inspect", path])
+
+
 def life_of_program(ckrt, path, data):
-    done = subprocess.run([ckrt, "run", path], input=data, capture_output=True, timeout=TIME_LIMIT)
-    return Life(done.returncode, done.stdout, done.stderr)
+    return shown_by(ckrt, ["run", path], data)
 
 
 def killed_life(ckrt, path, data, expected):
@@ -71,27 +100,48 @@ def killed_life(ckrt, path, data, expected):
         return Life(None, replies + (child.stdout.read() or b""), child.stderr.read())
 
 
-def formats_alike(ckrt, case, folder):
-    """The program's own formatting gives the model's bytes; what it prints is the size."""
+def shown_by(ckrt, words, data=b""):
+    """Of standard error the last line is compared: it has the name of the fault."""
+    done = subprocess.run([ckrt, *words], input=data, capture_output=True, timeout=TIME_LIMIT)
+    return Life(done.returncode, done.stdout, b"".join(done.stderr.splitlines(keepends=True)[-1:]))
+
+
+def difference_of_format(ckrt, case, folder, tally):
+    """None, or in a few words where the two differ."""
     disk, image = folder / "formatted", folder / "image"
     image.write_bytes(case.image)
     disk.unlink(missing_ok=True)
+    if case.before is not None:
+        disk.write_bytes(case.before)
     sizes = [str(number) for number in (case.geometry.pages, case.geometry.harts, case.geometry.journal)]
     options = [word for pair in zip(("--pages", "--harts", "--journal"), sizes) for word in pair]
-    done = subprocess.run([ckrt, "format", disk, image, *options], capture_output=True, timeout=TIME_LIMIT)
-    shown = (done.returncode, done.stdout, done.stderr)
-    return shown == (0, b"formatted %d\n" % case.geometry.size, b"") and disk.read_bytes() == case.disk()
+    shown = shown_by(ckrt, ["format", disk, image, *options])
+    refusal, after = case.outcome()
+    tally["format", refusal or "formatted"] += 1
+    if refusal is None:
+        expected = Life(0, b"formatted %d\n" % case.geometry.size, b"")
+    else:
+        expected = Life(1, b"", f"ckrt: {refusal}\n".encode())
+    if shown != expected:
+        return f"format: {place_of_difference(expected, shown)}"
+    return None if after == (disk.read_bytes() if disk.exists() else None) else "format: the disk's bytes"
 
 
-def first_difference(ckrt, case, folder, tally, count_life):
+def first_difference(ckrt, case, folder, awaited, tally, count_life):
     """Runs a case; None, or in a few words where the two differ."""
+    if isinstance(case, FormatCase):
+        return difference_of_format(ckrt, case, folder, tally)
     disk, path = case.disk(), folder / "disk"
-    if case.damaged is None and not formats_alike(ckrt, case, folder):
-        return "format"
+    if case.damaged is None:
+        difference = difference_of_format(ckrt, FormatCase(case.geometry, case.image, None), folder, tally)
+        if difference is not None:
+            return difference
     path.write_bytes(disk)
     for number, data in enumerate(case.lives, 1):
+        if "checkpoint" in awaited:
+            data = data.replace(b"checkpoint", b"commit")
         (folder / f"lines.{number}").write_bytes(data)
-        expected = life_of_model(disk, data, case.is_killed, tally)
+        expected = life_of_model(disk, data, case.is_killed, awaited, tally)
         if case.is_killed:
             shown = killed_life(ckrt, path, data, expected.replies)
         else:
@@ -104,6 +154,10 @@ def first_difference(ckrt, case, folder, tally, count_life):
         if path.read_bytes() != disk:
             (folder / "disk.model").write_bytes(disk)
             return f"life {number}: the disk's bytes"
+        if "inspect" not in awaited:
+            expected, shown = listing_of_model(disk), listing_of_program(ckrt, path)
+            if shown != expected:
+                return f"listing after life {number}: {place_of_difference(expected, shown)}"
     return None
 
 
@@ -117,7 +171,7 @@ def place_of_difference(expected, shown):
     return f"{len(wanted) - 1} replies of the model, {len(got) - 1} of the program"
 
 
-def run_case(ckrt, kind, seed, folder, totals):
+def run_case(ckrt, kind, seed, folder, awaited, totals):
     case = case_of(kind, seed)
     work = folder / f"{kind}-{seed}"
     work.mkdir(exist_ok=True)
@@ -127,13 +181,14 @@ def run_case(ckrt, kind, seed, folder, totals):
         totals.lives[kind] += 1
         totals.replies[kind] += replies
 
-    difference = first_difference(ckrt, case, work, totals.answers, count_life)
+    difference = first_difference(ckrt, case, work, awaited, totals.answers, count_life)
     if difference is None:
         for file in work.iterdir():
             file.unlink()
         work.rmdir()
         return
-    (work / "disk.before").write_bytes(case.disk())
+    if not isinstance(case, FormatCase):
+        (work / "disk.before").write_bytes(case.disk())
     totals.differences.append(f"{kind} {seed}")
     print(f"DIFFERENCE {kind} {seed}: {difference}\n  files in {work}\n"
           f"  again: python3 {Path(__file__).name} {ckrt} {folder} --kinds {kind} --seed {seed} --count 1", flush=True)
@@ -166,12 +221,17 @@ def words():
     parser.add_argument("--count", type=int, default=50, help="cases of each kind (50)")
     parser.add_argument("--seed", type=int, default=1, help="the first seed (1)")
     parser.add_argument("--step", type=int, default=1, help="from one seed to the next (1)")
-    parser.add_argument("--kinds", default=",".join(KINDS), help="kinds of cases, with commas between (all)")
+    parser.add_argument("--kinds", help="kinds of cases, with commas between (all that the program can have)")
+    parser.add_argument("--awaits", default=",".join(sorted(AWAITED)),
+                        help="what the program doesn't do yet, of tables, checkpoint, inspect (%(default)s)")
     parser.add_argument("--stop-after", type=int, default=5, help="stop after so many differences (5)")
     chosen = parser.parse_args()
-    unknown = set(chosen.kinds.split(",")) - set(KINDS)
+    chosen.awaits = set(filter(None, chosen.awaits.split(",")))
+    possible = [kind for kind in KINDS if NEEDS.get(kind) not in chosen.awaits]
+    chosen.kinds = chosen.kinds.split(",") if chosen.kinds else possible
+    unknown = set(chosen.kinds) - set(possible)
     if unknown:
-        parser.error(f"no such kind: {', '.join(sorted(unknown))}")
+        parser.error(f"no such kind, or it is awaited: {', '.join(sorted(unknown))}")
     return chosen
 
 
@@ -180,10 +240,10 @@ def main():
     folder = Path(chosen.folder or tempfile.mkdtemp(prefix="differential-"))
     folder.mkdir(parents=True, exist_ok=True)
     totals = Totals()
-    for kind in chosen.kinds.split(","):
+    for kind in chosen.kinds:
         for seed in range(chosen.seed, chosen.seed + chosen.count * chosen.step, chosen.step):
             if len(totals.differences) < chosen.stop_after:
-                run_case(chosen.ckrt, kind, seed, folder, totals)
+                run_case(chosen.ckrt, kind, seed, folder, chosen.awaits, totals)
     print_totals(totals)
     if not chosen.folder and not totals.differences:
         folder.rmdir()

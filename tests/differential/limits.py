@@ -1,7 +1,7 @@
 """Cases that fill what is bounded: counts, tables, the input queue, the held output, a batch, and the journal."""
 from abi import Call
 from assembler import Branch, Program, STOP, add_immediate, call_words, image_of, jump_form, load_number
-from disk import Geometry
+from layout import Geometry
 from processor import ECALL
 
 FIRST = 0x2000  # the address of the first object

@@ -3,8 +3,9 @@ from dataclasses import dataclass
 from enum import IntEnum
 
 from abi import ALL_ONES
-from disk import Session
+from devices import MemoryDisk
 from events import INPUT_LIMIT, Eof, Input, Place, Run, Tick
+from session import Session
 
 LINE_LIMIT = 160
 
@@ -33,7 +34,7 @@ class Auto:
 
 @dataclass(frozen=True)
 class Plain:
-    """A command that is no event: commit, quit, or the line without words."""
+    """A command that is no event: commit, checkpoint, quit, or the line without words."""
     word: bytes
 
 
@@ -76,7 +77,7 @@ def parse(line):
             return Input(input_bytes(data))
         case [b"eof"]:
             return Eof()
-        case [(b"commit" | b"quit") as word]:
+        case [(b"commit" | b"checkpoint" | b"quit") as word]:
             return Plain(word)
     raise LineFault(LineRefusal.Unknown)
 
@@ -91,8 +92,9 @@ def run_command(session, command):
     """The replies to a command other than quit."""
     if command == Plain(b""):
         return []
-    if command == Plain(b"commit"):
-        return [session.commit()] + session.take_output()
+    if isinstance(command, Plain):
+        reply = session.commit() if command.word == b"commit" else session.checkpoint()
+        return [reply] + (session.take_output() if reply.startswith("ack") else [])
     if not isinstance(command, Auto):
         return [session.submit(command)[1]]
     replies = []
@@ -105,9 +107,8 @@ def run_command(session, command):
     return replies
 
 
-def serve(disk, data, tally=None):
-    """The reply lines to the input; changes the disk's bytes. Raises Unrecovered before the first reply."""
-    session = Session(disk, tally)
+def serve(session, data):
+    """The reply lines to the input."""
     replies = session.take_output()
     for line in lines_of(data):
         try:
@@ -120,3 +121,8 @@ def serve(disk, data, tally=None):
             break
         replies += run_command(session, command)
     return replies
+
+
+def serve_disk(contents, data, tally=None):
+    """Recovers the disk with these bytes, which change, and serves the input. Raises Unrecovered."""
+    return serve(Session(MemoryDisk(contents), tally), data)

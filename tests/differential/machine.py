@@ -12,6 +12,8 @@ from threads import State, Status, WaitKind
 INPUT_QUEUE = 4096
 OUTPUT_OF_RUN = 1024
 OUTPUT_HELD = 16384
+SAVED = ["threads", "harts", "waits", "mutexes", "barriers", "locks", "clock", "input", "is_input_closed", "status",
+         "status_word", "fault_thread", "fault_cause"]
 
 
 class Refusal(IntEnum):
@@ -29,9 +31,15 @@ class Refusal(IntEnum):
 
 class Machine(State):
     def __init__(self, pages, harts, contents, tally=None):
-        super().__init__(pages, tally)
+        super().__init__(tally)
+        self.add_initial_thread(pages)
         self.hart_count = harts
         self.memory = Memory(pages, contents)
+
+    def resume(self, state):
+        """Goes on from a saved state, with the memory as it is."""
+        for name in SAVED:
+            setattr(self, name, getattr(state, name))
 
     @property
     def is_running(self):
@@ -117,14 +125,14 @@ class Machine(State):
             elif execute(thread, self.memory):
                 perform(self, thread_id)
         except Fault as fault:
-            self.status = Status.FAULTED
+            self.fault(thread_id, fault.cause)
             self.tally["fault", fault.cause.name] += 1
 
     def return_from_start(self, thread_id):
         """The initial thread ends the process; another one ends with what its routine returned."""
         thread = self.threads[thread_id]
         if thread.is_initial:
-            self.status = Status.EXITED
+            self.end_process(thread.registers[10])
         else:
             self.begin_unwinding(thread_id, thread.registers[10])
 

@@ -44,10 +44,13 @@ def is_mutex_busy(state, address):
     return mutex_of(state, address).owner != 0 or address in mutexes_named_by_waits(state)
 
 
+def mutexes_in_use(state):
+    """Those that are owned, of a kind other than normal, or named by a wait."""
+    return {at for at, mutex in state.mutexes.items() if mutex.owner or mutex.kind} | mutexes_named_by_waits(state)
+
+
 def is_mutex_table_full(state, address):
-    """In use are those that are owned, of a kind other than normal, or named by a wait."""
-    used = {at for at, mutex in state.mutexes.items() if mutex.owner or mutex.kind}
-    used |= mutexes_named_by_waits(state)
+    used = mutexes_in_use(state)
     return address not in used and len(used) >= MUTEXES
 
 

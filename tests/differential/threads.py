@@ -69,10 +69,13 @@ class Wait:
 
 
 class State:
-    """All that calls and time change, but not the memory. Waits stand in the order in which they began."""
+    """All that calls and time change, but not the memory. Waits stand in the order in which they began.
 
-    def __init__(self, pages, tally=None):
-        self.threads = {1: new_thread(0x1000, 0, PAGE * pages, False, is_initial=True)}
+    The status word is the exit status, or the pc of the fault.
+    """
+
+    def __init__(self, tally=None):
+        self.threads = {}
         self.harts = [0] * HARTS
         self.waits = []
         self.mutexes = {}
@@ -82,8 +85,20 @@ class State:
         self.input = []
         self.is_input_closed = False
         self.status = Status.RUNNING
+        self.status_word = self.fault_thread = self.fault_cause = 0
         self.byte_put = None
         self.tally = Counter() if tally is None else tally
+
+    def add_initial_thread(self, pages):
+        self.threads[1] = new_thread(0x1000, 0, PAGE * pages, False, is_initial=True)
+
+    def end_process(self, status):
+        self.status, self.status_word = Status.EXITED, status
+
+    def fault(self, thread_id, cause):
+        """The faulting instruction has changed nothing: the thread's pc is its place."""
+        self.status, self.status_word = Status.FAULTED, self.threads[thread_id].pc
+        self.fault_thread, self.fault_cause = thread_id, int(cause)
 
     def wait_of(self, thread_id):
         return next((wait for wait in self.waits if wait.thread == thread_id), None)
@@ -130,7 +145,7 @@ class State:
         else:
             self.threads[thread_id] = Thread(has_ended=True, value=thread.value)
         if all(other.has_ended for other in self.threads.values()):
-            self.status = Status.EXITED
+            self.end_process(0)
 
     def next_handler(self, thread_id):
         """The newest handler is removed and runs; without one the thread ends."""

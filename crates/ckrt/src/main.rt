@@ -33,7 +33,7 @@ fn main(rt: HostRuntime) -> ExitCode {
     match run_arguments(&rt) {
         Ok(status) => ExitCode::from(status),
         Err(error) if error.kind() == ErrorKind::OutOfMemory => {
-            let _ = eprintln!(rt; "ckrt: OutOfMemory");
+            let _ = eprintln!(rt; "the system refused memory\nckrt: OutOfMemory");
             ExitCode::FAILURE
         }
         Err(_) => {

@@ -1,11 +1,12 @@
 -- What a file answers that keeps the disk model. The bytes that it holds are given as a function: `held k` are those after
 -- k calls.
-use Rattle.std.specs.Prelude.{◌≡◌, ◌⊎◌, ℕ, true, false, List, [], ◌∷◌, length, take, drop, refl}
+use Rattle.std.specs.Prelude.{◌≡◌, ◌⊎◌, ◌+◌, ℕ, true, false, List, [], ◌∷◌, length, take, drop, refl}
 use Rattle.std.proofs.Common.{◌∙◌, ap}
 use Rattle.ckrt_disk.specs.Disk.{IsImage, IsOverwritten, IsWithin}
 use Rattle.ckrt_disk.specs.declared.file_call.FileCall.{FileCall}
 use Rattle.ckrt_disk.specs.declared.file_call.FileCall.TheVariants.{Read, Write, Sync}
 use Rattle.ckrt_disk.specs.declared.transfer.Transfer.TheVariants.{Done, Interrupted, Failed}
+use Rattle.ckrt_disk.specs.Transfer.{errors_after, interruptions_after}
 
 -- the offsets that are pending after a call with these bytes
 abbrev pub pending_after : FileCall → List ℕ → (ℕ → Type 0) → ℕ → Type 0
@@ -30,6 +31,29 @@ Keeps (Sync false) bytes pending old new = IsImage old pending new
 abbrev pub pending_of : (ℕ → Type 0) → List (FileCall × List ℕ) → ℕ → Type 0
 pending_of unsettled [] = unsettled
 pending_of unsettled (c ∷ cs) = pending_after c.0 c.1 (pending_of unsettled cs)
+
+-- the count of errors after a call
+abbrev pub errors_with : FileCall → ℕ → ℕ
+errors_with (Read at answer) errors = errors_after answer errors
+errors_with (Write at answer) errors = errors_after answer errors
+errors_with (Sync true) errors = errors
+errors_with (Sync false) errors = errors + 1
+
+-- the count of interrupted calls after a call
+abbrev pub interruptions_with : FileCall → ℕ → ℕ
+interruptions_with (Read at answer) interruptions = interruptions_after answer interruptions
+interruptions_with (Write at answer) interruptions = interruptions_after answer interruptions
+interruptions_with (Sync done) interruptions = interruptions
+
+-- how many of these calls failed
+abbrev pub errors_of : List (FileCall × List ℕ) → ℕ
+errors_of [] = 0
+errors_of (c ∷ cs) = errors_with c.0 (errors_of cs)
+
+-- how many of them a signal interrupted
+abbrev pub interruptions_of : List (FileCall × List ℕ) → ℕ
+interruptions_of [] = 0
+interruptions_of (c ∷ cs) = interruptions_with c.0 (interruptions_of cs)
 
 -- each of these calls was answered as the model says
 abbrev pub HasKept : (ℕ → List ℕ) → (ℕ → Type 0) → List (FileCall × List ℕ) → Type 0

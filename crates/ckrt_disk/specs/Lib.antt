@@ -3,6 +3,7 @@ pub mod Frame
 pub mod Failing
 pub mod FileCalls
 pub mod FileDisk
+pub mod FileErrors
 pub mod History
 pub mod Marked
 pub mod MemoryFile

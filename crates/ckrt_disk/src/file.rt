@@ -1,12 +1,14 @@
 // A disk that is a file of the system.
-ghost use Rattle.std.specs.Prelude.{◌≡◌, ◌⊎◌, ◌↔◌, ◌≤◌, ◌<◌, ◌+◌, ◌-◌, ◌^◌, ℕ, List, None, length, take, drop, refl, IfOk, OnOk, OnErr};
+ghost use Rattle.std.specs.Prelude.{◌≡◌, ◌⊎◌, ◌↔◌, ◌≤◌, ◌<◌, ◌+◌, ◌-◌, ◌^◌, ℕ, List, [], ◌∷◌, None, length, take, drop, refl, is_ok, IfOk, OnOk, OnErr};
 ghost use Rattle.std.proofs.Common.{inl, ◌∙◌};
 ghost use Rattle.ckrt_disk.specs.Disk.{IsImage, IsOverwritten, IsWithin};
+ghost use Rattle.ckrt_disk.specs.FileErrors.{CountsErrors, FailsWithFile, GivesUp, GoesOn};
 ghost use Rattle.ckrt_disk.specs.History.{Since, only_now};
 ghost use Rattle.ckrt_disk.specs.Stop.{named_none};
 
 use crate::disk::{DeviceFault, Disk};
 use crate::history::History;
+use crate::memory_file::MemoryFile;
 use crate::positioned::PositionedFile;
 use crate::system_file::{Holds, SystemFile};
 use crate::transfer::Transfer;
@@ -14,42 +16,71 @@ use std::fs::{File, Files, OpenOptions};
 use std::io;
 
 /// A disk over a file whose length at opening is its size. Nothing is written beyond that length. It is honest where
-/// the file keeps the disk model and is as long as it was, and it names no stop.
+/// the file keeps the disk model and is as long as it was, and it names no stop. Its call fails exactly where a call of
+/// the file does, or where it is given up after 2^64 - 1 calls, nearly all of which were interrupted then.
 #[derive(Drop)]
-pub struct FileDisk<F> {
+pub struct FileDisk<F: PositionedFile> {
     file: F,
     size: usize,
+    start: History<F>,
     history: History<F>,
     failures: u64,
     ghost small: { size < 2 ^ 64 },
+    ghost counted: { CountsErrors F.PositionedFile start.states file size failures },
 }
 
 impl<F: PositionedFile> FileDisk<F> {
-    ghost use Rattle.ckrt_disk.specs.FileDisk.{file_of};
+    ghost use Rattle.ckrt_disk.specs.FileDisk.{file_of, start_of};
 
     /// A disk over an open file of `size` bytes.
     pub fn new(file: F, size: usize) -> FileDisk<F>
         ensures file { file_of result ≡ file }
+        ensures start { start_of result ≡ file ∷ [] }
         ensures size { ⟦<FileDisk<F> as Disk>⟧.size result ≡ size }
         ensures calls { ⟦<FileDisk<F> as Disk>⟧.calls result ≡ 0 }
         ensures failures { ⟦<FileDisk<F> as Disk>⟧.failures result ≡ 0 }
         ensures named_stop { ⟦<FileDisk<F> as Disk>⟧.named_stop result ≡ None }
         ensures honest { ⟦<FileDisk<F> as Disk>⟧.is_honest result ↔ (F.keeps_model file × (F.len file ≡ size)) }
     {
+        let start = History::new().with(&file);
         FileDisk {
             file,
             size,
+            start,
             history: History::new(),
             failures: 0,
         }
     }
+
+    /// What always holds of its count of failures: it is that of its file's errors since the disk was made, and over a
+    /// reliable file of its size it is 0.
+    pub fn known(&self)
+        ensures counted { CountsErrors F.PositionedFile (start_of self.now) (file_of self.now) (⟦<FileDisk<F> as Disk>⟧.size self.now) (⟦<FileDisk<F> as Disk>⟧.failures self.now) }
+    {
+        let _ = &self.file;
+    }
+}
+
+impl FileDisk<MemoryFile> {
+    /// A disk over a file in memory of its size has never failed, however few bytes the file's calls transfer and however
+    /// often they are interrupted.
+    pub fn never_failed(&self)
+        ensures { ⟦<FileDisk<MemoryFile> as Disk>⟧.is_honest self.now → ⟦<FileDisk<MemoryFile> as Disk>⟧.failures self.now ≡ 0 }
+    {
+        let _ = &self.file;
+    }
 }
 
 impl<H: Holds> FileDisk<SystemFile<H>> {
+    ghost use Rattle.ckrt_disk.specs.FileDisk.{file_of, start_of};
+    ghost use Rattle.ckrt_disk.specs.SystemFile.{calls_of};
+
     /// Opens the file at `path` to read and write it; its length in bytes is the disk's size. A missing file, a directory
     /// and what else the system refuses are its errors. The disk is honest exactly where `H` names as many bytes at
     /// opening.
     pub fn open<R: Files<File = File>>(rt: &R, path: &str) -> io::Result<FileDisk<SystemFile<H>>>
+        ensures file { IfOk result (λ disk. calls_of (file_of disk) ≡ []) }
+        ensures start { IfOk result (λ disk. start_of disk ≡ file_of disk ∷ []) }
         ensures honest { IfOk result (λ disk. ⟦<FileDisk<SystemFile<H>> as Disk>⟧.is_honest disk ↔ (length (H.held 0) ≡ ⟦<FileDisk<SystemFile<H>> as Disk>⟧.size disk)) }
         ensures content { IfOk result (λ disk. ⟦<FileDisk<SystemFile<H>> as Disk>⟧.content disk ≡ H.held 0) }
         ensures pending { IfOk result (λ disk. (i : ℕ) → (⟦<FileDisk<SystemFile<H>> as Disk>⟧.pending disk i ↔ H.unsettled i)) }
@@ -79,6 +110,7 @@ fn read_on<F: PositionedFile>(
     ensures pending { F.keeps_model file.new → (i : ℕ) → (F.pending file.new i ↔ F.pending file.old i) }
     ensures len { F.len file.new ≡ F.len file.old }
     ensures keeps_model { F.keeps_model file.new → F.keeps_model file.old }
+    ensures goes_on { GoesOn F.PositionedFile file.old file.new at (length buf.old) done result }
 {
     match file.read_some(at + done, &mut buf[done..]) {
         Transfer::Done(n) => Ok(done + n),
@@ -95,9 +127,12 @@ fn read_all<F: PositionedFile>(file: &mut F, at: usize, buf: &mut [u8]) -> Resul
     ensures pending { F.keeps_model file.new → (i : ℕ) → (F.pending file.new i ↔ F.pending file.old i) }
     ensures len { F.len file.new ≡ F.len file.old }
     ensures keeps_model { F.keeps_model file.new → F.keeps_model file.old }
+    ensures fails { FailsWithFile F.PositionedFile file.old file.new (GivesUp F.PositionedFile file.old file.new (length buf.old)) (is_ok result) }
+    ensures reliable { OnErr result (F.is_reliable file.new → F.len file.old < at + length buf.old) }
+    ensures is_reliable { F.is_reliable file.new → F.is_reliable file.old }
 {
     let mut done = 0;
-    for _ in 0..u64::MAX {
+    for turn in 0..u64::MAX {
         if done == buf.len() {
             return Ok(());
         }
@@ -122,6 +157,7 @@ fn write_on<F: PositionedFile>(
     ensures pending { F.keeps_model file.new → (i : ℕ) → (F.pending file.new i ↔ (F.pending file.old i ⊎ IsWithin (at + done) (length bytes.now - done) i)) }
     ensures len { F.len file.new ≡ F.len file.old }
     ensures keeps_model { F.keeps_model file.new → F.keeps_model file.old }
+    ensures goes_on { GoesOn F.PositionedFile file.old file.new at (length bytes.now) done result }
 {
     let (_, rest) = bytes.split_at(done);
     match file.write_some(at + done, rest) {
@@ -139,6 +175,9 @@ fn write_all<F: PositionedFile>(file: &mut F, at: usize, bytes: &[u8]) -> Result
     ensures pending { F.keeps_model file.new → (i : ℕ) → (F.pending file.new i ↔ (F.pending file.old i ⊎ IsWithin at (length bytes.now) i)) }
     ensures len { F.len file.new ≡ F.len file.old }
     ensures keeps_model { F.keeps_model file.new → F.keeps_model file.old }
+    ensures fails { FailsWithFile F.PositionedFile file.old file.new (GivesUp F.PositionedFile file.old file.new (length bytes.now)) (is_ok result) }
+    ensures reliable { OnErr result (F.is_reliable file.new → F.len file.old < at + length bytes.now) }
+    ensures is_reliable { F.is_reliable file.new → F.is_reliable file.old }
 {
     let mut done = 0;
     for turn in 0..u64::MAX {
@@ -154,6 +193,8 @@ fn write_all<F: PositionedFile>(file: &mut F, at: usize, bytes: &[u8]) -> Result
 }
 
 impl<F: PositionedFile> Disk for FileDisk<F> {
+    ghost use Rattle.ckrt_disk.specs.FileDisk.{CallsFile};
+
     ghost size = { λ d. d.size };
 
     ghost content = { λ d. F.content d.file };
@@ -171,6 +212,12 @@ impl<F: PositionedFile> Disk for FileDisk<F> {
     ghost named_stop = { λ _. None };
 
     ghost is_honest = { λ d. F.keeps_model d.file × (F.len d.file ≡ d.size) };
+
+    ghost read_gives = { λ old at buf buf' ok new. CallsFile old new (GivesUp F.PositionedFile old.file new.file (length buf)) ok };
+
+    ghost write_gives = { λ old at bytes ok new. CallsFile old new (GivesUp F.PositionedFile old.file new.file (length bytes)) ok };
+
+    ghost sync_gives = { λ old ok new. CallsFile old new ⊥ ok × F.sync_gives old.file ok new.file };
 
     fn size(&self) -> usize {
         self.size

@@ -1,10 +1,12 @@
 // A file in memory, whose calls transfer less than they are asked and are interrupted.
-ghost use Rattle.std.specs.Prelude.{◌≡◌, ◌+◌, ◌≤◌, ◌<◌, ℕ, true, [], length, drop, refl};
-ghost use Rattle.ckrt_disk.specs.Failing.{IsInSpans};
+ghost use Rattle.std.specs.Prelude.{◌≡◌, ◌+◌, ◌-◌, ◌^◌, ◌≤◌, ◌<◌, ℕ, true, [], length, drop, refl};
+ghost use Rattle.ckrt_disk.specs.FileCalls.{pending_of, errors_of, interruptions_of};
+ghost use Rattle.ckrt_disk.specs.FileErrors.{is_patient};
+ghost use Rattle.ckrt_disk.specs.Transfer.{interruptions_after};
 
+use crate::calls::Calls;
 use crate::disk::DeviceFault;
-use crate::failing::Span;
-use crate::history::History;
+use crate::file_call::FileCall;
 use crate::marked_bytes::overwrite;
 use crate::positioned::PositionedFile;
 use crate::transfer::Transfer;
@@ -12,14 +14,16 @@ use crate::transfer::Transfer;
 /// A file in memory. Its calls transfer at most so many bytes as its limits say, one limit for each call, and all that
 /// is asked when the limits are used up; a limit of 0 is a signal that interrupts the call. It ends where its bytes end:
 /// a call that reaches beyond them transfers those before, and fails where there are none. It has always kept the disk
-/// model, so it shows that a file can.
+/// model, and it is reliable, so it shows that a file can.
 #[derive(Drop)]
 pub struct MemoryFile {
     bytes: Vec<u8>,
     limits: Vec<usize>,
     used: usize,
-    written: History<Span>,
+    calls: Calls<FileCall>,
     ghost within: { used ≤ length limits.items },
+    ghost interrupted: { interruptions_of calls.made ≤ used },
+    ghost few: { length limits.items + length bytes.items < 2 ^ 64 - 1 },
 }
 
 impl MemoryFile {
@@ -32,12 +36,14 @@ impl MemoryFile {
         ensures len { ⟦<MemoryFile as PositionedFile>⟧.len result ≡ length bytes.items }
         ensures limits { limits_of result ≡ limits.items }
         ensures keeps_model { ⟦<MemoryFile as PositionedFile>⟧.keeps_model result }
+        ensures errors { ⟦<MemoryFile as PositionedFile>⟧.errors result ≡ 0 }
+        ensures reliable { ⟦<MemoryFile as PositionedFile>⟧.is_reliable result }
     {
         MemoryFile {
             bytes,
             limits,
             used: 0,
-            written: History::new(),
+            calls: Calls::new(),
         }
     }
 
@@ -46,7 +52,8 @@ impl MemoryFile {
         ensures answer { result ≡ answer_to (limits_of self.old) at len (length self.old.bytes.items) }
         ensures limits { limits_of self.new ≡ drop 1 (limits_of self.old) }
         ensures bytes { self.new.bytes ≡ self.old.bytes }
-        ensures written { self.new.written ≡ self.old.written }
+        ensures calls { self.new.calls ≡ self.old.calls }
+        ensures used { interruptions_after result self.old.used ≤ self.new.used }
     {
         let limit = if self.used < self.limits.len() {
             self.limits[self.used]
@@ -72,9 +79,15 @@ impl PositionedFile for MemoryFile {
 
     ghost content = { λ f. f.bytes.items };
 
-    ghost pending = { λ f. IsInSpans f.written.states };
+    ghost pending = { λ f. pending_of (λ _. ⊥) f.calls.made };
 
     ghost keeps_model = { λ _. Unit {0} };
+
+    ghost errors = { λ f. errors_of f.calls.made };
+
+    ghost interruptions = { λ f. interruptions_of f.calls.made };
+
+    ghost is_reliable = { λ _. Unit {0} };
 
     ghost read_gives = { λ old at buf answer new. AnswersTo old at (length buf) answer new };
 
@@ -87,16 +100,13 @@ impl PositionedFile for MemoryFile {
         if let Transfer::Done(n) = answer {
             buf[..n].copy_from_slice(&self.bytes[at..at + n]);
         }
+        self.calls = self.calls.with(&FileCall::Read { at, answer }, buf);
         answer
     }
 
     fn write_some(&mut self, at: usize, bytes: &[u8]) -> Transfer {
         let answer = self.answer(at, bytes.len());
-        let span = Span {
-            at,
-            len: bytes.len(),
-        };
-        self.written = self.written.with(&span);
+        self.calls = self.calls.with(&FileCall::Write { at, answer }, bytes);
         if let Transfer::Done(n) = answer {
             overwrite(&mut self.bytes, at, &bytes[..n]);
         }
@@ -104,9 +114,11 @@ impl PositionedFile for MemoryFile {
     }
 
     fn sync(&mut self) -> Result<(), DeviceFault> {
-        self.written = History::new();
+        self.calls = self.calls.with(&FileCall::Sync { is_done: true }, &[]);
         Ok(())
     }
 
     ghost whole = { λ f keeps. refl };
+
+    ghost patient = { λ f _. is_patient _ _ _ _ f.interrupted f.within f.few };
 }

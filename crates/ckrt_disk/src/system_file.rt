@@ -1,6 +1,6 @@
 // A file of the system, and the record of what it was asked and answered.
 ghost use Rattle.std.specs.Prelude.{◌≡◌, ◌≤◌, ℕ, List, [], ◌∷◌, length, Ok};
-ghost use Rattle.ckrt_disk.specs.Transfer.{OnDone};
+ghost use Rattle.ckrt_disk.specs.Transfer.{OnDone, answer_of};
 
 use crate::calls::Calls;
 use crate::disk::DeviceFault;
@@ -31,7 +31,8 @@ impl Holds for Brand {
 }
 
 /// A file of the system that holds what `H` says, with the record of its calls and their answers, which takes no byte.
-/// It has kept the disk model up to now exactly where each answer so far is one of the model for the bytes of `H`.
+/// It has kept the disk model up to now exactly where each answer so far is one of the model for the bytes of `H`. Its
+/// errors are the calls in that record that failed.
 #[derive(Drop)]
 pub struct SystemFile<H> {
     file: File,
@@ -41,7 +42,8 @@ pub struct SystemFile<H> {
 
 // What a call of the system answered. No byte at all is the end of the file, or no room.
 fn transfer_of(answer: io::Result<usize>) -> Transfer
-    ensures { OnDone result (λ n. (answer ≡ Ok n) × (1 ≤ n)) }
+    ensures done { OnDone result (λ n. (answer ≡ Ok n) × (1 ≤ n)) }
+    ensures exact { result ≡ answer_of answer }
 {
     match answer {
         Ok(0) => Transfer::Failed,
@@ -67,7 +69,7 @@ impl<H: Holds> SystemFile<H> {
 }
 
 impl<H: Holds> PositionedFile for SystemFile<H> {
-    ghost use Rattle.ckrt_disk.specs.FileCalls.{HasKept, pending_of, same_length};
+    ghost use Rattle.ckrt_disk.specs.FileCalls.{HasKept, pending_of, same_length, errors_of, interruptions_of};
     ghost use Rattle.ckrt_disk.specs.SystemFile.{calls_of};
     ghost use Rattle.ckrt_disk.specs.declared.file_call.FileCall.TheVariants.{Read, Write, Sync};
 
@@ -78,6 +80,12 @@ impl<H: Holds> PositionedFile for SystemFile<H> {
     ghost pending = { λ f. pending_of H.unsettled f.calls.made };
 
     ghost keeps_model = { λ f. HasKept H.held H.unsettled f.calls.made };
+
+    ghost errors = { λ f. errors_of f.calls.made };
+
+    ghost interruptions = { λ f. interruptions_of f.calls.made };
+
+    ghost is_reliable = { λ _. ⊥ };
 
     ghost read_gives = { λ old at buf answer new. calls_of new ≡ (Read at answer, buf) ∷ calls_of old };
 
@@ -105,4 +113,6 @@ impl<H: Holds> PositionedFile for SystemFile<H> {
     }
 
     ghost whole = { λ f keeps. same_length H.held H.unsettled f.calls.made keeps };
+
+    ghost patient = { λ f reliable. absurd reliable };
 }

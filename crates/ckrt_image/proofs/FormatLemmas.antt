@@ -16,49 +16,46 @@ use Rattle.ckrt_journal.specs.Chain.{batches_of, journal_bytes, found_then, batc
 use Rattle.ckrt_journal.proofs.ChainLemmas.{chain_more}
 use Rattle.ckrt_calls.specs.Table as calls
 use Rattle.ckrt_machine.specs.Steps.{State}
-use Rattle.ckrt_image.specs.declared.config.Config.{Config}
-use Rattle.ckrt_image.specs.declared.header.Header.{Header}
-use Rattle.ckrt_image.specs.declared.area.Area.{Area}
+use Rattle.ckrt_tables.specs.Fresh.{fresh_bytes}
+use Rattle.ckrt_checkpoint.specs.declared.config.Config.{Config}
+use Rattle.ckrt_checkpoint.specs.declared.header.Header.{Header}
+use Rattle.ckrt_checkpoint.specs.declared.area.Area.{Area}
+use Rattle.ckrt_checkpoint.specs.Areas.{area_of, newest_area}
+use Rattle.ckrt_checkpoint.specs.Fields.{HasBytes, header_fields}
+use Rattle.ckrt_checkpoint.specs.Layout.{is_valid, is_open, memory_size, size_needed, area_at, tables_at, memory_at, journal_of, number_at, header_in, header_of, memory_of}
+use Rattle.ckrt_checkpoint.proofs.ByteLemmas.{stays, number_is, byte_is}
 use Rattle.ckrt_image.specs.declared.fault.RecoverFault.TheVariants.{NotFormatted, Damaged}
 use Rattle.ckrt_image.specs.declared.fault.RecoverFault.{RecoverFault}
-use Rattle.ckrt_image.specs.Layout.{is_valid, is_open, memory_size, size_needed, area_at, tables_at, memory_at, journal_of, number_at, MAGIC, superblock_in, superblock_of, header_in, header_of, fresh_tables, tables_of, memory_of, config_within}
-use Rattle.ckrt_image.specs.Areas.{area_of, newest_area}
-use Rattle.ckrt_image.specs.Recovery.{◌>>=◌, recovery_of, area_state, unreplayed, replayed_journal, replayed_batches}
+use Rattle.ckrt_image.specs.Superblock.{MAGIC, config_within, superblock_fields, superblock_in, superblock_of}
+use Rattle.ckrt_image.specs.Recovery.{◌>>=◌, recovery_of, area_in_use, area_state, front_of_tables, as_recovery, unreplayed, replayed_journal, replayed_batches}
 use Rattle.ckrt_image.specs.Programs.{start_of}
-use Rattle.ckrt_image.specs.Fields.{superblock_fields, header_fields, fresh_header, fresh_memory, HasBytes, HasFreshArea, IsFresh}
+use Rattle.ckrt_image.specs.Fields.{fresh_header, fresh_memory, HasFreshArea, IsFresh}
 use Rattle.ckrt_image.specs.Format.{FormatsAt, FormatsBehindGate, IsFormatted, IsFormatting}
 
 -- WRITES
 
--- bytes that stand elsewhere still stand after a write
-stays : (old : List ℕ) (at : ℕ) (bytes new : List ℕ) → IsOverwritten old at bytes new → at + length bytes ≤ length old
-    → (place : ℕ) (part : List ℕ) → (place + length part ≤ at) ⊎ (at + length bytes ≤ place) → HasBytes old place part → HasBytes new place part
-stays old at bytes new holds room place part apart has =
-    part_same (length part) place new old (written_size old at bytes new holds room) (λ i w. written_elsewhere old at bytes new holds room i (λ v. elim apart [ inl below ↦ absurd (omega arith) | inr above ↦ absurd (omega arith) ]))
-    ∙ has
-
 pub fresh_area : (c : Config) (memory c₀ c₁ c₂ c₃ c₄ : List ℕ) → size_needed c ≤ length c₀ → length memory ≡ memory_size c
     → IsOverwritten c₀ (area_at c 0) (165 ∷ []) c₁ → IsOverwritten c₁ (area_at c 0 + 8) (header_fields fresh_header) c₂
-    → IsOverwritten c₂ (tables_at c 0) (fresh_tables c) c₃ → IsOverwritten c₃ (memory_at c 0) memory c₄ → HasFreshArea c memory c₄
+    → IsOverwritten c₂ (tables_at c 0) (fresh_bytes c.pages) c₃ → IsOverwritten c₃ (memory_at c 0) memory c₄ → HasFreshArea c memory c₄
 fresh_area c memory c₀ c₁ c₂ c₃ c₄ room size w₁ w₂ w₃ w₄ =
     let header : length (header_fields fresh_header) ≡ 32 = refl in
-    let tables : length (fresh_tables c) ≡ 170 = refl in
+    let tables : length (fresh_bytes c.pages) ≡ 170 = refl in
     let l₁ : length c₁ ≡ length c₀ = written_size c₀ (area_at c 0) (165 ∷ []) c₁ w₁ (omega arith) in
     let r₂ : area_at c 0 + 8 + 32 ≤ length c₁ = omega arith in
     let l₂ : length c₂ ≡ length c₁ = written_size c₁ (area_at c 0 + 8) (header_fields fresh_header) c₂ w₂ r₂ in
     let r₃ : tables_at c 0 + 170 ≤ length c₂ = omega arith in
-    let l₃ : length c₃ ≡ length c₂ = written_size c₂ (tables_at c 0) (fresh_tables c) c₃ w₃ r₃ in
+    let l₃ : length c₃ ≡ length c₂ = written_size c₂ (tables_at c 0) (fresh_bytes c.pages) c₃ w₃ r₃ in
     let r₄ : memory_at c 0 + length memory ≤ length c₃ = omega arith in
     record {
       gate = stays c₃ (memory_at c 0) memory c₄ w₄ r₄ (area_at c 0) (165 ∷ []) (inl (omega arith))
-          (stays c₂ (tables_at c 0) (fresh_tables c) c₃ w₃ r₃ (area_at c 0) (165 ∷ []) (inl (omega arith))
+          (stays c₂ (tables_at c 0) (fresh_bytes c.pages) c₃ w₃ r₃ (area_at c 0) (165 ∷ []) (inl (omega arith))
           (stays c₁ (area_at c 0 + 8) (header_fields fresh_header) c₂ w₂ r₂ (area_at c 0) (165 ∷ []) (inl (omega arith))
           (written_there c₀ (area_at c 0) (165 ∷ []) c₁ w₁ (omega arith))));
       header = stays c₃ (memory_at c 0) memory c₄ w₄ r₄ (area_at c 0 + 8) (header_fields fresh_header) (inl (omega arith))
-          (stays c₂ (tables_at c 0) (fresh_tables c) c₃ w₃ r₃ (area_at c 0 + 8) (header_fields fresh_header) (inl (omega arith))
+          (stays c₂ (tables_at c 0) (fresh_bytes c.pages) c₃ w₃ r₃ (area_at c 0 + 8) (header_fields fresh_header) (inl (omega arith))
           (written_there c₁ (area_at c 0 + 8) (header_fields fresh_header) c₂ w₂ r₂));
-      tables = stays c₃ (memory_at c 0) memory c₄ w₄ r₄ (tables_at c 0) (fresh_tables c) (inl (omega arith))
-          (written_there c₂ (tables_at c 0) (fresh_tables c) c₃ w₃ r₃);
+      tables = stays c₃ (memory_at c 0) memory c₄ w₄ r₄ (tables_at c 0) (fresh_bytes c.pages) (inl (omega arith))
+          (written_there c₂ (tables_at c 0) (fresh_bytes c.pages) c₃ w₃ r₃);
       pages = written_there c₃ (memory_at c 0) memory c₄ w₄ r₄;
     }
 
@@ -68,7 +65,7 @@ area_stays : (c : Config) (memory old : List ℕ) (at : ℕ) (bytes new : List �
 area_stays c memory old at bytes new pages size holds room apart has = record {
   gate = stays old at bytes new holds room (area_at c 0) (165 ∷ []) (away (area_at c 0) 1 (omega arith) (omega arith)) has.gate;
   header = stays old at bytes new holds room (area_at c 0 + 8) (header_fields fresh_header) (away (area_at c 0 + 8) 32 (omega arith) (omega arith)) has.header;
-  tables = stays old at bytes new holds room (tables_at c 0) (fresh_tables c) (away (tables_at c 0) 170 (omega arith) (omega arith)) has.tables;
+  tables = stays old at bytes new holds room (tables_at c 0) (fresh_bytes c.pages) (away (tables_at c 0) 170 (omega arith) (omega arith)) has.tables;
   pages = stays old at bytes new holds room (memory_at c 0) memory (away (memory_at c 0) (length memory) (omega arith) (omega arith)) has.pages;
 }
   where
@@ -106,29 +103,6 @@ some_pages c valid = (grind (arith, nat_tests, valid), grind (arith, nat_tests, 
 fits : (c : Config) → is_valid c ≡ true → (c.pages < 256 ^ 4) × (c.harts < 256 ^ 4) × (c.journal < 256 ^ 4)
 fits c valid = (grind (arith, nat_tests, valid), grind (arith, nat_tests, valid), grind (arith, nat_tests, valid))
 
--- n bytes of those that stand somewhere
-part_of : (image : List ℕ) (at : ℕ) (bytes : List ℕ) (k n : ℕ) → k + n ≤ length bytes → HasBytes image at bytes → take n (drop (at + k) image) ≡ take n (drop k bytes)
-part_of image at bytes k n room has =
-    let split : length bytes ≡ k + (length bytes - k) = omega arith in
-    sym (ap (λ (l : List ℕ). take n (drop k l)) (sym has)
-    ∙ ap (λ m. take n (drop k (take m (drop at image)))) split
-    ∙ ap (λ (l : List ℕ). take n l) (drop-take k (length bytes - k) (drop at image))
-    ∙ take-take n (length bytes - k) (drop k (drop at image)) (omega arith)
-    ∙ ap (λ (l : List ℕ). take n l) (drop-drop k at image))
-
--- n bytes of the first ones
-part_in : (image : List ℕ) (m k n : ℕ) → k + n ≤ m → take n (drop k (take m image)) ≡ take n (drop k image)
-part_in image m k n room =
-    let split : m ≡ k + (m - k) = omega arith in
-    ap (λ x. take n (drop k (take x image))) split ∙ ap (λ (l : List ℕ). take n l) (drop-take k (m - k) image) ∙ take-take n (m - k) (drop k image) (omega arith)
-
--- the number in n bytes of those that stand somewhere
-number_is : (n k m x : ℕ) (image : List ℕ) (at j : ℕ) (bytes : List ℕ) → k ≡ at + j → k + n ≤ m → j + n ≤ length bytes → HasBytes image at bytes → take n (drop j bytes) ≡ little_bytes n x → x < 256 ^ n → number_at n k (take m image) ≡ x
-unfolding number_at
-number_is n k m x image at j bytes place room within has field small =
-    ap (λ (l : List ℕ). little_number n l) (part_in image m k n room ∙ ap (λ i. take n (drop i image)) place ∙ part_of image at bytes j n within has ∙ field)
-    ∙ ap (λ (l : List ℕ). little_number n l) (sym (append-nil (little_bytes n x))) ∙ little_number-reads_back n x [] small
-
 -- THE FIRST GATE
 
 closed_block : (size : ℕ) (block : List ℕ) → is_open block ≡ false → superblock_in size block ≡ Err NotFormatted
@@ -137,7 +111,7 @@ closed_block size block closed = rw closed refl
 -- a disk whose first gate is closed isn't formatted
 pub closed_recovers : (image : List ℕ) → is_open image ≡ false → recovery_of image ≡ Err NotFormatted
 unfolding recovery_of
-closed_recovers image closed = ap (λ r. r >>= λ config. area_of config image >>= λ area. area_state config area image >>= λ state. replayed_journal (unreplayed config area state) image) (by_size (nat_lt (length image) 32))
+closed_recovers image closed = ap (λ r. r >>= λ config. area_in_use config image >>= λ area. area_state config area image >>= λ state. replayed_journal (unreplayed config area state) image) (by_size (nat_lt (length image) 32))
   where
     first : is_open (take 32 image) ≡ false
     first = ap (λ x. nat_eq x 165) (get_or-take 32 image 0 0 (omega arith)) ∙ closed
@@ -147,10 +121,6 @@ closed_recovers image closed = ap (λ r. r >>= λ config. area_of config image >
     by_size false = closed_block (length image) (take 32 image) first
 
 -- A FRESH DISK
-
--- a byte that stands somewhere
-byte_is : (image : List ℕ) (at m x : ℕ) → 1 ≤ m → HasBytes image at (x ∷ []) → get_or (take m (drop at image)) 0 0 ≡ x
-byte_is image at m x some has = get_or-take m (drop at image) 0 0 (omega arith) ∙ sym (get_or-take 1 (drop at image) 0 0 (omega arith)) ∙ ap (λ (l : List ℕ). get_or l 0 0) has
 
 same_tables : (xs : List ℕ) → pointwise nat_eq xs xs ≡ true
 same_tables [] = refl
@@ -192,7 +162,7 @@ module _ (c : Config) (guest image : List ℕ) (valid : is_valid c ≡ true) (gu
       (number_is 4 28 32 c.journal image 8 20 (superblock_fields c) refl (omega arith) (omega arith) fresh.superblock refl small.2)
       ∙ within c (length image) valid room
 
-  area : area_of c image ≡ Ok (record { index = 0; header = fresh_header })
+  area : area_in_use c image ≡ Ok (record { index = 0; header = fresh_header })
   area =
       let wide : length (header_fields fresh_header) ≡ 32 = refl in
       let block = drop (area_at c 0) image in
@@ -205,13 +175,13 @@ module _ (c : Config) (guest image : List ℕ) (valid : is_valid c ≡ true) (gu
       (number_is 4 32 40 170 block 8 24 (header_fields fresh_header) refl (omega arith) (omega arith) has refl (lit< tt))
       (number_is 4 36 40 1 block 8 28 (header_fields fresh_header) refl (omega arith) (omega arith) has refl (lit< tt)) in
       let other : (header_of c 1 image).is_open ≡ false = ap (λ x. nat_eq x 165) (byte_is image (area_at c 1) 40 0 (omega arith) fresh.other_area) in
-      ap (λ h. newest_area h (header_of c 1 image)) header ∙ picked (header_of c 1 image) other
+      ap (λ t. as_recovery t) (ap (λ h. newest_area h (header_of c 1 image)) header ∙ picked (header_of c 1 image) other)
 
   state : area_state c (record { index = 0; header = fresh_header }) image ≡ Ok (start_of (record { config = c; image = guest }))
   state =
       let size : length (fresh_memory c guest) ≡ memory_size c = grind (arith, common_steps, guest_fits) in
       let memory : memory_of c 0 image ≡ fresh_memory c guest = ap (λ n. take n (drop (memory_at c 0) image)) (sym size) ∙ fresh.area.pages in
-      let tables : pointwise nat_eq (tables_of c 0 image) (fresh_tables c) ≡ true = ap (λ (l : List ℕ). pointwise nat_eq l (fresh_tables c)) fresh.area.tables ∙ same_tables (fresh_tables c) in
+      let tables : pointwise nat_eq (front_of_tables c 0 image) (fresh_bytes c.pages) ≡ true = ap (λ (l : List ℕ). pointwise nat_eq l (fresh_bytes c.pages)) fresh.area.tables ∙ same_tables (fresh_bytes c.pages) in
       let made : List ℕ → Result State RecoverFault = λ bytes. Ok (record { bytes = bytes; tables = calls.fresh c.pages c.harts }) in
       ap (λ b. cond b (made (memory_of c 0 image)) (Err Damaged)) tables ∙ ap made memory
 
@@ -222,7 +192,7 @@ module _ (c : Config) (guest image : List ℕ) (valid : is_valid c ≡ true) (gu
   unfolding recovery_of
   fresh_recovers =
       let rest = λ (config : Config) (area : Area). area_state config area image >>= λ state. replayed_journal (unreplayed config area state) image in
-      ap (λ r. r >>= λ config. area_of config image >>= λ area. rest config area) superblock
+      ap (λ r. r >>= λ config. area_in_use config image >>= λ area. rest config area) superblock
       ∙ ap (λ r. r >>= λ area. rest c area) area
       ∙ ap (λ r. r >>= λ state. replayed_journal (unreplayed c (record { index = 0; header = fresh_header }) state) image) state
       ∙ ap (λ b. replayed_batches (unreplayed c (record { index = 0; header = fresh_header }) (start_of (record { config = c; image = guest }))) b) journal
@@ -235,7 +205,7 @@ fresh_moves c memory content image size same fresh = record {
   area = record {
     gate = moves (area_at c 0) (165 ∷ []) (omega arith) fresh.area.gate;
     header = moves (area_at c 0 + 8) (header_fields fresh_header) (omega arith) fresh.area.header;
-    tables = moves (tables_at c 0) (fresh_tables c) (omega arith) fresh.area.tables;
+    tables = moves (tables_at c 0) (fresh_bytes c.pages) (omega arith) fresh.area.tables;
     pages = moves (memory_at c 0) memory (omega arith) fresh.area.pages;
   };
   journal = moves (journal_of c 0).at (0 ∷ []) (omega arith) fresh.journal;

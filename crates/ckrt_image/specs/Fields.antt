@@ -1,18 +1,13 @@
--- The fields of a disk's blocks as bytes (this project's own format), and what a freshly formatted disk has.
-use Rattle.std.specs.Prelude.{◌≡◌, ◌+◌, ◌-◌, ℕ, true, List, [], ◌∷◌, ◌++◌, replicate, length, take, drop}
-use Rattle.byteorder.specs.Endian.{little_bytes}
-use Rattle.ckrt_image.specs.declared.config.Config.{Config}
-use Rattle.ckrt_image.specs.declared.header.Header.{Header}
-use Rattle.ckrt_image.specs.declared.layout.TheConstants.{CLOSED, FRESH_TABLES_SIZE, OPEN}
-use Rattle.ckrt_image.specs.Layout.{MAGIC, memory_size, area_at, tables_at, memory_at, journal_of, fresh_tables}
-
--- bytes 8..32 of a superblock
-abbrev pub superblock_fields : Config → List ℕ
-superblock_fields c = little_bytes 8 MAGIC ++ little_bytes 4 1 ++ little_bytes 4 c.pages ++ little_bytes 4 c.harts ++ little_bytes 4 c.journal
-
--- bytes 8..40 of an area's header
-abbrev pub header_fields : Header → List ℕ
-header_fields h = little_bytes 8 h.generation ++ little_bytes 8 h.count ++ little_bytes 8 h.offset ++ little_bytes 4 h.tables ++ little_bytes 4 h.version
+-- What a freshly formatted disk has (this project's own format).
+use Rattle.std.specs.Prelude.{◌≡◌, ◌+◌, ◌-◌, ℕ, true, List, [], ◌∷◌, ◌++◌, replicate, length}
+use Rattle.ckrt_tables.specs.Fresh.{fresh_bytes}
+use Rattle.ckrt_checkpoint.specs.declared.config.Config.{Config}
+use Rattle.ckrt_checkpoint.specs.declared.header.Header.{Header}
+use Rattle.ckrt_checkpoint.specs.declared.layout.TheConstants.{CLOSED, OPEN}
+use Rattle.ckrt_checkpoint.specs.Fields.{HasBytes, header_fields}
+use Rattle.ckrt_checkpoint.specs.Layout.{memory_size, area_at, tables_at, memory_at, journal_of}
+use Rattle.ckrt_image.specs.declared.fresh.TheConstants.{FRESH_TABLES_SIZE}
+use Rattle.ckrt_image.specs.Superblock.{superblock_fields}
 
 -- the header of area 0 before the first event
 abbrev pub fresh_header : Header
@@ -22,15 +17,11 @@ fresh_header = record { is_open = true; generation = 1; count = 0; offset = 0; t
 abbrev pub fresh_memory : Config → List ℕ → List ℕ
 fresh_memory c image = image ++ replicate (memory_size c - length image) 0
 
--- these bytes stand from an offset on
-abbrev pub HasBytes : List ℕ → ℕ → List ℕ → Type 0
-HasBytes content at bytes = take (length bytes) (drop at content) ≡ bytes
-
 -- area 0 is open, and has this memory and no event
 pub record HasFreshArea (c : Config) (memory content : List ℕ) : Type 0 where
   pub gate : HasBytes content (area_at c 0) (OPEN ∷ [])
   pub header : HasBytes content (area_at c 0 + 8) (header_fields fresh_header)
-  pub tables : HasBytes content (tables_at c 0) (fresh_tables c)
+  pub tables : HasBytes content (tables_at c 0) (fresh_bytes c.pages)
   pub pages : HasBytes content (memory_at c 0) memory
 
 -- all that a freshly formatted disk has beside its first gate

@@ -3,11 +3,11 @@ use Rattle.std.specs.Prelude.{◌≡◌, ◌+◌, ◌≤◌, ◌<◌, ◌⊎◌,
 use Rattle.ckrt_disk.specs.Disk.{IsWithin}
 use Rattle.ckrt_disk.specs.Frame.{AtAnyMoment, MayBeLeft}
 use Rattle.ckrt_disk.specs.declared.disk.Disk.{Ghosts}
-use Rattle.ckrt_image.specs.declared.config.Config.{Config}
+use Rattle.ckrt_checkpoint.specs.declared.config.Config.{Config}
 use Rattle.ckrt_image.specs.declared.fault.FormatFault.{FormatFault}
 use Rattle.ckrt_image.specs.declared.fault.FormatFault.TheVariants.{AlreadyFormatted, TooSmall, BadConfig, ImageTooLong, Device, OutOfMemory}
 use Rattle.ckrt_image.specs.declared.fault.RecoverFault.TheVariants.{NotFormatted}
-use Rattle.ckrt_image.specs.Layout.{is_valid, memory_size, size_needed, journal_of, is_open}
+use Rattle.ckrt_checkpoint.specs.Layout.{is_valid, memory_size, size_needed, journal_of, is_open}
 use Rattle.ckrt_image.specs.Recovery.{recovery_of}
 use Rattle.ckrt_image.specs.Programs.{formatted}
 

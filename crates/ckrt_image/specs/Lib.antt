@@ -1,5 +1,4 @@
-pub mod Layout
-pub mod Areas
+pub mod Superblock
 pub mod Recovery
 pub mod Progress
 pub mod Reads

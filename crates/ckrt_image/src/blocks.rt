@@ -1,37 +1,19 @@
-// The superblock and the headers of the areas, from their bytes.
-ghost use Rattle.std.specs.Prelude.{◌≡◌, ◌≢◌, Err, ◌≤◌, ◌<◌, ◌+◌, length, IfOk, true};
+// The superblock, from its bytes and as bytes.
+ghost use Rattle.std.specs.Prelude.{◌≡◌, ◌≢◌, Err, ◌≤◌, length, IfOk, true};
 ghost use Rattle.ckrt_image.specs.declared.fault.RecoverFault.TheVariants.{Device, OutOfMemory};
-ghost use Rattle.ckrt_image.specs.Layout.{number_at, is_valid, size_needed, config_within, superblock_in, header_in};
+ghost use Rattle.ckrt_checkpoint.specs.Layout.{is_valid, size_needed};
+ghost use Rattle.ckrt_image.specs.Superblock.{config_within, superblock_in, superblock_fields};
 ghost use Rattle.ckrt_image.specs.Recovery.{Agrees};
 
-use crate::config::Config;
 use crate::fault::RecoverFault;
-use crate::header::Header;
-use crate::layout::{MAGIC, OPEN, VERSION};
-use byteorder::{ByteOrder, LittleEndian};
+use arrayvec::ArrayVec;
+use ckrt_checkpoint::{Config, FIELDS_AT, OPEN, VERSION, number_32, number_64, put};
 
-/// How many bytes of a superblock are read, and how many of a header.
+/// How many bytes of a superblock are read.
 pub(crate) const SUPERBLOCK_BYTES: usize = 32;
 
-pub(crate) const HEADER_BYTES: usize = 40;
-
-// The number in the four bytes from an offset on.
-#[tactic(auto, unfolding(crate::specs::Layout::number_at))]
-fn number_32(block: &[u8], at: usize) -> u32
-    requires { at + 4 ≤ length block.now }
-    ensures { result ≡ number_at 4 at block.now }
-{
-    LittleEndian::read_u32(&block[at..at + 4])
-}
-
-// The number in the eight bytes from an offset on.
-#[tactic(auto, unfolding(crate::specs::Layout::number_at))]
-fn number_64(block: &[u8], at: usize) -> u64
-    requires { at + 8 ≤ length block.now }
-    ensures { result ≡ number_at 8 at block.now }
-{
-    LittleEndian::read_u64(&block[at..at + 8])
-}
+/// "CKRTDISK".
+const MAGIC: u64 = 0x4b53_4944_5452_4b43;
 
 // The configuration, where it's valid and a disk of so many bytes is large enough for it.
 fn config_within(size: usize, config: Config) -> Result<Config, RecoverFault>
@@ -56,7 +38,7 @@ pub(crate) fn superblock(size: usize, block: &[u8]) -> Result<Config, RecoverFau
     ensures valid { IfOk result (λ c. is_valid c ≡ true) }
     ensures room { IfOk result (λ c. size_needed c ≤ size) }
 {
-    if block[0] != OPEN || number_64(block, 8) != MAGIC {
+    if block[0] != OPEN || number_64(block, FIELDS_AT) != MAGIC {
         return Err(RecoverFault::NotFormatted);
     }
     if number_32(block, 16) != VERSION {
@@ -73,17 +55,15 @@ pub(crate) fn superblock(size: usize, block: &[u8]) -> Result<Config, RecoverFau
     Ok(config)
 }
 
-/// The header that 40 bytes have.
-pub(crate) fn header(block: &[u8]) -> Header
-    requires { length block.now ≡ 40 }
-    ensures { result ≡ header_in block.now }
+/// The fields of a superblock, from its byte 8 on.
+pub(crate) fn superblock_fields(config: &Config) -> ArrayVec<u8, 24>
+    ensures { result.items ≡ superblock_fields config.now }
 {
-    Header {
-        is_open: block[0] == OPEN,
-        generation: number_64(block, 8),
-        count: number_64(block, 16),
-        offset: number_64(block, 24),
-        tables: number_32(block, 32),
-        version: number_32(block, 36),
-    }
+    let mut fields = ArrayVec::new();
+    put(&mut fields, &MAGIC.to_le_bytes());
+    put(&mut fields, &VERSION.to_le_bytes());
+    put(&mut fields, &config.pages.to_le_bytes());
+    put(&mut fields, &config.harts.to_le_bytes());
+    put(&mut fields, &config.journal.to_le_bytes());
+    fields
 }

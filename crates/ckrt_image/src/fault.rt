@@ -1,5 +1,6 @@
 ghost use Rattle.std.specs.Prelude.{◌≡◌};
 
+use ckrt_checkpoint::AreaFault;
 use ckrt_disk::DeviceFault;
 use ckrt_journal::JournalFault;
 use std::alloc::AllocError;
@@ -78,6 +79,21 @@ impl From<JournalFault> for RecoverFault {
             JournalFault::Device => RecoverFault::Device,
             JournalFault::Damaged => RecoverFault::Damaged,
             JournalFault::OutOfMemory => RecoverFault::OutOfMemory,
+        }
+    }
+}
+
+impl From<AreaFault> for RecoverFault {
+    ghost use Rattle.ckrt_image.specs.Recovery.{of_area};
+
+    ghost from_gives = { λ fault e. e ≡ of_area fault };
+
+    fn from(fault: AreaFault) -> RecoverFault {
+        match fault {
+            AreaFault::Device => RecoverFault::Device,
+            AreaFault::Damaged | AreaFault::GenerationsUsed => RecoverFault::Damaged,
+            AreaFault::OutOfMemory => RecoverFault::OutOfMemory,
+            AreaFault::Version => RecoverFault::Version,
         }
     }
 }

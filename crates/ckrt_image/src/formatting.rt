@@ -4,21 +4,16 @@ ghost use Rattle.std.specs.Prelude.{◌≡◌, ◌≤◌, ◌+◌, ℕ, true, So
 ghost use Rattle.ckrt_disk.specs.Disk.{IsOverwritten, IsWithin};
 ghost use Rattle.ckrt_disk.specs.Frame.{AtAnyMoment, Nowhere, WritesWithin};
 ghost use Rattle.ckrt_image.specs.declared.fault.FormatFault.TheVariants.{AlreadyFormatted, Device, OutOfMemory};
-ghost use Rattle.ckrt_image.specs.Layout.{is_valid, is_open, memory_size, size_needed};
+ghost use Rattle.ckrt_checkpoint.specs.Layout.{is_valid, is_open, memory_size, size_needed};
 ghost use Rattle.ckrt_image.specs.Fields.{BecomesFresh, HasFreshArea, IsFresh, fresh_memory};
 ghost use Rattle.ckrt_image.specs.Format.{format_refusal, calls_of, is_device, ComesBeforeCalls, FormatsAt, FormatsBehindGate, IsFormatting, IsMade, IsRefusedBy, StaysFormatted, WasFormatted};
 
-use crate::config::Config;
+use crate::blocks::superblock_fields;
 use crate::fault::FormatFault;
-use crate::header::Header;
-use crate::layout::{
-    CLOSED, FRESH_TABLES_SIZE, OPEN, VERSION, fresh_tables, header_fields, superblock_fields,
-};
+use crate::fresh::{FRESH_TABLES_SIZE, fresh_tables};
+use ckrt_checkpoint::{CLOSED, Config, FIELDS_AT, Header, OPEN, VERSION, header_fields};
 use ckrt_disk::{DeviceFault, Disk, write_synced};
 use std::alloc::{AllocError, Global};
-
-/// The offset of the first field in a superblock and in an area's header.
-const FIELDS_AT: usize = 8;
 
 impl From<DeviceFault> for FormatFault {
     ghost from_gives = { λ _ e. e ≡ Device };

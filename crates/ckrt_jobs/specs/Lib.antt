@@ -1,3 +1,4 @@
 pub mod Names
 pub mod Outcomes
+pub mod Reports
 pub mod Streams

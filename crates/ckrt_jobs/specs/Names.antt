@@ -1,5 +1,5 @@
--- What the program prints for a fault.
-use Rattle.std.specs.Prelude.{ℕ, List, [], ◌∷◌, ◌++◌, codes}
+-- The name that the program prints for a fault.
+use Rattle.std.specs.Prelude.{ℕ, List, codes}
 use Rattle.ckrt_jobs.specs.declared.fault.JobFault.{JobFault}
 use Rattle.ckrt_jobs.specs.declared.fault.JobFault.TheVariants as job
 use Rattle.ckrt_image.specs.declared.fault.FormatFault.{FormatFault}
@@ -31,12 +31,8 @@ name_of_serve serve.OutOfMemory = codes "OutOfMemory"
 name_of_serve serve.Format = codes "Format"
 
 abbrev pub name_of : JobFault → List ℕ
-name_of job.File = codes "File"
+name_of (job.File at why) = codes "File"
 name_of job.OutOfMemory = codes "OutOfMemory"
 name_of (job.Format f) = name_of_format f
 name_of (job.Recover f) = name_of_recover f
 name_of (job.Serve f) = name_of_serve f
-
--- the line on standard error
-abbrev pub fault_line : JobFault → List ℕ
-fault_line f = codes "ckrt: " ++ (name_of f ++ 10 ∷ [])

@@ -1,16 +1,17 @@
 -- How a job ends.
-use Rattle.std.specs.Prelude.{ℕ, List, [], ◌∷◌, ◌++◌, codes, decimal, Result, Ok, Err}
+use Rattle.std.specs.Prelude.{◌≡◌, ℕ, List, [], ◌∷◌, ◌++◌, codes, decimal, Result, Ok, Err}
 use Rattle.ckrt_jobs.specs.declared.fault.JobFault.{JobFault}
 use Rattle.ckrt_jobs.specs.declared.fault.JobFault.TheVariants as job
-use Rattle.ckrt_jobs.specs.declared.fault.ProgramFault.{ProgramFault}
-use Rattle.ckrt_jobs.specs.declared.fault.ProgramFault.TheVariants as program
+use Rattle.ckrt_jobs.specs.declared.file.JobFile.{JobFile}
 use Rattle.ckrt_jobs.specs.declared.running.Unserved.{Unserved}
 use Rattle.ckrt_image.specs.declared.fault.FormatFault.TheVariants as format
 use Rattle.ckrt_image.specs.declared.fault.RecoverFault.{RecoverFault}
 use Rattle.ckrt_image.specs.Recovery.{AgreesOnFault, Recovered}
-use Rattle.ckrt_image.specs.Layout.{size_needed}
-use Rattle.ckrt_image.specs.declared.config.Config.{Config}
+use Rattle.ckrt_checkpoint.specs.Layout.{size_needed}
+use Rattle.ckrt_checkpoint.specs.declared.config.Config.{Config}
 use Rattle.ckrt_words.specs.Jobs.{Formatting}
+use Rattle.ckrt_words.specs.declared.job.WordsFault.{WordsFault}
+use Rattle.ckrt_words.specs.declared.job.WordsFault.TheVariants as words
 
 -- the faults that come before the disk is asked for: configuration, image, and memory for it
 abbrev pub IsBeforeDisk : JobFault → Type 0
@@ -28,16 +29,24 @@ IsBeforeService _ = ⊥
 abbrev pub formatted_line : ℕ → List ℕ
 formatted_line size = codes "formatted " ++ (decimal size ++ 10 ∷ [])
 
--- 0 where all is done, 2 for words that name no job, else 1
-abbrev pub status_of : Result (Unit {0}) ProgramFault → ℕ
-status_of (Ok _) = 0
-status_of (Err (program.Usage text)) = 2
-status_of (Err (program.Job fault)) = 1
+-- the line on standard output for the version, with the kit's line
+abbrev pub version_line : List ℕ
+version_line = codes "ckrt " ++ (codes "0.1.0, proved with rattle-kit-13b logic dac8208d650f15bf" ++ 10 ∷ [])
 
--- words that name no job
-abbrev pub IsUsage : ProgramFault → Type 0
-IsUsage (program.Usage text) = Unit {0}
-IsUsage (program.Job fault) = ⊥
+-- the program's status for a job: 0 where it is done
+abbrev pub status_of : Result (Unit {0}) JobFault → ℕ
+status_of (Ok _) = 0
+status_of (Err fault) = 1
+
+-- and for words that name none
+abbrev pub status_of_words : WordsFault → ℕ
+status_of_words (words.Usage text) = 2
+status_of_words words.OutOfMemory = 1
+
+-- a fault of this file
+abbrev pub IsFileOf : JobFile → JobFault → Type 0
+IsFileOf file (job.File at why) = at ≡ file
+IsFileOf file _ = ⊥
 
 -- a fault of recovery is the one that the content has
 abbrev pub AgreesOnJob : JobFault → Result Recovered RecoverFault → Type 0

@@ -1,14 +1,16 @@
 ghost use Rattle.std.specs.Prelude.{◌≡◌};
 ghost use Rattle.ckrt_jobs.specs.Names.{name_of};
+ghost use Rattle.ckrt_jobs.specs.Reports.{advice_of, advice_of_format, advice_of_recover, advice_of_serve, device_advice, file_of, memory_advice};
 
+use crate::file::{FileFault, JobFile};
 use ckrt_main::ServeFault;
 use ckrt_recovery::{FormatFault, RecoverFault};
 
 /// Why a job wasn't done.
 #[derive(Clone, Copy, Debug, PartialEq, Eq)]
 pub enum JobFault {
-    /// A file can't be opened, read, locked or filled.
-    File,
+    /// This file can't be opened, read, locked or filled.
+    File(JobFile, FileFault),
     /// There was no memory for the image.
     OutOfMemory,
     /// The disk wasn't formatted.
@@ -19,13 +21,58 @@ pub enum JobFault {
     Serve(ServeFault),
 }
 
-/// Why the program didn't do what its words ask for.
-#[derive(Debug, Drop)]
-pub enum ProgramFault {
-    /// The words name no job, or ask for help: the text to print.
-    Usage(String),
-    /// The job wasn't done.
-    Job(JobFault),
+/// What is said where the disk failed a call.
+const DEVICE_ADVICE: &str =
+    "a read, write or sync failed; look after the device, then run this again (docs/OPERATING.md)";
+
+/// What is said where memory was refused.
+const MEMORY_ADVICE: &str = "the system refused memory";
+
+/// What is said of a fault of formatting.
+fn format_advice(fault: FormatFault) -> &'static str
+    ensures { result.now ≡ advice_of_format fault }
+{
+    match fault {
+        FormatFault::AlreadyFormatted => {
+            "it holds a program already, and is unchanged; `ckrt run` goes on with it"
+        }
+        FormatFault::TooSmall => "it is shorter than pages and journals need",
+        FormatFault::BadConfig => {
+            "pages are 16 to 1024, harts 1 to 8, a journal's bytes a multiple of 4096 up to 1048576"
+        }
+        FormatFault::ImageTooLong => "it is longer than the guest's memory; choose more pages",
+        FormatFault::Device => DEVICE_ADVICE,
+        FormatFault::OutOfMemory => MEMORY_ADVICE,
+    }
+}
+
+/// What is said of a fault of recovery.
+fn recovery_advice(fault: RecoverFault) -> &'static str
+    ensures { result.now ≡ advice_of_recover fault }
+{
+    match fault {
+        RecoverFault::NotFormatted => {
+            "`ckrt format` didn't make it, or was stopped meanwhile; format it (docs/OPERATING.md)"
+        }
+        RecoverFault::Version => "another version of ckrt made it (docs/FILE_FORMAT.md)",
+        RecoverFault::Damaged => {
+            "it has bytes that ckrt doesn't leave; examples/read_disk.py shows them (docs/FILE_FORMAT.md)"
+        }
+        RecoverFault::Device => DEVICE_ADVICE,
+        RecoverFault::OutOfMemory => MEMORY_ADVICE,
+    }
+}
+
+/// What is said of a fault of the service.
+fn service_advice(fault: ServeFault) -> &'static str
+    ensures { result.now ≡ advice_of_serve fault }
+{
+    match fault {
+        ServeFault::Read => "standard input: a read failed",
+        ServeFault::Write => "standard output: a write failed",
+        ServeFault::OutOfMemory => MEMORY_ADVICE,
+        ServeFault::Format => "the stored program isn't one",
+    }
 }
 
 impl JobFault {
@@ -34,7 +81,7 @@ impl JobFault {
         ensures { result.now ≡ name_of self }
     {
         match self {
-            JobFault::File => "File",
+            JobFault::File(_, _) => "File",
             JobFault::OutOfMemory
             | JobFault::Format(FormatFault::OutOfMemory)
             | JobFault::Recover(RecoverFault::OutOfMemory)
@@ -52,6 +99,38 @@ impl JobFault {
             JobFault::Serve(ServeFault::Read) => "Read",
             JobFault::Serve(ServeFault::Write) => "Write",
             JobFault::Serve(ServeFault::Format) => "Format",
+        }
+    }
+    /// What is wrong, in plain words, and what to do about it.
+    pub(crate) fn advice(self) -> &'static str
+        ensures { result.now ≡ advice_of self }
+    {
+        match self {
+            JobFault::File(_, fault) => fault.text(),
+            JobFault::OutOfMemory => MEMORY_ADVICE,
+            JobFault::Format(fault) => format_advice(fault),
+            JobFault::Recover(fault) => recovery_advice(fault),
+            JobFault::Serve(fault) => service_advice(fault),
+        }
+    }
+
+    /// The file that the fault is of.
+    pub(crate) fn file(self) -> Option<JobFile>
+        ensures { result ≡ file_of self }
+    {
+        match self {
+            JobFault::File(file, _) => Some(file),
+            JobFault::Format(FormatFault::ImageTooLong) => Some(JobFile::Image),
+            JobFault::Format(
+                FormatFault::AlreadyFormatted | FormatFault::TooSmall | FormatFault::Device,
+            ) => Some(JobFile::Disk),
+            JobFault::Recover(
+                RecoverFault::NotFormatted
+                | RecoverFault::Version
+                | RecoverFault::Damaged
+                | RecoverFault::Device,
+            ) => Some(JobFile::Disk),
+            _ => None,
         }
     }
 }

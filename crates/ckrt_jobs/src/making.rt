@@ -2,7 +2,7 @@
 ghost use Rattle.std.specs.Prelude.{◌≡◌, ◌<◌, ◌≤◌, ◌↔◌, ℕ, List, Some, true, false, length, IfOk, IfErr, IsErrOf, OnOk};
 ghost use Rattle.ckrt_disk.specs.Disk.{IsImage};
 ghost use Rattle.ckrt_image.specs.Format.{IsFormatted};
-ghost use Rattle.ckrt_image.specs.Layout.{is_valid, memory_size, size_needed};
+ghost use Rattle.ckrt_checkpoint.specs.Layout.{is_valid, memory_size, size_needed};
 ghost use Rattle.ckrt_image.specs.declared.fault.FormatFault.TheVariants.{BadConfig, ImageTooLong};
 ghost use Rattle.ckrt_jobs.specs.Outcomes.{IsBeforeDisk};
 ghost use Rattle.ckrt_jobs.specs.declared.fault.JobFault.TheVariants.{Format};

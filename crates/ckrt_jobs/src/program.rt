@@ -1,24 +1,24 @@
 //! The program behind its words.
-ghost use Rattle.std.specs.Prelude.{◌≡◌, ◌≢◌, ◌≤◌, ◌↔◌, [], Some, OnOk, IfErr, IsErrOf, map, true, false};
+ghost use Rattle.std.specs.Prelude.{◌≡◌, ◌≢◌, ◌≤◌, ◌↔◌, [], Some, OnOk, IsErrOf, map, true, false};
 ghost use Rattle.std.specs.Io.KnownBytes.{Appends};
 ghost use Rattle.clap.specs.Words.{takes};
-ghost use Rattle.ckrt_image.specs.Layout.{is_valid};
+ghost use Rattle.ckrt_checkpoint.specs.Layout.{is_valid};
 ghost use Rattle.ckrt_image.specs.declared.fault.FormatFault.TheVariants.{BadConfig};
 ghost use Rattle.ckrt_words.specs.Commands.{ckrt_app};
-ghost use Rattle.ckrt_words.specs.Jobs.{Formatting, Request, format, formatting_of, request_of, request_of_words};
-ghost use Rattle.ckrt_jobs.specs.Outcomes.{IsUsage, config_of, made_line};
+ghost use Rattle.ckrt_words.specs.Jobs.{Formatting, Request, format, version, formatting_of, request_of, request_of_words};
+ghost use Rattle.ckrt_jobs.specs.Outcomes.{config_of, made_line, version_line};
 ghost use Rattle.ckrt_jobs.specs.declared.fault.JobFault.TheVariants.{Format};
 
-use crate::fault::{JobFault, ProgramFault};
+use crate::fault::JobFault;
 use crate::making::make_disk;
-use crate::report::{report, write_formatted};
+use crate::report::{report, report_words, write_formatted, write_version};
 use crate::running::run_disk;
 use crate::stored;
 use crate::system::{SystemSources, open_disk};
 use ckrt_disk::{FileDisk, SystemFile};
 use ckrt_main::serve_image;
 use ckrt_recovery::Config;
-use ckrt_words::{FormatJob, Job, WordsFault, read_words};
+use ckrt_words::{FormatJob, Job, read_words};
 use std::alloc::Global;
 use std::fs::{File, Files};
 use std::io::{Read, Write};
@@ -92,41 +92,20 @@ fn perform<F: Files<File = File>, R: Read, W: Write>(
     writer: &mut W,
 ) -> Result<(), JobFault>
     ensures made { OnOk result ((f : Formatting) → request_of job.now ≡ format f → Appends (W.contents writer.old) (W.contents writer.new) (made_line f)) }
+    ensures version { OnOk result (request_of job.now ≡ version → Appends (W.contents writer.old) (W.contents writer.new) version_line) }
 {
     match job {
         Job::Stored => serve_stored(alloc, reader, writer),
+        Job::Version => write_version(writer),
         Job::Format(job) => make(rt, alloc, job, writer),
         Job::Run(path) => run(rt, alloc, path, reader, writer),
     }
 }
 
-/// Reads the words and does their job.
-fn obey<F: Files<File = File>, R: Read, W: Write>(
-    rt: &F,
-    alloc: Global,
-    words: &[&str],
-    reader: &mut R,
-    writer: &mut W,
-) -> Result<(), ProgramFault>
-    ensures asked { OnOk result ((r : Request) × (request_of_words (map (λ s. s.now) words.now) ≡ Some r)) }
-    ensures made { OnOk result ((f : Formatting) → request_of_words (map (λ s. s.now) words.now) ≡ Some (format f) → Appends (W.contents writer.old) (W.contents writer.new) (made_line f)) }
-    ensures usage { IfErr result (λ e. IsUsage e → takes ckrt_app (map (λ s. s.now) words.now) ≢ true) }
-    ensures stored { IfErr result (λ e. IsUsage e → words.now ≢ []) }
-{
-    let job = match read_words(alloc, words) {
-        Ok(job) => job,
-        Err(WordsFault::Usage(text)) => return Err(ProgramFault::Usage(text)),
-        Err(WordsFault::OutOfMemory) => return Err(ProgramFault::Job(JobFault::OutOfMemory)),
-    };
-    match perform(rt, alloc, &job, reader, writer) {
-        Ok(()) => Ok(()),
-        Err(fault) => Err(ProgramFault::Job(fault)),
-    }
-}
-
 /// Does what the words after the program's name ask for: `format DISK IMAGE` prints `formatted SIZE`, `run DISK` answers
-/// the lines of the reader, no words serve the stored program in memory. A fault is one line `ckrt: NAME` of `errors`, and
-/// words that name no job get a text there. The answer is the program's status: 0 where all was done, 1 for a fault, 2 for
+/// the lines of the reader, `--version` prints the version and its kit, no words serve the stored program in memory. A fault
+/// gets two lines of `errors`: what is wrong in plain words, with the path of the file that it is of, and `ckrt: NAME`.
+/// Words that name no job get a text there. The answer is the program's status: 0 where all was done, 1 for a fault, 2 for
 /// words that name no job.
 pub fn run_words<F: Files<File = File>, R: Read, W: Write, E: Write>(
     rt: &F,
@@ -139,9 +118,15 @@ pub fn run_words<F: Files<File = File>, R: Read, W: Write, E: Write>(
     ensures bound { result ≤ 2 }
     ensures asked { result ≡ 0 → (r : Request) × (request_of_words (map (λ s. s.now) words.now) ≡ Some r) }
     ensures made { result ≡ 0 → (f : Formatting) → request_of_words (map (λ s. s.now) words.now) ≡ Some (format f) → Appends (W.contents writer.old) (W.contents writer.new) (made_line f) }
+    ensures version { result ≡ 0 → request_of_words (map (λ s. s.now) words.now) ≡ Some version → Appends (W.contents writer.old) (W.contents writer.new) version_line }
     ensures usage { result ≡ 2 → takes ckrt_app (map (λ s. s.now) words.now) ≢ true }
     ensures stored { result ≡ 2 → words.now ≢ [] }
 {
-    let outcome = obey(rt, alloc, words, reader, writer);
-    report(errors, outcome)
+    match read_words(alloc, words) {
+        Ok(job) => {
+            let outcome = perform(rt, alloc, &job, reader, writer);
+            report(errors, &job, outcome)
+        }
+        Err(fault) => report_words(errors, fault),
+    }
 }

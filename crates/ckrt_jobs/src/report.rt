@@ -1,14 +1,17 @@
 //! What the program prints for an outcome, and its status.
-ghost use Rattle.std.specs.Prelude.{◌≡◌, ◌++◌, ◌∷◌, [], OnOk, IfErr, codes, Err, Ok};
+ghost use Rattle.std.specs.Prelude.{◌≡◌, ◌++◌, ◌∷◌, [], OnOk, IfErr, Err, Ok};
 ghost use Rattle.std.specs.Io.KnownBytes.{Appends};
-ghost use Rattle.ckrt_jobs.specs.Names.{fault_line};
-ghost use Rattle.ckrt_jobs.specs.Outcomes.{formatted_line, status_of};
+ghost use Rattle.ckrt_words.specs.Jobs.{request_of};
+ghost use Rattle.ckrt_jobs.specs.Outcomes.{formatted_line, status_of, status_of_words, version_line};
+ghost use Rattle.ckrt_jobs.specs.Reports.{path_of, report_of, subject_of};
 ghost use Rattle.ckrt_jobs.specs.declared.fault.JobFault.TheVariants.{Serve};
-ghost use Rattle.ckrt_jobs.specs.declared.fault.ProgramFault.TheVariants.{Job};
 ghost use Rattle.ckrt_main.specs.declared.fault.ServeFault.TheVariants as serve;
 
-use crate::fault::{JobFault, ProgramFault};
+use crate::fault::JobFault;
+use crate::file::JobFile;
+use crate::version::VERSION;
 use ckrt_main::ServeFault;
+use ckrt_words::{Job, WordsFault};
 use std::io::Write;
 
 /// Writes a word with its text behind it and a line feed, and flushes it.
@@ -26,10 +29,40 @@ fn write_line<W: Write>(writer: &mut W, word: &[u8], text: &[u8]) -> Result<(), 
     Ok(())
 }
 
-/// Writes the line of a fault.
-fn write_fault<E: Write>(errors: &mut E, fault: JobFault) -> Result<(), JobFault>
-    ensures ok { OnOk result (Appends (E.contents errors.old) (E.contents errors.new) (fault_line fault)) }
+/// The path that the words give for a file of their job; empty where they give none.
+fn path<'a>(job: &Job<'a>, file: JobFile) -> &'a str
+    ensures { result.now ≡ path_of file (request_of job.now) }
 {
+    match (job, file) {
+        (Job::Format(job), JobFile::Image) => job.image,
+        (Job::Format(job), JobFile::Disk) => job.disk,
+        (Job::Run(disk), JobFile::Disk) => disk,
+        _ => "",
+    }
+}
+
+/// Writes which file is spoken of, and its path.
+fn write_subject<E: Write>(errors: &mut E, job: &Job<'_>, file: Option<JobFile>) -> Result<(), JobFault>
+    ensures ok { OnOk result (Appends (E.contents errors.old) (E.contents errors.new) (subject_of file (request_of job.now))) }
+{
+    let Some(file) = file else {
+        return Ok(());
+    };
+    if errors.write_all(file.text().as_bytes()).is_err()
+        || errors.write_all(path(job, file).as_bytes()).is_err()
+        || errors.write_all(b": ").is_err()
+    {
+        return Err(JobFault::Serve(ServeFault::Write));
+    }
+    Ok(())
+}
+
+/// Writes what is wrong in plain words, and then the line with the fault's name.
+fn write_fault<E: Write>(errors: &mut E, job: &Job<'_>, fault: JobFault) -> Result<(), JobFault>
+    ensures ok { OnOk result (Appends (E.contents errors.old) (E.contents errors.new) (report_of (request_of job.now) fault)) }
+{
+    write_subject(errors, job, fault.file())?;
+    write_line(errors, fault.advice().as_bytes(), b"")?;
     write_line(errors, b"ckrt: ", fault.name().as_bytes())
 }
 
@@ -42,19 +75,38 @@ pub(crate) fn write_formatted<W: Write>(writer: &mut W, size: u64) -> Result<(),
     write_line(writer, b"formatted ", buffer.format(size).as_bytes())
 }
 
-/// Writes why the program didn't do what its words ask for: a usage text as it is, else `ckrt: ` and the fault's name. The
-/// answer is the program's status.
-pub(crate) fn report<E: Write>(errors: &mut E, outcome: Result<(), ProgramFault>) -> u8
+/// Writes the line of the version.
+pub(crate) fn write_version<W: Write>(writer: &mut W) -> Result<(), JobFault>
+    ensures ok { OnOk result (Appends (W.contents writer.old) (W.contents writer.new) version_line) }
+    ensures err { IfErr result (λ e. e ≡ Serve serve.Write) }
+{
+    write_line(writer, b"ckrt ", VERSION)
+}
+
+/// Writes why a job wasn't done, if it wasn't. The answer is the program's status.
+pub(crate) fn report<E: Write>(errors: &mut E, job: &Job<'_>, outcome: Result<(), JobFault>) -> u8
     ensures { result ≡ status_of outcome }
 {
     match outcome {
         Ok(_) => 0,
-        Err(ProgramFault::Usage(text)) => {
+        Err(fault) => {
+            let _ = write_fault(errors, job, fault);
+            1
+        }
+    }
+}
+
+/// Writes why words name no job: the text on usage as it is, or that memory was refused. The answer is the program's status.
+pub(crate) fn report_words<E: Write>(errors: &mut E, fault: WordsFault) -> u8
+    ensures { result ≡ status_of_words fault }
+{
+    match fault {
+        WordsFault::Usage(text) => {
             let _ = errors.write_all(text.as_bytes());
             2
         }
-        Err(ProgramFault::Job(fault)) => {
-            let _ = write_fault(errors, fault);
+        WordsFault::OutOfMemory => {
+            let _ = write_fault(errors, &Job::Stored, JobFault::OutOfMemory);
             1
         }
     }

@@ -1,8 +1,10 @@
 //! Disks and images that are files of the system.
 ghost use Rattle.std.specs.Prelude.{◌≡◌, None, IfOk, IfErr};
+ghost use Rattle.ckrt_jobs.specs.Outcomes.{IsFileOf};
 ghost use Rattle.ckrt_jobs.specs.Streams.{IsBesideStreams};
 
 use crate::fault::JobFault;
+use crate::file::{FileFault, JobFile};
 use crate::filling::fill;
 use crate::sources::Sources;
 use ckrt_disk::{FileDisk, Holds, SystemFile};
@@ -12,19 +14,20 @@ use std::os::fd::AsRawFd;
 
 /// The file, unless its descriptor is that of standard input, output or error: a stream that is closed when the program
 /// begins leaves its descriptor to the next file, whose bytes it would then read, or print over.
-fn beside_streams(file: File) -> io::Result<File>
+fn beside_streams(file: File) -> Result<File, FileFault>
     ensures beside { IfOk result IsBesideStreams }
     ensures same { IfOk result (λ opened. opened ≡ file) }
+    ensures closed { IfErr result (λ e. (e ≡ FileFault.StreamClosed) × ¬ IsBesideStreams file) }
 {
     if file.as_raw_fd() > 2 {
         Ok(file)
     } else {
-        Err(io::Error::from(io::ErrorKind::InvalidInput))
+        Err(FileFault::StreamClosed)
     }
 }
 
 /// Opens a file to read it.
-fn open_read<R: Files<File = File>>(rt: &R, path: &str) -> io::Result<File>
+fn open_read<R: Files<File = File>>(rt: &R, path: &str) -> Result<File, FileFault>
     ensures { IfOk result IsBesideStreams }
 {
     let file = OpenOptions::new().read(true).open(rt, path)?;
@@ -32,7 +35,7 @@ fn open_read<R: Files<File = File>>(rt: &R, path: &str) -> io::Result<File>
 }
 
 /// Opens a file to read and write it, and locks it: a second program over the same disk is refused at once.
-fn open_locked<R: Files<File = File>>(rt: &R, path: &str, is_new: bool) -> io::Result<File>
+fn open_locked<R: Files<File = File>>(rt: &R, path: &str, is_new: bool) -> Result<File, FileFault>
     ensures { IfOk result IsBesideStreams }
 {
     let file = OpenOptions::new()
@@ -41,8 +44,10 @@ fn open_locked<R: Files<File = File>>(rt: &R, path: &str, is_new: bool) -> io::R
         .create(is_new)
         .open(rt, path)?;
     let file = beside_streams(file)?;
-    file.try_lock()?;
-    Ok(file)
+    match file.try_lock() {
+        Ok(()) => Ok(file),
+        Err(error) => Err(FileFault::from(io::Error::from(error))),
+    }
 }
 
 /// The disk of a file of the system that is there.
@@ -50,27 +55,27 @@ pub(crate) fn open_disk<R: Files<File = File>, H: Holds>(
     rt: &R,
     path: &str,
 ) -> Result<FileDisk<SystemFile<H>>, JobFault>
-    ensures { IfErr result (λ e. e ≡ JobFault.File) }
+    ensures { IfErr result (IsFileOf JobFile.Disk) }
 {
     let opened = open_locked(rt, path, false);
     match opened {
         Ok(file) => disk_of(file),
-        Err(_) => Err(JobFault::File),
+        Err(fault) => Err(JobFault::File(JobFile::Disk, fault)),
     }
 }
 
 /// The disk of an open file.
 fn disk_of<H: Holds>(file: File) -> Result<FileDisk<SystemFile<H>>, JobFault>
-    ensures { IfErr result (λ e. e ≡ JobFault.File) }
+    ensures { IfErr result (IsFileOf JobFile.Disk) }
 {
     match file.metadata() {
         Ok(metadata) => Ok(FileDisk::new(SystemFile::new(file), metadata.len() as usize)),
-        Err(_) => Err(JobFault::File),
+        Err(error) => Err(JobFault::File(JobFile::Disk, FileFault::from(error))),
     }
 }
 
 /// A file of at least so many bytes: one that is missing or shorter is filled with zero bytes.
-fn open_filled<R: Files<File = File>>(rt: &R, path: &str, size: usize) -> io::Result<File>
+fn open_filled<R: Files<File = File>>(rt: &R, path: &str, size: usize) -> Result<File, FileFault>
     ensures { IfOk result IsBesideStreams }
 {
     let file = open_locked(rt, path, true)?;
@@ -97,7 +102,7 @@ impl<'a, R: Files<File = File>, H: Holds> Sources<File, FileDisk<SystemFile<H>>>
     fn open_image(&mut self) -> Result<File, JobFault> {
         match open_read(self.rt, self.image) {
             Ok(file) => Ok(file),
-            Err(_) => Err(JobFault::File),
+            Err(fault) => Err(JobFault::File(JobFile::Image, fault)),
         }
     }
 
@@ -105,7 +110,7 @@ impl<'a, R: Files<File = File>, H: Holds> Sources<File, FileDisk<SystemFile<H>>>
         self.is_disk_touched = true;
         match open_filled(self.rt, self.disk, size) {
             Ok(file) => disk_of(file),
-            Err(_) => Err(JobFault::File),
+            Err(fault) => Err(JobFault::File(JobFile::Disk, fault)),
         }
     }
 }

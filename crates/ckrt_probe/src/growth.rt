@@ -1,10 +1,11 @@
-//! Formats a disk in memory and recovers a session from it, and says what it met.
+//! Formats a disk in memory and recovers a session from it, decodes saved tables, and says what it met.
 //!
 //! It is run with each growth of memory refused in turn (`tests/growths`): whatever growth that is, the answer is
 //! `OutOfMemory`, or there was no disk to begin with, and the bytes of the disk are as they were.
 
 use ckrt_disk::{Disk, MemoryDisk};
 use ckrt_recovery::{Config, FormatFault, RecoverFault, format, recover};
+use ckrt_tables::decode_tables;
 use std::alloc::{AllocError, Global};
 
 /// A guest of one word that is no instruction.
@@ -73,5 +74,30 @@ pub fn report(alloc: Global) -> &'static str {
     match format_refusal(alloc, &mut disk) {
         Some(fault) => report_unformatted(disk, fault),
         None => report_recovery(alloc, disk),
+    }
+}
+
+/// The saved tables of a program with 16 pages that hasn't begun: thread 1, the initial one, with its pc 4096, its return
+/// address and its stack pointer.
+fn fresh_tables() -> [u8; 170] {
+    let mut bytes = [0; 170];
+    bytes[24] = 1;
+    bytes[25] = 1;
+    bytes[26] = 1;
+    bytes[34] = 0x10;
+    bytes[37] = 0xF0;
+    bytes[38] = 0xFF;
+    bytes[39] = 0xFF;
+    bytes[40] = 0xFF;
+    bytes[43] = 1;
+    bytes
+}
+
+/// What decoding saved tables met.
+pub fn report_tables(alloc: Global) -> &'static str {
+    match decode_tables(alloc, &fresh_tables(), 1) {
+        Ok(Some(_)) => "decoded",
+        Ok(None) => "decoding met something else",
+        Err(_) => "decoding: OutOfMemory",
     }
 }

@@ -5,20 +5,21 @@
 //! - `ckrt_probe append FILE BYTES COUNT` appends to a journal on a real file.
 //! - `ckrt_probe decode COUNT` reads and decodes a full journal in memory.
 //! - `ckrt_probe grow` formats a disk and recovers it, and says which growth of memory was refused, if one was.
+//! - `ckrt_probe tables` decodes saved tables, and says whether a growth of memory was refused.
 #![tactic(auto)]
 
 mod growth;
 mod journal;
 mod run;
 
-use crate::growth::report;
+use crate::growth::{report, report_tables};
 use crate::journal::{time_appends, time_decoding};
 use crate::run::{shape_of, time_run};
 use anyhow::{Context, Result, bail};
 use std::env;
 
 const USAGE: &str =
-    "usage: ckrt_probe (run IMAGE PAGES HARTS STEPS | append FILE BYTES COUNT | decode COUNT | grow)...";
+    "usage: ckrt_probe (run IMAGE PAGES HARTS STEPS | append FILE BYTES COUNT | decode COUNT | grow | tables)...";
 
 fn number(word: &str) -> Result<u32> {
     word.parse::<u32>().context(USAGE)
@@ -57,6 +58,11 @@ fn grow<'a>(rt: &HostRuntime, words: &'a [String]) -> Rest<'a> {
     Ok(words)
 }
 
+fn tables<'a>(rt: &HostRuntime, words: &'a [String]) -> Rest<'a> {
+    println!(rt; "{}", report_tables(rt.alloc()))?;
+    Ok(words)
+}
+
 /// Does the first job that the words ask for.
 fn probe<'a>(rt: &HostRuntime, words: &'a [String]) -> Rest<'a> {
     let [verb, rest @ ..] = words else {
@@ -67,6 +73,7 @@ fn probe<'a>(rt: &HostRuntime, words: &'a [String]) -> Rest<'a> {
         "append" => append(rt, rest),
         "decode" => decode(rt, rest),
         "grow" => grow(rt, rest),
+        "tables" => tables(rt, rest),
         _ => bail!(USAGE),
     }
 }

@@ -2,3 +2,5 @@ pub mod TableLaws
 pub mod AlignmentLaws
 pub mod DecodingLaws
 pub mod EffectLaws
+pub mod TextLaws
+pub mod ParsingLaws

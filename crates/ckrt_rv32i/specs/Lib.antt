@@ -5,3 +5,5 @@ pub mod Registers
 pub mod Memory
 pub mod Effect
 pub mod Names
+pub mod Text
+pub mod Reading

@@ -3,7 +3,8 @@ ghost use Rattle.std.specs.Prelude.{◌≡◌, ◌^◌, ◌<◌, ℕ, List, leng
 ghost use Rattle.ckrt_rv32i.specs.declared.execution.Cause.{Cause};
 ghost use Rattle.ckrt_rv32i.specs.declared.execution.Outcome.TheVariants.{Fault};
 ghost use Rattle.ckrt_rv32i.specs.declared.instruction.Instr.{Instr};
-ghost use Rattle.ckrt_rv32i.specs.Table.{Encodes};
+ghost use Rattle.ckrt_rv32i.specs.Table.{Encodes, IsInRange};
+ghost use Rattle.ckrt_rv32i.specs.Text.{text_of};
 ghost use Rattle.ckrt_rv32i.specs.Registers.{Registers};
 ghost use Rattle.ckrt_rv32i.specs.Effect.{instruction_step, fault};
 
@@ -17,6 +18,11 @@ pub fn one_instruction_a_word()
 #[tactic(auto, using(crate::proofs::TableLaws::one_word))]
 pub fn one_word_an_instruction()
     ensures { (w v : ℕ) (i : Instr) → w < 2 ^ 32 → v < 2 ^ 32 → Encodes w i → Encodes v i → w ≡ v }
+{}
+
+/// No two instructions in range have one text.
+pub fn one_instruction_a_text()
+    ensures { (i j : Instr) → IsInRange i → IsInRange j → text_of i ≡ text_of j → i ≡ j }
 {}
 
 /// A step that faults leaves the pc, the registers and the memory as they were.

@@ -1,7 +1,8 @@
 //! The RV32I processor of a guest: the words of its instructions, and what each does to the registers and the memory.
 //!
 //! The source is the RISC-V unprivileged manual, RV32I 2.1. `decode` and `encode` go between words and instructions,
-//! and `execute` makes one step of a hart over any memory that implements `Bus`.
+//! `instr_text` and `parse_instr` between instructions and texts, and `execute` makes one step of a hart over any
+//! memory that implements `Bus`.
 #![tactic(auto)]
 
 mod decoding;
@@ -11,14 +12,19 @@ mod instruction;
 mod laws;
 mod memory_bus;
 mod operations;
+mod parsing;
 mod registers;
+mod text;
 
 pub use decoding::decode;
 pub use encoding::encode;
 pub use execution::{Cause, Outcome, execute};
 pub use instruction::{AluOp, Condition, ImmOp, Instr, LoadKind, ShiftOp};
 pub use laws::{
-    fault_changes_nothing, memory_keeps_its_size, one_instruction_a_word, one_word_an_instruction,
+    fault_changes_nothing, memory_keeps_its_size, one_instruction_a_text, one_instruction_a_word,
+    one_word_an_instruction,
 };
 pub use memory_bus::{Bus, Size};
+pub use parsing::parse_instr;
 pub use registers::Regs;
+pub use text::instr_text;

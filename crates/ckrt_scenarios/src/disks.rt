@@ -125,7 +125,10 @@ fn write_four<R: Abort, D: Disk>(rt: &R, disk: &mut D) {
 fn expect_continued<R: Abort + AllocGlobal>(rt: &R, limits: &[usize]) {
     let limits = limits.to_vec(rt.alloc()).expect(rt, "memory for limits");
     let file = MemoryFile::new(copied(rt, &[7; 8]), limits);
-    write_four(rt, &mut FileDisk::new(file, 8));
+    let mut disk = FileDisk::new(file, 8);
+    write_four(rt, &mut disk);
+    disk.known();
+    disk.never_failed();
 }
 
 #[test]

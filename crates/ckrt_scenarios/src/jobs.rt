@@ -82,6 +82,8 @@ fn expect_length<R: Abort + Files<File = File>>(rt: &R, path: &str, length: u64)
     expect_eq(rt, metadata.len(), length);
 }
 
+const HOLDS_A_PROGRAM: &str = "the disk jobs_a.disk: it holds a program already, and is unchanged; `ckrt run` goes on with it\nckrt: AlreadyFormatted\n";
+
 /// A disk that is made, run and run again.
 fn expect_runs<R: Abort + Files<File = File> + AllocGlobal>(rt: &R) {
     let format = "format jobs_a.disk jobs_a.img --pages 16 --journal 4096";
@@ -92,7 +94,7 @@ fn expect_runs<R: Abort + Files<File = File> + AllocGlobal>(rt: &R) {
     expect_output(rt, run, LINES, REPLIES);
     // what was confirmed isn't on the disk
     expect_output(rt, run, "run 0 1\n", "out 0 41\nno 1 Ended\n");
-    expect_fault(rt, format, "ckrt: AlreadyFormatted\n");
+    expect_fault(rt, format, HOLDS_A_PROGRAM);
     expect_output(rt, run, "", "out 0 41\n");
     remove_file(rt, "jobs_a.disk");
     remove_file(rt, "jobs_a.img");
@@ -155,23 +157,29 @@ fn expect_absent<R: Abort + Files<File = File>>(rt: &R, path: &str) {
     assert!(rt; !fs::exists(rt, path).expect(rt, "the folder is read"));
 }
 
+const BAD_CONFIG: &str = "pages are 16 to 1024, harts 1 to 8, a journal's bytes a multiple of 4096 up to 1048576\nckrt: BadConfig\n";
+
+const ABSENT_IMAGE: &str = "the image jobs_none.img: there is no such file\nckrt: File\n";
+
+const LONG_IMAGE: &str = "the image jobs_d.img: it is longer than the guest's memory; choose more pages\nckrt: ImageTooLong\n";
+
+const FOLDER: &str = "the disk .: it is a directory\nckrt: File\n";
+
 /// The image is tested before the disk is touched, and the configuration before the image.
 fn expect_faults<R: Abort + Files<File = File> + AllocGlobal>(rt: &R) {
     let image = filled(rt, 0, 61_441);
     write_file(rt, "jobs_d.img", image.as_slice());
-    let config = "ckrt: BadConfig\n";
-    expect_fault(rt, "format jobs_d.disk jobs_none.img --pages 15", config);
-    expect_fault(rt, "format jobs_d.disk jobs_none.img --harts 9", config);
+    expect_fault(rt, "format jobs_d.disk jobs_none.img --pages 15", BAD_CONFIG);
+    expect_fault(rt, "format jobs_d.disk jobs_none.img --harts 9", BAD_CONFIG);
     expect_fault(
         rt,
         "format jobs_d.disk jobs_none.img --journal 4097",
-        config,
+        BAD_CONFIG,
     );
-    expect_fault(rt, "format . jobs_none.img --pages 16", "ckrt: File\n");
-    let long = "ckrt: ImageTooLong\n";
-    expect_fault(rt, "format jobs_d.disk jobs_d.img --pages 16", long);
+    expect_fault(rt, "format . jobs_none.img --pages 16", ABSENT_IMAGE);
+    expect_fault(rt, "format jobs_d.disk jobs_d.img --pages 16", LONG_IMAGE);
     expect_absent(rt, "jobs_d.disk");
-    expect_fault(rt, "format . jobs_d.img --pages 17", "ckrt: File\n");
+    expect_fault(rt, "format . jobs_d.img --pages 17", FOLDER);
     remove_file(rt, "jobs_d.img");
 }
 
@@ -180,19 +188,26 @@ fn faults_come_in_their_order(rt: HostRuntime) {
     expect_faults(&rt);
 }
 
+const UNREADABLE_IMAGE: &str =
+    "the image /proc/self/mem: it can't be opened, read or filled\nckrt: File\n";
+
 // A process's own memory is a file that opens and whose first byte can't be read, for root neither.
 #[test]
 fn an_image_that_cant_be_read_is_refused(rt: HostRuntime) {
-    expect_fault(&rt, "format jobs_g.disk /proc/self/mem", "ckrt: File\n");
+    expect_fault(&rt, "format jobs_g.disk /proc/self/mem", UNREADABLE_IMAGE);
     expect_absent(&rt, "jobs_g.disk");
 }
 
+const ABSENT_DISK: &str = "the disk jobs_none.disk: there is no such file\nckrt: File\n";
+
+const SHORT_DISK: &str = "the disk jobs_e.disk: `ckrt format` didn't make it, or was stopped meanwhile; format it (docs/OPERATING.md)\nckrt: NotFormatted\n";
+
 /// Files that are no disks.
 fn expect_no_disks<R: Abort + Files<File = File> + AllocGlobal>(rt: &R) {
-    expect_fault(rt, "run jobs_none.disk", "ckrt: File\n");
-    expect_fault(rt, "run .", "ckrt: File\n");
+    expect_fault(rt, "run jobs_none.disk", ABSENT_DISK);
+    expect_fault(rt, "run .", FOLDER);
     write_file(rt, "jobs_e.disk", b"CKRTDISK");
-    expect_fault(rt, "run jobs_e.disk", "ckrt: NotFormatted\n");
+    expect_fault(rt, "run jobs_e.disk", SHORT_DISK);
     remove_file(rt, "jobs_e.disk");
 }
 
@@ -206,14 +221,19 @@ fn lock<R: Abort>(rt: &R, file: &File) {
     assert!(rt; file.try_lock().is_ok());
 }
 
+const DISK_IN_USE: &str =
+    "the disk jobs_f.disk: another program has it locked\nckrt: File\n";
+
+const EMPTY_DISK: &str = "the disk jobs_f.disk: `ckrt format` didn't make it, or was stopped meanwhile; format it (docs/OPERATING.md)\nckrt: NotFormatted\n";
+
 /// A disk that is in use, and then is not.
 fn expect_lock<R: Abort + Files<File = File> + AllocGlobal>(rt: &R) {
     write_file(rt, "jobs_f.disk", b"");
     let holder = File::open(rt, "jobs_f.disk").expect(rt, "the file is opened");
     lock(rt, &holder);
-    expect_fault(rt, "run jobs_f.disk", "ckrt: File\n");
+    expect_fault(rt, "run jobs_f.disk", DISK_IN_USE);
     holder.unlock().expect(rt, "the file is unlocked");
-    expect_fault(rt, "run jobs_f.disk", "ckrt: NotFormatted\n");
+    expect_fault(rt, "run jobs_f.disk", EMPTY_DISK);
     remove_file(rt, "jobs_f.disk");
 }
 
@@ -236,6 +256,31 @@ fn expect_usages<R: Abort + Files<File = File> + AllocGlobal>(rt: &R) {
     expect_usage(rt, "--help");
     expect_usage(rt, "run");
     expect_usage(rt, "run a b");
+    expect_usage(rt, "--version now");
+}
+
+/// A number that isn't one: what is wrong with it, and how numbers are given.
+fn expect_number_usage<R: Abort + Files<File = File> + AllocGlobal>(rt: &R) {
+    let printed = ckrt(rt, "format jobs_h.disk jobs_none.img --pages x", LINES);
+    expect_eq(rt, printed.status, 2);
+    assert!(rt; printed.errors.as_slice().ends_with(NUMBER_USAGE.as_bytes()));
+}
+
+const NUMBER_USAGE: &str = "\nUsage: ckrt format <DISK> <IMAGE> [--pages 16 to 1024] [--harts 1 to 8] [--journal 4096 to 1048576 by 4096]\n";
+
+#[test]
+fn a_wrong_number_gets_the_usage(rt: HostRuntime) {
+    expect_number_usage(&rt);
+}
+
+#[test]
+fn the_version_names_the_kit(rt: HostRuntime) {
+    expect_output(
+        &rt,
+        "--version",
+        "",
+        "ckrt 0.1.0, proved with rattle-kit-13b logic dac8208d650f15bf\n",
+    );
 }
 
 #[test]

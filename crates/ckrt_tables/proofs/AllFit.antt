@@ -1,14 +1,14 @@
 -- Numbers that fit because tables are well-formed, or because their types have no others.
-use Rattle.std.proofs.Common.{◌≡◌, ℕ, zero, suc, ◌+◌, ◌*◌, ◌<◌, ◌≤◌, ◌^◌, eqb, Bool, true, ◌||◌, Option, Some, None, List, [], ◌∷◌, ◌++◌, length, get_or, replicate, take, refl, sym, ap, ◌∙◌, arith}
+use Rattle.std.proofs.Common.{◌≡◌, ℕ, zero, suc, ◌+◌, ◌*◌, ◌<◌, ◌≤◌, eqb, Bool, true, Option, Some, None, List, [], ◌∷◌, ◌++◌, length, get_or, replicate, take, refl, sym, ap, ◌∙◌, arith}
 use Rattle.std.specs.Prelude.{slice_get, slice_set}
 use Rattle.std.specs.List.{list_all, list_any}
 use Rattle.std.specs.Option.{option_flatten}
 use Rattle.std.proofs.lemmas.Bool.Decides.{nat_tests}
-use Rattle.std.proofs.lemmas.List.{take_more, take_all}
+use Rattle.std.proofs.lemmas.List.{take_more}
 use Rattle.std.proofs.lemmas.List.Folds.{list_all-append}
 use Rattle.ckrt_thread.specs.declared.records.Thread.{Thread}
 use Rattle.ckrt_thread.specs.Abi.{RA, SP, PROGRAM_START, RETURN_GATE}
-use Rattle.ckrt_thread.specs.State.{State, IsWellFormed, thread_of, holds, is_live, is_on_hart, is_proper_slot, first_of_program}
+use Rattle.ckrt_thread.specs.State.{State, IsWellFormed, holds, is_live, is_on_hart, is_proper_slot, first_of_program}
 use Rattle.ckrt_thread.proofs.Counting.{count_of_some}
 use Rattle.ckrt_thread.proofs.Known.{live_range}
 use Rattle.ckrt_thread.proofs.Changes.{well_formed_fresh}

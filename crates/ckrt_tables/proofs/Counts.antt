@@ -1,11 +1,9 @@
 -- The counts of a lock's readers are known by the readers that they are.
-use Rattle.std.proofs.Common.{◌≡◌, ℕ, zero, suc, ◌+◌, ◌≤◌, ◌<◌, ◌==◌, Bool, true, false, if◌then◌else◌, List, [], ◌∷◌, ◌++◌, length, length-append, replicate, refl, sym, ap, ◌∙◌, append_assoc, arith}
+use Rattle.std.proofs.Common.{◌≡◌, ℕ, zero, suc, ◌+◌, ◌≤◌, ◌==◌, Bool, true, false, if◌then◌else◌, List, [], ◌∷◌, ◌++◌, length, length-append, replicate, refl, sym, ap, ◌∙◌, append_assoc, arith}
 use Rattle.std.proofs.lemmas.Bool.Decides.{nat_tests}
-use Rattle.std.proofs.lemmas.List.{append-nil}
 use Rattle.std.proofs.Math.Seq.{set-append_seam}
 use Rattle.std.specs.Prelude.{slice_set}
 use Rattle.std.specs.List.{list_all}
-use Rattle.ckrt_tables.specs.declared.reading_objects.Reader.{Reader}
 use Rattle.ckrt_tables.specs.Records.{reader_at, readers_from}
 use Rattle.ckrt_tables.specs.Savable.{is_half}
 use Rattle.ckrt_tables.specs.Objects.{fits_reader, with_readers}

@@ -1,5 +1,5 @@
 -- No two savable states have one encoding: no encoding of a part begins another's.
-use Rattle.std.proofs.Common.{◌≡◌, ℕ, zero, suc, ◌+◌, ◌*◌, ◌<◌, ◌≤◌, ◌^◌, ◌==◌, Bool, true, false, not, if◌then◌else◌, Option, Some, None, is_some, unwrap_or, List, [], ◌∷◌, ◌++◌, length, get_or, drop, replicate, refl, sym, ap, ◌∙◌, append_assoc, arith}
+use Rattle.std.proofs.Common.{◌≡◌, ℕ, zero, suc, ◌+◌, ◌*◌, ◌<◌, ◌≤◌, ◌^◌, Bool, true, false, not, Option, Some, None, is_some, unwrap_or, List, [], ◌∷◌, ◌++◌, length, get_or, drop, replicate, refl, sym, ap, ◌∙◌, append_assoc, arith}
 use Rattle.std.proofs.lemmas.Bool.Decides.{nat_tests}
 use Rattle.std.proofs.lemmas.List.{drop_at, drop_all}
 use Rattle.std.proofs.Math.Seq.{drop-cons}
@@ -28,7 +28,7 @@ use Rattle.ckrt_rwlock.specs.declared.records.RwLock.{RwLock}
 use Rattle.ckrt_calls.specs.declared.table.Status.TheVariants as status
 use Rattle.ckrt_calls.specs.declared.table.Tables.{Tables}
 use Rattle.ckrt_tables.specs.declared.reading_objects.Reader.{Reader}
-use Rattle.ckrt_tables.specs.Records.{id_or_0, cause_number, cause_from, counted, one_byte, two_bytes, hart_bytes, flag, flags_of, value_of, registers_of, handlers_of, registers_bytes, handler_bytes, thread_bytes, kind_of, result_of, first_name, second_name, reason_from, wait_bytes, mutex_kind_number, mutex_bytes, barrier_bytes, reader_at, readers_from, readers_of, reader_bytes, rwlock_bytes}
+use Rattle.ckrt_tables.specs.Records.{id_or_0, cause_number, cause_from, counted, one_byte, two_bytes, hart_bytes, flag, flags_of, value_of, registers_of, handlers_of, registers_bytes, handler_bytes, thread_bytes, kind_of, result_of, first_name, second_name, reason_from, wait_bytes, mutex_kind_number, mutex_bytes, barrier_bytes, readers_from, readers_of, reader_bytes, rwlock_bytes}
 use Rattle.ckrt_tables.specs.Encoding.{status_bytes, queue_bytes}
 use Rattle.ckrt_tables.specs.Savable.{is_half, is_word, is_long, if_there, fit_registers, fits_handler, fits_thread, fits_slot, fits_reason, fits_wait, is_id, fits_mutex, fits_barrier, fits_rwlock, fits_status, AreDistinct}
 use Rattle.ckrt_tables.specs.Objects.{fits_reader, with_readers}

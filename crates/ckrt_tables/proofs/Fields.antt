@@ -1,5 +1,5 @@
 -- The kind of a mutex and who owns it are known by the bytes that they have.
-use Rattle.std.proofs.Common.{◌≡◌, ◌≢◌, ℕ, true, Option, Some, None, unwrap_or, refl, sym, ap, ◌∙◌, arith}
+use Rattle.std.proofs.Common.{◌≡◌, ◌≢◌, ℕ, true, Option, Some, None, unwrap_or, refl, ap, arith}
 use Rattle.std.proofs.lemmas.Bool.Decides.{nat_tests}
 use Rattle.ckrt_mutex.specs.declared.records.Kind.{Kind}
 use Rattle.ckrt_mutex.specs.declared.records.Kind.TheVariants as kind

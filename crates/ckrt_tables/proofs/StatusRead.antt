@@ -1,5 +1,5 @@
 -- The status that is read.
-use Rattle.std.proofs.Common.{◌≡◌, ℕ, Bool, true, false, eqb, ◌++◌, refl, ap, ◌∙◌, arith}
+use Rattle.std.proofs.Common.{◌≡◌, ℕ, Bool, true, false, eqb, refl, ap, ◌∙◌, arith}
 use Rattle.std.proofs.lemmas.Bool.Decides.{nat_tests}
 use Rattle.ckrt_rv32i.specs.declared.execution.Cause.{Cause}
 use Rattle.ckrt_rv32i.specs.declared.execution.Cause.TheVariants as cause

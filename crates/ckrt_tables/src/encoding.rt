@@ -136,7 +136,8 @@ pub fn encode_tables(tables: &Tables, held: &Held, out: &mut [u8]) -> usize
     ensures longest { result ≤ LONGEST_TABLES }
     ensures front { take result out.new ≡ encoding_of tables.now held.now.items }
     ensures back { drop result out.new ≡ drop result out.old }
-    ensures decodes { DecodesTo tables.now.threads.hart_count (take result out.new) (Some (record { tables = tables.now; held = held.now.items })) }
+    ensures decodes { DecodesTo tables.now.threads.hart_count (take result out.new)
+        (Some (record { tables = tables.now; held = held.now.items })) }
 {
     known_savable(tables, held);
     put_parts(out, tables, held)

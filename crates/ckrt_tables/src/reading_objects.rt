@@ -95,7 +95,7 @@ pub struct ReadCounts {
 }
 
 /// A thread that has read locks.
-#[derive(Clone, Copy, Debug, Drop)]
+#[derive(Clone, Copy, Drop)]
 pub struct Reader {
     /// The thread, 1 to 64.
     pub id: ThreadId,

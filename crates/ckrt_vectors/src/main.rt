@@ -1,10 +1,10 @@
-//! Compares the processor with outside vectors: random programs as an emulator ran them, and words as a
-//! disassembler read them. Prints how many agree.
+//! Compares the processor with outside vectors: random programs as an emulator ran them, and words with the texts
+//! that a disassembler gave them. Prints how many agree.
 #![tactic(auto)]
 
 use anyhow::{Context, Result, ensure};
 use ckrt_main::{Config, serve_image};
-use ckrt_rv32i::{decode, encode};
+use ckrt_rv32i::{decode, encode, instr_text, parse_instr};
 use std::alloc::Global;
 use std::fs;
 
@@ -49,14 +49,27 @@ fn agrees(alloc: Global, line: &str) -> Result<bool> {
     Ok(console(alloc, image.as_slice())?.as_str() == want)
 }
 
-/// Whether a line `WORD TEXT` has a text exactly where the word is an instruction, and gives the word back.
+/// Whether this is the word's text: `-` where the word is no instruction.
+fn is_text_of(text: &str, word: u32) -> bool {
+    match decode(word) {
+        Some(instr) => instr_text(&instr).as_str() == text,
+        None => text == "-",
+    }
+}
+
+/// Whether this is the text's word, if the text is an instruction's.
+fn is_word_of(word: u32, text: &str) -> bool {
+    match parse_instr(text.as_bytes()) {
+        Some(instr) => encode(&instr) == word,
+        None => text == "-",
+    }
+}
+
+/// Whether the word and the text of a line `WORD TEXT` belong together, both ways.
 fn reads(line: &str) -> Result<bool> {
     let (word, text) = line.split_once(' ').context("a word has no text")?;
     let word = u32::from_str_radix(word, 16)?;
-    Ok(match decode(word) {
-        Some(instr) => text != "-" && encode(&instr) == word,
-        None => text == "-",
-    })
+    Ok(is_text_of(text, word) && is_word_of(word, text))
 }
 
 /// How many of the lines are programs that agree; all have to.
@@ -69,7 +82,7 @@ fn count_programs(alloc: Global, lines: &str) -> Result<u64> {
     Ok(count)
 }
 
-/// How many of the lines are words that agree; all have to.
+/// How many of the lines are words with their texts; all have to.
 fn count_words(lines: &str) -> Result<u64> {
     let mut count = 0u64;
     for line in lines.lines() {
@@ -93,6 +106,6 @@ fn main(rt: HostRuntime) -> Result<()> {
     let count = compare_programs(&rt)?;
     println!(rt; "{count} programs agree")?;
     let count = compare_words(&rt)?;
-    println!(rt; "{count} words agree")?;
+    println!(rt; "{count} words and texts agree")?;
     Ok(())
 }

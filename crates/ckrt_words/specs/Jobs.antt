@@ -1,5 +1,5 @@
 -- What the program's words ask for.
-use Rattle.std.specs.Prelude.{ℕ, ◌^◌, ◌&&◌, Bool, nat_lt, if◌then◌else◌, List, [], ◌∷◌, length, codes, Option, Some, None, option_and_then, option_map}
+use Rattle.std.specs.Prelude.{ℕ, ◌^◌, ◌&&◌, Bool, false, nat_lt, if◌then◌else◌, List, [], ◌∷◌, length, codes, Option, Some, None, option_and_then, option_map}
 use Rattle.std.specs.List.{list_all}
 use Rattle.std.specs.Char.{digit_value}
 use Rattle.std.specs.Str.{bytes_eq}
@@ -21,6 +21,7 @@ pub record Formatting : Type 0 where
 -- a job, by its texts and numbers alone
 pub data Request : Type 0 where
   stored : Request
+  version : Request
   format : Formatting → Request
   run : Text → Request
 
@@ -29,6 +30,7 @@ formatting_of f = record { disk = f.disk.now; image = f.image.now; pages = f.pag
 
 abbrev pub request_of : Job → Request
 request_of job.Stored = stored
+request_of job.Version = version
 request_of (job.Format f) = format (formatting_of f)
 request_of (job.Run disk) = run disk.now
 
@@ -67,7 +69,15 @@ request_in p =
     else if bytes_eq p.0 (codes "run") then option_map run (first_of (codes "disk") p.1)
     else None
 
--- what the words after the program's name ask for: the stored program where there are none, else what `clap` makes of them
+-- the one word `--version`
+abbrev pub asks_version : List Text → Bool
+asks_version (w ∷ []) = bytes_eq w (codes "--version")
+asks_version _ = false
+
+-- what the words after the program's name ask for: the stored program where there are none, the version where they are the one word for it,
+-- else what `clap` makes of them
 abbrev pub request_of_words : List Text → Option Request
 request_of_words [] = Some stored
-request_of_words (w ∷ ws) = option_and_then request_in (subcommand_of ckrt_app (w ∷ ws))
+request_of_words (w ∷ ws) =
+    if asks_version (w ∷ ws) then Some version
+    else option_and_then request_in (subcommand_of ckrt_app (w ∷ ws))

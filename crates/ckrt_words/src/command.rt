@@ -86,7 +86,7 @@ fn bare_command<'a>(alloc: Global) -> Result<Command<'a>, AllocError>
 {
     Command::new(alloc, "ckrt")
         .about(
-            "Checkpoint and restart of pthread programs; without words it serves a stored program in memory",
+            "Checkpoint and restart of pthread programs; without words it serves a stored program in memory, and `--version` tells the version",
         )
         .no_binary_name(true)
         .disable_help_subcommand(true)

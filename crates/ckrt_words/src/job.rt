@@ -5,6 +5,8 @@ use thiserror::Error;
 pub enum Job<'a> {
     /// Serve the stored program in memory: there are no words.
     Stored,
+    /// Tell the version: the one word `--version`.
+    Version,
     /// Make a disk with an image: `format DISK IMAGE`.
     Format(FormatJob<'a>),
     /// Recover the disk of this path and serve it: `run DISK`.

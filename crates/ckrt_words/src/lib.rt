@@ -1,6 +1,10 @@
 //! The words of the program: what they ask for, read by `clap`.
 //!
 //! [`read_words`] gives the [`Job`] that the words name, or the text to print where they name none. It opens nothing.
+//!
+//! Proved: where it answers Ok its job is the stored guest exactly for no words, the version for the one word `--version`,
+//! else what the command line's meaning in `clap` gives for the words: the command, DISK, IMAGE, each option's value or
+//! default. Usage is never answered for no words, nor for words that `clap` takes. The texts on usage are tested only.
 #![tactic(auto)]
 
 mod command;

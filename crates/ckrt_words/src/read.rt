@@ -1,8 +1,8 @@
 //! From words to a job.
-ghost use Rattle.std.specs.Prelude.{◌≡◌, ◌≢◌, [], IfOk, IfErr, IsErrOf, Some, map, true};
+ghost use Rattle.std.specs.Prelude.{◌≡◌, ◌≢◌, [], IfOk, IfErr, IsErrOf, Some, false, map, true};
 ghost use Rattle.clap.specs.Words.{fault_of, kind_of, subcommand_of, subcommand_rows_of, takes};
 ghost use Rattle.ckrt_words.specs.Commands.{ckrt_app};
-ghost use Rattle.ckrt_words.specs.Jobs.{request_of, request_of_words};
+ghost use Rattle.ckrt_words.specs.Jobs.{asks_version, request_of, request_of_words};
 
 use crate::job::{Job, WordsFault};
 use crate::{command, matches};
@@ -20,14 +20,22 @@ fn matches_of<'a>(alloc: Global, words: &'a [&'a str]) -> Result<ArgMatches<'a>,
     command.try_get_matches_from(words)
 }
 
-/// The text of a fault that `clap` found.
+/// What follows a number that isn't one.
+const FORMAT_USAGE: &str = "Usage: ckrt format <DISK> <IMAGE> [--pages 16 to 1024] [--harts 1 to 8] [--journal 4096 to 1048576 by 4096]";
+
+/// The text of a fault that `clap` found, with the usage behind it where it is of a number.
 fn fault(alloc: Global, error: &Error) -> WordsFault
     ensures { kind_of error.now ≡ ErrorKind.OutOfMemory → result ≡ WordsFault.OutOfMemory }
 {
     if error.kind() == ErrorKind::OutOfMemory {
         return WordsFault::OutOfMemory;
     }
-    match format!(in alloc; "{error}") {
+    let text = if error.kind() == ErrorKind::ValueValidation {
+        format!(in alloc; "{error}\n{FORMAT_USAGE}\n")
+    } else {
+        format!(in alloc; "{error}")
+    };
+    match text {
         Ok(text) => WordsFault::Usage(text),
         Err(_) => WordsFault::OutOfMemory,
     }
@@ -38,8 +46,15 @@ fn usage(alloc: Global) -> Result<String, AllocError> {
     command::command(alloc)?.render_usage()
 }
 
-/// The job that the words after the program's name ask for: [`Job::Stored`] where there are none, else what `clap` makes
-/// of them. An option that isn't given has 64 pages, 1 hart and a journal of 65,536 bytes; one that is given has to be a
+/// Whether there is one word, `--version`.
+fn is_version(words: &[&str]) -> bool
+    ensures { result ≡ asks_version (map (λ s. s.now) words.now) }
+{
+    words.len() == 1 && words[0] == "--version"
+}
+
+/// The job that the words after the program's name ask for: [`Job::Stored`] where there are none, [`Job::Version`] where
+/// they are `--version` alone, else what `clap` makes of them. An option that isn't given has 64 pages, 1 hart and a journal of 65,536 bytes; one that is given has to be a
 /// number below 2^32.
 ///
 /// # Errors
@@ -48,12 +63,15 @@ fn usage(alloc: Global) -> Result<String, AllocError> {
 /// [`WordsFault::OutOfMemory`] where memory is refused.
 pub fn read_words<'a>(alloc: Global, words: &'a [&'a str]) -> Result<Job<'a>, WordsFault>
     ensures job { IfOk result (λ j. request_of_words (map (λ s. s.now) words.entry.now) ≡ Some (request_of j)) }
-    ensures faultless { IfOk result (λ _. words.entry.now ≢ [] → fault_of ckrt_app (map (λ s. s.now) words.entry.now) ≡ []) }
+    ensures faultless { IfOk result (λ _. words.entry.now ≢ [] → asks_version (map (λ s. s.now) words.entry.now) ≡ false → fault_of ckrt_app (map (λ s. s.now) words.entry.now) ≡ []) }
     ensures stored { IfErr result (λ _. words.entry.now ≢ []) }
     ensures taken { IfErr result (λ e. takes ckrt_app (map (λ s. s.now) words.entry.now) ≡ true → e ≡ WordsFault.OutOfMemory) }
 {
     if words.is_empty() {
         return Ok(Job::Stored);
+    }
+    if is_version(words) {
+        return Ok(Job::Version);
     }
     let matches = match matches_of(alloc, words) {
         Ok(matches) => matches,

@@ -2,8 +2,10 @@ use Rattle.std.proofs.Common.{◌≡◌, ◌≤◌, ◌+◌, ℕ, true, false, L
 use Rattle.std.proofs.lemmas.Result.{on_ok_weaker}
 use Rattle.ckrt_disk.specs.Disk.{IsOverwritten}
 use Rattle.ckrt_disk.proofs.FrameLemmas.{failed_within}
-use Rattle.ckrt_image.specs.Layout.{size_needed, fresh_tables}
-use Rattle.ckrt_image.specs.Fields.{header_fields, fresh_header}
+use Rattle.ckrt_tables.specs.Fresh.{fresh_bytes}
+use Rattle.ckrt_checkpoint.specs.Fields.{header_fields}
+use Rattle.ckrt_checkpoint.specs.Layout.{size_needed}
+use Rattle.ckrt_image.specs.Fields.{fresh_header}
 use Rattle.ckrt_image.specs.Format.{FormatsBehindGate}
 use Rattle.ckrt_image.proofs.FormatLemmas.{fresh_area, first_part, next_part}
 use Rattle.ckrt_image.proofs.formatting.write_area.Goals as goal
@@ -61,6 +63,6 @@ returns-clause-written g c = on_ok_weaker c.write_part-4.result (λ last honest�
     (subst (λ at. IsOverwritten (d.content c.args.disk.now) at (165 ∷ []) (d.content c.write_part.new.disk)) c.area_at.ensures (c.in_ok-write_part.ensures.written honest₁))
     (subst (λ at. IsOverwritten (d.content c.write_part.new.disk) (at + 8) (header_fields fresh_header) (d.content c.write_part-2.new.disk)) c.area_at-2.ensures
     (subst (λ (l : List ℕ). IsOverwritten (d.content c.write_part.new.disk) (c.area_at-2.result + 8) l (d.content c.write_part-2.new.disk)) (c.as_slice.ensures.value ∙ c.header_fields-header.ensures) (c.in_ok-write_part-2.ensures.written honest₂)))
-    (subst (λ at. IsOverwritten (d.content c.write_part-2.new.disk) at (fresh_tables config) (d.content c.write_part-3.new.disk)) c.tables_at.ensures
+    (subst (λ at. IsOverwritten (d.content c.write_part-2.new.disk) at (fresh_bytes config.pages) (d.content c.write_part-3.new.disk)) c.tables_at.ensures
     (subst (λ (l : List ℕ). IsOverwritten (d.content c.write_part-2.new.disk) c.tables_at.result l (d.content c.write_part-3.new.disk)) (c.as_slice-2.ensures.value ∙ c.fresh_tables-tables.ensures) (c.in_ok-write_part-3.ensures.written honest₃)))
     (subst (λ at. IsOverwritten (d.content c.write_part-3.new.disk) at c.args.memory.now (d.content c.write_part-4.new.disk)) c.memory_at.ensures (last honest₄))) c.write_part-4.ensures.written

@@ -3,7 +3,7 @@ use Rattle.std.proofs.lemmas.Result.{on_ok_weaker}
 use Rattle.ckrt_disk.specs.Disk.{IsOverwritten}
 use Rattle.ckrt_disk.proofs.FrameLemmas.{failed_within}
 use Rattle.ckrt_journal.specs.declared.journal.Journal.{Journal}
-use Rattle.ckrt_image.specs.Layout.{size_needed, journal_of}
+use Rattle.ckrt_checkpoint.specs.Layout.{size_needed, journal_of}
 use Rattle.ckrt_image.specs.Format.{FormatsBehindGate}
 use Rattle.ckrt_image.proofs.FormatLemmas.{is_fresh, some_pages, first_part, next_part}
 use Rattle.ckrt_image.proofs.formatting.write_blocks.Goals as goal

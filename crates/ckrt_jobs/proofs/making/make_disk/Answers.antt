@@ -2,7 +2,7 @@ use Rattle.std.proofs.Common.{rules, cond, not, length, ◌≡◌, ◌∙◌, �
 use Rattle.std.specs.Prelude.{Result, is_ok}
 use Rattle.std.proofs.lemmas.Bool.{le-ltb}
 use Rattle.ckrt_image.specs.Format.{IsRefusedBy}
-use Rattle.ckrt_image.specs.Layout.{is_valid, memory_size, size_needed}
+use Rattle.ckrt_checkpoint.specs.Layout.{is_valid, memory_size, size_needed}
 use Rattle.ckrt_image.specs.declared.fault.FormatFault.{FormatFault}
 use Rattle.ckrt_image.specs.declared.fault.FormatFault.TheVariants.{BadConfig, ImageTooLong, TooSmall}
 use Rattle.ckrt_jobs.proofs.making.make_disk.Goals as goal

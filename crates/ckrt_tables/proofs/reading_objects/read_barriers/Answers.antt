@@ -1,4 +1,4 @@
-use Rattle.std.proofs.Common.{◌≡◌, ◌<◌, [], arith, rules}
+use Rattle.std.proofs.Common.{◌<◌, arith, rules}
 use Rattle.ckrt_barrier.specs.WellFormed.{IsTable}
 use Rattle.ckrt_tables.specs.Records.{counted, one_byte, barrier_bytes}
 use Rattle.ckrt_tables.specs.Savable.{fits_barrier}

@@ -1,4 +1,4 @@
-use Rattle.std.proofs.Common.{◌≡◌, ◌<◌, [], arith, rules}
+use Rattle.std.proofs.Common.{◌<◌, arith, rules}
 use Rattle.ckrt_objects.specs.Appended.{IsTableUpTo}
 use Rattle.ckrt_rwlock.specs.RwLock.{IsTable}
 use Rattle.ckrt_tables.specs.Records.{counted, one_byte, rwlock_bytes}

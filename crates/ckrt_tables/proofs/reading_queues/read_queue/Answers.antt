@@ -1,6 +1,5 @@
-use Rattle.std.proofs.Common.{◌≡◌, ◌++◌, ◌<◌, ◌^◌, true, length, sym, ◌∙◌, arith}
+use Rattle.std.proofs.Common.{◌++◌, ◌<◌, ◌^◌, length, sym, ◌∙◌, arith}
 use Rattle.std.proofs.lemmas.Bool.Decides.{nat_tests}
-use Rattle.ckrt_tables.specs.Savable.{is_half}
 use Rattle.ckrt_tables.proofs.reading_queues.read_queue.Goals as goal
 
 pub returns-then-count-limit-clause-found : goal.returns-then-count-limit-clause-found

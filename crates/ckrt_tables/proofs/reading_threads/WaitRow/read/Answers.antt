@@ -1,5 +1,4 @@
-use Rattle.std.proofs.Common.{◌≡◌, true, ◌∷◌, ◌++◌, is_some, unwrap_or, refl, sym, ap, ◌∙◌, arith}
-use Rattle.std.proofs.lemmas.Bool.Decides.{nat_tests}
+use Rattle.std.proofs.Common.{◌∷◌, ◌++◌, is_some, unwrap_or, ◌∙◌}
 use Rattle.byteorder.specs.Endian.{little_bytes}
 use Rattle.ckrt_tables.specs.Records.{flag, kind_of, result_of, first_name, second_name}
 use Rattle.ckrt_tables.proofs.ThreadsRead.{same_wait, wait_fits, reason_found}

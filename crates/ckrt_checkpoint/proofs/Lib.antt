@@ -1,0 +1,5 @@
+pub mod PickLemmas
+pub mod ByteLemmas
+pub mod WriteLemmas
+pub mod SaveLemmas
+pub mod HoldLemmas

@@ -1,0 +1,26 @@
+-- What an answer says of the disk, and of the value that its content gives.
+use Rattle.std.specs.Prelude.{◌≡◌, Bool, true, false, Result, Ok, Err}
+use Rattle.ckrt_checkpoint.specs.declared.fault.AreaFault.{AreaFault}
+use Rattle.ckrt_checkpoint.specs.declared.fault.AreaFault.TheVariants.{Device, Damaged, GenerationsUsed, OutOfMemory, Version}
+
+-- the disk failed it
+abbrev pub is_device : {X : Type 0} → Result X AreaFault → Bool
+is_device (Ok x) = false
+is_device (Err Device) = true
+is_device (Err Damaged) = false
+is_device (Err GenerationsUsed) = false
+is_device (Err OutOfMemory) = false
+is_device (Err Version) = false
+
+-- Device and OutOfMemory say nothing of the bytes
+abbrev pub AgreesOnFault : {Y : Type 0} → AreaFault → Result Y AreaFault → Type 0
+AgreesOnFault Device value = Unit {0}
+AgreesOnFault Damaged value = value ≡ Err Damaged
+AgreesOnFault GenerationsUsed value = value ≡ Err GenerationsUsed
+AgreesOnFault OutOfMemory value = Unit {0}
+AgreesOnFault Version value = value ≡ Err Version
+
+-- what a function returned, seen by view, is the value that the content gives, unless the device or the memory failed
+abbrev pub Agrees : {X Y : Type 0} → (X → Y) → Result X AreaFault → Result Y AreaFault → Type 0
+Agrees view (Ok x) value = value ≡ Ok (view x)
+Agrees view (Err e) value = AgreesOnFault e value

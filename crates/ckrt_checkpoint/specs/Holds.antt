@@ -1,0 +1,31 @@
+-- What an area holds, page by page.
+use Rattle.std.specs.Prelude.{◌≡◌, ◌≤◌, ◌<◌, ◌+◌, ◌*◌, ℕ, List, [], ◌∷◌, take, drop}
+use Rattle.ckrt_memory.specs.Pages.{page_of}
+use Rattle.ckrt_checkpoint.specs.declared.config.Config.{Config}
+use Rattle.ckrt_checkpoint.specs.declared.header.Header.{Header}
+use Rattle.ckrt_checkpoint.specs.declared.layout.TheConstants.{CLOSED, OPEN}
+use Rattle.ckrt_checkpoint.specs.Fields.{HasBytes, header_fields}
+use Rattle.ckrt_checkpoint.specs.Layout.{area_at, tables_at, journal_of}
+
+-- the place of page p in an area, from 1 on
+abbrev pub slot_at : Config → ℕ → ℕ → ℕ
+slot_at c area p = area_at c area + 102400 + 4096 * p
+
+-- the 4,096 bytes there
+abbrev pub slot : Config → ℕ → ℕ → List ℕ → List ℕ
+slot c area p image = take 4096 (drop (slot_at c area p) image)
+
+-- A state stands behind an area's gate: the fields of its header, the bytes of its tables, and each page of its memory in its slot.
+pub record HasState (c : Config) (area : ℕ) (h : Header) (tables memory image : List ℕ) : Type 0 where
+  pub fields : HasBytes image (area_at c area + 8) (header_fields h)
+  pub encoded : HasBytes image (tables_at c area) tables
+  pub pages : (p : ℕ) → 1 ≤ p → p < c.pages → slot c area p image ≡ page_of memory p
+
+-- An area holds a state whole: it stands behind its gate, and the gate is open.
+pub record HoldsArea (c : Config) (area : ℕ) (h : Header) (tables memory image : List ℕ) : Type 0 where
+  pub gate : HasBytes image (area_at c area) (OPEN ∷ [])
+  pub state : HasState c area h tables memory image
+
+-- the first gate of an area's journal is closed: there is no batch in it
+abbrev pub HasNoBatch : Config → ℕ → List ℕ → Type 0
+HasNoBatch c area image = HasBytes image (journal_of c area).at (CLOSED ∷ [])

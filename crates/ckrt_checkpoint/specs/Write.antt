@@ -1,0 +1,109 @@
+-- What writing an area does: a checkpoint into the area that isn't in use.
+use Rattle.std.specs.Prelude.{◌≡◌, ◌⊎◌, ◌+◌, ◌-◌, ◌^◌, ℕ, Bool, true, false, if◌then◌else◌, List, length, Result, Ok, Err, OnOk, IfErr, ◌↔◌}
+use Rattle.ckrt_disk.specs.Disk.{IsWithin}
+use Rattle.ckrt_disk.specs.Frame.{IsSameOutside, WritesWithin}
+use Rattle.ckrt_disk.specs.declared.disk.Disk.{Ghosts}
+use Rattle.ckrt_checkpoint.specs.declared.config.Config.{Config}
+use Rattle.ckrt_checkpoint.specs.declared.fault.AreaFault.{AreaFault}
+use Rattle.ckrt_checkpoint.specs.declared.fault.AreaFault.TheVariants.{Device, GenerationsUsed}
+use Rattle.ckrt_checkpoint.specs.declared.header.Header.{Header}
+use Rattle.ckrt_checkpoint.specs.declared.save_point.SavePoint.{SavePoint}
+use Rattle.ckrt_checkpoint.specs.Answers.{is_device}
+use Rattle.ckrt_checkpoint.specs.Holds.{HasState, HoldsArea, HasNoBatch}
+use Rattle.ckrt_checkpoint.specs.Layout.{area_at, area_size, is_gate_open, journal_of, memory_at, memory_size}
+
+-- THE STATE THAT IS WRITTEN
+
+-- the area that isn't in use
+abbrev pub other_area : SavePoint → ℕ
+other_area point = 1 - point.area
+
+-- the header that it gets: one generation more
+abbrev pub next_header : SavePoint → List ℕ → Header
+next_header point tables = record {
+  is_open = true;
+  generation = point.generation + 1;
+  count = point.count;
+  offset = point.offset;
+  tables = length tables;
+  version = 1;
+}
+
+-- WHERE IT WRITES: in the area, and the first byte of its journal
+
+abbrev pub GateAt : Config → ℕ → ℕ → Type 0
+GateAt c area = IsWithin (area_at c area) 1
+
+-- all but the gate
+abbrev pub FillsAt : Config → ℕ → ℕ → Type 0
+FillsAt c area i = IsWithin (area_at c area + 1) (area_size c - 1) i ⊎ IsWithin (journal_of c area).at 1 i
+
+abbrev pub WritesAt : Config → ℕ → ℕ → Type 0
+WritesAt c area i = GateAt c area i ⊎ FillsAt c area i
+
+-- WHAT A STOP OF IT MAY LEAVE, of a disk that read `content` before it
+
+-- A gate was open, and it alone isn't as before.
+pub record IsClosing (at : ℕ) (content image : List ℕ) : Type 0 where
+  pub was_open : is_gate_open at content ≡ true
+  pub outside : IsSameOutside (IsWithin at 1) content image
+
+-- The gate of the area is closed, and all but the area and the first byte of its journal is as before.
+pub record IsFilling (c : Config) (area : ℕ) (content image : List ℕ) : Type 0 where
+  pub gate : is_gate_open (area_at c area) image ≡ false
+  pub outside : IsSameOutside (WritesAt c area) content image
+
+-- The area holds the state whole, its journal has no batch, and all else is as before.
+pub record HasSaved (c : Config) (area : ℕ) (h : Header) (tables memory content image : List ℕ) : Type 0 where
+  pub holds : HoldsArea c area h tables memory image
+  pub no_batch : HasNoBatch c area image
+  pub outside : IsSameOutside (WritesAt c area) content image
+
+abbrev pub IsSaving : Config → SavePoint → (tables memory content image : List ℕ) → Type 0
+IsSaving c point tables memory content image =
+    IsClosing (area_at c (other_area point)) content image
+    ⊎ IsFilling c (other_area point) content image
+    ⊎ HasSaved c (other_area point) (next_header point tables) tables memory content image
+
+-- nothing is pending on the disk
+abbrev pub IsDurable : {D : Type 0} → Ghosts D → D → Type 0
+IsDurable d disk = (i : ℕ) → ¬ d.pending disk i
+
+-- ITS PARTS
+
+-- closing the gate: a write and a sync where it was open
+abbrev pub calls_of_closing : {X : Type 0} → Result Bool X → ℕ
+calls_of_closing (Ok true) = 2
+calls_of_closing (Ok false) = 0
+calls_of_closing (Err e) = 0
+
+-- where the pages lie
+abbrev pub PagesAt : Config → ℕ → ℕ → Type 0
+PagesAt c area = IsWithin (memory_at c area) (memory_size c)
+
+-- what stands behind the gate when it is opened
+pub record IsFilled (c : Config) (area : ℕ) (h : Header) (tables memory content : List ℕ) : Type 0 where
+  pub state : HasState c area h tables memory content
+  pub no_batch : HasNoBatch c area content
+
+-- ITS CALLS
+
+-- a write and a sync where the gate was open; then the journal's first gate, the tables, each page, the header's fields, a sync, the
+-- gate, a sync
+abbrev pub calls_of : {X : Type 0} → Config → Bool → Result X AreaFault → ℕ
+calls_of c was_open (Ok x) = (if was_open then 2 else 0) + c.pages + 5
+calls_of c was_open (Err e) = 0
+
+-- The calls of the disk: writes in the area and the first byte of its journal, as many as it takes.
+pub record IsAreaWrite {D X : Type 0} (d : Ghosts D) (c : Config) (area : ℕ) (old new : D) (result : Result X AreaFault) : Type 0 where
+  -- whether the gate of the area was open
+  pub was_open : Bool
+  -- which is what it read as
+  pub read : d.is_honest new → OnOk result (was_open ≡ is_gate_open (area_at c area) (d.content old))
+  pub within : WritesWithin d (WritesAt c area) (calls_of c was_open result) old new (is_device result)
+
+-- the last generation was in use: that is the answer, before any call of the disk; else Device is the only error
+pub record IsRefusedExactly {D X : Type 0} (point : SavePoint) (old new : D) (result : Result X AreaFault) : Type 0 where
+  pub exact : result ≡ Err GenerationsUsed ↔ point.generation ≡ 2 ^ 64 - 1
+  pub unchanged : result ≡ Err GenerationsUsed → new ≡ old
+  pub errors : IfErr result (λ e. (e ≡ Device) ⊎ (e ≡ GenerationsUsed))

@@ -1,0 +1,111 @@
+-- What the program prints on standard error for a fault: a line in plain words, and a line with the fault's name.
+use Rattle.std.specs.Prelude.{ℕ, List, [], ◌∷◌, ◌++◌, codes, Option, Some, None}
+use Rattle.std.specs.declared.io.ErrorKind.{ErrorKind}
+use Rattle.std.specs.declared.io.ErrorKind.TheVariants as kind
+use Rattle.ckrt_jobs.specs.Names.{name_of}
+use Rattle.ckrt_jobs.specs.declared.fault.JobFault.{JobFault}
+use Rattle.ckrt_jobs.specs.declared.fault.JobFault.TheVariants as job
+use Rattle.ckrt_jobs.specs.declared.file.FileFault.{FileFault}
+use Rattle.ckrt_jobs.specs.declared.file.FileFault.TheVariants as fault
+use Rattle.ckrt_jobs.specs.declared.file.JobFile.{JobFile}
+use Rattle.ckrt_jobs.specs.declared.file.JobFile.TheVariants as file
+use Rattle.ckrt_image.specs.declared.fault.FormatFault.{FormatFault}
+use Rattle.ckrt_image.specs.declared.fault.FormatFault.TheVariants as format
+use Rattle.ckrt_image.specs.declared.fault.RecoverFault.{RecoverFault}
+use Rattle.ckrt_image.specs.declared.fault.RecoverFault.TheVariants as recover
+use Rattle.ckrt_main.specs.declared.fault.ServeFault.{ServeFault}
+use Rattle.ckrt_main.specs.declared.fault.ServeFault.TheVariants as serve
+use Rattle.ckrt_words.specs.Jobs.{Request, format as asks_format, run as asks_run}
+
+-- what the system's error says of a file (POSIX.1-2017, open, read, write: ENOENT, EISDIR, EACCES and EPERM, ENOSPC, EROFS; EWOULDBLOCK of a
+-- lock that is held)
+abbrev pub file_fault_of : ErrorKind → FileFault
+file_fault_of kind.NotFound = fault.NotFound
+file_fault_of kind.IsADirectory = fault.IsADirectory
+file_fault_of kind.PermissionDenied = fault.PermissionDenied
+file_fault_of kind.WouldBlock = fault.InUse
+file_fault_of kind.StorageFull = fault.StorageFull
+file_fault_of kind.ReadOnlyFilesystem = fault.ReadOnly
+file_fault_of _ = fault.Other
+
+abbrev pub file_text : JobFile → List ℕ
+file_text file.Image = codes "the image "
+file_text file.Disk = codes "the disk "
+
+abbrev pub file_fault_text : FileFault → List ℕ
+file_fault_text fault.NotFound = codes "there is no such file"
+file_fault_text fault.IsADirectory = codes "it is a directory"
+file_fault_text fault.PermissionDenied = codes "permission denied"
+file_fault_text fault.InUse = codes "another program has it locked"
+file_fault_text fault.StorageFull = codes "no space is left for it"
+file_fault_text fault.ReadOnly = codes "its file system is read-only"
+file_fault_text fault.StreamClosed = codes "a standard stream is closed"
+file_fault_text fault.Other = codes "it can't be opened, read or filled"
+
+-- the file that a fault is of
+abbrev pub file_of : JobFault → Option JobFile
+file_of (job.File at why) = Some at
+file_of (job.Format format.AlreadyFormatted) = Some file.Disk
+file_of (job.Format format.TooSmall) = Some file.Disk
+file_of (job.Format format.ImageTooLong) = Some file.Image
+file_of (job.Format format.Device) = Some file.Disk
+file_of (job.Recover recover.NotFormatted) = Some file.Disk
+file_of (job.Recover recover.Version) = Some file.Disk
+file_of (job.Recover recover.Damaged) = Some file.Disk
+file_of (job.Recover recover.Device) = Some file.Disk
+file_of _ = None
+
+abbrev pub device_advice : List ℕ
+device_advice = codes "a read, write or sync failed; look after the device, then run this again (docs/OPERATING.md)"
+
+abbrev pub memory_advice : List ℕ
+memory_advice = codes "the system refused memory"
+
+-- what is wrong, in plain words, and what to do about it
+abbrev pub advice_of_format : FormatFault → List ℕ
+advice_of_format format.AlreadyFormatted = codes "it holds a program already, and is unchanged; `ckrt run` goes on with it"
+advice_of_format format.TooSmall = codes "it is shorter than pages and journals need"
+advice_of_format format.BadConfig = codes "pages are 16 to 1024, harts 1 to 8, a journal's bytes a multiple of 4096 up to 1048576"
+advice_of_format format.ImageTooLong = codes "it is longer than the guest's memory; choose more pages"
+advice_of_format format.Device = device_advice
+advice_of_format format.OutOfMemory = memory_advice
+
+abbrev pub advice_of_recover : RecoverFault → List ℕ
+advice_of_recover recover.NotFormatted = codes "`ckrt format` didn't make it, or was stopped meanwhile; format it (docs/OPERATING.md)"
+advice_of_recover recover.Version = codes "another version of ckrt made it (docs/FILE_FORMAT.md)"
+advice_of_recover recover.Damaged = codes "it has bytes that ckrt doesn't leave; examples/read_disk.py shows them (docs/FILE_FORMAT.md)"
+advice_of_recover recover.Device = device_advice
+advice_of_recover recover.OutOfMemory = memory_advice
+
+abbrev pub advice_of_serve : ServeFault → List ℕ
+advice_of_serve serve.Read = codes "standard input: a read failed"
+advice_of_serve serve.Write = codes "standard output: a write failed"
+advice_of_serve serve.OutOfMemory = memory_advice
+advice_of_serve serve.Format = codes "the stored program isn't one"
+
+abbrev pub advice_of : JobFault → List ℕ
+advice_of (job.File at why) = file_fault_text why
+advice_of job.OutOfMemory = memory_advice
+advice_of (job.Format f) = advice_of_format f
+advice_of (job.Recover f) = advice_of_recover f
+advice_of (job.Serve f) = advice_of_serve f
+
+-- the path that the words give for a file
+abbrev pub path_of : JobFile → Request → List ℕ
+path_of file.Image (asks_format f) = f.image
+path_of file.Disk (asks_format f) = f.disk
+path_of file.Disk (asks_run disk) = disk
+path_of _ _ = []
+
+-- the file that is spoken of, with its path
+abbrev pub subject_of : Option JobFile → Request → List ℕ
+subject_of None asked = []
+subject_of (Some at) asked = file_text at ++ (path_of at asked ++ codes ": ")
+
+-- the line with the fault's name
+abbrev pub fault_line : JobFault → List ℕ
+fault_line f = codes "ckrt: " ++ (name_of f ++ 10 ∷ [])
+
+-- all that is printed for a fault of what the words ask for
+abbrev pub report_of : Request → JobFault → List ℕ
+report_of asked f = subject_of (file_of f) asked ++ (advice_of f ++ (10 ∷ [] ++ fault_line f))

@@ -1,0 +1,47 @@
+"""The word `format`, on files that are missing, short, long, or hold other bytes or a disk already."""
+from dataclasses import dataclass
+
+from devices import MemoryDisk
+from layout import OPEN, Geometry, Unformatted, format_disk, format_onto, refusal_of_format
+
+
+@dataclass
+class FormatCase:
+    """`before` is what the disk's file holds, None where there is none."""
+    geometry: Geometry
+    image: bytes
+    before: bytes | None
+
+    def outcome(self):
+        """The refusal or None, and what the file holds then. A short file is filled before its first byte is looked at."""
+        refusal = refusal_of_format(self.geometry.size, self.geometry, self.image)
+        if refusal is not None:
+            return refusal, self.before
+        contents = bytearray((self.before or b"").ljust(self.geometry.size, b"\0"))
+        try:
+            format_onto(MemoryDisk(contents), self.geometry, self.image)
+        except Unformatted as fault:
+            return str(fault), bytes(contents)
+        return None, bytes(contents)
+
+
+def random_geometry(chance):
+    pages = chance.choice([16] * 70 + [17] * 9 + [64, 15, 0, 1024, 1025, 1 << 20, (1 << 32) - 1])
+    harts = chance.choice([1] * 40 + [2, 8, 0, 9, (1 << 32) - 1])
+    journal = chance.choice([4096] * 70 + [8192, 1048576, 0, 4095, 4097, 2048, 1052672, (1 << 32) - 4096])
+    return Geometry(pages, harts, journal)
+
+
+def format_case(chance, seed):
+    geometry = random_geometry(chance)
+    size, limit = (geometry.size, geometry.image_limit) if geometry.is_possible() else (4096, 4096)
+    image = chance.randbytes(chance.choice([0, 1, 24, 4095, 4096, 5000, limit, limit, limit + 1, limit + 4096]))
+    length = chance.choice([None, 0, 1, 4096, size - 1, size, size, size + 1, size + 4096])
+    if length is None:
+        return FormatCase(geometry, image, None)
+    before = bytearray(chance.randbytes(length))
+    if before:
+        before[0] = OPEN if chance.random() < 0.2 else chance.choice([0, 1, OPEN - 1, OPEN ^ 0x80, 255])
+    if chance.random() < 0.1 and geometry.is_possible():
+        before = format_disk(geometry, b"")
+    return FormatCase(geometry, image, bytes(before))

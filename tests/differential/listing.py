@@ -1,0 +1,77 @@
+"""The inspector's listing of what a disk recovers to."""
+from devices import MemoryDisk
+from objects import MutexKind
+from processor import Cause
+from recovery import recover
+from tables import saved_locks, saved_mutexes
+from threads import UNWIND, Status, WaitKind
+
+CAUSES = {Cause.FETCH_RANGE: "FetchRange", Cause.ILLEGAL: "Illegal", Cause.JUMP_MISALIGNED: "JumpMisaligned",
+          Cause.LOAD_MISALIGNED: "LoadMisaligned", Cause.LOAD_RANGE: "LoadRange", Cause.BREAKPOINT: "Breakpoint",
+          Cause.STORE_MISALIGNED: "StoreMisaligned", Cause.STORE_RANGE: "StoreRange", Cause.GATE: "Gate"}
+MUTEX_KINDS = {MutexKind.NORMAL: "normal", MutexKind.RECURSIVE: "recursive", MutexKind.ERRORCHECK: "errorcheck"}
+
+
+def address_text(address):
+    return f"{address:08x}"
+
+
+def status_line(state):
+    if state.status is Status.RUNNING:
+        return "status running"
+    if state.status is Status.EXITED:
+        return f"status exit {state.status_word}"
+    return f"status fault {state.fault_thread} {address_text(state.status_word)} {CAUSES[Cause(state.fault_cause)]}"
+
+
+def thread_line(state, number):
+    thread = state.threads[number]
+    if thread.has_ended:
+        return f"thread {number} ended {thread.value}"
+    words = ["detached" if thread.is_detached else "joinable", "blocked" if state.wait_of(number) else "ready",
+             "pc", address_text(thread.pc), "disabled" if thread.is_disabled else "enabled",
+             "asynchronous" if thread.is_asynchronous else "deferred", "pending" if thread.is_request_pending else "none",
+             f"handlers {len(thread.handlers)}"] + ([f"unwinding {thread.value}"] if thread.is_unwinding else [])
+    return f"thread {number} {' '.join(words)}"
+
+
+def wait_line(wait):
+    subject = address_text(wait.subject)
+    match wait.kind:
+        case WaitKind.JOIN:
+            reason = f"join {wait.subject}"
+        case WaitKind.LOCK:
+            reason = f"mutex {subject}"
+        case WaitKind.RETAKE:
+            reason = f"retake {subject} {'unwind' if wait.result == UNWIND else int(wait.result)}"
+        case WaitKind.CONDITION:
+            reason = f"cond {subject} {address_text(wait.mutex)}"
+        case WaitKind.INPUT | WaitKind.SLEEP:
+            reason = wait.kind.value
+        case _:
+            reason = f"{wait.kind.value} {subject}"
+    return f"wait {wait.thread} {reason}" + (f" until {wait.deadline}" if wait.deadline is not None else "")
+
+
+def lock_line(address, lock):
+    readers = [f"{number}:{count}" for number, count in sorted(lock.readers.items())]
+    holders = f"writer {lock.writer}" if lock.writer else "readers " + " ".join(readers)
+    return f"rwlock {address_text(address)} {holders}"
+
+
+def lines_of_state(events, state, harts):
+    return [
+        f"events {events}", f"clock {state.clock}", status_line(state),
+        *[f"hart {hart} {state.harts[hart] or 'idle'}" for hart in range(harts)],
+        *[thread_line(state, number) for number in sorted(state.threads)],
+        *[wait_line(wait) for wait in state.waits],
+        *[f"mutex {address_text(at)} {MUTEX_KINDS[mutex.kind]} {mutex.owner} {mutex.count}" for at, mutex in saved_mutexes(state)],
+        *[f"barrier {address_text(at)} {count}" for at, count in sorted(state.barriers.items())],
+        *[lock_line(at, lock) for at, lock in saved_locks(state)],
+    ]
+
+
+def listing(contents):
+    """Raises Unrecovered."""
+    found = recover(MemoryDisk(contents))
+    return "".join(line + "\n" for line in lines_of_state(found.events, found.machine, found.geometry.harts))
