@@ -58,18 +58,22 @@ fn what_was_saved_is_decoded(rt: HostRuntime) {
     expect_decoded(&rt, bytes_of_everything(&rt).as_slice(), 2);
 }
 
+/// The first bytes alone decode to nothing.
+fn expect_nothing_of_front<R: Abort + AllocGlobal>(rt: &R, bytes: &[u8], size: usize) {
+    assert!(rt; size <= bytes.len());
+    let (front, _) = bytes.split_at(size);
+    expect_nothing(rt, front, 2);
+}
+
 /// No byte may be missing, and none may stand behind.
 #[test]
 fn a_byte_more_or_fewer_is_nothing(rt: HostRuntime) {
     let mut bytes = bytes_of_everything(&rt);
-    let length = bytes.len();
-    assert!(&rt; length > 16 && length < 65_536);
-    for part in 0..16usize {
-        let (front, _) = bytes.as_slice().split_at(length * part / 16);
-        expect_nothing(&rt, front, 2);
+    expect_eq(&rt, bytes.len(), 1_917);
+    for part in 0..20usize {
+        expect_nothing_of_front(&rt, bytes.as_slice(), 100 * part);
     }
-    let (all_but_one, _) = bytes.as_slice().split_at(length - 1);
-    expect_nothing(&rt, all_but_one, 2);
+    expect_nothing_of_front(&rt, bytes.as_slice(), 1_916);
     push(&rt, &mut bytes, &[0]);
     expect_nothing(&rt, bytes.as_slice(), 2);
 }
@@ -86,10 +90,8 @@ fn thread_on_a_missing_hart_is_nothing(rt: HostRuntime) {
 #[test]
 fn changed_bytes_are_nothing_or_exact(rt: HostRuntime) {
     let mut bytes = bytes_of_everything(&rt);
-    let length = bytes.len();
-    assert!(&rt; length > 0);
     for number in 0..200usize {
-        let place = number * 41 % length;
+        let place = number * 41 % 1_917;
         turn_a_bit(&rt, &mut bytes, place, number % 8);
         is_exact(&rt, bytes.as_slice(), 2);
         turn_a_bit(&rt, &mut bytes, place, number % 8);
