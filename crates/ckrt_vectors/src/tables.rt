@@ -6,22 +6,29 @@ use ckrt_tables::{HELD_LIMIT, Held, TABLES_ROOM, decode_tables, encode_tables};
 use ckrt_thread::MAX_HARTS;
 use std::alloc::Global;
 
+/// So many zeros.
+fn zeros(alloc: Global, size: usize) -> Result<Vec<u8>> {
+    Ok(vec![in alloc; 0u8; size]?)
+}
+
 /// Whether tables and output are encoded as these bytes.
-fn is_encoded_as(alloc: Global, tables: &Tables, held: &Held, bytes: &[u8]) -> Result<bool> {
-    let mut room = vec![in alloc; 0u8; TABLES_ROOM]?;
+fn is_encoded_as(tables: &Tables, held: &Held, room: &mut [u8], bytes: &[u8]) -> Result<bool> {
     ensure!(
-        tables.is_well_formed() && held.len() <= HELD_LIMIT,
+        tables.is_well_formed() && held.len() <= HELD_LIMIT && room.len() >= TABLES_ROOM,
         "tables that aren't well-formed"
     );
-    let length = encode_tables(tables, held, room.as_mut_slice());
-    Ok(room.as_slice().get(..length) == Some(bytes))
+    let length = encode_tables(tables, held, room);
+    Ok(room.get(..length) == Some(bytes))
 }
 
 /// Whether bytes decode, for so many harts, to what is encoded as these bytes.
 fn is_saved(alloc: Global, bytes: &[u8], harts: usize) -> Result<bool> {
     ensure!(harts <= MAX_HARTS, "more harts than there may be");
     match decode_tables(alloc, bytes, harts)? {
-        Some((tables, held)) => is_encoded_as(alloc, &tables, &held, bytes),
+        Some((tables, held)) => {
+            let mut room = zeros(alloc, TABLES_ROOM)?;
+            is_encoded_as(&tables, &held, room.as_mut_slice(), bytes)
+        }
         None => Ok(false),
     }
 }
