@@ -9,3 +9,4 @@ pub mod FoldLaws
 pub mod MemoryFollows
 pub mod WellFormedImplies
 pub mod StepsOfRuns
+pub mod SameHarts
