@@ -21,11 +21,13 @@ const FILLS: [&[u8]; 5] = [&[0xa5], &[0], &[0xff], &[0xa5, 0], &[]];
 
 /// Where area 1 begins, and its journal.
 const AREA_1: usize = 172_032;
+
 const JOURNAL_1: usize = 344_064;
 
 /// The calls of a checkpoint into an area whose gate is closed: writes of the journal's first gate, the tables, 15 pages
 /// and the header's fields, a sync, the gate, a sync. And how many of them come before the gate.
 const CALLS: u64 = 21;
+
 const CALLS_BEFORE_GATE: u64 = 19;
 
 /// After 5 events, with 7 bytes of output confirmed, in area 0 as it was formatted.
@@ -160,13 +162,7 @@ fn expect_filling<R: Abort + AllocGlobal>(rt: &R, before: u8, at_call: u64, fill
 }
 
 /// In the gate's write or its sync: the area holds the state, and its gate is what the stop made of it.
-fn expect_opening<R: Abort + AllocGlobal>(
-    rt: &R,
-    before: u8,
-    at_call: u64,
-    fill: &[u8],
-    want: u8,
-) {
+fn expect_opening<R: Abort + AllocGlobal>(rt: &R, before: u8, at_call: u64, fill: &[u8], want: u8) {
     let left = stopped(rt, before, at_call, fill);
     expect_eq_at(rt, at_call, gate(rt, left.as_slice()), want);
     expect_same_but(rt, left.as_slice(), saved(rt).as_slice(), AREA_1, 1);
@@ -291,7 +287,11 @@ fn expect_read<R: Abort + AllocGlobal, D: Disk>(
             assert!(rt; memory.pages() == 16 && tables.threads.hart_count() == 1);
             assert!(rt; memory.page(1).starts_with(image));
             expect_eq(rt, held.len(), output.len());
-            expect_bytes(rt, encoded(rt, output).as_slice(), &room[..170 + output.len()]);
+            expect_bytes(
+                rt,
+                encoded(rt, output).as_slice(),
+                &room[..170 + output.len()],
+            );
         }
         Err(fault) => panic!(rt; "{fault}"),
     }
