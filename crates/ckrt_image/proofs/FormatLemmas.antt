@@ -16,7 +16,8 @@ use Rattle.ckrt_journal.specs.Chain.{batches_of, journal_bytes, found_then, batc
 use Rattle.ckrt_journal.proofs.ChainLemmas.{chain_more}
 use Rattle.ckrt_calls.specs.Table as calls
 use Rattle.ckrt_machine.specs.Steps.{State}
-use Rattle.ckrt_tables.specs.Fresh.{fresh_bytes}
+use Rattle.ckrt_tables.specs.Fresh.{fresh_bytes, IsFreshEncoding}
+use Rattle.ckrt_tables.proofs.AllFit.{fresh_savable}
 use Rattle.ckrt_checkpoint.specs.declared.config.Config.{Config}
 use Rattle.ckrt_checkpoint.specs.declared.header.Header.{Header}
 use Rattle.ckrt_checkpoint.specs.declared.area.Area.{Area}
@@ -24,13 +25,17 @@ use Rattle.ckrt_checkpoint.specs.Areas.{area_of, newest_area}
 use Rattle.ckrt_checkpoint.specs.Fields.{HasBytes, header_fields}
 use Rattle.ckrt_checkpoint.specs.Layout.{is_valid, is_open, memory_size, size_needed, area_at, tables_at, memory_at, journal_of, number_at, header_in, header_of, memory_of}
 use Rattle.ckrt_checkpoint.proofs.ByteLemmas.{stays, number_is, byte_is}
+use Rattle.ckrt_checkpoint.proofs.HoldLemmas.{header_gate, header_stands}
 use Rattle.ckrt_image.specs.declared.fault.RecoverFault.TheVariants.{NotFormatted, Damaged}
 use Rattle.ckrt_image.specs.declared.fault.RecoverFault.{RecoverFault}
 use Rattle.ckrt_image.specs.Superblock.{MAGIC, config_within, superblock_fields, superblock_in, superblock_of}
-use Rattle.ckrt_image.specs.Recovery.{◌>>=◌, recovery_of, area_in_use, area_state, front_of_tables, as_recovery, unreplayed, replayed_journal, replayed_batches}
+use Rattle.ckrt_image.specs.Frame.{HoldsState}
+use Rattle.ckrt_image.specs.Recovery.{◌>>=◌, Recovers, area_in_use}
 use Rattle.ckrt_image.specs.Programs.{start_of}
 use Rattle.ckrt_image.specs.Fields.{fresh_header, fresh_memory, HasFreshArea, IsFresh}
 use Rattle.ckrt_image.specs.Format.{FormatsAt, FormatsBehindGate, IsFormatted, IsFormatting}
+use Rattle.ckrt_image.proofs.RecoverLemmas.{found, from_fault}
+use Rattle.ckrt_image.proofs.SwitchLemmas.{switched}
 
 -- WRITES
 
@@ -103,15 +108,22 @@ some_pages c valid = (grind (arith, nat_tests, valid), grind (arith, nat_tests, 
 fits : (c : Config) → is_valid c ≡ true → (c.pages < 256 ^ 4) × (c.harts < 256 ^ 4) × (c.journal < 256 ^ 4)
 fits c valid = (grind (arith, nat_tests, valid), grind (arith, nat_tests, valid), grind (arith, nat_tests, valid))
 
+few : (c : Config) → is_valid c ≡ true → (c.pages ≤ 1024) × (c.harts ≤ 8)
+few c valid = (grind (arith, nat_tests, valid), grind (arith, nat_tests, valid))
+
+-- the encoding of the tables of a program that hasn't begun
+encoded : IsFreshEncoding
+encoded pages harts = refl
+
 -- THE FIRST GATE
 
 closed_block : (size : ℕ) (block : List ℕ) → is_open block ≡ false → superblock_in size block ≡ Err NotFormatted
 closed_block size block closed = rw closed refl
 
 -- a disk whose first gate is closed isn't formatted
-pub closed_recovers : (image : List ℕ) → is_open image ≡ false → recovery_of image ≡ Err NotFormatted
-unfolding recovery_of
-closed_recovers image closed = ap (λ r. r >>= λ config. area_in_use config image >>= λ area. area_state config area image >>= λ state. replayed_journal (unreplayed config area state) image) (by_size (nat_lt (length image) 32))
+pub closed_recovers : (image : List ℕ) → is_open image ≡ false → Recovers image (Err NotFormatted)
+closed_recovers image closed = from_fault image NotFormatted
+    (ap (λ (r : Result Config RecoverFault). r >>= λ config. area_in_use config image >>= λ area. found config area) (by_size (nat_lt (length image) 32)))
   where
     first : is_open (take 32 image) ≡ false
     first = ap (λ x. nat_eq x 165) (get_or-take 32 image 0 0 (omega arith)) ∙ closed
@@ -122,10 +134,6 @@ closed_recovers image closed = ap (λ r. r >>= λ config. area_in_use config ima
 
 -- A FRESH DISK
 
-same_tables : (xs : List ℕ) → pointwise nat_eq xs xs ≡ true
-same_tables [] = refl
-same_tables (x ∷ xs) = grind (arith, nat_tests, same_tables xs)
-
 superblock_is : (c : Config) (size : ℕ) (block : List ℕ) → is_open block ≡ true → number_at 8 8 block ≡ MAGIC → number_at 4 16 block ≡ 1
     → number_at 4 20 block ≡ c.pages → number_at 4 24 block ≡ c.harts → number_at 4 28 block ≡ c.journal → superblock_in size block ≡ config_within size c
 superblock_is c size block opened magic version pages harts journal = rw (opened, magic, version, pages, harts, journal) refl
@@ -134,16 +142,6 @@ within : (c : Config) (size : ℕ) → is_valid c ≡ true → size_needed c ≤
 within c size valid room =
     let enough : nat_le (size_needed c) size ≡ true = grind (arith, nat_tests, room) in
     ap (λ b. cond (b && nat_le (size_needed c) size) (Ok c) (Err Damaged)) valid ∙ ap (λ b. cond b (Ok c) (Err Damaged)) enough
-
-header_is : (block : List ℕ) → is_open block ≡ true → number_at 8 8 block ≡ 1 → number_at 8 16 block ≡ 0 → number_at 8 24 block ≡ 0 → number_at 4 32 block ≡ 170 → number_at 4 36 block ≡ 1 → header_in block ≡ fresh_header
-header_is block opened generation count offset tables version = rw (opened, generation, count, offset, tables, version) refl
-
-picked : (second : Header) → second.is_open ≡ false → newest_area fresh_header second ≡ Ok (record { index = 0; header = fresh_header })
-picked second closed = rw closed refl
-
--- a gate that isn't open ends the chain
-no_batch : (rest : List ℕ) → get_or rest 0 0 ≡ 0 → batches_of rest ≡ Ok []
-no_batch rest shut = chain_more rest ∙ ap (λ r. found_then r (λ batch. batches_of (drop (3 + length batch) rest))) (ap (λ x. cond (nat_eq x 165) (batch_of_length (little_number 2 (take 2 (drop 1 rest))) rest) (Ok None)) shut)
 
 module _ (c : Config) (guest image : List ℕ) (valid : is_valid c ≡ true) (guest_fits : length guest ≤ memory_size c) (room : size_needed c ≤ length image)
     (opened : is_open image ≡ true) (fresh : IsFresh c (fresh_memory c guest) image) where
@@ -162,40 +160,25 @@ module _ (c : Config) (guest image : List ℕ) (valid : is_valid c ≡ true) (gu
       (number_is 4 28 32 c.journal image 8 20 (superblock_fields c) refl (omega arith) (omega arith) fresh.superblock refl small.2)
       ∙ within c (length image) valid room
 
-  area : area_in_use c image ≡ Ok (record { index = 0; header = fresh_header })
-  area =
-      let wide : length (header_fields fresh_header) ≡ 32 = refl in
-      let block = drop (area_at c 0) image in
-      let has : HasBytes block 8 (header_fields fresh_header) = ap (λ (l : List ℕ). take 32 l) (drop-drop 8 (area_at c 0) image) ∙ fresh.area.header in
-      let header : header_of c 0 image ≡ fresh_header =
-      header_is (take 40 block) (ap (λ x. nat_eq x 165) (byte_is image (area_at c 0) 40 165 (omega arith) fresh.area.gate))
-      (number_is 8 8 40 1 block 8 0 (header_fields fresh_header) refl (omega arith) (omega arith) has refl (lit< tt))
-      (number_is 8 16 40 0 block 8 8 (header_fields fresh_header) refl (omega arith) (omega arith) has refl (lit< tt))
-      (number_is 8 24 40 0 block 8 16 (header_fields fresh_header) refl (omega arith) (omega arith) has refl (lit< tt))
-      (number_is 4 32 40 170 block 8 24 (header_fields fresh_header) refl (omega arith) (omega arith) has refl (lit< tt))
-      (number_is 4 36 40 1 block 8 28 (header_fields fresh_header) refl (omega arith) (omega arith) has refl (lit< tt)) in
-      let other : (header_of c 1 image).is_open ≡ false = ap (λ x. nat_eq x 165) (byte_is image (area_at c 1) 40 0 (omega arith) fresh.other_area) in
-      ap (λ t. as_recovery t) (ap (λ h. newest_area h (header_of c 1 image)) header ∙ picked (header_of c 1 image) other)
-
-  state : area_state c (record { index = 0; header = fresh_header }) image ≡ Ok (start_of (record { config = c; image = guest }))
-  state =
+  holds : HoldsState c (record { index = 0; header = fresh_header }) (fresh_memory c guest) (record { tables = calls.fresh c.pages c.harts; held = [] }) image
+  holds =
       let size : length (fresh_memory c guest) ≡ memory_size c = grind (arith, common_steps, guest_fits) in
-      let memory : memory_of c 0 image ≡ fresh_memory c guest = ap (λ n. take n (drop (memory_at c 0) image)) (sym size) ∙ fresh.area.pages in
-      let tables : pointwise nat_eq (front_of_tables c 0 image) (fresh_bytes c.pages) ≡ true = ap (λ (l : List ℕ). pointwise nat_eq l (fresh_bytes c.pages)) fresh.area.tables ∙ same_tables (fresh_bytes c.pages) in
-      let made : List ℕ → Result State RecoverFault = λ bytes. Ok (record { bytes = bytes; tables = calls.fresh c.pages c.harts }) in
-      ap (λ b. cond b (made (memory_of c 0 image)) (Err Damaged)) tables ∙ ap made memory
-
-  journal : batches_of (journal_bytes (journal_of c 0) image) ≡ Ok []
-  journal = no_batch (take c.journal (drop (journal_of c 0).at image)) (byte_is image (journal_of c 0).at c.journal 0 (some_pages c valid).1 fresh.journal)
+      record {
+        index = omega arith;
+        header = header_stands c 0 fresh_header image (record { generation = lit< tt; count = lit< tt; offset = lit< tt; tables = lit< tt; version = lit< tt })
+            (sym (header_gate c 0 image) ∙ ap (λ x. nat_eq x 165) (byte_is image (area_at c 0) 40 165 (omega arith) fresh.area.gate)) fresh.area.header;
+        opened = refl;
+        checked = refl;
+        end = refl;
+        savable = fresh_savable c.pages c.harts (few c valid).0 (few c valid).1;
+        tables = fresh.area.tables ∙ sym (encoded c.pages c.harts);
+        pages = ap (λ n. take n (drop (memory_at c 0) image)) (sym size) ∙ fresh.area.pages;
+        no_batch = ap (λ x. nat_eq x 165) (byte_is image (journal_of c 0).at c.journal 0 (some_pages c valid).1 fresh.journal);
+      }
 
   pub fresh_recovers : IsFormatted c guest image
-  unfolding recovery_of
-  fresh_recovers =
-      let rest = λ (config : Config) (area : Area). area_state config area image >>= λ state. replayed_journal (unreplayed config area state) image in
-      ap (λ r. r >>= λ config. area_in_use config image >>= λ area. rest config area) superblock
-      ∙ ap (λ r. r >>= λ area. rest c area) area
-      ∙ ap (λ r. r >>= λ state. replayed_journal (unreplayed c (record { index = 0; header = fresh_header }) state) image) state
-      ∙ ap (λ b. replayed_batches (unreplayed c (record { index = 0; header = fresh_header }) (start_of (record { config = c; image = guest }))) b) journal
+  fresh_recovers = switched c (record { index = 0; header = fresh_header }) (fresh_memory c guest) (record { tables = calls.fresh c.pages c.harts; held = [] }) image superblock holds
+      (λ is. let no : true ≡ false = sym is ∙ ap (λ x. nat_eq x 165) (byte_is image (area_at c 1) 40 0 (omega arith) fresh.other_area) in absurd (cc))
 
 -- THE LAST WRITE
 
@@ -224,10 +207,10 @@ module _ (c : Config) (guest content : List ℕ) (valid : is_valid c ≡ true) (
       (fresh_moves c (fresh_memory c guest) content image left.size (λ i behind. left.same i (λ w. omega (arith, w.1))) fresh)
 
   -- with whatever a stop of the last write leaves there
-  pub last_moment : (image : List ℕ) → IsImage content (IsWithin 0 1) image → (recovery_of image ≡ Err NotFormatted) ⊎ IsFormatted c guest image
+  pub last_moment : (image : List ℕ) → IsImage content (IsWithin 0 1) image → Recovers image (Err NotFormatted) ⊎ IsFormatted c guest image
   last_moment image left = by_gate (is_open image) refl
     where
-      by_gate : (b : Bool) → is_open image ≡ b → (recovery_of image ≡ Err NotFormatted) ⊎ IsFormatted c guest image
+      by_gate : (b : Bool) → is_open image ≡ b → Recovers image (Err NotFormatted) ⊎ IsFormatted c guest image
       by_gate true opened = inr (opened_recovers image left opened)
       by_gate false closed = inl (closed_recovers image closed)
 

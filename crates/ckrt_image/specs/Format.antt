@@ -8,7 +8,7 @@ use Rattle.ckrt_image.specs.declared.fault.FormatFault.{FormatFault}
 use Rattle.ckrt_image.specs.declared.fault.FormatFault.TheVariants.{AlreadyFormatted, TooSmall, BadConfig, ImageTooLong, Device, OutOfMemory}
 use Rattle.ckrt_image.specs.declared.fault.RecoverFault.TheVariants.{NotFormatted}
 use Rattle.ckrt_checkpoint.specs.Layout.{is_valid, memory_size, size_needed, journal_of, is_open}
-use Rattle.ckrt_image.specs.Recovery.{recovery_of}
+use Rattle.ckrt_image.specs.Recovery.{Recovers}
 use Rattle.ckrt_image.specs.Programs.{formatted}
 
 -- Why a disk of so many bytes isn't formatted with this configuration and this image: the first that applies.
@@ -30,11 +30,11 @@ IsRefusal OutOfMemory = ⊥
 
 -- the image recovers to a program that hasn't begun, with this configuration and this guest image
 abbrev pub IsFormatted : Config → List ℕ → List ℕ → Type 0
-IsFormatted c guest image = recovery_of image ≡ Ok (formatted (record { config = c; image = guest }))
+IsFormatted c guest image = Recovers image (Ok (formatted (record { config = c; image = guest })))
 
 -- What a stop of formatting may leave: an image that was possible before it, one that isn't formatted, or one that is and has no event.
 abbrev pub IsFormatting : {D : Type 0} → Config → List ℕ → Ghosts D → D → List ℕ → Type 0
-IsFormatting c guest d disk image = MayBeLeft d disk image ⊎ (recovery_of image ≡ Err NotFormatted) ⊎ IsFormatted c guest image
+IsFormatting c guest d disk image = MayBeLeft d disk image ⊎ Recovers image (Err NotFormatted) ⊎ IsFormatted c guest image
 
 -- where formatting writes: neither in journal 1 nor behind the size that the configuration needs
 abbrev pub FormatsAt : Config → ℕ → Type 0

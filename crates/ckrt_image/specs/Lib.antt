@@ -1,5 +1,6 @@
 pub mod Superblock
 pub mod Recovery
+pub mod Frame
 pub mod Progress
 pub mod Reads
 pub mod Programs

@@ -3,7 +3,7 @@ ghost use Rattle.std.specs.Prelude.{◌≡◌, ◌≢◌, Err, ◌≤◌, length
 ghost use Rattle.ckrt_image.specs.declared.fault.RecoverFault.TheVariants.{Device, OutOfMemory};
 ghost use Rattle.ckrt_checkpoint.specs.Layout.{is_valid, size_needed};
 ghost use Rattle.ckrt_image.specs.Superblock.{config_within, superblock_in, superblock_fields};
-ghost use Rattle.ckrt_image.specs.Recovery.{Agrees};
+ghost use Rattle.ckrt_image.specs.Recovery.{Agrees, Is};
 
 use crate::fault::RecoverFault;
 use arrayvec::ArrayVec;
@@ -17,7 +17,7 @@ const MAGIC: u64 = 0x4b53_4944_5452_4b43;
 
 // The configuration, where it's valid and a disk of so many bytes is large enough for it.
 fn config_within(size: usize, config: Config) -> Result<Config, RecoverFault>
-    ensures exact { Agrees (λ c. c) (λ e. e) result (config_within size config) }
+    ensures exact { Agrees (λ c. c) (λ e. e) result (Is (config_within size config)) }
     ensures no_device { result ≢ Err Device }
     ensures no_memory { result ≢ Err OutOfMemory }
     ensures valid { IfOk result (λ c. is_valid c ≡ true) }
@@ -32,7 +32,7 @@ fn config_within(size: usize, config: Config) -> Result<Config, RecoverFault>
 /// The configuration that a superblock's first 32 bytes have, on a disk of so many bytes.
 pub(crate) fn superblock(size: usize, block: &[u8]) -> Result<Config, RecoverFault>
     requires { length block.now ≡ 32 }
-    ensures exact { Agrees (λ c. c) (λ e. e) result (superblock_in size block.now) }
+    ensures exact { Agrees (λ c. c) (λ e. e) result (Is (superblock_in size block.now)) }
     ensures no_device { result ≢ Err Device }
     ensures no_memory { result ≢ Err OutOfMemory }
     ensures valid { IfOk result (λ c. is_valid c ≡ true) }

@@ -48,10 +48,10 @@ abbrev pub IsFileOf : JobFile → JobFault → Type 0
 IsFileOf file (job.File at why) = at ≡ file
 IsFileOf file _ = ⊥
 
--- a fault of recovery is the one that the content has
-abbrev pub AgreesOnJob : JobFault → Result Recovered RecoverFault → Type 0
-AgreesOnJob (job.Recover f) found = AgreesOnFault f found
-AgreesOnJob _ found = Unit {0}
+-- a fault of recovery is the one that the content recovers to
+abbrev pub AgreesOnJob : JobFault → (Result Recovered RecoverFault → Type 0) → Type 0
+AgreesOnJob (job.Recover f) Holds = AgreesOnFault f Holds
+AgreesOnJob _ Holds = Unit {0}
 
 -- the disk that a run hands back
 abbrev pub disk_of : {D : Type 0} → Result D (Unserved D) → D

@@ -3,7 +3,7 @@ ghost use Rattle.std.specs.Prelude.{◌≡◌, Ok, IfOk, IfErr};
 ghost use Rattle.ckrt_disk.specs.Disk.{HasFailed};
 ghost use Rattle.ckrt_disk.specs.Frame.{IsSameDisk};
 ghost use Rattle.ckrt_main.specs.Service.{Served};
-ghost use Rattle.ckrt_image.specs.Recovery.{Recovered, recovery_of};
+ghost use Rattle.ckrt_image.specs.Recovery.{Recovered, Recovers};
 ghost use Rattle.ckrt_recovery.specs.View.{opened};
 ghost use Rattle.ckrt_jobs.specs.Outcomes.{AgreesOnJob, IsBeforeService, disk_of};
 
@@ -32,8 +32,8 @@ pub fn run_disk<D: Disk + Drop, R: Read, W: Write>(
     reader: &mut R,
     writer: &mut W,
 ) -> Result<D, Unserved<D>>
-    ensures served { IfOk result (λ end. D.is_honest end → ¬ HasFailed (D.failures disk) (D.failures end) → (r : Recovered) → recovery_of (D.content disk) ≡ Ok r → Served (W.contents writer.old) (W.contents writer.new) (R.remaining reader.old) (R.remaining reader.new) (opened r)) }
-    ensures unrecovered { IfErr result (λ u. D.is_honest u.disk → AgreesOnJob u.fault (recovery_of (D.content disk))) }
+    ensures served { IfOk result (λ end. D.is_honest end → ¬ HasFailed (D.failures disk) (D.failures end) → (r : Recovered) → Recovers (D.content disk) (Ok r) → Served (W.contents writer.old) (W.contents writer.new) (R.remaining reader.old) (R.remaining reader.new) (opened r)) }
+    ensures unrecovered { IfErr result (λ u. D.is_honest u.disk → AgreesOnJob u.fault (Recovers (D.content disk))) }
     ensures unread { IfErr result (λ u. IsBeforeService u.fault → reader.new ≡ reader.old) }
     ensures unwritten { IfErr result (λ u. IsBeforeService u.fault → writer.new ≡ writer.old) }
     ensures disk { IsSameDisk D.Disk disk (disk_of result) }

@@ -1,29 +1,45 @@
 -- What recovery finds on a disk that was just formatted.
-use Rattle.std.proofs.Common.{◌≡◌, ◌-◌, ◌+◌, ◌∙◌, ℕ, List, [], length, Ok, Err, Result, Option, sym, ap, subst, arith}
+use Rattle.std.proofs.Common.{⊎_elim, true, refl, ◌≡◌, ◌-◌, ◌+◌, ◌∙◌, ℕ, List, [], length, Ok, Err, Result, Option, sym, ap, subst, arith}
 use Rattle.std.specs.Prelude.{OnOk}
+use Rattle.ckrt_disk.specs.Disk.{HasFailed}
 use Rattle.ckrt_disk.specs.declared.disk.Disk.{Ghosts}
 use Rattle.ckrt_checkpoint.specs.declared.config.Config.{Config}
 use Rattle.ckrt_image.specs.declared.fault.RecoverFault.{RecoverFault}
+use Rattle.ckrt_image.specs.declared.fault.RecoverFault.TheVariants.{NotFormatted, Version, Damaged, Device, OutOfMemory}
+use Rattle.ckrt_image.specs.Reads.{is_device}
 use Rattle.ckrt_recovery.specs.declared.session.Session.{Session}
 use Rattle.ckrt_image.specs.Progress.{recovered_of}
-use Rattle.ckrt_image.specs.Recovery.{Recovered}
+use Rattle.ckrt_image.specs.Format.{IsFormatted}
+use Rattle.ckrt_image.specs.Recovery.{AgreesOnFault, Recovered, Recovers}
 use Rattle.ckrt_image.specs.Programs.{Program, formatted}
+use Rattle.ckrt_image.proofs.RecoverLemmas.{recovered_once, recovers_once}
 use Rattle.ckrt_recovery.specs.View.{View, view_of, opened, fresh}
 use Rattle.ckrt_recovery.specs.Transcript.{view_after}
 use Rattle.ckrt_main.specs.Service.{Served}
 
-abbrev found : Recovered → Result Recovered RecoverFault
-found r = Ok r
-
-same_found : (x y : Recovered) → found x ≡ found y → x ≡ y
-same_found x y e = cc
-
 -- a session that was opened over such a disk
-pub view_of_fresh : {D : Type 0} {g : Ghosts D} (config : Config) (image : List ℕ) (s : Session D g) (result : Result Recovered RecoverFault) → result ≡ Ok (formatted (record { config = config; image = image })) → result ≡ Ok (recovered_of s.progress)
+pub view_of_fresh : {D : Type 0} {g : Ghosts D} (config : Config) (image : List ℕ) (s : Session D g) (content : List ℕ) → IsFormatted config image content → Recovers content (Ok (recovered_of s.progress))
     → view_of s ≡ opened (recovered_of s.progress) → view_of s ≡ fresh config image
-view_of_fresh config image s result is found_by view =
+view_of_fresh config image s content is found_by view =
     let p : Program = record { config = config; image = image } in
-    view ∙ ap opened (same_found (recovered_of s.progress) (formatted p) (sym found_by ∙ is))
+    view ∙ ap opened (recovered_once content (recovered_of s.progress) (formatted p) found_by is)
+
+-- a disk that never fails counts no failure
+pub none_failed : ¬ HasFailed 0 0
+none_failed h = ⊎_elim (λ (lt : _). omega (arith, lt)) (λ (le : _). omega (arith, le)) h
+
+no_fault : (config : Config) (image content : List ℕ) (fault : RecoverFault) → IsFormatted config image content → Recovers content (Err fault) → ⊥
+no_fault config image content fault is found =
+    let both : ◌≡◌ {A = Result Recovered RecoverFault} (Ok (formatted (record { config = config; image = image }))) (Err fault) = recovers_once content _ _ is found in
+    absurd (cc)
+
+-- and nothing but want of memory keeps it from being recovered
+pub only_memory : (config : Config) (image content : List ℕ) (fault : RecoverFault) → IsFormatted config image content → AgreesOnFault fault (Recovers content) → (is_device {X = Unit {0}} (Err fault) ≡ true → ⊥) → (fault ≡ OutOfMemory → ⊥) → ⊥
+only_memory config image content NotFormatted is found device memory = no_fault config image content NotFormatted is found
+only_memory config image content Version is found device memory = no_fault config image content Version is found
+only_memory config image content Damaged is found device memory = no_fault config image content Damaged is found
+only_memory config image content Device is found device memory = device refl
+only_memory config image content OutOfMemory is found device memory = memory refl
 
 -- without the session after it
 pub served_alone : {E : Type 0} (result : Result (Unit {0}) E) (a b r s : Option (List ℕ)) (v w u : View) (P Q : Type 0) → v ≡ w → P → Q → OnOk result (P → Q → (served : Served a b r s v) × (u ≡ view_after v served.read)) → OnOk result (Served a b r s w)

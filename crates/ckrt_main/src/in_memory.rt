@@ -1,8 +1,7 @@
 //! The service of a new machine in memory.
 ghost use Rattle.std.specs.Prelude.{◌≡◌, ◌↔◌, ◌⊎◌, true, false, replicate, Ok, IfOk, IfErr, OnOk, IsErrOf};
 ghost use Rattle.ckrt_checkpoint.specs.Layout.{is_valid, size_needed};
-ghost use Rattle.ckrt_image.specs.Recovery.{recovery_of};
-ghost use Rattle.ckrt_image.specs.Programs.{formatted};
+ghost use Rattle.ckrt_image.specs.Format.{IsFormatted};
 ghost use Rattle.ckrt_recovery.specs.View.{view_of, fresh, is_refused};
 ghost use Rattle.ckrt_main.specs.Service.{IsStartFault, Served};
 
@@ -34,7 +33,7 @@ fn blank_disk(alloc: Global, config: &Config) -> Result<MemoryDisk, AllocError>
 
 /// Formats a blank disk of the size that the configuration needs.
 fn formatted_disk(alloc: Global, image: &[u8], config: Config) -> Result<MemoryDisk, ServeFault>
-    ensures formatted { IfOk result (λ disk. recovery_of (⟦<MemoryDisk as Disk>⟧.content disk) ≡ Ok (formatted (record { config = config; image = image.now }))) }
+    ensures formatted { IfOk result (λ disk. IsFormatted config image.now (⟦<MemoryDisk as Disk>⟧.content disk)) }
     ensures refused { IsErrOf result ServeFault.Format ↔ (is_refused config image.now ≡ true) }
     ensures errors { IfErr result (λ e. (e ≡ ServeFault.Format) ⊎ (e ≡ ServeFault.OutOfMemory)) }
 {

@@ -46,6 +46,8 @@ mod recovery;
 #[cfg(test)]
 mod rwlocks;
 #[cfg(test)]
+mod saved_disks;
+#[cfg(test)]
 mod saved_tables;
 #[cfg(test)]
 mod schedules;

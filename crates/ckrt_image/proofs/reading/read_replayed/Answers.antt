@@ -8,4 +8,4 @@ pub returns-clause-exact : goal.returns-clause-exact
 returns-clause-exact g c = grind (arith, common_steps)
 
 pub returns-clause-read : goal.returns-clause-read
-returns-clause-read g c = read_on g.D.Disk c.args.disk.now c.read_machine.new.disk c.replay.new.disk (is_device c.replay.result) c.in_ok-machine.ensures.read c.replay.ensures.read
+returns-clause-read g c = read_on g.D.Disk c.args.disk.now c.read_state.new.disk c.replay.new.disk (is_device c.replay.result) c.in_ok-progress.ensures.read c.replay.ensures.read

@@ -1,11 +1,6 @@
-use Rattle.std.proofs.Common.{⊎_elim, arith}
-use Rattle.ckrt_disk.specs.Disk.{HasFailed}
 use Rattle.ckrt_recovery.specs.View.{fresh, view_of}
-use Rattle.ckrt_main.proofs.FreshLemmas.{served_alone}
+use Rattle.ckrt_main.proofs.FreshLemmas.{none_failed, served_alone}
 use Rattle.ckrt_main.proofs.in_memory.serve_image.Goals as goal
-
-none_failed : ¬ HasFailed 0 0
-none_failed h = ⊎_elim (λ (lt : _). omega (arith, lt)) (λ (le : _). omega (arith, le)) h
 
 pub returns-clause-ok : goal.returns-clause-ok
 returns-clause-ok g c = served_alone c.serve.result (g.W.Write.contents c.args.writer.now) (g.W.Write.contents c.serve.new.writer) (g.R.Read.remaining c.args.reader.now) (g.R.Read.remaining c.serve.new.reader) (view_of c.in_ok-session.session) (fresh c.args.config c.args.image.now) (view_of c.serve.new.session) _ _ c.in_ok-session.ensures.fresh c.in_ok-session.ensures.running none_failed c.serve.ensures.ok

@@ -1,0 +1,41 @@
+use Rattle.std.proofs.Common.{◌≡◌, ◌+◌, true, false, cond, nat_lt, List, length, Some, Result, Ok, Err, sym, ◌∙◌, ap, rules}
+use Rattle.ckrt_journal.specs.declared.journal.Journal.{Journal}
+use Rattle.ckrt_machine.specs.Steps.{State}
+use Rattle.ckrt_tables.specs.Decoding.{Saved}
+use Rattle.ckrt_checkpoint.specs.Layout.{memory_of}
+use Rattle.ckrt_image.specs.declared.fault.RecoverFault.TheVariants.{Damaged}
+use Rattle.ckrt_image.specs.Recovery.{Recovered, is_end_in_range, unreplayed}
+use Rattle.ckrt_image.proofs.RecoverLemmas.{ok}
+use Rattle.ckrt_image.proofs.reading.read_state.Goals as goal
+
+pub returns-then-not-ends_in_range-clause-exact : goal.returns-then-not-ends_in_range-clause-exact
+returns-then-not-ends_in_range-clause-exact g c = λ honest.
+    let read = c.in_ok-memory.ensures.exact honest in
+    let image = g.D.Disk.content c.args.disk.now in
+    let config = c.args.config.now in
+    let area = c.args.area.now in
+    let s : Saved = record { tables = c.in_ok-memory.tables; held = c.in_ok-memory.held.items } in
+    let past : is_end_in_range area s.held ≡ false = search rules in
+    record {
+      saved = Some s;
+      decodes = read.decodes;
+      gives = ap (λ b. cond b (ok (unreplayed config area (memory_of config area.index image) s)) (Err Damaged)) past;
+    }
+
+pub returns-clause-exact : goal.returns-clause-exact
+returns-clause-exact g c = λ honest.
+    let read = c.in_ok-memory.ensures.exact honest in
+    let image = g.D.Disk.content c.args.disk.now in
+    let config = c.args.config.now in
+    let area = c.args.area.now in
+    let memory = c.in_ok-memory.memory in
+    let s : Saved = record { tables = c.in_ok-memory.tables; held = c.in_ok-memory.held.items } in
+    let within : is_end_in_range area s.held ≡ true = search rules in
+    record {
+      saved = Some s;
+      decodes = read.decodes;
+      gives = ap (λ b. cond b (ok (unreplayed config area (memory_of config area.index image) s)) (Err Damaged)) within
+          ∙ ap (λ (m : List _). ok (unreplayed config area m s)) (sym read.pages)
+          ∙ ap (λ (j : Journal). ok (record (unreplayed config area memory s) { journal = j })) (sym c.journal_of.ensures)
+          ∙ ap (λ (x : State). ok (record (unreplayed config area memory s) { journal = c.journal_of.result; state = x })) (sym c.from_parts.ensures.state);
+    }

@@ -1,0 +1,114 @@
+//! Disks whose area holds saved tables: the program that recovers from them goes on.
+//!
+//! The guest calls getc, and then putc with what it got. The tables are those that it has while it waits, written by hand
+//! from the format; that "xy" was put before is made up.
+
+use crate::expect::{expect_bytes, expect_eq, memory_disk, push};
+use crate::saved_tables::push_zeros;
+use crate::small_disk::{formatted, recovered_in_memory, recovery_outcome};
+use ckrt_disk::MemoryDisk;
+use ckrt_main::serve;
+use ckrt_recovery::{RecoverFault, Session};
+use std::process::Abort;
+
+/// addi x17, x0, 3; ecall; addi x17, x0, 2; ecall.
+const ECHO: [u8; 16] = [
+    0x93, 0x08, 0x30, 0x00, 0x73, 0x00, 0x00, 0x00, 0x93, 0x08, 0x20, 0x00, 0x73, 0x00, 0x00, 0x00,
+];
+
+/// Where area 0 begins, and its tables.
+const AREA: usize = 4_096;
+
+const TABLES: usize = 8_192;
+
+/// After 2 events, with the first 5 bytes of output confirmed, and 192 bytes of tables: the header from its byte 16 on.
+const FIELDS: [u8; 20] = [2, 0, 0, 0, 0, 0, 0, 0, 5, 0, 0, 0, 0, 0, 0, 0, 192, 0, 0, 0];
+
+/// Thread 1 waits for input behind its first call, on no hart, and "xy" is held.
+fn waiting_tables<R: Abort + AllocGlobal>(rt: &R) -> Vec<u8> {
+    let mut bytes = Vec::new(rt.alloc());
+    // Clock 0, input open, running, harts idle.
+    push_zeros(rt, &mut bytes, 24);
+    // One thread: id 1, initial, no handler, pc 0x1008, x1 the return gate, x2 the memory's end, x17 the call's number.
+    push(rt, &mut bytes, &[1, 1, 1, 0, 0, 0, 0, 0, 0]);
+    push(
+        rt,
+        &mut bytes,
+        &[8, 0x10, 0, 0, 0xf0, 0xff, 0xff, 0xff, 0, 0, 1, 0],
+    );
+    push_zeros(rt, &mut bytes, 14 * 4);
+    push(rt, &mut bytes, &[3, 0, 0, 0]);
+    push_zeros(rt, &mut bytes, 14 * 4);
+    // One wait: thread 1, for input.
+    push(rt, &mut bytes, &[1, 1, 8]);
+    push_zeros(rt, &mut bytes, 18);
+    // No mutex, barrier, lock or input; two bytes held.
+    push_zeros(rt, &mut bytes, 6);
+    push(rt, &mut bytes, &[2, 0, b'x', b'y']);
+    bytes
+}
+
+/// Bytes in the place of others.
+fn lay<R: Abort>(rt: &R, image: &mut Vec<u8>, at: usize, bytes: &[u8]) {
+    let end = at.saturating_add(bytes.len());
+    assert!(rt; end <= image.len());
+    image.as_mut_slice()[at..end].copy_from_slice(bytes);
+}
+
+/// A disk whose area 0 holds these tables.
+fn disk_with<R: Abort + AllocGlobal>(rt: &R, tables: &[u8]) -> Vec<u8> {
+    let mut image = formatted(rt, &ECHO);
+    lay(rt, &mut image, AREA + 16, &FIELDS);
+    lay(rt, &mut image, TABLES, tables);
+    image
+}
+
+/// What these lines get of a session.
+fn expect_replies<R: Abort + AllocGlobal>(
+    rt: &R,
+    session: &mut Session<MemoryDisk>,
+    mut lines: &[u8],
+    want: &[u8],
+) {
+    let mut replies = Vec::new(rt.alloc());
+    expect_eq(rt, serve(&mut lines, &mut replies, session), Ok(()));
+    expect_bytes(rt, replies.as_slice(), want);
+}
+
+#[test]
+fn a_saved_program_goes_on(rt: HostRuntime) {
+    let tables = waiting_tables(&rt);
+    let mut session = recovered_in_memory(&rt, disk_with(&rt, tables.as_slice()));
+    expect_eq(&rt, session.acknowledged(), 2);
+    expect_eq(&rt, session.generation(), 1);
+    expect_eq(&rt, session.confirmed(), 5);
+    expect_eq(&rt, session.released(), 7);
+    expect_replies(
+        &rt,
+        &mut session,
+        b"run 0 1\nin 5a\nplace 0 1\nrun 0 2\ncommit\n",
+        b"out 5 7879\nno 5 HartIdle\nok 3 taken 1\nok 4 placed\nok 5 ran 2 on\nack 5\nout 7 5a\n",
+    );
+    // The next life has both the saved output and what was put since, none of which the disk knows to be confirmed.
+    let mut next = recovered_in_memory(&rt, session.into_disk().into_image());
+    expect_eq(&rt, next.acknowledged(), 5);
+    expect_replies(&rt, &mut next, b"", b"out 5 78795a\n");
+}
+
+/// Why nothing is recovered from a disk with these tables.
+fn fault_of<R: Abort + AllocGlobal>(rt: &R, tables: &[u8]) -> Option<RecoverFault> {
+    match recovery_outcome(rt, memory_disk(rt, disk_with(rt, tables))) {
+        Ok(_) => None,
+        Err(unrecovered) => Some(unrecovered.fault),
+    }
+}
+
+#[test]
+fn tables_of_no_program_are_damaged(rt: HostRuntime) {
+    let mut tables = waiting_tables(&rt);
+    expect_eq(&rt, fault_of(&rt, tables.as_slice()), None);
+    // Another thread than any in the table waits.
+    lay(&rt, &mut tables, 162, &[2]);
+    let damaged = Some(RecoverFault::Damaged);
+    expect_eq(&rt, fault_of(&rt, tables.as_slice()), damaged);
+}
