@@ -156,13 +156,18 @@ def stopped_case(chance, seed):
     return Case(case.geometry, case.image, [joined(chance, after), joined(chance, asks(chance, case.geometry.harts))], bytes(disk))
 
 
+def whole_lines(data):
+    """Without a last line that only the end of input would end."""
+    return data[:data.rfind(b"\n") + 1]
+
+
 def checkpoints_case(chance, seed):
     """Lives with checkpoints, at times killed."""
     case = guest_case(chance, seed)
     lines = with_checkpoints(chance, case.lives[0].splitlines(), chance.choice([0.02, 0.1, 0.3]))
     case.lives, case.is_killed = lives_of(chance, lines), chance.random() < 0.2
     if case.is_killed:
-        case.lives = [life.replace(b"quit\n", b"") for life in case.lives]
+        case.lives = [whole_lines(life).replace(b"quit\n", b"") for life in case.lives]
     return case
 
 

@@ -42,7 +42,11 @@ fn path<'a>(job: &Job<'a>, file: JobFile) -> &'a str
 }
 
 /// Writes which file is spoken of, and its path.
-fn write_subject<E: Write>(errors: &mut E, job: &Job<'_>, file: Option<JobFile>) -> Result<(), JobFault>
+fn write_subject<E: Write>(
+    errors: &mut E,
+    job: &Job<'_>,
+    file: Option<JobFile>,
+) -> Result<(), JobFault>
     ensures ok { OnOk result (Appends (E.contents errors.old) (E.contents errors.new) (subject_of file (request_of job.now))) }
 {
     let Some(file) = file else {

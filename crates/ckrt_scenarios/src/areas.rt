@@ -21,11 +21,13 @@ const FILLS: [&[u8]; 5] = [&[0xa5], &[0], &[0xff], &[0xa5, 0], &[]];
 
 /// Where area 1 begins, and its journal.
 const AREA_1: usize = 172_032;
+
 const JOURNAL_1: usize = 344_064;
 
 /// The calls of a checkpoint into an area whose gate is closed: writes of the journal's first gate, the tables, 15 pages
 /// and the header's fields, a sync, the gate, a sync. And how many of them come before the gate.
 const CALLS: u64 = 21;
+
 const CALLS_BEFORE_GATE: u64 = 19;
 
 /// After 5 events, with 7 bytes of output confirmed, in area 0 as it was formatted.
@@ -160,13 +162,7 @@ fn expect_filling<R: Abort + AllocGlobal>(rt: &R, before: u8, at_call: u64, fill
 }
 
 /// In the gate's write or its sync: the area holds the state, and its gate is what the stop made of it.
-fn expect_opening<R: Abort + AllocGlobal>(
-    rt: &R,
-    before: u8,
-    at_call: u64,
-    fill: &[u8],
-    want: u8,
-) {
+fn expect_opening<R: Abort + AllocGlobal>(rt: &R, before: u8, at_call: u64, fill: &[u8], want: u8) {
     let left = stopped(rt, before, at_call, fill);
     expect_eq_at(rt, at_call, gate(rt, left.as_slice()), want);
     expect_same_but(rt, left.as_slice(), saved(rt).as_slice(), AREA_1, 1);
@@ -174,8 +170,8 @@ fn expect_opening<R: Abort + AllocGlobal>(
 
 /// Each stop of a checkpoint of which so many calls come before the filling.
 fn expect_stops<R: Abort + AllocGlobal>(rt: &R, before: u8, closing: u64, fill: &[u8]) {
-    for at_call in 1..closing + 1 {
-        expect_closing(rt, at_call, fill);
+    for at_call in 0..closing {
+        expect_closing(rt, at_call.saturating_add(1), fill);
     }
     let opening = closing.saturating_add(CALLS_BEFORE_GATE);
     for at_call in closing..opening {
@@ -268,13 +264,33 @@ fn encoded<R: Abort + AllocGlobal>(rt: &R, output: &[u8]) -> Vec<u8> {
     assert!(rt; output.len() <= HELD_LIMIT);
     held.fill_from_slice(output);
     let mut room = filled(rt, 0, TABLES_ROOM);
+    assert!(rt; room.len() == TABLES_ROOM);
     assert!(rt; tables.is_well_formed() && held.len() <= HELD_LIMIT);
     let length = encode_tables(&tables, &held, room.as_mut_slice());
     room.truncate(length);
     room
 }
 
-/// What the picked area has: how many bytes of output are held, and the first bytes of the memory.
+/// What the area in use has, which is this one. The bytes of its tables are left in the room.
+fn read<R: Abort + AllocGlobal, D: Disk>(
+    rt: &R,
+    disk: &mut D,
+    index: usize,
+    room: &mut [u8],
+) -> (Memory, Tables, Held) {
+    assert!(rt; is_on(disk) && room.len() >= TABLES_ROOM);
+    let area = match pick_area(disk, &SMALL) {
+        Ok(area) => area,
+        Err(fault) => panic!(rt; "{fault}"),
+    };
+    expect_eq(rt, area.index, index);
+    match read_area(rt.alloc(), disk, &SMALL, &area, room) {
+        Ok(parts) => parts,
+        Err(fault) => panic!(rt; "{fault}"),
+    }
+}
+
+/// The area in use is this one; it has a program that hasn't begun, with this output, and these first bytes of memory.
 fn expect_read<R: Abort + AllocGlobal, D: Disk>(
     rt: &R,
     disk: &mut D,
@@ -282,19 +298,15 @@ fn expect_read<R: Abort + AllocGlobal, D: Disk>(
     output: &[u8],
     image: &[u8],
 ) {
-    let area = picked(rt, disk).expect(rt, "an area");
-    expect_eq(rt, area.index, index);
     let mut room = filled(rt, 0, TABLES_ROOM);
-    assert!(rt; is_on(disk));
-    match read_area(rt.alloc(), disk, &SMALL, &area, room.as_mut_slice()) {
-        Ok((memory, tables, held)) => {
-            assert!(rt; memory.pages() == 16 && tables.threads.hart_count() == 1);
-            assert!(rt; memory.page(1).starts_with(image));
-            expect_eq(rt, held.len(), output.len());
-            expect_bytes(rt, encoded(rt, output).as_slice(), &room[..170 + output.len()]);
-        }
-        Err(fault) => panic!(rt; "{fault}"),
-    }
+    let (memory, tables, held) = read(rt, disk, index, room.as_mut_slice());
+    expect_eq(rt, memory.pages(), 16);
+    expect_eq(rt, tables.threads.hart_count(), 1);
+    expect_eq(rt, held.len(), output.len());
+    assert!(rt; memory.pages() == 16);
+    assert!(rt; memory.page(1).starts_with(image));
+    let want = encoded(rt, output);
+    assert!(rt; room.starts_with(want.as_slice()));
 }
 
 #[test]

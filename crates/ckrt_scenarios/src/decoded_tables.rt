@@ -1,7 +1,9 @@
 //! Bytes that are decoded as saved tables. All were written down from the format, and none comes from the program.
 
 use crate::expect::{expect_eq, expect_eq_at, push};
-use crate::saved_tables::{bytes_of_everything, expect_encoding, fresh_bytes, push_initial_thread, push_zeros};
+use crate::saved_tables::{
+    bytes_of_everything, expect_encoding, fresh_bytes, push_initial_thread, push_zeros,
+};
 use ckrt_calls::{Status, Tables};
 use ckrt_rv32i::Cause;
 use ckrt_tables::{Held, decode_tables};
@@ -56,15 +58,22 @@ fn what_was_saved_is_decoded(rt: HostRuntime) {
     expect_decoded(&rt, bytes_of_everything(&rt).as_slice(), 2);
 }
 
+/// The first bytes alone decode to nothing.
+fn expect_nothing_of_front<R: Abort + AllocGlobal>(rt: &R, bytes: &[u8], size: usize) {
+    assert!(rt; size <= bytes.len());
+    let (front, _) = bytes.split_at(size);
+    expect_nothing(rt, front, 2);
+}
+
 /// No byte may be missing, and none may stand behind.
 #[test]
 fn a_byte_more_or_fewer_is_nothing(rt: HostRuntime) {
     let mut bytes = bytes_of_everything(&rt);
-    let length = bytes.len();
-    for size in 0..length {
-        let (front, _) = bytes.as_slice().split_at(size);
-        expect_nothing(&rt, front, 2);
+    expect_eq(&rt, bytes.len(), 1_917);
+    for part in 0..20usize {
+        expect_nothing_of_front(&rt, bytes.as_slice(), 100 * part);
     }
+    expect_nothing_of_front(&rt, bytes.as_slice(), 1_916);
     push(&rt, &mut bytes, &[0]);
     expect_nothing(&rt, bytes.as_slice(), 2);
 }
@@ -81,10 +90,8 @@ fn thread_on_a_missing_hart_is_nothing(rt: HostRuntime) {
 #[test]
 fn changed_bytes_are_nothing_or_exact(rt: HostRuntime) {
     let mut bytes = bytes_of_everything(&rt);
-    let length = bytes.len();
-    assert!(&rt; length > 0);
     for number in 0..200usize {
-        let place = number * 41 % length;
+        let place = number * 41 % 1_917;
         turn_a_bit(&rt, &mut bytes, place, number % 8);
         is_exact(&rt, bytes.as_slice(), 2);
         turn_a_bit(&rt, &mut bytes, place, number % 8);
@@ -210,14 +217,6 @@ fn threads_have_ended_in_an_exited_program(rt: HostRuntime) {
     expect_nothing(&rt, bytes_of_ended(&rt, 0).as_slice(), 1);
 }
 
-/// Waits and objects behind a program's only thread, the input, and whether all of it is decoded.
-struct Case {
-    waits: &'static [u8],
-    objects: &'static [u8],
-    input: &'static [u8],
-    is_there: bool,
-}
-
 /// No wait.
 const NO_WAIT: &[u8] = &[0];
 
@@ -225,114 +224,155 @@ const NO_WAIT: &[u8] = &[0];
 const NO_OBJECT: &[u8] = &[0, 0, 0, 0];
 
 /// Thread 1 waits for input.
-const FOR_INPUT: &[u8] = &[1, 1, 8, 0, 0, 0, 0, 0, 0, 0, 0, 0, 0, 0, 0, 0, 0, 0, 0, 0, 0];
+const FOR_INPUT: &[u8] = &[
+    1, 1, 8, 0, 0, 0, 0, 0, 0, 0, 0, 0, 0, 0, 0, 0, 0, 0, 0, 0, 0,
+];
 
 /// Thread 1 waits to lock the mutex at 0x3000.
 const FOR_A_MUTEX: &[u8] = &[
     1, 1, 2, 0, 0, 0, 0x30, 0, 0, 0, 0, 0, 0, 0, 0, 0, 0, 0, 0, 0, 0,
 ];
 
-/// The bytes of a case.
-fn bytes_of<R: Abort + AllocGlobal>(rt: &R, case: &Case) -> Vec<u8> {
+/// A program whose only thread runs or waits, with these objects and this input.
+fn bytes_with<R: Abort + AllocGlobal>(
+    rt: &R,
+    waits: &[u8],
+    objects: &[u8],
+    input: &[u8],
+) -> Vec<u8> {
     let mut bytes = Vec::new(rt.alloc());
     push_zeros(rt, &mut bytes, 8 + 1 + 7 + 8);
     push_initial_thread(rt, &mut bytes);
-    push(rt, &mut bytes, case.waits);
-    push(rt, &mut bytes, case.objects);
-    push(rt, &mut bytes, case.input);
+    push(rt, &mut bytes, waits);
+    push(rt, &mut bytes, objects);
+    push(rt, &mut bytes, input);
     push_zeros(rt, &mut bytes, 2);
     bytes
 }
 
-/// A case of waits, mutexes and input.
-const fn waiting(
-    waits: &'static [u8],
-    objects: &'static [u8],
-    input: &'static [u8],
-    is_there: bool,
-) -> Case {
-    Case {
-        waits,
-        objects,
-        input,
-        is_there,
-    }
-}
-
-/// A case of objects alone.
-const fn holding(objects: &'static [u8], is_there: bool) -> Case {
-    waiting(NO_WAIT, objects, &[0, 0], is_there)
-}
-
-/// Who waits for input, and who waits for a mutex: its kind, its owner, its count.
-const WAITING: [Case; 11] = [
-    waiting(FOR_INPUT, NO_OBJECT, &[0, 0], true),
-    waiting(FOR_INPUT, NO_OBJECT, &[1, 0, 65], false),
-    waiting(NO_WAIT, NO_OBJECT, &[1, 0, 65], true),
-    waiting(FOR_A_MUTEX, NO_OBJECT, &[0, 0], false),
-    waiting(FOR_A_MUTEX, &[1, 0, 0, 0x30, 0, 0, 0, 1, 1, 0, 0, 0], &[0, 0], true),
-    waiting(FOR_A_MUTEX, &[1, 0, 0, 0x30, 0, 0, 0, 2, 1, 0, 0, 0], &[0, 0], true),
-    waiting(FOR_A_MUTEX, &[1, 0, 0, 0x30, 0, 0, 1, 1, 1, 0, 0, 0], &[0, 0], false),
-    waiting(FOR_A_MUTEX, &[1, 0, 0, 0x30, 0, 0, 1, 2, 7, 0, 0, 0], &[0, 0], true),
-    waiting(FOR_A_MUTEX, &[1, 0, 0, 0x30, 0, 0, 2, 0, 0, 0, 0, 0], &[0, 0], false),
-    waiting(FOR_A_MUTEX, &[1, 0, 4, 0x30, 0, 0, 0, 2, 1, 0, 0, 0], &[0, 0], false),
-    waiting(FOR_A_MUTEX, &[1, 0, 0, 0x30, 0, 0, 2, 2, 1, 0, 0, 0], &[0, 0], true),
+/// Waits, objects and input, and whether they are decoded: who waits for input, and who waits for a mutex, with its kind,
+/// its owner and its count.
+const WAITING: [(&[u8], &[u8], &[u8], bool); 11] = [
+    (FOR_INPUT, NO_OBJECT, &[0, 0], true),
+    (FOR_INPUT, NO_OBJECT, &[1, 0, 65], false),
+    (NO_WAIT, NO_OBJECT, &[1, 0, 65], true),
+    (FOR_A_MUTEX, NO_OBJECT, &[0, 0], false),
+    (
+        FOR_A_MUTEX,
+        &[1, 0, 0, 0x30, 0, 0, 0, 1, 1, 0, 0, 0],
+        &[0, 0],
+        true,
+    ),
+    (
+        FOR_A_MUTEX,
+        &[1, 0, 0, 0x30, 0, 0, 0, 2, 1, 0, 0, 0],
+        &[0, 0],
+        true,
+    ),
+    (
+        FOR_A_MUTEX,
+        &[1, 0, 0, 0x30, 0, 0, 1, 1, 1, 0, 0, 0],
+        &[0, 0],
+        false,
+    ),
+    (
+        FOR_A_MUTEX,
+        &[1, 0, 0, 0x30, 0, 0, 1, 2, 7, 0, 0, 0],
+        &[0, 0],
+        true,
+    ),
+    (
+        FOR_A_MUTEX,
+        &[1, 0, 0, 0x30, 0, 0, 2, 0, 0, 0, 0, 0],
+        &[0, 0],
+        false,
+    ),
+    (
+        FOR_A_MUTEX,
+        &[1, 0, 4, 0x30, 0, 0, 0, 2, 1, 0, 0, 0],
+        &[0, 0],
+        false,
+    ),
+    (
+        FOR_A_MUTEX,
+        &[1, 0, 0, 0x30, 0, 0, 2, 2, 1, 0, 0, 0],
+        &[0, 0],
+        true,
+    ),
 ];
 
-/// Mutexes, barriers and locks that tables may have, and that they may not have.
-const HOLDING: [Case; 26] = [
+/// Mutexes, barriers and locks, and whether they are decoded.
+const HOLDING: [(&[u8], bool); 26] = [
     // A mutex: normal and free, of kind 3, of owner 64 and 65, counted wrongly.
-    holding(&[1, 0, 0, 0x30, 0, 0, 0, 0, 0, 0, 0, 0], false),
-    holding(&[1, 0, 0, 0x30, 0, 0, 1, 0, 0, 0, 0, 0], true),
-    holding(&[1, 0, 0, 0x30, 0, 0, 3, 0, 0, 0, 0, 0], false),
-    holding(&[1, 0, 0, 0x30, 0, 0, 0, 64, 1, 0, 0, 0], true),
-    holding(&[1, 0, 0, 0x30, 0, 0, 0, 65, 1, 0, 0, 0], false),
-    holding(&[1, 0, 0, 0x30, 0, 0, 0, 1, 2, 0, 0, 0], false),
-    holding(&[1, 0, 0, 0x30, 0, 0, 1, 1, 0xFF, 0xFF, 0, 0], true),
-    holding(&[1, 0, 0, 0x30, 0, 0, 1, 1, 0, 0, 0, 0], false),
-    holding(&[1, 0, 0, 0x30, 0, 0, 1, 0, 1, 0, 0, 0], false),
+    (&[1, 0, 0, 0x30, 0, 0, 0, 0, 0, 0, 0, 0], false),
+    (&[1, 0, 0, 0x30, 0, 0, 1, 0, 0, 0, 0, 0], true),
+    (&[1, 0, 0, 0x30, 0, 0, 3, 0, 0, 0, 0, 0], false),
+    (&[1, 0, 0, 0x30, 0, 0, 0, 64, 1, 0, 0, 0], true),
+    (&[1, 0, 0, 0x30, 0, 0, 0, 65, 1, 0, 0, 0], false),
+    (&[1, 0, 0, 0x30, 0, 0, 0, 1, 2, 0, 0, 0], false),
+    (&[1, 0, 0, 0x30, 0, 0, 1, 1, 0xFF, 0xFF, 0, 0], true),
+    (&[1, 0, 0, 0x30, 0, 0, 1, 1, 0, 0, 0, 0], false),
+    (&[1, 0, 0, 0x30, 0, 0, 1, 0, 1, 0, 0, 0], false),
     // Two mutexes by rising, equal and falling addresses.
-    holding(&[2, 0, 0, 1, 0, 0, 2, 0, 0, 0, 1, 1, 0, 0, 2, 0, 0, 0, 0, 0], true),
-    holding(&[2, 0, 1, 1, 0, 0, 2, 0, 0, 0, 1, 1, 0, 0, 2, 0, 0, 0, 0, 0], false),
-    holding(&[2, 0, 2, 1, 0, 0, 2, 0, 0, 0, 1, 1, 0, 0, 2, 0, 0, 0, 0, 0], false),
+    (
+        &[2, 0, 0, 1, 0, 0, 2, 0, 0, 0, 1, 1, 0, 0, 2, 0, 0, 0, 0, 0],
+        true,
+    ),
+    (
+        &[2, 0, 1, 1, 0, 0, 2, 0, 0, 0, 1, 1, 0, 0, 2, 0, 0, 0, 0, 0],
+        false,
+    ),
+    (
+        &[2, 0, 2, 1, 0, 0, 2, 0, 0, 0, 1, 1, 0, 0, 2, 0, 0, 0, 0, 0],
+        false,
+    ),
     // A barrier for one thread, for 2^32 - 1, and for none.
-    holding(&[0, 0, 1, 0, 0x30, 0, 0, 1, 0, 0, 0, 0], true),
-    holding(&[0, 0, 1, 0, 0x30, 0, 0, 0xFF, 0xFF, 0xFF, 0xFF, 0], true),
-    holding(&[0, 0, 1, 0, 0x30, 0, 0, 0, 0, 0, 0, 0], false),
+    (&[0, 0, 1, 0, 0x30, 0, 0, 1, 0, 0, 0, 0], true),
+    (&[0, 0, 1, 0, 0x30, 0, 0, 0xFF, 0xFF, 0xFF, 0xFF, 0], true),
+    (&[0, 0, 1, 0, 0x30, 0, 0, 0, 0, 0, 0, 0], false),
     // A lock that nobody holds, and that thread 64 or 65 writes under.
-    holding(&[0, 0, 0, 1, 0, 0x30, 0, 0, 0, 0], false),
-    holding(&[0, 0, 0, 1, 0, 0x30, 0, 0, 64, 0], true),
-    holding(&[0, 0, 0, 1, 0, 0x30, 0, 0, 65, 0], false),
+    (&[0, 0, 0, 1, 0, 0x30, 0, 0, 0, 0], false),
+    (&[0, 0, 0, 1, 0, 0x30, 0, 0, 64, 0], true),
+    (&[0, 0, 0, 1, 0, 0x30, 0, 0, 65, 0], false),
     // Readers: 1 and 64, by falling and by equal ids, 0 and 65, without a read lock, beside a writer.
-    holding(&[0, 0, 0, 1, 0, 0x30, 0, 0, 0, 2, 1, 1, 0, 64, 0xFF, 0xFF], true),
-    holding(&[0, 0, 0, 1, 0, 0x30, 0, 0, 0, 2, 64, 1, 0, 1, 1, 0], false),
-    holding(&[0, 0, 0, 1, 0, 0x30, 0, 0, 0, 2, 1, 1, 0, 1, 1, 0], false),
-    holding(&[0, 0, 0, 1, 0, 0x30, 0, 0, 0, 1, 0, 1, 0], false),
-    holding(&[0, 0, 0, 1, 0, 0x30, 0, 0, 0, 1, 65, 1, 0], false),
-    holding(&[0, 0, 0, 1, 0, 0x30, 0, 0, 0, 1, 1, 0, 0], false),
-    holding(&[0, 0, 0, 1, 0, 0x30, 0, 0, 2, 1, 1, 1, 0], false),
-    holding(&[0, 0, 0, 1, 0, 0x30, 0, 0, 0, 1, 1, 1, 0], true),
+    (
+        &[0, 0, 0, 1, 0, 0x30, 0, 0, 0, 2, 1, 1, 0, 64, 0xFF, 0xFF],
+        true,
+    ),
+    (&[0, 0, 0, 1, 0, 0x30, 0, 0, 0, 2, 64, 1, 0, 1, 1, 0], false),
+    (&[0, 0, 0, 1, 0, 0x30, 0, 0, 0, 2, 1, 1, 0, 1, 1, 0], false),
+    (&[0, 0, 0, 1, 0, 0x30, 0, 0, 0, 1, 0, 1, 0], false),
+    (&[0, 0, 0, 1, 0, 0x30, 0, 0, 0, 1, 65, 1, 0], false),
+    (&[0, 0, 0, 1, 0, 0x30, 0, 0, 0, 1, 1, 0, 0], false),
+    (&[0, 0, 0, 1, 0, 0x30, 0, 0, 2, 1, 1, 1, 0], false),
+    (&[0, 0, 0, 1, 0, 0x30, 0, 0, 0, 1, 1, 1, 0], true),
 ];
 
-/// A case, by its number.
-fn expect_case<R: Abort + AllocGlobal>(rt: &R, number: usize, case: &Case) {
-    let bytes = bytes_of(rt, case);
+/// What is decoded of waits, objects and input is exact, and there where it is to be.
+fn expect_case<R: Abort + AllocGlobal>(
+    rt: &R,
+    waits: &[u8],
+    objects: &[u8],
+    input: &[u8],
+    is_there: bool,
+) {
+    let bytes = bytes_with(rt, waits, objects, input);
     let found = is_exact(rt, bytes.as_slice(), 1);
-    expect_eq_at(rt, number, found, case.is_there);
+    expect_eq_at(rt, objects.len(), found, is_there);
 }
 
 /// Nobody waits where it needn't.
 #[test]
 fn waits_are_decoded_where_they_may_be(rt: HostRuntime) {
-    for (number, case) in WAITING.iter().enumerate() {
-        expect_case(&rt, number, case);
+    for (waits, objects, input, is_there) in WAITING.iter() {
+        expect_case(&rt, waits, objects, input, *is_there);
     }
 }
 
 /// Each kind of object has the numbers that it may have.
 #[test]
 fn objects_are_decoded_as_they_may_be(rt: HostRuntime) {
-    for (number, case) in HOLDING.iter().enumerate() {
-        expect_case(&rt, number, case);
+    for (objects, is_there) in HOLDING.iter() {
+        expect_case(&rt, NO_WAIT, objects, &[0, 0], *is_there);
     }
 }

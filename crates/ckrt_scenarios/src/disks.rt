@@ -4,7 +4,7 @@ use crate::expect::{
     expect_write, memory_disk, remove_file, stopping_disk, write_file,
 };
 use ckrt_disk::{DeviceFault, Disk, FailingDisk, FileDisk, MemoryFile, SystemFile, write_synced};
-use std::fs::{File, Files, OpenOptions};
+use std::fs::{self, File, Files, OpenOptions};
 use std::marker::Brand;
 use std::process::Abort;
 
@@ -94,10 +94,17 @@ fn expect_six<R: Abort, D: Disk>(rt: &R, disk: &mut D, bytes: &[u8]) {
     expect_read(rt, disk, 1, bytes);
 }
 
+/// The whole file, as the system reads it.
+fn expect_file<R: Abort + Files<File = File> + AllocGlobal>(rt: &R, path: &str, bytes: &[u8]) {
+    let left = fs::read(rt, path).expect(rt, "the file is read");
+    expect_bytes(rt, left.as_slice(), bytes);
+}
+
 /// A real file is written, synced, closed, opened and read back.
-fn expect_kept<R: Abort + Files<File = File>>(rt: &R, path: &str) {
+fn expect_kept<R: Abort + Files<File = File> + AllocGlobal>(rt: &R, path: &str) {
     write_file(rt, path, &[0; 6]);
     write_six(rt, &mut opened(rt, path), &[4, 5]);
+    expect_file(rt, path, &[0, 4, 5, 0, 0, 0]);
     let mut disk = opened(rt, path);
     expect_six(rt, &mut disk, &[4, 5, 0]);
 
@@ -154,14 +161,16 @@ fn a_short_file_is_a_device_fault(rt: HostRuntime) {
     expect_short(&rt, &mut FileDisk::new(file, 8));
 }
 
-/// A disk of eight zeros that takes no byte.
+/// A disk of eight zeros that takes no byte and no sync.
 fn expect_full<R: Abort, D: Disk>(rt: &R, disk: &mut D) {
     expect_eq(rt, disk.size(), 8);
     expect_write(rt, disk, 2, &[1, 2, 3], Err(DeviceFault));
     expect_read(rt, disk, 2, &[0, 0, 0]);
+    expect_sync(rt, disk, Err(DeviceFault));
 }
 
-// A device that is always full takes no byte and reads as zeros. A machine without one is not tested.
+// A device that is always full takes no byte and reads as zeros, and the system has no sync of it (EINVAL, POSIX.1-2017,
+// fdatasync). A machine without one is not tested.
 #[test]
 fn a_full_device_is_a_device_fault(rt: HostRuntime) {
     let opened = OpenOptions::new()

@@ -82,7 +82,8 @@ fn expect_length<R: Abort + Files<File = File>>(rt: &R, path: &str, length: u64)
     expect_eq(rt, metadata.len(), length);
 }
 
-const HOLDS_A_PROGRAM: &str = "the disk jobs_a.disk: it holds a program already, and is unchanged; `ckrt run` goes on with it\nckrt: AlreadyFormatted\n";
+const HOLDS_A_PROGRAM: &str =
+    "the disk jobs_a.disk: it holds a program already, and is unchanged; `ckrt run` goes on with it\nckrt: AlreadyFormatted\n";
 
 /// A disk that is made, run and run again.
 fn expect_runs<R: Abort + Files<File = File> + AllocGlobal>(rt: &R) {
@@ -157,11 +158,13 @@ fn expect_absent<R: Abort + Files<File = File>>(rt: &R, path: &str) {
     assert!(rt; !fs::exists(rt, path).expect(rt, "the folder is read"));
 }
 
-const BAD_CONFIG: &str = "pages are 16 to 1024, harts 1 to 8, a journal's bytes a multiple of 4096 up to 1048576\nckrt: BadConfig\n";
+const BAD_CONFIG: &str =
+    "pages are 16 to 1024, harts 1 to 8, a journal's bytes a multiple of 4096 up to 1048576\nckrt: BadConfig\n";
 
 const ABSENT_IMAGE: &str = "the image jobs_none.img: there is no such file\nckrt: File\n";
 
-const LONG_IMAGE: &str = "the image jobs_d.img: it is longer than the guest's memory; choose more pages\nckrt: ImageTooLong\n";
+const LONG_IMAGE: &str =
+    "the image jobs_d.img: it is longer than the guest's memory; choose more pages\nckrt: ImageTooLong\n";
 
 const FOLDER: &str = "the disk .: it is a directory\nckrt: File\n";
 
@@ -169,7 +172,11 @@ const FOLDER: &str = "the disk .: it is a directory\nckrt: File\n";
 fn expect_faults<R: Abort + Files<File = File> + AllocGlobal>(rt: &R) {
     let image = filled(rt, 0, 61_441);
     write_file(rt, "jobs_d.img", image.as_slice());
-    expect_fault(rt, "format jobs_d.disk jobs_none.img --pages 15", BAD_CONFIG);
+    expect_fault(
+        rt,
+        "format jobs_d.disk jobs_none.img --pages 15",
+        BAD_CONFIG,
+    );
     expect_fault(rt, "format jobs_d.disk jobs_none.img --harts 9", BAD_CONFIG);
     expect_fault(
         rt,
@@ -200,7 +207,8 @@ fn an_image_that_cant_be_read_is_refused(rt: HostRuntime) {
 
 const ABSENT_DISK: &str = "the disk jobs_none.disk: there is no such file\nckrt: File\n";
 
-const SHORT_DISK: &str = "the disk jobs_e.disk: `ckrt format` didn't make it, or was stopped meanwhile; format it (docs/OPERATING.md)\nckrt: NotFormatted\n";
+const SHORT_DISK: &str =
+    "the disk jobs_e.disk: `ckrt format` didn't make it, or was stopped meanwhile; format it (docs/OPERATING.md)\nckrt: NotFormatted\n";
 
 /// Files that are no disks.
 fn expect_no_disks<R: Abort + Files<File = File> + AllocGlobal>(rt: &R) {
@@ -221,10 +229,10 @@ fn lock<R: Abort>(rt: &R, file: &File) {
     assert!(rt; file.try_lock().is_ok());
 }
 
-const DISK_IN_USE: &str =
-    "the disk jobs_f.disk: another program has it locked\nckrt: File\n";
+const DISK_IN_USE: &str = "the disk jobs_f.disk: another program has it locked\nckrt: File\n";
 
-const EMPTY_DISK: &str = "the disk jobs_f.disk: `ckrt format` didn't make it, or was stopped meanwhile; format it (docs/OPERATING.md)\nckrt: NotFormatted\n";
+const EMPTY_DISK: &str =
+    "the disk jobs_f.disk: `ckrt format` didn't make it, or was stopped meanwhile; format it (docs/OPERATING.md)\nckrt: NotFormatted\n";
 
 /// A disk that is in use, and then is not.
 fn expect_lock<R: Abort + Files<File = File> + AllocGlobal>(rt: &R) {
@@ -266,7 +274,8 @@ fn expect_number_usage<R: Abort + Files<File = File> + AllocGlobal>(rt: &R) {
     assert!(rt; printed.errors.as_slice().ends_with(NUMBER_USAGE.as_bytes()));
 }
 
-const NUMBER_USAGE: &str = "\nUsage: ckrt format <DISK> <IMAGE> [--pages 16 to 1024] [--harts 1 to 8] [--journal 4096 to 1048576 by 4096]\n";
+const NUMBER_USAGE: &str =
+    "\nUsage: ckrt format <DISK> <IMAGE> [--pages 16 to 1024] [--harts 1 to 8] [--journal 4096 to 1048576 by 4096]\n";
 
 #[test]
 fn a_wrong_number_gets_the_usage(rt: HostRuntime) {

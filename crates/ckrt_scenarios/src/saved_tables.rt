@@ -30,13 +30,9 @@ fn held<R: Abort + AllocGlobal>(rt: &R, bytes: &[u8]) -> Held {
 }
 
 /// What the tables and the output are saved as; the room behind it stays as it was.
-pub fn expect_encoding<R: Abort + AllocGlobal>(
-    rt: &R,
-    tables: &Tables,
-    held: &Held,
-    want: &[u8],
-) {
+pub fn expect_encoding<R: Abort + AllocGlobal>(rt: &R, tables: &Tables, held: &Held, want: &[u8]) {
     let mut room = filled(rt, 0xEE, TABLES_ROOM);
+    assert!(rt; room.len() >= TABLES_ROOM);
     assert!(rt; tables.is_well_formed());
     assert!(rt; held.len() <= HELD_LIMIT);
     let length = encode_tables(tables, held, room.as_mut_slice());

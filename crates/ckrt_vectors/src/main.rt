@@ -1,7 +1,10 @@
 //! Compares the processor with outside vectors: random programs as an emulator ran them, and words with the texts
-//! that a disassembler gave them. Prints how many agree.
+//! that a disassembler gave them; and saved tables with those of a second reading of the format. Prints how many agree.
 #![tactic(auto)]
 
+mod tables;
+
+use crate::tables::count_tables;
 use anyhow::{Context, Result, ensure};
 use ckrt_main::{Config, serve_image};
 use ckrt_rv32i::{decode, encode, instr_text, parse_instr};
@@ -102,10 +105,17 @@ fn compare_words(rt: &HostRuntime) -> Result<u64> {
     count_words(words.as_str())
 }
 
+fn compare_tables(rt: &HostRuntime) -> Result<u64> {
+    let tables = fs::read_to_string(rt, "tables.txt")?;
+    count_tables(rt.alloc(), tables.as_str())
+}
+
 fn main(rt: HostRuntime) -> Result<()> {
     let count = compare_programs(&rt)?;
     println!(rt; "{count} programs agree")?;
     let count = compare_words(&rt)?;
     println!(rt; "{count} words and texts agree")?;
+    let count = compare_tables(&rt)?;
+    println!(rt; "{count} saved tables agree")?;
     Ok(())
 }

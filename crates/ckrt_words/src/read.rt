@@ -21,7 +21,8 @@ fn matches_of<'a>(alloc: Global, words: &'a [&'a str]) -> Result<ArgMatches<'a>,
 }
 
 /// What follows a number that isn't one.
-const FORMAT_USAGE: &str = "Usage: ckrt format <DISK> <IMAGE> [--pages 16 to 1024] [--harts 1 to 8] [--journal 4096 to 1048576 by 4096]";
+const FORMAT_USAGE: &str =
+    "Usage: ckrt format <DISK> <IMAGE> [--pages 16 to 1024] [--harts 1 to 8] [--journal 4096 to 1048576 by 4096]";
 
 /// The text of a fault that `clap` found, with the usage behind it where it is of a number.
 fn fault(alloc: Global, error: &Error) -> WordsFault
