@@ -3,3 +3,4 @@ mod SubmitLemmas
 pub mod SessionLemmas
 pub mod CommitLemmas
 mod OpeningLemmas
+mod CheckpointLemmas
