@@ -8,10 +8,11 @@ use Rattle.ckrt_calls.specs.declared.table.Tables.{Tables}
 use Rattle.ckrt_machine.specs.Steps.{hart_of}
 use Rattle.ckrt_machine.specs.Runs.{is_running}
 use Rattle.ckrt_machine.specs.Plans.{ready_from, least_ready, or_else, or_zero, next_ready, planned}
+use Rattle.ckrt_recovery.specs.declared.fault.CommitFault.{CommitFault}
 use Rattle.ckrt_recovery.specs.declared.fault.SubmitFault.{SubmitFault}
 use Rattle.ckrt_recovery.specs.View.{View}
 use Rattle.ckrt_recovery.specs.View as view
-use Rattle.ckrt_recovery.specs.Transcript.{Transcript, submitted, submit, followed_by, unless_refused, run_planned}
+use Rattle.ckrt_recovery.specs.Transcript.{Transcript, submitted, submit, followed_by, unless_refused, run_planned, saved}
 
 -- PLANNED THREADS
 
@@ -67,3 +68,8 @@ refused_alone v e (Some fault) more h = refl
 pub accepted_before : (v : View) (e : Event) (o : Option SubmitFault) (more : View → Transcript) → o ≡ None → unless_refused v e o more ≡ followed_by (submitted v e o) more
 accepted_before v e None more h = refl
 accepted_before v e (Some fault) more h = cc
+
+-- a checkpoint doesn't quit
+pub saved_goes_on : (o : Option CommitFault) (v : View) → (saved o v).quit ≡ false
+saved_goes_on None v = refl
+saved_goes_on (Some fault) v = refl

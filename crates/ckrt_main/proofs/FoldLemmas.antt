@@ -6,14 +6,15 @@ use Rattle.ckrt_events.specs.declared.event.Event.TheVariants.{Place, Run}
 use Rattle.ckrt_events.specs.declared.command.Command.{Command}
 use Rattle.ckrt_events.specs.declared.command.Command.TheVariants.{Submit, Auto, Commit, Checkpoint, Quit, Blank}
 use Rattle.ckrt_events.specs.declared.command.LineFault.{LineFault}
-use Rattle.ckrt_events.specs.declared.command.LineFault.TheVariants.{Unknown}
 use Rattle.ckrt_events.specs.Line.{command_of}
 use Rattle.ckrt_machine.specs.Steps.{State}
 use Rattle.ckrt_machine.specs.Events.{fold, step, planned}
+use Rattle.ckrt_recovery.specs.declared.fault.CommitFault.{CommitFault}
 use Rattle.ckrt_recovery.specs.declared.fault.SubmitFault.{SubmitFault}
-use Rattle.ckrt_recovery.specs.View.{View, refusal_of, committed, confirmed_to}
-use Rattle.ckrt_recovery.specs.Replies.{no_line, line_fault_text, ack_line}
-use Rattle.ckrt_recovery.specs.Transcript.{Transcript, written, preceded_by, unless_quit, followed_by, submitted, submit, unless_refused, run_planned, output, commit, respond, respond_all, transcript, accepted_events, view_after}
+use Rattle.ckrt_recovery.specs.Calls.{checkpoint_refusal}
+use Rattle.ckrt_recovery.specs.View.{View, refusal_of, checkpointed, committed, confirmed_to}
+use Rattle.ckrt_recovery.specs.Replies.{no_line, commit_fault_text, line_fault_text, ack_line}
+use Rattle.ckrt_recovery.specs.Transcript.{Transcript, written, preceded_by, unless_quit, followed_by, submitted, submit, unless_refused, run_planned, output, commit, saved, respond, respond_all, transcript, accepted_events, view_after}
 
 -- the events of a transcript lead from the session before it to the session after it
 record Leads (v : View) (t : Transcript) : Type 0 where
@@ -61,11 +62,15 @@ leads_output v = leads_written (output v).text v (confirmed_to v v.released) ref
 leads_commit : (v : View) → Leads v (commit v)
 leads_commit v = leads_followed v (written (ack_line v.recovered.count) (committed v)) output (leads_written (ack_line v.recovered.count) v (committed v) refl refl) (λ w. leads_output w)
 
+leads_saved : (o : Option CommitFault) (v : View) → Leads v (saved o v)
+leads_saved (Some fault) v = leads_written (no_line (commit_fault_text fault)) v v refl refl
+leads_saved None v = leads_followed v (written (ack_line v.recovered.count) (checkpointed v)) output (leads_written (ack_line v.recovered.count) v (checkpointed v) refl refl) (λ w. leads_output w)
+
 leads_respond : (command : Result Command LineFault) (v : View) → Leads v (respond command v)
 leads_respond (Ok (Submit e)) v = leads_submit e v
 leads_respond (Ok (Auto h n)) v = leads_planned (planned h v.recovered.state.tables) h n v
 leads_respond (Ok Commit) v = leads_commit v
-leads_respond (Ok Checkpoint) v = leads_written (no_line (line_fault_text Unknown)) v v refl refl
+leads_respond (Ok Checkpoint) v = leads_saved (checkpoint_refusal v) v
 leads_respond (Ok Quit) v = record { state = refl; count = omega arith }
 leads_respond (Ok Blank) v = leads_written [] v v refl refl
 leads_respond (Err fault) v = leads_written (no_line (line_fault_text fault)) v v refl refl

@@ -1,18 +1,20 @@
 -- Pieces of service, one after another.
 use Rattle.std.proofs.Common.{◌≡◌, ℕ, ◌+◌, Bool, true, false, if◌then◌else◌, List, [], ◌∷◌, ◌++◌, length, Some, None, Option, Ok, Err, Result, refl, sym, ◌∙◌, ap, subst, arith}
-use Rattle.std.specs.Prelude.{is_none, OnErr}
+use Rattle.std.specs.Prelude.{is_none, IfErr, IfOk, MatchOption, OnErr, OnOk}
 use Rattle.std.specs.Io.KnownBytes.{Appends}
 use Rattle.ckrt_disk.specs.declared.disk.Disk.{Ghosts}
 use Rattle.ckrt_events.specs.declared.event.Event.{Event}
 use Rattle.ckrt_machine.specs.Events as machine
+use Rattle.ckrt_recovery.specs.declared.fault.CommitFault.{CommitFault}
+use Rattle.ckrt_recovery.specs.declared.fault.CommitFault.TheVariants.{Device}
 use Rattle.ckrt_recovery.specs.declared.fault.SubmitFault.{SubmitFault}
 use Rattle.ckrt_recovery.specs.declared.fault.SubmitFault.TheVariants.{Failed}
 use Rattle.ckrt_recovery.specs.declared.session.Session.{Session}
 use Rattle.ckrt_image.specs.Programs.{Program}
 use Rattle.ckrt_recovery.specs.Represents.{Represents}
-use Rattle.ckrt_recovery.specs.Replies.{ok_line, ack_line, no_line, submit_fault_text, out_lines}
-use Rattle.ckrt_recovery.specs.View.{View, view_of, refusal_of, refusal_when_running, after_event, committed, confirmed_to, released_output}
-use Rattle.ckrt_recovery.specs.Transcript.{Transcript, written, preceded_by, unless_quit, followed_by, submitted, submit, unless_refused, output}
+use Rattle.ckrt_recovery.specs.Replies.{ok_line, ack_line, no_line, submit_fault_text, commit_fault_text, out_lines}
+use Rattle.ckrt_recovery.specs.View.{View, view_of, refusal_of, refusal_when_running, after_event, confirmed_to, released_output}
+use Rattle.ckrt_recovery.specs.Transcript.{Transcript, written, preceded_by, unless_quit, followed_by, submitted, submit, unless_refused, output, saved}
 use Rattle.ckrt_main.specs.Service.{IsBeginningOf, Accepts, Follows, Responds, Interrupted}
 use Rattle.ckrt_main.proofs.EventLemmas.{submitted_goes_on, refused_alone, accepted_before}
 use Rattle.ckrt_main.proofs.OutputLemmas.{Appends-append}
@@ -22,6 +24,24 @@ use Rattle.ckrt_main.proofs.AcceptLemmas.{nothing_begins, begins_more, accepts_k
 pub on_err : {A E : Type 0} (r : Result A E) (P : Type 0) → P → OnErr r P
 on_err (Ok x) P p = tt
 on_err (Err e) P p = p
+
+-- what is said of an answer that is known
+pub at_ok : (r : Result ℕ CommitFault) (P : Type 0) (x : ℕ) → r ≡ Ok x → OnOk r P → P
+at_ok r P x e h = subst (λ q. OnOk q P) e h
+
+pub number_at : (r : Result ℕ CommitFault) (P : ℕ → Type 0) (x : ℕ) → r ≡ Ok x → IfOk r P → P x
+number_at r P x e h = subst (λ q. IfOk q P) e h
+
+pub taken_not_refused : (r : Result ℕ CommitFault) (n : ℕ) (fault : CommitFault) → r ≡ Ok n → r ≡ Err fault → ⊥
+taken_not_refused r n fault is refused = absurd (cc)
+
+pub same_fault : (r : Result ℕ CommitFault) (x y : CommitFault) → r ≡ Err x → r ≡ Err y → x ≡ y
+same_fault r x y e h = cc
+
+-- a checkpoint that was made wasn't refused
+pub accepted_refusal : (o : Option CommitFault) (r : Result ℕ CommitFault) (n : ℕ) → r ≡ Ok n → MatchOption o (IfErr r (λ e. e ≡ Device)) (λ f. r ≡ Err f) → o ≡ None
+accepted_refusal None r n is refused = refl
+accepted_refusal (Some f) r n is refused = absurd (taken_not_refused r n f is refused)
 
 -- a transcript goes on where it doesn't quit
 pub goes_on_with : (t : Transcript) (more : View → Transcript) → t.quit ≡ false → followed_by t more ≡ preceded_by t.text t.events (more t.view)
@@ -169,10 +189,29 @@ module _ {D : Type 0} {g : Ghosts D} where
   pub interrupted_before : (e : Event) (more : View → Transcript) (s u : Session D g) → Interrupted (submit e (view_of s)) s u → Interrupted (unless_refused (view_of s) e (refusal_of (view_of s) e) more) s u
   interrupted_before e more s u first = interrupted_at (refusal_of (view_of s) e) e more (view_of s) s u first
 
-  -- A COMMIT
+  -- COMMITS AND CHECKPOINTS
 
-  pub responds_committed : (a b : Option (List ℕ)) (old new : Session D g) → Accepts [] old new → view_of new ≡ committed (view_of old) → Appends a b (ack_line old.progress.count) → Responds (written (ack_line old.progress.count) (committed (view_of old))) a b old new
-  responds_committed a b old new accepts view written = record { accepted = []; part = nothing_begins []; accepts = accepts; run = λ _. record { all = refl; view = view; written = written } }
+  -- all is acknowledged, and the session is this one then
+  pub responds_acknowledged : (a b : Option (List ℕ)) (old new : Session D g) (after : View) → Accepts [] old new → view_of new ≡ after → Appends a b (ack_line old.progress.count) → Responds (written (ack_line old.progress.count) after) a b old new
+  responds_acknowledged a b old new after accepts view written = record { accepted = []; part = nothing_begins []; accepts = accepts; run = λ _. record { all = refl; view = view; written = written } }
+
+  -- a checkpoint with a fault: it was refused and changed nothing, or the device failed it
+  pub responds_unsaved : (o : Option CommitFault) (fault : CommitFault) (r : Result ℕ CommitFault) (a b : Option (List ℕ)) (old new : Session D g) → r ≡ Err fault
+      → MatchOption o (IfErr r (λ e. e ≡ Device)) (λ f. r ≡ Err f) → MatchOption o (Unit {0}) (λ _. new ≡ old) → Accepts [] old new → (r ≡ Err Device → new.failed ≡ true)
+      → Appends a b (no_line (commit_fault_text fault)) → Responds (saved o (view_of old)) a b old new
+  responds_unsaved o fault (Ok n) a b old new is refused unchanged accepts failed text = absurd (cc)
+  responds_unsaved None fault (Err e) a b old new is refused unchanged accepts failed text = responds_failed (saved None (view_of old)) a b old new accepts (failed (ap (λ (f : CommitFault). err f) refused))
+    where
+      err : CommitFault → Result ℕ CommitFault
+      err f = Err f
+  responds_unsaved (Some f) fault (Err e) a b old new is refused unchanged accepts failed text =
+      let same : fault ≡ f = cc in
+      record {
+        accepted = [];
+        part = nothing_begins [];
+        accepts = accepts;
+        run = λ _. record { all = refl; view = ap view_of unchanged; written = subst (λ (x : CommitFault). Appends a b (no_line (commit_fault_text x))) same text };
+      }
 
   -- OUTPUT
 

@@ -100,7 +100,7 @@ pub fn ok(count: u64, answer: Answer) -> Reply
     reply
 }
 
-/// The reply to a commit, with the number of events so far.
+/// The reply to a commit or a checkpoint, with the number of events so far.
 pub fn ack(count: u64) -> Reply
     ensures { result.items ≡ ack_line count }
 {
@@ -139,13 +139,14 @@ pub fn refused_event(fault: SubmitFault) -> Reply
     no(text)
 }
 
-/// The reply to a commit that the session refused, or whose disk failed.
+/// The reply to a commit or a checkpoint that the session refused, or whose disk failed.
 pub fn refused_commit(fault: CommitFault) -> Reply
     ensures { result.items ≡ no_line (commit_fault_text fault) }
 {
     let text = match fault {
         CommitFault::Failed => b"21 Failed".as_slice(),
         CommitFault::Device => b"25 Device".as_slice(),
+        CommitFault::GenerationsUsed => b"26 GenerationsUsed".as_slice(),
     };
     no(text)
 }

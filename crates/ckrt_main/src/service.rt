@@ -170,6 +170,31 @@ fn commit<W: Write, D: Disk>(session: &mut Session<D>, writer: &mut W) -> Result
     }
 }
 
+/// Saves the state after the events so far, acknowledges them, and writes the released output.
+fn checkpoint<W: Write, D: Disk>(
+    session: &mut Session<D>,
+    writer: &mut W,
+) -> Result<(), ServeFault>
+    ensures ok { OnOk result (Responds (transcript.checkpoint (view_of session.old)) (W.contents writer.old) (W.contents writer.new) session.old session.new) }
+    ensures refused { OnOk result (session.old.failed ≡ true → Appends (W.contents writer.old) (W.contents writer.new) (no_line (commit_fault_text CommitFault.Failed))) }
+    ensures device { OnOk result (session.old.failed ≡ false → session.new.failed ≡ true → Appends (W.contents writer.old) (W.contents writer.new) (no_line (commit_fault_text CommitFault.Device))) }
+    ensures interrupted { OnErr result (Interrupted (transcript.checkpoint (view_of session.old)) session.old session.new) }
+    ensures unconfirmed { OnErr result (session.new.progress.confirmed ≡ session.old.progress.confirmed) }
+    ensures err { IfErr result (λ e. e ≡ ServeFault.Write) }
+{
+    match session.checkpoint() {
+        Ok(count) => {
+            write_reply(writer, &replies::ack(count))?;
+            write_output(session, writer)?;
+            Ok(())
+        }
+        Err(fault) => {
+            write_reply(writer, &replies::refused_commit(fault))?;
+            Ok(())
+        }
+    }
+}
+
 /// Does what a command says, and answers whether it was `quit`.
 fn answer<W: Write, D: Disk>(
     session: &mut Session<D>,
@@ -189,11 +214,9 @@ fn answer<W: Write, D: Disk>(
         }
         Ok(Command::Auto(hart, steps)) => run_planned(session, writer, hart, steps)?,
         Ok(Command::Commit) => commit(session, writer)?,
+        Ok(Command::Checkpoint) => checkpoint(session, writer)?,
         Ok(Command::Quit) => return Ok(true),
         Ok(Command::Blank) => {}
-        Ok(Command::Checkpoint) => {
-            write_reply(writer, &replies::refused_line(LineFault::Unknown))?;
-        }
         Err(fault) => {
             write_reply(writer, &replies::refused_line(fault))?;
         }

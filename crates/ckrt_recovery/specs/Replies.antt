@@ -31,7 +31,7 @@ answer_text (Ticked n) = codes "ticked " ++ decimal n
 abbrev pub ok_line : ℕ → Answer → List ℕ
 ok_line k answer = codes "ok " ++ decimal k ++ codes " " ++ answer_text answer ++ codes "\n"
 
--- the first k events are committed
+-- the first k events are durable
 abbrev pub ack_line : ℕ → List ℕ
 ack_line k = codes "ack " ++ decimal k ++ codes "\n"
 
@@ -57,6 +57,7 @@ submit_fault_text submit.CountersUsed = codes "24 CountersUsed"
 abbrev pub commit_fault_text : CommitFault → List ℕ
 commit_fault_text commit.Failed = codes "21 Failed"
 commit_fault_text commit.Device = codes "25 Device"
+commit_fault_text commit.GenerationsUsed = codes "26 GenerationsUsed"
 
 abbrev pub line_fault_text : LineFault → List ℕ
 line_fault_text Unknown = codes "31 Unknown"

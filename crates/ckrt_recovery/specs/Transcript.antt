@@ -6,12 +6,13 @@ use Rattle.ckrt_events.specs.declared.event.Event.TheVariants.{Place, Run}
 use Rattle.ckrt_events.specs.declared.command.Command.{Command}
 use Rattle.ckrt_events.specs.declared.command.Command.TheVariants.{Submit, Auto, Commit, Checkpoint, Quit, Blank}
 use Rattle.ckrt_events.specs.declared.command.LineFault.{LineFault}
-use Rattle.ckrt_events.specs.declared.command.LineFault.TheVariants.{Unknown}
 use Rattle.ckrt_events.specs.Line.{command_of}
 use Rattle.ckrt_machine.specs.Events as machine
+use Rattle.ckrt_recovery.specs.declared.fault.CommitFault.{CommitFault}
 use Rattle.ckrt_recovery.specs.declared.fault.SubmitFault.{SubmitFault}
-use Rattle.ckrt_recovery.specs.View.{View, refusal_of, after_event, committed, released_output, confirmed_to}
-use Rattle.ckrt_recovery.specs.Replies.{ok_line, ack_line, no_line, submit_fault_text, line_fault_text, out_lines}
+use Rattle.ckrt_recovery.specs.Calls.{checkpoint_refusal}
+use Rattle.ckrt_recovery.specs.View.{View, refusal_of, after_event, committed, checkpointed, released_output, confirmed_to}
+use Rattle.ckrt_recovery.specs.Replies.{ok_line, ack_line, no_line, submit_fault_text, commit_fault_text, line_fault_text, out_lines}
 
 -- the text written, the events accepted, the session after them, and whether there was a line quit
 pub record Transcript : Type 0 where
@@ -69,6 +70,14 @@ output v = written (out_lines v.recovered.confirmed (released_output v)) (confir
 abbrev pub commit : View → Transcript
 commit v = followed_by (written (ack_line v.recovered.count) (committed v)) output
 
+-- a checkpoint that isn't refused acknowledges all events, as a commit does
+abbrev pub saved : Option CommitFault → View → Transcript
+saved (Some fault) v = written (no_line (commit_fault_text fault)) v
+saved None v = followed_by (written (ack_line v.recovered.count) (checkpointed v)) output
+
+abbrev pub checkpoint : View → Transcript
+checkpoint v = saved (checkpoint_refusal v) v
+
 abbrev pub refused_line : LineFault → View → Transcript
 refused_line fault v = written (no_line (line_fault_text fault)) v
 
@@ -77,7 +86,7 @@ abbrev pub respond : Result Command LineFault → View → Transcript
 respond (Ok (Submit e)) v = submit e v
 respond (Ok (Auto h n)) v = run_planned (machine.planned h v.recovered.state.tables) h n v
 respond (Ok Commit) v = commit v
-respond (Ok Checkpoint) v = refused_line Unknown v
+respond (Ok Checkpoint) v = checkpoint v
 respond (Ok Quit) v = record { text = []; events = []; view = v; quit = true }
 respond (Ok Blank) v = written [] v
 respond (Err fault) v = refused_line fault v

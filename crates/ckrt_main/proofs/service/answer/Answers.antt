@@ -2,11 +2,12 @@ use Rattle.std.proofs.Common.{◌≡◌, ◌∙◌, false, Ok, Err, rules, refl,
 use Rattle.std.specs.Io.KnownBytes.{Appends}
 use Rattle.ckrt_events.specs.declared.command.Command.TheVariants.{Submit, Auto, Commit, Checkpoint, Quit, Blank}
 use Rattle.ckrt_machine.specs.Events.{planned}
+use Rattle.ckrt_recovery.specs.Calls.{checkpoint_refusal}
 use Rattle.ckrt_recovery.specs.Transcript.{respond}
 use Rattle.ckrt_recovery.specs.View.{view_of, refusal_of}
 use Rattle.ckrt_main.specs.Service.{Responds}
 use Rattle.ckrt_main.proofs.OutputLemmas.{Appends-nothing}
-use Rattle.ckrt_main.proofs.EventLemmas.{submitted_goes_on, planned_goes_on}
+use Rattle.ckrt_main.proofs.EventLemmas.{submitted_goes_on, planned_goes_on, saved_goes_on}
 use Rattle.ckrt_main.proofs.ResponseLemmas.{on_err, responds_still, interrupted_kept}
 use Rattle.ckrt_main.proofs.service.answer.Goals as goal
 
@@ -74,16 +75,16 @@ returns-in_ok-commit-in-Ok-Commit-clause-ok g c =
     let e : Ok Commit ≡ c.args.command = search rules in
     subst (λ r. Responds (respond r (view_of s)) a b s c.commit.new.session) e c.in_ok-commit-in-Ok-Commit.ensures.ok
 
-pub returns-in_ok-write_reply-in-Ok-Checkpoint-clause-ok : goal.returns-in_ok-write_reply-in-Ok-Checkpoint-clause-ok
-returns-in_ok-write_reply-in-Ok-Checkpoint-clause-ok g c =
+pub returns-in_ok-checkpoint-in-Ok-Checkpoint-clause-ok : goal.returns-in_ok-checkpoint-in-Ok-Checkpoint-clause-ok
+returns-in_ok-checkpoint-in-Ok-Checkpoint-clause-ok g c =
     let s = c.args.session.now in
     let a = g.W.Write.contents c.args.writer.now in
-    let b = g.W.Write.contents c.write_reply.new.writer in
+    let b = g.W.Write.contents c.checkpoint.new.writer in
     let e : Ok Checkpoint ≡ c.args.command = search rules in
-    let text = c.deref.ensures.0 ∙ c.refused_line.ensures in
-    subst (λ r. Responds (respond r (view_of s)) a b s s) e (responds_still (respond (Ok Checkpoint) (view_of s)) a b s refl refl (subst (Appends a b) text c.in_ok-write_reply-in-Ok-Checkpoint.ensures.ok))
+    subst (λ r. Responds (respond r (view_of s)) a b s c.checkpoint.new.session) e c.in_ok-checkpoint-in-Ok-Checkpoint.ensures.ok
 
-pub returns-in_err-write_reply-in-Ok-Checkpoint-clause-interrupted : goal.returns-in_err-write_reply-in-Ok-Checkpoint-clause-interrupted
-returns-in_err-write_reply-in-Ok-Checkpoint-clause-interrupted g c =
-    let s = c.args.session.now in
-    on_err _ _ (interrupted_kept (respond c.args.command (view_of s)) s s refl refl)
+pub returns-in_ok-checkpoint-in-Ok-Checkpoint-clause-quit : goal.returns-in_ok-checkpoint-in-Ok-Checkpoint-clause-quit
+returns-in_ok-checkpoint-in-Ok-Checkpoint-clause-quit g c =
+    let v = view_of c.args.session.now in
+    let e : Ok Checkpoint ≡ c.args.command = search rules in
+    subst (λ r. false ≡ (respond r v).quit) e (sym (saved_goes_on (checkpoint_refusal v) v))
