@@ -29,9 +29,9 @@ pub returns-in_ok-write_reply-in-Err-clause-ok : goal.returns-in_ok-write_reply-
 returns-in_ok-write_reply-in-Err-clause-ok g c =
     let s = c.args.session.now in
     let a = g.W.Write.contents c.args.writer.now in
-    let b = g.W.Write.contents c.write_reply-in-Err.new.writer in
+    let b = g.W.Write.contents c.write_reply.new.writer in
     let e : Err c.in-Err.fault ≡ c.args.command = search rules in
-    let text = c.deref-in-Err.ensures.0 ∙ c.refused_line-in-Err.ensures in
+    let text = c.deref.ensures.0 ∙ c.refused_line.ensures in
     subst (λ r. Responds (respond r (view_of s)) a b s s) e (responds_still (respond (Err c.in-Err.fault) (view_of s)) a b s refl refl (subst (Appends a b) text c.in_ok-write_reply-in-Err.ensures.ok))
 
 pub returns-in_err-write_reply-in-Err-clause-interrupted : goal.returns-in_err-write_reply-in-Err-clause-interrupted
