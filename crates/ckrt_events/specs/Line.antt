@@ -109,6 +109,7 @@ named_command name args =
     else if bytes_eq name (codes "tick") then tick_of args
     else if bytes_eq name (codes "auto") then auto_of args
     else if bytes_eq name (codes "commit") then bare_of Commit args
+    else if bytes_eq name (codes "checkpoint") then bare_of Checkpoint args
     else if bytes_eq name (codes "quit") then bare_of Quit args
     else Err Unknown
 

@@ -44,6 +44,8 @@ fn command_named(name: &[u8], args: &[u8]) -> Result<Command, LineFault>
         auto(args)
     } else if name == b"commit".as_slice() {
         bare(Command::Commit, args)
+    } else if name == b"checkpoint".as_slice() {
+        bare(Command::Checkpoint, args)
     } else if name == b"quit".as_slice() {
         bare(Command::Quit, args)
     } else {

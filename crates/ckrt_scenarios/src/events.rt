@@ -60,7 +60,7 @@ fn expect_input<R: Abort>(rt: &R, line: &[u8], bytes: &[u8]) {
     expect_command(rt, line, Command::Submit(input(rt, bytes)));
 }
 
-const COMMANDS: [(&[u8], Command); 10] = [
+const COMMANDS: [(&[u8], Command); 11] = [
     (b"", Command::Blank),
     (b" \t", Command::Blank),
     (b"place 0 1", Command::Submit(Event::Place(0, 1))),
@@ -76,6 +76,7 @@ const COMMANDS: [(&[u8], Command); 10] = [
     ),
     (b"auto 0 2", Command::Auto(0, 2)),
     (b"commit", Command::Commit),
+    (b"checkpoint", Command::Checkpoint),
     (b"quit", Command::Quit),
 ];
 
@@ -94,7 +95,7 @@ fn expect_fault<R: Abort>(rt: &R, line: &[u8], fault: LineFault) {
 
 const FAULTS: &[(&[u8], LineFault)] = &[
     (b"jump", LineFault::Unknown),
-    (b"checkpoint", LineFault::Unknown),
+    (b"checkpoint 1", LineFault::Unknown),
     (b"place 0", LineFault::Unknown),
     (b"eof 1", LineFault::Unknown),
     (b"run x x x", LineFault::Unknown),

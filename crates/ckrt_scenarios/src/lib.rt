@@ -12,6 +12,8 @@ mod cancellation;
 #[cfg(test)]
 mod cancelled_guests;
 #[cfg(test)]
+mod checkpoints;
+#[cfg(test)]
 mod conditions;
 #[cfg(test)]
 mod contention;
