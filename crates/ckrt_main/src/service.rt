@@ -171,10 +171,7 @@ fn commit<W: Write, D: Disk>(session: &mut Session<D>, writer: &mut W) -> Result
 }
 
 /// Saves the state after the events so far, acknowledges them, and writes the released output.
-fn checkpoint<W: Write, D: Disk>(
-    session: &mut Session<D>,
-    writer: &mut W,
-) -> Result<(), ServeFault>
+fn checkpoint<W: Write, D: Disk>(session: &mut Session<D>, writer: &mut W) -> Result<(), ServeFault>
     ensures ok { OnOk result (Responds (transcript.checkpoint (view_of session.old)) (W.contents writer.old) (W.contents writer.new) session.old session.new) }
     ensures refused { OnOk result (session.old.failed ≡ true → Appends (W.contents writer.old) (W.contents writer.new) (no_line (commit_fault_text CommitFault.Failed))) }
     ensures device { OnOk result (session.old.failed ≡ false → session.new.failed ≡ true → Appends (W.contents writer.old) (W.contents writer.new) (no_line (commit_fault_text CommitFault.Device))) }

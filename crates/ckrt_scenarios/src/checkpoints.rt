@@ -1,8 +1,6 @@
 //! Whole checkpoints of a session: what they save and empty, what each stop of one leaves, and how the next life goes on.
 
-use crate::expect::{
-    copied, expect_bytes, expect_eq, expect_eq_at, memory_disk, stopping_disk,
-};
+use crate::expect::{copied, expect_bytes, expect_eq, expect_eq_at, memory_disk, stopping_disk};
 use crate::small_disk::{IMAGE, formatted, recovered, recovered_in_memory};
 use arrayvec::ArrayVec;
 use ckrt_disk::{Disk, MemoryDisk, StoppingDisk};
@@ -20,6 +18,7 @@ const CALLS_BEFORE: u64 = 30;
 
 /// Those of the second checkpoint before the gate is opened: 2 that close it, and 19; then the gate and its sync.
 const CALLS_BEFORE_GATE: u64 = 51;
+
 const CALLS: u64 = 53;
 
 /// An event, and what the session answers.
@@ -73,7 +72,12 @@ fn a_checkpoint_empties_the_journal(rt: HostRuntime) {
     let tick = Event::Tick(1);
     fill_batch(&rt, &mut session);
     expect_submit(&rt, &mut session, &tick, Err(SubmitFault::BatchFull));
-    expect_submit(&rt, &mut session, &Event::Eof, Err(SubmitFault::JournalFull));
+    expect_submit(
+        &rt,
+        &mut session,
+        &Event::Eof,
+        Err(SubmitFault::JournalFull),
+    );
     expect_commit(&rt, &mut session, Ok(62));
     expect_journal(&rt, &session, 1, 0);
     expect_submit(&rt, &mut session, &tick, Err(SubmitFault::JournalFull));
@@ -154,7 +158,12 @@ fn a_checkpoint_makes_its_calls(rt: HostRuntime) {
     let disk = stopping_disk(&rt, formatted(&rt, &IMAGE), 0, &[]);
     let mut session = recovered(&rt, disk);
     expect_calls(&rt, &session, 1);
-    expect_submit(&rt, &mut session, &Event::Place(0, 1), Ok((1, Answer::Placed)));
+    expect_submit(
+        &rt,
+        &mut session,
+        &Event::Place(0, 1),
+        Ok((1, Answer::Placed)),
+    );
     expect_committed(&rt, &mut session, 1, 5, 26);
     let ran = Answer::Ran(2, How::On);
     expect_submit(&rt, &mut session, &Event::Run(0, 2), Ok((2, ran)));
@@ -168,7 +177,12 @@ fn stopped<R: Abort + AllocGlobal>(rt: &R, image: &[u8], at_call: u64, fill: &[u
     let mut session = recovered(rt, stopping_disk(rt, copied(rt, image), at_call, fill));
     run_to_the_second(rt, &mut session);
     expect_checkpoint(rt, &mut session, Err(CommitFault::Device));
-    expect_submit(rt, &mut session, &Event::Run(0, 1), Err(SubmitFault::Failed));
+    expect_submit(
+        rt,
+        &mut session,
+        &Event::Run(0, 1),
+        Err(SubmitFault::Failed),
+    );
     expect_checkpoint(rt, &mut session, Err(CommitFault::Failed));
     session.into_disk().into_image()
 }
