@@ -22,7 +22,7 @@ from session import Session
 TIME_LIMIT = 60
 # What the program doesn't do yet, until it does: saved tables other than the fresh ones (Damaged till then), the line
 # `checkpoint`, the word `inspect`.
-AWAITED = {"tables", "checkpoint", "inspect"}
+AWAITED = {"inspect"}
 NEEDS = {"saved": "tables", "tables": "tables", "stopped": "tables", "checkpoints": "checkpoint"}
 
 
