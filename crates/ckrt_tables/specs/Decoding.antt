@@ -3,9 +3,10 @@
 use Rattle.std.specs.Prelude.{◌≡◌, ◌≤◌, ℕ, Bool, true, Option, Some, None, List, [], ◌∷◌, ◌++◌, length}
 use Rattle.std.specs.List.{list_all}
 use Rattle.arrayvec.specs.ArrayVec.{ArrayVec}
-use Rattle.circular_buffer.specs.Buffer.{Buffer}
+use Rattle.circular_buffer.specs.Buffer.{Buffer, buffer}
+use Rattle.ckrt_thread.specs.Contents.{empty}
 use Rattle.ckrt_calls.specs.declared.table.Tables.{Tables}
-use Rattle.ckrt_tables.specs.Encoding.{encoding_of}
+use Rattle.ckrt_tables.specs.Encoding.{encoding_of, HELD_LIMIT}
 use Rattle.ckrt_tables.specs.Savable.{CanBeSaved}
 
 -- THE WHOLE
@@ -30,6 +31,15 @@ DecodesTo harts bytes None = (s : Saved) → IsEncodingOf harts bytes s → ⊥
 abbrev pub saved : Option (Tables × Buffer ℕ) → Option Saved
 saved None = None
 saved (Some found) = Some (record { tables = found.0; held = found.1.items })
+
+-- tables and a ring of output that have nothing yet
+pub record IsBegun (harts : ℕ) (tables : Tables) (held : Buffer ℕ) : Type 0 where
+  pub threads : tables.threads ≡ empty harts
+  pub mutexes : tables.mutexes ≡ []
+  pub barriers : tables.barriers ≡ []
+  pub rwlocks : tables.rwlocks ≡ []
+  pub input : tables.input ≡ []
+  pub output : held ≡ buffer [] HELD_LIMIT
 
 -- A READER
 

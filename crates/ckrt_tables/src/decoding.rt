@@ -1,19 +1,22 @@
 //! Bytes as tables and held output.
 ghost use Rattle.std.specs.Prelude.{◌≡◌, ◌≤◌, ◌∷◌, [], ◌↔◌, IsTrue, IfOk, IfSome, length, true};
 ghost use Rattle.ckrt_calls.specs.WellFormed.{IsWellFormed};
-ghost use Rattle.ckrt_tables.specs.Decoding.{DecodesTo, Finds, IsEncodingOf, Saved, saved};
+ghost use Rattle.ckrt_tables.specs.Decoding.{DecodesTo, Finds, IsBegun, IsEncodingOf, Saved, saved};
 ghost use Rattle.ckrt_tables.specs.Encoding.{encoding_of, status_bytes, status_from, IsHeld};
 ghost use Rattle.ckrt_tables.specs.Records.{cause_from, flag};
 ghost use Rattle.ckrt_tables.specs.Savable.{fits_status};
 
 use crate::cursor::Cursor;
-use crate::encoding::{HELD_LIMIT, Held, TABLES_ROOM, encode_tables};
+use crate::encoding::{HELD_LIMIT, Held, LONGEST_TABLES, put_tables};
 use crate::fitting::known_savable;
 use crate::reading_objects::{read_barriers, read_mutexes, read_rwlocks};
 use crate::reading_queues::{read_held, read_input};
 use crate::reading_threads::read_threads;
+use ckrt_barrier::Barriers;
 use ckrt_calls::{InputQueue, Status, Tables};
+use ckrt_mutex::Mutexes;
 use ckrt_rv32i::Cause;
+use ckrt_rwlock::RwLocks;
 use ckrt_thread::Threads;
 use std::alloc::{AllocError, Global};
 
@@ -63,39 +66,25 @@ fn read_status(cursor: &mut Cursor<'_>) -> Status
     status_from(kind, thread, cause, word)
 }
 
-/// Tables and held output, read part by part. Where the bytes are the encoding of a state for so many harts, it is that state;
-/// other bytes may give any.
-fn read_tables(alloc: Global, bytes: &[u8], harts: usize) -> Result<(Tables, Held), AllocError>
-    requires harts { harts ≤ 8 }
-    ensures found { IfOk result (λ found. (s : Saved) → IsEncodingOf harts bytes.now s
-        → (found.0 ≡ s.tables) × (found.1.items ≡ s.held)) }
-    ensures room { IfOk result (λ found. found.1.capacity ≡ HELD_LIMIT) }
-    ensures held { IfOk result (λ found. IsHeld found.1.items) }
+/// Reads tables and held output part by part, each where it stays. Where the bytes are the encoding of a state for so many
+/// harts, it is that state; other bytes may give any.
+fn read_tables(bytes: &[u8], tables: &mut Tables, held: &mut Held)
+    requires begun { IsBegun tables.old.threads.hart_count tables.old held.old }
+    ensures found { (s : Saved) → IsEncodingOf tables.old.threads.hart_count bytes.now s
+        → (tables.new ≡ s.tables) × (held.new.items ≡ s.held) }
+    ensures room { held.new.capacity ≡ HELD_LIMIT }
+    ensures held { IsHeld held.new.items }
 {
-    let mut threads = Threads::empty(alloc, harts)?;
-    let mut input = InputQueue::new(alloc)?;
-    let mut held = Held::with_capacity(alloc, HELD_LIMIT)?;
     let mut cursor = Cursor::new(bytes);
-    let clock = cursor.long();
-    let closed = read_closed(&mut cursor);
-    let status = read_status(&mut cursor);
-    read_threads(&mut cursor, &mut threads);
-    let mutexes = read_mutexes(&mut cursor);
-    let barriers = read_barriers(&mut cursor);
-    let rwlocks = read_rwlocks(&mut cursor);
-    read_input(&mut cursor, &mut input);
-    read_held(&mut cursor, &mut held);
-    let tables = Tables {
-        threads,
-        mutexes,
-        barriers,
-        rwlocks,
-        clock,
-        input,
-        closed,
-        status,
-    };
-    Ok((tables, held))
+    tables.clock = cursor.long();
+    tables.closed = read_closed(&mut cursor);
+    tables.status = read_status(&mut cursor);
+    read_threads(&mut cursor, &mut tables.threads);
+    read_mutexes(&mut cursor, &mut tables.mutexes);
+    read_barriers(&mut cursor, &mut tables.barriers);
+    read_rwlocks(&mut cursor, &mut tables.rwlocks);
+    read_input(&mut cursor, &mut tables.input);
+    read_held(&mut cursor, held);
 }
 
 /// So many zeros.
@@ -110,10 +99,10 @@ fn zeros(alloc: Global, size: usize) -> Result<Vec<u8>, AllocError>
 fn is_encoding(tables: &Tables, held: &Held, room: &mut [u8], bytes: &[u8]) -> bool
     requires well_formed { IsWellFormed tables.now }
     requires held { IsHeld held.now.items }
-    requires room { TABLES_ROOM ≤ length room.old }
+    requires room { LONGEST_TABLES ≤ length room.old }
     ensures { IsTrue result ↔ (bytes.now ≡ encoding_of tables.now held.now.items) }
 {
-    let size = encode_tables(tables, held, room);
+    let size = put_tables(room, tables, held);
     let (front, _) = room.split_at(size);
     bytes == front
 }
@@ -130,12 +119,25 @@ pub fn decode_tables(
     ensures exact { IfOk result (λ found. DecodesTo harts bytes.now (saved found)) }
     ensures room { IfOk result (λ found. IfSome found (λ parts. parts.1.capacity ≡ HELD_LIMIT)) }
 {
-    let (tables, held) = read_tables(alloc, bytes, harts)?;
+    let threads = Threads::empty(alloc, harts)?;
+    let input = InputQueue::new(alloc)?;
+    let mut held = Held::with_capacity(alloc, HELD_LIMIT)?;
+    let mut tables = Tables {
+        threads,
+        mutexes: Mutexes::new(),
+        barriers: Barriers::new(),
+        rwlocks: RwLocks::new(),
+        clock: 0,
+        input,
+        closed: false,
+        status: Status::Running,
+    };
+    read_tables(bytes, &mut tables, &mut held);
     if !tables.is_well_formed() || tables.threads.hart_count() != harts {
         return Ok(None);
     }
     known_savable(&tables, &held);
-    let mut room = zeros(alloc, TABLES_ROOM)?;
+    let mut room = zeros(alloc, LONGEST_TABLES)?;
     if !is_encoding(&tables, &held, room.as_mut_slice(), bytes) {
         return Ok(None);
     }

@@ -125,9 +125,20 @@ fn put_parts(out: &mut [u8], tables: &Tables, held: &Held) -> usize
     put_held(out, input, held)
 }
 
+/// As [`encode_tables`], where there is room for the longest encoding.
+#[tactic(auto, using(crate::proofs::Bounds::encoding_bound))]
+pub(crate) fn put_tables(out: &mut [u8], tables: &Tables, held: &Held) -> usize
+    requires well_formed { IsWellFormed tables.now }
+    requires held { IsHeld held.now.items }
+    requires room { LONGEST_TABLES ≤ length out.old }
+    ensures put { IsPut out.old 0 (encoding_of tables.now held.now.items) out.new result }
+    ensures longest { result ≤ LONGEST_TABLES }
+{
+    put_parts(out, tables, held)
+}
+
 /// Writes the encoding of tables and held output at the front of `out`, and answers how many bytes it has; what is behind
 /// it stays. They decode to these tables and this output. `out` must have room for [`TABLES_ROOM`] bytes.
-#[tactic(auto, using(crate::proofs::Bounds::encoding_bound))]
 pub fn encode_tables(tables: &Tables, held: &Held, out: &mut [u8]) -> usize
     requires well_formed { IsWellFormed tables.now }
     requires held { IsHeld held.now.items }
@@ -140,5 +151,5 @@ pub fn encode_tables(tables: &Tables, held: &Held, out: &mut [u8]) -> usize
         (Some (record { tables = tables.now; held = held.now.items })) }
 {
     known_savable(tables, held);
-    put_parts(out, tables, held)
+    put_tables(out, tables, held)
 }

@@ -171,29 +171,26 @@ impl Row for Entry<RwLock> {
     }
 }
 
-/// Mutexes by rising address.
-pub fn read_mutexes(cursor: &mut Cursor<'_>) -> Mutexes
-    ensures { FindsAll AreMutexes (counted two_bytes mutex_bytes) cursor.old result cursor.new }
+/// Mutexes by rising address, onto a table that has none.
+pub fn read_mutexes(cursor: &mut Cursor<'_>, mutexes: &mut Mutexes)
+    requires { mutexes.old ≡ [] }
+    ensures { FindsAll AreMutexes (counted two_bytes mutex_bytes) cursor.old mutexes.new cursor.new }
 {
-    let mut mutexes = Mutexes::new();
-    read_many::<Entry<Mutex>>(cursor, &mut mutexes);
-    mutexes
+    read_many::<Entry<Mutex>>(cursor, mutexes);
 }
 
-/// Barriers by rising address.
-pub fn read_barriers(cursor: &mut Cursor<'_>) -> Barriers
-    ensures { FindsAll AreBarriers (counted one_byte barrier_bytes) cursor.old result cursor.new }
+/// Barriers by rising address, onto a table that has none.
+pub fn read_barriers(cursor: &mut Cursor<'_>, barriers: &mut Barriers)
+    requires { barriers.old ≡ [] }
+    ensures { FindsAll AreBarriers (counted one_byte barrier_bytes) cursor.old barriers.new cursor.new }
 {
-    let mut barriers = Barriers::new();
-    read_few::<Entry<Barrier>>(cursor, &mut barriers);
-    barriers
+    read_few::<Entry<Barrier>>(cursor, barriers);
 }
 
-/// Read-write locks by rising address.
-pub fn read_rwlocks(cursor: &mut Cursor<'_>) -> RwLocks
-    ensures { FindsAll AreRwLocks (counted one_byte rwlock_bytes) cursor.old result cursor.new }
+/// Read-write locks by rising address, onto a table that has none.
+pub fn read_rwlocks(cursor: &mut Cursor<'_>, rwlocks: &mut RwLocks)
+    requires { rwlocks.old ≡ [] }
+    ensures { FindsAll AreRwLocks (counted one_byte rwlock_bytes) cursor.old rwlocks.new cursor.new }
 {
-    let mut rwlocks = RwLocks::new();
-    read_few::<Entry<RwLock>>(cursor, &mut rwlocks);
-    rwlocks
+    read_few::<Entry<RwLock>>(cursor, rwlocks);
 }

@@ -24,25 +24,25 @@ returns-clause-found c = λ s is.
     let ts = counted one_byte thread_bytes (thread_rows t.threads) in
     let ws = counted one_byte wait_bytes t.threads.waits in
     let joined : hs ++ (ts ++ (ws ++ p1)) ≡ threads_bytes t.threads ++ p1 = sym (append_assoc hs (ts ++ ws) p1 ∙ ap (λ l. hs ++ l) (append_assoc ts ws p1)) in
-    let clock = c.long-clock.ensures t.clock (flag 1 t.closed ∷ (status_bytes t.status ++ (hs ++ (ts ++ (ws ++ p1))))) fit.clock (c.new-cursor.ensures ∙ is.encoded) in
-    let closed = c.read_closed-closed.ensures t.closed (status_bytes t.status ++ (hs ++ (ts ++ (ws ++ p1)))) refl clock.1 in
-    let status = c.read_status-status.ensures t.status (hs ++ (ts ++ (ws ++ p1))) fit.status closed.1 in
-    let begun : c.in_ok-threads.threads ≡ empty t.threads.hart_count = c.in_ok-threads.ensures ∙ ap empty (sym can.hart_count) in
+    let clock = c.long-tables.ensures t.clock (flag 1 t.closed ∷ (status_bytes t.status ++ (hs ++ (ts ++ (ws ++ p1))))) fit.clock (c.new-cursor.ensures ∙ is.encoded) in
+    let closed = c.read_closed-tables.ensures t.closed (status_bytes t.status ++ (hs ++ (ts ++ (ws ++ p1)))) refl clock.1 in
+    let status = c.read_status-tables.ensures t.status (hs ++ (ts ++ (ws ++ p1))) fit.status closed.1 in
+    let begun : c.args.tables.now.threads ≡ empty t.threads.hart_count = c.requires.begun.threads ∙ ap empty (sym can.hart_count) in
     let threads = c.read_threads.ensures t.threads p1 (record { well_formed = well.threads; harts_fit = fit.harts; slots_fit = fit.threads; waits_fit = fit.waits }) begun (status.1 ∙ joined) in
-    let mutexes = c.read_mutexes-mutexes.ensures t.mutexes p2 (record { table = record { table = well.mutexes.table; size = at_most.mutexes }; fit = fit.mutexes }) threads.1 in
-    let barriers = c.read_barriers-barriers.ensures t.barriers p3 (record { table = well.barriers.table; fit = fit.barriers }) mutexes.1 in
-    let rwlocks = c.read_rwlocks-rwlocks.ensures t.rwlocks p4 (record { table = record { table = well.rwlocks.table; size = at_most.rwlocks }; fit = fit.rwlocks }) barriers.1 in
+    let mutexes = c.read_mutexes.ensures t.mutexes p2 (record { table = record { table = well.mutexes.table; size = at_most.mutexes }; fit = fit.mutexes }) threads.1 in
+    let barriers = c.read_barriers.ensures t.barriers p3 (record { table = well.barriers.table; fit = fit.barriers }) mutexes.1 in
+    let rwlocks = c.read_rwlocks.ensures t.rwlocks p4 (record { table = record { table = well.rwlocks.table; size = at_most.rwlocks }; fit = fit.rwlocks }) barriers.1 in
     let input = c.read_input.ensures t.input p5 at_most.input rwlocks.1 in
     let held = c.read_held.ensures.found s.held [] can.is_held input.1 in (
       same_tables (record {
         threads = c.read_threads.new.threads;
-        mutexes = c.read_mutexes-mutexes.result;
-        barriers = c.read_barriers-barriers.result;
-        rwlocks = c.read_rwlocks-rwlocks.result;
-        clock = c.long-clock.result;
+        mutexes = c.read_mutexes.new.mutexes;
+        barriers = c.read_barriers.new.barriers;
+        rwlocks = c.read_rwlocks.new.rwlocks;
+        clock = c.long-tables.result;
         input = c.read_input.new.input;
-        closed = c.read_closed-closed.result;
-        status = c.read_status-status.result;
+        closed = c.read_closed-tables.result;
+        status = c.read_status-tables.result;
       }) t threads.0 mutexes.0 barriers.0 rwlocks.0 clock.0 input.0 closed.0 status.0,
       held.0,
     )

@@ -1,0 +1,181 @@
+"""Measures checkpoints and recoveries of real disks, alternating with what they are measured beside, and prints ratios.
+
+Words: the plain program, `ckrt`, `ckrt_probe`, the folder of the guests, the folder of the disks, and jobs (`checkpoints`,
+`recovery`, `power-on`, `resident`; all four, if none is named).
+
+checkpoints: on disks of 64, 256 and 1,024 pages, beside the same reads, writes and syncs in plain Rust. Each program has a
+disk of its own; after all rounds the two are compared byte by byte. recovery: of such disks with an empty journal, in a new
+process each time, beside the same sync and reading the same bytes into new memory. power-on: from the start of `ckrt run` to
+its first reply, on a disk of 64 pages whose journal of 1,048,576 bytes has no room for another batch of Runs, beside reading the disk's
+bytes and the machine alone with as many Runs. resident: of `ckrt run` with 1,024 pages, after an event, a commit and two
+checkpoints. inspect: `ckrt inspect` of a disk of 256 pages with a journal of 65,536 bytes that is full of the guest's Runs,
+beside `ckrt run` of it without a line, which recovers it and does nothing else.
+"""
+import os
+import re
+import statistics
+import subprocess
+import sys
+import time
+
+from results import note
+
+PAGES = (64, 256, 1_024)
+ROUNDS = 31
+CHECKPOINTS = 5
+# The first writes to a disk that was just made are slow in both, and not counted; each area is written once.
+WARM_UP = 4
+RECOVERIES = 101
+POWER_ONS = 9
+JOURNAL = 1_048_576
+# A batch of 4,096 bytes of Runs, of which each has 4.
+RUNS = 1_024
+GUEST = "nqueens-big"
+MAPPED_LIMIT = 4_096 + 1_280
+
+
+def run(command, lines=""):
+    """What a run writes to standard output, and to standard error."""
+    done = subprocess.run(command, input=lines, capture_output=True, check=True, text=True)
+    return done.stdout, done.stderr
+
+
+class Bench:
+    def __init__(self, plain, ckrt, probe, guests, folder):
+        self.plain, self.ckrt, self.probe, self.folder = plain, ckrt, probe, folder
+        self.image = os.path.join(guests, GUEST + ".bin")
+
+    def format_disk(self, name, pages, journal=4_096):
+        """A disk that was just formatted."""
+        path = os.path.join(self.folder, name)
+        if os.path.exists(path):
+            os.remove(path)
+        run([self.ckrt, "format", path, self.image, "--pages", str(pages), "--journal", str(journal)])
+        return path
+
+    def checkpoint_times(self, program, path, count):
+        return [int(word) for word in run([program, "checkpoint", path, str(count)])[1].split()]
+
+    def checkpoints(self):
+        for pages in PAGES:
+            programs = (self.plain, self.probe)
+            disks = [self.format_disk(f"checkpoint_{k}.disk", pages) for k in (0, 1)]
+            for program, disk in zip(programs, disks):
+                self.checkpoint_times(program, disk, WARM_UP)
+            times = ([], [])
+            for turn in range(ROUNDS):
+                for k in (0, 1) if turn % 2 == 0 else (1, 0):
+                    times[k].append(statistics.median(self.checkpoint_times(programs[k], disks[k], CHECKPOINTS)))
+            self.report(f"checkpoint of {pages} pages", times[1], times[0])
+            contents = []
+            for disk in disks:
+                with open(disk, "rb") as file:
+                    contents.append(file.read())
+                os.remove(disk)
+            if contents[0] != contents[1]:
+                sys.exit("the two disks differ")
+
+    def recovery(self):
+        for pages in PAGES:
+            disk = self.format_disk("recovery.disk", pages)
+            with open(disk, "rb") as file:
+                file.read()
+                os.fsync(file.fileno())
+            programs, times = (self.plain, self.probe), ([], [])
+            for turn in range(RECOVERIES):
+                for k in (0, 1) if turn % 2 == 0 else (1, 0):
+                    times[k].append(int(run([programs[k], "recover", disk])[1]))
+            os.remove(disk)
+            self.report(f"recovery of {pages} pages, empty journal", times[1], times[0])
+
+    def steps_of_guest(self):
+        return int(re.search(r"steps (\d+)", run([self.probe, "run", self.image, "64", "1", "65535"])[1])[1])
+
+    def full_disk(self, name, pages, journal):
+        """A disk whose journal is full of Runs that make all steps of the guest, and how many steps each has at most."""
+        disk = self.format_disk(name, pages, journal)
+        batches = journal // (4 * RUNS + 3)
+        most = -(-self.steps_of_guest() // (batches * RUNS))
+        run([self.ckrt, "run", disk], "place 0 1\ncommit\n" + (f"run 0 {most}\n" * RUNS + "commit\n") * batches)
+        return disk, most
+
+    def first_reply(self, disk):
+        """The seconds from the start of a run to its first reply."""
+        start = time.perf_counter()
+        with subprocess.Popen([self.ckrt, "run", disk], stdin=subprocess.PIPE, stdout=subprocess.PIPE, text=True) as child:
+            child.stdin.write("commit\n")
+            child.stdin.flush()
+            while not child.stdout.readline().startswith("ack"):
+                pass
+            seconds = time.perf_counter() - start
+            child.stdin.close()
+        return seconds
+
+    def bytes_and_steps(self, disk, pages, most):
+        """The seconds of reading the disk's bytes and of the machine alone with such Runs."""
+        start = time.perf_counter()
+        with open(disk, "rb") as file:
+            file.read()
+        run([self.probe, "run", self.image, str(pages), "1", str(most)])
+        return time.perf_counter() - start
+
+    def power_on(self):
+        disk, most = self.full_disk("power_on.disk", 64, JOURNAL)
+        ours, base = [], []
+        for _ in range(POWER_ONS):
+            base.append(self.bytes_and_steps(disk, 64, most))
+            ours.append(self.first_reply(disk))
+        os.remove(disk)
+        self.report("power on to the first reply, full journal of 1,048,576 bytes", ours, base, "s")
+
+    def inspect(self):
+        disk, _ = self.full_disk("inspect.disk", 256, 65_536)
+        ours, base = [], []
+        for _ in range(RECOVERIES // 3):
+            for times, words in ((base, ["run", disk]), (ours, ["inspect", disk])):
+                start = time.perf_counter()
+                run([self.ckrt, *words])
+                times.append(time.perf_counter() - start)
+        os.remove(disk)
+        self.report("inspect, beside a run without a line", ours, base, "s")
+
+    def resident(self):
+        """The resident KiB of a run with 1,024 pages after checkpoints: of the process alone, and with what it maps."""
+        disk = self.format_disk("resident.disk", 1_024)
+        with subprocess.Popen([self.ckrt, "run", disk], stdin=subprocess.PIPE, stdout=subprocess.PIPE, text=True) as child:
+            child.stdin.write("place 0 1\nrun 0 65535\ncommit\ncheckpoint\ncheckpoint\n")
+            child.stdin.flush()
+            for _ in range(3):
+                while not child.stdout.readline().startswith("ack"):
+                    pass
+            with open(f"/proc/{child.pid}/status", encoding="utf-8") as file:
+                status = file.read()
+            child.stdin.close()
+        os.remove(disk)
+        alone, mapped = (int(re.search(name + r":\s+(\d+) kB", status)[1]) for name in ("RssAnon", "VmHWM"))
+        note("checkpoint", "resident after checkpoints, process alone", "KiB", alone, MAPPED_LIMIT, ("", alone / MAPPED_LIMIT, ""))
+        note("checkpoint", "resident after checkpoints, with program and C library", "KiB", mapped, MAPPED_LIMIT, ("", mapped / MAPPED_LIMIT, ""))
+        print(f"resident with 1,024 pages after checkpoints: {alone} KiB, with program and C library {mapped} KiB (4 MiB and 1.25 MiB: {MAPPED_LIMIT})")
+
+    def report(self, what, ours, base, unit="ns"):
+        """Prints the medians, and the median of the rounds' ratios with its quartiles, and notes them."""
+        ratios = statistics.quantiles([mine / plain for mine, plain in zip(ours, base)], n=4)
+        note("checkpoint", what, unit, statistics.median(ours), statistics.median(base), ratios)
+        low, middle, high = ratios
+        scale, shown = (1e3, "us") if unit == "ns" else (1e-3, "ms")
+        print(f"{what}: plain {statistics.median(base) / scale:.1f} {shown}, ckrt {statistics.median(ours) / scale:.1f} {shown}, "
+              f"ratio {middle:.3f} ({low:.3f} to {high:.3f})", flush=True)
+
+
+JOBS = {"checkpoints": Bench.checkpoints, "recovery": Bench.recovery, "power-on": Bench.power_on,
+        "resident": Bench.resident, "inspect": Bench.inspect}
+UNASKED = ("checkpoints", "recovery", "power-on", "resident")
+
+
+def main():
+    bench = Bench(*sys.argv[1:6])
+    for job in sys.argv[6:] or UNASKED:
+        JOBS[job](bench)
+
+
+main()

@@ -1,0 +1,91 @@
+"""Makes saved tables, for the bench of tables: a program that hasn't begun, one with 64 threads, and the longest.
+
+    make_tables.py FOLDER
+
+It writes `fresh`, `crowd` and `longest`, by the format alone (docs/FILE_FORMAT.md). The crowd has 64 threads, 60 of which
+wait for objects of each kind, and 40 objects: 100 waits and objects. All are tables of a program with 8 harts.
+"""
+import os
+import struct
+import sys
+
+WAIT = struct.Struct("<BBBBIIQ")
+PAGE = 4_096
+
+
+def thread(number, handlers=0, flags=0):
+    """A thread at a pc of its own, with a number of its own in each register."""
+    registers = [number * 1_000 + register for register in range(1, 32)]
+    head = struct.pack("<BBBBII31I", number, flags | (number == 1), handlers, 0, 0, PAGE + 4 * number, *registers)
+    return head + b"".join(struct.pack("<II", PAGE, handler) for handler in range(handlers))
+
+
+def wait(number, kind, first=0, second=0, deadline=None):
+    return WAIT.pack(number, kind, 0, deadline is not None, first, second, deadline or 0)
+
+
+def mutex(place, owner):
+    return struct.pack("<IBBH", 0x10000 + 4 * place, 0, owner, 1)
+
+
+def barrier(place):
+    return struct.pack("<II", 0x20000 + 4 * place, 65)
+
+
+def rwlock(place, readers):
+    """A lock that these threads read under, else one that thread 64 writes under."""
+    head = struct.pack("<IBB", 0x30000 + 4 * place, 0 if readers else 64, len(readers))
+    return head + b"".join(struct.pack("<BH", reader, 1) for reader in readers)
+
+
+def tables(threads, waits=(), mutexes=(), barriers=(), rwlocks=(), unread=b"", held=b""):
+    """A clock of 1, an open input, a program that runs, on harts that are idle."""
+    return b"".join([
+        struct.pack("<QBBBBI", 1, 0, 0, 0, 0, 0), bytes(8),
+        bytes([len(threads)]), *threads,
+        bytes([len(waits)]), *waits,
+        struct.pack("<H", len(mutexes)), *mutexes,
+        bytes([len(barriers)]), *barriers,
+        bytes([len(rwlocks)]), *rwlocks,
+        struct.pack("<H", len(unread)), unread,
+        struct.pack("<H", len(held)), held,
+    ])
+
+
+def fresh():
+    head = struct.pack("<BBBBII31I", 1, 1, 0, 0, 0, PAGE, 0xFFFF_FFF0, 16 * PAGE, *29 * [0])
+    return bytes(24) + b"\1" + head + bytes(9)
+
+
+def crowd():
+    waits = []
+    for number in range(1, 61):
+        place = number % 4
+        waits.append([
+            wait(number, 2, 0x10000 + 4 * place), wait(number, 2, 0x10000 + 4 * place, deadline=100 + number),
+            wait(number, 4, 0x40000 + 4 * place, 0x10000 + 4 * place), wait(number, 5, 0x20000 + 4 * place),
+            wait(number, 7, 0x30000 + 4 * place), wait(number, 9, deadline=1_000 + number),
+        ][number % 6])
+    mutexes, barriers = [mutex(place, 64) for place in range(20)], [barrier(place) for place in range(10)]
+    rwlocks = [rwlock(place, [62, 63] if place % 2 else []) for place in range(10)]
+    return tables([thread(number, number % 3) for number in range(1, 65)], waits, mutexes, barriers, rwlocks, b"in", b"out")
+
+
+def longest():
+    waits = [wait(number, 2, 0x10000 + 4 * number) for number in range(1, 65)]
+    mutexes = [mutex(place, place % 64 or 64) for place in range(256)]
+    # thread t waits for the mutex at place t, which it owns: that of kind 0 lets it
+    rwlocks = [rwlock(place, range(1, 65)) for place in range(64)]
+    threads = [thread(number, 16) for number in range(1, 65)]
+    return tables(threads, waits, mutexes, [barrier(place) for place in range(64)], rwlocks, bytes(4_096), bytes(16_384))
+
+
+def main():
+    folder = sys.argv[1]
+    for make in (fresh, crowd, longest):
+        with open(os.path.join(folder, make.__name__), "wb") as file:
+            file.write(make())
+
+
+if __name__ == "__main__":
+    main()
