@@ -1,29 +1,20 @@
 -- What stands on a freshly formatted disk, what its image recovers to, and where formatting writes at which moments.
-use Rattle.std.proofs.Common.{◌≡◌, ◌⊎◌, inl, inr, ⊎_elim, ℕ, ◌+◌, ◌-◌, ◌≤◌, ◌<◌, ◌^◌, ◌&&◌, Bool, true, false, cond, nat_eq, nat_lt, nat_le, List, [], ◌∷◌, length, get_or, take, drop, None, Result, Ok, Err, lit<, refl, sym, ◌∙◌, ap, arith}
-use Rattle.std.proofs.lemmas.List.{drop-drop, drop-take, take-take, get_or-take, get_or-drop, append-nil}
+use Rattle.std.proofs.Common.{◌≡◌, ◌⊎◌, inl, inr, ⊎_elim, ℕ, ◌+◌, ◌≤◌, ◌<◌, ◌^◌, ◌&&◌, Bool, true, false, cond, nat_eq, nat_lt, nat_le, List, [], ◌∷◌, length, get_or, take, drop, Result, Ok, Err, lit<, refl, sym, ◌∙◌, ap, arith}
+use Rattle.std.proofs.lemmas.List.{get_or-take, get_or-drop}
 use Rattle.std.proofs.lemmas.Bool.Decides.{nat_tests}
 use Rattle.std.proofs.lemmas.Grind.{common_steps}
-use Rattle.std.specs.Cmp.Lexicographic.{pointwise}
-use Rattle.byteorder.specs.Endian.{little_number, little_bytes}
-use Rattle.byteorder.specs.Numbers.{little_number-reads_back}
 use Rattle.ckrt_disk.specs.Disk.{IsImage, IsOverwritten, IsWithin, LeavesOnly}
 use Rattle.ckrt_disk.specs.Frame.{Nowhere, WritesWithin}
 use Rattle.ckrt_disk.specs.declared.disk.Disk.{Ghosts}
 use Rattle.ckrt_disk.proofs.FrameLemmas.{wider, writes_on_within, byte_left}
 use Rattle.ckrt_disk.proofs.Moments.{weaker, goes_on}
-use Rattle.ckrt_disk.proofs.Images.{part_same, wider_image, written_size, written_elsewhere, written_there, written_image}
-use Rattle.ckrt_journal.specs.Chain.{batches_of, journal_bytes, found_then, batch_of_length}
-use Rattle.ckrt_journal.proofs.ChainLemmas.{chain_more}
+use Rattle.ckrt_disk.proofs.Images.{part_same, wider_image, written_size, written_there, written_image}
 use Rattle.ckrt_calls.specs.Table as calls
-use Rattle.ckrt_machine.specs.Steps.{State}
 use Rattle.ckrt_tables.specs.Fresh.{fresh_bytes, IsFreshEncoding}
 use Rattle.ckrt_tables.proofs.AllFit.{fresh_savable}
 use Rattle.ckrt_checkpoint.specs.declared.config.Config.{Config}
-use Rattle.ckrt_checkpoint.specs.declared.header.Header.{Header}
-use Rattle.ckrt_checkpoint.specs.declared.area.Area.{Area}
-use Rattle.ckrt_checkpoint.specs.Areas.{area_of, newest_area}
 use Rattle.ckrt_checkpoint.specs.Fields.{HasBytes, header_fields}
-use Rattle.ckrt_checkpoint.specs.Layout.{is_valid, is_open, memory_size, size_needed, area_at, tables_at, memory_at, journal_of, number_at, header_in, header_of, memory_of}
+use Rattle.ckrt_checkpoint.specs.Layout.{is_valid, is_open, memory_size, size_needed, area_at, tables_at, memory_at, journal_of, number_at}
 use Rattle.ckrt_checkpoint.proofs.ByteLemmas.{stays, number_is, byte_is}
 use Rattle.ckrt_checkpoint.proofs.HoldLemmas.{header_gate, header_stands}
 use Rattle.ckrt_image.specs.declared.fault.RecoverFault.TheVariants.{NotFormatted, Damaged}
@@ -31,7 +22,6 @@ use Rattle.ckrt_image.specs.declared.fault.RecoverFault.{RecoverFault}
 use Rattle.ckrt_image.specs.Superblock.{MAGIC, config_within, superblock_fields, superblock_in, superblock_of}
 use Rattle.ckrt_image.specs.Frame.{HoldsState}
 use Rattle.ckrt_image.specs.Recovery.{◌>>=◌, Recovers, area_in_use}
-use Rattle.ckrt_image.specs.Programs.{start_of}
 use Rattle.ckrt_image.specs.Fields.{fresh_header, fresh_memory, HasFreshArea, IsFresh}
 use Rattle.ckrt_image.specs.Format.{FormatsAt, FormatsBehindGate, IsFormatted, IsFormatting}
 use Rattle.ckrt_image.proofs.RecoverLemmas.{found, from_fault}

@@ -3,5 +3,7 @@ pub mod RecoverLemmas
 pub mod ReplayLemmas
 pub mod GrowthLemmas
 pub mod SwitchLemmas
+pub mod PastLemmas
+pub mod PastFaultLemmas
 mod SaveLemmas
 mod FormatLemmas

@@ -1,10 +1,9 @@
 -- What a save of a program leaves of what its disk recovers to.
-use Rattle.std.proofs.Common.{◌≡◌, ◌⊎◌, inl, inr, ⊎_elim, ℕ, ◌+◌, ◌-◌, ◌≤◌, ◌<◌, ◌^◌, Bool, true, false, cond, nat_eq, nat_lt, List, length, get_or, drop, Result, Ok, Err, refl, sym, ◌∙◌, ap, subst, arith}
+use Rattle.std.proofs.Common.{◌≡◌, inl, inr, ⊎_elim, ℕ, ◌+◌, ◌-◌, ◌≤◌, ◌<◌, ◌^◌, Bool, true, false, nat_eq, List, length, get_or, drop, Ok, refl, sym, ◌∙◌, ap, subst, arith}
 use Rattle.std.proofs.lemmas.Bool.{cases_lt}
 use Rattle.std.proofs.lemmas.Bool.Decides.{nat_tests}
 use Rattle.std.proofs.lemmas.Grind.{same_number_lists}
 use Rattle.std.proofs.lemmas.List.{get_or-drop}
-use Rattle.ckrt_disk.specs.Disk.{IsWithin}
 use Rattle.ckrt_disk.specs.Frame.{IsSameOutside}
 use Rattle.ckrt_disk.proofs.Images.{wider_image}
 use Rattle.ckrt_tables.specs.Decoding.{Saved}
@@ -14,17 +13,17 @@ use Rattle.ckrt_checkpoint.specs.declared.area.Area.{Area}
 use Rattle.ckrt_checkpoint.specs.declared.config.Config.{Config}
 use Rattle.ckrt_checkpoint.specs.declared.header.Header.{Header}
 use Rattle.ckrt_checkpoint.specs.Areas.{checked_area, is_in_range}
-use Rattle.ckrt_checkpoint.specs.Layout.{area_at, header_of, is_gate_open, is_valid, journal_of, memory_size}
+use Rattle.ckrt_checkpoint.specs.Layout.{area_at, header_of, is_gate_open}
 use Rattle.ckrt_checkpoint.specs.Write.{HasSaved, IsClosing, IsFilling, IsSaving, WritesAt, next_header}
 use Rattle.ckrt_checkpoint.proofs.HoldLemmas.{AreFieldsFit, closed_journal, header_gate, holds_header, holds_memory, holds_tables}
 use Rattle.ckrt_image.specs.declared.progress.Progress.{Progress}
 use Rattle.ckrt_image.specs.Frame.{BelongsTo, HoldsState, IsNewest, in_other_area}
 use Rattle.ckrt_image.specs.Progress.{IsBehind, RecoversToBoth, recovered_of, save_point_of}
-use Rattle.ckrt_image.specs.Recovery.{Recovered, Recovers, is_end_in_range}
+use Rattle.ckrt_image.specs.Recovery.{Recovered, Recovers}
 use Rattle.ckrt_image.specs.Superblock.{superblock_of}
 use Rattle.ckrt_image.proofs.GrowthLemmas.{framed, kept_header, kept_superblock}
 use Rattle.ckrt_image.proofs.RecoverLemmas.{IsKnown, known}
-use Rattle.ckrt_image.proofs.SwitchLemmas.{index_is, switched}
+use Rattle.ckrt_image.proofs.SwitchLemmas.{switched}
 
 -- GATES
 

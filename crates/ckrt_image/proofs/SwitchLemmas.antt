@@ -4,12 +4,8 @@ use Rattle.std.proofs.lemmas.Bool.{cases_lt}
 use Rattle.byteorder.specs.Endian.{little_number}
 use Rattle.ckrt_journal.specs.Chain.{batches_of, batch_of_length, found_then, journal_bytes}
 use Rattle.ckrt_journal.proofs.ChainLemmas.{chain_more}
-use Rattle.ckrt_tables.specs.Decoding.{Saved}
-use Rattle.ckrt_checkpoint.specs.declared.area.Area.{Area}
-use Rattle.ckrt_checkpoint.specs.declared.config.Config.{Config}
 use Rattle.ckrt_checkpoint.specs.Layout.{is_open, journal_of, memory_of}
-use Rattle.ckrt_image.specs.Frame.{HoldsState, IsNewest, IsSwitched}
-use Rattle.ckrt_image.specs.Superblock.{superblock_of}
+use Rattle.ckrt_image.specs.Frame.{IsSwitched}
 use Rattle.ckrt_image.specs.Recovery.{Recovered, Recovers, replayed_batches, replayed_journal, unreplayed}
 use Rattle.ckrt_image.proofs.AreaLemmas.{picked_newest}
 use Rattle.ckrt_image.proofs.GrowthLemmas.{used_by}

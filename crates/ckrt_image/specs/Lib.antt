@@ -6,3 +6,4 @@ pub mod Reads
 pub mod Programs
 pub mod Fields
 pub mod Format
+pub mod Past

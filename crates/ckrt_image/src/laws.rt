@@ -1,5 +1,6 @@
 //! Laws of what an image recovers to. Each is the contract of a function with an empty body.
 ghost use Rattle.ckrt_image.specs.Frame.{IsFramed, IsSwitched};
+ghost use Rattle.ckrt_image.specs.Past.{PastFaultIsWhole};
 ghost use Rattle.ckrt_image.specs.Recovery.{RecoversOnce};
 
 /// An image recovers to one thing only.
@@ -16,4 +17,9 @@ pub fn unused_area_is_free()
 /// An image recovers to the state that its newest open area holds, where the area's journal has no batch.
 pub fn newest_area_takes_over()
     ensures { IsSwitched }
+{}
+
+/// A fault of an image's past is what the image recovers to, whatever the count.
+pub fn past_of_an_image_has_its_faults()
+    ensures { PastFaultIsWhole }
 {}

@@ -6,6 +6,7 @@ mod fault;
 mod formatting;
 mod fresh;
 mod laws;
+mod past;
 mod progress;
 mod reading;
 mod replay;
@@ -13,6 +14,10 @@ mod replay;
 pub use ckrt_checkpoint::{COUNT_LIMIT, Config};
 pub use fault::{FormatFault, RecoverFault};
 pub use formatting::format;
-pub use laws::{images_recover_once, newest_area_takes_over, unused_area_is_free};
+pub use laws::{
+    images_recover_once, newest_area_takes_over, past_of_an_image_has_its_faults,
+    unused_area_is_free,
+};
+pub use past::read_past;
 pub use progress::Progress;
 pub use reading::read_progress;

@@ -1,4 +1,4 @@
-use Rattle.std.proofs.Common.{◌≡◌, List, sym, ◌∙◌, subst, rules, Ok, Err}
+use Rattle.std.proofs.Common.{◌≡◌, List, sym, subst, rules, Err}
 use Rattle.ckrt_image.specs.Reads.{is_device}
 use Rattle.ckrt_image.specs.Recovery.{Agrees, AgreesOnFault, BySaved, Is, Recovers, in_use, replayed_area}
 use Rattle.ckrt_image.specs.Progress.{recovered_of}

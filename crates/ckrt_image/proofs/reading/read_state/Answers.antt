@@ -1,10 +1,10 @@
-use Rattle.std.proofs.Common.{◌≡◌, ◌+◌, true, false, cond, nat_lt, List, length, Some, Result, Ok, Err, sym, ◌∙◌, ap, rules}
+use Rattle.std.proofs.Common.{◌≡◌, true, false, cond, List, Some, Err, sym, ◌∙◌, ap, rules}
 use Rattle.ckrt_journal.specs.declared.journal.Journal.{Journal}
 use Rattle.ckrt_machine.specs.Steps.{State}
 use Rattle.ckrt_tables.specs.Decoding.{Saved}
 use Rattle.ckrt_checkpoint.specs.Layout.{memory_of}
 use Rattle.ckrt_image.specs.declared.fault.RecoverFault.TheVariants.{Damaged}
-use Rattle.ckrt_image.specs.Recovery.{Recovered, is_end_in_range, unreplayed}
+use Rattle.ckrt_image.specs.Recovery.{is_end_in_range, unreplayed}
 use Rattle.ckrt_image.proofs.RecoverLemmas.{ok}
 use Rattle.ckrt_image.proofs.reading.read_state.Goals as goal
 
