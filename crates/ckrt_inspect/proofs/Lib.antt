@@ -1,0 +1,5 @@
+mod WritingLemmas
+mod PushLemmas
+mod CodeLemmas
+mod WorkedLemmas
+mod FaultLemmas

@@ -1,0 +1,121 @@
+//! Listing the program of a disk.
+ghost use Rattle.std.specs.Prelude.{◌≡◌, ◌≢◌, ◌≤◌, IfErr, None, Some, false, length};
+ghost use Rattle.ckrt_disk.specs.Frame.{IsOnlyRead};
+ghost use Rattle.ckrt_inspect.specs.declared.fault.InspectFault.TheVariants.{Range, Write as Writing};
+ghost use Rattle.ckrt_tables.specs.declared.encoding.TheConstants.{TABLES_ROOM};
+ghost use Rattle.ckrt_inspect.specs.Inspect.{AgreesAt, IsInspected, Tells, is_device};
+
+use crate::fault::InspectFault;
+use crate::listing::write_listing_by;
+use crate::shown::Shown;
+use ckrt_disk::Disk;
+use ckrt_image::{Progress, read_past, read_progress};
+use ckrt_tables::TABLES_ROOM;
+use std::alloc::Global;
+use std::io::Write;
+
+/// What the content recovers to, without code.
+const WHOLE: Shown = Shown {
+    at: None,
+    with_code: false,
+};
+
+/// The program after so many events, in place of all of them.
+fn read_at<D: Disk>(
+    alloc: Global,
+    disk: &mut D,
+    room: &mut [u8],
+    at: u64,
+) -> Result<Progress, InspectFault>
+    requires { TABLES_ROOM ≤ length room.old }
+    ensures exact { D.is_honest disk.new → AgreesAt (Some at) (D.content disk.old) result }
+    ensures read { IsOnlyRead D.Disk disk.old disk.new (is_device result) }
+    ensures unwritten { IfErr result (λ e. e ≢ Writing) }
+{
+    match read_past(alloc, disk, room, at)? {
+        Some(past) => Ok(past),
+        None => Err(InspectFault::Range),
+    }
+}
+
+/// The program after all events.
+fn read_whole<D: Disk>(
+    alloc: Global,
+    disk: &mut D,
+    room: &mut [u8],
+) -> Result<Progress, InspectFault>
+    requires { TABLES_ROOM ≤ length room.old }
+    ensures exact { D.is_honest disk.new → AgreesAt None (D.content disk.old) result }
+    ensures read { IsOnlyRead D.Disk disk.old disk.new (is_device result) }
+    ensures unwritten { IfErr result (λ e. e ≢ Writing) }
+    ensures range { IfErr result (λ e. e ≢ Range) }
+{
+    let progress = read_progress(alloc, disk, room)?;
+    Ok(progress)
+}
+
+/// The program that is to be shown.
+fn read_shown<D: Disk>(
+    alloc: Global,
+    disk: &mut D,
+    at: Option<u64>,
+) -> Result<Progress, InspectFault>
+    ensures exact { D.is_honest disk.new → AgreesAt at (D.content disk.old) result }
+    ensures read { IsOnlyRead D.Disk disk.old disk.new (is_device result) }
+    ensures unwritten { IfErr result (λ e. e ≢ Writing) }
+    ensures range { at ≡ None → IfErr result (λ e. e ≢ Range) }
+{
+    let mut room = vec![in alloc; 0; TABLES_ROOM]?;
+    match at {
+        Some(count) => read_at(alloc, disk, &mut room, count),
+        None => read_whole(alloc, disk, &mut room),
+    }
+}
+
+/// Lists what a disk's content recovers to, or what it recovered to after so many events, with or without code: recovers
+/// it, without a sync, and writes the listing. The disk is only read: it is neither written nor synced, at any moment.
+///
+/// # Errors
+///
+/// `NotFormatted`, `Version` and `Damaged` where the content recovers to no state, the first that applies; `Range` where it
+/// recovers, but has no state any more after so many events, or not yet; `Device` where the disk failed a read,
+/// `OutOfMemory` where a growth was refused, both before anything is written; `Write` where the writer failed.
+pub fn inspect_with<D: Disk, W: Write>(
+    alloc: Global,
+    disk: &mut D,
+    shown: Shown,
+    writer: &mut W,
+) -> Result<(), InspectFault>
+    ensures tells { D.is_honest disk.new → Tells shown (D.content disk.old) (W.contents writer.old) (W.contents writer.new) result }
+    ensures read { IsOnlyRead D.Disk disk.old disk.new (is_device result) }
+    ensures unwritten { IfErr result (λ e. e ≢ Writing → writer.new ≡ writer.old) }
+    ensures range { shown.at ≡ None → IfErr result (λ e. e ≢ Range) }
+{
+    let progress = read_shown(alloc, disk, shown.at)?;
+    write_listing_by(
+        alloc,
+        shown.with_code,
+        progress.count,
+        &progress.machine,
+        writer,
+    )
+}
+
+/// Lists what a disk's content recovers to: [`inspect_with`], with nothing but the plain listing. The disk isn't handed
+/// back.
+///
+/// # Errors
+///
+/// As [`inspect_with`], but for `Range`.
+pub fn inspect<D: Disk + Drop, W: Write>(
+    alloc: Global,
+    disk: D,
+    writer: &mut W,
+) -> Result<(), InspectFault>
+    ensures inspected { IsInspected D.Disk disk (record { at = None; with_code = false }) (W.contents writer.old) (W.contents writer.new) result }
+    ensures unwritten { IfErr result (λ e. e ≢ Writing → writer.new ≡ writer.old) }
+    ensures range { IfErr result (λ e. e ≢ Range) }
+{
+    let mut disk = disk;
+    inspect_with(alloc, &mut disk, WHOLE, writer)
+}
