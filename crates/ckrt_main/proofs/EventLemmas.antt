@@ -2,17 +2,14 @@
 use Rattle.std.proofs.Common.{◌≡◌, ℕ, zero, suc, ◌+◌, ◌-◌, ◌<◌, ◌≤◌, Bool, true, false, cond, refl, arith, Option, Some, None}
 use Rattle.std.specs.Prelude.{nat_lt, is_none, IfSome, ◌&&◌}
 use Rattle.ckrt_events.specs.declared.event.Event.{Event}
-use Rattle.ckrt_events.specs.declared.event.Event.TheVariants.{Place, Run}
 use Rattle.ckrt_thread.specs.State as threads
 use Rattle.ckrt_calls.specs.declared.table.Tables.{Tables}
 use Rattle.ckrt_machine.specs.Steps.{hart_of}
 use Rattle.ckrt_machine.specs.Runs.{is_running}
 use Rattle.ckrt_machine.specs.Plans.{ready_from, least_ready, or_else, or_zero, next_ready, planned}
-use Rattle.ckrt_recovery.specs.declared.fault.CommitFault.{CommitFault}
 use Rattle.ckrt_recovery.specs.declared.fault.SubmitFault.{SubmitFault}
 use Rattle.ckrt_recovery.specs.View.{View}
-use Rattle.ckrt_recovery.specs.View as view
-use Rattle.ckrt_recovery.specs.Transcript.{Transcript, submitted, submit, followed_by, unless_refused, run_planned, saved}
+use Rattle.ckrt_recovery.specs.Transcript.{Fate, Transcript, submitted, followed_by, unless_refused}
 
 -- PLANNED THREADS
 
@@ -47,29 +44,12 @@ planned_in_range h s = some_in (planned h s) (λ u e. guarded_in (is_running s.s
 
 -- EVENTS ONE AFTER ANOTHER
 
-pub submitted_goes_on : (v : View) (e : Event) (o : Option SubmitFault) → (submitted v e o).quit ≡ false
-submitted_goes_on v e None = refl
-submitted_goes_on v e (Some fault) = refl
-
-unless_refused_goes_on : (v : View) (e : Event) (o : Option SubmitFault) (more : View → Transcript) → ((w : View) → (more w).quit ≡ false) → (unless_refused v e o more).quit ≡ false
-unless_refused_goes_on v e None more h = h (submitted v e None).view
-unless_refused_goes_on v e (Some fault) more h = refl
-
-pub planned_goes_on : (o : Option ℕ) (h n : ℕ) (v : View) → (run_planned o h n v).quit ≡ false
-planned_goes_on None h n v = submitted_goes_on v (Run h n) (view.refusal_of v (Run h n))
-planned_goes_on (Some t) h n v = unless_refused_goes_on v (Place h t) (view.refusal_of v (Place h t)) (submit (Run h n)) (λ w. submitted_goes_on w (Run h n) (view.refusal_of w (Run h n)))
-
 -- a refused event is all
-pub refused_alone : (v : View) (e : Event) (o : Option SubmitFault) (more : View → Transcript) → is_none o ≡ false → unless_refused v e o more ≡ submitted v e o
-refused_alone v e None more h = cc
-refused_alone v e (Some fault) more h = refl
+pub refused_alone : (f : Fate) (v : View) (e : Event) (o : Option SubmitFault) (more : Fate → View → Transcript) → is_none o ≡ false → unless_refused f v e o more ≡ submitted f v e o
+refused_alone f v e None more h = cc
+refused_alone f v e (Some why) more h = refl
 
 -- an accepted event goes before what follows
-pub accepted_before : (v : View) (e : Event) (o : Option SubmitFault) (more : View → Transcript) → o ≡ None → unless_refused v e o more ≡ followed_by (submitted v e o) more
-accepted_before v e None more h = refl
-accepted_before v e (Some fault) more h = cc
-
--- a checkpoint doesn't quit
-pub saved_goes_on : (o : Option CommitFault) (v : View) → (saved o v).quit ≡ false
-saved_goes_on None v = refl
-saved_goes_on (Some fault) v = refl
+pub accepted_before : (f : Fate) (v : View) (e : Event) (o : Option SubmitFault) (more : Fate → View → Transcript) → o ≡ None → unless_refused f v e o more ≡ followed_by (submitted f v e o) more
+accepted_before f v e None more h = refl
+accepted_before f v e (Some why) more h = cc

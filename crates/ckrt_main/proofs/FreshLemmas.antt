@@ -1,5 +1,5 @@
 -- What recovery finds on a disk that was just formatted.
-use Rattle.std.proofs.Common.{⊎_elim, true, refl, ◌≡◌, ◌-◌, ◌+◌, ◌∙◌, ℕ, List, [], length, Ok, Err, Result, Option, sym, ap, subst, arith}
+use Rattle.std.proofs.Common.{⊎_elim, ◌⊎◌, Bool, true, false, None, refl, ◌≡◌, ◌-◌, ◌+◌, ◌∙◌, ℕ, List, [], length, Ok, Err, Result, Option, sym, ap, subst, arith}
 use Rattle.std.specs.Prelude.{OnOk}
 use Rattle.ckrt_disk.specs.Disk.{HasFailed}
 use Rattle.ckrt_disk.specs.declared.disk.Disk.{Ghosts}
@@ -14,8 +14,10 @@ use Rattle.ckrt_image.specs.Recovery.{AgreesOnFault, Recovered, Recovers}
 use Rattle.ckrt_image.specs.Programs.{Program, formatted}
 use Rattle.ckrt_image.proofs.RecoverLemmas.{recovered_once, recovers_once}
 use Rattle.ckrt_recovery.specs.View.{View, view_of, opened, fresh}
-use Rattle.ckrt_recovery.specs.Transcript.{view_after}
-use Rattle.ckrt_main.specs.Service.{Served}
+use Rattle.ckrt_recovery.specs.Transcript.{transcript, view_after}
+use Rattle.ckrt_main.specs.Service.{Processes, Served, ServedPart, Shows}
+use Rattle.ckrt_main.proofs.OutputLemmas.{Appends-nothing}
+use Rattle.ckrt_main.proofs.ProcessLemmas.{consumes_nothing}
 
 -- a session that was opened over such a disk
 pub view_of_fresh : {D : Type 0} {g : Ghosts D} (config : Config) (image : List ℕ) (s : Session D g) (content : List ℕ) → IsFormatted config image content → Recovers content (Ok (recovered_of s.progress))
@@ -45,3 +47,27 @@ only_memory config image content OutOfMemory is found device memory = memory ref
 pub served_alone : {E : Type 0} (result : Result (Unit {0}) E) (a b r s : Option (List ℕ)) (v w u : View) (P Q : Type 0) → v ≡ w → P → Q → OnOk result (P → Q → (served : Served a b r s v) × (u ≡ view_after v served.read)) → OnOk result (Served a b r s w)
 served_alone (Ok x) a b r s v w u P Q e p q h = subst (Served a b r s) e (h p q).0
 served_alone (Err fault) a b r s v w u P Q e p q h = tt
+
+-- before anything was read or written
+pub served_nothing : (a r : Option (List ℕ)) (v : View) → ServedPart a a r r v
+served_nothing a r v = record {
+  read = [];
+  consumed = consumes_nothing r;
+  shows = record { replies = []; broken = []; one = omega arith; part = []; written = Appends-nothing a; begun = ([], refl); among = ((transcript None v []).replies, refl) };
+}
+
+module _ {D : Type 0} {g : Ghosts D} where
+  not_failed : (b : Bool) (old new : Session D g) → new.failed ≡ b → old.failed ≡ false → (new.failed ≡ true → (old.failed ≡ true) ⊎ HasFailed (g.failures old.disk) (g.failures new.disk)) → ¬ HasFailed (g.failures old.disk) (g.failures new.disk) → new.failed ≡ false
+  not_failed false old new is was failed none = is
+  not_failed true old new is was failed none = ⊎_elim (λ (had : _). let no : true ≡ false = sym had ∙ was in absurd (cc)) (λ (grew : _). absurd (none grew)) (failed is)
+
+  -- a service whose disk failed no call
+  pub served_part : (a b r s : Option (List ℕ)) (old new : Session D g) (v : View) → view_of old ≡ v → old.failed ≡ false → (new.failed ≡ true → (old.failed ≡ true) ⊎ HasFailed (g.failures old.disk) (g.failures new.disk)) → ¬ HasFailed (g.failures old.disk) (g.failures new.disk)
+      → Processes a b r s old new → ServedPart a b r s v
+  served_part a b r s old new v view was failed none h =
+      let runs = not_failed new.failed old new refl was failed none in
+      record {
+        read = h.read;
+        consumed = h.consumed;
+        shows = subst (λ w. Shows a b (transcript None w h.read).replies) view (subst (λ f. Shows a b (transcript f (view_of old) h.read).replies) (h.fated.1 runs) h.shows);
+      }

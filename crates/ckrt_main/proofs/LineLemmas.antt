@@ -1,20 +1,21 @@
 -- Lines as they come, byte by byte.
-use Rattle.std.proofs.Common.{◌≡◌, ℕ, suc, ◌-◌, ◌<◌, ◌≤◌, ◌&&◌, Bool, true, false, not, cond, ◌≢◌, subst, List, [], ◌∷◌, ◌++◌, length, take, get_or, refl, sym, ◌∙◌, ap, arith, append_assoc, append-nil, length-append, length-take-le, Option, inl, inr, Err}
+use Rattle.std.proofs.Common.{◌≡◌, ℕ, suc, ◌-◌, ◌<◌, ◌≤◌, ◌&&◌, Bool, true, false, not, cond, ◌≢◌, subst, List, [], ◌∷◌, ◌++◌, length, take, get_or, refl, sym, ◌∙◌, ap, arith, append_assoc, append-nil, length-append, length-take-le, Err}
 use Rattle.std.specs.Prelude.{◌==◌, nat_lt}
 use Rattle.std.specs.List.{slice_split, onto_first}
 use Rattle.std.specs.Str.Lines.{lines, lines_of_parts, strip_carriage_return}
-use Rattle.std.specs.Io.KnownBytes.{Appends, Consumes, IsAtEnd}
 use Rattle.std.specs.Io.BufRead.{drop_through}
 use Rattle.std.proofs.lemmas.Bool.{lt-ltb, eqb-true}
 use Rattle.std.proofs.lemmas.Bool.Decides.{nat_tests}
-use Rattle.ckrt_events.specs.declared.event.Event.{Event}
 use Rattle.ckrt_events.specs.Line.{command_of}
 use Rattle.ckrt_events.specs.declared.command.LineFault.TheVariants.{TooLong}
 use Rattle.ckrt_recovery.specs.View.{View}
-use Rattle.ckrt_recovery.specs.Replies.{no_line, line_fault_text}
-use Rattle.ckrt_recovery.specs.Transcript.{Transcript, transcript, view_after, preceded_by, unless_quit, followed_by, respond, respond_all, output}
-use Rattle.ckrt_main.specs.Service.{is_open, rest_of, Follows, Consumed, ServedSoFar, Served}
-use Rattle.ckrt_main.proofs.OutputLemmas.{Appends-append, Appends-nothing}
+use Rattle.ckrt_recovery.specs.Replies.{Reply, NotUnderstood}
+use Rattle.ckrt_recovery.specs.Transcript.{Fate, Transcript, preceded_by, unless_quit, followed_by, respond, respond_all}
+use Rattle.ckrt_main.specs.Service.{is_open}
+
+-- the reply to a line that is too long
+abbrev too_long : Reply
+too_long = NotUnderstood TooLong
 
 not_and : (x y : Bool) → (not x && y) ≡ true → (x ≡ false) × (y ≡ true)
 not_and true y h = cc
@@ -79,133 +80,43 @@ cut_long false w h = omega arith
 stripped_long : (w : List ℕ) → 162 ≤ length w → 160 < length (strip_carriage_return w)
 stripped_long w h = cut_long (get_or w (length w - 1) 0 == 13) w h
 
-refused_long : (v : View) (line : List ℕ) (more : List (List ℕ)) → command_of line ≡ Err TooLong → respond_all (line ∷ more) v ≡ preceded_by (no_line (line_fault_text TooLong)) [] (respond_all more v)
-refused_long v line more e = rw e refl
+refused_long : (f : Fate) (v : View) (line : List ℕ) (more : List (List ℕ)) → command_of line ≡ Err TooLong → respond_all (line ∷ more) f v ≡ preceded_by (too_long ∷ []) [] (respond_all more f v)
+refused_long f v line more e = rw e refl
 
-long_byte : (v : View) (w : List ℕ) (b : ℕ) (more : List ℕ) → is_open w ≡ true → 162 ≤ length w
-    → ((z : List ℕ) → is_open z ≡ true → 162 ≤ length z → respond_all (lines (z ++ more)) v ≡ preceded_by (no_line (line_fault_text TooLong)) [] (respond_all (lines (drop_through 10 more)) v))
-    → (t : Bool) → (b == 10) ≡ t → respond_all (lines (w ++ b ∷ more)) v ≡ preceded_by (no_line (line_fault_text TooLong)) [] (respond_all (lines (drop_through 10 (b ∷ more))) v)
-long_byte v w b more o h again true e =
+long_byte : (f : Fate) (v : View) (w : List ℕ) (b : ℕ) (more : List ℕ) → is_open w ≡ true → 162 ≤ length w
+    → ((z : List ℕ) → is_open z ≡ true → 162 ≤ length z → respond_all (lines (z ++ more)) f v ≡ preceded_by (too_long ∷ []) [] (respond_all (lines (drop_through 10 more)) f v))
+    → (t : Bool) → (b == 10) ≡ t → respond_all (lines (w ++ b ∷ more)) f v ≡ preceded_by (too_long ∷ []) [] (respond_all (lines (drop_through 10 (b ∷ more))) f v)
+long_byte f v w b more o h again true e =
     let same : drop_through 10 (b ∷ more) ≡ more = rw e refl in
-    ap (λ (n : ℕ). respond_all (lines (w ++ n ∷ more)) v) (eqb-true b 10 e) ∙ (ap (λ (ls : List (List ℕ)). respond_all ls v) (lines-newline w more o) ∙ (refused_long v (strip_carriage_return w) (lines more) (long_command (strip_carriage_return w) (stripped_long w h)) ∙ sym (ap (λ (bs : List ℕ). preceded_by (no_line (line_fault_text TooLong)) [] (respond_all (lines bs) v)) same)))
-long_byte v w b more o h again false e =
+    ap (λ (n : ℕ). respond_all (lines (w ++ n ∷ more)) f v) (eqb-true b 10 e) ∙ (ap (λ (ls : List (List ℕ)). respond_all ls f v) (lines-newline w more o) ∙ (refused_long f v (strip_carriage_return w) (lines more) (long_command (strip_carriage_return w) (stripped_long w h)) ∙ sym (ap (λ (bs : List ℕ). preceded_by (too_long ∷ []) [] (respond_all (lines bs) f v)) same)))
+long_byte f v w b more o h again false e =
     let same : drop_through 10 (b ∷ more) ≡ drop_through 10 more = rw e refl in
     let long : 162 ≤ length (w ++ b ∷ []) = omega (arith, length-append w (b ∷ [])) in
-    ap (λ (l : List ℕ). respond_all (lines l) v) (sym (append_assoc w (b ∷ []) more)) ∙ (again (w ++ b ∷ []) (is_open-more w b o e) long ∙ sym (ap (λ (bs : List ℕ). preceded_by (no_line (line_fault_text TooLong)) [] (respond_all (lines bs) v)) same))
+    ap (λ (l : List ℕ). respond_all (lines l) f v) (sym (append_assoc w (b ∷ []) more)) ∙ (again (w ++ b ∷ []) (is_open-more w b o e) long ∙ sym (ap (λ (bs : List ℕ). preceded_by (too_long ∷ []) [] (respond_all (lines bs) f v)) same))
 
 -- what comes of a line that is too long already
-respond-long : (v : View) (w more : List ℕ) → is_open w ≡ true → 162 ≤ length w → respond_all (lines (w ++ more)) v ≡ preceded_by (no_line (line_fault_text TooLong)) [] (respond_all (lines (drop_through 10 more)) v)
-respond-long v [] [] o h = absurd (omega arith)
-respond-long v (x ∷ w) [] o h =
-    ap (λ (l : List ℕ). respond_all (lines l) v) (append-nil (x ∷ w)) ∙ (ap (λ (ls : List (List ℕ)). respond_all ls v) (lines-open x w o) ∙ refused_long v (x ∷ w) [] (long_command (x ∷ w) (omega arith)))
-respond-long v w (b ∷ more) o h = long_byte v w b more o h (λ (z : List ℕ) p q. respond-long v z more p q) (b == 10) refl
+respond-long : (f : Fate) (v : View) (w more : List ℕ) → is_open w ≡ true → 162 ≤ length w → respond_all (lines (w ++ more)) f v ≡ preceded_by (too_long ∷ []) [] (respond_all (lines (drop_through 10 more)) f v)
+respond-long f v [] [] o h = absurd (omega arith)
+respond-long f v (x ∷ w) [] o h =
+    ap (λ (l : List ℕ). respond_all (lines l) f v) (append-nil (x ∷ w)) ∙ (ap (λ (ls : List (List ℕ)). respond_all ls f v) (lines-open x w o) ∙ refused_long f v (x ∷ w) [] (long_command (x ∷ w) (omega arith)))
+respond-long f v w (b ∷ more) o h = long_byte f v w b more o h (λ (z : List ℕ) p q. respond-long f v z more p q) (b == 10) refl
 
 -- no further byte of it matters
-pub respond-full : (v : View) (w : List ℕ) (b : ℕ) (more : List ℕ) → is_open w ≡ true → 162 ≤ length w → (b == 10) ≡ false → respond_all (lines (w ++ b ∷ more)) v ≡ respond_all (lines (w ++ more)) v
-respond-full v w b more o h e =
+pub respond-full : (f : Fate) (v : View) (w : List ℕ) (b : ℕ) (more : List ℕ) → is_open w ≡ true → 162 ≤ length w → (b == 10) ≡ false → respond_all (lines (w ++ b ∷ more)) f v ≡ respond_all (lines (w ++ more)) f v
+respond-full f v w b more o h e =
     let same : drop_through 10 (b ∷ more) ≡ drop_through 10 more = rw e refl in
-    respond-long v w (b ∷ more) o h ∙ (ap (λ (bs : List ℕ). preceded_by (no_line (line_fault_text TooLong)) [] (respond_all (lines bs) v)) same ∙ sym (respond-long v w more o h))
-
-preceded-preceded : (x : List ℕ) (es : List Event) (y : List ℕ) (fs : List Event) (t : Transcript) → preceded_by x es (preceded_by y fs t) ≡ preceded_by (x ++ y) (es ++ fs) t
-preceded-preceded x es y fs t = rw (append_assoc x y t.text, append_assoc es fs t.events) refl
-
-nothing_more : (quit : Bool) (w : View) → unless_quit quit w (respond_all []) ≡ record { text = []; events = []; view = w; quit = quit }
-nothing_more true w = refl
-nothing_more false w = refl
-
-preceded-nothing : (x : List ℕ) (es : List Event) (w : View) (quit : Bool) → preceded_by x es (record { text = []; events = []; view = w; quit = quit }) ≡ record { text = x; events = es; view = w; quit = quit }
-preceded-nothing x es w quit = rw (append-nil x, append-nil es) refl
-
--- one step after another
-pub Consumed-more : (a b c : Option (List ℕ)) (v : View) (line bs : List ℕ) (w : View) (rest : List ℕ) (x : List ℕ) (u : View) (last : List ℕ) (quit : Bool) (es fs : List Event) → Consumed a b v line bs w rest false es → Consumed b c w rest x u last quit fs → Consumed a c v line (bs ++ x) u last quit (es ++ fs)
-Consumed-more a b c v line bs w rest x u last quit es fs p q = record {
-  text = p.text ++ q.text;
-  written = Appends-append a b c p.text q.text p.written q.written;
-  goes_on = λ more. ap (λ (l : List ℕ). respond_all (lines (line ++ l)) v) (append_assoc bs x more) ∙ (p.goes_on (x ++ more) ∙ (ap (preceded_by p.text es) (q.goes_on more) ∙ preceded-preceded p.text es q.text fs (rest_of quit u last more)));
-}
+    respond-long f v w (b ∷ more) o h ∙ (ap (λ (bs : List ℕ). preceded_by (too_long ∷ []) [] (respond_all (lines bs) f v)) same ∙ sym (respond-long f v w more o h))
 
 -- what a line feed makes of what follows
-pub respond-newline : (v : View) (line more : List ℕ) → is_open line ≡ true → respond_all (lines (line ++ (10 ∷ [] ++ more))) v ≡ followed_by (respond (command_of (strip_carriage_return line)) v) (respond_all (lines more))
-respond-newline v line more o = ap (λ (ls : List (List ℕ)). respond_all ls v) (lines-newline line more o)
-
--- a line feed
-pub Consumed-newline : (a b : Option (List ℕ)) (v : View) (line : List ℕ) (w : View) (quit : Bool) (es : List Event) → is_open line ≡ true → quit ≡ (respond (command_of (strip_carriage_return line)) v).quit
-    → Follows (respond (command_of (strip_carriage_return line)) v) a b es w → Consumed a b v line (10 ∷ []) w [] quit es
-Consumed-newline a b v line w quit es o hq is = record {
-  text = (respond (command_of (strip_carriage_return line)) v).text;
-  written = is.written;
-  goes_on = λ more. respond-newline v line more o ∙ rw (hq, is.view, is.all) refl;
-}
-
--- another byte, where there is room for it
-pub Consumed-byte : (a : Option (List ℕ)) (v : View) (line : List ℕ) (b : ℕ) → Consumed a a v line (b ∷ []) v (line ++ b ∷ []) false []
-Consumed-byte a v line b = record {
-  text = [];
-  written = Appends-nothing a;
-  goes_on = λ more. ap (λ (l : List ℕ). respond_all (lines l) v) (sym (append_assoc line (b ∷ []) more));
-}
-
--- and where there is none
-pub Consumed-full : (a : Option (List ℕ)) (v : View) (line : List ℕ) (b : ℕ) → is_open line ≡ true → length line ≡ 162 → (b == 10) ≡ false → Consumed a a v line (b ∷ []) v line false []
-Consumed-full a v line b o h e = record {
-  text = [];
-  written = Appends-nothing a;
-  goes_on = λ more. respond-full v line b more o (omega arith) e;
-}
-
-pub Consumed-nothing : (a : Option (List ℕ)) (v : View) (line : List ℕ) → Consumed a a v line [] v line false []
-Consumed-nothing a v line = record { text = []; written = Appends-nothing a; goes_on = λ more. refl }
-
--- what follows a line quit
-pub Consumed-quit : (a b : Option (List ℕ)) (v : View) (line bs : List ℕ) (w : View) (rest x : List ℕ) (es : List Event) → Consumed a b v line bs w rest true es → Consumed a b v line (bs ++ x) w rest true es
-Consumed-quit a b v line bs w rest x es p = record {
-  text = p.text;
-  written = p.written;
-  goes_on = λ more. ap (λ (l : List ℕ). respond_all (lines (line ++ l)) v) (append_assoc bs x more) ∙ p.goes_on (x ++ more);
-}
+pub respond-newline : (f : Fate) (v : View) (line more : List ℕ) → is_open line ≡ true → respond_all (lines (line ++ (10 ∷ [] ++ more))) f v ≡ followed_by (respond (command_of (strip_carriage_return line)) f v) (respond_all (lines more))
+respond-newline f v line more o = ap (λ (ls : List (List ℕ)). respond_all ls f v) (lines-newline line more o)
 
 -- a last line is all
-pub respond-last : (v : View) (line : List ℕ) → is_open line ≡ true → length line ≢ 0 → respond_all (lines line) v ≡ respond (command_of line) v
-respond-last v [] o some = absurd (some refl)
-respond-last v (x ∷ line) o some =
-    let t : Transcript = respond (command_of (x ∷ line)) v in
-    ap (λ (ls : List (List ℕ)). respond_all ls v) (lines-open x line o) ∙ (ap (preceded_by t.text t.events) (nothing_more t.quit t.view) ∙ preceded-nothing t.text t.events t.view t.quit)
+pub respond-last : (f : Fate) (v : View) (line : List ℕ) → is_open line ≡ true → length line ≢ 0 → respond_all (lines line) f v ≡ followed_by (respond (command_of line) f v) (respond_all [])
+respond-last f v [] o some = absurd (some refl)
+respond-last f v (x ∷ line) o some = ap (λ (ls : List (List ℕ)). respond_all ls f v) (lines-open x line o)
 
--- the beginning
-pub ServedSoFar-start : (a b : Option (List ℕ)) (v w : View) (es : List Event) → Follows (output v) a b es w → ServedSoFar a b v [] w [] false es
-ServedSoFar-start a b v w es is = record { text = (output v).text; written = is.written; goes_on = λ more. rw (is.view, is.all) refl }
-
--- a piece more
-pub ServedSoFar-more : (a b c : Option (List ℕ)) (v : View) (read : List ℕ) (w : View) (rest x : List ℕ) (u : View) (last : List ℕ) (quit : Bool) (es fs : List Event) → ServedSoFar a b v read w rest false es → Consumed b c w rest x u last quit fs → ServedSoFar a c v (read ++ x) u last quit (es ++ fs)
-ServedSoFar-more a b c v read w rest x u last quit es fs p q = record {
-  text = p.text ++ q.text;
-  written = Appends-append a b c p.text q.text p.written q.written;
-  goes_on = λ more. ap (transcript v) (append_assoc read x more) ∙ (p.goes_on (x ++ more) ∙ (ap (preceded_by p.text es) (q.goes_on more) ∙ preceded-preceded p.text es q.text fs (rest_of quit u last more)));
-}
-
--- a whole service that a line quit ends
-pub Served-quit : (a b r s : Option (List ℕ)) (v : View) (read : List ℕ) (w : View) (rest : List ℕ) (es : List Event) → Consumes r s read → ServedSoFar a b v read w rest true es → (served : Served a b r s v) × (w ≡ view_after v served.read)
-Served-quit a b r s v read w rest es consumed p =
-    let e : transcript v read ≡ record { text = p.text; events = es; view = w; quit = true } = ap (transcript v) (sym (append-nil read)) ∙ (p.goes_on [] ∙ preceded-nothing p.text es w true) in (
-      record {
-        read = read;
-        consumed = consumed;
-        written = subst (Appends a b) (sym (ap (λ (t : Transcript). t.text) e)) p.written;
-        ended = inr (ap (λ (t : Transcript). t.quit) e);
-      },
-      sym (ap (λ (t : Transcript). t.view) e),
-    )
-
--- and one that the input's end ends
-pub Served-end : (a b c r s : Option (List ℕ)) (v : View) (read : List ℕ) (w : View) (rest : List ℕ) (u : View) (es fs : List Event) → Consumes r s read → ServedSoFar a b v read w rest false es → Follows (respond_all (lines rest) w) b c fs u → IsAtEnd s → (served : Served a c r s v) × (u ≡ view_after v served.read)
-Served-end a b c r s v read w rest u es fs consumed p q end =
-    let last : Transcript = respond_all (lines rest) w in
-    let e : transcript v read ≡ preceded_by p.text es (respond_all (lines rest) w) = ap (transcript v) (sym (append-nil read)) ∙ (p.goes_on [] ∙ ap (λ (l : List ℕ). preceded_by p.text es (respond_all (lines l) w)) (append-nil rest)) in (
-      record {
-        read = read;
-        consumed = consumed;
-        written = subst (Appends a c) (sym (ap (λ (t : Transcript). t.text) e)) (Appends-append a b c p.text last.text p.written q.written);
-        ended = inl end;
-      },
-      q.view ∙ sym (ap (λ (t : Transcript). t.view) e),
-    )
+-- after the last line there is nothing more
+pub nothing_more : (quit : Bool) (f : Fate) (w : View) → unless_quit quit f w (respond_all []) ≡ record { replies = []; events = []; view = w; fate = f; quit = quit }
+nothing_more true f w = refl
+nothing_more false f w = refl

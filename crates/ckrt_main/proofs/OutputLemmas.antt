@@ -1,9 +1,16 @@
--- Lines of output, one after another, and a writer that takes text after text.
-use Rattle.std.proofs.Common.{◌≡◌, ℕ, suc, ◌+◌, ◌-◌, ◌/◌, ◌<◌, ◌≤◌, List, [], ◌++◌, length, take, drop, refl, sym, ◌∙◌, ap, subst, arith, append_assoc, append-nil, length-drop, take_all, inl, inr, min, Option, Some, None}
-use Rattle.std.proofs.lemmas.Bool.Decides.{leb_tells}
-use Rattle.std.proofs.lemmas.List.{drop_all}
+-- A writer that takes text after text, and lines of output, one after another; and a reader that gives bytes after bytes.
+use Rattle.std.proofs.Common.{◌≡◌, ℕ, ◌+◌, ◌<◌, ◌≤◌, List, [], ◌∷◌, ◌++◌, length, take, drop, min, arith, refl, sym, ◌∙◌, ap, subst, append_assoc, append-nil, Option, Some, None, Result, Ok, Err}
+use Rattle.std.proofs.lemmas.List.{take-append-drop}
+use Rattle.std.specs.Prelude.{OnErr}
 use Rattle.std.specs.Io.KnownBytes.{Appends, Consumes, Keeps}
-use Rattle.ckrt_recovery.specs.Replies.{out_line, out_lines}
+use Rattle.ckrt_recovery.specs.Replies.{Reply, Output, out_line, text_of, outputs, shown_up_to}
+use Rattle.ckrt_main.specs.Service.{AppendsPart, ShowsOutput}
+use Rattle.ckrt_main.proofs.ReplyLemmas.{outputs-next, text-append, shown-append}
+
+-- what is said of a fault
+pub on_err : {A E : Type 0} (r : Result A E) (P : Type 0) → P → OnErr r P
+on_err (Ok x) P p = tt
+on_err (Err e) P p = p
 
 pub Appends-append : (a b c : Option (List ℕ)) (x y : List ℕ) → Appends a b x → Appends b c y → Appends a c (x ++ y)
 Appends-append None b c x y p q = tt
@@ -27,21 +34,54 @@ Consumes-append (Some s) None c x y p q = absurd p
 Consumes-append (Some s) (Some t) None x y p q = absurd q
 Consumes-append (Some s) (Some t) (Some u) x y p q = p ∙ (ap (λ (l : List ℕ). x ++ l) q ∙ sym (append_assoc x y u))
 
--- the first line of output, and the others
-pub out_lines-first : (offset : ℕ) (bytes : List ℕ) → 0 < length bytes → out_lines offset bytes ≡ out_line offset (take 64 bytes) ++ out_lines (offset + length (take 64 bytes)) (drop 64 bytes)
-out_lines-first offset bytes lt =
-    let rest : length (drop 64 bytes) ≡ length bytes - 64 = length-drop 64 bytes in
-    let count : (length bytes + 63) / 64 ≡ suc ((length (drop 64 bytes) + 63) / 64) = omega arith in
-    rw count refl
+-- a writer that kept what it has has a beginning of any text more
+pub part_nothing : (a : Option (List ℕ)) (text : List ℕ) → AppendsPart a a text
+part_nothing a text = ([], (text, refl), Appends-nothing a)
 
--- the next line of output
-pub out_lines-next : (at count : ℕ) (rest : List ℕ) → count ≡ min (length rest) 64 → 0 < length rest → out_lines at rest ≡ out_line at (take count rest) ++ out_lines (at + length (take count rest)) (drop count rest)
-out_lines-next at count rest is some = elim (leb_tells 64 (length rest)) [
-  | inl p ↦ let same : count ≡ 64 = omega (arith, p.1, is) in subst (λ n. out_lines at rest ≡ out_line at (take n rest) ++ out_lines (at + length (take n rest)) (drop n rest)) (sym same) (out_lines-first at rest some)
-  | inr p ↦
-      let short : length rest ≤ 64 = omega (arith, p.1) in
-      let all : length rest ≤ count = omega (arith, p.1, is) in
-      let front : take 64 rest ≡ take count rest = take_all 64 rest short ∙ sym (take_all count rest all) in
-      let back : drop 64 rest ≡ drop count rest = drop_all 64 rest short ∙ sym (drop_all count rest all) in
-      out_lines-first at rest some ∙ (ap (λ (l : List ℕ). out_line at l ++ out_lines (at + length l) (drop 64 rest)) front ∙ ap (λ (l : List ℕ). out_line at (take count rest) ++ out_lines (at + length (take count rest)) l) back)
-]
+-- a whole text is a beginning of itself, and stays one where the writer fails then
+pub part_whole : (a b c : Option (List ℕ)) (text : List ℕ) → Appends a b text → Keeps b c → AppendsPart a c text
+part_whole a b c text p k = (text, ([], sym (append-nil text)), appends_kept a b c text p k)
+
+-- n bytes more were written
+pub bytes_more : (a b c : Option (List ℕ)) (n : ℕ) (bytes front rest more : List ℕ) → Appends a b front → bytes ≡ front ++ rest → Appends b c (take n rest) → more ≡ drop n rest → (x : List ℕ) × Appends a c x × (bytes ≡ x ++ more)
+bytes_more a b c n bytes front rest more p is q back =
+    (front ++ take n rest, Appends-append a b c front (take n rest) p q, is ∙ (ap (λ (l : List ℕ). front ++ l) (sym (take-append-drop n rest)) ∙ (sym (append_assoc front (take n rest) (drop n rest)) ∙ ap (λ (l : List ℕ). (front ++ take n rest) ++ l) (sym back))))
+
+-- a failed call wrote none
+pub bytes_kept : (a b c : Option (List ℕ)) (bytes front rest : List ℕ) → Appends a b front → bytes ≡ front ++ rest → Keeps b c → (x : List ℕ) × Appends a c x × (bytes ≡ x ++ rest)
+bytes_kept a b c bytes front rest p is k = (front, appends_kept a b c front p k, is)
+
+-- LINES OF OUTPUT
+
+module _ (a b d : Option (List ℕ)) (offset at n : ℕ) (rest bytes line more : List ℕ) (shown : List Reply) (count : n ≡ min (length rest) 64) (some : 0 < length rest) (front : line ≡ take n rest) (back : more ≡ drop n rest)
+    (written : Appends a b (text_of shown)) (left : shown ++ outputs at rest ≡ outputs offset bytes) (end : shown_up_to offset shown ≡ at) where
+  next_line : outputs at rest ≡ Output at line ∷ outputs (at + length line) more
+  next_line = outputs-next at n rest count some
+      ∙ (ap (λ (l : List ℕ). Output at l ∷ outputs (at + length l) (drop n rest)) (sym front) ∙ ap (λ (l : List ℕ). Output at line ∷ outputs (at + length line) l) (sym back))
+
+  all_lines : (shown ++ Output at line ∷ []) ++ outputs (at + length line) more ≡ outputs offset bytes
+  all_lines = append_assoc shown (Output at line ∷ []) (outputs (at + length line) more) ∙ (ap (λ (l : List Reply). shown ++ l) (sym next_line) ∙ left)
+
+  -- a line more was written
+  pub line_more : Appends b d (out_line at line) → (all : List Reply) × Appends a d (text_of all) × (all ++ outputs (at + length line) more ≡ outputs offset bytes) × (shown_up_to offset all ≡ at + length line)
+  line_more text = (
+    shown ++ Output at line ∷ [],
+    subst (Appends a d) (ap (λ (l : List ℕ). text_of shown ++ l) (sym (append-nil (out_line at line))) ∙ sym (text-append shown (Output at line ∷ []))) (Appends-append a b d (text_of shown) (out_line at line) written text),
+    all_lines,
+    shown-append offset shown (Output at line ∷ []),
+  )
+
+  -- the writer broke it off
+  pub line_broken : offset ≤ at → AppendsPart b d (out_line at line) → ShowsOutput a d offset bytes
+  line_broken reached text = record {
+    shows = record {
+      replies = shown;
+      broken = Output at line ∷ [];
+      one = omega arith;
+      part = text.0;
+      written = Appends-append a b d (text_of shown) text.0 written text.2;
+      begun = (text.1.0, append-nil (out_line at line) ∙ text.1.1);
+      among = (outputs (at + length line) more, sym all_lines);
+    };
+    behind = subst (λ n. offset ≤ n) (sym end) reached;
+  }

@@ -1,1 +1,3 @@
 pub mod Service
+pub mod Alike
+pub mod Told

@@ -1,5 +1,6 @@
 -- What a service reads and writes, and what it makes of a session (this project's choice).
-use Rattle.std.specs.Prelude.{◌≡◌, ◌≤◌, ℕ, ◌==◌, ◌&&◌, not, Bool, true, false, List, [], ◌∷◌, ◌++◌, Option, ◌⊎◌}
+use Rattle.std.specs.Prelude.{◌≡◌, ◌≤◌, ◌↔◌, ℕ, ◌==◌, ◌&&◌, zero, not, Bool, true, false, List, [], ◌∷◌, ◌++◌, length, Option, Some, None, is_none, ◌⊎◌}
+use Rattle.std.specs.List.{AllByRecursion}
 use Rattle.std.specs.Str.Lines.{lines}
 use Rattle.std.specs.Io.KnownBytes.{Appends, Consumes, IsAtEnd}
 use Rattle.ckrt_disk.specs.Disk.{LeavesOnly, HasFailed}
@@ -8,10 +9,12 @@ use Rattle.ckrt_events.specs.declared.event.Event.{Event}
 use Rattle.ckrt_main.specs.declared.fault.ServeFault.{ServeFault}
 use Rattle.ckrt_main.specs.declared.fault.ServeFault.TheVariants.{Read, Write, OutOfMemory, Format}
 use Rattle.ckrt_recovery.specs.declared.session.Session.{Session}
-use Rattle.ckrt_image.specs.Programs.{Program, RecoversTo}
+use Rattle.ckrt_image.specs.Programs.{Program, output_after}
+use Rattle.ckrt_recovery.specs.Between.{IsBeginningOf, RecoversBetween, StandsIn}
+use Rattle.ckrt_recovery.specs.Replies.{Reply, text_of, outputs, oks_of, acks_of, outs_of, shown_up_to}
 use Rattle.ckrt_recovery.specs.Represents.{Represents, acknowledged_of}
 use Rattle.ckrt_recovery.specs.View.{View, view_of}
-use Rattle.ckrt_recovery.specs.Transcript.{Transcript, transcript, reply, accepted_events, preceded_by, unless_quit, respond_all}
+use Rattle.ckrt_recovery.specs.Transcript.{Fate, Transcript, transcript, reply, accepted_events, preceded_by, unless_quit, respond_all}
 
 -- WHERE NO DEVICE FAILS
 
@@ -20,7 +23,26 @@ pub record Served (a b r s : Option (List ℕ)) (v : View) : Type 0 where
   pub read : List ℕ
   pub consumed : Consumes r s read
   pub written : Appends a b (reply v read)
-  pub ended : IsAtEnd s ⊎ ((transcript v read).quit ≡ true)
+  pub ended : IsAtEnd s ⊎ ((transcript None v read).quit ≡ true)
+
+-- from a to b some of these replies were written whole, from the first on, and perhaps a part of the next
+pub record Shows (a b : Option (List ℕ)) (all : List Reply) : Type 0 where
+  -- the whole ones
+  pub replies : List Reply
+  -- the next, if the writer broke it off
+  pub broken : List Reply
+  pub one : length broken ≤ 1
+  -- what was written of it
+  pub part : List ℕ
+  pub written : Appends a b (text_of replies ++ part)
+  pub begun : IsBeginningOf part (text_of broken)
+  pub among : IsBeginningOf (replies ++ broken) all
+
+-- a service in memory, whatever it answered: what was written is a beginning of what the bytes read get
+pub record ServedPart (a b r s : Option (List ℕ)) (v : View) : Type 0 where
+  pub read : List ℕ
+  pub consumed : Consumes r s read
+  pub shows : Shows a b (transcript None v read).replies
 
 -- a fault before anything is read or written
 abbrev pub IsStartFault : ServeFault → Type 0
@@ -30,18 +52,6 @@ IsStartFault OutOfMemory = Unit {0}
 IsStartFault Format = Unit {0}
 
 -- WHATEVER FAILS
-
--- a list of events begins with others
-abbrev pub IsBeginningOf : List Event → List Event → Type 0
-IsBeginningOf front all = (rest : List Event) × (all ≡ front ++ rest)
-
--- The image recovers to events that begin with the acknowledged ones and are a beginning of all, with output held from an offset on that is
--- at most the limit.
-pub record RecoversBetween (p : Program) (acknowledged all : List Event) (limit : ℕ) (image : List ℕ) : Type 0 where
-  pub events : List Event
-  pub begins : IsBeginningOf acknowledged events
-  pub within : IsBeginningOf events all
-  pub to : RecoversTo p events limit image
 
 -- From old to new the session took these events, whatever its calls answered: it represents them behind those that it represented, and what
 -- a stop left at any moment recovers to a list between the acknowledged events and all of them. A session has failed only where it had
@@ -59,37 +69,98 @@ pub record Accepts {D : Type 0} {g : Ghosts D} (accepted : List Event) (old new 
   pub size : g.size new.disk ≡ g.size old.disk
   pub named_stop : g.named_stop new.disk ≡ g.named_stop old.disk
 
--- A whole service, whatever failed: of the events that the lines of what was read get accepted where no device fails, the session took a
--- beginning, and what a stop since the start left recovers to a list between the acknowledged events and all of them.
-pub record Processes {D : Type 0} {g : Ghosts D} (r s : Option (List ℕ)) (old new : Session D g) : Type 0 where
+-- each line of output is the plain fold's output of the acknowledged ones of these events, at its offset
+abbrev pub AreOutput : {D : Type 0} {g : Ghosts D} → Program → List Event → Session D g → List Reply → Type 0
+AreOutput p events s replies = AllByRecursion (StandsIn (output_after p (acknowledged_of events s))) (outs_of replies)
+
+-- A service, whatever it answered and whatever failed: what was written is a beginning of the transcript of the bytes read, of a fate that is
+-- none exactly where the session hasn't failed, and no more was acknowledged, confirmed or accepted than the session says then.
+pub record Processes {D : Type 0} {g : Ghosts D} (a b r s : Option (List ℕ)) (old new : Session D g) : Type 0 where
+  -- what was read, from r to s
   pub read : List ℕ
   pub consumed : Consumes r s read
+  -- which commit or checkpoint the device failed
+  pub fate : Fate
+  pub fated : (fate ≡ None) ↔ (new.failed ≡ false)
+  -- what was written, from a to b
+  pub shows : Shows a b (transcript fate (view_of old) read).replies
+  -- each line ack, even of a reply that was broken off, has a number that is acknowledged
+  pub acks : AllByRecursion (λ k. k ≤ new.acknowledged) (acks_of (shows.replies ++ shows.broken))
+  -- what is confirmed is in lines of output that were written whole
+  pub confirmed : new.progress.confirmed ≤ shown_up_to old.progress.confirmed shows.replies
+  -- the accepted events are a beginning of the transcript's, and of those that the lines get where no device fails
   pub accepted : List Event
+  -- each accepted event has its line ok, of which the last may be broken off
+  pub answered : oks_of (shows.replies ++ shows.broken) ≡ length accepted
+  pub some : IsBeginningOf accepted (transcript fate (view_of old) read).events
   pub part : IsBeginningOf accepted (accepted_events (view_of old) read)
   pub accepts : Accepts accepted old new
+  -- each line of output is the plain fold's
+  pub outs : g.is_honest new.disk → (p : Program) (events : List Event) → Represents p events old → AreOutput p (events ++ accepted) new (shows.replies ++ shows.broken)
+  -- every image that a stop left since the start
   pub since_start : g.is_honest new.disk → (p : Program) (events : List Event) → Represents p events old
       → (image : List ℕ) → g.left_since new.disk (g.moment old.disk) image → RecoversBetween p (acknowledged_of events old) (events ++ accepted) new.progress.confirmed image
 
--- PARTS OF A SERVICE
+-- a service that came to its end: what was read ends the input or has a line quit, and the transcript is all that was written, accepted and left
+pub record Completes {D : Type 0} {g : Ghosts D} (a b r s : Option (List ℕ)) (old new : Session D g) : Type 0 where
+  pub read : List ℕ
+  pub consumed : Consumes r s read
+  pub fate : Fate
+  pub fated : (fate ≡ None) ↔ (new.failed ≡ false)
+  pub ended : IsAtEnd s ⊎ ((transcript fate (view_of old) read).quit ≡ true)
+  pub written : Appends a b (text_of (transcript fate (view_of old) read).replies)
+  pub view : view_of new ≡ (transcript fate (view_of old) read).view
+  pub accepts : Accepts (transcript fate (view_of old) read).events old new
 
--- these are the events, the session and the text of a transcript
-pub record Follows (t : Transcript) (a b : Option (List ℕ)) (accepted : List Event) (v : View) : Type 0 where
-  pub all : accepted ≡ t.events
-  pub view : v ≡ t.view
-  pub written : Appends a b t.text
+-- PIECES OF A SERVICE
 
--- a piece of service: the transcript, where no device failed, and else a beginning of its events
-pub record Responds {D : Type 0} {g : Ghosts D} (t : Transcript) (a b : Option (List ℕ)) (old new : Session D g) : Type 0 where
+-- from old to new: the replies that were written whole, and of others a part
+pub record Piece {D : Type 0} {g : Ghosts D} (a b : Option (List ℕ)) (old new : Session D g) (broken : List Reply) (part : List ℕ) : Type 0 where
+  pub replies : List Reply
   pub accepted : List Event
-  pub part : IsBeginningOf accepted t.events
+  pub written : Appends a b (text_of replies ++ part)
+  pub begun : IsBeginningOf part (text_of broken)
+  pub acks : AllByRecursion (λ k. k ≤ new.acknowledged) (acks_of (replies ++ broken))
+  pub confirmed : new.progress.confirmed ≤ shown_up_to old.progress.confirmed replies
+  pub answered : oks_of (replies ++ broken) ≡ length accepted
   pub accepts : Accepts accepted old new
-  pub run : new.failed ≡ false → Follows t a b accepted (view_of new)
+  pub outs : g.is_honest new.disk → (p : Program) (events : List Event) → Represents p events old → AreOutput p (events ++ accepted) new (replies ++ broken)
+  -- the fate before it, by that after it
+  pub before : Fate → Fate
+  pub kept : (f : Fate) → is_none (before f) ≡ is_none f
+  pub idle : old.failed ≡ true → (f : Fate) → before f ≡ f
 
--- a piece of service that a fault of the writer ended
-pub record Interrupted {D : Type 0} {g : Ghosts D} (t : Transcript) (old new : Session D g) : Type 0 where
-  pub accepted : List Event
-  pub part : IsBeginningOf accepted t.events
-  pub accepts : Accepts accepted old new
+-- what may be left of a fate: once a session has failed, that of the commit or checkpoint that failed
+abbrev pub Suits : {D : Type 0} {g : Ghosts D} → Fate → Session D g → Type 0
+Suits f s = s.failed ≡ true → f ≡ Some zero
+
+-- a piece that was whole: the transcripts, of any fate, are it and then others
+pub record Responds {D : Type 0} {g : Ghosts D} {I : Type 0} (all rest : I → Fate → Transcript) (a b : Option (List ℕ)) (old new : Session D g) : Type 0 where
+  pub piece : Piece a b old new [] []
+  pub goes_on : (i : I) (f : Fate) → Suits f new → all i (piece.before f) ≡ preceded_by piece.replies piece.accepted (rest i f)
+
+-- a piece that a fault of the writer ended: the transcripts, of any fate, begin with it
+pub record Interrupted {D : Type 0} {g : Ghosts D} {I : Type 0} (all : I → Fate → Transcript) (a b : Option (List ℕ)) (old new : Session D g) : Type 0 where
+  pub broken : List Reply
+  pub one : length broken ≤ 1
+  pub part : List ℕ
+  pub piece : Piece a b old new broken part
+  pub among : (i : I) (f : Fate) → Suits f new → IsBeginningOf (piece.replies ++ broken) (all i (piece.before f)).replies
+  pub some : (i : I) (f : Fate) → Suits f new → IsBeginningOf piece.accepted (all i (piece.before f)).events
+
+-- a transcript's end in this session
+abbrev pub ends : {D : Type 0} {g : Ghosts D} → Bool → Session D g → Fate → Transcript
+ends quit s f = record { replies = []; events = []; view = view_of s; fate = f; quit = quit }
+
+-- what a command gets
+abbrev pub Answers : {D : Type 0} {g : Ghosts D} → (Fate → View → Transcript) → Bool → Option (List ℕ) → Option (List ℕ) → Session D g → Session D g → Type 0
+Answers t quit a b old new = Responds (λ (_ : Unit {0}) f. t f (view_of old)) (λ _ f. ends quit new f) a b old new
+
+-- and where the writer broke it off
+abbrev pub BreaksOff : {D : Type 0} {g : Ghosts D} → (Fate → View → Transcript) → Option (List ℕ) → Option (List ℕ) → Session D g → Session D g → Type 0
+BreaksOff t a b old new = Interrupted (λ (_ : Unit {0}) f. t f (view_of old)) a b old new
+
+-- LINES
 
 -- no byte is a line feed
 abbrev pub is_open : List ℕ → Bool
@@ -97,43 +168,34 @@ is_open [] = true
 is_open (b ∷ bs) = not (b == 10) && is_open bs
 
 -- what is left of a transcript: nothing after quit, and else what the lines get that begin with `line`
-abbrev pub rest_of : Bool → View → List ℕ → List ℕ → Transcript
-rest_of quit v line more = unless_quit quit v (respond_all (lines (line ++ more)))
+abbrev pub rest_of : {D : Type 0} {g : Ghosts D} → Bool → Session D g → List ℕ → List ℕ → Fate → Transcript
+rest_of quit s line more f = unless_quit quit f (view_of s) (respond_all (lines (line ++ more)))
 
--- after these bytes the writer, from a to b, has the text so far, whatever bytes follow
-pub record Consumed (a b : Option (List ℕ)) (v : View) (line bytes : List ℕ) (w : View) (rest : List ℕ) (quit : Bool) (events : List Event) : Type 0 where
-  pub text : List ℕ
-  pub written : Appends a b text
-  pub goes_on : (more : List ℕ) → respond_all (lines (line ++ (bytes ++ more))) v ≡ preceded_by text events (rest_of quit w rest more)
+-- what these bytes get behind a line's first bytes, and then others
+abbrev pub lines_behind : {D : Type 0} {g : Ghosts D} → Session D g → (line bytes : List ℕ) → List ℕ → Fate → Transcript
+lines_behind s line bytes more f = respond_all (lines (line ++ (bytes ++ more))) f (view_of s)
 
--- what was written for what was read so far, whatever bytes follow
-pub record ServedSoFar (a b : Option (List ℕ)) (v : View) (read : List ℕ) (w : View) (rest : List ℕ) (quit : Bool) (events : List Event) : Type 0 where
-  pub text : List ℕ
-  pub written : Appends a b text
-  pub goes_on : (more : List ℕ) → transcript v (read ++ more) ≡ preceded_by text events (rest_of quit w rest more)
-
--- a beginning of the events of these bytes behind a line's first bytes, whatever bytes follow
-abbrev pub IsPart : List Event → View → (line bytes : List ℕ) → Type 0
-IsPart accepted v line bytes = (more : List ℕ) → IsBeginningOf accepted (respond_all (lines (line ++ (bytes ++ more))) v).events
-
--- bytes of input, behind a line's first bytes
-pub record Processed {D : Type 0} {g : Ghosts D} (a b : Option (List ℕ)) (line bytes : List ℕ) (old new : Session D g) (rest : List ℕ) (quit : Bool) : Type 0 where
-  pub accepted : List Event
-  pub part : IsPart accepted (view_of old) line bytes
-  pub accepts : Accepts accepted old new
-  pub run : new.failed ≡ false → Consumed a b (view_of old) line bytes (view_of new) rest quit accepted
+-- bytes of input, behind a line's first bytes, whatever bytes follow
+abbrev pub Processed : {D : Type 0} {g : Ghosts D} → Option (List ℕ) → Option (List ℕ) → (line bytes : List ℕ) → Session D g → Session D g → List ℕ → Bool → Type 0
+Processed a b line bytes old new rest quit = Responds (lines_behind old line bytes) (rest_of quit new rest) a b old new
 
 -- and where a fault of the writer ended the service
-pub record ProcessedPart {D : Type 0} {g : Ghosts D} (line bytes : List ℕ) (old new : Session D g) : Type 0 where
-  pub accepted : List Event
-  pub part : IsPart accepted (view_of old) line bytes
-  pub accepts : Accepts accepted old new
+abbrev pub ProcessedPart : {D : Type 0} {g : Ghosts D} → Option (List ℕ) → Option (List ℕ) → (line bytes : List ℕ) → Session D g → Session D g → Type 0
+ProcessedPart a b line bytes old new = Interrupted (lines_behind old line bytes) a b old new
 
 -- all bytes so far
 pub record ProcessedSoFar {D : Type 0} {g : Ghosts D} (a b r s : Option (List ℕ)) (old new : Session D g) (rest : List ℕ) (quit : Bool) : Type 0 where
   pub read : List ℕ
   pub consumed : Consumes r s read
-  pub accepted : List Event
-  pub part : (more : List ℕ) → IsBeginningOf accepted (accepted_events (view_of old) (read ++ more))
-  pub accepts : Accepts accepted old new
-  pub run : new.failed ≡ false → ServedSoFar a b (view_of old) read (view_of new) rest quit accepted
+  pub responds : Responds (λ more f. transcript f (view_of old) (read ++ more)) (rest_of quit new rest) a b old new
+
+-- WRITERS
+
+-- from a to b a beginning of the text was written
+abbrev pub AppendsPart : Option (List ℕ) → Option (List ℕ) → List ℕ → Type 0
+AppendsPart a b text = (front : List ℕ) × IsBeginningOf front text × Appends a b front
+
+-- from a to b lines of this output were written, from the first on, and of the next a part
+pub record ShowsOutput (a b : Option (List ℕ)) (offset : ℕ) (bytes : List ℕ) : Type 0 where
+  pub shows : Shows a b (outputs offset bytes)
+  pub behind : offset ≤ shown_up_to offset shows.replies

@@ -3,7 +3,7 @@ ghost use Rattle.std.specs.Prelude.{◌≡◌, ◌↔◌, ◌⊎◌, true, false
 ghost use Rattle.ckrt_checkpoint.specs.Layout.{is_valid, size_needed};
 ghost use Rattle.ckrt_image.specs.Format.{IsFormatted};
 ghost use Rattle.ckrt_recovery.specs.View.{view_of, fresh, is_refused};
-ghost use Rattle.ckrt_main.specs.Service.{IsStartFault, Served};
+ghost use Rattle.ckrt_main.specs.Service.{IsStartFault, Served, ServedPart};
 
 use crate::fault::ServeFault;
 use crate::service::serve;
@@ -81,6 +81,7 @@ pub fn serve_image<R: Read, W: Write>(
     writer: &mut W,
 ) -> Result<(), ServeFault>
     ensures ok { OnOk result (Served (W.contents writer.old) (W.contents writer.new) (R.remaining reader.old) (R.remaining reader.new) (fresh config image.now)) }
+    ensures processed { ServedPart (W.contents writer.old) (W.contents writer.new) (R.remaining reader.old) (R.remaining reader.new) (fresh config image.now) }
     ensures format { IsErrOf result ServeFault.Format ↔ (is_refused config image.now ≡ true) }
     ensures unread { IfErr result (λ e. IsStartFault e → reader.new ≡ reader.old) }
     ensures unwritten { IfErr result (λ e. IsStartFault e → writer.new ≡ writer.old) }

@@ -10,5 +10,7 @@ mod service;
 pub use ckrt_recovery::Config;
 pub use fault::ServeFault;
 pub use in_memory::serve_image;
-pub use laws::transcript_folds_events;
+pub use laws::{
+    answers_alike, output_goes_on, same_events_are_alike, told_is_durable, transcript_folds_events,
+};
 pub use service::serve;

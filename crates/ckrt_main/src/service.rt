@@ -1,5 +1,5 @@
 //! Lines in, replies and output out.
-ghost use Rattle.std.specs.Prelude.{◌≡◌, ◌≤◌, ◌<◌, ◌+◌, ◌^◌, ◌∷◌, ◌↔◌, ◌⊎◌, [], true, false, length, is_none, Some, Ok, IfOk, IfErr, IfSome, OnOk, OnErr, IsErrOf};
+ghost use Rattle.std.specs.Prelude.{◌≡◌, ◌≤◌, ◌<◌, ◌+◌, ◌^◌, ◌∷◌, ◌↔◌, ◌⊎◌, [], Bool, true, false, length, is_none, Some, Ok, IfOk, IfErr, IfSome, OnOk, OnErr, IsErrOf};
 ghost use Rattle.std.specs.Str.Lines.{lines, strip_carriage_return};
 ghost use Rattle.std.specs.Io.KnownBytes.{Appends};
 ghost use Rattle.ckrt_disk.specs.Disk.{HasFailed};
@@ -8,30 +8,58 @@ ghost use Rattle.ckrt_events.specs.Line.{command_of, IsInRangeCommand};
 ghost use Rattle.ckrt_events.specs.declared.event.Event.TheVariants.{Place, Run};
 ghost use Rattle.ckrt_events.specs.declared.command.Command.TheVariants.{Auto};
 ghost use Rattle.ckrt_machine.specs.Events as machine;
-ghost use Rattle.ckrt_recovery.specs.Replies.{out_lines, no_line, commit_fault_text};
+ghost use Rattle.ckrt_recovery.specs.Replies.{outputs, text_of};
 ghost use Rattle.ckrt_recovery.specs.Transcript as transcript;
 ghost use Rattle.ckrt_recovery.specs.Transcript.{view_after};
 ghost use Rattle.ckrt_recovery.specs.View.{view_of, refusal_of};
-ghost use Rattle.ckrt_main.specs.Service.{is_open, Responds, Interrupted, Processed, ProcessedPart, Processes, Served};
+ghost use Rattle.ckrt_main.specs.Service.{is_open, AppendsPart, ShowsOutput, Answers, BreaksOff, Processed, ProcessedPart, Processes, Completes, Served};
 
 use crate::fault::ServeFault;
 use crate::replies::{self, OUTPUT_BYTES};
 use arrayvec::ArrayVec;
 use ckrt_disk::Disk;
 use ckrt_events::{Command, Event, LineFault, parse_command};
-use ckrt_recovery::{CommitFault, Session};
+use ckrt_recovery::Session;
 use std::io::{ErrorKind, Read, Write};
 
 /// What is kept of a line: a byte past its limit of 160, and a carriage return.
 type Line = ArrayVec<u8, 162>;
 
-/// Writes a text whole, and flushes it.
-#[tactic(auto, using(crate::proofs::OutputLemmas::appends_kept))]
-fn write_reply<W: Write>(writer: &mut W, text: &[u8]) -> Result<(), ServeFault>
-    ensures ok { OnOk result (Appends (W.contents writer.old) (W.contents writer.new) text.now) }
+/// Writes bytes whole, whatever interrupts a write.
+fn write_bytes<W: Write>(writer: &mut W, bytes: &[u8]) -> Result<(), ServeFault>
+    ensures ok { OnOk result (Appends (W.contents writer.old) (W.contents writer.new) bytes.now) }
+    ensures part { OnErr result (AppendsPart (W.contents writer.old) (W.contents writer.new) bytes.now) }
     ensures err { IfErr result (λ e. e ≡ ServeFault.Write) }
 {
-    if writer.write_all(text).is_err() || writer.flush().is_err() {
+    let mut rest = bytes;
+    for _ in 0..u64::MAX {
+        if rest.is_empty() {
+            return Ok(());
+        }
+        match writer.write(rest) {
+            Ok(0) => return Err(ServeFault::Write),
+            Ok(count) => {
+                let (_, more) = rest.split_at(count);
+                rest = more;
+            }
+            Err(error) => {
+                if error.kind() != ErrorKind::Interrupted {
+                    return Err(ServeFault::Write);
+                }
+            }
+        }
+    }
+    Err(ServeFault::Write)
+}
+
+/// Writes a text whole, and flushes it.
+fn write_reply<W: Write>(writer: &mut W, text: &[u8]) -> Result<(), ServeFault>
+    ensures ok { OnOk result (Appends (W.contents writer.old) (W.contents writer.new) text.now) }
+    ensures part { OnErr result (AppendsPart (W.contents writer.old) (W.contents writer.new) text.now) }
+    ensures err { IfErr result (λ e. e ≡ ServeFault.Write) }
+{
+    write_bytes(writer, text)?;
+    if writer.flush().is_err() {
         return Err(ServeFault::Write);
     }
     Ok(())
@@ -40,7 +68,8 @@ fn write_reply<W: Write>(writer: &mut W, text: &[u8]) -> Result<(), ServeFault>
 /// Writes output as lines of at most 64 bytes, from its offset on.
 fn write_lines<W: Write>(writer: &mut W, offset: u64, bytes: &[u8]) -> Result<(), ServeFault>
     requires { offset + length bytes.now < 2 ^ 64 }
-    ensures ok { OnOk result (Appends (W.contents writer.old) (W.contents writer.new) (out_lines offset bytes.now)) }
+    ensures ok { OnOk result (Appends (W.contents writer.old) (W.contents writer.new) (text_of (outputs offset bytes.now))) }
+    ensures part { OnErr result (ShowsOutput (W.contents writer.old) (W.contents writer.new) offset bytes.now) }
     ensures err { IfErr result (λ e. e ≡ ServeFault.Write) }
 {
     let mut at = offset;
@@ -59,9 +88,8 @@ fn write_output<W: Write, D: Disk>(
     session: &mut Session<D>,
     writer: &mut W,
 ) -> Result<(), ServeFault>
-    ensures ok { OnOk result (Responds (transcript.output (view_of session.old)) (W.contents writer.old) (W.contents writer.new) session.old session.new) }
-    ensures unchanged { OnErr result ((view_of session.new ≡ view_of session.old) × (session.new.disk ≡ session.old.disk)) }
-    ensures failed { session.new.failed ≡ session.old.failed }
+    ensures ok { OnOk result (Answers transcript.output false (W.contents writer.old) (W.contents writer.new) session.old session.new) }
+    ensures broken { OnErr result (BreaksOff transcript.output (W.contents writer.old) (W.contents writer.new) session.old session.new) }
     ensures err { IfErr result (λ e. e ≡ ServeFault.Write) }
 {
     let released = session.released();
@@ -79,10 +107,8 @@ fn submit<W: Write, D: Disk>(
 ) -> Result<bool, ServeFault>
     requires { IsInRange event.now }
     ensures accepted { IfOk result (λ accepted. accepted ≡ is_none (refusal_of (view_of session.old) event.now)) }
-    ensures text { OnOk result (Appends (W.contents writer.old) (W.contents writer.new) (transcript.submitted (view_of session.old) event.now (refusal_of (view_of session.old) event.now)).text) }
-    ensures ok { OnOk result (Responds (transcript.submit event.now (view_of session.old)) (W.contents writer.old) (W.contents writer.new) session.old session.new) }
-    ensures interrupted { OnErr result (Interrupted (transcript.submit event.now (view_of session.old)) session.old session.new) }
-    ensures unconfirmed { session.new.progress.confirmed ≡ session.old.progress.confirmed }
+    ensures ok { OnOk result (Answers (transcript.submit event.now) false (W.contents writer.old) (W.contents writer.new) session.old session.new) }
+    ensures broken { OnErr result (BreaksOff (transcript.submit event.now) (W.contents writer.old) (W.contents writer.new) session.old session.new) }
     ensures err { IfErr result (λ e. e ≡ ServeFault.Write) }
 {
     match session.submit(event) {
@@ -107,9 +133,8 @@ fn place_and_run<W: Write, D: Disk>(
 ) -> Result<(), ServeFault>
     requires place { IsInRange (Place hart thread) }
     requires run { IsInRange (Run hart steps) }
-    ensures ok { OnOk result (Responds (transcript.run_planned (Some thread) hart steps (view_of session.old)) (W.contents writer.old) (W.contents writer.new) session.old session.new) }
-    ensures interrupted { OnErr result (Interrupted (transcript.run_planned (Some thread) hart steps (view_of session.old)) session.old session.new) }
-    ensures unconfirmed { session.new.progress.confirmed ≡ session.old.progress.confirmed }
+    ensures ok { OnOk result (Answers (transcript.run_planned (Some thread) hart steps) false (W.contents writer.old) (W.contents writer.new) session.old session.new) }
+    ensures broken { OnErr result (BreaksOff (transcript.run_planned (Some thread) hart steps) (W.contents writer.old) (W.contents writer.new) session.old session.new) }
     ensures err { IfErr result (λ e. e ≡ ServeFault.Write) }
 {
     if submit(session, writer, &Event::Place(hart, thread))? {
@@ -134,9 +159,8 @@ fn run_planned<W: Write, D: Disk>(
     steps: u16,
 ) -> Result<(), ServeFault>
     requires { IsInRange (Run hart steps) }
-    ensures ok { OnOk result (Responds (transcript.respond (Ok (Auto hart steps)) (view_of session.old)) (W.contents writer.old) (W.contents writer.new) session.old session.new) }
-    ensures interrupted { OnErr result (Interrupted (transcript.respond (Ok (Auto hart steps)) (view_of session.old)) session.old session.new) }
-    ensures unconfirmed { session.new.progress.confirmed ≡ session.old.progress.confirmed }
+    ensures ok { OnOk result (Answers (transcript.respond (Ok (Auto hart steps))) false (W.contents writer.old) (W.contents writer.new) session.old session.new) }
+    ensures broken { OnErr result (BreaksOff (transcript.respond (Ok (Auto hart steps))) (W.contents writer.old) (W.contents writer.new) session.old session.new) }
     ensures err { IfErr result (λ e. e ≡ ServeFault.Write) }
 {
     match planned(session, hart) {
@@ -150,11 +174,8 @@ fn run_planned<W: Write, D: Disk>(
 
 /// Commits the events so far, acknowledges them, and writes the released output.
 fn commit<W: Write, D: Disk>(session: &mut Session<D>, writer: &mut W) -> Result<(), ServeFault>
-    ensures ok { OnOk result (Responds (transcript.commit (view_of session.old)) (W.contents writer.old) (W.contents writer.new) session.old session.new) }
-    ensures refused { OnOk result (session.old.failed ≡ true → Appends (W.contents writer.old) (W.contents writer.new) (no_line (commit_fault_text CommitFault.Failed))) }
-    ensures device { OnOk result (session.old.failed ≡ false → session.new.failed ≡ true → Appends (W.contents writer.old) (W.contents writer.new) (no_line (commit_fault_text CommitFault.Device))) }
-    ensures interrupted { OnErr result (Interrupted (transcript.commit (view_of session.old)) session.old session.new) }
-    ensures unconfirmed { OnErr result (session.new.progress.confirmed ≡ session.old.progress.confirmed) }
+    ensures ok { OnOk result (Answers transcript.commit false (W.contents writer.old) (W.contents writer.new) session.old session.new) }
+    ensures broken { OnErr result (BreaksOff transcript.commit (W.contents writer.old) (W.contents writer.new) session.old session.new) }
     ensures err { IfErr result (λ e. e ≡ ServeFault.Write) }
 {
     match session.commit() {
@@ -172,11 +193,8 @@ fn commit<W: Write, D: Disk>(session: &mut Session<D>, writer: &mut W) -> Result
 
 /// Saves the state after the events so far, acknowledges them, and writes the released output.
 fn checkpoint<W: Write, D: Disk>(session: &mut Session<D>, writer: &mut W) -> Result<(), ServeFault>
-    ensures ok { OnOk result (Responds (transcript.checkpoint (view_of session.old)) (W.contents writer.old) (W.contents writer.new) session.old session.new) }
-    ensures refused { OnOk result (session.old.failed ≡ true → Appends (W.contents writer.old) (W.contents writer.new) (no_line (commit_fault_text CommitFault.Failed))) }
-    ensures device { OnOk result (session.old.failed ≡ false → session.new.failed ≡ true → Appends (W.contents writer.old) (W.contents writer.new) (no_line (commit_fault_text CommitFault.Device))) }
-    ensures interrupted { OnErr result (Interrupted (transcript.checkpoint (view_of session.old)) session.old session.new) }
-    ensures unconfirmed { OnErr result (session.new.progress.confirmed ≡ session.old.progress.confirmed) }
+    ensures ok { OnOk result (Answers transcript.checkpoint false (W.contents writer.old) (W.contents writer.new) session.old session.new) }
+    ensures broken { OnErr result (BreaksOff transcript.checkpoint (W.contents writer.old) (W.contents writer.new) session.old session.new) }
     ensures err { IfErr result (λ e. e ≡ ServeFault.Write) }
 {
     match session.checkpoint() {
@@ -199,10 +217,8 @@ fn answer<W: Write, D: Disk>(
     command: Result<Command, LineFault>,
 ) -> Result<bool, ServeFault>
     requires { IfOk command IsInRangeCommand }
-    ensures quit { IfOk result (λ quit. quit ≡ (transcript.respond command (view_of session.old)).quit) }
-    ensures ok { OnOk result (Responds (transcript.respond command (view_of session.old)) (W.contents writer.old) (W.contents writer.new) session.old session.new) }
-    ensures interrupted { OnErr result (Interrupted (transcript.respond command (view_of session.old)) session.old session.new) }
-    ensures unconfirmed { OnErr result (session.new.progress.confirmed ≡ session.old.progress.confirmed) }
+    ensures ok { IfOk result (λ quit. Answers (transcript.respond command) quit (W.contents writer.old) (W.contents writer.new) session.old session.new) }
+    ensures broken { OnErr result (BreaksOff (transcript.respond command) (W.contents writer.old) (W.contents writer.new) session.old session.new) }
     ensures err { IfErr result (λ e. e ≡ ServeFault.Write) }
 {
     match command {
@@ -227,10 +243,8 @@ fn respond<W: Write, D: Disk>(
     writer: &mut W,
     line: &[u8],
 ) -> Result<bool, ServeFault>
-    ensures quit { IfOk result (λ quit. quit ≡ (transcript.respond (command_of line.now) (view_of session.old)).quit) }
-    ensures ok { OnOk result (Responds (transcript.respond (command_of line.now) (view_of session.old)) (W.contents writer.old) (W.contents writer.new) session.old session.new) }
-    ensures interrupted { OnErr result (Interrupted (transcript.respond (command_of line.now) (view_of session.old)) session.old session.new) }
-    ensures unconfirmed { OnErr result (session.new.progress.confirmed ≡ session.old.progress.confirmed) }
+    ensures ok { IfOk result (λ quit. Answers (transcript.respond (command_of line.now)) quit (W.contents writer.old) (W.contents writer.new) session.old session.new) }
+    ensures broken { OnErr result (BreaksOff (transcript.respond (command_of line.now)) (W.contents writer.old) (W.contents writer.new) session.old session.new) }
     ensures err { IfErr result (λ e. e ≡ ServeFault.Write) }
 {
     answer(session, writer, parse_command(line))
@@ -256,7 +270,7 @@ fn take_byte<W: Write, D: Disk>(
     requires { is_open line.old.items ≡ true }
     ensures open { OnOk result (is_open line.new.items ≡ true) }
     ensures processed { IfOk result (λ quit. Processed (W.contents writer.old) (W.contents writer.new) line.old.items (byte ∷ []) session.old session.new line.new.items quit) }
-    ensures interrupted { OnErr result (ProcessedPart line.old.items (byte ∷ []) session.old session.new) }
+    ensures broken { OnErr result (ProcessedPart (W.contents writer.old) (W.contents writer.new) line.old.items (byte ∷ []) session.old session.new) }
     ensures err { IfErr result (λ e. e ≡ ServeFault.Write) }
 {
     if byte == b'\n' {
@@ -281,7 +295,7 @@ fn take_bytes<W: Write, D: Disk>(
     requires { is_open line.old.items ≡ true }
     ensures open { OnOk result (is_open line.new.items ≡ true) }
     ensures processed { IfOk result (λ quit. Processed (W.contents writer.old) (W.contents writer.new) line.old.items bytes.now session.old session.new line.new.items quit) }
-    ensures interrupted { OnErr result (ProcessedPart line.old.items bytes.now session.old session.new) }
+    ensures broken { OnErr result (ProcessedPart (W.contents writer.old) (W.contents writer.new) line.old.items bytes.now session.old session.new) }
     ensures err { IfErr result (λ e. e ≡ ServeFault.Write) }
 {
     for byte in bytes {
@@ -299,8 +313,8 @@ fn take_end<W: Write, D: Disk>(
     line: &[u8],
 ) -> Result<(), ServeFault>
     requires { is_open line.now ≡ true }
-    ensures ok { OnOk result (Responds (transcript.respond_all (lines line.now) (view_of session.old)) (W.contents writer.old) (W.contents writer.new) session.old session.new) }
-    ensures interrupted { OnErr result (Interrupted (transcript.respond_all (lines line.now) (view_of session.old)) session.old session.new) }
+    ensures ok { OnOk result ((quit : Bool) × Answers (transcript.respond_all (lines line.now)) quit (W.contents writer.old) (W.contents writer.new) session.old session.new) }
+    ensures broken { OnErr result (BreaksOff (transcript.respond_all (lines line.now)) (W.contents writer.old) (W.contents writer.new) session.old session.new) }
     ensures err { IfErr result (λ e. e ≡ ServeFault.Write) }
 {
     if line.is_empty() {
@@ -316,8 +330,8 @@ fn serve_lines<R: Read, W: Write, D: Disk>(
     writer: &mut W,
     session: &mut Session<D>,
 ) -> Result<(), ServeFault>
-    ensures ok { OnOk result (session.old.failed ≡ false → ¬ HasFailed (D.failures session.old.disk) (D.failures session.new.disk) → (served : Served (W.contents writer.old) (W.contents writer.new) (R.remaining reader.old) (R.remaining reader.new) (view_of session.old)) × (view_of session.new ≡ view_after (view_of session.old) served.read)) }
-    ensures processed { Processes (R.remaining reader.old) (R.remaining reader.new) session.old session.new }
+    ensures whole { OnOk result (Completes (W.contents writer.old) (W.contents writer.new) (R.remaining reader.old) (R.remaining reader.new) session.old session.new) }
+    ensures processed { Processes (W.contents writer.old) (W.contents writer.new) (R.remaining reader.old) (R.remaining reader.new) session.old session.new }
     ensures err { IfErr result (λ e. (e ≡ ServeFault.Read) ⊎ (e ≡ ServeFault.Write)) }
 {
     write_output(session, writer)?;
@@ -355,7 +369,8 @@ pub fn serve<R: Read, W: Write, D: Disk>(
     session: &mut Session<D>,
 ) -> Result<(), ServeFault>
     ensures ok { OnOk result (session.old.failed ≡ false → ¬ HasFailed (D.failures session.old.disk) (D.failures session.new.disk) → (served : Served (W.contents writer.old) (W.contents writer.new) (R.remaining reader.old) (R.remaining reader.new) (view_of session.old)) × (view_of session.new ≡ view_after (view_of session.old) served.read)) }
-    ensures processed { Processes (R.remaining reader.old) (R.remaining reader.new) session.old session.new }
+    ensures whole { OnOk result (Completes (W.contents writer.old) (W.contents writer.new) (R.remaining reader.old) (R.remaining reader.new) session.old session.new) }
+    ensures processed { Processes (W.contents writer.old) (W.contents writer.new) (R.remaining reader.old) (R.remaining reader.new) session.old session.new }
     ensures failed { session.new.failed ≡ true → (session.old.failed ≡ true) ⊎ HasFailed (D.failures session.old.disk) (D.failures session.new.disk) }
     ensures honest { D.is_honest session.new.disk → D.is_honest session.old.disk }
     ensures size { D.size session.new.disk ≡ D.size session.old.disk }

@@ -1,4 +1,5 @@
 pub mod Represents
+pub mod Between
 pub mod Opening
 pub mod View
 pub mod Calls

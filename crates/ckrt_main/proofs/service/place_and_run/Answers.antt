@@ -1,22 +1,23 @@
-use Rattle.std.proofs.Common.{sym}
+use Rattle.std.proofs.Common.{false, sym}
 use Rattle.ckrt_events.specs.declared.event.Event.TheVariants.{Place, Run}
 use Rattle.ckrt_recovery.specs.Transcript.{submit}
-use Rattle.ckrt_main.proofs.ResponseLemmas.{on_err, accepted_then, accepted_interrupted, refused_then, interrupted_before}
+use Rattle.ckrt_main.proofs.OutputLemmas.{on_err}
+use Rattle.ckrt_main.proofs.ResponseLemmas.{accepted_then, accepted_broken, refused_then, broken_before}
 use Rattle.ckrt_main.proofs.service.place_and_run.Goals as goal
 
-pub returns-in_err-submit-clause-interrupted : goal.returns-in_err-submit-clause-interrupted
-returns-in_err-submit-clause-interrupted g c = on_err _ _ (interrupted_before (Place c.args.hart c.args.thread) (submit (Run c.args.hart c.args.steps)) c.args.session.now c.submit.new.session c.in_err-submit.ensures.interrupted)
+pub returns-in_err-submit-clause-broken : goal.returns-in_err-submit-clause-broken
+returns-in_err-submit-clause-broken g c = on_err _ _ (broken_before (Place c.args.hart c.args.thread) (submit (Run c.args.hart c.args.steps)) (g.W.Write.contents c.args.writer.now) (g.W.Write.contents c.submit.new.writer) c.args.session.now c.submit.new.session c.in_err-submit.ensures.broken)
 
-pub returns-in_err-submit-2-clause-interrupted : goal.returns-in_err-submit-2-clause-interrupted
-returns-in_err-submit-2-clause-interrupted g c =
+pub returns-in_err-submit-2-clause-broken : goal.returns-in_err-submit-2-clause-broken
+returns-in_err-submit-2-clause-broken g c =
     let accepted = rw c.if-branch.true at c.in_ok-submit.ensures.accepted in
-    on_err _ _ (accepted_interrupted (Place c.args.hart c.args.thread) (submit (Run c.args.hart c.args.steps)) (g.W.Write.contents c.args.writer.now) (g.W.Write.contents c.submit.new.writer) c.args.session.now c.submit.new.session c.submit-then-branch.new.session
-    (sym accepted) c.in_ok-submit.ensures.ok c.in_err-submit-2.ensures.interrupted)
+    on_err _ _ (accepted_broken (Place c.args.hart c.args.thread) (submit (Run c.args.hart c.args.steps)) (g.W.Write.contents c.args.writer.now) (g.W.Write.contents c.submit.new.writer) (g.W.Write.contents c.submit-then-branch.new.writer) c.args.session.now c.submit.new.session c.submit-then-branch.new.session
+    (sym accepted) c.in_ok-submit.ensures.ok c.in_err-submit-2.ensures.broken)
 
 pub returns-in_ok-submit-2-clause-ok : goal.returns-in_ok-submit-2-clause-ok
 returns-in_ok-submit-2-clause-ok g c =
     let accepted = rw c.if-branch.true at c.in_ok-submit.ensures.accepted in
-    accepted_then (Place c.args.hart c.args.thread) (submit (Run c.args.hart c.args.steps)) (g.W.Write.contents c.args.writer.now) (g.W.Write.contents c.submit.new.writer) (g.W.Write.contents c.submit-then-branch.new.writer) c.args.session.now c.submit.new.session c.submit-then-branch.new.session
+    accepted_then (Place c.args.hart c.args.thread) (submit (Run c.args.hart c.args.steps)) false (g.W.Write.contents c.args.writer.now) (g.W.Write.contents c.submit.new.writer) (g.W.Write.contents c.submit-then-branch.new.writer) c.args.session.now c.submit.new.session c.submit-then-branch.new.session
     (sym accepted) c.in_ok-submit.ensures.ok c.in_ok-submit-2.ensures.ok
 
 pub returns-else-branch-clause-ok : goal.returns-else-branch-clause-ok

@@ -1,10 +1,11 @@
-use Rattle.std.proofs.Common.{◌≡◌, ◌<◌, ℕ, List, [], true, false, length, take, arith, subst, refl}
+use Rattle.std.proofs.Common.{◌≡◌, ◌<◌, ℕ, List, [], true, false, length, take, arith, subst, refl, inl, inr, append-nil, ◌++◌}
 use Rattle.std.specs.Io.KnownBytes.{Consumes}
 use Rattle.std.specs.Str.Lines.{lines}
-use Rattle.ckrt_recovery.specs.Transcript.{respond_all}
+use Rattle.ckrt_recovery.specs.Transcript.{output, respond_all}
 use Rattle.ckrt_recovery.specs.View.{view_of}
-use Rattle.ckrt_main.specs.Service.{Responds, Interrupted}
-use Rattle.ckrt_main.proofs.ProcessLemmas.{so_far_start, so_far_more, so_far_kept, processes_nothing, processes_so_far, processes_part, processes_last, processes_last_part, served_quit, served_end}
+use Rattle.ckrt_main.specs.Service.{Answers, BreaksOff}
+use Rattle.ckrt_main.proofs.OutputLemmas.{Consumes-append}
+use Rattle.ckrt_main.proofs.ProcessLemmas.{all_at_end, all_at_quit, completes, consumed_at_end, consumes_nothing, part_at_end, part_at_start, part_more, part_so_far, processes, processes_whole, so_far_start, so_far_more, so_far_kept}
 use Rattle.ckrt_main.proofs.service.serve_lines.Goals as goal
 use Rattle.ckrt_main.proofs.service.serve_lines.Goals.{in-Ok+in_ok-take_bytes-in-Ok+else-branch, in-Err+else-ne}
 
@@ -14,8 +15,8 @@ loop-init g c = record {
   processed = rw c.new-line.ensures (so_far_start (g.W.Write.contents c.args.writer.now) (g.W.Write.contents c.write_output.new.writer) (g.R.Read.remaining c.args.reader.now) c.args.session.now c.write_output.new.session c.in_ok-write_output.ensures.ok);
 }
 
-pub returns-in-Ok-eq0-clause-ok : goal.returns-in-Ok-eq0-clause-ok
-returns-in-Ok-eq0-clause-ok g c = λ was none-failed.
+pub returns-in-Ok-eq0-clause-whole : goal.returns-in-Ok-eq0-clause-whole
+returns-in-Ok-eq0-clause-whole g c =
     let a = g.W.Write.contents c.args.writer.now in
     let b = g.W.Write.contents c.loop.writer in
     let d = g.W.Write.contents c.take_end.new.writer in
@@ -26,27 +27,47 @@ returns-in-Ok-eq0-clause-ok g c = λ was none-failed.
     let none : c.in-Ok-eq0.field-0 ≡ 0 = c.in-Ok-eq0.field-0-test in
     let room : 0 < length c.read.new.buf = omega arith in
     let got : Consumes (g.R.Read.remaining c.loop.reader) (g.R.Read.remaining c.read.new.self) [] = subst (λ (n : ℕ). Consumes (g.R.Read.remaining c.loop.reader) (g.R.Read.remaining c.read.new.self) (take n c.read.new.buf)) none h.0 in
-    let last = subst (λ (l : List ℕ). Responds (respond_all (lines l) (view_of c.loop.session)) (g.W.Write.contents c.loop.writer) (g.W.Write.contents c.take_end.new.writer) c.loop.session c.take_end.new.session) c.deref.ensures.0 c.in_ok-take_end-in-Ok-eq0.ensures.ok in
-    served_end a b d r s t c.args.session.now c.loop.session c.take_end.new.session c.loop.line.items c.loop.invariant.processed got last (h.1 none room) was none-failed
+    let end = c.in_ok-take_end-in-Ok-eq0.ensures.ok in
+    let last = subst (λ (l : List ℕ). Answers (respond_all (lines l)) end.0 (g.W.Write.contents c.loop.writer) (g.W.Write.contents c.take_end.new.writer) c.loop.session c.take_end.new.session) c.deref.ensures.0 end.1 in
+    let first = c.loop.invariant.processed in
+    completes a d r t c.args.session.now c.take_end.new.session first.read end.0 (consumed_at_end r s t first.read first.consumed got) (inl (h.1 none room))
+    (all_at_end a b d r s c.args.session.now c.loop.session c.take_end.new.session c.loop.line.items end.0 first last)
 
 pub returns-in-Ok-eq0-clause-processed : goal.returns-in-Ok-eq0-clause-processed
 returns-in-Ok-eq0-clause-processed g c =
+    let a = g.W.Write.contents c.args.writer.now in
+    let b = g.W.Write.contents c.loop.writer in
+    let d = g.W.Write.contents c.take_end.new.writer in
+    let r = g.R.Read.remaining c.args.reader.now in
+    let s = g.R.Read.remaining c.loop.reader in
+    let t = g.R.Read.remaining c.read.new.self in
     let h = c.in-Ok-eq0.ensures.bytes in
     let none : c.in-Ok-eq0.field-0 ≡ 0 = c.in-Ok-eq0.field-0-test in
     let got : Consumes (g.R.Read.remaining c.loop.reader) (g.R.Read.remaining c.read.new.self) [] = subst (λ (n : ℕ). Consumes (g.R.Read.remaining c.loop.reader) (g.R.Read.remaining c.read.new.self) (take n c.read.new.buf)) none h.0 in
-    let last = subst (λ (l : List ℕ). Responds (respond_all (lines l) (view_of c.loop.session)) (g.W.Write.contents c.loop.writer) (g.W.Write.contents c.take_end.new.writer) c.loop.session c.take_end.new.session) c.deref.ensures.0 c.in_ok-take_end-in-Ok-eq0.ensures.ok in
-    processes_last g.met.D.Disk.only_now (g.W.Write.contents c.args.writer.now) (g.W.Write.contents c.loop.writer) (g.W.Write.contents c.take_end.new.writer) (g.R.Read.remaining c.args.reader.now) (g.R.Read.remaining c.loop.reader) (g.R.Read.remaining c.read.new.self) c.args.session.now c.loop.session c.take_end.new.session c.loop.line.items c.loop.invariant.processed got last
+    let end = c.in_ok-take_end-in-Ok-eq0.ensures.ok in
+    let last = subst (λ (l : List ℕ). Answers (respond_all (lines l)) end.0 (g.W.Write.contents c.loop.writer) (g.W.Write.contents c.take_end.new.writer) c.loop.session c.take_end.new.session) c.deref.ensures.0 end.1 in
+    let first = c.loop.invariant.processed in
+    processes_whole g.met.D.Disk.only_now a d r t c.args.session.now c.take_end.new.session first.read end.0 (consumed_at_end r s t first.read first.consumed got)
+    (all_at_end a b d r s c.args.session.now c.loop.session c.take_end.new.session c.loop.line.items end.0 first last)
 
 pub returns-in_err-take_end-in-Ok-eq0-clause-processed : goal.returns-in_err-take_end-in-Ok-eq0-clause-processed
 returns-in_err-take_end-in-Ok-eq0-clause-processed g c =
+    let a = g.W.Write.contents c.args.writer.now in
+    let b = g.W.Write.contents c.loop.writer in
+    let d = g.W.Write.contents c.take_end.new.writer in
+    let r = g.R.Read.remaining c.args.reader.now in
+    let s = g.R.Read.remaining c.loop.reader in
+    let t = g.R.Read.remaining c.read.new.self in
     let h = c.in-Ok-eq0.ensures.bytes in
     let none : c.in-Ok-eq0.field-0 ≡ 0 = c.in-Ok-eq0.field-0-test in
     let got : Consumes (g.R.Read.remaining c.loop.reader) (g.R.Read.remaining c.read.new.self) [] = subst (λ (n : ℕ). Consumes (g.R.Read.remaining c.loop.reader) (g.R.Read.remaining c.read.new.self) (take n c.read.new.buf)) none h.0 in
-    let last = subst (λ (l : List ℕ). Interrupted (respond_all (lines l) (view_of c.loop.session)) c.loop.session c.take_end.new.session) c.deref.ensures.0 c.in_err-take_end-in-Ok-eq0.ensures.interrupted in
-    processes_last_part g.met.D.Disk.only_now (g.W.Write.contents c.args.writer.now) (g.W.Write.contents c.loop.writer) (g.R.Read.remaining c.args.reader.now) (g.R.Read.remaining c.loop.reader) (g.R.Read.remaining c.read.new.self) c.args.session.now c.loop.session c.take_end.new.session c.loop.line.items c.loop.invariant.processed got last
+    let last = subst (λ (l : List ℕ). BreaksOff (respond_all (lines l)) (g.W.Write.contents c.loop.writer) (g.W.Write.contents c.take_end.new.writer) c.loop.session c.take_end.new.session) c.deref.ensures.0 c.in_err-take_end-in-Ok-eq0.ensures.broken in
+    let first = c.loop.invariant.processed in
+    processes g.met.D.Disk.only_now a d r t c.args.session.now c.take_end.new.session first.read (consumed_at_end r s t first.read first.consumed got)
+    (part_at_end a b d r s c.args.session.now c.loop.session c.take_end.new.session c.loop.line.items first last)
 
-pub returns-then-branch-clause-ok : goal.returns-then-branch-clause-ok
-returns-then-branch-clause-ok g c = λ was none-failed.
+pub returns-then-branch-clause-whole : goal.returns-then-branch-clause-whole
+returns-then-branch-clause-whole g c =
     let a = g.W.Write.contents c.args.writer.now in
     let b = g.W.Write.contents c.loop.writer in
     let d = g.W.Write.contents c.take_bytes.new.writer in
@@ -55,7 +76,7 @@ returns-then-branch-clause-ok g c = λ was none-failed.
     let t = g.R.Read.remaining c.read.new.self in
     let processed = rw c.if-branch.true at c.in_ok-take_bytes-in-Ok.ensures.processed in
     let all = so_far_more a b d r s t c.args.session.now c.loop.session c.take_bytes.new.session c.loop.line.items (take c.in-Ok.count c.read.new.buf) c.take_bytes.new.line.items true c.loop.invariant.processed c.in-Ok.ensures.bytes.0 processed in
-    served_quit a d r t c.args.session.now c.take_bytes.new.session c.take_bytes.new.line.items all was none-failed
+    completes a d r t c.args.session.now c.take_bytes.new.session all.read true all.consumed (inr refl) (all_at_quit a d r t c.args.session.now c.take_bytes.new.session c.take_bytes.new.line.items all)
 
 pub returns-then-branch-clause-processed : goal.returns-then-branch-clause-processed
 returns-then-branch-clause-processed g c =
@@ -67,11 +88,20 @@ returns-then-branch-clause-processed g c =
     let t = g.R.Read.remaining c.read.new.self in
     let processed = rw c.if-branch.true at c.in_ok-take_bytes-in-Ok.ensures.processed in
     let all = so_far_more a b d r s t c.args.session.now c.loop.session c.take_bytes.new.session c.loop.line.items (take c.in-Ok.count c.read.new.buf) c.take_bytes.new.line.items true c.loop.invariant.processed c.in-Ok.ensures.bytes.0 processed in
-    processes_so_far g.met.D.Disk.only_now a d r t c.args.session.now c.take_bytes.new.session c.take_bytes.new.line.items true all
+    processes_whole g.met.D.Disk.only_now a d r t c.args.session.now c.take_bytes.new.session all.read true all.consumed (all_at_quit a d r t c.args.session.now c.take_bytes.new.session c.take_bytes.new.line.items all)
 
 pub returns-in_err-take_bytes-in-Ok-clause-processed : goal.returns-in_err-take_bytes-in-Ok-clause-processed
 returns-in_err-take_bytes-in-Ok-clause-processed g c =
-    processes_part g.met.D.Disk.only_now (g.W.Write.contents c.args.writer.now) (g.W.Write.contents c.loop.writer) (g.R.Read.remaining c.args.reader.now) (g.R.Read.remaining c.loop.reader) (g.R.Read.remaining c.read.new.self) c.args.session.now c.loop.session c.take_bytes.new.session c.loop.line.items (take c.in-Ok.count c.read.new.buf) c.loop.invariant.processed c.in-Ok.ensures.bytes.0 c.in_err-take_bytes-in-Ok.ensures.interrupted
+    let a = g.W.Write.contents c.args.writer.now in
+    let b = g.W.Write.contents c.loop.writer in
+    let d = g.W.Write.contents c.take_bytes.new.writer in
+    let r = g.R.Read.remaining c.args.reader.now in
+    let s = g.R.Read.remaining c.loop.reader in
+    let t = g.R.Read.remaining c.read.new.self in
+    let x = take c.in-Ok.count c.read.new.buf in
+    let first = c.loop.invariant.processed in
+    processes g.met.D.Disk.only_now a d r t c.args.session.now c.take_bytes.new.session (first.read ++ x) (Consumes-append r s t first.read x first.consumed c.in-Ok.ensures.bytes.0)
+    (part_more a b d r s t c.args.session.now c.loop.session c.take_bytes.new.session c.loop.line.items x first c.in-Ok.ensures.bytes.0 c.in_err-take_bytes-in-Ok.ensures.broken)
 
 pub loop-preserved : goal.loop-preserved
 loop-preserved g c = elim c.match-read.branch [
@@ -89,7 +119,11 @@ loop-preserved g c = elim c.match-read.branch [
 ]
 
 pub returns-in_err-write_output-clause-processed : goal.returns-in_err-write_output-clause-processed
-returns-in_err-write_output-clause-processed g c = processes_nothing g.met.D.Disk.only_now (g.R.Read.remaining c.args.reader.now) c.args.session.now c.write_output.new.session c.in_err-write_output.ensures.unchanged.0 c.in_err-write_output.ensures.unchanged.1
+returns-in_err-write_output-clause-processed g c =
+    let a = g.W.Write.contents c.args.writer.now in
+    let b = g.W.Write.contents c.write_output.new.writer in
+    let r = g.R.Read.remaining c.args.reader.now in
+    processes g.met.D.Disk.only_now a b r r c.args.session.now c.write_output.new.session [] (consumes_nothing r) (part_at_start a b c.args.session.now c.write_output.new.session c.in_err-write_output.ensures.broken)
 
 pub returns-then-ne-clause-processed : goal.returns-then-ne-clause-processed
 returns-then-ne-clause-processed g c =
@@ -98,7 +132,14 @@ returns-then-ne-clause-processed g c =
     let r = g.R.Read.remaining c.args.reader.now in
     let s = g.R.Read.remaining c.loop.reader in
     let t = g.R.Read.remaining c.read.new.self in
-    processes_so_far g.met.D.Disk.only_now a b r t c.args.session.now c.loop.session c.loop.line.items false (so_far_kept a b r s t c.args.session.now c.loop.session c.loop.line.items false c.loop.invariant.processed c.in-Err.ensures.bytes)
+    let all = so_far_kept a b r s t c.args.session.now c.loop.session c.loop.line.items false c.loop.invariant.processed c.in-Err.ensures.bytes in
+    processes g.met.D.Disk.only_now a b r t c.args.session.now c.loop.session all.read all.consumed (part_so_far a b r t c.args.session.now c.loop.session c.loop.line.items all)
 
 pub returns-clause-processed : goal.returns-clause-processed
-returns-clause-processed g c = processes_so_far g.met.D.Disk.only_now (g.W.Write.contents c.args.writer.now) (g.W.Write.contents c.loop.writer) (g.R.Read.remaining c.args.reader.now) (g.R.Read.remaining c.loop.reader) c.args.session.now c.loop.session c.loop.line.items false c.loop.invariant.processed
+returns-clause-processed g c =
+    let a = g.W.Write.contents c.args.writer.now in
+    let b = g.W.Write.contents c.loop.writer in
+    let r = g.R.Read.remaining c.args.reader.now in
+    let s = g.R.Read.remaining c.loop.reader in
+    let all = c.loop.invariant.processed in
+    processes g.met.D.Disk.only_now a b r s c.args.session.now c.loop.session all.read all.consumed (part_so_far a b r s c.args.session.now c.loop.session c.loop.line.items all)

@@ -1,0 +1,184 @@
+-- Pieces of a service, one after another.
+use Rattle.std.proofs.Common.{◌≡◌, ℕ, ◌+◌, ◌≤◌, length, length-append, Bool, true, false, List, [], ◌∷◌, ◌++◌, Option, refl, sym, ◌∙◌, ap, subst, arith, append_assoc, append-nil}
+use Rattle.std.specs.List.{AllByRecursion}
+use Rattle.std.specs.Io.KnownBytes.{Appends}
+use Rattle.ckrt_disk.specs.declared.disk.Disk.{Ghosts}
+use Rattle.ckrt_events.specs.declared.event.Event.{Event}
+use Rattle.ckrt_machine.specs.Events.{output_of}
+use Rattle.ckrt_image.specs.Programs.{Program, start_of, state_after, output_after}
+use Rattle.ckrt_image.proofs.ReplayLemmas.{output-append}
+use Rattle.ckrt_recovery.specs.declared.session.Session.{Session}
+use Rattle.ckrt_recovery.specs.Between.{IsBeginningOf, StandsIn}
+use Rattle.ckrt_recovery.specs.Replies.{Reply, text_of, oks_of, acks_of, outs_of}
+use Rattle.ckrt_recovery.specs.Represents.{Represents, acknowledged_of}
+use Rattle.ckrt_recovery.specs.View.{View, view_of}
+use Rattle.ckrt_recovery.specs.Transcript.{Fate, Transcript, preceded_by, unless_quit, followed_by}
+use Rattle.ckrt_main.specs.Service.{AreOutput, Piece, Suits, Responds, Interrupted, ends, Answers, BreaksOff}
+use Rattle.ckrt_main.proofs.OutputLemmas.{Appends-append, Appends-nothing}
+use Rattle.ckrt_main.proofs.ReplyLemmas.{begins_behind, begins_more, all_weaker, all_more, text-append, oks-append, acks-append, outs-append, shown_more, stands_longer}
+use Rattle.ckrt_main.proofs.AcceptLemmas.{accepts_kept, accepts_more, taken_begins}
+
+written_more : (a b c : Option (List ℕ)) (xs ys : List Reply) (part : List ℕ) → Appends a b (text_of xs ++ []) → Appends b c (text_of ys ++ part) → Appends a c (text_of (xs ++ ys) ++ part)
+written_more a b c xs ys part first second =
+    let e : (text_of xs ++ []) ++ (text_of ys ++ part) ≡ text_of (xs ++ ys) ++ part =
+    ap (λ (l : List ℕ). l ++ (text_of ys ++ part)) (append-nil (text_of xs)) ∙ (sym (append_assoc (text_of xs) (text_of ys) part) ∙ ap (λ (l : List ℕ). l ++ part) (sym (text-append xs ys))) in
+    subst (Appends a c) e (Appends-append a b c (text_of xs ++ []) (text_of ys ++ part) first second)
+
+acks_more : (n m : ℕ) (xs ys zs : List Reply) → n ≤ m → AllByRecursion (λ k. k ≤ n) (acks_of (xs ++ [])) → AllByRecursion (λ k. k ≤ m) (acks_of (ys ++ zs)) → AllByRecursion (λ k. k ≤ m) (acks_of ((xs ++ ys) ++ zs))
+acks_more n m xs ys zs le first second =
+    let here : AllByRecursion (λ k. k ≤ n) (acks_of xs) = subst (λ (l : List Reply). AllByRecursion (λ k. k ≤ n) (acks_of l)) (append-nil xs) first in
+    subst (AllByRecursion (λ k. k ≤ m)) (sym (ap acks_of (append_assoc xs ys zs) ∙ acks-append xs (ys ++ zs)))
+    (all_more (λ k. k ≤ m) (acks_of xs) (acks_of (ys ++ zs)) (all_weaker (λ k. k ≤ n) (λ k. k ≤ m) (λ k h. omega (arith, h, le)) (acks_of xs) here) second)
+
+oks_more : (n m k : ℕ) (xs ys zs : List Reply) → oks_of (xs ++ []) ≡ n → oks_of (ys ++ zs) ≡ m → k ≡ n + m → oks_of ((xs ++ ys) ++ zs) ≡ k
+oks_more n m k xs ys zs first second sum =
+    let here : oks_of xs ≡ n = ap oks_of (sym (append-nil xs)) ∙ first in
+    let all : oks_of ((xs ++ ys) ++ zs) ≡ oks_of xs + oks_of (ys ++ zs) = ap oks_of (append_assoc xs ys zs) ∙ oks-append xs (ys ++ zs) in
+    omega (arith, here, all, second, sum)
+
+outs_more : (out all : List ℕ) (xs ys zs : List Reply) → IsBeginningOf out all → AllByRecursion (StandsIn out) (outs_of (xs ++ [])) → AllByRecursion (StandsIn all) (outs_of (ys ++ zs)) → AllByRecursion (StandsIn all) (outs_of ((xs ++ ys) ++ zs))
+outs_more out all xs ys zs longer first second =
+    let here : AllByRecursion (StandsIn out) (outs_of xs) = subst (λ (l : List Reply). AllByRecursion (StandsIn out) (outs_of l)) (append-nil xs) first in
+    subst (AllByRecursion (StandsIn all)) (sym (ap outs_of (append_assoc xs ys zs) ∙ outs-append xs (ys ++ zs)))
+    (all_more (StandsIn all) (outs_of xs) (outs_of (ys ++ zs)) (all_weaker (StandsIn out) (StandsIn all) (stands_longer out all longer) (outs_of xs) here) second)
+
+-- the output of the first events is a beginning of that of more
+pub output_begins : (p : Program) (few all : List Event) → IsBeginningOf few all → IsBeginningOf (output_after p few) (output_after p all)
+output_begins p few all h = (output_of h.0 (state_after p few), ap (λ (l : List Event). output_after p l) h.1 ∙ output-append few h.0 (start_of p))
+
+pub preceded-preceded : (x : List Reply) (es : List Event) (y : List Reply) (fs : List Event) (t : Transcript) → preceded_by x es (preceded_by y fs t) ≡ preceded_by (x ++ y) (es ++ fs) t
+preceded-preceded x es y fs t = rw (append_assoc x y t.replies, append_assoc es fs t.events) refl
+
+module _ {D : Type 0} {g : Ghosts D} where
+  outs_since : (p : Program) (events xs ys : List Event) (m u : Session D g) (first second broken : List Reply) → Represents p (events ++ xs) m → m.acknowledged ≤ u.acknowledged
+      → AreOutput p (events ++ xs) m (first ++ []) → AreOutput p ((events ++ xs) ++ ys) u (second ++ broken) → AreOutput p (events ++ (xs ++ ys)) u ((first ++ second) ++ broken)
+  outs_since p events xs ys m u first second broken reps le here there =
+      let longer = output_begins p (acknowledged_of (events ++ xs) m) (acknowledged_of ((events ++ xs) ++ ys) u) (taken_begins m.acknowledged u.acknowledged (events ++ xs) ys reps.acknowledged le) in
+      subst (λ (l : List Event). AreOutput p l u ((first ++ second) ++ broken)) (append_assoc events xs ys)
+      (outs_more (output_after p (acknowledged_of (events ++ xs) m)) (output_after p (acknowledged_of ((events ++ xs) ++ ys) u)) first second broken longer here there)
+
+  pub piece_more : (a b c : Option (List ℕ)) (s m u : Session D g) (broken : List Reply) (part : List ℕ) → Piece a b s m [] [] → Piece b c m u broken part → Piece a c s u broken part
+  piece_more a b c s m u broken part first second = record {
+    replies = first.replies ++ second.replies;
+    accepted = first.accepted ++ second.accepted;
+    written = written_more a b c first.replies second.replies part first.written second.written;
+    begun = second.begun;
+    acks = acks_more m.acknowledged u.acknowledged first.replies second.replies broken second.accepts.acknowledged first.acks second.acks;
+    answered = oks_more (length first.accepted) (length second.accepted) (length (first.accepted ++ second.accepted)) first.replies second.replies broken first.answered second.answered (length-append first.accepted second.accepted);
+    confirmed = shown_more s.progress.confirmed m.progress.confirmed u.progress.confirmed first.replies second.replies first.confirmed second.confirmed;
+    accepts = accepts_more first.accepted second.accepted s m u first.accepts second.accepts;
+    outs = λ honest p events reps.
+        let mid = second.accepts.honest honest in
+        let there = first.accepts.represents mid p events reps in
+        outs_since p events first.accepted second.accepted m u first.replies second.replies broken there second.accepts.acknowledged (first.outs mid p events reps) (second.outs honest p (events ++ first.accepted) there);
+    before = λ f. first.before (second.before f);
+    kept = λ f. first.kept (second.before f) ∙ second.kept f;
+    idle = λ was f. first.idle was (second.before f) ∙ second.idle (first.accepts.after_failure was).1 f;
+  }
+
+  suits_before : (b c : Option (List ℕ)) (m u : Session D g) (broken : List Reply) (part : List ℕ) (second : Piece b c m u broken part) (f : Fate) → Suits f u → Suits (second.before f) m
+  suits_before b c m u broken part second f suits was = second.idle was f ∙ suits (second.accepts.after_failure was).1
+
+  -- a whole piece, and what the transcript goes on with
+  pub responds_then : {I J : Type 0} (h : J → I) (all : J → Fate → Transcript) (t1 t2 : I → Fate → Transcript) (rest : J → Fate → Transcript) (a b c : Option (List ℕ)) (s m u : Session D g)
+      → ((j : J) (f : Fate) → all j f ≡ t1 (h j) f) → Responds t1 t2 a b s m → Responds (λ j f. t2 (h j) f) rest b c m u → Responds all rest a c s u
+  unfolding piece_more
+  responds_then h all t1 t2 rest a b c s m u same first second = record {
+    piece = piece_more a b c s m u [] [] first.piece second.piece;
+    goes_on = λ j f suits. same j (first.piece.before (second.piece.before f)) ∙ (first.goes_on (h j) (second.piece.before f) (suits_before b c m u [] [] second.piece f suits)
+        ∙ (ap (preceded_by first.piece.replies first.piece.accepted) (second.goes_on j f suits) ∙ preceded-preceded first.piece.replies first.piece.accepted second.piece.replies second.piece.accepted (rest j f)));
+  }
+
+  pub interrupted_then : {I J : Type 0} (h : J → I) (all : J → Fate → Transcript) (t1 t2 : I → Fate → Transcript) (a b c : Option (List ℕ)) (s m u : Session D g)
+      → ((j : J) (f : Fate) → all j f ≡ t1 (h j) f) → Responds t1 t2 a b s m → Interrupted (λ j f. t2 (h j) f) b c m u → Interrupted all a c s u
+  unfolding piece_more
+  interrupted_then h all t1 t2 a b c s m u same first second =
+      let xs = first.piece.replies in
+      let ys = second.piece.replies in
+      record {
+        broken = second.broken;
+        one = second.one;
+        part = second.part;
+        piece = piece_more a b c s m u second.broken second.part first.piece second.piece;
+        among = λ j f suits.
+            let f2 = second.piece.before f in
+            let e = same j (first.piece.before f2) ∙ first.goes_on (h j) f2 (suits_before b c m u second.broken second.part second.piece f suits) in
+            subst (λ (t : Transcript). IsBeginningOf ((first.piece.replies ++ second.piece.replies) ++ second.broken) t.replies) (sym e)
+            (subst (λ (l : List Reply). IsBeginningOf l (first.piece.replies ++ (t2 (h j) (second.piece.before f)).replies)) (sym (append_assoc xs ys second.broken)) (begins_behind xs (ys ++ second.broken) (t2 (h j) f2).replies (second.among j f suits)));
+        some = λ j f suits.
+            let f2 = second.piece.before f in
+            let e = same j (first.piece.before f2) ∙ first.goes_on (h j) f2 (suits_before b c m u second.broken second.part second.piece f suits) in
+            subst (λ (t : Transcript). IsBeginningOf (first.piece.accepted ++ second.piece.accepted) t.events) (sym e)
+            (begins_behind first.piece.accepted second.piece.accepted (t2 (h j) f2).events (second.some j f suits));
+      }
+
+  -- the same piece, of transcripts that are the same
+  pub responds_as : {I J : Type 0} (h : J → I) (all rest : J → Fate → Transcript) (t1 t2 : I → Fate → Transcript) (a b : Option (List ℕ)) (s u : Session D g)
+      → ((j : J) (f : Fate) → all j f ≡ t1 (h j) f) → ((j : J) (f : Fate) → t2 (h j) f ≡ rest j f) → Responds t1 t2 a b s u → Responds all rest a b s u
+  responds_as h all rest t1 t2 a b s u same end r = record {
+    piece = r.piece;
+    goes_on = λ j f suits. same j (r.piece.before f) ∙ (r.goes_on (h j) f suits ∙ ap (preceded_by r.piece.replies r.piece.accepted) (end j f));
+  }
+
+  pub interrupted_as : {I J : Type 0} (h : J → I) (all : J → Fate → Transcript) (t1 : I → Fate → Transcript) (a b : Option (List ℕ)) (s u : Session D g)
+      → ((j : J) (f : Fate) → all j f ≡ t1 (h j) f) → Interrupted t1 a b s u → Interrupted all a b s u
+  interrupted_as h all t1 a b s u same r = record {
+    broken = r.broken;
+    one = r.one;
+    part = r.part;
+    piece = r.piece;
+    among = λ j f suits. subst (λ (t : Transcript). IsBeginningOf (r.piece.replies ++ r.broken) t.replies) (sym (same j (r.piece.before f))) (r.among (h j) f suits);
+    some = λ j f suits. subst (λ (t : Transcript). IsBeginningOf r.piece.accepted t.events) (sym (same j (r.piece.before f))) (r.some (h j) f suits);
+  }
+
+  -- nothing was written, and the transcripts go on as they are
+  pub silent : {I : Type 0} (all rest : I → Fate → Transcript) (a : Option (List ℕ)) (s : Session D g) → ((i : I) (f : Fate) → all i f ≡ rest i f) → Responds all rest a a s s
+  silent all rest a s same = record {
+    piece = record {
+      replies = [];
+      accepted = [];
+      written = Appends-nothing a;
+      begun = ([], refl);
+      acks = tt;
+      confirmed = omega arith;
+      answered = refl;
+      accepts = accepts_kept s s refl refl;
+      outs = λ honest p events reps. tt;
+      before = λ f. f;
+      kept = λ f. refl;
+      idle = λ was f. refl;
+    };
+    goes_on = λ i f suits. same i f;
+  }
+
+  -- WHAT FOLLOWS A COMMAND
+
+  followed : (rs : List Reply) (es : List Event) (quit : Bool) (m : Session D g) (f : Fate) (more : Fate → View → Transcript) → followed_by (preceded_by rs es (ends quit m f)) more ≡ preceded_by rs es (unless_quit quit f (view_of m) more)
+  followed rs es quit m f more = rw (append-nil rs, append-nil es) refl
+
+  pub answers_followed : {I : Type 0} (t : Fate → View → Transcript) (more : I → Fate → View → Transcript) (quit : Bool) (a b : Option (List ℕ)) (s m : Session D g)
+      → Answers t quit a b s m → Responds (λ (i : I) f. followed_by (t f (view_of s)) (more i)) (λ (i : I) f. unless_quit quit f (view_of m) (more i)) a b s m
+  answers_followed t more quit a b s m h = record {
+    piece = h.piece;
+    goes_on = λ i f suits. ap (λ (x : Transcript). followed_by x (more i)) (h.goes_on tt f suits) ∙ followed h.piece.replies h.piece.accepted quit m f (more i);
+  }
+
+  pub broken_followed : {I : Type 0} (t : Fate → View → Transcript) (more : I → Fate → View → Transcript) (a b : Option (List ℕ)) (s m : Session D g)
+      → BreaksOff t a b s m → Interrupted (λ (i : I) f. followed_by (t f (view_of s)) (more i)) a b s m
+  broken_followed t more a b s m h = record {
+    broken = h.broken;
+    one = h.one;
+    part = h.part;
+    piece = h.piece;
+    among = λ i f suits. let x : Transcript = t (h.piece.before f) (view_of s) in begins_more (h.piece.replies ++ h.broken) x.replies (unless_quit x.quit x.fate x.view (more i)).replies (h.among tt f suits);
+    some = λ i f suits. let x : Transcript = t (h.piece.before f) (view_of s) in begins_more h.piece.accepted x.events (unless_quit x.quit x.fate x.view (more i)).events (h.some tt f suits);
+  }
+
+  -- a command's answer, and then another's
+  pub answers_then : (t more : Fate → View → Transcript) (quit : Bool) (a b c : Option (List ℕ)) (s m u : Session D g) → Answers t false a b s m → Answers more quit b c m u → Answers (λ f v. followed_by (t f v) more) quit a c s u
+  answers_then t more quit a b c s m u first second = responds_then (λ (i : Unit {0}). i) (λ _ f. followed_by (t f (view_of s)) more) (λ _ f. followed_by (t f (view_of s)) more) (λ _ f. unless_quit false f (view_of m) more) (λ _ f. ends quit u f) a b c s m u (λ _ f. refl)
+      (answers_followed t (λ (_ : Unit {0}). more) false a b s m first) second
+
+  pub broken_then : (t more : Fate → View → Transcript) (a b c : Option (List ℕ)) (s m u : Session D g) → Answers t false a b s m → BreaksOff more b c m u → BreaksOff (λ f v. followed_by (t f v) more) a c s u
+  broken_then t more a b c s m u first second = interrupted_then (λ (i : Unit {0}). i) (λ _ f. followed_by (t f (view_of s)) more) (λ _ f. followed_by (t f (view_of s)) more) (λ _ f. unless_quit false f (view_of m) more) a b c s m u (λ _ f. refl)
+      (answers_followed t (λ (_ : Unit {0}). more) false a b s m first) second
