@@ -1,7 +1,7 @@
 //! Checkpoint and restart of pthread programs: does what its words ask for, on standard input, output and error.
 #![tactic(auto)]
 
-use ckrt_jobs::run_words;
+use ckrt_jobs::{WrittenReport, run_words};
 use std::env;
 use std::io::{self, ErrorKind};
 use std::process::ExitCode;
@@ -14,7 +14,7 @@ fn run(rt: &HostRuntime, words: &[&str]) -> u8 {
         words,
         &mut rt.reader(),
         &mut io::writer(rt),
-        &mut rt.stderr(),
+        &mut WrittenReport::new(rt.stderr()),
     )
 }
 

@@ -1,5 +1,6 @@
 -- The front of a list, read up to a limit.
-use Rattle.std.proofs.Common.{◌≡◌, ◌<◌, ◌≤◌, ◌+◌, ℕ, zero, suc, List, [], ◌∷◌, length, take, refl, ap, subst, arith, ◌∙◌}
+use Rattle.std.proofs.Common.{◌≡◌, ◌<◌, ◌≤◌, ◌+◌, ℕ, zero, suc, List, [], ◌∷◌, length, take, refl, ap, subst, arith, sym, ◌∙◌}
+use Rattle.std.proofs.lemmas.List.{take-take}
 
 take_whole : (n : ℕ) (xs : List ℕ) → length (take n xs) < n → take n xs ≡ xs
 take_whole zero xs h = absurd (omega arith)
@@ -25,3 +26,7 @@ front_longer limit bytes read e long =
     let same : length read ≡ length (take (limit + 1) bytes) = ap (λ (l : List ℕ). length l) e in
     let most = take_shorter (limit + 1) bytes in
     omega arith
+
+-- what has a longer front of what has this front has it too
+pub front_kept : (n m : ℕ) (xs ys zs : List ℕ) → n ≤ m → take m zs ≡ take m ys → take n ys ≡ take n xs → take n zs ≡ take n xs
+front_kept n m xs ys zs le longer front = sym (take-take n m zs le) ∙ ap (take n) longer ∙ take-take n m ys le ∙ front

@@ -1,1 +1,2 @@
 mod FrontLemmas
+mod RunLemmas

@@ -6,6 +6,8 @@ use Rattle.ckrt_image.specs.declared.fault.FormatFault.{FormatFault}
 use Rattle.ckrt_image.specs.declared.fault.FormatFault.TheVariants as format
 use Rattle.ckrt_image.specs.declared.fault.RecoverFault.{RecoverFault}
 use Rattle.ckrt_image.specs.declared.fault.RecoverFault.TheVariants as recover
+use Rattle.ckrt_inspect.specs.declared.fault.InspectFault.{InspectFault}
+use Rattle.ckrt_inspect.specs.declared.fault.InspectFault.TheVariants as look
 use Rattle.ckrt_main.specs.declared.fault.ServeFault.{ServeFault}
 use Rattle.ckrt_main.specs.declared.fault.ServeFault.TheVariants as serve
 
@@ -30,9 +32,19 @@ name_of_serve serve.Write = codes "Write"
 name_of_serve serve.OutOfMemory = codes "OutOfMemory"
 name_of_serve serve.Format = codes "Format"
 
+abbrev pub name_of_look : InspectFault → List ℕ
+name_of_look look.NotFormatted = codes "NotFormatted"
+name_of_look look.Version = codes "Version"
+name_of_look look.Damaged = codes "Damaged"
+name_of_look look.Device = codes "Device"
+name_of_look look.OutOfMemory = codes "OutOfMemory"
+name_of_look look.Write = codes "Write"
+name_of_look look.Range = codes "Range"
+
 abbrev pub name_of : JobFault → List ℕ
 name_of (job.File at why) = codes "File"
 name_of job.OutOfMemory = codes "OutOfMemory"
 name_of (job.Format f) = name_of_format f
 name_of (job.Recover f) = name_of_recover f
 name_of (job.Serve f) = name_of_serve f
+name_of (job.Inspect f) = name_of_look f

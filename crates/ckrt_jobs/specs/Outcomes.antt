@@ -2,9 +2,11 @@
 use Rattle.std.specs.Prelude.{◌≡◌, ℕ, List, [], ◌∷◌, ◌++◌, codes, decimal, Result, Ok, Err}
 use Rattle.ckrt_jobs.specs.declared.fault.JobFault.{JobFault}
 use Rattle.ckrt_jobs.specs.declared.fault.JobFault.TheVariants as job
+use Rattle.ckrt_jobs.specs.declared.file.FileFault.{FileFault}
 use Rattle.ckrt_jobs.specs.declared.file.JobFile.{JobFile}
+use Rattle.ckrt_jobs.specs.declared.file.Opening.{Opening}
+use Rattle.ckrt_jobs.specs.declared.file.Opening.TheVariants.{Opened, Refused}
 use Rattle.ckrt_jobs.specs.declared.running.Unserved.{Unserved}
-use Rattle.ckrt_image.specs.declared.fault.FormatFault.TheVariants as format
 use Rattle.ckrt_image.specs.declared.fault.RecoverFault.{RecoverFault}
 use Rattle.ckrt_image.specs.Recovery.{AgreesOnFault, Recovered}
 use Rattle.ckrt_checkpoint.specs.Layout.{size_needed}
@@ -13,12 +15,10 @@ use Rattle.ckrt_words.specs.Jobs.{Formatting}
 use Rattle.ckrt_words.specs.declared.job.WordsFault.{WordsFault}
 use Rattle.ckrt_words.specs.declared.job.WordsFault.TheVariants as words
 
--- the faults that come before the disk is asked for: configuration, image, and memory for it
-abbrev pub IsBeforeDisk : JobFault → Type 0
-IsBeforeDisk job.OutOfMemory = Unit {0}
-IsBeforeDisk (job.Format format.BadConfig) = Unit {0}
-IsBeforeDisk (job.Format format.ImageTooLong) = Unit {0}
-IsBeforeDisk _ = ⊥
+-- how the opening with this answer went
+abbrev pub opening_of : {X : Type 0} → Result X FileFault → Opening
+opening_of (Ok x) = Opened
+opening_of (Err why) = Refused why
 
 -- the faults that come before a byte is read or written
 abbrev pub IsBeforeService : JobFault → Type 0

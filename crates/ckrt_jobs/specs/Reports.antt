@@ -1,5 +1,5 @@
 -- What the program prints on standard error for a fault: a line in plain words, and a line with the fault's name.
-use Rattle.std.specs.Prelude.{ℕ, List, [], ◌∷◌, ◌++◌, codes, Option, Some, None}
+use Rattle.std.specs.Prelude.{ℕ, List, [], ◌∷◌, ◌++◌, codes, string_bytes, Option, Some, None}
 use Rattle.std.specs.declared.io.ErrorKind.{ErrorKind}
 use Rattle.std.specs.declared.io.ErrorKind.TheVariants as kind
 use Rattle.ckrt_jobs.specs.Names.{name_of}
@@ -15,7 +15,11 @@ use Rattle.ckrt_image.specs.declared.fault.RecoverFault.{RecoverFault}
 use Rattle.ckrt_image.specs.declared.fault.RecoverFault.TheVariants as recover
 use Rattle.ckrt_main.specs.declared.fault.ServeFault.{ServeFault}
 use Rattle.ckrt_main.specs.declared.fault.ServeFault.TheVariants as serve
-use Rattle.ckrt_words.specs.Jobs.{Request, format as asks_format, run as asks_run}
+use Rattle.ckrt_inspect.specs.declared.fault.InspectFault.{InspectFault}
+use Rattle.ckrt_inspect.specs.declared.fault.InspectFault.TheVariants as look
+use Rattle.ckrt_words.specs.declared.job.WordsFault.{WordsFault}
+use Rattle.ckrt_words.specs.declared.job.WordsFault.TheVariants as words
+use Rattle.ckrt_words.specs.Jobs.{Request, format as asks_format, run as asks_run, inspect as asks_inspect, stored}
 
 -- what the system's error says of a file (POSIX.1-2017, open, read, write: ENOENT, EISDIR, EACCES and EPERM, ENOSPC, EROFS; EWOULDBLOCK of a
 -- lock that is held)
@@ -53,6 +57,11 @@ file_of (job.Recover recover.NotFormatted) = Some file.Disk
 file_of (job.Recover recover.Version) = Some file.Disk
 file_of (job.Recover recover.Damaged) = Some file.Disk
 file_of (job.Recover recover.Device) = Some file.Disk
+file_of (job.Inspect look.NotFormatted) = Some file.Disk
+file_of (job.Inspect look.Version) = Some file.Disk
+file_of (job.Inspect look.Damaged) = Some file.Disk
+file_of (job.Inspect look.Device) = Some file.Disk
+file_of (job.Inspect look.Range) = Some file.Disk
 file_of _ = None
 
 abbrev pub device_advice : List ℕ
@@ -83,18 +92,29 @@ advice_of_serve serve.Write = codes "standard output: a write failed"
 advice_of_serve serve.OutOfMemory = memory_advice
 advice_of_serve serve.Format = codes "the stored program isn't one"
 
+abbrev pub advice_of_look : InspectFault → List ℕ
+advice_of_look look.NotFormatted = advice_of_recover recover.NotFormatted
+advice_of_look look.Version = advice_of_recover recover.Version
+advice_of_look look.Damaged = advice_of_recover recover.Damaged
+advice_of_look look.Device = device_advice
+advice_of_look look.OutOfMemory = memory_advice
+advice_of_look look.Write = advice_of_serve serve.Write
+advice_of_look look.Range = codes "it has no state after so many events: any more, or not yet; without --at it is shown after the last one"
+
 abbrev pub advice_of : JobFault → List ℕ
 advice_of (job.File at why) = file_fault_text why
 advice_of job.OutOfMemory = memory_advice
 advice_of (job.Format f) = advice_of_format f
 advice_of (job.Recover f) = advice_of_recover f
 advice_of (job.Serve f) = advice_of_serve f
+advice_of (job.Inspect f) = advice_of_look f
 
 -- the path that the words give for a file
 abbrev pub path_of : JobFile → Request → List ℕ
 path_of file.Image (asks_format f) = f.image
 path_of file.Disk (asks_format f) = f.disk
 path_of file.Disk (asks_run disk) = disk
+path_of file.Disk (asks_inspect i) = i.disk
 path_of _ _ = []
 
 -- the file that is spoken of, with its path
@@ -109,3 +129,8 @@ fault_line f = codes "ckrt: " ++ (name_of f ++ 10 ∷ [])
 -- all that is printed for a fault of what the words ask for
 abbrev pub report_of : Request → JobFault → List ℕ
 report_of asked f = subject_of (file_of f) asked ++ (advice_of f ++ (10 ∷ [] ++ fault_line f))
+
+-- all that is printed for words that name no job
+abbrev pub words_report_of : WordsFault → List ℕ
+words_report_of (words.Usage text) = string_bytes text
+words_report_of words.OutOfMemory = report_of stored job.OutOfMemory

@@ -1,8 +1,9 @@
 ghost use Rattle.std.specs.Prelude.{◌≡◌};
-ghost use Rattle.ckrt_jobs.specs.Names.{name_of};
-ghost use Rattle.ckrt_jobs.specs.Reports.{advice_of, advice_of_format, advice_of_recover, advice_of_serve, device_advice, file_of, memory_advice};
+ghost use Rattle.ckrt_jobs.specs.Names.{name_of, name_of_look};
+ghost use Rattle.ckrt_jobs.specs.Reports.{advice_of, advice_of_format, advice_of_look, advice_of_recover, advice_of_serve, device_advice, file_of, memory_advice};
 
 use crate::file::{FileFault, JobFile};
+use ckrt_inspect::InspectFault;
 use ckrt_main::ServeFault;
 use ckrt_recovery::{FormatFault, RecoverFault};
 
@@ -19,6 +20,8 @@ pub enum JobFault {
     Recover(RecoverFault),
     /// The service ended early.
     Serve(ServeFault),
+    /// The disk wasn't shown.
+    Inspect(InspectFault),
 }
 
 /// What is said where the disk failed a call.
@@ -75,6 +78,38 @@ fn service_advice(fault: ServeFault) -> &'static str
     }
 }
 
+/// What is said of a fault of showing a disk.
+fn inspection_advice(fault: InspectFault) -> &'static str
+    ensures { result.now ≡ advice_of_look fault }
+{
+    match fault {
+        InspectFault::NotFormatted => recovery_advice(RecoverFault::NotFormatted),
+        InspectFault::Version => recovery_advice(RecoverFault::Version),
+        InspectFault::Damaged => recovery_advice(RecoverFault::Damaged),
+        InspectFault::Device => DEVICE_ADVICE,
+        InspectFault::OutOfMemory => MEMORY_ADVICE,
+        InspectFault::Write => service_advice(ServeFault::Write),
+        InspectFault::Range => {
+            "it has no state after so many events: any more, or not yet; without --at it is shown after the last one"
+        }
+    }
+}
+
+/// The name of a fault of showing a disk.
+fn inspection_name(fault: InspectFault) -> &'static str
+    ensures { result.now ≡ name_of_look fault }
+{
+    match fault {
+        InspectFault::NotFormatted => "NotFormatted",
+        InspectFault::Version => "Version",
+        InspectFault::Damaged => "Damaged",
+        InspectFault::Device => "Device",
+        InspectFault::OutOfMemory => "OutOfMemory",
+        InspectFault::Write => "Write",
+        InspectFault::Range => "Range",
+    }
+}
+
 impl JobFault {
     /// The fault's name, as the program prints it.
     pub fn name(self) -> &'static str
@@ -99,6 +134,7 @@ impl JobFault {
             JobFault::Serve(ServeFault::Read) => "Read",
             JobFault::Serve(ServeFault::Write) => "Write",
             JobFault::Serve(ServeFault::Format) => "Format",
+            JobFault::Inspect(fault) => inspection_name(fault),
         }
     }
     /// What is wrong, in plain words, and what to do about it.
@@ -111,6 +147,7 @@ impl JobFault {
             JobFault::Format(fault) => format_advice(fault),
             JobFault::Recover(fault) => recovery_advice(fault),
             JobFault::Serve(fault) => service_advice(fault),
+            JobFault::Inspect(fault) => inspection_advice(fault),
         }
     }
 
@@ -129,6 +166,13 @@ impl JobFault {
                 | RecoverFault::Version
                 | RecoverFault::Damaged
                 | RecoverFault::Device,
+            ) => Some(JobFile::Disk),
+            JobFault::Inspect(
+                InspectFault::NotFormatted
+                | InspectFault::Version
+                | InspectFault::Damaged
+                | InspectFault::Device
+                | InspectFault::Range,
             ) => Some(JobFile::Disk),
             _ => None,
         }

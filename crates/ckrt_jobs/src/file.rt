@@ -1,6 +1,7 @@
 //! The files of a job, and why one can't be used.
 ghost use Rattle.std.specs.Prelude.{◌≡◌};
 ghost use Rattle.std.specs.IoError.{error_kind};
+ghost use Rattle.ckrt_jobs.specs.Outcomes.{opening_of};
 ghost use Rattle.ckrt_jobs.specs.Reports.{file_fault_of, file_fault_text, file_text};
 
 use std::io::{self, ErrorKind};
@@ -33,6 +34,29 @@ pub enum FileFault {
     StreamClosed,
     /// Anything else.
     Other,
+}
+
+/// How the opening of a file went.
+#[derive(Clone, Copy, Debug, PartialEq, Eq)]
+pub enum Opening {
+    /// It wasn't asked for.
+    Unasked,
+    /// It is open.
+    Opened,
+    /// It can't be used, and this is why.
+    Refused(FileFault),
+}
+
+impl Opening {
+    /// How the opening with this answer went.
+    pub(crate) fn of<T>(answer: &Result<T, FileFault>) -> Opening
+        ensures { result ≡ opening_of answer.now }
+    {
+        match answer {
+            Ok(_) => Opening::Opened,
+            Err(fault) => Opening::Refused(*fault),
+        }
+    }
 }
 
 impl JobFile {

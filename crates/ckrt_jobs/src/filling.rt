@@ -1,19 +1,42 @@
 //! Filling a file with zero bytes.
-ghost use Rattle.std.specs.Prelude.{◌≤◌, ◌<◌, ◌^◌};
+ghost use Rattle.std.specs.Prelude.{◌≡◌, ◌≤◌, ◌<◌, ◌^◌, ℕ, List, [], take};
 
+use std::fs::File;
 use std::io;
 use std::os::unix::fs::FileExt;
 
 /// How many bytes are written at a time, at most.
 const CHUNK_BYTES: usize = 4_096;
 
-/// Writes zero bytes from one offset up to another.
-pub(crate) fn fill<F: FileExt>(file: &F, from: usize, to: usize) -> io::Result<()> {
+/// A file that is written by offset, and grows where that is behind its end.
+pub(crate) trait GrowingFile {
+    /// The bytes that it holds.
+    ghost content: { Self → List ℕ };
+
+    /// Writes bytes from the offset `at` on. Those before it stay.
+    fn write_from(&mut self, at: usize, bytes: &[u8]) -> io::Result<()>
+        ensures front { take at (content self.new) ≡ take at (content self.old) };
+}
+
+// What a file of the system holds no contract can say; that a write by offset leaves the bytes before it is the system's.
+impl GrowingFile for &File {
+    ghost content = { λ _. [] };
+
+    fn write_from(&mut self, at: usize, bytes: &[u8]) -> io::Result<()> {
+        self.write_all_at(bytes, at as u64)
+    }
+}
+
+/// Writes zero bytes from one offset up to another. The bytes before them stay, also where a write fails.
+#[tactic(auto, using(crate::proofs::FrontLemmas::front_kept))]
+pub(crate) fn fill<F: GrowingFile>(file: &mut F, from: usize, to: usize) -> io::Result<()>
+    ensures front { take from (F.content file.new) ≡ take from (F.content file.old) }
+{
     let zeros = [0; CHUNK_BYTES];
     let mut at = from;
     while at < to {
         let count = (to - at).min(CHUNK_BYTES);
-        file.write_all_at(&zeros[..count], at as u64)?;
+        file.write_from(at, &zeros[..count])?;
         at += count;
     }
     Ok(())

@@ -1,21 +1,40 @@
-//! The jobs of the program: making a disk, running one, and what is printed for each outcome.
+//! The jobs of the program: making a disk, running one, showing one, and what is printed for each outcome.
 //!
-//! [`run_words`] is the whole program behind its words; [`make_disk`] and [`run_disk`] are its two jobs over any disk.
+//! [`run_words`] is the whole program behind its words, with files of the system; [`run_words_with`] is the same with images
+//! and disks of any [`Sources`]; [`make_disk`], [`run_disk`] and [`inspect_disk`] are its jobs over any disk.
 //!
-//! Proved of [`make_disk`]: BadConfig comes exactly where the configuration is out of its ranges, before anything is
-//! opened; with BadConfig, ImageTooLong and want of memory for the image the disk wasn't asked for; where the image's
-//! bytes are known, a disk that was made recovers to the program with exactly this image that hasn't begun.
+//! Proved of [`make_disk`]: BadConfig comes exactly where the configuration is out of its ranges, before anything is opened;
+//! with a fault of the image, ImageTooLong and want of memory for the image the disk wasn't asked for; a fault of a file is
+//! that of its opening, or of a read of the image. Where the disk is open it is formatted, once: AlreadyFormatted comes
+//! where its first byte is an open gate, after its sync, and it reads as before then; Ok where that gate was closed, and it
+//! holds the program with exactly this image then; Device only where the disk's failures grew; and what a stop leaves at any
+//! moment is that of formatting.
 //!
-//! Proved of [`run_disk`]: where no device failed, what was written is the reply of what the disk's content recovers to; a
-//! fault of recovery is the content's, before a byte is read or written.
+//! Proved of [`run_disk`], whatever it answers and over any disk: where nothing is recovered that comes before a byte is
+//! read or written; the fault is the content's, and it is Device only where a call of the disk failed. Else what was written
+//! is a beginning of the transcript of what the content recovers to, of a fate that is none exactly where no call of the
+//! disk failed, and all of it where the answer is Ok. What a stop left at any moment since the start was possible before, or
+//! recovers to a list between the recovered events and those with the accepted ones behind them; the disk that comes back
+//! recovers to one with every acknowledged event; no line `ack` has a greater number, and each line of output is the plain
+//! fold's of acknowledged events.
 //!
-//! Proved of [`run_words`]: the status is 2 never for no words, nor for words that `clap` takes; it is 0 only where the
-//! words ask for a job, and for `format` the line `formatted SIZE`, for `--version` that of version and kit, was then
-//! written. No file that it opens has the descriptor of a standard stream. What is written for a fault is the line in
-//! plain words, with the path of the file, and the line with its name, exactly; a file's fault is that of the file that
-//! it names, by the kind of the system's error (clauses of private functions).
+//! Proved of [`inspect_disk`]: where it answers Ok the disk's content recovers, and what was written is the listing of what
+//! it recovers to, or recovered to after so many events, with code or without, if the disk is honest; NotFormatted, Version,
+//! Damaged and Range are the content's, Device comes only where a read failed; the disk is only read, at every moment, and
+//! nothing is written with a fault but Write.
 //!
-//! Only tested: what a path opens, that a file is filled and locked, that faults on standard error reach it.
+//! Proved of [`run_words_with`]: its outcome is the one that the words ask for, and the status is that outcome's: for
+//! `format` that of making the disk of DISK with the image of IMAGE, and then the line `formatted SIZE`; for `run` that of
+//! running the disk of DISK; for `inspect` that of showing it; for no words that of serving the stored program; for
+//! `--version` the line of version and kit. A disk that can't be opened is a fault of File with what its sources said. For
+//! each fault the line in plain words, with the path of the file, and the line with its name were reported exactly, or the
+//! reporter failed. The status is 2 never for no words, nor for words that `clap` takes.
+//!
+//! Proved of the files of the system: none that is opened has the descriptor of a standard stream; filling writes nothing
+//! below a file's length.
+//!
+//! Only tested: what a path opens, that a file is filled and locked and its folder synced, that [`run_words`] hands its
+//! files on, that faults on standard error reach it.
 #![tactic(auto)]
 
 mod fault;
@@ -25,15 +44,19 @@ mod image;
 mod making;
 mod program;
 mod report;
+mod reporter;
 mod running;
+mod showing;
 mod sources;
 mod stored;
 mod system;
 mod version;
 
 pub use fault::JobFault;
-pub use file::{FileFault, JobFile};
+pub use file::{FileFault, JobFile, Opening};
 pub use making::make_disk;
-pub use program::run_words;
+pub use program::{run_words, run_words_with};
+pub use reporter::{Reporter, Unsaid, WrittenReport};
 pub use running::{Unserved, run_disk};
+pub use showing::inspect_disk;
 pub use sources::Sources;

@@ -6,6 +6,7 @@ ghost use Rattle.ckrt_main.specs.Service.{Served};
 ghost use Rattle.ckrt_image.specs.Recovery.{Recovered, Recovers};
 ghost use Rattle.ckrt_recovery.specs.View.{opened};
 ghost use Rattle.ckrt_jobs.specs.Outcomes.{AgreesOnJob, IsBeforeService, disk_of};
+ghost use Rattle.ckrt_jobs.specs.Running.{RunsDisk};
 
 use crate::fault::JobFault;
 use ckrt_disk::Disk;
@@ -37,6 +38,7 @@ pub fn run_disk<D: Disk + Drop, R: Read, W: Write>(
     ensures unread { IfErr result (λ u. IsBeforeService u.fault → reader.new ≡ reader.old) }
     ensures unwritten { IfErr result (λ u. IsBeforeService u.fault → writer.new ≡ writer.old) }
     ensures disk { IsSameDisk D.Disk disk (disk_of result) }
+    ensures runs { RunsDisk D.Disk disk (W.contents writer.old) (W.contents writer.new) (R.remaining reader.old) (R.remaining reader.new) result }
 {
     let mut session = match recover(alloc, disk) {
         Ok(session) => session,

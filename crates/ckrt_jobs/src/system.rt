@@ -1,10 +1,8 @@
 //! Disks and images that are files of the system.
 ghost use Rattle.std.specs.Prelude.{◌≡◌, None, IfOk, IfErr};
-ghost use Rattle.ckrt_jobs.specs.Outcomes.{IsFileOf};
 ghost use Rattle.ckrt_jobs.specs.Streams.{IsBesideStreams};
 
-use crate::fault::JobFault;
-use crate::file::{FileFault, JobFile};
+use crate::file::{FileFault, Opening};
 use crate::filling::fill;
 use crate::sources::Sources;
 use ckrt_disk::{FileDisk, Holds, SystemFile};
@@ -50,67 +48,151 @@ fn open_locked<R: Files<File = File>>(rt: &R, path: &str, is_new: bool) -> Resul
     }
 }
 
-/// The disk of a file of the system that is there.
-pub(crate) fn open_disk<R: Files<File = File>, H: Holds>(
-    rt: &R,
-    path: &str,
-) -> Result<FileDisk<SystemFile<H>>, JobFault>
-    ensures { IfErr result (IsFileOf JobFile.Disk) }
+/// Opens a file to read it, and locks it with other readers: a file that a program may write is refused at once.
+fn open_shared<R: Files<File = File>>(rt: &R, path: &str) -> Result<File, FileFault>
+    ensures { IfOk result IsBesideStreams }
 {
-    let opened = open_locked(rt, path, false);
-    match opened {
-        Ok(file) => disk_of(file),
-        Err(fault) => Err(JobFault::File(JobFile::Disk, fault)),
+    let file = open_read(rt, path)?;
+    match file.try_lock_shared() {
+        Ok(()) => Ok(file),
+        Err(error) => Err(FileFault::from(io::Error::from(error))),
     }
 }
 
-/// The disk of an open file.
-fn disk_of<H: Holds>(file: File) -> Result<FileDisk<SystemFile<H>>, JobFault>
-    ensures { IfErr result (IsFileOf JobFile.Disk) }
-{
-    match file.metadata() {
-        Ok(metadata) => Ok(FileDisk::new(SystemFile::new(file), metadata.len() as usize)),
-        Err(error) => Err(JobFault::File(JobFile::Disk, FileFault::from(error))),
+/// The folder of a path.
+fn folder_of(path: &str) -> &str {
+    match path.rsplit_once('/') {
+        Some(("", _)) => "/",
+        Some((folder, _)) => folder,
+        None => ".",
     }
+}
+
+/// Makes the names of a path's folder durable.
+fn sync_folder<R: Files<File = File>>(rt: &R, path: &str) -> Result<(), FileFault> {
+    let folder = open_read(rt, folder_of(path))?;
+    folder.sync_all()?;
+    Ok(())
+}
+
+/// The file of a path, which is made where there is none; its name is durable then.
+fn open_or_make<R: Files<File = File>>(rt: &R, path: &str) -> Result<File, FileFault>
+    ensures { IfOk result IsBesideStreams }
+{
+    match open_locked(rt, path, false) {
+        Err(FileFault::NotFound) => {
+            let file = open_locked(rt, path, true)?;
+            sync_folder(rt, path)?;
+            Ok(file)
+        }
+        opened => opened,
+    }
+}
+
+/// The disk of an open file, with as many bytes as the file.
+fn disk_of<H: Holds>(file: File) -> Result<FileDisk<SystemFile<H>>, FileFault> {
+    let size = file.metadata()?.len() as usize;
+    Ok(FileDisk::new(SystemFile::new(file), size))
 }
 
 /// A file of at least so many bytes: one that is missing or shorter is filled with zero bytes.
-fn open_filled<R: Files<File = File>>(rt: &R, path: &str, size: usize) -> Result<File, FileFault>
+fn open_filled_file<R: Files<File = File>>(
+    rt: &R,
+    path: &str,
+    size: usize,
+) -> Result<File, FileFault>
     ensures { IfOk result IsBesideStreams }
 {
-    let file = open_locked(rt, path, true)?;
+    let file = open_or_make(rt, path)?;
     let length = file.metadata()?.len() as usize;
-    fill(&file, length, size)?;
+    fill(&mut &file, length, size)?;
     Ok(file)
 }
 
-/// An image and a disk by their paths.
+/// The disk of a path.
+fn open_system_disk<R: Files<File = File>, H: Holds>(
+    rt: &R,
+    path: &str,
+) -> Result<FileDisk<SystemFile<H>>, FileFault> {
+    let file = open_locked(rt, path, false)?;
+    disk_of(file)
+}
+
+/// The disk of a path, to be looked at.
+fn look_at_system_disk<R: Files<File = File>, H: Holds>(
+    rt: &R,
+    path: &str,
+) -> Result<FileDisk<SystemFile<H>>, FileFault> {
+    let file = open_shared(rt, path)?;
+    disk_of(file)
+}
+
+/// The disk of a path, filled up to so many bytes.
+fn open_filled_disk<R: Files<File = File>, H: Holds>(
+    rt: &R,
+    path: &str,
+    size: usize,
+) -> Result<FileDisk<SystemFile<H>>, FileFault> {
+    let file = open_filled_file(rt, path, size)?;
+    disk_of(file)
+}
+
+/// The files of the system.
 #[derive(Drop)]
 pub(crate) struct SystemSources<'a, R> {
-    pub(crate) rt: &'a R,
-    pub(crate) image: &'a str,
-    pub(crate) disk: &'a str,
-    pub(crate) is_disk_touched: bool,
+    rt: &'a R,
+    image: Opening,
+    disk: Opening,
+}
+
+impl<'a, R> SystemSources<'a, R> {
+    /// The files of the system, of which none was asked for.
+    pub(crate) fn new(rt: &'a R) -> SystemSources<'a, R> {
+        SystemSources {
+            rt,
+            image: Opening::Unasked,
+            disk: Opening::Unasked,
+        }
+    }
 }
 
 impl<'a, R: Files<File = File>, H: Holds> Sources<File, FileDisk<SystemFile<H>>>
     for SystemSources<'a, R> {
-    ghost image_bytes = { λ _. None };
+    ghost image_bytes = { λ _ _. None };
 
-    ghost is_disk_touched = { λ s. s.is_disk_touched };
+    ghost image_opening = { λ s. s.image };
 
-    fn open_image(&mut self) -> Result<File, JobFault> {
-        match open_read(self.rt, self.image) {
-            Ok(file) => Ok(file),
-            Err(fault) => Err(JobFault::File(JobFile::Image, fault)),
-        }
+    ghost disk_opening = { λ s. s.disk };
+
+    ghost opens = { λ _ _ _. Unit {0} };
+
+    ghost fills = { λ _ _ _ _. Unit {0} };
+
+    fn open_image(&mut self, path: &str) -> Result<File, FileFault> {
+        let opened = open_read(self.rt, path);
+        self.image = Opening::of(&opened);
+        opened
     }
 
-    fn open_disk(&mut self, size: usize) -> Result<FileDisk<SystemFile<H>>, JobFault> {
-        self.is_disk_touched = true;
-        match open_filled(self.rt, self.disk, size) {
-            Ok(file) => disk_of(file),
-            Err(fault) => Err(JobFault::File(JobFile::Disk, fault)),
-        }
+    fn open_disk(&mut self, path: &str) -> Result<FileDisk<SystemFile<H>>, FileFault> {
+        let opened = open_system_disk(self.rt, path);
+        self.disk = Opening::of(&opened);
+        opened
+    }
+
+    fn look_at_disk(&mut self, path: &str) -> Result<FileDisk<SystemFile<H>>, FileFault> {
+        let opened = look_at_system_disk(self.rt, path);
+        self.disk = Opening::of(&opened);
+        opened
+    }
+
+    fn open_filled(
+        &mut self,
+        path: &str,
+        size: usize,
+    ) -> Result<FileDisk<SystemFile<H>>, FileFault> {
+        let opened = open_filled_disk(self.rt, path, size);
+        self.disk = Opening::of(&opened);
+        opened
     }
 }

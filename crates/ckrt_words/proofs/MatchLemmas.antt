@@ -16,7 +16,7 @@ use Rattle.clap.specs.Walk.{done, waits, plain, refused, idle, option, positiona
 use Rattle.clap.specs.Simple.{App, Shape, argument_words, built, entered, names_of}
 use Rattle.clap.specs.Values.{read_as}
 use Rattle.clap.specs.Takes.{bundle_passes, entered_passes, is_valid, takes, action_passes, bundle_step_passes, default_passes, flag_word_passes, flags_pass, is_given, level_passes, long_passes, option_passes, other_passes, positional_passes, react_passes, set_passes, settle_passes, short_passes, step_passes, turn_passes, use_passes, value_passes, values_pass, walk_passes, word_passes}
-use Rattle.clap.specs.declared.builder.action.ArgAction.TheVariants.{Set, Help}
+use Rattle.clap.specs.declared.builder.action.ArgAction.TheVariants.{Set, SetTrue, Help}
 use Rattle.clap.specs.declared.parser.matches.ValueSource.{ValueSource}
 use Rattle.clap.specs.declared.parser.matches.ValueSource.TheVariants.{CommandLine, DefaultValue}
 
@@ -50,9 +50,13 @@ module _ (s : Shape) (once : s.args_override_self ≡ false) where
   AreRows [] = ⊤
   AreRows (r ∷ rs) = IsRow r × AreRows rs
 
-  -- an argument with a value, or a flag that asks for help
+  -- a flag, with the value that stands for it
+  abbrev IsFlag : Rule → Type 0
+  IsFlag a = (action_of a ≡ SetTrue) × ((v : Text) × (vs : List Text) × (a.missing ≡ v ∷ vs))
+
+  -- an argument with a value, a flag that asks for help, or another flag
   abbrev pub IsRule : Rule → Type 0
-  IsRule a = (arg_by_id s.rules a.id ≡ Some a) × (((action_of a ≡ Set) × ((unwrap_or_range a.range).start_inclusive ≡ 1)) ⊎ (action_of a ≡ Help))
+  IsRule a = (arg_by_id s.rules a.id ≡ Some a) × (((action_of a ≡ Set) × ((unwrap_or_range a.range).start_inclusive ≡ 1)) ⊎ ((action_of a ≡ Help) ⊎ IsFlag a))
 
   abbrev pub AreRules : List Rule → Type 0
   AreRules [] = ⊤
@@ -97,7 +101,19 @@ module _ (s : Shape) (once : s.args_override_self ≡ false) where
       go (v ∷ vs) p =
           let set = subst (λ x. action_passes x s.args_override_self a (v ∷ vs) rows ≡ true) is.0 (both _ _ p.1).1 in
           subst (λ x. AreRows (used_as x a.id (reading_by a) (v ∷ vs) rows)) (sym is.0) (set_kept a v vs rows found set ok)
-  used_kept a (found, inr is) values rows pass ok =
+  used_kept a (found, inr (inr is)) values rows pass ok = go values (both _ _ (both _ _ pass).1).1
+    where
+      go : (values : List Text) → action_passes (action_of a) s.args_override_self a (values_or_missing a values) rows ≡ true → AreRows (used a values rows)
+      go [] p =
+          let flag = subst (λ x. action_passes x s.args_override_self a a.missing rows ≡ true) is.0 p in
+          let set = subst (λ xs. action_passes SetTrue s.args_override_self a xs rows ≡ true) is.1.2 flag in
+          let kept : AreRows (used_as SetTrue a.id (reading_by a) a.missing rows) =
+          subst (λ xs. AreRows (used_as SetTrue a.id (reading_by a) xs rows)) (sym is.1.2) (set_kept a is.1.0 is.1.1 rows found set ok) in
+          subst (λ x. AreRows (used_as x a.id (reading_by a) a.missing rows)) (sym is.0) kept
+      go (v ∷ vs) p =
+          let set = subst (λ x. action_passes x s.args_override_self a (v ∷ vs) rows ≡ true) is.0 p in
+          subst (λ x. AreRows (used_as x a.id (reading_by a) (v ∷ vs) rows)) (sym is.0) (set_kept a v vs rows found set ok)
+  used_kept a (found, inr (inl is)) values rows pass ok =
       let never : action_passes Help s.args_override_self a (values_or_missing a values) rows ≡ true =
       subst (λ x. action_passes x s.args_override_self a (values_or_missing a values) rows ≡ true) is (both _ _ (both _ _ pass).1).1 in
       absurd (true≢false (sym never))

@@ -1,4 +1,4 @@
--- The number of 32 bits that a text gives.
+-- The number that a text gives.
 use Rattle.std.proofs.Common.{◌∙◌, cond, ◌≡◌, ℕ, Bool, true, false, List, [], ◌∷◌, length, Option, Some, None, refl, sym, ap, nat_lt, ◌^◌, lt-ltb, ltb-true, true≢false}
 use Rattle.std.specs.Prelude.{⊤, Result, Ok, Err}
 use Rattle.std.specs.List.{list_all}
@@ -19,15 +19,15 @@ digits_from (d ∷ ds) e =
     (ltb-true _ _ parts.0, digits_from ds parts.1)
 
 -- a typed getter of a text gives its number, and none exactly where it has none
-pub number_read : (E : Type 0) (G : List ℕ → Result ℕ E → Type 0) → ((u : List ℕ) (x : Result ℕ E) → G u x → ParsesUnsigned 32 10 u x)
-    → (t : List ℕ) (o : Option ℕ) → ReadsOne G t o → o ≡ number_of t
-number_read E G only t (Some n) h =
+pub number_read : (bits : ℕ) (E : Type 0) (G : List ℕ → Result ℕ E → Type 0) → ((u : List ℕ) (x : Result ℕ E) → G u x → ParsesUnsigned bits 10 u x)
+    → (t : List ℕ) (o : Option ℕ) → ReadsOne G t o → o ≡ number_of bits t
+number_read bits E G only t (Some n) h =
     let parsed = only t (Ok n) h in
     let ds = without_leading_plus t in
-    rw (lt-ltb 0 (length ds) parsed.0.0.0, digits_pass ds parsed.0.0.1, lt-ltb (digits_value 10 ds) (2 ^ 32) parsed.0.1) (ap Some parsed.1)
-number_read E G only t None h = go (is_number t) refl
+    rw (lt-ltb 0 (length ds) parsed.0.0.0, digits_pass ds parsed.0.0.1, lt-ltb (digits_value 10 ds) (2 ^ bits) parsed.0.1) (ap Some parsed.1)
+number_read bits E G only t None h = go (is_number bits t) refl
   where
-    go : (b : Bool) → is_number t ≡ b → None ≡ number_of t
+    go : (b : Bool) → is_number bits t ≡ b → None ≡ number_of bits t
     go false e = rw e refl
     go true e =
         let ds = without_leading_plus t in
@@ -36,12 +36,12 @@ number_read E G only t None h = go (is_number t) refl
         absurd (only t (Err h.0) h.1 ((ltb-true _ _ outer.0, digits_from ds inner.0), ltb-true _ _ inner.1))
 
 -- the number of a text is what a typed getter gives
-pub number_reads : (t : List ℕ) → ReadsOne (ParsesUnsigned {E = ⊤} 32 10) t (number_of t)
-number_reads t = go (is_number t) refl
+pub number_reads : (bits : ℕ) (t : List ℕ) → ReadsOne (ParsesUnsigned {E = ⊤} bits 10) t (number_of bits t)
+number_reads bits t = go (is_number bits t) refl
   where
-    go : (b : Bool) → is_number t ≡ b → ReadsOne (ParsesUnsigned {E = ⊤} 32 10) t (cond b (Some (digits_value 10 (without_leading_plus t))) None)
+    go : (b : Bool) → is_number bits t ≡ b → ReadsOne (ParsesUnsigned {E = ⊤} bits 10) t (cond b (Some (digits_value 10 (without_leading_plus t))) None)
     go true e =
         let outer = both _ _ e in
         let inner = both _ _ outer.1 in
         (((ltb-true _ _ outer.0, digits_from _ inner.0), ltb-true _ _ inner.1), refl)
-    go false e = (tt, λ h. let all : is_number t ≡ true = rw (lt-ltb 0 (length (without_leading_plus t)) h.0.0, digits_pass (without_leading_plus t) h.0.1, lt-ltb (digits_value 10 (without_leading_plus t)) (2 ^ 32) h.1) refl in absurd (true≢false (sym all ∙ e)))
+    go false e = (tt, λ h. let all : is_number bits t ≡ true = rw (lt-ltb 0 (length (without_leading_plus t)) h.0.0, digits_pass (without_leading_plus t) h.0.1, lt-ltb (digits_value 10 (without_leading_plus t)) (2 ^ bits) h.1) refl in absurd (true≢false (sym all ∙ e)))

@@ -17,7 +17,7 @@ use Rattle.clap.specs.declared.builder.value_parser.ValueParser.TheVariants as v
 use Rattle.clap.proofs.CallerReads.{signed_reads}
 use Rattle.clap.proofs.ValueTestLemmas.{accepts-Accepts}
 use Rattle.ckrt_words.specs.Commands.{ckrt_app}
-use Rattle.ckrt_words.specs.Jobs.{Request, format, run, number_in, number_of, request_in}
+use Rattle.ckrt_words.specs.Jobs.{Request, flag_in, format, inspect, run, number_in, number_of, place_in, request_in}
 use Rattle.clap.proofs.WalkLemmas.{both}
 use Rattle.ckrt_words.proofs.MatchLemmas.{AreRows, AreRules, defaults_give, given_found, has_command, has_required, level_kept, level_valid, row_found, taken_levels, value_there}
 use Rattle.ckrt_words.proofs.NumberLemmas.{number_reads}
@@ -32,15 +32,21 @@ format_shape = unwrap_or (slice_get built_app.subs 0) built_app.top
 abbrev run_shape : Shape
 run_shape = unwrap_or (slice_get built_app.subs 1) built_app.top
 
+abbrev inspect_shape : Shape
+inspect_shape = unwrap_or (slice_get built_app.subs 2) built_app.top
+
 format_rules : AreRules format_shape refl format_shape.rules
-format_rules = ((refl, inl (refl, refl)), ((refl, inl (refl, refl)), ((refl, inl (refl, refl)), ((refl, inl (refl, refl)), ((refl, inl (refl, refl)), ((refl, inr refl), tt))))))
+format_rules = ((refl, inl (refl, refl)), ((refl, inl (refl, refl)), ((refl, inl (refl, refl)), ((refl, inl (refl, refl)), ((refl, inl (refl, refl)), ((refl, inr (inl refl)), tt))))))
 
 run_rules : AreRules run_shape refl run_shape.rules
-run_rules = ((refl, inl (refl, refl)), ((refl, inr refl), tt))
+run_rules = ((refl, inl (refl, refl)), ((refl, inr (inl refl)), tt))
 
-number_there : (v : Text) → accepts false (vp.Signed (pos 0) (pos 4294967295)) v ≡ true → (n : ℕ) × (number_of (without_minus v) ≡ Some n)
+inspect_rules : AreRules inspect_shape refl inspect_shape.rules
+inspect_rules = ((refl, inl (refl, refl)), ((refl, inl (refl, refl)), ((refl, inr (inr (refl, (_, [], refl)))), ((refl, inr (inl refl)), tt))))
+
+number_there : (v : Text) → accepts false (vp.Signed (pos 0) (pos 4294967295)) v ≡ true → (n : ℕ) × (number_of 32 (without_minus v) ≡ Some n)
 number_there v pass =
-    let read = signed_reads ⊤ (ParsesUnsigned 32 10) 32 0 4294967295 v (number_of (without_minus v)) (number_reads (without_minus v)) (λ u x g. g) (omega arith) (accepts-Accepts false (vp.Signed (pos 0) (pos 4294967295)) v pass) in
+    let read = signed_reads ⊤ (ParsesUnsigned 32 10) 32 0 4294967295 v (number_of 32 (without_minus v)) (number_reads 32 (without_minus v)) (λ u x g. g) (omega arith) (accepts-Accepts false (vp.Signed (pos 0) (pos 4294967295)) v pass) in
     (read.0, read.1)
 
 run_named : (words : List Text) → level_passes run_shape [] nothing_held words false ≡ true → (r : Request) × (request_in (rows_at run_shape words) ≡ Some r)
@@ -50,6 +56,14 @@ run_named words pass =
     let given = has_required run_shape rows false (level_valid run_shape [] nothing_held words false pass) refl in
     let disk = value_there run_shape refl (codes "disk") rows _ kept refl (given_found (codes "disk") rows (both (is_given (codes "disk") rows) true given).0) in
     (run disk.0, ap (option_map run) disk.1)
+
+inspect_named : (words : List Text) → level_passes inspect_shape [] nothing_held words false ≡ true → (r : Request) × (request_in (rows_at inspect_shape words) ≡ Some r)
+inspect_named words pass =
+    let rows = finished inspect_shape.rules (walk inspect_shape.rules [] nothing_held words).held in
+    let kept = level_kept inspect_shape refl inspect_rules [] nothing_held words false pass tt in
+    let given = has_required inspect_shape rows false (level_valid inspect_shape [] nothing_held words false pass) refl in
+    let disk = value_there inspect_shape refl (codes "disk") rows _ kept refl (given_found (codes "disk") rows (both (is_given (codes "disk") rows) true given).0) in
+    (inspect (record { disk = disk.0; at = place_in (codes "at") rows; code = flag_in (codes "code") rows }), rw disk.1 refl)
 
 abbrev slot : ℕ → Rule
 slot i = slice_index_or format_shape.rules i (new_rule [])
@@ -69,7 +83,7 @@ number_at id rows a kept found parser has =
     let text : one_of id rows ≡ Some (without_minus there.0) = subst (λ (o : Option ValueParser). one_of id rows ≡ Some (read_as (reading_of (parser_of_value o)) there.0)) parser there.2 in
     let passes : accepts a.ignore_case (vp.Signed (pos 0) (pos 4294967295)) there.0 ≡ true = subst (λ (o : Option ValueParser). accepts a.ignore_case (parser_of_value o) there.0 ≡ true) parser there.3 in
     let number = number_there there.0 passes in
-    (number.0, ap (option_and_then number_of) text ∙ number.1)
+    (number.0, ap (option_and_then (number_of 32)) text ∙ number.1)
 
 format_named : (words : List Text) → level_passes format_shape [] nothing_held words false ≡ true → (r : Request) × (request_in (rows_at format_shape words) ≡ Some r)
 format_named words pass =
@@ -89,16 +103,17 @@ format_named words pass =
 entered_named : (stop : Option (Text × List Text)) → entered_passes built_app stop ≡ true → is_some (entered built_app stop) ≡ true
     → (r : Request) × (option_and_then request_in (entered built_app stop) ≡ Some r)
 entered_named None pass some = absurd (true≢false (sym some))
-entered_named (Some p) pass some = go (answers_to p.0 (label_of format_shape)) (answers_to p.0 (label_of run_shape)) pass some
+entered_named (Some p) pass some = go (answers_to p.0 (label_of format_shape)) (answers_to p.0 (label_of run_shape)) (answers_to p.0 (label_of inspect_shape)) pass some
   where
-    found : Bool → Bool → Option Shape
-    found a b = cond a (Some format_shape) (cond b (Some run_shape) None)
+    found : Bool → Bool → Bool → Option Shape
+    found a b c = cond a (Some format_shape) (cond b (Some run_shape) (cond c (Some inspect_shape) None))
 
-    go : (a b : Bool) → option_map_or (λ s. level_passes s [] nothing_held p.1 false) (found a b) true ≡ true → is_some (option_map (λ s. rows_at s p.1) (found a b)) ≡ true
-        → (r : Request) × (option_and_then request_in (option_map (λ s. rows_at s p.1) (found a b)) ≡ Some r)
-    go true b e is = format_named p.1 e
-    go false true e is = run_named p.1 e
-    go false false e is = absurd (true≢false (sym is))
+    go : (a b c : Bool) → option_map_or (λ s. level_passes s [] nothing_held p.1 false) (found a b c) true ≡ true → is_some (option_map (λ s. rows_at s p.1) (found a b c)) ≡ true
+        → (r : Request) × (option_and_then request_in (option_map (λ s. rows_at s p.1) (found a b c)) ≡ Some r)
+    go true b c e is = format_named p.1 e
+    go false true c e is = run_named p.1 e
+    go false false true e is = inspect_named p.1 e
+    go false false false e is = absurd (true≢false (sym is))
 
 -- words that the command line takes ask for something
 taken_named : (words : List Text) → takes ckrt_app words ≡ true → (r : Request) × (option_and_then request_in (subcommand_of ckrt_app words) ≡ Some r)

@@ -1,7 +1,9 @@
--- The program's command line, as `clap` sees it: `format DISK IMAGE [--pages P] [--harts H] [--journal J]` and `run DISK`.
+-- The program's command line, as `clap` sees it: `format DISK IMAGE [--pages P] [--harts H] [--journal J]`, `run DISK` and
+-- `inspect DISK [--at K] [--code]`.
 use Rattle.std.specs.Prelude.{pos, codes, Some, true, [], ◌∷◌}
 use Rattle.clap.specs.Words.{App, Rule, Text, new_app, new_rule, with_rule, with_subcommand}
-use Rattle.clap.specs.declared.builder.value_parser.ValueParser.TheVariants.{Signed}
+use Rattle.clap.specs.declared.builder.value_parser.ValueParser.TheVariants.{Signed, Unsigned}
+use Rattle.clap.specs.declared.builder.action.ArgAction.TheVariants.{SetTrue}
 
 -- a word that has to stand there
 abbrev pub needed_rule : Text → Rule
@@ -16,6 +18,18 @@ number_rule id default = record (new_rule id) {
   defaults = default ∷ [];
 }
 
+-- an option `--id K`, a number of 64 bits, which may be left out
+abbrev pub place_rule : Text → Rule
+place_rule id = record (new_rule id) {
+  long = Some id;
+  value_names = 1;
+  parser = Some (Unsigned 0 18446744073709551615);
+}
+
+-- an option `--id` without a value
+abbrev pub flag_rule : Text → Rule
+flag_rule id = record (new_rule id) { long = Some id; action = Some SetTrue }
+
 abbrev pub format_app : App
 format_app =
     with_rule (with_rule (with_rule (with_rule (with_rule (new_app (codes "format"))
@@ -28,6 +42,13 @@ format_app =
 abbrev pub run_app : App
 run_app = with_rule (new_app (codes "run")) (needed_rule (codes "disk"))
 
+abbrev pub inspect_app : App
+inspect_app =
+    with_rule (with_rule (with_rule (new_app (codes "inspect"))
+    (needed_rule (codes "disk")))
+    (place_rule (codes "at")))
+    (flag_rule (codes "code"))
+
 -- the program without a command: its words don't begin with its name, and `help` is no command
 abbrev pub bare_app : App
 bare_app = record {
@@ -36,4 +57,4 @@ bare_app = record {
 }
 
 abbrev pub ckrt_app : App
-ckrt_app = with_subcommand (with_subcommand bare_app format_app.top) run_app.top
+ckrt_app = with_subcommand (with_subcommand (with_subcommand bare_app format_app.top) run_app.top) inspect_app.top

@@ -2,6 +2,7 @@
 use Rattle.std.specs.Prelude.{ℕ, ◌^◌, ◌&&◌, Bool, false, nat_lt, if◌then◌else◌, List, [], ◌∷◌, length, codes, Option, Some, None, option_and_then, option_map}
 use Rattle.std.specs.List.{list_all}
 use Rattle.std.specs.Char.{digit_value}
+use Rattle.std.specs.Option.{option_map_or}
 use Rattle.std.specs.Str.{bytes_eq}
 use Rattle.std.specs.Str.Parse.{digits_value, without_leading_plus}
 use Rattle.clap.specs.Words.{Row, Text, first_of, one_of, subcommand_of}
@@ -9,6 +10,7 @@ use Rattle.ckrt_words.specs.Commands.{ckrt_app}
 use Rattle.ckrt_words.specs.declared.job.Job.{Job}
 use Rattle.ckrt_words.specs.declared.job.Job.TheVariants as job
 use Rattle.ckrt_words.specs.declared.job.FormatJob.{FormatJob}
+use Rattle.ckrt_words.specs.declared.job.InspectJob.{InspectJob}
 
 -- what `format` makes
 pub record Formatting : Type 0 where
@@ -18,34 +20,53 @@ pub record Formatting : Type 0 where
   pub harts : ℕ
   pub journal : ℕ
 
+-- what `inspect` shows: which disk, after how many events, and whether with instructions
+pub record Inspection : Type 0 where
+  pub disk : Text
+  pub at : Option ℕ
+  pub code : Bool
+
 -- a job, by its texts and numbers alone
 pub data Request : Type 0 where
   stored : Request
   version : Request
   format : Formatting → Request
   run : Text → Request
+  inspect : Inspection → Request
 
 abbrev pub formatting_of : FormatJob → Formatting
 formatting_of f = record { disk = f.disk.now; image = f.image.now; pages = f.pages; harts = f.harts; journal = f.journal }
+
+abbrev pub inspection_of : InspectJob → Inspection
+inspection_of i = record { disk = i.disk.now; at = i.at; code = i.code }
 
 abbrev pub request_of : Job → Request
 request_of job.Stored = stored
 request_of job.Version = version
 request_of (job.Format f) = format (formatting_of f)
 request_of (job.Run disk) = run disk.now
+request_of (job.Inspect i) = inspect (inspection_of i)
 
--- decimal digits, one or more, after a plus or not, of a number below 2^32
-abbrev pub is_number : Text → Bool
-is_number t =
+-- decimal digits, one or more, after a plus or not, of a number of so many bits
+abbrev pub is_number : ℕ → Text → Bool
+is_number bits t =
     let ds = without_leading_plus t in
-    nat_lt 0 (length ds) && (list_all (λ d. nat_lt (digit_value d) 10) ds && nat_lt (digits_value 10 ds) (2 ^ 32))
+    nat_lt 0 (length ds) && (list_all (λ d. nat_lt (digit_value d) 10) ds && nat_lt (digits_value 10 ds) (2 ^ bits))
 
-abbrev pub number_of : Text → Option ℕ
-number_of t = if is_number t then Some (digits_value 10 (without_leading_plus t)) else None
+abbrev pub number_of : ℕ → Text → Option ℕ
+number_of bits t = if is_number bits t then Some (digits_value 10 (without_leading_plus t)) else None
 
--- the number that a command's matches have for an option
+-- the number of 32 bits that a command's matches have for an option
 abbrev pub number_in : Text → List Row → Option ℕ
-number_in id rows = option_and_then number_of (one_of id rows)
+number_in id rows = option_and_then (number_of 32) (one_of id rows)
+
+-- the number of 64 bits that they have for one
+abbrev pub place_in : Text → List Row → Option ℕ
+place_in id rows = option_and_then (number_of 64) (one_of id rows)
+
+-- whether an option without a value is there: `clap` gives it the text `true`, and `false` where it isn't
+abbrev pub flag_in : Text → List Row → Bool
+flag_in id rows = option_map_or (λ t. bytes_eq t (codes "true")) (first_of id rows) false
 
 -- the second step, where the first gave a value: Rust's `?`
 infixl 10 ◌>>=◌
@@ -62,11 +83,17 @@ formatting_in rows = do
   journal ← number_in (codes "journal") rows
   Some (record { disk = disk; image = image; pages = pages; harts = harts; journal = journal })
 
+abbrev pub inspection_in : List Row → Option Inspection
+inspection_in rows = do
+  disk ← first_of (codes "disk") rows
+  Some (record { disk = disk; at = place_in (codes "at") rows; code = flag_in (codes "code") rows })
+
 -- what a command with these matches asks for
 abbrev pub request_in : Text × List Row → Option Request
 request_in p =
     if bytes_eq p.0 (codes "format") then option_map format (formatting_in p.1)
     else if bytes_eq p.0 (codes "run") then option_map run (first_of (codes "disk") p.1)
+    else if bytes_eq p.0 (codes "inspect") then option_map inspect (inspection_in p.1)
     else None
 
 -- the one word `--version`

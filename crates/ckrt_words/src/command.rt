@@ -3,9 +3,9 @@ ghost use Rattle.std.specs.Prelude.{◌≡◌, IfOk, codes, false, fold, map, no
 ghost use Rattle.std.specs.List.{list_all};
 ghost use Rattle.clap.specs.Words.{app_of, new_app, rule_of, with_rule};
 ghost use Rattle.clap.specs.declared.builder.command.Command.TheViews.{out-Command};
-ghost use Rattle.ckrt_words.specs.Commands.{bare_app, ckrt_app, format_app, needed_rule, number_rule, run_app};
+ghost use Rattle.ckrt_words.specs.Commands.{bare_app, ckrt_app, flag_rule, format_app, inspect_app, needed_rule, number_rule, place_rule, run_app};
 
-use clap::{Arg, Command, value_parser};
+use clap::{Arg, ArgAction, Command, value_parser};
 use std::alloc::{AllocError, Global};
 
 /// A word that has to stand there.
@@ -29,6 +29,29 @@ fn number<'a>(alloc: Global, id: &'a str, default: &'a str, help: &'a str) -> Ar
         .value_name("N")
         .value_parser(value_parser!(u32))
         .default_value(default)
+        .help(help)
+}
+
+/// An option with a number of 64 bits, which may be left out.
+fn place<'a>(alloc: Global, id: &'a str, name: &'a str, help: &'a str) -> Arg<'a>
+    ensures rule { rule_of result ≡ place_rule id.entry.now }
+    ensures local { result.global ≡ false }
+{
+    Arg::new(alloc, id)
+        .long(id)
+        .value_name(name)
+        .value_parser(value_parser!(u64))
+        .help(help)
+}
+
+/// An option without a value.
+fn flag<'a>(alloc: Global, id: &'a str, help: &'a str) -> Arg<'a>
+    ensures rule { rule_of result ≡ flag_rule id.entry.now }
+    ensures local { result.global ≡ false }
+{
+    Arg::new(alloc, id)
+        .long(id)
+        .action(ArgAction::SetTrue)
         .help(help)
 }
 
@@ -79,6 +102,35 @@ fn run_command<'a>(alloc: Global) -> Result<Command<'a>, AllocError>
         .arg(disk)
 }
 
+/// `inspect DISK [--at K] [--code]`.
+fn inspect_command<'a>(alloc: Global) -> Result<Command<'a>, AllocError>
+    ensures app { IfOk result (λ c. app_of c ≡ inspect_app) }
+    ensures local { IfOk result (λ c. (out-Command c).has_globals ≡ false) }
+{
+    let arguments = inspect_arguments(alloc)?;
+    Command::new(alloc, "inspect")
+        .about("Shows a stopped program, and changes nothing")
+        .args(arguments)
+}
+
+/// What `inspect` is given.
+fn inspect_arguments<'a>(alloc: Global) -> Result<Vec<Arg<'a>>, AllocError>
+    ensures app { IfOk result (λ arguments. fold with_rule (new_app (codes "inspect")) (map rule_of arguments.items) ≡ inspect_app) }
+    ensures local { IfOk result (λ arguments. list_all (λ a. not a.global) arguments.items ≡ true) }
+{
+    let arguments = vec![in alloc;
+        needed(alloc, "disk", "DISK", "A disk that `format` made"),
+        place(
+            alloc,
+            "at",
+            "K",
+            "Show it after K events, not after the last one"
+        ),
+        flag(alloc, "code", "Show each thread's next instructions"),
+    ]?;
+    Ok(arguments)
+}
+
 /// The program without a command.
 fn bare_command<'a>(alloc: Global) -> Result<Command<'a>, AllocError>
     ensures app { IfOk result (λ c. app_of c ≡ bare_app) }
@@ -102,5 +154,7 @@ pub(crate) fn command<'a>(alloc: Global) -> Result<Command<'a>, AllocError>
     let format = format_command(alloc)?;
     let with_format = bare.subcommand(format)?;
     let run = run_command(alloc)?;
-    with_format.subcommand(run)
+    let with_run = with_format.subcommand(run)?;
+    let inspect = inspect_command(alloc)?;
+    with_run.subcommand(inspect)
 }

@@ -11,6 +11,8 @@ pub enum Job<'a> {
     Format(FormatJob<'a>),
     /// Recover the disk of this path and serve it: `run DISK`.
     Run(&'a str),
+    /// Show what a disk holds: `inspect DISK`.
+    Inspect(InspectJob<'a>),
 }
 
 /// What `format` makes. The numbers are as they were given, and may be out of a disk's ranges.
@@ -26,6 +28,17 @@ pub struct FormatJob<'a> {
     pub harts: u32,
     /// Bytes of a journal.
     pub journal: u32,
+}
+
+/// What `inspect` shows.
+#[derive(Clone, Copy, Debug, PartialEq, Eq)]
+pub struct InspectJob<'a> {
+    /// The path of the disk.
+    pub disk: &'a str,
+    /// After how many events it is shown; after the last one where this isn't given.
+    pub at: Option<u64>,
+    /// Whether each thread's next instructions are shown too.
+    pub code: bool,
 }
 
 /// Why words name no job.

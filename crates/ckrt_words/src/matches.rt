@@ -1,9 +1,9 @@
 //! What the matches of a command line name.
 ghost use Rattle.std.specs.Prelude.{◌≡◌, option_and_then, option_map};
 ghost use Rattle.clap.specs.Words.{first_of, found_of, rows_of, subcommand_rows_of};
-ghost use Rattle.ckrt_words.specs.Jobs.{formatting_in, formatting_of, number_in, request_in, request_of};
+ghost use Rattle.ckrt_words.specs.Jobs.{flag_in, formatting_in, formatting_of, inspection_in, inspection_of, number_in, place_in, request_in, request_of};
 
-use crate::job::{FormatJob, Job};
+use crate::job::{FormatJob, InspectJob, Job};
 use clap::ArgMatches;
 
 /// The text that was given for an argument.
@@ -18,6 +18,34 @@ fn number(matches: &ArgMatches<'_>, id: &str) -> Option<u32>
     ensures { result ≡ number_in id.now (rows_of (found_of matches.now)) }
 {
     matches.get_one::<u32>(id)
+}
+
+/// The number of 64 bits that was given for an option, if it was given.
+fn place(matches: &ArgMatches<'_>, id: &str) -> Option<u64>
+    ensures { result ≡ place_in id.now (rows_of (found_of matches.now)) }
+{
+    matches.get_one::<u64>(id)
+}
+
+/// Whether an option without a value was given.
+fn flag(matches: &ArgMatches<'_>, id: &str) -> bool
+    ensures { result ≡ flag_in id.now (rows_of (found_of matches.now)) }
+{
+    match text(matches, id) {
+        Some(value) => value == "true",
+        None => false,
+    }
+}
+
+/// What `inspect` was given.
+fn inspection<'a>(matches: &ArgMatches<'a>) -> Option<InspectJob<'a>>
+    ensures { option_map inspection_of result ≡ inspection_in (rows_of (found_of matches.now)) }
+{
+    Some(InspectJob {
+        disk: text(matches, "disk")?,
+        at: place(matches, "at"),
+        code: flag(matches, "code"),
+    })
 }
 
 /// What `format` was given.
@@ -50,6 +78,9 @@ pub(crate) fn job_named<'a>(matches: &ArgMatches<'a>) -> Option<Job<'a>>
     }
     if name == "run" {
         return Some(Job::Run(text(given, "disk")?));
+    }
+    if name == "inspect" {
+        return Some(Job::Inspect(inspection(given)?));
     }
     None
 }

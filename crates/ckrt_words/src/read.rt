@@ -20,19 +20,31 @@ fn matches_of<'a>(alloc: Global, words: &'a [&'a str]) -> Result<ArgMatches<'a>,
     command.try_get_matches_from(words)
 }
 
-/// What follows a number that isn't one.
+/// What follows a number of `format` that isn't one.
 const FORMAT_USAGE: &str =
     "Usage: ckrt format <DISK> <IMAGE> [--pages 16 to 1024] [--harts 1 to 8] [--journal 4096 to 1048576 by 4096]";
 
+/// What follows a number of `inspect` that isn't one.
+const INSPECT_USAGE: &str = "Usage: ckrt inspect <DISK> [--at NUMBER OF EVENTS] [--code]";
+
+/// What follows a number that isn't one, by the command.
+fn number_usage(words: &[&str]) -> &'static str {
+    match words.first() {
+        Some(&"inspect") => INSPECT_USAGE,
+        _ => FORMAT_USAGE,
+    }
+}
+
 /// The text of a fault that `clap` found, with the usage behind it where it is of a number.
-fn fault(alloc: Global, error: &Error) -> WordsFault
+fn fault(alloc: Global, words: &[&str], error: &Error) -> WordsFault
     ensures { kind_of error.now ≡ ErrorKind.OutOfMemory → result ≡ WordsFault.OutOfMemory }
 {
     if error.kind() == ErrorKind::OutOfMemory {
         return WordsFault::OutOfMemory;
     }
     let text = if error.kind() == ErrorKind::ValueValidation {
-        format!(in alloc; "{error}\n{FORMAT_USAGE}\n")
+        let usage = number_usage(words);
+        format!(in alloc; "{error}\n{usage}\n")
     } else {
         format!(in alloc; "{error}")
     };
@@ -55,8 +67,9 @@ fn is_version(words: &[&str]) -> bool
 }
 
 /// The job that the words after the program's name ask for: [`Job::Stored`] where there are none, [`Job::Version`] where
-/// they are `--version` alone, else what `clap` makes of them. An option that isn't given has 64 pages, 1 hart and a journal of 65,536 bytes; one that is given has to be a
-/// number below 2^32.
+/// they are `--version` alone, else what `clap` makes of them. An option of `format` that isn't given has 64 pages, 1 hart
+/// and a journal of 65,536 bytes; one that is given has to be a number below 2^32. `inspect` shows the disk after the last
+/// event where `--at` isn't given, which has to be a number below 2^64.
 ///
 /// # Errors
 ///
@@ -76,7 +89,7 @@ pub fn read_words<'a>(alloc: Global, words: &'a [&'a str]) -> Result<Job<'a>, Wo
     }
     let matches = match matches_of(alloc, words) {
         Ok(matches) => matches,
-        Err(error) => return Err(fault(alloc, &error)),
+        Err(error) => return Err(fault(alloc, words, &error)),
     };
     match matches::job_named(&matches) {
         Some(job) => Ok(job),
