@@ -9,9 +9,9 @@ use ckrt_tables::decode_tables;
 use std::alloc::{AllocError, Global};
 
 /// A guest of one word that is no instruction.
-const IMAGE: [u8; 4] = [0, 0, 0, 0];
+pub const IMAGE: [u8; 4] = [0, 0, 0, 0];
 
-const CONFIG: Config = Config {
+pub const CONFIG: Config = Config {
     pages: 16,
     harts: 1,
     journal: 4_096,

@@ -4,22 +4,32 @@
 //! - `ckrt_probe run IMAGE PAGES HARTS STEPS` runs a guest on the machine.
 //! - `ckrt_probe append FILE BYTES COUNT` appends to a journal on a real file.
 //! - `ckrt_probe decode COUNT` reads and decodes a full journal in memory.
+//! - `ckrt_probe save FILE HARTS COUNT` decodes and encodes saved tables.
+//! - `ckrt_probe recover FILE` recovers a disk.
+//! - `ckrt_probe checkpoint FILE COUNT` recovers a disk and makes checkpoints.
 //! - `ckrt_probe grow` formats a disk and recovers it, and says which growth of memory was refused, if one was.
 //! - `ckrt_probe tables` decodes saved tables, and says whether a growth of memory was refused.
+//! - `ckrt_probe lives` runs lives of one program, and says whether a growth of memory was refused.
 #![tactic(auto)]
 
+mod disk;
 mod growth;
 mod journal;
+mod lives;
 mod run;
+mod saved;
 
+use crate::disk::{time_checkpoints, time_recovery};
 use crate::growth::{report, report_tables};
 use crate::journal::{time_appends, time_decoding};
+use crate::lives::report_lives;
 use crate::run::{shape_of, time_run};
+use crate::saved::time_tables;
 use anyhow::{Context, Result, bail};
 use std::env;
 
 const USAGE: &str =
-    "usage: ckrt_probe (run IMAGE PAGES HARTS STEPS | append FILE BYTES COUNT | decode COUNT | grow | tables)...";
+    "usage: ckrt_probe (run IMAGE PAGES HARTS STEPS | append FILE BYTES COUNT | decode COUNT | save FILE HARTS COUNT | recover FILE | checkpoint FILE COUNT | grow | tables | lives)...";
 
 fn number(word: &str) -> Result<u32> {
     word.parse::<u32>().context(USAGE)
@@ -53,6 +63,30 @@ fn decode<'a>(rt: &HostRuntime, words: &'a [String]) -> Rest<'a> {
     Ok(rest)
 }
 
+fn save<'a>(rt: &HostRuntime, words: &'a [String]) -> Rest<'a> {
+    let [path, harts, count, rest @ ..] = words else {
+        bail!(USAGE);
+    };
+    time_tables(rt, path, number(harts)? as usize, number(count)?)?;
+    Ok(rest)
+}
+
+fn recover<'a>(rt: &HostRuntime, words: &'a [String]) -> Rest<'a> {
+    let [path, rest @ ..] = words else {
+        bail!(USAGE);
+    };
+    time_recovery(rt, path)?;
+    Ok(rest)
+}
+
+fn checkpoint<'a>(rt: &HostRuntime, words: &'a [String]) -> Rest<'a> {
+    let [path, count, rest @ ..] = words else {
+        bail!(USAGE);
+    };
+    time_checkpoints(rt, path, number(count)?)?;
+    Ok(rest)
+}
+
 fn grow<'a>(rt: &HostRuntime, words: &'a [String]) -> Rest<'a> {
     println!(rt; "{}", report(rt.alloc()))?;
     Ok(words)
@@ -60,6 +94,11 @@ fn grow<'a>(rt: &HostRuntime, words: &'a [String]) -> Rest<'a> {
 
 fn tables<'a>(rt: &HostRuntime, words: &'a [String]) -> Rest<'a> {
     println!(rt; "{}", report_tables(rt.alloc()))?;
+    Ok(words)
+}
+
+fn live<'a>(rt: &HostRuntime, words: &'a [String]) -> Rest<'a> {
+    println!(rt; "{}", report_lives(rt.alloc()))?;
     Ok(words)
 }
 
@@ -72,8 +111,12 @@ fn probe<'a>(rt: &HostRuntime, words: &'a [String]) -> Rest<'a> {
         "run" => run_guest(rt, rest),
         "append" => append(rt, rest),
         "decode" => decode(rt, rest),
+        "save" => save(rt, rest),
+        "recover" => recover(rt, rest),
+        "checkpoint" => checkpoint(rt, rest),
         "grow" => grow(rt, rest),
         "tables" => tables(rt, rest),
+        "lives" => live(rt, rest),
         _ => bail!(USAGE),
     }
 }

@@ -8,6 +8,7 @@ ghost use Rattle.ckrt_checkpoint.specs.Layout.{is_valid, size_needed};
 use crate::expect::{
     copied, expect_bytes, expect_eq, expect_eq_at, expect_text, filled, memory_disk, stopping_disk,
 };
+use crate::sessions::FILLS;
 use crate::small_disk::{IMAGE, SIZE, SMALL, formatted};
 use ckrt_calls::Tables;
 use ckrt_checkpoint::{Area, AreaFault, SavePoint, pick_area, read_area, write_area};
@@ -15,9 +16,6 @@ use ckrt_disk::Disk;
 use ckrt_memory::Memory;
 use ckrt_tables::{HELD_LIMIT, Held, TABLES_ROOM, encode_tables};
 use std::process::Abort;
-
-/// What a stop may lay over the bytes that aren't synced.
-const FILLS: [&[u8]; 5] = [&[0xa5], &[0], &[0xff], &[0xa5, 0], &[]];
 
 /// Where area 1 begins, and its journal.
 const AREA_1: usize = 172_032;

@@ -1,6 +1,7 @@
 //! Whole checkpoints of a session: what they save and empty, what each stop of one leaves, and how the next life goes on.
 
 use crate::expect::{copied, expect_bytes, expect_eq, expect_eq_at, memory_disk, stopping_disk};
+use crate::sessions::{FILLS, expect_checkpoint, expect_commit, expect_output};
 use crate::small_disk::{IMAGE, formatted, recovered, recovered_in_memory};
 use arrayvec::ArrayVec;
 use ckrt_disk::{Disk, MemoryDisk, StoppingDisk};
@@ -9,9 +10,6 @@ use ckrt_machine::{Answer, How};
 use ckrt_main::serve;
 use ckrt_recovery::{CommitFault, Session, SubmitFault};
 use std::process::Abort;
-
-/// What a stop may lay over the bytes that aren't synced.
-const FILLS: [&[u8]; 5] = [&[0xa5], &[0], &[0xff], &[0xa5, 0], &[]];
 
 /// The calls of the disk up to the second checkpoint: a sync of recovery, 4 of a commit, 21 of a checkpoint, 4 of a commit.
 const CALLS_BEFORE: u64 = 30;
@@ -30,24 +28,6 @@ fn expect_submit<R: Abort, D: Disk>(
 ) {
     assert!(rt; event.in_range());
     expect_eq(rt, session.submit(event), want);
-}
-
-/// A commit, and what it answers.
-fn expect_commit<R: Abort, D: Disk>(
-    rt: &R,
-    session: &mut Session<D>,
-    want: Result<u64, CommitFault>,
-) {
-    expect_eq(rt, session.commit(), want);
-}
-
-/// A checkpoint, and what it answers.
-fn expect_checkpoint<R: Abort, D: Disk>(
-    rt: &R,
-    session: &mut Session<D>,
-    want: Result<u64, CommitFault>,
-) {
-    expect_eq(rt, session.checkpoint(), want);
 }
 
 /// The generation in use, and how many bytes the journal has left for batches.
@@ -89,13 +69,6 @@ fn a_checkpoint_empties_the_journal(rt: HostRuntime) {
 /// The session of the next life.
 fn next_life<R: Abort + AllocGlobal>(rt: &R, session: Session<MemoryDisk>) -> Session<MemoryDisk> {
     recovered(rt, session.into_disk())
-}
-
-/// The output that isn't confirmed.
-fn expect_output<R: Abort, D: Disk>(rt: &R, session: &mut Session<D>, offset: u64, bytes: &[u8]) {
-    let (at, output) = session.take_output();
-    expect_eq(rt, at, offset);
-    expect_bytes(rt, output, bytes);
 }
 
 /// The output below an offset is confirmed.

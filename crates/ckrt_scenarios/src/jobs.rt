@@ -1,6 +1,6 @@
 use crate::expect::{expect_eq, expect_eq_at, filled, remove_file, write_file};
 use crate::small_disk::IMAGE;
-use ckrt_jobs::run_words;
+use ckrt_jobs::{WrittenReport, run_words};
 use std::fs::{self, File, Files};
 use std::process::Abort;
 
@@ -34,24 +34,24 @@ fn ckrt<R: Abort + Files<File = File> + AllocGlobal>(rt: &R, words: &str, lines:
     let words = words_of(rt, words);
     let mut reader = lines.as_bytes();
     let mut output = Vec::new(rt.alloc());
-    let mut errors = Vec::new(rt.alloc());
+    let mut reporter = WrittenReport::new(Vec::new(rt.alloc()));
     let status = run_words(
         rt,
         rt.alloc(),
         words.as_slice(),
         &mut reader,
         &mut output,
-        &mut errors,
+        &mut reporter,
     );
     Printed {
         output,
-        errors,
+        errors: reporter.into_writer(),
         status,
     }
 }
 
 /// Words and lines to which the program prints this, with status 0.
-fn expect_output<R: Abort + Files<File = File> + AllocGlobal>(
+pub fn expect_output<R: Abort + Files<File = File> + AllocGlobal>(
     rt: &R,
     words: &str,
     lines: &str,
@@ -62,7 +62,7 @@ fn expect_output<R: Abort + Files<File = File> + AllocGlobal>(
 }
 
 /// Words to which the program prints nothing but a fault, with status 1.
-fn expect_fault<R: Abort + Files<File = File> + AllocGlobal>(rt: &R, words: &str, fault: &str) {
+pub fn expect_fault<R: Abort + Files<File = File> + AllocGlobal>(rt: &R, words: &str, fault: &str) {
     let printed = ckrt(rt, words, LINES);
     expect_eq_at(rt, words, printed.is("", fault, 1), true);
 }
@@ -216,11 +216,13 @@ fn expect_no_disks<R: Abort + Files<File = File> + AllocGlobal>(rt: &R) {
     expect_fault(rt, "run .", FOLDER);
     write_file(rt, "jobs_e.disk", b"CKRTDISK");
     expect_fault(rt, "run jobs_e.disk", SHORT_DISK);
+    expect_fault(rt, "inspect jobs_none.disk", ABSENT_DISK);
+    expect_fault(rt, "inspect jobs_e.disk --code", SHORT_DISK);
     remove_file(rt, "jobs_e.disk");
 }
 
 #[test]
-fn what_is_no_disk_isnt_run(rt: HostRuntime) {
+fn what_is_no_disk_is_neither_run_nor_shown(rt: HostRuntime) {
     expect_no_disks(&rt);
 }
 
@@ -240,6 +242,7 @@ fn expect_lock<R: Abort + Files<File = File> + AllocGlobal>(rt: &R) {
     let holder = File::open(rt, "jobs_f.disk").expect(rt, "the file is opened");
     lock(rt, &holder);
     expect_fault(rt, "run jobs_f.disk", DISK_IN_USE);
+    expect_fault(rt, "inspect jobs_f.disk", DISK_IN_USE);
     holder.unlock().expect(rt, "the file is unlocked");
     expect_fault(rt, "run jobs_f.disk", EMPTY_DISK);
     remove_file(rt, "jobs_f.disk");
@@ -264,6 +267,7 @@ fn expect_usages<R: Abort + Files<File = File> + AllocGlobal>(rt: &R) {
     expect_usage(rt, "--help");
     expect_usage(rt, "run");
     expect_usage(rt, "run a b");
+    expect_usage(rt, "inspect");
     expect_usage(rt, "--version now");
 }
 

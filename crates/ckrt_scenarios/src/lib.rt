@@ -6,6 +6,8 @@ mod areas;
 #[cfg(test)]
 mod barriers;
 #[cfg(test)]
+mod broken_streams;
+#[cfg(test)]
 mod calls;
 #[cfg(test)]
 mod cancellation;
@@ -24,6 +26,12 @@ mod disks;
 #[cfg(test)]
 mod events;
 #[cfg(test)]
+mod every_call;
+#[cfg(test)]
+mod every_change;
+#[cfg(test)]
+mod every_listing;
+#[cfg(test)]
 mod expect;
 #[cfg(test)]
 mod first_path;
@@ -32,11 +40,17 @@ mod formatting;
 #[cfg(test)]
 mod input;
 #[cfg(test)]
+mod inspecting;
+#[cfg(test)]
 mod instructions;
 #[cfg(test)]
 mod jobs;
 #[cfg(test)]
 mod journal;
+#[cfg(test)]
+mod largest;
+#[cfg(test)]
+mod lives;
 #[cfg(test)]
 mod mutexes;
 #[cfg(test)]
@@ -52,21 +66,31 @@ mod saved_disks;
 #[cfg(test)]
 mod saved_tables;
 #[cfg(test)]
+mod saved_waits;
+#[cfg(test)]
 mod schedules;
 #[cfg(test)]
 mod seats;
+#[cfg(test)]
+mod second_format;
 #[cfg(test)]
 mod service;
 #[cfg(test)]
 mod serving;
 #[cfg(test)]
+mod sessions;
+#[cfg(test)]
 mod small_disk;
 #[cfg(test)]
 mod steps;
 #[cfg(test)]
+mod streams;
+#[cfg(test)]
 mod threads;
 #[cfg(test)]
 mod time;
+#[cfg(test)]
+mod two_areas;
 #[cfg(test)]
 mod waiting;
 #[cfg(test)]

@@ -1,7 +1,9 @@
 //! Power loss: what a stop or a failure of the disk at each call leaves, and how the program goes on from it.
 
-use crate::expect::{
-    copied, expect_bytes, expect_eq, expect_eq_at, filled, memory_disk, stopping_disk,
+use crate::expect::{copied, expect_eq, expect_eq_at, filled, memory_disk, stopping_disk};
+use crate::sessions::{
+    FILLS, expect_answer, expect_commit, expect_output, expect_refusal, expect_same_step,
+    is_committed, step_if_accepted, submitted,
 };
 use crate::small_disk::{
     IMAGE, SIZE, SMALL, format_outcome, formatted, recovered, recovered_in_memory, recovery_outcome,
@@ -12,64 +14,6 @@ use ckrt_events::Event;
 use ckrt_machine::{Answer, How, Machine};
 use ckrt_recovery::{CommitFault, FormatFault, RecoverFault, Session, SubmitFault};
 use std::process::Abort;
-
-/// What a stop may lay over the bytes that aren't synced.
-const FILLS: [&[u8]; 5] = [&[0xa5], &[0], &[0xff], &[0xa5, 0], &[]];
-
-/// What a session answers to an event in range.
-fn submitted<R: Abort, D: Disk>(
-    rt: &R,
-    session: &mut Session<D>,
-    event: &Event,
-) -> Result<(u64, Answer), SubmitFault> {
-    assert!(rt; event.in_range());
-    session.submit(event)
-}
-
-/// An event that a session accepts.
-fn expect_answer<R: Abort, D: Disk>(
-    rt: &R,
-    session: &mut Session<D>,
-    event: &Event,
-    count: u64,
-    answer: Answer,
-) {
-    expect_eq(rt, submitted(rt, session, event), Ok((count, answer)));
-}
-
-/// An event that a session refuses.
-fn expect_refusal<R: Abort, D: Disk>(
-    rt: &R,
-    session: &mut Session<D>,
-    event: &Event,
-    fault: SubmitFault,
-) {
-    expect_eq(rt, submitted(rt, session, event), Err(fault));
-}
-
-/// A commit, and what it answers.
-fn expect_commit<R: Abort, D: Disk>(
-    rt: &R,
-    session: &mut Session<D>,
-    want: Result<u64, CommitFault>,
-) {
-    expect_eq(rt, session.commit(), want);
-}
-
-/// The output that isn't confirmed.
-fn expect_output<R: Abort, D: Disk>(rt: &R, session: &mut Session<D>, offset: u64, bytes: &[u8]) {
-    let (at, output) = session.take_output();
-    expect_eq(rt, at, offset);
-    expect_bytes(rt, output, bytes);
-}
-
-/// A commit, where the disk doesn't fail.
-fn is_committed<D: Disk>(session: &mut Session<D>) -> bool {
-    match session.commit() {
-        Ok(_) => true,
-        Err(_) => false,
-    }
-}
 
 /// The event is submitted and committed, where the disk doesn't fail.
 fn submit_and_commit<R: Abort, D: Disk>(rt: &R, session: &mut Session<D>, event: &Event) -> bool {
@@ -89,15 +33,6 @@ fn three_commits<R: Abort, D: Disk>(rt: &R, session: &mut Session<D>) -> u64 {
     3
 }
 
-/// The event's answer by a machine that never had a disk.
-fn step_if_accepted<R: Abort>(rt: &R, machine: &mut Machine, event: &Event) -> Option<Answer> {
-    assert!(rt; event.in_range());
-    match machine.accept(0, event) {
-        Ok(()) => Some(machine.step(event)),
-        Err(_) => None,
-    }
-}
-
 /// The machine after so many of the three events, by the plain fold.
 fn folded<R: Abort + AllocGlobal>(rt: &R, count: u64) -> Machine {
     let mut machine = Machine::new(rt.alloc(), 16, 1, &IMAGE).expect(rt, "a machine");
@@ -113,18 +48,6 @@ fn folded<R: Abort + AllocGlobal>(rt: &R, count: u64) -> Machine {
     machine
 }
 
-/// One more event, by a session and by a machine.
-fn expect_same_step<R: Abort, D: Disk>(rt: &R, session: &mut Session<D>, machine: &mut Machine) {
-    let next = Event::Run(0, 9);
-    let answer = step_if_accepted(rt, machine, &next);
-    let submitted = match submitted(rt, session, &next) {
-        Ok((_, answer)) => Some(answer),
-        Err(_) => None,
-    };
-    expect_eq(rt, submitted, answer);
-    expect_bytes(rt, session.machine().last_output(), machine.last_output());
-}
-
 /// What was recovered has that many events, and answers one more as the plain fold does.
 fn expect_goes_on<R: Abort + AllocGlobal, D: Disk>(
     rt: &R,
@@ -135,7 +58,7 @@ fn expect_goes_on<R: Abort + AllocGlobal, D: Disk>(
     let count = session.acknowledged();
     let is_between = least <= count && count <= most;
     expect_eq_at(rt, (least, count, most), is_between, true);
-    expect_same_step(rt, session, &mut folded(rt, count));
+    expect_same_step(rt, session, &mut folded(rt, count), &Event::Run(0, 9));
 }
 
 /// What a stop at a call of two events and their commit leaves.

@@ -397,7 +397,7 @@ fn push_objects<R: Abort>(rt: &R, want: &mut Vec<u8>) {
 }
 
 /// Everything that tables can hold, but for a wait for input.
-fn tables_with_everything<R: Abort + AllocGlobal>(rt: &R) -> Tables {
+pub fn tables_with_everything<R: Abort + AllocGlobal>(rt: &R) -> Tables {
     Tables {
         threads: threads_with_everything(rt),
         mutexes: mutexes(rt),

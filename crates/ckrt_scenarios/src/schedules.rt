@@ -98,7 +98,7 @@ fn digits_of(line: &[u8]) -> &[u8] {
 }
 
 /// What these replies put to the console, in hexadecimal digits.
-fn put_by<R: Abort + AllocGlobal>(rt: &R, replies: &[u8]) -> Vec<u8> {
+pub fn put_by<R: Abort + AllocGlobal>(rt: &R, replies: &[u8]) -> Vec<u8> {
     let mut put = Vec::new(rt.alloc());
     for line in replies.split(|byte| *byte == b'\n') {
         push(rt, &mut put, digits_of(line));

@@ -1,6 +1,7 @@
 //! Services over readers, writers and disks that fail, and over the next life.
 
 use crate::expect::{copied, expect_bytes, expect_eq, memory_disk, stopping_disk};
+use crate::sessions::FILLS;
 use crate::small_disk::{
     IMAGE, SMALL, formatted, recovered, recovered_in_memory, recovery_outcome,
 };
@@ -275,9 +276,6 @@ fn the_lines_go_on_after_a_failed_commit(rt: HostRuntime) {
     // a commit makes two writes and two syncs
     expect_eq(&rt, failed, (4, 4));
 }
-
-/// What a stop may lay over the bytes that aren't synced.
-const FILLS: [&[u8]; 5] = [&[0xa5], &[0], &[0xff], &[0xa5, 0], &[]];
 
 /// Two commits; the byte is put by the second run.
 const TWO_COMMITS: &[u8] = b"place 0 1\nrun 0 2\ncommit\nrun 0 4\ncommit\n";

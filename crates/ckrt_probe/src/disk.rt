@@ -1,0 +1,50 @@
+//! Measures recovery and checkpoints of a real disk.
+
+use anyhow::{Result, bail};
+use ckrt_disk::{FileDisk, SystemFile};
+use ckrt_recovery::{Session, recover};
+use std::marker::Brand;
+use std::time::Instant;
+
+/// A file of the system as a disk.
+type RealDisk = FileDisk<SystemFile<Brand>>;
+
+/// The session that a disk recovers to, and in how many nanoseconds it does.
+fn recovered(rt: &HostRuntime, path: &str) -> Result<(Session<RealDisk>, u128)> {
+    let disk = RealDisk::open(rt, path)?;
+    let start = Instant::now(rt)?;
+    let recovered = recover(rt.alloc(), disk);
+    let nanoseconds = start.elapsed(rt)?.as_nanos();
+    match recovered {
+        Ok(session) => Ok((session, nanoseconds)),
+        Err(unrecovered) => bail!("{}", unrecovered.fault),
+    }
+}
+
+/// Recovers a disk, and writes how long that took.
+pub fn time_recovery(rt: &HostRuntime, path: &str) -> Result<()> {
+    let (_session, nanoseconds) = recovered(rt, path)?;
+    eprintln!(rt; "{nanoseconds}")?;
+    Ok(())
+}
+
+/// Saves a program, and writes how long that took.
+fn time_checkpoint(rt: &HostRuntime, session: &mut Session<RealDisk>) -> Result<()> {
+    let start = Instant::now(rt)?;
+    let saved = session.checkpoint();
+    let nanoseconds = start.elapsed(rt)?.as_nanos();
+    if saved.is_err() {
+        bail!("no checkpoint");
+    }
+    eprintln!(rt; "{nanoseconds}")?;
+    Ok(())
+}
+
+/// Makes `count` checkpoints of what a disk recovers to.
+pub fn time_checkpoints(rt: &HostRuntime, path: &str, count: u32) -> Result<()> {
+    let (mut session, _) = recovered(rt, path)?;
+    for _ in 0..count {
+        time_checkpoint(rt, &mut session)?;
+    }
+    Ok(())
+}
