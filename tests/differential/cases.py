@@ -13,6 +13,7 @@ from layout import Geometry, format_disk
 from limits import limit_case
 from saved_disks import ChangedArea, asks, serve_and_save, stopped_disk, with_checkpoints
 from streams import MALFORMED, joined, last_lines, mangled, random_lines
+from traced_cases import cuts_case, fates_case, listings_case, lists_case, parts_case
 
 
 @dataclass
@@ -171,10 +172,16 @@ def checkpoints_case(chance, seed):
     return case
 
 
+def of_guest(kind):
+    """A kind whose cases are made of a guest's case."""
+    return lambda chance, seed: kind(chance, guest_case(chance, seed))
+
+
 KINDS = {
     "threads": threads_case, "calls": calls_case, "processor": processor_case, "lines": lines_case, "lives": lives_case,
     "disks": disks_case, "killed": killed_case, "limits": limits_case, "saved": saved_case, "tables": tables_case,
-    "stopped": stopped_case, "checkpoints": checkpoints_case, "formats": format_case,
+    "stopped": stopped_case, "checkpoints": checkpoints_case, "formats": format_case, "lists": of_guest(lists_case),
+    "fates": of_guest(fates_case), "parts": of_guest(parts_case), "listings": of_guest(listings_case), "cuts": cuts_case,
 }
 
 

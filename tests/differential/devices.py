@@ -1,4 +1,4 @@
-"""Disks as the model writes them: one that never fails, and one that stops at a given call.
+"""Disks as the model writes them: one that never fails, one that stops at a given call, and one that fails it alone.
 
 A byte that was written is pending until a sync answers. A stop may leave any bytes in the pending ranges, those of the
 write at which it comes among them.
@@ -76,3 +76,22 @@ class StoppingDisk(MemoryDisk):
         super().sync()
         self.stop_if_due()
         self.synced, self.pending = bytes(self.bytes), []
+
+
+class FailingDisk(MemoryDisk):
+    """Fails the write or sync of that number, a write behind so many of its bytes and never its last; all others work."""
+
+    def __init__(self, contents, at_call, kept=0):
+        super().__init__(contents)
+        self.at_call, self.kept = at_call, kept
+
+    def write(self, at, data):
+        is_failing = self.calls + 1 == self.at_call
+        super().write(at, data[:min(self.kept, len(data) - 1)] if is_failing else data)
+        if is_failing:
+            raise DeviceFault
+
+    def sync(self):
+        super().sync()
+        if self.calls == self.at_call:
+            raise DeviceFault

@@ -8,6 +8,7 @@ import time
 from collections import Counter
 from dataclasses import dataclass, field
 from pathlib import Path
+from random import Random
 
 from abi import Call
 from cases import KINDS, case_of
@@ -15,15 +16,21 @@ from devices import MemoryDisk
 from formats import FormatCase
 from layout import fresh_tables
 from lines import serve_disk
-from listing import listing
+from listing import OutOfRange, listing
 from recovery import Unrecovered, tables_of
 from session import Session
+from streams import joined
+from traced_cases import CutCase, ListingsCase, LivesCase, TracedCase
+from traced_runs import difference_of_cut, difference_of_lists, difference_of_traced
 
 TIME_LIMIT = 60
+LOOKING = b"place 0 1\nplace 0 2\ntick 1\nauto 0 20\nin 41\nauto 0 90\ncommit\n"  # a life that shows what a disk holds
 # What the program doesn't do yet, until it does: saved tables other than the fresh ones (Damaged till then), the line
-# `checkpoint`, the word `inspect`.
-AWAITED = {"inspect"}
-NEEDS = {"saved": "tables", "tables": "tables", "stopped": "tables", "checkpoints": "checkpoint"}
+# `checkpoint`, the word `inspect`, its options.
+AWAITED = {"inspect", "options"}
+NEEDS = {"saved": {"tables"}, "tables": {"tables"}, "stopped": {"tables"}, "checkpoints": {"checkpoint"},
+         "lists": {"tables", "checkpoint"}, "fates": {"tables", "checkpoint"}, "parts": {"tables", "checkpoint"},
+         "listings": {"tables", "inspect"}}
 
 
 @dataclass(frozen=True)
@@ -63,16 +70,39 @@ def refuse_saved_tables(disk):
         raise Unrecovered("Damaged")
 
 
-def listing_of_model(disk):
+def listing_of_model(disk, at=None, is_with_code=False):
     """What `inspect` shows, as a life."""
     try:
-        return Life(0, listing(bytearray(disk)).encode(), b"")
-    except Unrecovered as fault:
+        return Life(0, listing(bytearray(disk), at, is_with_code).encode(), b"")
+    except (Unrecovered, OutOfRange) as fault:
         return Life(1, b"", f"ckrt: {fault}\n".encode())
 
 
-def listing_of_program(ckrt, path):
-    return shown_by(ckrt, ["inspect", path])
+def listing_of_program(ckrt, path, at=None, is_with_code=False):
+    options = ([] if at is None else ["--at", str(at)]) + (["--code"] if is_with_code else [])
+    return shown_by(ckrt, ["inspect", path, *options])
+
+
+def difference_of_listing(ckrt, path, disk, at=None, is_with_code=False):
+    """None, or where the two differ; the disk's file keeps its bytes."""
+    expected, shown = listing_of_model(disk, at, is_with_code), listing_of_program(ckrt, path, at, is_with_code)
+    if shown != expected:
+        return f"listing (--at {at}, --code {is_with_code}): {place_of_difference(expected, shown)}"
+    return None if path.read_bytes() == disk else "inspect changed the disk's bytes"
+
+
+def difference_of_listings(ckrt, case, path, awaited, tally):
+    disk = case.disk()
+    path.write_bytes(disk)
+    for options in case.options:
+        if "options" in awaited and options != (None, False):
+            continue
+        outcome = listing_of_model(disk, *options)
+        tally["listing", outcome.errors.decode().strip().removeprefix("ckrt: ") or "shown"] += 1
+        difference = difference_of_listing(ckrt, path, disk, *options)
+        if difference:
+            return difference
+    return None
 
 
 def life_of_program(ckrt, path, data):
@@ -129,8 +159,23 @@ def difference_of_format(ckrt, case, folder, tally):
 
 def first_difference(ckrt, case, folder, awaited, tally, count_life):
     """Runs a case; None, or in a few words where the two differ."""
-    if isinstance(case, FormatCase):
-        return difference_of_format(ckrt, case, folder, tally)
+    path = folder / "disk"
+    match case:
+        case FormatCase():
+            return difference_of_format(ckrt, case, folder, tally)
+        case ListingsCase():
+            return difference_of_listings(ckrt, case, path, awaited, tally)
+        case LivesCase():
+            return difference_of_stops(ckrt, case, path, awaited, tally, count_life)
+        case CutCase():
+            difference = difference_of_cut(ckrt, case, path, tally)
+            return difference or difference_of_next_life(ckrt, path, bytearray(path.read_bytes()), LOOKING, awaited, tally)
+        case TracedCase():
+            return difference_of_fate(ckrt, case, path, awaited, tally, count_life)
+    return difference_of_lives(ckrt, case, folder, awaited, tally, count_life)
+
+
+def difference_of_lives(ckrt, case, folder, awaited, tally, count_life):
     disk, path = case.disk(), folder / "disk"
     if case.damaged is None:
         difference = difference_of_format(ckrt, FormatCase(case.geometry, case.image, None), folder, tally)
@@ -154,11 +199,37 @@ def first_difference(ckrt, case, folder, awaited, tally, count_life):
         if path.read_bytes() != disk:
             (folder / "disk.model").write_bytes(disk)
             return f"life {number}: the disk's bytes"
-        if "inspect" not in awaited:
-            expected, shown = listing_of_model(disk), listing_of_program(ckrt, path)
-            if shown != expected:
-                return f"listing after life {number}: {place_of_difference(expected, shown)}"
+        difference = None if "inspect" in awaited else difference_of_listing(ckrt, path, disk)
+        if difference is not None:
+            return f"after life {number}: {difference}"
     return None
+
+
+def difference_of_stops(ckrt, case, path, awaited, tally, count_life):
+    """What lives leave is looked at by the listing, or until there is one by a life that takes events."""
+    def look(left):
+        if "inspect" not in awaited:
+            return difference_of_listing(ckrt, path, left)
+        return difference_of_next_life(ckrt, path, left, LOOKING, awaited, tally)
+
+    return difference_of_lists(ckrt, case, path, tally, count_life, look)
+
+
+def difference_of_next_life(ckrt, path, disk, data, awaited, tally):
+    """A life on a copy of the disk."""
+    copy = path.with_name("copy")
+    copy.write_bytes(disk)
+    expected, shown = life_of_model(disk, data, False, awaited, tally), life_of_program(ckrt, copy, data)
+    if shown != expected:
+        return f"next life: {place_of_difference(expected, shown)}"
+    return None if copy.read_bytes() == disk else "next life: the disk's bytes"
+
+
+def difference_of_fate(ckrt, case, path, awaited, tally, count_life):
+    """A life under trace, and the next one on what it left."""
+    difference = difference_of_traced(ckrt, case, path, tally, count_life)
+    data = joined(Random(0), case.lines_after)
+    return difference or difference_of_next_life(ckrt, path, bytearray(path.read_bytes()), data, awaited, tally)
 
 
 def place_of_difference(expected, shown):
@@ -189,6 +260,9 @@ def run_case(ckrt, kind, seed, folder, awaited, totals):
         return
     if not isinstance(case, FormatCase):
         (work / "disk.before").write_bytes(case.disk())
+    if isinstance(case, (LivesCase, TracedCase)):
+        for number, lines in enumerate(case.texts if isinstance(case, LivesCase) else [case.lines, case.lines_after], 1):
+            (work / f"lines.{number}").write_bytes(joined(Random(0), lines))
     totals.differences.append(f"{kind} {seed}")
     print(f"DIFFERENCE {kind} {seed}: {difference}\n  files in {work}\n"
           f"  again: python3 {Path(__file__).name} {ckrt} {folder} --kinds {kind} --seed {seed} --count 1", flush=True)
@@ -223,11 +297,11 @@ def words():
     parser.add_argument("--step", type=int, default=1, help="from one seed to the next (1)")
     parser.add_argument("--kinds", help="kinds of cases, with commas between (all that the program can have)")
     parser.add_argument("--awaits", default=",".join(sorted(AWAITED)),
-                        help="what the program doesn't do yet, of tables, checkpoint, inspect (%(default)s)")
+                        help="what the program doesn't do yet, of tables, checkpoint, inspect, options (%(default)s)")
     parser.add_argument("--stop-after", type=int, default=5, help="stop after so many differences (5)")
     chosen = parser.parse_args()
     chosen.awaits = set(filter(None, chosen.awaits.split(",")))
-    possible = [kind for kind in KINDS if NEEDS.get(kind) not in chosen.awaits]
+    possible = [kind for kind in KINDS if not NEEDS.get(kind, set()) & chosen.awaits]
     chosen.kinds = chosen.kinds.split(",") if chosen.kinds else possible
     unknown = set(chosen.kinds) - set(possible)
     if unknown:

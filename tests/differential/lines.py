@@ -107,19 +107,24 @@ def run_command(session, command):
     return replies
 
 
+def reply_lines(session, line):
+    """The replies to a line without its end; None where it is quit."""
+    try:
+        command = parse(line)
+    except LineFault as fault:
+        session.machine.tally["line", fault.refusal.name] += 1
+        return [f"no {int(fault.refusal)} {fault.refusal.name}"]
+    return None if command == Plain(b"quit") else run_command(session, command)
+
+
 def serve(session, data):
     """The reply lines to the input."""
     replies = session.take_output()
     for line in lines_of(data):
-        try:
-            command = parse(line)
-        except LineFault as fault:
-            session.machine.tally["line", fault.refusal.name] += 1
-            replies.append(f"no {int(fault.refusal)} {fault.refusal.name}")
-            continue
-        if command == Plain(b"quit"):
+        more = reply_lines(session, line)
+        if more is None:
             break
-        replies += run_command(session, command)
+        replies += more
     return replies
 
 

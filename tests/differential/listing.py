@@ -2,14 +2,17 @@
 from devices import MemoryDisk
 from objects import MutexKind
 from processor import Cause
-from recovery import recover
+from recovery import events_of_journal, read_area, recover
 from tables import saved_locks, saved_mutexes
+from texts import text_of
 from threads import UNWIND, Status, WaitKind
 
 CAUSES = {Cause.FETCH_RANGE: "FetchRange", Cause.ILLEGAL: "Illegal", Cause.JUMP_MISALIGNED: "JumpMisaligned",
           Cause.LOAD_MISALIGNED: "LoadMisaligned", Cause.LOAD_RANGE: "LoadRange", Cause.BREAKPOINT: "Breakpoint",
           Cause.STORE_MISALIGNED: "StoreMisaligned", Cause.STORE_RANGE: "StoreRange", Cause.GATE: "Gate"}
 MUTEX_KINDS = {MutexKind.NORMAL: "normal", MutexKind.RECURSIVE: "recursive", MutexKind.ERRORCHECK: "errorcheck"}
+
+CODE_WORDS = 4  # behind a thread's line
 
 
 def address_text(address):
@@ -59,11 +62,24 @@ def lock_line(address, lock):
     return f"rwlock {address_text(address)} {holders}"
 
 
-def lines_of_state(events, state, harts):
+def lines_of_code(machine, number):
+    """The words from a thread's pc on, as many as the memory has of them."""
+    thread = machine.threads[number]
+    places = [] if thread.has_ended else [thread.pc + 4 * index for index in range(CODE_WORDS)]
+    words = [(place, machine.memory.load(place, 4)) for place in places if machine.memory.is_valid(place, 4)]
+    return [f"  {address_text(place)} {word:08x} {text_of(word) or 'illegal'}" for place, word in words]
+
+
+def lines_of_thread(machine, number, is_with_code):
+    return [thread_line(machine, number)] + (lines_of_code(machine, number) if is_with_code else [])
+
+
+def lines_of_state(events, state, harts, is_with_code=False):
+    """With code only of a machine, which has a memory."""
     return [
         f"events {events}", f"clock {state.clock}", status_line(state),
         *[f"hart {hart} {state.harts[hart] or 'idle'}" for hart in range(harts)],
-        *[thread_line(state, number) for number in sorted(state.threads)],
+        *[line for number in sorted(state.threads) for line in lines_of_thread(state, number, is_with_code)],
         *[wait_line(wait) for wait in state.waits],
         *[f"mutex {address_text(at)} {MUTEX_KINDS[mutex.kind]} {mutex.owner} {mutex.count}" for at, mutex in saved_mutexes(state)],
         *[f"barrier {address_text(at)} {count}" for at, count in sorted(state.barriers.items())],
@@ -71,7 +87,28 @@ def lines_of_state(events, state, harts):
     ]
 
 
-def listing(contents):
-    """Raises Unrecovered."""
-    found = recover(MemoryDisk(contents))
-    return "".join(line + "\n" for line in lines_of_state(found.events, found.machine, found.geometry.harts))
+class OutOfRange(Exception):
+    """The events that are asked for lie before the area's, or behind the journal's."""
+
+    def __init__(self):
+        super().__init__("Range")
+
+
+def earlier_state(disk, whole, at):
+    """What the disk recovers to with its first `at` events alone; what it recovers to whole is known."""
+    found = read_area(disk, whole.geometry)
+    if not found.events <= at <= whole.events:
+        raise OutOfRange
+    for event in events_of_journal(disk, whole.geometry, whole.area)[0][:at - found.events]:
+        found.take(event)
+    return found
+
+
+def listing(contents, at=None, is_with_code=False):
+    """The text, of the state after `at` events or after all of them. Raises Unrecovered, or OutOfRange where the disk
+    recovers and has no such state."""
+    disk = MemoryDisk(contents)
+    found = recover(disk)
+    if at is not None:
+        found = earlier_state(disk, found, at)
+    return "".join(line + "\n" for line in lines_of_state(found.events, found.machine, found.geometry.harts, is_with_code))

@@ -59,6 +59,17 @@ class Lines(unittest.TestCase):
         self.assertEqual(replies(format_disk(SMALL, b""), "checkpoint 1", "Checkpoint", "checkpoint"),
                          ["no 31 Unknown", "no 31 Unknown", "ack 0"])
 
+    def test_ends_of_lines(self):
+        """A carriage return before a line feed is dropped and not counted; at the end of input it is a byte of its word."""
+        rows = [(b"a" * 160 + b"\r\n", ["no 31 Unknown"]), (b" " * 161 + b"\n", ["no 35 TooLong"]), (b" " * 160 + b"\n", []),
+                (b"tick 1\r\n\r\n", ["ok 1 ticked 0"]), (b"tick 1", ["ok 1 ticked 0"]), (b"tick 1\r", ["no 32 Number"]),
+                (b"tick 1\r\r\n", ["no 32 Number"]), (b"\ttick  01 \n", ["ok 1 ticked 0"]), (b"quit\ntick 1\n", []),
+                (b"in 4\nin 4g\nin " + b"aB" * 64, ["no 33 Hex", "no 33 Hex", "ok 1 taken 64"]),
+                (b"in " + b"00" * 65, ["no 34 Range"]), (b"tick 4294967295\nplace 0 65\nplace 7 64\nplace 8 x\n",
+                                                       ["ok 1 ticked 0", "no 34 Range", "no 2 NoSuchHart", "no 34 Range"])]
+        for data, expected in rows:
+            self.assertEqual(serve_disk(format_disk(SMALL, b""), data), expected, data)
+
     def test_input(self):
         self.assertEqual(
             replies(format_disk(SMALL, GETS), "place 0 1", "run 0 9", "in 5a", "run 0 1", "auto 0 2", "commit"),
@@ -162,6 +173,8 @@ class Changed(unittest.TestCase):
         for expected, changes in rows:
             with self.subTest(changes):
                 self.assertEqual(self.outcome(*changes), expected)
+        full = "a5 fd 0f" + 818 * "05 01 00 00 00" + "03 01 61"
+        self.assertEqual(self.outcome((journal, full)), "Damaged")
         self.assertEqual(self.outcome(length=31), "NotFormatted")
         self.assertEqual(self.outcome(length=4096), "Damaged")
 
@@ -279,6 +292,12 @@ class Checkpoints(unittest.TestCase):
             self.assertEqual((session.confirmed, session.released), (1, 1))
         self.assertEqual(session.checkpoint(), "ack 2")
         self.assertEqual((Session(MemoryDisk(disk)).confirmed, Session(MemoryDisk(disk)).take_output()), (1, []))
+
+    def test_uncommitted_output(self):
+        session = Session(MemoryDisk(format_disk(SMALL, PUTS_A)))
+        submit(session, Place(0, 1), Run(0, 3))
+        self.assertEqual((session.take_output(), session.confirmed, session.released), ([], 0, 0))
+        self.assertEqual((session.commit(), session.take_output()), ("ack 2", ["out 0 41"]))
 
     def test_held_before_the_journal(self):
         """The area's held bytes, then the replayed ones, the last 16,384 of them."""

@@ -63,7 +63,7 @@ class Stops(unittest.TestCase):
         found = recover(MemoryDisk(bytearray(disk.bytes)))
         self.assertIn(found.events, range(acknowledged, len(session.taken) + 1))
         machine, put = folded(case, session.taken[:found.events])
-        self.assertEqual(whole_state(found.machine), whole_state(machine))
+        self.assertTrue(whole_state(found.machine) == whole_state(machine))
         self.assertEqual((found.output_length, bytes(found.held)), (len(put), bytes(put[len(put) - len(found.held):])))
         self.assertLessEqual(found.output_length - len(found.held), session.confirmed)
         return disk.bytes, session.taken[:found.events]

@@ -1,0 +1,54 @@
+"""The driver on programs made of the model: it finds nothing on the right one, and each wrong one."""
+import os
+import platform
+import sys
+import tempfile
+import unittest
+from collections import Counter
+from pathlib import Path
+
+from cases import case_of
+from differential import first_difference
+
+HERE = Path(__file__).parent
+KINDS = {"lists": 4, "fates": 4, "parts": 3, "listings": 3, "lives": 2, "cuts": 8}
+FOUND_BY = [("without a sync", "lists"), ("split", "lists"), ("late", "lists"), ("short", "parts"), ("again", "fates"),
+            ("hopeful", "fates"), ("without a sync", "cuts")]
+
+
+def program(folder, which):
+    """A file that the system starts."""
+    path = Path(folder) / which.replace(" ", "_")
+    path.write_text(f"#!{os.path.realpath(sys.executable)} -B\nimport sys\nsys.path.insert(0, {str(HERE)!r})\n"
+                    f"sys.argv.insert(1, {which!r})\nimport stand_in\nstand_in.main()\n")
+    path.chmod(0o755)
+    return path
+
+
+@unittest.skipUnless((sys.platform, platform.machine()) == ("linux", "x86_64"), "traces Linux on x86-64 alone")
+class Driver(unittest.TestCase):
+    def setUp(self):
+        folder = tempfile.TemporaryDirectory()
+        self.addCleanup(folder.cleanup)
+        self.folder = Path(folder.name)
+
+    def difference(self, which, kind, seed):
+        case = case_of(kind, seed)
+        if kind == "lives":
+            case.damaged = bytes(case.disk())
+        return first_difference(program(self.folder, which), case, self.folder, set(), Counter(), lambda count: None)
+
+    def test_right(self):
+        for kind, count in KINDS.items():
+            for seed in range(1, count + 1):
+                with self.subTest(kind=kind, seed=seed):
+                    self.assertIsNone(self.difference("right", kind, seed))
+
+    def test_wrong(self):
+        for which, kind in FOUND_BY:
+            with self.subTest(which=which, kind=kind):
+                self.assertTrue(any(self.difference(which, kind, seed) for seed in range(1, 9)))
+
+
+if __name__ == "__main__":
+    unittest.main()

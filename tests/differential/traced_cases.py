@@ -1,0 +1,132 @@
+"""Cases for the program under trace: lists of lives with stops, calls of the disk that fail, transfers in parts, listings."""
+from dataclasses import dataclass
+from random import Random
+
+from devices import MemoryDisk
+from foreseen import Course
+from layout import Geometry, format_disk
+from life_lists import commands_of, life_list, random_fill, some_lines
+from recovery import Unrecovered, read_area, read_superblock, recover
+from saved_disks import ChangedArea, asks, serve_and_save, stopped_disk
+from tracing import Plan
+
+
+@dataclass
+class LivesCase:
+    """`texts` are the lines of each life, malformed ones among them."""
+    geometry: Geometry
+    image: bytes
+    listed: list
+    texts: list
+
+    def disk(self):
+        return bytearray(format_disk(self.geometry, self.image))
+
+
+@dataclass
+class TracedCase:
+    """A disk, a life's lines on it, what is done to the program meanwhile, and the lines of the life after it."""
+    contents: bytes
+    lines: list
+    plan: Plan
+    lines_after: list
+
+    def disk(self):
+        return bytearray(self.contents)
+
+
+@dataclass
+class CutCase:
+    """A file of the size of a disk, `format` on it, and the call at which it is stopped."""
+    geometry: Geometry
+    image: bytes
+    before: bytes
+    stop_at: int
+    fill: bytes
+
+    def disk(self):
+        return bytearray(self.before)
+
+
+@dataclass
+class ListingsCase:
+    """A disk, and options of `inspect`: after how many events (None: all), and whether with code."""
+    contents: bytes
+    options: list
+
+    def disk(self):
+        return bytearray(self.contents)
+
+
+def lists_case(chance, case):
+    """A list of lives, stopped at random calls by a kill."""
+    return LivesCase(case.geometry, case.image, *life_list(chance, case))
+
+
+def used_disk(chance, case):
+    """A disk with events and perhaps checkpoints, the lines that are left, and some that every disk gets."""
+    lines = case.lives[0].splitlines()
+    cut = chance.choice([1, 4, 20])
+    contents, left = case.disk(), lines
+    if chance.random() < 0.6:
+        contents, left = stopped_disk(chance, contents, lines[:cut])
+        left = left + lines[cut:]
+    return bytes(contents), left, asks(chance, case.geometry.harts)
+
+
+def fates_case(chance, case):
+    """One write or sync of a life fails, or one of the first reads."""
+    contents, lines, after = used_disk(chance, case)
+    fed = some_lines(chance, lines)[0] + [b"tick 1", b"run 0 x", b"commit", b"tick 2", b"checkpoint", b"commit", b"in 41", b"checkpoint"]
+    calls = len(Course(contents, commands_of(fed)).calls)
+    if chance.random() < 0.15:
+        plan = Plan(fail_read_at=chance.randrange(1, 7))
+    else:
+        plan = Plan(fail_at=chance.choice([1, 2, chance.randrange(1, 7), *[chance.randrange(1, calls + 1)] * 3]),
+                    kept=chance.choice([0, 0, 1, 3, 100]))
+    return TracedCase(contents, fed, plan, after)
+
+
+def parts_case(chance, case):
+    """All transfers in parts, or interrupted: nothing of it is seen."""
+    contents, lines, after = used_disk(chance, case)
+    fed = some_lines(chance, lines)[0] + [b"tick 1", b"commit", b"checkpoint"]
+    return TracedCase(contents, fed, Plan(parts=Random(chance.random())), after)
+
+
+def counts_to_ask(chance, contents):
+    """Numbers of events before, in and behind the journal; of a disk that doesn't recover any."""
+    device = MemoryDisk(bytearray(contents))
+    try:
+        whole = recover(device).events
+        first = read_area(device, read_superblock(device)).events
+    except Unrecovered:
+        return [0, 1]
+    near = [first, whole, whole + 1, max(first - 1, 0), 0, chance.choice([2 ** 32, 2 ** 62, 2 ** 64 - 1])]
+    return chance.sample(range(first, whole + 1), min(3, whole + 1 - first)) + chance.sample(near, 3)
+
+
+def listings_case(chance, case):
+    """A disk with a state that the model saved, at times with a crowd or damaged, and a journal behind it."""
+    disk, lines = case.disk(), case.lives[0].splitlines()
+    cut = chance.choice([1, 4, 20, len(lines)])
+    if chance.random() < 0.5:
+        serve_and_save(chance, disk, lines[:cut])
+        if chance.random() < 0.4:
+            ChangedArea(chance, disk).crowd()
+        if chance.random() < 0.1:
+            ChangedArea(chance, disk).damage()
+    else:
+        disk = stopped_disk(chance, disk, lines[:cut])[0]
+    asked = [(at, chance.random() < 0.5) for at in counts_to_ask(chance, disk)]
+    return ListingsCase(bytes(disk), [(None, False), (None, True), *asked])
+
+
+def cuts_case(chance, seed):
+    """`format` stopped at a call, on a file that holds zeros or other bytes; at times a longer one."""
+    geometry = Geometry(chance.choice([16, 16, 17, 20]), chance.choice([1, 2, 8]), chance.choice([4096, 8192]))
+    image = chance.randbytes(chance.choice([0, 24, 4096, 5000, geometry.image_limit]))
+    before = bytearray(chance.choice([bytes, chance.randbytes])(geometry.size + chance.choice([0, 0, 1, 4096])))
+    before[0] = chance.choice([0, 1, 0xA4, 255])
+    stop_at = chance.choice([0, *range(1, 16), chance.randrange(1, geometry.pages + 16)])
+    return CutCase(geometry, image, bytes(before), stop_at, random_fill(chance))
