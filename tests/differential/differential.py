@@ -13,12 +13,14 @@ from random import Random
 from abi import Call
 from cases import KINDS, case_of
 from formats import FormatCase
+from layout import Geometry, format_disk
 from lines import serve_disk
 from listing import OutOfRange, listing
 from recovery import Unrecovered
 from streams import joined
 from traced_cases import CutCase, ListingsCase, LivesCase, TracedCase
 from traced_runs import difference_of_cut, difference_of_lists, difference_of_traced
+from words import WordsCase
 
 TIME_LIMIT = 60
 LOOKING = b"place 0 1\nplace 0 2\ntick 1\nauto 0 20\nin 41\nauto 0 90\ncommit\n"  # a life that shows what a disk holds
@@ -137,12 +139,47 @@ def difference_of_format(ckrt, case, folder, tally):
     return None if after == (disk.read_bytes() if disk.exists() else None) else "format: the disk's bytes"
 
 
+def expected_of_words(case, contents, image):
+    """The status, what is printed, and the name of the fault; the disk that is there has these contents."""
+    if case.command is None:
+        return 2, b"", None
+    if case.command == "format":
+        fault = case.fault_of_format(image)
+        return (1, b"", fault) if fault else (0, b"formatted %d\n" % case.geometry().size, None)
+    if case.files != ("disk",):
+        return 1, b"", "File"
+    if case.command == "run":
+        return 0, b"", None
+    shown = listing_of_model(contents, case.options["at"], case.options["code"])
+    return shown.status, shown.replies, "Range" if shown.status else None
+
+
+def difference_of_words(ckrt, case, folder, tally):
+    """In a folder with a disk, a fitting image, one that is too long, and a folder; nothing is read from standard input."""
+    contents, image = bytes(format_disk(Geometry(16, 1, 4096), b"")), bytes(4)
+    long = bytes(4096 * 1024)
+    for name, data in (("disk", contents), ("image", image), ("long", long)):
+        (folder / name).write_bytes(data)
+    (folder / "missing").unlink(missing_ok=True)
+    (folder / "folder").mkdir(exist_ok=True)
+    expected = expected_of_words(case, contents, long if case.files[1:] == ("long",) else image)
+    done = subprocess.run([ckrt, *case.words], stdin=subprocess.DEVNULL, cwd=folder, capture_output=True, timeout=TIME_LIMIT)
+    (folder / "folder").rmdir()
+    fault = done.stderr.splitlines()[-1].removeprefix(b"ckrt: ").decode() if done.returncode == 1 else None
+    tally["words", expected[2] or f"status {expected[0]}"] += 1
+    if (done.returncode, done.stdout, fault) != expected or bool(done.stderr) != bool(done.returncode):
+        return f"{case.words}: model {expected}, program {done.returncode, done.stdout[:100], done.stderr[-100:]}"
+    return None
+
+
 def first_difference(ckrt, case, folder, tally, count_life):
     """Runs a case; None, or in a few words where the two differ."""
     path = folder / "disk"
     match case:
         case FormatCase():
             return difference_of_format(ckrt, case, folder, tally)
+        case WordsCase():
+            return difference_of_words(ckrt, case, folder, tally)
         case ListingsCase():
             return difference_of_listings(ckrt, case, path, tally)
         case LivesCase():
@@ -235,7 +272,7 @@ def run_case(ckrt, kind, seed, folder, totals):
             file.unlink()
         work.rmdir()
         return
-    if not isinstance(case, FormatCase):
+    if not isinstance(case, (FormatCase, WordsCase)):
         (work / "disk.before").write_bytes(case.disk())
     if isinstance(case, (LivesCase, TracedCase)):
         for number, lines in enumerate(case.texts if isinstance(case, LivesCase) else [case.lines, case.lines_after], 1):
