@@ -25,16 +25,17 @@
 //!
 //! Proved of [`run_words_with`]: its outcome is the one that the words ask for, and the status is that outcome's: for
 //! `format` that of making the disk of DISK with the image of IMAGE, and then the line `formatted SIZE`; for `run` that of
-//! running the disk of DISK; for `inspect` that of showing it; for no words that of serving the stored program; for
-//! `--version` the line of version and kit. A disk that can't be opened is a fault of File with what its sources said. For
-//! each fault the line in plain words, with the path of the file, and the line with its name were reported exactly, or the
-//! reporter failed. The status is 2 never for no words, nor for words that `clap` takes.
+//! running the disk of DISK; for `inspect` that of showing it; for no words that of serving the stored program, of which a
+//! service that ends early has written a beginning; for `--version` the line of version and kit. A disk that can't be
+//! opened is a fault of File with what its sources said. For each fault the line in plain words, with the path of the file,
+//! and the line with its name were reported exactly, or the reporter failed. The status is 2 never for no words, nor for
+//! words that `clap` takes. [`run_words`] says the same of some disk of the system for each path.
 //!
-//! Proved of the files of the system: none that is opened has the descriptor of a standard stream; filling writes nothing
-//! below a file's length.
+//! Proved of the files of the system: none that is opened has the descriptor of a standard stream. Filling writes nothing
+//! below the length that a file tells.
 //!
-//! Only tested: what a path opens, that a file is filled and locked and its folder synced, that [`run_words`] hands its
-//! files on, that faults on standard error reach it.
+//! Only tested: what a path opens, that a file is filled and locked and its folder synced, that faults on standard error
+//! reach it.
 #![tactic(auto)]
 
 mod fault;

@@ -3,7 +3,7 @@ ghost use Rattle.std.specs.Prelude.{◌≡◌, None, IfOk, IfErr};
 ghost use Rattle.ckrt_jobs.specs.Streams.{IsBesideStreams};
 
 use crate::file::{FileFault, Opening};
-use crate::filling::fill;
+use crate::filling::fill_up;
 use crate::sources::Sources;
 use ckrt_disk::{FileDisk, Holds, SystemFile};
 use std::fs::{File, Files, OpenOptions};
@@ -104,8 +104,7 @@ fn open_filled_file<R: Files<File = File>>(
     ensures { IfOk result IsBesideStreams }
 {
     let file = open_or_make(rt, path)?;
-    let length = file.metadata()?.len() as usize;
-    fill(&mut &file, length, size)?;
+    fill_up(&mut &file, size)?;
     Ok(file)
 }
 
