@@ -3,12 +3,13 @@
 //! [`run_words`] is the whole program behind its words, with files of the system; [`run_words_with`] is the same with images
 //! and disks of any [`Sources`]; [`make_disk`], [`run_disk`] and [`inspect_disk`] are its jobs over any disk.
 //!
-//! Proved of [`make_disk`]: BadConfig comes exactly where the configuration is out of its ranges, before anything is opened;
-//! with a fault of the image, ImageTooLong and want of memory for the image the disk wasn't asked for; a fault of a file is
-//! that of its opening, or of a read of the image. Where the disk is open it is formatted, once: AlreadyFormatted comes
-//! where its first byte is an open gate, after its sync, and it reads as before then; Ok where that gate was closed, and it
-//! holds the program with exactly this image then; Device only where the disk's failures grew; and what a stop leaves at any
-//! moment is that of formatting.
+//! Proved of [`make_disk`]: BadConfig comes exactly where the configuration is out of its ranges, before anything is
+//! opened; with a fault of the image, ImageTooLong and want of memory for the image the disk wasn't asked for; a fault of a
+//! file is that of its opening, or of a read of the image. Where the disk is open it is formatted, once: TooSmall comes
+//! exactly where it is shorter than needed; AlreadyFormatted where its first byte is an open gate, and it reads as before
+//! then; a disk whose first byte is an open gate isn't written, whatever the answer; Ok comes where that gate was closed,
+//! and it holds the program with exactly this image then; Device only where the disk's failures grew; and what a stop
+//! leaves at any moment is that of formatting.
 //!
 //! Proved of [`run_disk`], whatever it answers and over any disk: where nothing is recovered that comes before a byte is
 //! read or written; the fault is the content's, and it is Device only where a call of the disk failed. Else what was written
