@@ -14,6 +14,7 @@ from limits import limit_case
 from saved_disks import ChangedArea, asks, serve_and_save, stopped_disk, with_checkpoints
 from streams import MALFORMED, joined, last_lines, mangled, random_lines
 from traced_cases import cuts_case, fates_case, listings_case, lists_case, parts_case
+from words import words_case
 
 
 @dataclass
@@ -182,6 +183,7 @@ KINDS = {
     "disks": disks_case, "killed": killed_case, "limits": limits_case, "saved": saved_case, "tables": tables_case,
     "stopped": stopped_case, "checkpoints": checkpoints_case, "formats": format_case, "lists": of_guest(lists_case),
     "fates": of_guest(fates_case), "parts": of_guest(parts_case), "listings": of_guest(listings_case), "cuts": cuts_case,
+    "words": words_case,
 }
 
 

@@ -12,25 +12,18 @@ from random import Random
 
 from abi import Call
 from cases import KINDS, case_of
-from devices import MemoryDisk
 from formats import FormatCase
-from layout import fresh_tables
+from layout import Geometry, format_disk
 from lines import serve_disk
 from listing import OutOfRange, listing
-from recovery import Unrecovered, tables_of
-from session import Session
+from recovery import Unrecovered
 from streams import joined
 from traced_cases import CutCase, ListingsCase, LivesCase, TracedCase
 from traced_runs import difference_of_cut, difference_of_lists, difference_of_traced
+from words import WordsCase
 
 TIME_LIMIT = 60
 LOOKING = b"place 0 1\nplace 0 2\ntick 1\nauto 0 20\nin 41\nauto 0 90\ncommit\n"  # a life that shows what a disk holds
-# What the program doesn't do yet, until it does: saved tables other than the fresh ones (Damaged till then), the line
-# `checkpoint`, the word `inspect`, its options.
-AWAITED = {"inspect", "options"}
-NEEDS = {"saved": {"tables"}, "tables": {"tables"}, "stopped": {"tables"}, "checkpoints": {"checkpoint"},
-         "lists": {"tables", "checkpoint"}, "fates": {"tables", "checkpoint"}, "parts": {"tables", "checkpoint"},
-         "listings": {"tables", "inspect"}}
 
 
 @dataclass(frozen=True)
@@ -50,24 +43,15 @@ class Totals:
     answers: Counter = field(default_factory=Counter)
 
 
-def life_of_model(disk, data, is_killed, awaited, tally):
+def life_of_model(disk, data, is_killed, tally):
     """Changes the disk's bytes."""
     try:
-        if "tables" in awaited:
-            refuse_saved_tables(disk)
         replies = serve_disk(disk, data, tally)
     except Unrecovered as fault:
         tally["recovery", str(fault)] += 1
         return Life(1, b"", f"ckrt: {fault}\n".encode())
     tally["recovery", "recovered"] += 1
     return Life(None if is_killed else 0, b"".join(reply.encode() + b"\n" for reply in replies), b"")
-
-
-def refuse_saved_tables(disk):
-    """Damage, where the disk recovers by tables that aren't those of a fresh machine."""
-    session = Session(MemoryDisk(bytearray(disk)))
-    if tables_of(session.disk, session.geometry, session.recovered.area) != fresh_tables(session.geometry.pages):
-        raise Unrecovered("Damaged")
 
 
 def listing_of_model(disk, at=None, is_with_code=False):
@@ -91,12 +75,10 @@ def difference_of_listing(ckrt, path, disk, at=None, is_with_code=False):
     return None if path.read_bytes() == disk else "inspect changed the disk's bytes"
 
 
-def difference_of_listings(ckrt, case, path, awaited, tally):
+def difference_of_listings(ckrt, case, path, tally):
     disk = case.disk()
     path.write_bytes(disk)
     for options in case.options:
-        if "options" in awaited and options != (None, False):
-            continue
         outcome = listing_of_model(disk, *options)
         tally["listing", outcome.errors.decode().strip().removeprefix("ckrt: ") or "shown"] += 1
         difference = difference_of_listing(ckrt, path, disk, *options)
@@ -157,25 +139,60 @@ def difference_of_format(ckrt, case, folder, tally):
     return None if after == (disk.read_bytes() if disk.exists() else None) else "format: the disk's bytes"
 
 
-def first_difference(ckrt, case, folder, awaited, tally, count_life):
+def expected_of_words(case, contents, image):
+    """The status, what is printed, and the name of the fault; the disk that is there has these contents."""
+    if case.command is None:
+        return 2, b"", None
+    if case.command == "format":
+        fault = case.fault_of_format(image)
+        return (1, b"", fault) if fault else (0, b"formatted %d\n" % case.geometry().size, None)
+    if case.files != ("disk",):
+        return 1, b"", "File"
+    if case.command == "run":
+        return 0, b"", None
+    shown = listing_of_model(contents, case.options["at"], case.options["code"])
+    return shown.status, shown.replies, "Range" if shown.status else None
+
+
+def difference_of_words(ckrt, case, folder, tally):
+    """In a folder with a disk, a fitting image, one that is too long, and a folder; nothing is read from standard input."""
+    contents, image = bytes(format_disk(Geometry(16, 1, 4096), b"")), bytes(4)
+    long = bytes(4096 * 1024)
+    for name, data in (("disk", contents), ("image", image), ("long", long)):
+        (folder / name).write_bytes(data)
+    (folder / "missing").unlink(missing_ok=True)
+    (folder / "folder").mkdir(exist_ok=True)
+    expected = expected_of_words(case, contents, long if case.files[1:] == ("long",) else image)
+    done = subprocess.run([ckrt, *case.words], stdin=subprocess.DEVNULL, cwd=folder, capture_output=True, timeout=TIME_LIMIT)
+    (folder / "folder").rmdir()
+    fault = done.stderr.splitlines()[-1].removeprefix(b"ckrt: ").decode() if done.returncode == 1 else None
+    tally["words", expected[2] or f"status {expected[0]}"] += 1
+    if (done.returncode, done.stdout, fault) != expected or bool(done.stderr) != bool(done.returncode):
+        return f"{case.words}: model {expected}, program {done.returncode, done.stdout[:100], done.stderr[-100:]}"
+    return None
+
+
+def first_difference(ckrt, case, folder, tally, count_life):
     """Runs a case; None, or in a few words where the two differ."""
     path = folder / "disk"
     match case:
         case FormatCase():
             return difference_of_format(ckrt, case, folder, tally)
+        case WordsCase():
+            return difference_of_words(ckrt, case, folder, tally)
         case ListingsCase():
-            return difference_of_listings(ckrt, case, path, awaited, tally)
+            return difference_of_listings(ckrt, case, path, tally)
         case LivesCase():
-            return difference_of_stops(ckrt, case, path, awaited, tally, count_life)
+            return difference_of_stops(ckrt, case, path, tally, count_life)
         case CutCase():
             difference = difference_of_cut(ckrt, case, path, tally)
-            return difference or difference_of_next_life(ckrt, path, bytearray(path.read_bytes()), LOOKING, awaited, tally)
+            return difference or difference_of_next_life(ckrt, path, bytearray(path.read_bytes()), LOOKING, tally)
         case TracedCase():
-            return difference_of_fate(ckrt, case, path, awaited, tally, count_life)
-    return difference_of_lives(ckrt, case, folder, awaited, tally, count_life)
+            return difference_of_fate(ckrt, case, path, tally, count_life)
+    return difference_of_lives(ckrt, case, folder, tally, count_life)
 
 
-def difference_of_lives(ckrt, case, folder, awaited, tally, count_life):
+def difference_of_lives(ckrt, case, folder, tally, count_life):
     disk, path = case.disk(), folder / "disk"
     if case.damaged is None:
         difference = difference_of_format(ckrt, FormatCase(case.geometry, case.image, None), folder, tally)
@@ -183,10 +200,8 @@ def difference_of_lives(ckrt, case, folder, awaited, tally, count_life):
             return difference
     path.write_bytes(disk)
     for number, data in enumerate(case.lives, 1):
-        if "checkpoint" in awaited:
-            data = data.replace(b"checkpoint", b"commit")
         (folder / f"lines.{number}").write_bytes(data)
-        expected = life_of_model(disk, data, case.is_killed, awaited, tally)
+        expected = life_of_model(disk, data, case.is_killed, tally)
         if case.is_killed:
             shown = killed_life(ckrt, path, data, expected.replies)
         else:
@@ -199,37 +214,36 @@ def difference_of_lives(ckrt, case, folder, awaited, tally, count_life):
         if path.read_bytes() != disk:
             (folder / "disk.model").write_bytes(disk)
             return f"life {number}: the disk's bytes"
-        difference = None if "inspect" in awaited else difference_of_listing(ckrt, path, disk)
+        difference = difference_of_listing(ckrt, path, disk)
         if difference is not None:
             return f"after life {number}: {difference}"
     return None
 
 
-def difference_of_stops(ckrt, case, path, awaited, tally, count_life):
-    """What lives leave is looked at by the listing, or until there is one by a life that takes events."""
-    def look(left):
-        if "inspect" not in awaited:
-            return difference_of_listing(ckrt, path, left)
-        return difference_of_next_life(ckrt, path, left, LOOKING, awaited, tally)
-
-    return difference_of_lists(ckrt, case, path, tally, count_life, look)
+def difference_of_stops(ckrt, case, path, tally, count_life):
+    """What each life leaves is listed, and a life on a copy of it takes events."""
+    return difference_of_lists(ckrt, case, path, tally, count_life,
+                               lambda left: difference_of_next_life(ckrt, path, left, LOOKING, tally))
 
 
-def difference_of_next_life(ckrt, path, disk, data, awaited, tally):
-    """A life on a copy of the disk."""
+def difference_of_next_life(ckrt, path, disk, data, tally):
+    """The listing of a copy of the disk, and then a life on it."""
     copy = path.with_name("copy")
     copy.write_bytes(disk)
-    expected, shown = life_of_model(disk, data, False, awaited, tally), life_of_program(ckrt, copy, data)
+    difference = difference_of_listing(ckrt, copy, disk)
+    if difference:
+        return difference
+    expected, shown = life_of_model(disk, data, False, tally), life_of_program(ckrt, copy, data)
     if shown != expected:
         return f"next life: {place_of_difference(expected, shown)}"
     return None if copy.read_bytes() == disk else "next life: the disk's bytes"
 
 
-def difference_of_fate(ckrt, case, path, awaited, tally, count_life):
+def difference_of_fate(ckrt, case, path, tally, count_life):
     """A life under trace, and the next one on what it left."""
     difference = difference_of_traced(ckrt, case, path, tally, count_life)
     data = joined(Random(0), case.lines_after)
-    return difference or difference_of_next_life(ckrt, path, bytearray(path.read_bytes()), data, awaited, tally)
+    return difference or difference_of_next_life(ckrt, path, bytearray(path.read_bytes()), data, tally)
 
 
 def place_of_difference(expected, shown):
@@ -242,7 +256,7 @@ def place_of_difference(expected, shown):
     return f"{len(wanted) - 1} replies of the model, {len(got) - 1} of the program"
 
 
-def run_case(ckrt, kind, seed, folder, awaited, totals):
+def run_case(ckrt, kind, seed, folder, totals):
     case = case_of(kind, seed)
     work = folder / f"{kind}-{seed}"
     work.mkdir(exist_ok=True)
@@ -252,13 +266,13 @@ def run_case(ckrt, kind, seed, folder, awaited, totals):
         totals.lives[kind] += 1
         totals.replies[kind] += replies
 
-    difference = first_difference(ckrt, case, work, awaited, totals.answers, count_life)
+    difference = first_difference(ckrt, case, work, totals.answers, count_life)
     if difference is None:
         for file in work.iterdir():
             file.unlink()
         work.rmdir()
         return
-    if not isinstance(case, FormatCase):
+    if not isinstance(case, (FormatCase, WordsCase)):
         (work / "disk.before").write_bytes(case.disk())
     if isinstance(case, (LivesCase, TracedCase)):
         for number, lines in enumerate(case.texts if isinstance(case, LivesCase) else [case.lines, case.lines_after], 1):
@@ -295,17 +309,13 @@ def words():
     parser.add_argument("--count", type=int, default=50, help="cases of each kind (50)")
     parser.add_argument("--seed", type=int, default=1, help="the first seed (1)")
     parser.add_argument("--step", type=int, default=1, help="from one seed to the next (1)")
-    parser.add_argument("--kinds", help="kinds of cases, with commas between (all that the program can have)")
-    parser.add_argument("--awaits", default=",".join(sorted(AWAITED)),
-                        help="what the program doesn't do yet, of tables, checkpoint, inspect, options (%(default)s)")
+    parser.add_argument("--kinds", help="kinds of cases, with commas between (all)")
     parser.add_argument("--stop-after", type=int, default=5, help="stop after so many differences (5)")
     chosen = parser.parse_args()
-    chosen.awaits = set(filter(None, chosen.awaits.split(",")))
-    possible = [kind for kind in KINDS if not NEEDS.get(kind, set()) & chosen.awaits]
-    chosen.kinds = chosen.kinds.split(",") if chosen.kinds else possible
-    unknown = set(chosen.kinds) - set(possible)
+    chosen.kinds = chosen.kinds.split(",") if chosen.kinds else list(KINDS)
+    unknown = set(chosen.kinds) - set(KINDS)
     if unknown:
-        parser.error(f"no such kind, or it is awaited: {', '.join(sorted(unknown))}")
+        parser.error(f"no such kind: {', '.join(sorted(unknown))}")
     return chosen
 
 
@@ -317,7 +327,7 @@ def main():
     for kind in chosen.kinds:
         for seed in range(chosen.seed, chosen.seed + chosen.count * chosen.step, chosen.step):
             if len(totals.differences) < chosen.stop_after:
-                run_case(chosen.ckrt, kind, seed, folder, chosen.awaits, totals)
+                run_case(chosen.ckrt, kind, seed, folder, totals)
     print_totals(totals)
     if not chosen.folder and not totals.differences:
         folder.rmdir()

@@ -36,7 +36,7 @@ class Driver(unittest.TestCase):
         case = case_of(kind, seed)
         if kind == "lives":
             case.damaged = bytes(case.disk())
-        return first_difference(program(self.folder, which), case, self.folder, set(), Counter(), lambda count: None)
+        return first_difference(program(self.folder, which), case, self.folder, Counter(), lambda count: None)
 
     def test_right(self):
         for kind, count in KINDS.items():

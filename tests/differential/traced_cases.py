@@ -2,6 +2,7 @@
 from dataclasses import dataclass
 from random import Random
 
+from damage import Damage
 from devices import MemoryDisk
 from foreseen import Course
 from layout import Geometry, format_disk
@@ -106,18 +107,26 @@ def counts_to_ask(chance, contents):
     return chance.sample(range(first, whole + 1), min(3, whole + 1 - first)) + chance.sample(near, 3)
 
 
-def listings_case(chance, case):
-    """A disk with a state that the model saved, at times with a crowd or damaged, and a journal behind it."""
+def listed_disk(chance, case):
+    """A disk with a state that the model saved, at times with a crowd or damaged, and a journal behind it; one that a stop
+    left; or one that was never saved and is damaged anywhere, or too short to be one."""
     disk, lines = case.disk(), case.lives[0].splitlines()
-    cut = chance.choice([1, 4, 20, len(lines)])
-    if chance.random() < 0.5:
-        serve_and_save(chance, disk, lines[:cut])
-        if chance.random() < 0.4:
-            ChangedArea(chance, disk).crowd()
-        if chance.random() < 0.1:
-            ChangedArea(chance, disk).damage()
-    else:
-        disk = stopped_disk(chance, disk, lines[:cut])[0]
+    cut, kind = chance.choice([1, 4, 20, len(lines)]), chance.random()
+    if kind < 0.2:
+        return Damage(chance).disk
+    if kind < 0.6:
+        return stopped_disk(chance, disk, lines[:cut])[0]
+    serve_and_save(chance, disk, lines[:cut])
+    if chance.random() < 0.4:
+        ChangedArea(chance, disk).crowd()
+    if chance.random() < 0.2:
+        ChangedArea(chance, disk).damage()
+    return disk
+
+
+def listings_case(chance, case):
+    """A disk, shown whole and after some of its events."""
+    disk = listed_disk(chance, case)
     asked = [(at, chance.random() < 0.5) for at in counts_to_ask(chance, disk)]
     return ListingsCase(bytes(disk), [(None, False), (None, True), *asked])
 
