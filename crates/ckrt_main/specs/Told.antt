@@ -10,8 +10,8 @@ use Rattle.ckrt_recovery.specs.Replies.{acks_of}
 use Rattle.ckrt_recovery.specs.Represents.{Represents}
 use Rattle.ckrt_main.specs.Service.{Accepts, AreOutput, Processes}
 
--- For each `ack K` that a service wrote, whatever it answered: every image that a stop left since, while the session went on as far as
--- `later`, recovers to a list that begins with the first K of the events represented and accepted.
+-- For each `ack K` that a service wrote, whatever it answered: every image that a stop leaves after the service has ended, while the
+-- session goes on as far as `later`, recovers to a list that begins with the first K of the events represented and accepted.
 abbrev pub AcksAreDurable : {D : Type 0} {g : Ghosts D} → Session D g → Session D g → Session D g → Type 0
 AcksAreDurable {D} {g} before after later =
     (a b r s : Option (List ℕ)) (service : Processes a b r s before after) (more : List Event) → Accepts more after later → g.is_honest later.disk

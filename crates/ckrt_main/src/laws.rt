@@ -21,8 +21,9 @@ pub fn transcript_folds_events()
 {}
 
 /// What a reader of the lines is told is durable: for each `ack K` that a service wrote, and whatever it answered, every image
-/// that a stop left since recovers to a list with the first K events; and each line of output is the plain fold's output of
-/// acknowledged events, at its offset.
+/// that a stop leaves after the service has ended recovers to a list with the first K events; and each line of output is the
+/// plain fold's output of acknowledged events, at its offset. A stop within the service is a disk that fails each call from
+/// there on, behind which the service ends.
 pub fn told_is_durable<D: Disk>(before: &Session<D>, after: &Session<D>, later: &Session<D>)
     ensures acks { AcksAreDurable before.now after.now later.now }
     ensures outs { OutsAreOutput before.now after.now }
