@@ -1,15 +1,16 @@
 """Measures checkpoints and recoveries of real disks, alternating with what they are measured beside, and prints ratios.
 
 Words: the plain program, `ckrt`, `ckrt_probe`, the folder of the guests, the folder of the disks, and jobs (`checkpoints`,
-`recovery`, `power-on`, `resident`; all four, if none is named).
+`recovery`, `power-on`, `resident`, `inspect`; all, if none is named).
 
 checkpoints: on disks of 64, 256 and 1,024 pages, beside the same reads, writes and syncs in plain Rust. Each program has a
 disk of its own; after all rounds the two are compared byte by byte. recovery: of such disks with an empty journal, in a new
 process each time, beside the same sync and reading the same bytes into new memory. power-on: from the start of `ckrt run` to
 its first reply, on a disk of 64 pages whose journal of 1,048,576 bytes has no room for another batch of Runs, beside reading the disk's
 bytes and the machine alone with as many Runs. resident: of `ckrt run` with 1,024 pages, after an event, a commit and two
-checkpoints. inspect: `ckrt inspect` of a disk of 256 pages with a journal of 65,536 bytes that is full of the guest's Runs,
-beside `ckrt run` of it without a line, which recovers it and does nothing else.
+checkpoints. inspect: `ckrt inspect` of disks of 1,024 pages with an empty journal, of a program that hasn't begun and of one
+with 64 threads, 61 waits and 201 mutexes, from the start of the process to its end, beside `ckrt run` of them without a line, which
+recovers the program and does nothing else.
 """
 import os
 import re
@@ -31,6 +32,8 @@ JOURNAL = 1_048_576
 # A batch of 4,096 bytes of Runs, of which each has 4.
 RUNS = 1_024
 GUEST = "nqueens-big"
+# Its first thread owns 201 mutexes, and 61 of the other 63 wait for one, once each has had a turn with one of the first between.
+CROWD, TURNS = "locks-crowded", 128
 MAPPED_LIMIT = 4_096 + 1_280
 
 
@@ -43,14 +46,14 @@ def run(command, lines=""):
 class Bench:
     def __init__(self, plain, ckrt, probe, guests, folder):
         self.plain, self.ckrt, self.probe, self.folder = plain, ckrt, probe, folder
-        self.image = os.path.join(guests, GUEST + ".bin")
+        self.image, self.crowd = (os.path.join(guests, name + ".bin") for name in (GUEST, CROWD))
 
-    def format_disk(self, name, pages, journal=4_096):
+    def format_disk(self, name, pages, journal=4_096, image=None):
         """A disk that was just formatted."""
         path = os.path.join(self.folder, name)
         if os.path.exists(path):
             os.remove(path)
-        run([self.ckrt, "format", path, self.image, "--pages", str(pages), "--journal", str(journal)])
+        run([self.ckrt, "format", path, image or self.image, "--pages", str(pages), "--journal", str(journal)])
         return path
 
     def checkpoint_times(self, program, path, count):
@@ -128,16 +131,27 @@ class Bench:
         os.remove(disk)
         self.report("power on to the first reply, full journal of 1,048,576 bytes", ours, base, "s")
 
+    def crowded_disk(self, name, pages):
+        """A disk that was saved when each thread of the crowd had begun."""
+        disk = self.format_disk(name, pages, image=self.crowd)
+        run([self.ckrt, "run", disk], "auto 0 65535\n" * TURNS + "commit\ncheckpoint\n")
+        listing = run([self.ckrt, "inspect", disk])[0]
+        if [listing.count(f"\n{kind} ") for kind in ("thread", "wait", "mutex")] != [64, 61, 201]:
+            sys.exit("the crowd isn't there")
+        return disk
+
     def inspect(self):
-        disk, _ = self.full_disk("inspect.disk", 256, 65_536)
-        ours, base = [], []
-        for _ in range(RECOVERIES // 3):
-            for times, words in ((base, ["run", disk]), (ours, ["inspect", disk])):
-                start = time.perf_counter()
-                run([self.ckrt, *words])
-                times.append(time.perf_counter() - start)
-        os.remove(disk)
-        self.report("inspect, beside a run without a line", ours, base, "s")
+        disks = {"a program that hasn't begun": self.format_disk("inspect_0.disk", 1_024),
+                 "64 threads, 61 waits and 201 mutexes": self.crowded_disk("inspect_1.disk", 1_024)}
+        for program, disk in disks.items():
+            words, times = (["run", disk], ["inspect", disk]), ([], [])
+            for turn in range(RECOVERIES):
+                for k in (0, 1) if turn % 2 == 0 else (1, 0):
+                    start = time.perf_counter()
+                    run([self.ckrt, *words[k]])
+                    times[k].append(time.perf_counter() - start)
+            os.remove(disk)
+            self.report(f"inspect of 1024 pages, {program}", times[1], times[0], "s")
 
     def resident(self):
         """The resident KiB of a run with 1,024 pages after checkpoints: of the process alone, and with what it maps."""
@@ -163,18 +177,17 @@ class Bench:
         note("checkpoint", what, unit, statistics.median(ours), statistics.median(base), ratios)
         low, middle, high = ratios
         scale, shown = (1e3, "us") if unit == "ns" else (1e-3, "ms")
-        print(f"{what}: plain {statistics.median(base) / scale:.1f} {shown}, ckrt {statistics.median(ours) / scale:.1f} {shown}, "
+        print(f"{what}: base {statistics.median(base) / scale:.1f} {shown}, ckrt {statistics.median(ours) / scale:.1f} {shown}, "
               f"ratio {middle:.3f} ({low:.3f} to {high:.3f})", flush=True)
 
 
 JOBS = {"checkpoints": Bench.checkpoints, "recovery": Bench.recovery, "power-on": Bench.power_on,
         "resident": Bench.resident, "inspect": Bench.inspect}
-UNASKED = ("checkpoints", "recovery", "power-on", "resident")
 
 
 def main():
     bench = Bench(*sys.argv[1:6])
-    for job in sys.argv[6:] or UNASKED:
+    for job in sys.argv[6:] or JOBS:
         JOBS[job](bench)
 
 

@@ -14,8 +14,8 @@ def git(*words):
 
 
 def commit_measured():
-    """The commit that is checked out, with a plus where tracked files differ from it."""
-    changed = git("status", "--porcelain", "--untracked-files=no")
+    """The commit that is checked out, with a plus where tracked files other than results differ from it."""
+    changed = git("status", "--porcelain", "--untracked-files=no", "--", ":(top)", ":(top,exclude)bench/results")
     return git("rev-parse", "--short=12", "HEAD") + ("+" if changed else "")
 
 

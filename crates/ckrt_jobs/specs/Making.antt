@@ -1,12 +1,12 @@
 -- The making of a disk.
-use Rattle.std.specs.Prelude.{◌≡◌, ◌↔◌, ◌⊎◌, ◌<◌, ◌≤◌, ℕ, false, List, length, Option, Some, Result, Ok, Err, IfOk, IfErr, IsErrOf, OnOk}
+use Rattle.std.specs.Prelude.{◌≡◌, ◌↔◌, ◌⊎◌, ◌<◌, ◌≤◌, ℕ, true, false, List, length, Option, Some, Result, Ok, Err, IfOk, IfErr, IsErrOf, OnOk}
 use Rattle.ckrt_disk.specs.Frame.{AtAnyMoment, WritesWithin}
 use Rattle.ckrt_disk.specs.declared.disk.Disk.{Ghosts}
 use Rattle.ckrt_checkpoint.specs.declared.config.Config.{Config}
-use Rattle.ckrt_checkpoint.specs.Layout.{is_valid, memory_size, size_needed}
+use Rattle.ckrt_checkpoint.specs.Layout.{is_open, is_valid, memory_size, size_needed}
 use Rattle.ckrt_image.specs.declared.fault.FormatFault.{FormatFault}
 use Rattle.ckrt_image.specs.declared.fault.FormatFault.TheVariants as format
-use Rattle.ckrt_image.specs.Format.{FormatsAt, IsFormatting, IsMade, WasFormatted, calls_of, is_device}
+use Rattle.ckrt_image.specs.Format.{FormatsAt, IsFormatting, IsMade, IsRefusedBy, StaysFormatted, WasFormatted, calls_of, format_refusal, is_device}
 use Rattle.ckrt_jobs.specs.declared.fault.JobFault.{JobFault}
 use Rattle.ckrt_jobs.specs.declared.fault.JobFault.TheVariants as job
 use Rattle.ckrt_jobs.specs.declared.file.FileFault.{FileFault}
@@ -50,7 +50,11 @@ pub record Formats {D : Type 0} (d : Ghosts D) (config : Config) (guest : List �
   pub any_moment : AtAnyMoment d opened end (IsFormatting config guest d opened)
   -- where it was written, and how often; its failures
   pub within : WritesWithin d (FormatsAt config) (calls_of answer) opened end (is_device answer)
+  -- it is refused exactly where configuration, image or size are
+  pub refused : IsRefusedBy (format_refusal (d.size opened) config guest) answer
   pub already_formatted : answer ≡ Err format.AlreadyFormatted → d.is_honest end → WasFormatted d opened end
+  -- whatever the answer, a disk whose first gate was open isn't written
+  pub stays : d.is_honest end → is_open (d.content opened) ≡ true → StaysFormatted d opened end
   pub made : OnOk answer (d.is_honest end → IsMade d config guest opened end)
 
 -- A disk was opened and then formatted with the image, whose bytes may be known.

@@ -1,7 +1,8 @@
 -- The showing of a disk. What was written goes from a to b.
 use Rattle.std.specs.Prelude.{◌≡◌, ℕ, Bool, List, Option, Result, Ok, Err}
+use Rattle.ckrt_disk.specs.Frame.{IsOnlyRead}
 use Rattle.ckrt_disk.specs.declared.disk.Disk.{Ghosts}
-use Rattle.ckrt_inspect.specs.Inspect.{IsInspected}
+use Rattle.ckrt_inspect.specs.Inspect.{Tells, is_device}
 use Rattle.ckrt_inspect.specs.declared.fault.InspectFault.{InspectFault}
 use Rattle.ckrt_inspect.specs.declared.shown.Shown.{Shown}
 use Rattle.ckrt_jobs.specs.declared.fault.JobFault.{JobFault}
@@ -16,8 +17,9 @@ abbrev pub answer_of : Result (Unit {0}) InspectFault → Result (Unit {0}) JobF
 answer_of (Ok done) = Ok done
 answer_of (Err f) = Err (job.Inspect f)
 
--- the disk was only read, and what it tells was written, or the fault is what it says
-pub record Shows {D : Type 0} (d : Ghosts D) (disk : D) (shown : Shown) (a b : Option (List ℕ)) (result : Result (Unit {0}) JobFault) : Type 0 where
+-- From disk to end the disk was only read. What it tells was written, if it was honest to that end, or the fault is what it says.
+pub record Shows {D : Type 0} (d : Ghosts D) (disk end : D) (shown : Shown) (a b : Option (List ℕ)) (result : Result (Unit {0}) JobFault) : Type 0 where
   pub answer : Result (Unit {0}) InspectFault
-  pub inspected : IsInspected d disk shown a b answer
   pub gives : result ≡ answer_of answer
+  pub read : IsOnlyRead d disk end (is_device answer)
+  pub tells : d.is_honest end → Tells shown (d.content disk) a b answer

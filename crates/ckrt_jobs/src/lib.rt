@@ -3,12 +3,13 @@
 //! [`run_words`] is the whole program behind its words, with files of the system; [`run_words_with`] is the same with images
 //! and disks of any [`Sources`]; [`make_disk`], [`run_disk`] and [`inspect_disk`] are its jobs over any disk.
 //!
-//! Proved of [`make_disk`]: BadConfig comes exactly where the configuration is out of its ranges, before anything is opened;
-//! with a fault of the image, ImageTooLong and want of memory for the image the disk wasn't asked for; a fault of a file is
-//! that of its opening, or of a read of the image. Where the disk is open it is formatted, once: AlreadyFormatted comes
-//! where its first byte is an open gate, after its sync, and it reads as before then; Ok where that gate was closed, and it
-//! holds the program with exactly this image then; Device only where the disk's failures grew; and what a stop leaves at any
-//! moment is that of formatting.
+//! Proved of [`make_disk`]: BadConfig comes exactly where the configuration is out of its ranges, before anything is
+//! opened; with a fault of the image, ImageTooLong and want of memory for the image the disk wasn't asked for; a fault of a
+//! file is that of its opening, or of a read of the image. Where the disk is open it is formatted, once: TooSmall comes
+//! exactly where it is shorter than needed; AlreadyFormatted where its first byte is an open gate, and it reads as before
+//! then; a disk whose first byte is an open gate isn't written, whatever the answer; Ok comes where that gate was closed,
+//! and it holds the program with exactly this image then; Device only where the disk's failures grew; and what a stop
+//! leaves at any moment is that of formatting.
 //!
 //! Proved of [`run_disk`], whatever it answers and over any disk: where nothing is recovered that comes before a byte is
 //! read or written; the fault is the content's, and it is Device only where a call of the disk failed. Else what was written
@@ -25,16 +26,17 @@
 //!
 //! Proved of [`run_words_with`]: its outcome is the one that the words ask for, and the status is that outcome's: for
 //! `format` that of making the disk of DISK with the image of IMAGE, and then the line `formatted SIZE`; for `run` that of
-//! running the disk of DISK; for `inspect` that of showing it; for no words that of serving the stored program; for
-//! `--version` the line of version and kit. A disk that can't be opened is a fault of File with what its sources said. For
-//! each fault the line in plain words, with the path of the file, and the line with its name were reported exactly, or the
-//! reporter failed. The status is 2 never for no words, nor for words that `clap` takes.
+//! running the disk of DISK; for `inspect` that of showing it; for no words that of serving the stored program, of which a
+//! service that ends early has written a beginning; for `--version` the line of version and kit. A disk that can't be
+//! opened is a fault of File with what its sources said. For each fault the line in plain words, with the path of the file,
+//! and the line with its name were reported exactly, or the reporter failed. The status is 2 never for no words, nor for
+//! words that `clap` takes. [`run_words`] says the same of some disk of the system for each path.
 //!
-//! Proved of the files of the system: none that is opened has the descriptor of a standard stream; filling writes nothing
-//! below a file's length.
+//! Proved of the files of the system: none that is opened has the descriptor of a standard stream. Filling writes nothing
+//! below the length that a file tells.
 //!
-//! Only tested: what a path opens, that a file is filled and locked and its folder synced, that [`run_words`] hands its
-//! files on, that faults on standard error reach it.
+//! Only tested: what a path opens, that a file is filled and locked and its folder synced, that faults on standard error
+//! reach it.
 #![tactic(auto)]
 
 mod fault;

@@ -6,7 +6,7 @@ ghost use Rattle.ckrt_checkpoint.specs.Layout.{size_needed};
 ghost use Rattle.ckrt_words.specs.Commands.{ckrt_app};
 ghost use Rattle.ckrt_words.specs.Jobs.{Formatting, Request, format, version, formatting_of, inspection_of, request_of, request_of_words};
 ghost use Rattle.ckrt_jobs.specs.Outcomes.{config_of, made_line, version_line};
-ghost use Rattle.ckrt_jobs.specs.Performing.{MakesPath, Performs, RefusesWords, RunsOpened, RunsPath, RunsRequest, ServesStored, ShowsPath};
+ghost use Rattle.ckrt_jobs.specs.Performing.{MakesPath, Performs, RefusesWords, RunsOnFiles, RunsOpened, RunsPath, RunsRequest, ServesStored, ShowsPath};
 
 use crate::fault::JobFault;
 use crate::file::JobFile;
@@ -91,7 +91,7 @@ fn inspect_path<I: Read, D: Disk + Drop, S: Sources<I, D>, W: Write>(
     ensures shows { (left : Option (List ℕ)) → ShowsPath D.Disk (S.opens sources.old job.now.disk.now) (inspection_of job.now) (S.disk_opening sources.new) (W.contents writer.old) (W.contents writer.new) left left result }
 {
     match sources.look_at_disk(job.disk) {
-        Ok(disk) => inspect_disk(alloc, disk, job, writer),
+        Ok(mut disk) => inspect_disk(alloc, &mut disk, job, writer),
         Err(fault) => Err(JobFault::File(JobFile::Disk, fault)),
     }
 }
@@ -182,6 +182,7 @@ pub fn run_words<F: Files<File = File>, R: Read, W: Write, E: Reporter>(
     ensures version { result ≡ 0 → request_of_words (map (λ s. s.now) words.now) ≡ Some version → Appends (W.contents writer.old) (W.contents writer.new) version_line }
     ensures usage { result ≡ 2 → takes ckrt_app (map (λ s. s.now) words.now) ≢ true }
     ensures stored { result ≡ 2 → words.now ≢ [] }
+    ensures outcome { ((q : Request) × (request_of_words (map (λ s. s.now) words.now) ≡ Some q) × RunsOnFiles ⟦<FileDisk<SystemFile<Brand>> as Disk>⟧ q (W.contents writer.old) (W.contents writer.new) (R.remaining reader.old) (R.remaining reader.new) (E.said reporter.old) (E.said reporter.new) (E.has_failed reporter.new) result) ⊎ RefusesWords (map (λ s. s.now) words.now) (W.contents writer.old) (W.contents writer.new) (R.remaining reader.old) (R.remaining reader.new) (E.said reporter.old) (E.said reporter.new) (E.has_failed reporter.new) result }
 {
     let mut sources = SystemSources::new(rt);
     run_words_with::<File, SystemDisk, SystemSources<'_, F>, R, W, E>(

@@ -27,17 +27,16 @@ fn shown(job: &InspectJob<'_>) -> Shown
 ///
 /// `Inspect`: where nothing is recovered from it or it has no state after so many events, where the disk failed a read or
 /// memory was refused, all before anything is written; or where the writer failed.
-pub fn inspect_disk<D: Disk + Drop, W: Write>(
+pub fn inspect_disk<D: Disk, W: Write>(
     alloc: Global,
-    disk: D,
+    disk: &mut D,
     job: &InspectJob<'_>,
     writer: &mut W,
 ) -> Result<(), JobFault>
-    ensures shows { Shows D.Disk disk (shown_of job.now.at job.now.code) (W.contents writer.old) (W.contents writer.new) result }
+    ensures shows { Shows D.Disk disk.old disk.new (shown_of job.now.at job.now.code) (W.contents writer.old) (W.contents writer.new) result }
     ensures unwritten { IfErr result (λ e. e ≢ Inspect Writing → writer.new ≡ writer.old) }
 {
-    let mut disk = disk;
-    match inspect_with(alloc, &mut disk, shown(job), writer) {
+    match inspect_with(alloc, disk, shown(job), writer) {
         Ok(()) => Ok(()),
         Err(fault) => Err(JobFault::Inspect(fault)),
     }

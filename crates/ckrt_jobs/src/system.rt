@@ -3,7 +3,7 @@ ghost use Rattle.std.specs.Prelude.{◌≡◌, None, IfOk, IfErr};
 ghost use Rattle.ckrt_jobs.specs.Streams.{IsBesideStreams};
 
 use crate::file::{FileFault, Opening};
-use crate::filling::fill;
+use crate::filling::fill_up;
 use crate::sources::Sources;
 use ckrt_disk::{FileDisk, Holds, SystemFile};
 use std::fs::{File, Files, OpenOptions};
@@ -89,10 +89,13 @@ fn open_or_make<R: Files<File = File>>(rt: &R, path: &str) -> Result<File, FileF
     }
 }
 
-/// The disk of an open file, with as many bytes as the file.
+/// The disk of an open file, with as many bytes as the file. A directory, which may be opened to be read, is none.
 fn disk_of<H: Holds>(file: File) -> Result<FileDisk<SystemFile<H>>, FileFault> {
-    let size = file.metadata()?.len() as usize;
-    Ok(FileDisk::new(SystemFile::new(file), size))
+    let told = file.metadata()?;
+    if told.is_dir() {
+        return Err(FileFault::IsADirectory);
+    }
+    Ok(FileDisk::new(SystemFile::new(file), told.len() as usize))
 }
 
 /// A file of at least so many bytes: one that is missing or shorter is filled with zero bytes.
@@ -104,8 +107,7 @@ fn open_filled_file<R: Files<File = File>>(
     ensures { IfOk result IsBesideStreams }
 {
     let file = open_or_make(rt, path)?;
-    let length = file.metadata()?.len() as usize;
-    fill(&mut &file, length, size)?;
+    fill_up(&mut &file, size)?;
     Ok(file)
 }
 
