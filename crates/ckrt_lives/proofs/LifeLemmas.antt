@@ -21,7 +21,7 @@ use Rattle.ckrt_recovery.proofs.SessionLemmas.{output_all}
 use Rattle.ckrt_lives.specs.declared.life.Life.{Life}
 use Rattle.ckrt_lives.specs.declared.life.LifeReport.{LifeReport}
 use Rattle.ckrt_lives.specs.Commands.{commands_of_life}
-use Rattle.ckrt_lives.specs.Lives.{IsUnbroken, HasRecovered, released_to}
+use Rattle.ckrt_lives.specs.Lives.{IsLeftBy, IsUnbroken, HasRecovered, released_to}
 use Rattle.ckrt_lives.specs.Pieces.{HasTaken, Does, HasRun}
 
 -- what is left recovers to a beginning of the list that has the acknowledged events
@@ -108,6 +108,21 @@ module _ {D : Type 0} {g : Ghosts D} where
     part_left : LeavesPart p events new.acknowledged new.progress.confirmed (g.content new.disk)
     part_left = leaves_part p events new (g.content new.disk) has.represents (has_run.recovers honest p events has.represents)
 
+    left_by : new.failed ≡ false → (v : View) → view_of new ≡ v → IsLeftBy v report.left.items
+    left_by well v is =
+        let like = has.represents.images well (g.content new.disk) (record { size = refl; same = λ i _. refl }) in
+        record {
+          recovered = like.to.recovered;
+          recovers = subst (λ (l : List ℕ). Recovers l (ok like.to.recovered)) (sym has_run.left) like.to.recovers;
+          count = like.to.has_events.count ∙ (length-take-le new.acknowledged events has.represents.acknowledged ∙ ap (λ (w : View). w.acknowledged) is);
+          area = like.area ∙ ap (λ (w : View). w.recovered.area) is;
+          generation = like.generation ∙ ap (λ (w : View). w.recovered.generation) is;
+          journal = like.journal ∙ ap (λ (w : View). w.recovered.journal) is;
+        }
+      where
+        ok : Recovered → Result Recovered RecoverFault
+        ok x = Ok x
+
     unbroken : life.stop_at ≡ 0 → IsUnbroken t does.accepted report
     unbroken none =
         let named : g.named_stop new.disk ≡ Some 0 = does.named_stop ∙ (stop ∙ ap (λ (k : ℕ). some k) none) in
@@ -117,6 +132,7 @@ module _ {D : Type 0} {g : Ghosts D} where
           events = whole.events;
           acknowledged = has_run.acknowledged ∙ ap (λ (v : View). v.acknowledged) whole.view;
           released = end ∙ ap (λ (v : View). v.recovered.confirmed) whole.view;
+          left = left_by well t.view whole.view;
         }
       where
         some : ℕ → Option ℕ

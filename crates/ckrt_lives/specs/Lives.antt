@@ -6,7 +6,7 @@ use Rattle.ckrt_image.specs.Format.{IsFormatted}
 use Rattle.ckrt_image.specs.Programs.{Program, RecoversTo, output_after}
 use Rattle.ckrt_image.specs.Recovery.{Recovered, Recovers}
 use Rattle.ckrt_recovery.specs.Between.{IsBeginningOf}
-use Rattle.ckrt_recovery.specs.View.{opened}
+use Rattle.ckrt_recovery.specs.View.{View, opened}
 use Rattle.ckrt_recovery.specs.Transcript.{Transcript}
 use Rattle.ckrt_lives.specs.declared.life.Life.{Life}
 use Rattle.ckrt_lives.specs.declared.life.LifeReport.{LifeReport}
@@ -26,12 +26,23 @@ released_to report = report.released_from + length report.released.items
 abbrev pub acknowledged_in : LifeReport → List Event → List Event
 acknowledged_in report events = take report.acknowledged events
 
+-- An image recovers to what a session has acknowledged: so many events, in its area, of its generation, with the journal at its last gate.
+pub record IsLeftBy (v : View) (image : List ℕ) : Type 0 where
+  pub recovered : Recovered
+  pub recovers : Recovers image (Ok recovered)
+  pub count : recovered.count ≡ v.acknowledged
+  pub area : recovered.area ≡ v.recovered.area
+  pub generation : recovered.generation ≡ v.recovered.generation
+  pub journal : recovered.journal ≡ v.recovered.journal
+
 -- a life did all that its commands say
 pub record IsUnbroken (t : Transcript) (accepted : List Event) (report : LifeReport) : Type 0 where
   pub events : accepted ≡ t.events
   pub acknowledged : report.acknowledged ≡ t.view.acknowledged
   -- its output is released up to there
   pub released : released_to report ≡ t.view.recovered.confirmed
+  -- and its image holds just that
+  pub left : IsLeftBy t.view report.left.items
 
 -- A life that recovered from an image: `before` is the list of the last life before it that recovered, and `events` its own.
 pub record HasRecovered (p : Program) (life : Life) (report : LifeReport) (image : List ℕ) (before events : List Event) : Type 0 where
