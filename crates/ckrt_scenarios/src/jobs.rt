@@ -216,6 +216,7 @@ fn expect_no_disks<R: Abort + Files<File = File> + AllocGlobal>(rt: &R) {
     expect_fault(rt, "run .", FOLDER);
     write_file(rt, "jobs_e.disk", b"CKRTDISK");
     expect_fault(rt, "run jobs_e.disk", SHORT_DISK);
+    expect_fault(rt, "inspect .", FOLDER);
     expect_fault(rt, "inspect jobs_none.disk", ABSENT_DISK);
     expect_fault(rt, "inspect jobs_e.disk --code", SHORT_DISK);
     remove_file(rt, "jobs_e.disk");
