@@ -51,17 +51,20 @@ fn report_unformatted(disk: MemoryDisk, fault: FormatFault) -> &'static str {
     }
 }
 
+/// What to say of a recovery behind one that was refused memory: there may be none for it either.
+fn report_second_recovery(alloc: Global, disk: MemoryDisk) -> &'static str {
+    match recovery_refusal(alloc, disk) {
+        None => "recovery: OutOfMemory",
+        Some((RecoverFault::OutOfMemory, _)) => "recovery: OutOfMemory twice",
+        Some(_) => "recovery changed the disk",
+    }
+}
+
 /// What to say of a recovery: where it was refused, a second try recovers the disk.
 fn report_recovery(alloc: Global, disk: MemoryDisk) -> &'static str {
     match recovery_refusal(alloc, disk) {
         None => "recovered",
-        Some((RecoverFault::OutOfMemory, disk)) => {
-            if recovery_refusal(alloc, disk).is_none() {
-                "recovery: OutOfMemory"
-            } else {
-                "recovery changed the disk"
-            }
-        }
+        Some((RecoverFault::OutOfMemory, disk)) => report_second_recovery(alloc, disk),
         Some(_) => "recovery met something else",
     }
 }
