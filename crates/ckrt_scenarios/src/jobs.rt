@@ -210,13 +210,16 @@ const ABSENT_DISK: &str = "the disk jobs_none.disk: there is no such file\nckrt:
 const SHORT_DISK: &str =
     "the disk jobs_e.disk: `ckrt format` didn't make it, or was stopped meanwhile; format it (docs/OPERATING.md)\nckrt: NotFormatted\n";
 
+/// A folder that nobody locks: the one in which tests run may be locked.
+const ROOT_FOLDER: &str = "the disk /: it is a directory\nckrt: File\n";
+
 /// Files that are no disks.
 fn expect_no_disks<R: Abort + Files<File = File> + AllocGlobal>(rt: &R) {
     expect_fault(rt, "run jobs_none.disk", ABSENT_DISK);
     expect_fault(rt, "run .", FOLDER);
     write_file(rt, "jobs_e.disk", b"CKRTDISK");
     expect_fault(rt, "run jobs_e.disk", SHORT_DISK);
-    expect_fault(rt, "inspect .", FOLDER);
+    expect_fault(rt, "inspect /", ROOT_FOLDER);
     expect_fault(rt, "inspect jobs_none.disk", ABSENT_DISK);
     expect_fault(rt, "inspect jobs_e.disk --code", SHORT_DISK);
     remove_file(rt, "jobs_e.disk");
