@@ -8,6 +8,7 @@ from dataclasses import dataclass
 
 from abi import PAGE
 from devices import MemoryDisk
+from processor import Memory
 from tables import encode_tables
 from threads import State
 
@@ -84,11 +85,11 @@ def write_gate(disk, at, gate):
     disk.write(at, bytes([gate]))
 
 
-def write_contents(disk, geometry, area, header, tables, contents):
-    """Tables, all pages and the header's fields of an area; its gate is the caller's."""
+def write_contents(disk, geometry, area, header, tables, memory):
+    """Tables, the pages that are dirty for the area, and the header's fields; the area's gate and the marks are the caller's."""
     disk.write(geometry.tables_at(area), tables)
-    for page in range(1, geometry.pages):
-        disk.write(geometry.page_at(area, page), contents[PAGE * (page - 1):PAGE * page])
+    for page in sorted(memory.dirty[area]):
+        disk.write(geometry.page_at(area, page), memory.page(page))
     disk.write(geometry.area_at(area) + HEADER_AT, header.encoding())
 
 
@@ -119,9 +120,9 @@ def format_onto(disk, geometry, image):
     if refusal is not None:
         raise Unformatted(refusal)
     tables = fresh_tables(geometry.pages)
-    contents = image + bytes(geometry.image_limit - len(image))
+    memory = Memory(geometry.pages, image + bytes(geometry.image_limit - len(image)))
     write_gate(disk, geometry.area_at(0), OPEN)
-    write_contents(disk, geometry, 0, Header(1, 0, 0, len(tables)), tables, contents)
+    write_contents(disk, geometry, 0, Header(1, 0, 0, len(tables)), tables, memory)
     write_gate(disk, geometry.journal_at(0), CLOSED)
     write_gate(disk, geometry.area_at(1), CLOSED)
     disk.write(SUPERBLOCK_AT, SUPERBLOCK.pack(MAGIC, VERSION, geometry.pages, geometry.harts, geometry.journal))

@@ -12,7 +12,7 @@ from promises import whole_state
 from recovery import recover
 from session import Session
 from streams import joined
-from test_rows import PUTS_A, SMALL
+from test_rows import PUTS_A, SMALL, STORES
 
 LINES = b"place 0 1\nrun 0 2\ncommit\nrun 0 1\ncheckpoint\nrun x\ncommit\ntick 1\ncheckpoint\nrun 0 9\ncommit\nquit\ncommit\n"
 CASE = Case(SMALL, PUTS_A, [])
@@ -68,9 +68,14 @@ class Fates(unittest.TestCase):
         self.assertLessEqual(offset, len(shown))
 
     def test_every_call(self):
-        contents = format_disk(SMALL, PUTS_A)
+        """The second checkpoint writes no page of the first image, and one of the other, whose program then faults."""
+        self.require_each_call(CASE, [5, 26, 34, 38])
+        self.require_each_call(Case(SMALL, STORES, []), [5, 26, 35])
+
+    def require_each_call(self, case, counts):
+        contents = format_disk(SMALL, case.image)
         behind = calls_behind_works(contents, LINES)
-        self.assertEqual(behind, [5, 26, 49, 53])
+        self.assertEqual(behind, counts)
         self.assertRaises(DeviceFault, self.failed, contents, LINES, 1)
         for call in range(2, behind[-1] + 3):
             fate = next((number for number, last in enumerate(behind, 1) if call <= last), None)
@@ -79,7 +84,7 @@ class Fates(unittest.TestCase):
                     replies, left = self.failed(contents, LINES, call, kept)
                     self.assertEqual(replies, transcript(contents, LINES, fate))
                     self.assertEqual("no 25 Device" in replies, fate is not None)
-                    self.require_prefix(CASE, LINES, left, replies)
+                    self.require_prefix(case, LINES, left, replies)
 
     def test_after_device(self):
         """One Device; then faults of lines come first, and everything else has failed. Nothing more is shown."""

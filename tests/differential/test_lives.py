@@ -13,7 +13,7 @@ from lines import Plain
 from lives import Life, lives
 from promises import Broken, require_promises
 from recovery import recover
-from test_rows import FILLS, PUTS_A, SMALL
+from test_rows import FILLS, PUTS_A, SMALL, STORES
 
 COMMIT, CHECKPOINT, QUIT = Plain(b"commit"), Plain(b"checkpoint"), Plain(b"quit")
 WORKED = [Life([Place(0, 1), Run(0, 2), COMMIT], 4, b"\xa5"), Life([], 1), Life([Run(0, 4), COMMIT]), Life([]), Life([CHECKPOINT]),
@@ -55,8 +55,8 @@ class Stops(unittest.TestCase):
     def test_every_call(self):
         """A commit, a checkpoint, and another one whose area's gate stands open: each call with each fill, then a life on it."""
         commands = [Place(0, 1), Run(0, 3), COMMIT, CHECKPOINT, Run(0, 1), CHECKPOINT]
-        gates = {2, 4, 5, 6, 7, 25, 26, 27, 28, 29, 48, 49}
-        for call in range(1, 52):
+        gates = {2, 4, 5, 6, 7, 25, 26, 27, 28, 29, 33, 34}
+        for call in range(1, 37):
             for fill in FILLS if call in gates else [FILLS[call % len(FILLS)]]:
                 listed = [Life(commands, call, fill), Life([Plain(b""), Run(0, 1), COMMIT, QUIT, CHECKPOINT]), Life([])]
                 with self.subTest(fill=fill, call=call):
@@ -64,10 +64,20 @@ class Stops(unittest.TestCase):
                     self.assertTrue(reports == foreseen(PUTS_A, SMALL, listed))
                     require_promises(PUTS_A, SMALL, listed, reports)
 
+    def test_every_call_of_changed_pages(self):
+        """Checkpoints that write one page, one and none, then a life that has to write them again."""
+        commands = [Place(0, 1), COMMIT, CHECKPOINT, Run(0, 2), COMMIT, CHECKPOINT, CHECKPOINT, CHECKPOINT]
+        for call in range(27, 58):
+            listed = [Life(commands, call, FILLS[call % len(FILLS)]), Life([CHECKPOINT, CHECKPOINT, CHECKPOINT]), Life([])]
+            with self.subTest(call):
+                reports = lives(STORES, SMALL, listed)
+                self.assertTrue(reports == foreseen(STORES, SMALL, listed))
+                require_promises(STORES, SMALL, listed, reports)
+
     def test_numbers(self):
-        """Without a stop: one sync, four calls of a commit, then 21, then 23; a stop behind them all is none."""
+        """Without a stop: one sync, four calls of a commit, then 21, then 8; a stop behind them all is none."""
         commands = commands_of([b"place 0 1", b"commit", b"checkpoint", b"run 0 2", b"checkpoint"])
-        for call, acknowledged in ((0, 2), (5, 0), (6, 1), (26, 1), (27, 1), (48, 1), (49, 1), (50, 2), (2 ** 64 - 1, 2)):
+        for call, acknowledged in ((0, 2), (5, 0), (6, 1), (26, 1), (27, 1), (33, 1), (34, 1), (35, 2), (2 ** 64 - 1, 2)):
             with self.subTest(call):
                 self.assertEqual(lives(PUTS_A, SMALL, [Life(commands, call)])[0].acknowledged, acknowledged)
 

@@ -22,6 +22,7 @@ def image(words):
 
 PUTS_A = image("04100513 00200893 00000073 00000513 00100893 00000073")
 GETS = image("00300893 00000073 00200893 00000073")
+STORES, STORES_ZERO = image("000022b7 0052a023"), image("000022b7 0002a023")  # one word, to 0x2000
 JOINS = image("00001537 02850513 04200593 00a00893 00000073 00058513 00b00893 00000073 00100893 00000073 00200893 00000073 "
               "00008067")
 
@@ -213,7 +214,7 @@ class Stopped(unittest.TestCase):
 
     def test_checkpoint(self):
         for fill in FILLS:
-            for call in range(31, 54):
+            for call in range(31, 39):
                 session = self.session(call, fill)
                 submit(session, Place(0, 1))
                 self.assertEqual([session.commit(), session.checkpoint()], ["ack 1", "ack 1"])
@@ -221,7 +222,7 @@ class Stopped(unittest.TestCase):
                 submit(session, Run(0, 2))
                 self.assertEqual([session.commit(), session.checkpoint()], ["ack 2", "no 25 Device"])
                 found = recover(MemoryDisk(session.disk.bytes))
-                gate_open = session.disk.bytes[AREAS[0]] == 0xA5 and call > 51
+                gate_open = session.disk.bytes[AREAS[0]] == 0xA5 and call > 36
                 self.assertEqual((found.events, found.generation), (2, 3 if gate_open else 2))
 
     def test_pending_at_a_checkpoint(self):
@@ -245,10 +246,10 @@ class Stopped(unittest.TestCase):
             submit(session, *events)
             self.assertTrue(ask().startswith("ack"))
             calls.append(session.disk.calls)
-        self.assertEqual(calls, [1, 5, 26, 30, 53])
+        self.assertEqual(calls, [1, 5, 26, 30, 38])
         self.assertEqual((session.recovered.generation, session.room), (3, 4095))
         session.commit()
-        self.assertEqual(session.disk.calls, 53)
+        self.assertEqual(session.disk.calls, 38)
 
     def test_lives(self):
         """Six lives: what each recovers, has acknowledged and has released."""
@@ -345,6 +346,78 @@ class Checkpoints(unittest.TestCase):
         expected[AREAS[1] + 106496:AREAS[1] + 106496 + 24] = PUTS_A
         expected[JOURNALS[1]] = 0
         self.assertEqual(disk, expected)
+
+
+class ChangedPages(unittest.TestCase):
+    """Which calls a checkpoint makes: of the pages only those that its area doesn't hold are written."""
+
+    def setUp(self):
+        self.contents = format_disk(SMALL, STORES)
+
+    def session(self):
+        return Session(StoppingDisk(self.contents, 0))
+
+    def pages_of(self, session):
+        """The pages that a checkpoint writes."""
+        written, write, area = [], session.disk.write, 1 - session.recovered.area
+        places = {AREAS[area] + 102400 + 4096 * page: page for page in range(1, 16)}
+
+        def noting(at, data):
+            if at in places:
+                self.assertEqual(len(data), 4096)
+                written.append(places[at])
+            write(at, data)
+
+        session.disk.write = noting
+        self.assertTrue(session.checkpoint().startswith("ack"))
+        session.disk.write = write
+        return written
+
+    def stored(self, session, commits=True):
+        submit(session, Place(0, 1), Run(0, 2))
+        if commits:
+            session.commit()
+        return session
+
+    def test_calls(self):
+        for contents, word in ((STORES, 0x2000), (STORES_ZERO, 0)):
+            self.contents = format_disk(SMALL, contents)
+            session = self.session()
+            submit(session, Place(0, 1))
+            session.commit()
+            session.checkpoint()
+            submit(session, Run(0, 2))
+            session.commit()
+            calls = [session.disk.calls]
+            for pages in ([2], [2], []):
+                self.assertEqual(self.pages_of(session), pages)
+                calls.append(session.disk.calls)
+            self.assertEqual(calls, [30, 39, 48, 56])
+            found = recover(MemoryDisk(session.disk.bytes))
+            self.assertEqual((found.generation, found.machine.memory.load(0x2000, 4)), (5, word))
+
+    def test_replayed_stores(self):
+        """A recovered area lacks what the replay stored; the other one is written whole, whatever it holds."""
+        self.contents = self.stored(self.session()).disk.bytes
+        session = self.session()
+        self.assertEqual([self.pages_of(session) for _ in range(4)], [[*range(1, 16)], [2], [], []])
+        self.contents = session.disk.bytes
+        session = self.session()
+        self.assertEqual([self.pages_of(session) for _ in range(3)], [[*range(1, 16)], [], []])
+
+    def test_stored_without_a_commit(self):
+        session = self.stored(self.session(), commits=False)
+        self.assertEqual([self.pages_of(session) for _ in range(3)], [[*range(1, 16)], [2], []])
+
+    def test_ends_of_pages(self):
+        """The last byte of one page and the first of the next; a store that faults marks none."""
+        for words, pages in (("000022b7 fe528fa3", [1]), ("000022b7 00528023", [2]), ("000102b7 fe528fa3", [15]),
+                             ("000102b7 00528023", []), ("000012b7 fe52ae23", [])):
+            self.contents = format_disk(SMALL, image(words))
+            session = self.session()
+            session.checkpoint()
+            self.stored(session)
+            self.assertEqual([self.pages_of(session) for _ in range(3)], [pages, pages, []], words)
 
 
 class Listings(unittest.TestCase):

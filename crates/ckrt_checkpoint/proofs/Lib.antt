@@ -3,3 +3,4 @@ pub mod ByteLemmas
 pub mod WriteLemmas
 pub mod SaveLemmas
 pub mod HoldLemmas
+pub mod SlotLemmas

@@ -9,15 +9,16 @@ use Rattle.ckrt_disk.specs.declared.disk.Disk.{Ghosts}
 use Rattle.ckrt_disk.proofs.FrameLemmas.{failed_within, wider, writes_on_within}
 use Rattle.ckrt_disk.proofs.Images.{part_same}
 use Rattle.ckrt_disk.proofs.Moments.{goes_on, weaker}
+use Rattle.ckrt_memory.specs.Marks.{Memory}
 use Rattle.ckrt_checkpoint.specs.declared.config.Config.{Config}
 use Rattle.ckrt_checkpoint.specs.declared.fault.AreaFault.{AreaFault}
 use Rattle.ckrt_checkpoint.specs.declared.header.Header.{Header}
 use Rattle.ckrt_checkpoint.specs.Answers.{is_device}
 use Rattle.ckrt_checkpoint.specs.Fields.{HasBytes, header_fields}
-use Rattle.ckrt_checkpoint.specs.Holds.{HasNoBatch, HoldsArea, slot_at}
+use Rattle.ckrt_checkpoint.specs.Holds.{CleanPagesStand, HasNoBatch, HoldsArea, slot_at}
 use Rattle.ckrt_checkpoint.specs.Layout.{area_at, is_gate_open, journal_of, tables_at}
-use Rattle.ckrt_checkpoint.specs.Write.{FillsAt, GateAt, HasSaved, IsAreaWrite, IsClosing, IsDurable, IsFilled, IsFilling, WritesAt, calls_of, calls_of_closing}
-use Rattle.ckrt_checkpoint.proofs.WriteLemmas.{area_within}
+use Rattle.ckrt_checkpoint.specs.Write.{FillsAt, GateAt, HasSaved, IsAreaWrite, IsClosing, IsDurable, IsFilled, IsFilling, WritesAt, calls_of, calls_of_closing, dirty_pages}
+use Rattle.ckrt_checkpoint.proofs.WriteLemmas.{area_within, clean_stand}
 
 -- GATES
 
@@ -160,14 +161,19 @@ module _ {D : Type 0} (d : Ghosts D) (c : Config) (area gate_at : ℕ) (there : 
       → WritesWithin d (WritesAt c area) (k + m + 2) old new failed
   then_opened k m old mid full new failed gate fill = writes_on_within d (WritesAt c area) (IsWithin gate_at 1) (k + m) 2 old full new failed is_gate (then_filled k m old mid full false gate fill)
 
+-- the gate is in no slot
+pub clean_there : {D : Type 0} (d : Ghosts D) (c : Config) (area : ℕ) (m : Memory) (k : ℕ) (old mid : D) (gate_at : ℕ) → gate_at ≡ area_at c area → d.is_honest mid → WritesWithin d (IsWithin gate_at 1) k old mid false
+    → CleanPagesStand c area m (d.content old) → CleanPagesStand c area m (d.content mid)
+clean_there d c area m k old mid gate_at there honest gate = clean_stand d (IsWithin gate_at 1) k c area m old mid honest gate (λ p i low below w v. omega (arith, w.0, v.1, there))
+
 -- where the disk failed the last call, the number of calls isn't said
-pub failed_write : {D X : Type 0} (d : Ghosts D) (c : Config) (area n : ℕ) (old new : D) (result : Result X AreaFault) → is_device result ≡ true → WritesWithin d (WritesAt c area) n old new true → IsAreaWrite d c area old new result
-failed_write d c area n old new result failed calls = record {
+pub failed_write : {D X : Type 0} (d : Ghosts D) (c : Config) (area n : ℕ) (m : Memory) (old new : D) (result : Result X AreaFault) → is_device result ≡ true → WritesWithin d (WritesAt c area) n old new true → IsAreaWrite d c area m old new result
+failed_write d c area n m old new result failed calls = record {
   was_open = false;
   read = λ honest. not_ok _ result failed;
-  within = failed_within d (WritesAt c area) n (calls_of c false result) old new (is_device result) failed calls;
+  within = failed_within d (WritesAt c area) n (calls_of (dirty_pages c area m) false result) old new (is_device result) failed calls;
 }
 
-pub closing_calls : (was_open : Bool) (p : ℕ) → calls_of_closing {X = DeviceFault} (Ok was_open) + (p + 3) + 2 ≡ (if was_open then 2 else 0) + p + 5
-closing_calls true p = omega arith
-closing_calls false p = omega arith
+pub closing_calls : (was_open : Bool) (k : ℕ) → calls_of_closing {X = DeviceFault} (Ok was_open) + (k + 4) + 2 ≡ (if was_open then 2 else 0) + k + 6
+closing_calls true k = omega arith
+closing_calls false k = omega arith

@@ -1,6 +1,6 @@
 -- How the calls that write an area join, and what they leave standing.
-use Rattle.std.proofs.Common.{◌≡◌, inl, inr, ℕ, ◌+◌, ◌-◌, ◌*◌, ◌≤◌, ◌<◌, Bool, true, false, List, [], ◌∷◌, length, take, drop, Result, Ok, Err, OnOk, is_err, refl, sym, ◌∙◌, ap, subst, arith, length-drop}
-use Rattle.std.proofs.lemmas.Bool.{cases_lt}
+use Rattle.std.proofs.Common.{◌≡◌, ◌⊎◌, inl, inr, ⊎_elim, ℕ, zero, suc, ◌+◌, ◌-◌, ◌*◌, ◌≤◌, ◌<◌, Bool, true, false, List, [], ◌∷◌, length, take, drop, Result, Ok, Err, OnOk, is_err, refl, sym, ◌∙◌, ap, subst, arith, length-drop}
+use Rattle.std.proofs.lemmas.Bool.{cases_eq, cases_lt}
 use Rattle.std.proofs.lemmas.Bool.Decides.{nat_tests}
 use Rattle.std.proofs.lemmas.List.{length-take-le}
 use Rattle.ckrt_disk.specs.Disk.{IsOverwritten, IsWithin}
@@ -8,14 +8,15 @@ use Rattle.ckrt_disk.specs.Frame.{WritesWithin}
 use Rattle.ckrt_disk.specs.declared.disk.Disk.{Ghosts}
 use Rattle.ckrt_disk.proofs.FrameLemmas.{wider, writes_on_within}
 use Rattle.ckrt_disk.proofs.Images.{part_same, written_there}
+use Rattle.ckrt_memory.specs.Marks.{Memory, is_dirty}
 use Rattle.ckrt_memory.specs.Pages.{page_of}
 use Rattle.ckrt_checkpoint.specs.declared.config.Config.{Config}
 use Rattle.ckrt_checkpoint.specs.declared.header.Header.{Header}
 use Rattle.ckrt_checkpoint.specs.Fields.{HasBytes, header_fields}
-use Rattle.ckrt_checkpoint.specs.Holds.{HasNoBatch, slot, slot_at}
+use Rattle.ckrt_checkpoint.specs.Holds.{CleanPagesStand, HasNoBatch, IsInSlot, slot, slot_at}
 use Rattle.ckrt_checkpoint.proofs.PickLemmas.{area_end}
 use Rattle.ckrt_checkpoint.specs.Layout.{is_valid, area_at, area_size, journal_of, size_needed, tables_at}
-use Rattle.ckrt_checkpoint.specs.Write.{FillsAt, IsFilled, PagesAt}
+use Rattle.ckrt_checkpoint.specs.Write.{FillsAt, IsFilled, PagesAt, dirty_count, one_if_dirty}
 
 -- what holds where the last call answered Ok, from what it says of that
 pub on_ok_with : {D T E P Q : Type 0} {d : Ghosts D} {region : ℕ → Type 0} {n : ℕ} {old new : D} (result : Result T E) → OnOk result P → WritesWithin d region n old new (is_err result)
@@ -45,6 +46,16 @@ journal_inside c area size low some room = elim (cases_lt area 1) [
   | inr le ↦ subst (λ i. (journal_of c i).at + 1 ≤ size) (let e : 1 ≡ area = omega (arith, le, low) in e) (omega (arith, some, room))
 ]
 
+-- the pages below n, and those that are clean, stand in their slots
+abbrev pub StandUpTo : Config → (area n : ℕ) → Memory → List ℕ → Type 0
+StandUpTo c area n m image = (p : ℕ) → 1 ≤ p → p < c.pages → (p < n) ⊎ (is_dirty area p m ≡ false) → slot c area p image ≡ page_of m.bytes p
+
+count_on : (area p : ℕ) (m : Memory) → 1 ≤ p → dirty_count area (p - 1) m + one_if_dirty area p m ≡ dirty_count area (p + 1 - 1) m
+count_on area zero m some = absurd (omega (arith, some))
+count_on area (suc p) m some =
+    let before : suc p - 1 ≡ p = omega arith in let now : suc p + 1 - 1 ≡ suc p = omega arith in
+    ap (λ n. dirty_count area n m + one_if_dirty area (suc p) m) before ∙ ap (λ n. dirty_count area n m) (sym now)
+
 pub page_inside : (c : Config) (area p size : ℕ) → area ≤ 1 → p < c.pages → size_needed c ≤ size → slot_at c area p + 4096 ≤ size
 page_inside c area p size low below room = let end = area_within c area low in omega (arith, end, below, room)
 
@@ -56,26 +67,39 @@ module _ {D : Type 0} (d : Ghosts D) where
       let same = calls.content refl honest in
       part_same n at (d.content new) (d.content old) same.size (λ i w. same.same i (apart i w))
 
-  -- one page more was written
-  pub pages_on : (c : Config) (area p at size : ℕ) (start mid new : D) (failed : Bool) → at ≡ slot_at c area p → size ≡ 4096 → 1 ≤ p → p < c.pages
-      → WritesWithin d (PagesAt c area) (p - 1) start mid false → WritesWithin d (IsWithin at size) 1 mid new failed → WritesWithin d (PagesAt c area) (p + 1 - 1) start new failed
-  pages_on c area p at size start mid new failed there long some below first second =
-      subst (λ n. WritesWithin d (PagesAt c area) n start new failed) (let e : p - 1 + 1 ≡ p + 1 - 1 = omega arith in e)
-      (writes_on_within d (PagesAt c area) (IsWithin at size) (p - 1) 1 start mid new failed (λ i w. (omega (arith, w.0), omega (arith, w.1))) first second)
+  -- a page was written into its slot
+  pub page_stands : (c : Config) (area p : ℕ) (memory page : List ℕ) (at : ℕ) (old new : D) → at ≡ slot_at c area p → page ≡ page_of memory p → length page ≡ 4096 → at + 4096 ≤ length (d.content old)
+      → IsOverwritten (d.content old) at page (d.content new) → slot c area p (d.content new) ≡ page_of memory p
+  page_stands c area p memory page at old new there is long room written =
+      ap (λ n. take 4096 (drop n (d.content new))) (sym there)
+      ∙ ap (λ n. take n (drop at (d.content new))) (sym long)
+      ∙ written_there (d.content old) at page (d.content new) written (omega (arith, long, room))
+      ∙ is
 
-  pub pages_stand : (c : Config) (area p : ℕ) (memory page : List ℕ) (at : ℕ) (mid new : D) → d.is_honest new → at ≡ slot_at c area p → page ≡ page_of memory p → length page ≡ 4096 → at + 4096 ≤ length (d.content mid)
-      → WritesWithin d (IsWithin at (length page)) 1 mid new false → IsOverwritten (d.content mid) at page (d.content new)
-      → ((q : ℕ) → 1 ≤ q → q < p → slot c area q (d.content mid) ≡ page_of memory q) → (q : ℕ) → 1 ≤ q → q < p + 1 → slot c area q (d.content new) ≡ page_of memory q
-  pages_stand c area p memory page at mid new honest there is long room calls written before q some below = elim (cases_lt q p) [
-    | inl lt ↦ part_kept (IsWithin at (length page)) 1 mid new honest calls (slot_at c area q) 4096 (λ i w v. omega (arith, w.0, w.1, v.0, v.1)) ∙ before q some lt
-    | inr le ↦
-        let same : q ≡ p = omega (arith, le, below) in
-        ap (λ n. take 4096 (drop (slot_at c area n) (d.content new))) same
-        ∙ ap (λ n. take 4096 (drop n (d.content new))) (sym there)
-        ∙ ap (λ n. take n (drop at (d.content new))) (sym long)
-        ∙ written_there (d.content mid) at page (d.content new) written (omega (arith, long, room))
-        ∙ is ∙ ap (λ n. page_of memory n) (sym same)
+  -- one page more was written, if it is dirty
+  pub pages_on : (c : Config) (area p : ℕ) (m : Memory) (start mid new : D) (failed : Bool) → 1 ≤ p → p < c.pages
+      → WritesWithin d (PagesAt c area) (dirty_count area (p - 1) m) start mid false → WritesWithin d (IsWithin (slot_at c area p) 4096) (one_if_dirty area p m) mid new failed
+      → WritesWithin d (PagesAt c area) (dirty_count area (p + 1 - 1) m) start new failed
+  pages_on c area p m start mid new failed some below first second =
+      subst (λ n. WritesWithin d (PagesAt c area) n start new failed) (count_on area p m some)
+      (writes_on_within d (PagesAt c area) (IsWithin (slot_at c area p) 4096) (dirty_count area (p - 1) m) (one_if_dirty area p m) start mid new failed (λ i w. (omega (arith, w.0), omega (arith, w.1))) first second)
+
+  -- so it stands in its slot, and the others stand as before
+  pub pages_stand : (c : Config) (area p : ℕ) (m : Memory) (mid new : D) → d.is_honest new → 1 ≤ p → p < c.pages
+      → WritesWithin d (IsWithin (slot_at c area p) 4096) (one_if_dirty area p m) mid new false → (IsInSlot c area p m (d.content mid) → slot c area p (d.content new) ≡ page_of m.bytes p)
+      → StandUpTo c area p m (d.content mid) → StandUpTo c area (p + 1) m (d.content new)
+  pages_stand c area p m mid new honest low below calls written before q some inside which = elim (cases_eq q p) [
+    | inl same ↦ subst (λ n. slot c area n (d.content new) ≡ page_of m.bytes n) (sym same) (written (λ clean. before p low below (inr clean)))
+    | inr other ↦
+        part_kept (IsWithin (slot_at c area p) 4096) (one_if_dirty area p m) mid new honest calls (slot_at c area q) 4096 (λ i w v. other (omega (arith, w.0, w.1, v.0, v.1)))
+        ∙ before q some inside (⊎_elim (λ lt. inl (omega (arith, lt, other))) inr which)
   ]
+
+  -- calls that write no slot leave the clean pages in theirs
+  pub clean_stand : (region : ℕ → Type 0) (k : ℕ) (c : Config) (area : ℕ) (m : Memory) (old new : D) → d.is_honest new → WritesWithin d region k old new false
+      → ((p i : ℕ) → 1 ≤ p → p < c.pages → IsWithin (slot_at c area p) 4096 i → ¬ region i) → CleanPagesStand c area m (d.content old) → CleanPagesStand c area m (d.content new)
+  clean_stand region k c area m old new honest calls apart stand p some below clean =
+      part_kept region k old new honest calls (slot_at c area p) 4096 (λ i w. apart p i some below w) ∙ stand p some below clean
 
   -- BEHIND THE GATE
 
@@ -89,13 +113,13 @@ module _ {D : Type 0} (d : Ghosts D) where
   part_on c area m k at n old mid new failed low high = writes_on_within d (FillsAt c area) (IsWithin at n) m k old mid new failed (λ i w. inl (omega (arith, w.0, low), omega (arith, w.1, high)))
 
   -- what stands behind the gate then
-  module _ (c : Config) (area : ℕ) (h : Header) (tables memory : List ℕ) (gate_at at fields_at : ℕ) (fields : List ℕ) (s₀ s₁ s₂ s₃ s₄ : D)
+  module _ (c : Config) (area : ℕ) (h : Header) (tables : List ℕ) (m : Memory) (k gate_at at fields_at : ℕ) (fields : List ℕ) (s₀ s₁ s₂ s₃ s₄ : D)
       (low : area ≤ 1) (some : 1 ≤ c.pages) (some_journal : 1 ≤ c.journal) (few : length tables ≤ 98304)
       (gate_there : gate_at ≡ (journal_of c area).at) (there : at ≡ tables_at c area) (fields_there : fields_at ≡ area_at c area + 8) (is_fields : fields ≡ header_fields h) (long : length fields ≡ 32)
       (room : d.is_honest s₀ → size_needed c ≤ length (d.content s₀)) (honest : d.is_honest s₄)
       (w₁ : WritesWithin d (IsWithin gate_at 1) 1 s₀ s₁ false) (o₁ : d.is_honest s₁ → IsOverwritten (d.content s₀) gate_at (0 ∷ []) (d.content s₁))
       (w₂ : WritesWithin d (IsWithin at (length tables)) 1 s₁ s₂ false) (o₂ : d.is_honest s₂ → IsOverwritten (d.content s₁) at tables (d.content s₂))
-      (w₃ : WritesWithin d (PagesAt c area) (c.pages - 1) s₂ s₃ false) (o₃ : d.is_honest s₃ → (p : ℕ) → 1 ≤ p → p < c.pages → slot c area p (d.content s₃) ≡ page_of memory p)
+      (w₃ : WritesWithin d (PagesAt c area) k s₂ s₃ false) (o₃ : d.is_honest s₃ → CleanPagesStand c area m (d.content s₂) → (p : ℕ) → 1 ≤ p → p < c.pages → slot c area p (d.content s₃) ≡ page_of m.bytes p)
       (w₄ : WritesWithin d (IsWithin fields_at (length fields)) 2 s₃ s₄ false) (o₄ : d.is_honest s₄ → IsOverwritten (d.content s₃) fields_at fields (d.content s₄)) where
     honest₃ : d.is_honest s₃
     honest₃ = w₄.same.honest honest
@@ -142,22 +166,28 @@ module _ {D : Type 0} (d : Ghosts D) where
     has_tables : HasBytes (d.content s₄) (tables_at c area) tables
     has_tables =
         behind_fields (tables_at c area) (length tables) (omega arith)
-        ∙ part_kept (PagesAt c area) (c.pages - 1) s₂ s₃ honest₃ w₃ (tables_at c area) (length tables) (λ i w v. omega (arith, w.1, v.0, few))
+        ∙ part_kept (PagesAt c area) k s₂ s₃ honest₃ w₃ (tables_at c area) (length tables) (λ i w v. omega (arith, w.1, v.0, few))
         ∙ subst (λ n. HasBytes (d.content s₂) n tables) there (written_there (d.content s₁) at tables (d.content s₂) (o₂ honest₂) inside)
 
     has_gate : HasNoBatch c area (d.content s₄)
     has_gate =
         behind_fields (journal_of c area).at 1 (omega (arith, end))
-        ∙ part_kept (PagesAt c area) (c.pages - 1) s₂ s₃ honest₃ w₃ (journal_of c area).at 1 (λ i w v. omega (arith, w.0, v.1, end, some))
+        ∙ part_kept (PagesAt c area) k s₂ s₃ honest₃ w₃ (journal_of c area).at 1 (λ i w v. omega (arith, w.0, v.1, end, some))
         ∙ part_kept (IsWithin at (length tables)) 1 s₁ s₂ honest₂ w₂ (journal_of c area).at 1 (λ i w v. omega (arith, w.0, v.1, end, there, few))
         ∙ subst (λ n. HasBytes (d.content s₁) n (0 ∷ [])) gate_there (written_there (d.content s₀) gate_at (0 ∷ []) (d.content s₁) (o₁ honest₁) gate_inside)
 
-    pub is_filled : IsFilled c area h tables memory (d.content s₄)
-    is_filled = record {
+    -- the first two writes leave the slots
+    clean₂ : CleanPagesStand c area m (d.content s₀) → CleanPagesStand c area m (d.content s₂)
+    clean₂ clean =
+        clean_stand (IsWithin at (length tables)) 1 c area m s₁ s₂ honest₂ w₂ (λ p i low below w v. omega (arith, w.0, v.1, there, few))
+        (clean_stand (IsWithin gate_at 1) 1 c area m s₀ s₁ honest₁ w₁ (λ p i low below w v. omega (arith, w.1, v.0, below, end, gate_there)) clean)
+
+    pub is_filled : CleanPagesStand c area m (d.content s₀) → IsFilled c area h tables m.bytes (d.content s₄)
+    is_filled clean = record {
       state = record {
         fields = has_fields;
         encoded = has_tables;
-        pages = λ p from below. behind_fields (slot_at c area p) 4096 (omega arith) ∙ o₃ honest₃ p from below;
+        pages = λ p from below. behind_fields (slot_at c area p) 4096 (omega arith) ∙ o₃ honest₃ (clean₂ clean) p from below;
       };
       no_batch = has_gate;
     }

@@ -1,5 +1,6 @@
 -- What an area holds, page by page.
-use Rattle.std.specs.Prelude.{◌≡◌, ◌≤◌, ◌<◌, ◌+◌, ◌*◌, ℕ, List, [], ◌∷◌, take, drop}
+use Rattle.std.specs.Prelude.{◌≡◌, ◌≤◌, ◌<◌, ◌+◌, ◌*◌, ℕ, false, List, [], ◌∷◌, take, drop}
+use Rattle.ckrt_memory.specs.Marks.{Memory, is_dirty}
 use Rattle.ckrt_memory.specs.Pages.{page_of}
 use Rattle.ckrt_checkpoint.specs.declared.config.Config.{Config}
 use Rattle.ckrt_checkpoint.specs.declared.header.Header.{Header}
@@ -15,11 +16,27 @@ slot_at c area p = area_at c area + 102400 + 4096 * p
 abbrev pub slot : Config → ℕ → ℕ → List ℕ → List ℕ
 slot c area p image = take 4096 (drop (slot_at c area p) image)
 
+-- each page of a memory stands in its slot of an area
+abbrev pub AllPagesStand : Config → (area : ℕ) → (memory image : List ℕ) → Type 0
+AllPagesStand c area memory image = (p : ℕ) → 1 ≤ p → p < c.pages → slot c area p image ≡ page_of memory p
+
 -- A state stands behind an area's gate: the fields of its header, the bytes of its tables, and each page of its memory in its slot.
 pub record HasState (c : Config) (area : ℕ) (h : Header) (tables memory image : List ℕ) : Type 0 where
   pub fields : HasBytes image (area_at c area + 8) (header_fields h)
   pub encoded : HasBytes image (tables_at c area) tables
-  pub pages : (p : ℕ) → 1 ≤ p → p < c.pages → slot c area p image ≡ page_of memory p
+  pub pages : AllPagesStand c area memory image
+
+-- page p of a memory stands in its slot, if it is clean for the area
+abbrev pub IsInSlot : Config → (area p : ℕ) → Memory → (image : List ℕ) → Type 0
+IsInSlot c area p memory image = is_dirty area p memory ≡ false → slot c area p image ≡ page_of memory.bytes p
+
+-- each page of a memory that is clean for the area stands in its slot
+abbrev pub CleanPagesStand : Config → (area : ℕ) → Memory → (image : List ℕ) → Type 0
+CleanPagesStand c area memory image = (p : ℕ) → 1 ≤ p → p < c.pages → IsInSlot c area p memory image
+
+-- so for both areas
+abbrev pub BothStand : Config → Memory → (image : List ℕ) → Type 0
+BothStand c memory image = (area : ℕ) → area ≤ 1 → CleanPagesStand c area memory image
 
 -- An area holds a state whole: it stands behind its gate, and the gate is open.
 pub record HoldsArea (c : Config) (area : ℕ) (h : Header) (tables memory image : List ℕ) : Type 0 where

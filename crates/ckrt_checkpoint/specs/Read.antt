@@ -1,6 +1,7 @@
 -- What reading an area gives.
 use Rattle.std.specs.Prelude.{◌≡◌, ℕ, List, Some, None, Result, Ok, Err}
 use Rattle.circular_buffer.specs.Buffer.{Buffer}
+use Rattle.ckrt_memory.specs.Marks.{Memory}
 use Rattle.ckrt_calls.specs.declared.table.Tables.{Tables}
 use Rattle.ckrt_tables.specs.Decoding.{DecodesTo}
 use Rattle.ckrt_checkpoint.specs.declared.area.Area.{Area}
@@ -16,8 +17,8 @@ pub record HoldsParts (c : Config) (area : Area) (image memory : List ℕ) (tabl
 
 -- What the answer says of the area: what it holds; or that its tables decode to nothing, exactly where Damaged is answered. The other
 -- faults say nothing of the bytes.
-abbrev pub ReadsArea : Config → Area → List ℕ → Result (List ℕ × Tables × Buffer ℕ) AreaFault → Type 0
-ReadsArea c area image (Ok r) = HoldsParts c area image r.0 r.1 r.2.items
+abbrev pub ReadsArea : Config → Area → List ℕ → Result (Memory × Tables × Buffer ℕ) AreaFault → Type 0
+ReadsArea c area image (Ok r) = HoldsParts c area image r.0.bytes r.1 r.2.items
 ReadsArea c area image (Err Damaged) = DecodesTo c.harts (tables_of c area image) None
 ReadsArea c area image (Err Device) = Unit {0}
 ReadsArea c area image (Err GenerationsUsed) = Unit {0}

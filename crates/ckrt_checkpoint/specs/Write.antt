@@ -1,8 +1,9 @@
 -- What writing an area does: a checkpoint into the area that isn't in use.
-use Rattle.std.specs.Prelude.{◌≡◌, ◌⊎◌, ◌+◌, ◌-◌, ◌^◌, ℕ, Bool, true, false, if◌then◌else◌, List, length, Result, Ok, Err, OnOk, IfErr, ◌↔◌}
+use Rattle.std.specs.Prelude.{◌≡◌, ◌⊎◌, ◌+◌, ◌-◌, ◌^◌, ℕ, zero, suc, Bool, true, false, if◌then◌else◌, List, length, Result, Ok, Err, OnOk, IfErr, ◌↔◌}
 use Rattle.ckrt_disk.specs.Disk.{IsWithin}
 use Rattle.ckrt_disk.specs.Frame.{IsSameOutside, WritesWithin}
 use Rattle.ckrt_disk.specs.declared.disk.Disk.{Ghosts}
+use Rattle.ckrt_memory.specs.Marks.{Memory, is_dirty}
 use Rattle.ckrt_checkpoint.specs.declared.config.Config.{Config}
 use Rattle.ckrt_checkpoint.specs.declared.fault.AreaFault.{AreaFault}
 use Rattle.ckrt_checkpoint.specs.declared.fault.AreaFault.TheVariants.{Device, GenerationsUsed}
@@ -77,6 +78,19 @@ calls_of_closing (Ok true) = 2
 calls_of_closing (Ok false) = 0
 calls_of_closing (Err e) = 0
 
+-- how many pages are written for page p: itself, where it is dirty for the area
+abbrev pub one_if_dirty : (area p : ℕ) → Memory → ℕ
+one_if_dirty area p m = if is_dirty area p m then 1 else 0
+
+-- how many of the pages 1 to n are dirty for the area
+abbrev pub dirty_count : (area n : ℕ) → Memory → ℕ
+dirty_count area zero m = 0
+dirty_count area (suc n) m = dirty_count area n m + one_if_dirty area (suc n) m
+
+-- how many pages of the memory are dirty for the area
+abbrev pub dirty_pages : Config → (area : ℕ) → Memory → ℕ
+dirty_pages c area m = dirty_count area (c.pages - 1) m
+
 -- where the pages lie
 abbrev pub PagesAt : Config → ℕ → ℕ → Type 0
 PagesAt c area = IsWithin (memory_at c area) (memory_size c)
@@ -88,19 +102,19 @@ pub record IsFilled (c : Config) (area : ℕ) (h : Header) (tables memory conten
 
 -- ITS CALLS
 
--- a write and a sync where the gate was open; then the journal's first gate, the tables, each page, the header's fields, a sync, the
--- gate, a sync
-abbrev pub calls_of : {X : Type 0} → Config → Bool → Result X AreaFault → ℕ
-calls_of c was_open (Ok x) = (if was_open then 2 else 0) + c.pages + 5
-calls_of c was_open (Err e) = 0
+-- a write and a sync where the gate was open; then the journal's first gate, the tables, each dirty page, the header's fields, a sync,
+-- the gate, a sync
+abbrev pub calls_of : {X : Type 0} → (dirty : ℕ) → (was_open : Bool) → Result X AreaFault → ℕ
+calls_of dirty was_open (Ok x) = (if was_open then 2 else 0) + dirty + 6
+calls_of dirty was_open (Err e) = 0
 
 -- The calls of the disk: writes in the area and the first byte of its journal, as many as it takes.
-pub record IsAreaWrite {D X : Type 0} (d : Ghosts D) (c : Config) (area : ℕ) (old new : D) (result : Result X AreaFault) : Type 0 where
+pub record IsAreaWrite {D X : Type 0} (d : Ghosts D) (c : Config) (area : ℕ) (memory : Memory) (old new : D) (result : Result X AreaFault) : Type 0 where
   -- whether the gate of the area was open
   pub was_open : Bool
   -- which is what it read as
   pub read : d.is_honest new → OnOk result (was_open ≡ is_gate_open (area_at c area) (d.content old))
-  pub within : WritesWithin d (WritesAt c area) (calls_of c was_open result) old new (is_device result)
+  pub within : WritesWithin d (WritesAt c area) (calls_of (dirty_pages c area memory) was_open result) old new (is_device result)
 
 -- the last generation was in use: that is the answer, before any call of the disk; else Device is the only error
 pub record IsRefusedExactly {D X : Type 0} (point : SavePoint) (old new : D) (result : Result X AreaFault) : Type 0 where

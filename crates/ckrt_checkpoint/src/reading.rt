@@ -1,11 +1,13 @@
 // How an area is read: its tables, which are decoded, and its memory. Nothing here writes or syncs.
 ghost use Rattle.std.specs.Prelude.{◌≡◌, ◌≢◌, ◌≤◌, ◌⊎◌, Err, IfOk, IfErr, length, true};
 ghost use Rattle.ckrt_disk.specs.Frame.{IsOnlyRead};
-ghost use Rattle.ckrt_tables.specs.declared.encoding.TheConstants.{HELD_LIMIT, TABLES_ROOM};
+ghost use Rattle.ckrt_tables.specs.declared.encoding.TheConstants.{HELD_LIMIT};
 ghost use Rattle.ckrt_tables.specs.Savable.{CanBeSaved};
 ghost use Rattle.ckrt_checkpoint.specs.declared.fault.AreaFault.TheVariants.{Damaged, Device, GenerationsUsed, OutOfMemory, Version};
 ghost use Rattle.ckrt_checkpoint.specs.Answers.{is_device};
 ghost use Rattle.ckrt_checkpoint.specs.Areas.{IsPicked};
+ghost use Rattle.ckrt_memory.specs.Marks.{IsAllClean};
+ghost use Rattle.ckrt_checkpoint.specs.Holds.{BothStand};
 ghost use Rattle.ckrt_checkpoint.specs.Layout.{is_valid, memory_of, memory_size, size_needed};
 ghost use Rattle.ckrt_checkpoint.specs.Read.{ReadsArea, ReadsTables};
 
@@ -18,35 +20,32 @@ use ckrt_memory::Memory;
 use ckrt_tables::{Held, decode_tables};
 use std::alloc::Global;
 
-// The tables and the held output, whose bytes are read into the room.
+// The tables and the held output.
 fn read_tables<D: Disk>(
     alloc: Global,
     disk: &mut D,
     config: &Config,
     area: &Area,
-    room: &mut [u8],
 ) -> Result<(Tables, Held), AreaFault>
     requires valid { is_valid config.now ≡ true }
     requires disk { size_needed config.now ≤ D.size disk.old }
     requires picked { IsPicked area.now }
-    requires room { TABLES_ROOM ≤ length room.old }
     ensures exact { D.is_honest disk.new → ReadsTables config.now area.now (D.content disk.old) result }
     ensures savable { IfOk result (λ r. CanBeSaved config.now.harts r.0 r.1.items) }
     ensures held { IfOk result (λ r. r.1.capacity ≡ HELD_LIMIT) }
     ensures read { IsOnlyRead D.Disk disk.old disk.new (is_device result) }
     ensures no_generations { result ≢ Err GenerationsUsed }
     ensures no_version { result ≢ Err Version }
-    ensures room { length room.new ≡ length room.old }
 {
-    let bytes = &mut room[..area.header.tables as usize];
-    disk.read(config.tables_at(area.index), bytes)?;
-    match decode_tables(alloc, bytes, config.harts as usize)? {
+    let mut bytes = vec![in alloc; 0; area.header.tables as usize]?;
+    disk.read(config.tables_at(area.index), &mut bytes)?;
+    match decode_tables(alloc, &bytes, config.harts as usize)? {
         Some(parts) => Ok(parts),
         None => Err(AreaFault::Damaged),
     }
 }
 
-// The guest's memory.
+// The guest's memory. It stands in the area as it is, so it is clean for that.
 fn read_memory<D: Disk>(
     alloc: Global,
     disk: &mut D,
@@ -56,44 +55,46 @@ fn read_memory<D: Disk>(
     requires valid { is_valid config.now ≡ true }
     requires room { size_needed config.now ≤ D.size disk.old }
     requires area { area ≤ 1 }
-    ensures exact { D.is_honest disk.new → IfOk result (λ m. m ≡ memory_of config.now area (D.content disk.old)) }
-    ensures size { IfOk result (λ m. length m ≡ memory_size config.now) }
+    ensures exact { D.is_honest disk.new → IfOk result (λ m. m.bytes ≡ memory_of config.now area (D.content disk.old)) }
+    ensures size { IfOk result (λ m. length m.bytes ≡ memory_size config.now) }
+    ensures pages { D.is_honest disk.new → IfOk result (λ m. BothStand config.now m (D.content disk.old)) }
+    ensures clean { IfOk result (λ m. IsAllClean area m) }
     ensures errors { IfErr result (λ e. (e ≡ Device) ⊎ (e ≡ OutOfMemory)) }
     ensures read { IsOnlyRead D.Disk disk.old disk.new (is_device result) }
 {
     let mut bytes = vec![in alloc; 0; config.memory_size()]?;
     disk.read(config.memory_at(area), &mut bytes)?;
-    Ok(Memory::from_bytes(bytes))
+    let mut memory = Memory::from_bytes(bytes);
+    memory.clean(area);
+    Ok(memory)
 }
 
 /// Reads the state that an area holds: memory, tables and held output. `Damaged` where the bytes of its tables are the
 /// encoding of no state that can be saved, for so many harts as the configuration has; `Device` where the disk failed a
-/// read; `OutOfMemory` where a growth of memory was refused. `room` has place for the tables' bytes, [`TABLES_ROOM`] or
-/// more, and is left with any bytes. It writes and syncs nothing. The ring of held output has room for [`HELD_LIMIT`] bytes.
+/// read; `OutOfMemory` where a growth of memory was refused. The memory is clean for the area that it stands in, and dirty
+/// for the other one. It writes and syncs nothing. The ring of held output has room for [`HELD_LIMIT`] bytes.
 ///
-/// [`TABLES_ROOM`]: ckrt_tables::TABLES_ROOM
 /// [`HELD_LIMIT`]: ckrt_tables::HELD_LIMIT
 pub fn read_area<D: Disk>(
     alloc: Global,
     disk: &mut D,
     config: &Config,
     area: &Area,
-    room: &mut [u8],
 ) -> Result<(Memory, Tables, Held), AreaFault>
     requires valid { is_valid config.now ≡ true }
     requires disk { size_needed config.now ≤ D.size disk.old }
     requires picked { IsPicked area.now }
-    requires room { TABLES_ROOM ≤ length room.old }
     ensures exact { D.is_honest disk.new → ReadsArea config.now area.now (D.content disk.old) result }
     ensures savable { IfOk result (λ r. CanBeSaved config.now.harts r.1 r.2.items) }
-    ensures memory { IfOk result (λ r. length r.0 ≡ memory_size config.now) }
+    ensures memory { IfOk result (λ r. length r.0.bytes ≡ memory_size config.now) }
+    ensures pages { D.is_honest disk.new → IfOk result (λ r. BothStand config.now r.0 (D.content disk.old)) }
+    ensures clean { IfOk result (λ r. IsAllClean area.now.index r.0) }
     ensures held { IfOk result (λ r. r.2.capacity ≡ HELD_LIMIT) }
     ensures read { IsOnlyRead D.Disk disk.old disk.new (is_device result) }
     ensures no_generations { result ≢ Err GenerationsUsed }
     ensures no_version { result ≢ Err Version }
-    ensures room { length room.new ≡ length room.old }
 {
-    let (tables, held) = read_tables(alloc, disk, config, area, room)?;
+    let (tables, held) = read_tables(alloc, disk, config, area)?;
     let memory = read_memory(alloc, disk, config, area.index)?;
     Ok((memory, tables, held))
 }

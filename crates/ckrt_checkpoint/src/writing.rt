@@ -1,12 +1,12 @@
 // How an area is written: its gate is closed, all behind the gate is written and made durable, and then the gate is opened.
-ghost use Rattle.std.specs.Prelude.{◌≡◌, ◌≤◌, ◌<◌, ◌+◌, ◌-◌, ◌∷◌, [], ℕ, true, false, length, is_err, IfOk, OnOk};
+ghost use Rattle.std.specs.Prelude.{◌≡◌, ◌≤◌, ◌<◌, ◌+◌, ◌∷◌, [], true, false, length, is_err, IfOk, OnOk};
 ghost use Rattle.ckrt_disk.specs.Disk.{IsOverwritten, IsWithin};
 ghost use Rattle.ckrt_disk.specs.Frame.{AtAnyMoment, WritesWithin};
 ghost use Rattle.ckrt_memory.specs.Pages.{page_of};
 ghost use Rattle.ckrt_tables.specs.declared.encoding.TheConstants.{TABLES_ROOM};
-ghost use Rattle.ckrt_checkpoint.specs.Holds.{slot};
+ghost use Rattle.ckrt_checkpoint.specs.Holds.{slot, slot_at, AllPagesStand, CleanPagesStand, IsInSlot};
 ghost use Rattle.ckrt_checkpoint.specs.Layout.{is_valid, is_gate_open, memory_size, size_needed};
-ghost use Rattle.ckrt_checkpoint.specs.Write.{calls_of_closing, next_header, other_area, FillsAt, HasSaved, IsAreaWrite, IsClosing, IsDurable, IsFilled, IsRefusedExactly, IsSaving, PagesAt};
+ghost use Rattle.ckrt_checkpoint.specs.Write.{calls_of_closing, dirty_pages, next_header, one_if_dirty, other_area, FillsAt, HasSaved, IsAreaWrite, IsClosing, IsDurable, IsFilled, IsRefusedExactly, IsSaving, PagesAt};
 
 use crate::config::Config;
 use crate::fault::AreaFault;
@@ -45,7 +45,29 @@ fn write_part<D: Disk>(disk: &mut D, at: usize, bytes: &[u8]) -> Result<(), Devi
     disk.write(at, bytes)
 }
 
-// Writes the pages of the guest's memory, each where it stands, by rising number.
+// Writes a page of the guest's memory into its slot, unless it is clean for the area: then it has to stand there already.
+fn write_page<D: Disk>(
+    disk: &mut D,
+    config: &Config,
+    area: usize,
+    memory: &Memory,
+    page: u32,
+) -> Result<(), DeviceFault>
+    requires valid { is_valid config.now ≡ true }
+    requires room { size_needed config.now ≤ D.size disk.old }
+    requires area { area ≤ 1 }
+    requires memory { length memory.now.bytes ≡ memory_size config.now }
+    requires page { (1 ≤ page) × (page < config.now.pages) }
+    ensures within { WritesWithin D.Disk (IsWithin (slot_at config.now area page) 4096) (one_if_dirty area page memory.now) disk.old disk.new (is_err result) }
+    ensures written { OnOk result (D.is_honest disk.new → IsInSlot config.now area page memory.now (D.content disk.old) → slot config.now area page (D.content disk.new) ≡ page_of memory.now.bytes page) }
+{
+    if !memory.dirty(area, page) {
+        return Ok(());
+    }
+    write_part(disk, config.slot_at(area, page), memory.page(page))
+}
+
+// Writes the pages of the guest's memory that are dirty for the area, each into its slot, by rising number.
 fn write_pages<D: Disk>(
     disk: &mut D,
     config: &Config,
@@ -55,12 +77,12 @@ fn write_pages<D: Disk>(
     requires valid { is_valid config.now ≡ true }
     requires room { size_needed config.now ≤ D.size disk.old }
     requires area { area ≤ 1 }
-    requires memory { length memory.now ≡ memory_size config.now }
-    ensures within { WritesWithin D.Disk (PagesAt config.now area) (config.now.pages - 1) disk.old disk.new (is_err result) }
-    ensures written { OnOk result (D.is_honest disk.new → (p : ℕ) → 1 ≤ p → p < config.now.pages → slot config.now area p (D.content disk.new) ≡ page_of memory.now p) }
+    requires memory { length memory.now.bytes ≡ memory_size config.now }
+    ensures within { WritesWithin D.Disk (PagesAt config.now area) (dirty_pages config.now area memory.now) disk.old disk.new (is_err result) }
+    ensures written { OnOk result (D.is_honest disk.new → CleanPagesStand config.now area memory.now (D.content disk.old) → AllPagesStand config.now area memory.now.bytes (D.content disk.new)) }
 {
     for page in 1..config.pages {
-        write_part(disk, config.slot_at(area, page), memory.page(page))?;
+        write_page(disk, config, area, memory, page)?;
     }
     Ok(())
 }
@@ -78,9 +100,9 @@ fn fill<D: Disk>(
     requires room { size_needed config.now ≤ D.size disk.old }
     requires area { area ≤ 1 }
     requires tables { length tables.now ≤ TABLES_ROOM }
-    requires memory { length memory.now ≡ memory_size config.now }
-    ensures within { WritesWithin D.Disk (FillsAt config.now area) (config.now.pages + 3) disk.old disk.new (is_err result) }
-    ensures filled { OnOk result (D.is_honest disk.new → IsFilled config.now area header.now tables.now memory.now (D.content disk.new)) }
+    requires memory { length memory.now.bytes ≡ memory_size config.now }
+    ensures within { WritesWithin D.Disk (FillsAt config.now area) (dirty_pages config.now area memory.now + 4) disk.old disk.new (is_err result) }
+    ensures filled { OnOk result (D.is_honest disk.new → CleanPagesStand config.now area memory.now (D.content disk.old) → IsFilled config.now area header.now tables.now memory.now.bytes (D.content disk.new)) }
     ensures durable { OnOk result (D.is_honest disk.new → IsDurable D.Disk disk.new) }
 {
     write_part(disk, config.journal_of(area).at, &[CLOSED])?;
@@ -101,7 +123,8 @@ fn open_gate<D: Disk>(disk: &mut D, gate_at: usize) -> Result<(), DeviceFault>
 }
 
 /// Saves a program's state in the area that isn't in use, and makes it durable: its tables and held output, encoded, at
-/// most 98,304 bytes, and its memory of as many pages as the configuration has. `GenerationsUsed`, exactly where the
+/// most 98,304 bytes, and its memory of as many pages as the configuration has. Of the memory it writes the pages that are
+/// dirty for that area; the clean ones have to stand in their slots there already. `GenerationsUsed`, exactly where the
 /// generation in use is 2^64 - 1, before any call of the disk; else `Device` where the disk failed a call. A stop at any
 /// moment leaves what a stop before might have left; or the gate of the area was open and only it has changed; or the gate
 /// is closed, and all but the area and the first byte of its journal is as before; or the area holds the state whole, its
@@ -118,11 +141,12 @@ pub fn write_area<D: Disk>(
     requires room { size_needed config.now ≤ D.size disk.old }
     requires area { point.now.area ≤ 1 }
     requires tables { length tables.now ≤ TABLES_ROOM }
-    requires memory { length memory.now ≡ memory_size config.now }
-    ensures any_moment { IsDurable D.Disk disk.old → AtAnyMoment D.Disk disk.old disk.new (IsSaving config.now point.now tables.now memory.now (D.content disk.old)) }
-    ensures write { IsAreaWrite D.Disk config.now (other_area point.now) disk.old disk.new result }
+    requires memory { length memory.now.bytes ≡ memory_size config.now }
+    requires clean { D.is_honest disk.old → CleanPagesStand config.now (other_area point.now) memory.now (D.content disk.old) }
+    ensures any_moment { IsDurable D.Disk disk.old → AtAnyMoment D.Disk disk.old disk.new (IsSaving config.now point.now tables.now memory.now.bytes (D.content disk.old)) }
+    ensures write { IsAreaWrite D.Disk config.now (other_area point.now) memory.now disk.old disk.new result }
     ensures refused { IsRefusedExactly point.now disk.old disk.new result }
-    ensures saved { OnOk result (D.is_honest disk.new → HasSaved config.now (other_area point.now) (next_header point.now tables.now) tables.now memory.now (D.content disk.old) (D.content disk.new)) }
+    ensures saved { OnOk result (D.is_honest disk.new → HasSaved config.now (other_area point.now) (next_header point.now tables.now) tables.now memory.now.bytes (D.content disk.old) (D.content disk.new)) }
     ensures durable { OnOk result (D.is_honest disk.new → IsDurable D.Disk disk.new) }
 {
     if point.generation == u64::MAX {

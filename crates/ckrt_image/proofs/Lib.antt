@@ -5,5 +5,6 @@ pub mod GrowthLemmas
 pub mod SwitchLemmas
 pub mod PastLemmas
 pub mod PastFaultLemmas
+pub mod PageLemmas
 mod SaveLemmas
 mod FormatLemmas

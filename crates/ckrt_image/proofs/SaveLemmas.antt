@@ -15,10 +15,14 @@ use Rattle.ckrt_checkpoint.specs.declared.header.Header.{Header}
 use Rattle.ckrt_checkpoint.specs.Areas.{checked_area, is_in_range}
 use Rattle.ckrt_checkpoint.specs.Layout.{area_at, header_of, is_gate_open}
 use Rattle.ckrt_checkpoint.specs.Write.{HasSaved, IsClosing, IsFilling, IsSaving, WritesAt, next_header}
+use Rattle.ckrt_checkpoint.specs.declared.save_point.SavePoint.{SavePoint}
+use Rattle.ckrt_checkpoint.proofs.SlotLemmas.{written_stand}
+use Rattle.ckrt_memory.specs.Marks.{Memory}
+use Rattle.ckrt_machine.specs.Events.{memory_in}
 use Rattle.ckrt_checkpoint.proofs.HoldLemmas.{AreFieldsFit, closed_journal, header_gate, holds_header, holds_memory, holds_tables}
 use Rattle.ckrt_image.specs.declared.progress.Progress.{Progress}
 use Rattle.ckrt_image.specs.Frame.{BelongsTo, HoldsState, IsNewest, in_other_area}
-use Rattle.ckrt_image.specs.Progress.{IsBehind, RecoversToBoth, recovered_of, save_point_of}
+use Rattle.ckrt_image.specs.Progress.{ArePagesSaved, IsBehind, PagesStand, RecoversToOldOrNew, recovered_of, save_point_of}
 use Rattle.ckrt_image.specs.Recovery.{Recovered, Recovers}
 use Rattle.ckrt_image.specs.Superblock.{superblock_of}
 use Rattle.ckrt_image.proofs.GrowthLemmas.{framed, kept_header, kept_superblock}
@@ -164,7 +168,7 @@ module _ (p : Progress) (tables content image : List ℕ) (r : Recovered) (was :
 -- whatever a stop of a save leaves
 pub saving_recovers : (p : Progress) (tables content image : List ℕ) (r : Recovered) → IsBehind p content r
     → CanBeSaved p.config.harts p.machine.state.tables p.held.items → tables ≡ encoding_of p.machine.state.tables p.held.items → length tables ≤ 98304 → p.generation + 1 < 2 ^ 64
-    → IsSaving p.config (save_point_of p) tables p.machine.state.bytes content image → RecoversToBoth p r image
+    → IsSaving p.config (save_point_of p) tables p.machine.state.bytes content image → RecoversToOldOrNew p r image
 saving_recovers p tables content image r was savable encoded few last saving = ⊎_elim
     (λ closed. inl (closing p tables content image r was closed))
     (λ more. ⊎_elim
@@ -172,3 +176,14 @@ saving_recovers p tables content image r was savable encoded few last saving = �
     (λ has. inr (saved_recovers p tables content image r was savable encoded few last has))
     more)
     saving
+
+-- what a save leaves of the pages
+pub pages_saved : (p : Progress) (content image : List ℕ) (h : Header) (tables : List ℕ) (m : Memory) (point : SavePoint) → point ≡ save_point_of p → m ≡ memory_in p.machine → PagesStand p content
+    → HasSaved p.config (1 - point.area) h tables m.bytes content image → ArePagesSaved p image
+pages_saved p content image h tables m point there is stand has =
+    let index : point.area ≡ p.area = ap (λ (s : SavePoint). s.area) there in
+    let saved = subst (λ (m : Memory). HasSaved p.config (1 - p.area) h tables m.bytes content image) is (subst (λ n. HasSaved p.config (1 - n) h tables m.bytes content image) index has) in
+    record {
+      in_use = written_stand p.config p.area (memory_in p.machine) content image p.one_area saved.outside (stand p.area p.one_area);
+      saved = saved.holds.state.pages;
+    }

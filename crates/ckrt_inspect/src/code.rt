@@ -35,7 +35,7 @@ fn push_word_line(out: &mut Vec<u8>, address: u32, word: u32) -> Result<(), Allo
 /// The line of the word at an address, where that is in the memory.
 fn push_code_line(out: &mut Vec<u8>, memory: &Memory, address: u32) -> Result<(), AllocError>
     requires { IsTrue (is_aligned address size.Word) }
-    ensures { OnOk result (out.new.items ≡ out.old.items ++ code_line memory.now address) }
+    ensures { OnOk result (out.new.items ≡ out.old.items ++ code_line memory.now.bytes address) }
 {
     match memory.load(address, Size::Word) {
         Some(word) => push_word_line(out, address, word),
@@ -53,7 +53,7 @@ fn push_line_behind(
 ) -> Result<(), AllocError>
     requires pc { pc % 4 ≡ 0 }
     requires bytes { bytes % 4 ≡ 0 }
-    ensures { OnOk result (out.new.items ≡ out.old.items ++ code_line memory.now (address_behind pc bytes)) }
+    ensures { OnOk result (out.new.items ≡ out.old.items ++ code_line memory.now.bytes (address_behind pc bytes)) }
 {
     push_code_line(out, memory, pc.wrapping_add(bytes))
 }
@@ -61,7 +61,7 @@ fn push_line_behind(
 /// The lines of the four words from a pc on.
 pub fn push_code(out: &mut Vec<u8>, memory: &Memory, pc: u32) -> Result<(), AllocError>
     requires { pc % 4 ≡ 0 }
-    ensures { OnOk result (out.new.items ≡ out.old.items ++ code_lines memory.now pc) }
+    ensures { OnOk result (out.new.items ≡ out.old.items ++ code_lines memory.now.bytes pc) }
 {
     push_line_behind(out, memory, pc, 0)?;
     push_line_behind(out, memory, pc, 4)?;

@@ -1,8 +1,7 @@
 //! Listing the program of a disk.
-ghost use Rattle.std.specs.Prelude.{◌≡◌, ◌≢◌, ◌≤◌, IfErr, None, Some, false, length};
+ghost use Rattle.std.specs.Prelude.{◌≡◌, ◌≢◌, IfErr, None, Some, false};
 ghost use Rattle.ckrt_disk.specs.Frame.{IsOnlyRead};
 ghost use Rattle.ckrt_inspect.specs.declared.fault.InspectFault.TheVariants.{Range, Write as Writing};
-ghost use Rattle.ckrt_tables.specs.declared.encoding.TheConstants.{TABLES_ROOM};
 ghost use Rattle.ckrt_inspect.specs.Inspect.{AgreesAt, IsInspected, Tells, is_device};
 
 use crate::fault::InspectFault;
@@ -10,7 +9,6 @@ use crate::listing::write_listing_by;
 use crate::shown::Shown;
 use ckrt_disk::Disk;
 use ckrt_image::{Progress, read_past, read_progress};
-use ckrt_tables::TABLES_ROOM;
 use std::alloc::Global;
 use std::io::Write;
 
@@ -21,36 +19,25 @@ const WHOLE: Shown = Shown {
 };
 
 /// The program after so many events, in place of all of them.
-fn read_at<D: Disk>(
-    alloc: Global,
-    disk: &mut D,
-    room: &mut [u8],
-    at: u64,
-) -> Result<Progress, InspectFault>
-    requires { TABLES_ROOM ≤ length room.old }
+fn read_at<D: Disk>(alloc: Global, disk: &mut D, at: u64) -> Result<Progress, InspectFault>
     ensures exact { D.is_honest disk.new → AgreesAt (Some at) (D.content disk.old) result }
     ensures read { IsOnlyRead D.Disk disk.old disk.new (is_device result) }
     ensures unwritten { IfErr result (λ e. e ≢ Writing) }
 {
-    match read_past(alloc, disk, room, at)? {
+    match read_past(alloc, disk, at)? {
         Some(past) => Ok(past),
         None => Err(InspectFault::Range),
     }
 }
 
 /// The program after all events.
-fn read_whole<D: Disk>(
-    alloc: Global,
-    disk: &mut D,
-    room: &mut [u8],
-) -> Result<Progress, InspectFault>
-    requires { TABLES_ROOM ≤ length room.old }
+fn read_whole<D: Disk>(alloc: Global, disk: &mut D) -> Result<Progress, InspectFault>
     ensures exact { D.is_honest disk.new → AgreesAt None (D.content disk.old) result }
     ensures read { IsOnlyRead D.Disk disk.old disk.new (is_device result) }
     ensures unwritten { IfErr result (λ e. e ≢ Writing) }
     ensures range { IfErr result (λ e. e ≢ Range) }
 {
-    let progress = read_progress(alloc, disk, room)?;
+    let progress = read_progress(alloc, disk)?;
     Ok(progress)
 }
 
@@ -65,10 +52,9 @@ fn read_shown<D: Disk>(
     ensures unwritten { IfErr result (λ e. e ≢ Writing) }
     ensures range { at ≡ None → IfErr result (λ e. e ≢ Range) }
 {
-    let mut room = vec![in alloc; 0; TABLES_ROOM]?;
     match at {
-        Some(count) => read_at(alloc, disk, &mut room, count),
-        None => read_whole(alloc, disk, &mut room),
+        Some(count) => read_at(alloc, disk, count),
+        None => read_whole(alloc, disk),
     }
 }
 

@@ -6,7 +6,6 @@ pub mod PlanLaws
 pub mod KeptSteps
 pub mod KeptEvents
 pub mod FoldLaws
-pub mod MemoryFollows
 pub mod WellFormedImplies
 pub mod StepsOfRuns
 pub mod SameHarts

@@ -4,7 +4,7 @@ use mathlib.Core.Logic.{inl, inr}
 use Rattle.ckrt_machine.specs.declared.event.How.{How}
 use Rattle.ckrt_machine.specs.declared.event.How.TheVariants.{On}
 use Rattle.ckrt_machine.specs.Steps.{State, hart_step}
-use Rattle.ckrt_machine.specs.Runs.{Ran, stop_of, stopped, run_on, with_byte, stop_after, HasMade}
+use Rattle.ckrt_machine.specs.Runs.{stopped, run_on, with_byte, stop_after, HasMade}
 
 -- what the first step leaves
 abbrev next_state : ℕ → State → State

@@ -11,7 +11,7 @@ pub fn burst(memory: &mut Memory, regs: &mut Regs, limit: u32) -> (u32, Outcome)
     requires { regs.old.pc % 4 ≡ 0 }
     ensures aligned { regs.new.pc % 4 ≡ 0 }
     ensures within { result.0 ≤ limit }
-    ensures burst { record { left = result.0; effect = record { outcome = result.1; registers = regs.new; bytes = memory.new } } ≡ burst limit regs.old memory.old }
+    ensures burst { record { left = result.0; effect = record { outcome = result.1; registers = regs.new; bytes = memory.new.bytes } } ≡ burst limit regs.old memory.old.bytes }
     ensures follows { ⟦<Memory as Bus>⟧.Follows memory.old memory.new }
 {
     for steps in 0..limit {

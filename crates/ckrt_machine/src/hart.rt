@@ -110,7 +110,7 @@ fn turn(
     ensures within { result.0 ≤ limit }
     ensures going { IsNone result.1 → stop_of hart tables.new output.new.items ≡ None }
     ensures follows { ⟦<Memory as Bus>⟧.Follows memory.old memory.new }
-    ensures run { run_on limit hart (record { bytes = memory.old; tables = tables.old }) output.old.items ≡ stopped (run_on result.0) result.1 result.0 hart (record { bytes = memory.new; tables = tables.new }) output.new.items }
+    ensures run { run_on limit hart (record { bytes = memory.old.bytes; tables = tables.old }) output.old.items ≡ stopped (run_on result.0) result.1 result.0 hart (record { bytes = memory.new.bytes; tables = tables.new }) output.new.items }
 {
     let thread = runner(tables, hart);
     let live = tables.threads.live(thread);
@@ -145,7 +145,7 @@ pub fn run(
     ensures well_formed { IsWellFormed tables.new }
     ensures within { result.0 ≤ limit }
     ensures follows { ⟦<Memory as Bus>⟧.Follows memory.old memory.new }
-    ensures run { record { left = result.0; how = result.1; state = record { bytes = memory.new; tables = tables.new }; output = output.new.items } ≡ run_on limit hart (record { bytes = memory.old; tables = tables.old }) output.old.items }
+    ensures run { record { left = result.0; how = result.1; state = record { bytes = memory.new.bytes; tables = tables.new }; output = output.new.items } ≡ run_on limit hart (record { bytes = memory.old.bytes; tables = tables.old }) output.old.items }
 {
     let mut left = limit;
     while left > 0 {

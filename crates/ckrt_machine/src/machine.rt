@@ -1,9 +1,10 @@
 //! The machine.
 ghost use Rattle.std.specs.Prelude.{◌≡◌, ◌<◌, ◌≤◌, ◌*◌, ◌-◌, ◌↔◌, [], length, None, Some, IfOk, IsErrOf, MatchResult};
+ghost use Rattle.ckrt_memory.specs.Marks.{Follows, IsAllDirty, IsCleaned};
 ghost use Rattle.ckrt_memory.specs.declared.MemoryError.TheVariants.{ImageTooLong};
 ghost use Rattle.ckrt_calls.specs.WellFormed.{IsWellFormed};
 ghost use Rattle.ckrt_events.specs.Bytes.{IsInRange};
-ghost use Rattle.ckrt_machine.specs.Events.{fresh, step, refusal_of, planned};
+ghost use Rattle.ckrt_machine.specs.Events.{fresh, memory_in, step, refusal_of, planned};
 
 use crate::accept::refusal;
 use crate::event::{Answer, Refusal};
@@ -32,19 +33,21 @@ impl Model for Machine {
 
     ghost Value = { Machine };
 
-    ghost view = { λ m. record { state = record { bytes = m.memory; tables = m.tables }; output = m.output.items } };
+    ghost view = { λ m. record { state = record { bytes = m.memory.bytes; tables = m.tables }; marks = m.memory.marks; output = m.output.items } };
 
     ghost invariant = { λ m. IsWellFormed m.tables };
 }
 
 impl Machine {
     /// A program that begins: thread 1, ready, with the image at the start of page 1, and idle
-    /// harts. `pages` counts page 0 too, which is never valid: 16 to 1,024; `harts` is 1 to 8.
+    /// harts. Each page is dirty for both areas. `pages` counts page 0 too, which is never valid: 16 to 1,024; `harts` is 1
+    /// to 8.
     pub fn new(alloc: Global, pages: u32, harts: usize, image: &[u8]) -> Result<Self, MemoryError>
         requires pages { (16 ≤ pages) × (pages ≤ 1024) }
         requires harts { (1 ≤ harts) × (harts ≤ 8) }
         ensures fresh { IfOk result (λ m. m.state ≡ fresh pages harts image.now) }
         ensures output { IfOk result (λ m. m.output ≡ []) }
+        ensures dirty { IfOk result (λ m. IsAllDirty (memory_in m)) }
         ensures well_formed { IfOk result (λ m. IsWellFormed m.state.tables) }
         ensures too_long { IsErrOf result ImageTooLong ↔ (4096 * (pages - 1) < length image.now) }
     {
@@ -60,7 +63,8 @@ impl Machine {
     /// The program that has this memory and these tables. It takes no memory of its own.
     pub fn from_parts(memory: Memory, tables: Tables) -> Machine
         requires { IsWellFormed tables }
-        ensures state { result.state ≡ record { bytes = memory; tables = tables } }
+        ensures state { result.state ≡ record { bytes = memory.bytes; tables = tables } }
+        ensures memory { memory_in result ≡ memory }
         ensures output { result.output ≡ [] }
     {
         let output = ArrayVec::new();
@@ -96,9 +100,19 @@ impl Machine {
 
     /// The memory.
     pub fn memory(&self) -> &Memory
-        ensures { result.now ≡ self.now.state.bytes }
+        ensures { result.now ≡ memory_in self.now }
     {
         &self.memory
+    }
+
+    /// All pages are clean for an area, 0 or 1, in which the memory now stands as it is. Nothing else changes.
+    pub fn clean(&mut self, area: usize)
+        requires { area ≤ 1 }
+        ensures state { self.new.state ≡ self.old.state }
+        ensures output { self.new.output ≡ self.old.output }
+        ensures cleaned { IsCleaned area (memory_in self.old) (memory_in self.new) }
+    {
+        self.memory.clean(area);
     }
 
     /// The bytes that the last step put, at most 1,024.
@@ -127,7 +141,7 @@ impl Machine {
         requires accepted { refusal_of 0 event.now self.old.state ≡ None }
         ensures step { record { state = self.new.state; answer = result; output = self.new.output } ≡ step event.now self.old.state }
         ensures well_formed { IsWellFormed self.new.state.tables }
-        ensures follows { ⟦<Memory as Bus>⟧.Follows self.old.state.bytes self.new.state.bytes }
+        ensures follows { Follows (memory_in self.old) (memory_in self.new) }
     {
         self.output.clear();
         match event {

@@ -1,3 +1,4 @@
+mod PageLemmas
 mod PendingLemmas
 mod SubmitLemmas
 pub mod SessionLemmas

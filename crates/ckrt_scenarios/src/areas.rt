@@ -3,6 +3,7 @@
 //! With 16 pages, 1 hart and a journal of 4,096 bytes an area has 102,400 + 4,096 * 16 = 167,936 bytes. So the areas lie
 //! at 4,096 and 172,032 and the journals at 339,968 and 344,064, as the format has it.
 ghost use Rattle.std.specs.Prelude.{IsTrue, ◌≡◌, ◌≤◌, true};
+ghost use Rattle.ckrt_memory.specs.Marks.{IsAllDirty};
 ghost use Rattle.ckrt_checkpoint.specs.Layout.{is_valid, size_needed};
 
 use crate::expect::{
@@ -22,8 +23,8 @@ const AREA_1: usize = 172_032;
 
 const JOURNAL_1: usize = 344_064;
 
-/// The calls of a checkpoint into an area whose gate is closed: writes of the journal's first gate, the tables, 15 pages
-/// and the header's fields, a sync, the gate, a sync. And how many of them come before the gate.
+/// The calls of a checkpoint into an area whose gate is closed, where no page is clean for it: writes of the journal's first
+/// gate, the tables, 15 pages and the header's fields, a sync, the gate, a sync. And how many of them come before the gate.
 const CALLS: u64 = 21;
 
 const CALLS_BEFORE_GATE: u64 = 19;
@@ -51,19 +52,23 @@ fn is_on<D: Disk>(disk: &D) -> bool
     SMALL.is_valid() && SMALL.size_needed() <= disk.size()
 }
 
-/// A memory of 16 pages with these bytes at its beginning.
-fn memory<R: Abort + AllocGlobal>(rt: &R, image: &[u8]) -> Memory {
+/// A memory of 16 pages with these bytes at its beginning, dirty everywhere.
+fn memory<R: Abort + AllocGlobal>(rt: &R, image: &[u8]) -> Memory
+    ensures { IsAllDirty result }
+{
     Memory::new(rt.alloc(), 16, image).expect(rt, "memory for a guest")
 }
 
-/// What writing an area answers.
+/// What writing an area answers. All pages are written.
 fn written<R: Abort, D: Disk>(
     rt: &R,
     disk: &mut D,
     point: &SavePoint,
     tables: &[u8],
     memory: &Memory,
-) -> Result<(), AreaFault> {
+) -> Result<(), AreaFault>
+    requires { IsAllDirty memory.now }
+{
     assert!(rt; is_on(disk));
     assert!(rt; point.area <= 1 && tables.len() <= TABLES_ROOM);
     assert!(rt; memory.pages() == SMALL.pages);
@@ -255,34 +260,38 @@ fn the_open_area_of_the_greater_generation_is_picked(rt: HostRuntime) {
     expect_picked(&rt, (0xa5, 0), (0, 3), Err(AreaFault::Damaged));
 }
 
+/// Tables and held output, encoded.
+fn encoded_parts<R: Abort + AllocGlobal>(rt: &R, tables: &Tables, held: &Held) -> Vec<u8> {
+    let mut room = filled(rt, 0, TABLES_ROOM);
+    assert!(rt; room.len() == TABLES_ROOM);
+    assert!(rt; tables.is_well_formed() && held.len() <= HELD_LIMIT);
+    let length = encode_tables(tables, held, room.as_mut_slice());
+    room.truncate(length);
+    room
+}
+
 /// The tables of a program that hasn't begun and this held output, encoded.
 fn encoded<R: Abort + AllocGlobal>(rt: &R, output: &[u8]) -> Vec<u8> {
     let tables = Tables::new(rt.alloc(), 16, 1).expect(rt, "memory for tables");
     let mut held = Held::with_capacity(rt.alloc(), HELD_LIMIT).expect(rt, "memory for output");
     assert!(rt; output.len() <= HELD_LIMIT);
     held.fill_from_slice(output);
-    let mut room = filled(rt, 0, TABLES_ROOM);
-    assert!(rt; room.len() == TABLES_ROOM);
-    assert!(rt; tables.is_well_formed() && held.len() <= HELD_LIMIT);
-    let length = encode_tables(&tables, &held, room.as_mut_slice());
-    room.truncate(length);
-    room
+    encoded_parts(rt, &tables, &held)
 }
 
-/// What the area in use has, which is this one. The bytes of its tables are left in the room.
+/// What the area in use has, which is this one.
 fn read<R: Abort + AllocGlobal, D: Disk>(
     rt: &R,
     disk: &mut D,
     index: usize,
-    room: &mut [u8],
 ) -> (Memory, Tables, Held) {
-    assert!(rt; is_on(disk) && room.len() >= TABLES_ROOM);
+    assert!(rt; is_on(disk));
     let area = match pick_area(disk, &SMALL) {
         Ok(area) => area,
         Err(fault) => panic!(rt; "{fault}"),
     };
     expect_eq(rt, area.index, index);
-    match read_area(rt.alloc(), disk, &SMALL, &area, room) {
+    match read_area(rt.alloc(), disk, &SMALL, &area) {
         Ok(parts) => parts,
         Err(fault) => panic!(rt; "{fault}"),
     }
@@ -296,15 +305,15 @@ fn expect_read<R: Abort + AllocGlobal, D: Disk>(
     output: &[u8],
     image: &[u8],
 ) {
-    let mut room = filled(rt, 0, TABLES_ROOM);
-    let (memory, tables, held) = read(rt, disk, index, room.as_mut_slice());
+    let (memory, tables, held) = read(rt, disk, index);
     expect_eq(rt, memory.pages(), 16);
     expect_eq(rt, tables.threads.hart_count(), 1);
     expect_eq(rt, held.len(), output.len());
     assert!(rt; memory.pages() == 16);
     assert!(rt; memory.page(1).starts_with(image));
+    let found = encoded_parts(rt, &tables, &held);
     let want = encoded(rt, output);
-    assert!(rt; room.starts_with(want.as_slice()));
+    assert!(rt; found.as_slice() == want.as_slice());
 }
 
 #[test]

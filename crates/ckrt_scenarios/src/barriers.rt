@@ -64,7 +64,7 @@ fn at_most_64(rt: HostRuntime) {
 /// Three threads with the arguments 1, 2 and 3. In each of four rounds a thread adds its argument to its own word and
 /// waits at a barrier of three; the last to come puts the sum of the words, and all wait there once more. At the end the
 /// barrier is destroyed, and the answer put.
-const ROUNDS: [u32; 54] = [
+pub const ROUNDS: [u32; 54] = [
     0x00006537, // lui x10, 6
     0x00300593, // addi x11, x0, 3
     0x02800893, // addi x17, x0, 40

@@ -14,10 +14,11 @@ use std::process::Abort;
 /// The calls of the disk up to the second checkpoint: a sync of recovery, 4 of a commit, 21 of a checkpoint, 4 of a commit.
 const CALLS_BEFORE: u64 = 30;
 
-/// Those of the second checkpoint before the gate is opened: 2 that close it, and 19; then the gate and its sync.
-const CALLS_BEFORE_GATE: u64 = 51;
+/// Those of the second checkpoint before the gate is opened: 2 that close it, and 4, since no page has changed; then the gate
+/// and its sync.
+const CALLS_BEFORE_GATE: u64 = 36;
 
-const CALLS: u64 = 53;
+const CALLS: u64 = 38;
 
 /// An event, and what the session answers.
 fn expect_submit<R: Abort, D: Disk>(

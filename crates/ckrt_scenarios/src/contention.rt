@@ -2,7 +2,7 @@
 
 use crate::schedules::{NOTHING_ELSE, Schedule, expect_console};
 
-const COUNTERS: [u32; 39] = [
+pub const COUNTERS: [u32; 39] = [
     0x00300413, // addi x8, x0, 3
     // create:
     0x00001537, // lui x10, 1

@@ -63,7 +63,7 @@ fn each_error(rt: HostRuntime) {
 /// Two writers and two readers of a pair of words, under one read-write lock. Each writer adds 1 to both words ten times;
 /// each reader looks ten times whether they are equal, and sets a mark where they are not. At the end the first word is
 /// put, 20, with 64 more where the mark is set.
-const PAIR: [u32; 70] = [
+pub const PAIR: [u32; 70] = [
     0x00200413, // addi x8, x0, 2
     // writers:
     0x00001537, // lui x10, 1

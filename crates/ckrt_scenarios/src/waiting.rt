@@ -4,7 +4,7 @@ use crate::schedules::{Around, NOTHING_ELSE, SCHEDULES, expect_console};
 
 /// Two producers and two consumers over a buffer of two places: each producer puts 10 to 1, and the sum, 110, is
 /// put to the console at the end. One condition is for a place that is free, one for a place that is full.
-const BOUNDED: [u32; 100] = [
+pub const BOUNDED: [u32; 100] = [
     0x00200413, // addi x8, x0, 2
     // producers:
     0x00001537, // lui x10, 1
@@ -119,7 +119,7 @@ const BOUNDED: [u32; 100] = [
 ];
 
 /// Three threads that sleep until 60, 20 and 40, and then put that byte.
-const SLEEPERS: [u32; 39] = [
+pub const SLEEPERS: [u32; 39] = [
     0x00001537, // lui x10, 1
     0x07c50513, // addi x10, x10, sleeper
     0x03c00593, // addi x11, x0, 60
@@ -164,7 +164,7 @@ const SLEEPERS: [u32; 39] = [
 ];
 
 /// Two threads that read the input to its end and add it up; the sum is put to the console at the end.
-const READERS: [u32; 41] = [
+pub const READERS: [u32; 41] = [
     0x00200413, // addi x8, x0, 2
     // readers:
     0x00001537, // lui x10, 1

@@ -8,7 +8,7 @@ use Rattle.ckrt_thread.specs.declared.records.Handler.{Handler}
 use Rattle.ckrt_thread.specs.declared.records.Thread.{Thread}
 use Rattle.ckrt_thread.specs.declared.records.Thread.TheVariants as thread
 use Rattle.ckrt_thread.specs.State.{is_proper_slot}
-use Rattle.ckrt_thread.specs.Contents.{ThreadRow, rows_from}
+use Rattle.ckrt_thread.specs.Contents.{ThreadRow, rows_from, thread_rows}
 use Rattle.ckrt_thread.proofs.ThreadRows.{few_threads}
 use Rattle.ckrt_objects.specs.declared.address_map.Entry.{Entry}
 use Rattle.ckrt_rwlock.specs.declared.records.RwLock.{RwLock}
@@ -75,9 +75,10 @@ rwlocks_bound (l ∷ ls) is =
 
 -- ALL
 
-pub encoding_bound : (s : Tables) (held : List ℕ) → IsWellFormed s → IsHeld held → length (encoding_of s held) ≤ 53922
-encoding_bound s held is is_held =
-    let at_most = few s is in
+-- by the number of records
+pub encoding_size : (s : Tables) (held : List ℕ) → IsWellFormed s → length (encoding_of s held) ≤
+    34 + (264 * length (thread_rows s.threads) + 20 * length s.threads.waits) + 8 * length s.mutexes + (8 * length s.barriers + 198 * length s.rwlocks) + length s.input + length held
+encoding_size s held is =
     omega (
       arith,
       encoding_length s held,
@@ -85,15 +86,13 @@ encoding_bound s held is is_held =
       length_each hart_bytes 1 (λ h. refl) s.threads.harts,
       is.threads.harts,
       threads_bound 0 s.threads.threads is.threads.proper,
-      few_threads s.threads is.threads,
       length_each wait_bytes 20 (λ w. refl) s.threads.waits,
-      at_most.waits,
       length_each mutex_bytes 8 (λ m. refl) s.mutexes,
-      at_most.mutexes,
       length_each barrier_bytes 8 (λ b. refl) s.barriers,
-      at_most.barriers,
       rwlocks_bound s.rwlocks is.rwlocks.table.proper,
-      at_most.rwlocks,
-      at_most.input,
-      is_held,
     )
+
+pub encoding_bound : (s : Tables) (held : List ℕ) → IsWellFormed s → IsHeld held → length (encoding_of s held) ≤ 53922
+encoding_bound s held is is_held =
+    let at_most = few s is in
+    omega (arith, encoding_size s held is, few_threads s.threads is.threads, at_most.waits, at_most.mutexes, at_most.barriers, at_most.rwlocks, at_most.input, is_held)

@@ -7,7 +7,7 @@ ghost use Rattle.ckrt_tables.specs.Records.{cause_from, flag};
 ghost use Rattle.ckrt_tables.specs.Savable.{fits_status};
 
 use crate::cursor::Cursor;
-use crate::encoding::{HELD_LIMIT, Held, LONGEST_TABLES, put_tables};
+use crate::encoding::{HELD_LIMIT, Held, most_bytes, put_tables};
 use crate::fitting::known_savable;
 use crate::reading_objects::{read_barriers, read_mutexes, read_rwlocks};
 use crate::reading_queues::{read_held, read_input};
@@ -99,7 +99,7 @@ fn zeros(alloc: Global, size: usize) -> Result<Vec<u8>, AllocError>
 fn is_encoding(tables: &Tables, held: &Held, room: &mut [u8], bytes: &[u8]) -> bool
     requires well_formed { IsWellFormed tables.now }
     requires held { IsHeld held.now.items }
-    requires room { LONGEST_TABLES ≤ length room.old }
+    requires room { length (encoding_of tables.now held.now.items) ≤ length room.old }
     ensures { IsTrue result ↔ (bytes.now ≡ encoding_of tables.now held.now.items) }
 {
     let size = put_tables(room, tables, held);
@@ -137,7 +137,7 @@ pub fn decode_tables(
         return Ok(None);
     }
     known_savable(&tables, &held);
-    let mut room = zeros(alloc, LONGEST_TABLES)?;
+    let mut room = zeros(alloc, most_bytes(&tables, &held))?;
     if !is_encoding(&tables, &held, room.as_mut_slice(), bytes) {
         return Ok(None);
     }

@@ -125,20 +125,37 @@ fn put_parts(out: &mut [u8], tables: &Tables, held: &Held) -> usize
     put_held(out, input, held)
 }
 
-/// As [`encode_tables`], where there is room for the longest encoding.
-#[tactic(auto, using(crate::proofs::Bounds::encoding_bound))]
+/// How many bytes are in the parts of each encoding that aren't records, input or output: clock, input's end, status, harts
+/// and counts.
+const FIXED_BYTES: usize = 34;
+
+/// How many bytes the encoding has at most, by how many records there are: a thread's has 264 at most, a wait's 20, a mutex's
+/// and a barrier's 8, and a read-write lock's 198 at most.
+#[tactic(auto, using(crate::proofs::Few::few))]
+pub(crate) fn most_bytes(tables: &Tables, held: &Held) -> usize
+    requires well_formed { IsWellFormed tables.now }
+    requires held { IsHeld held.now.items }
+    ensures { length (encoding_of tables.now held.now.items) ≤ result }
+{
+    let threads = 264 * tables.threads.thread_count() + 20 * tables.threads.waits().len();
+    let mutexes = 8 * tables.mutexes.count();
+    let others = 8 * tables.barriers.count() + 198 * tables.rwlocks.count();
+    FIXED_BYTES + threads + mutexes + others + tables.input.len() + held.len()
+}
+
+/// As [`encode_tables`], where there is room for the encoding.
 pub(crate) fn put_tables(out: &mut [u8], tables: &Tables, held: &Held) -> usize
     requires well_formed { IsWellFormed tables.now }
     requires held { IsHeld held.now.items }
-    requires room { LONGEST_TABLES ≤ length out.old }
-    ensures put { IsPut out.old 0 (encoding_of tables.now held.now.items) out.new result }
-    ensures longest { result ≤ LONGEST_TABLES }
+    requires room { length (encoding_of tables.now held.now.items) ≤ length out.old }
+    ensures { IsPut out.old 0 (encoding_of tables.now held.now.items) out.new result }
 {
     put_parts(out, tables, held)
 }
 
 /// Writes the encoding of tables and held output at the front of `out`, and answers how many bytes it has; what is behind
 /// it stays. They decode to these tables and this output. `out` must have room for [`TABLES_ROOM`] bytes.
+#[tactic(auto, using(crate::proofs::Bounds::encoding_bound))]
 pub fn encode_tables(tables: &Tables, held: &Held, out: &mut [u8]) -> usize
     requires well_formed { IsWellFormed tables.now }
     requires held { IsHeld held.now.items }

@@ -1,7 +1,9 @@
-use Rattle.std.proofs.Common.{◌≡◌, true, false, cond, List, Some, Err, sym, ◌∙◌, ap, rules}
+use Rattle.std.proofs.Common.{◌≡◌, true, false, cond, List, Some, Err, sym, ◌∙◌, ap, subst, rules}
 use Rattle.ckrt_journal.specs.declared.journal.Journal.{Journal}
 use Rattle.ckrt_machine.specs.Steps.{State}
 use Rattle.ckrt_tables.specs.Decoding.{Saved}
+use Rattle.ckrt_memory.specs.Marks.{Memory}
+use Rattle.ckrt_checkpoint.specs.Holds.{BothStand}
 use Rattle.ckrt_checkpoint.specs.Layout.{memory_of}
 use Rattle.ckrt_image.specs.declared.fault.RecoverFault.TheVariants.{Damaged}
 use Rattle.ckrt_image.specs.Recovery.{is_end_in_range, unreplayed}
@@ -36,6 +38,10 @@ returns-clause-exact g c = λ honest.
       decodes = read.decodes;
       gives = ap (λ b. cond b (ok (unreplayed config area (memory_of config area.index image) s)) (Err Damaged)) within
           ∙ ap (λ (m : List _). ok (unreplayed config area m s)) (sym read.pages)
-          ∙ ap (λ (j : Journal). ok (record (unreplayed config area memory s) { journal = j })) (sym c.journal_of.ensures)
-          ∙ ap (λ (x : State). ok (record (unreplayed config area memory s) { journal = c.journal_of.result; state = x })) (sym c.from_parts.ensures.state);
+          ∙ ap (λ (j : Journal). ok (record (unreplayed config area memory.bytes s) { journal = j })) (sym c.journal_of.ensures)
+          ∙ ap (λ (x : State). ok (record (unreplayed config area memory.bytes s) { journal = c.journal_of.result; state = x })) (sym c.from_parts.ensures.state);
     }
+
+pub returns-clause-pages : goal.returns-clause-pages
+returns-clause-pages g c = λ honest.
+    subst (λ (m : Memory). BothStand c.args.config.now m (g.D.Disk.content c.args.disk.now)) (sym c.from_parts.ensures.memory) (c.in_ok-memory.ensures.pages honest)

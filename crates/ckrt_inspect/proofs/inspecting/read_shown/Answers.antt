@@ -7,7 +7,7 @@ returns-in-Some-clause-exact g c = λ honest.
     let is : c.args.at ≡ Some c.in-Some.count = c.in-Some.is in
     subst (λ (o : Option ℕ). AgreesAt o (g.D.Disk.content c.args.disk.now) c.read_at.result) (sym is) (c.read_at.ensures.exact honest)
 
-pub returns-clause-exact : goal.returns-clause-exact
-returns-clause-exact g c = λ honest.
+pub returns-in-None-clause-exact : goal.returns-in-None-clause-exact
+returns-in-None-clause-exact g c = λ honest.
     let is : c.args.at ≡ None = c.in-None.is in
     subst (λ (o : Option ℕ). AgreesAt o (g.D.Disk.content c.args.disk.now) c.read_whole.result) (sym is) (c.read_whole.ensures.exact honest)

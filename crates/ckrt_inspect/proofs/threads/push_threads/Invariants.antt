@@ -5,4 +5,4 @@ use Rattle.ckrt_inspect.specs.Listing.{thread_lines}
 use Rattle.ckrt_inspect.proofs.threads.push_threads.Given as goal
 
 abbrev pub invariant-loop-id : goal.invariant-loop-id
-invariant-loop-id l = l.out.items ≡ l.fn.out.items ++ flat_map (thread_lines l.with_code l.memory l.threads) (rows_from 0 (take l.id l.threads.threads))
+invariant-loop-id l = l.out.items ≡ l.fn.out.items ++ flat_map (thread_lines l.with_code l.memory.bytes l.threads) (rows_from 0 (take l.id l.threads.threads))

@@ -1,6 +1,6 @@
 use Rattle.std.proofs.Common.{◌∙◌, sym, arith, refl}
 use Rattle.ckrt_machine.proofs.BurstLaws.{goes_on, ended}
-use Rattle.ckrt_machine.proofs.MemoryFollows.{follows_on}
+use Rattle.ckrt_memory.proofs.FollowLemmas.{follows_on}
 use Rattle.ckrt_machine.proofs.burst.burst.Goals as goal
 
 pub loop-steps-preserved : goal.loop-steps-preserved

@@ -1,7 +1,7 @@
 use Rattle.std.proofs.Common.{◌≡◌, ◌≤◌, None}
 use Rattle.ckrt_calls.specs.WellFormed.{IsWellFormed}
 use Rattle.ckrt_machine.specs.Runs.{run_on, stop_of}
-use Rattle.ckrt_machine.proofs.MemoryFollows.{Follows}
+use Rattle.ckrt_memory.specs.Marks.{Follows}
 use Rattle.ckrt_machine.proofs.hart.run.Given as goal
 
 abbrev pub invariant-loop-left : goal.invariant-loop-left
@@ -10,7 +10,7 @@ invariant-loop-left l = record {
   within : l.left ≤ l.limit;
   going : stop_of l.hart l.tables l.output.items ≡ None;
   follows : Follows l.fn.memory l.memory;
-  run : run_on l.left l.hart (record { bytes = l.memory; tables = l.tables }) l.output.items ≡ run_on l.limit l.hart (record { bytes = l.fn.memory; tables = l.fn.tables }) l.fn.output.items;
+  run : run_on l.left l.hart (record { bytes = l.memory.bytes; tables = l.tables }) l.output.items ≡ run_on l.limit l.hart (record { bytes = l.fn.memory.bytes; tables = l.fn.tables }) l.fn.output.items;
 }
 
 abbrev pub decreases-loop-left : goal.decreases-loop-left

@@ -1,0 +1,10 @@
+use Rattle.std.proofs.Common.{◌≡◌, ◌≤◌, length, ap, arith}
+use Rattle.ckrt_tables.specs.Encoding.{encoding_of}
+use Rattle.ckrt_tables.proofs.Bounds.{encoding_size}
+use Rattle.ckrt_tables.proofs.encoding.most_bytes.Goals as goal
+
+pub returns : goal.returns
+returns c =
+    let size = encoding_size c.args.tables.now c.args.held.now.items c.requires.well_formed in
+    let waits : length c.waits.result.now ≡ length c.args.tables.now.threads.waits = ap length c.waits.ensures.waits in
+    omega (arith, size, c.thread_count.ensures.count, waits, c.count-mutexes.ensures, c.count.ensures, c.count-2.ensures, c.len.ensures.len, c.len-2.ensures)
