@@ -1,2 +1,4 @@
+mod DriveLemmas
 mod FrontLemmas
+mod PrintLemmas
 mod RunLemmas

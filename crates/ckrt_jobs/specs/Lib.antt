@@ -1,7 +1,11 @@
+pub mod Driving
+pub mod Ends
 pub mod Making
 pub mod Names
+pub mod Openings
 pub mod Outcomes
 pub mod Performing
+pub mod Printing
 pub mod Reports
 pub mod Running
 pub mod Showing

@@ -8,6 +8,8 @@ use Rattle.ckrt_image.specs.declared.fault.RecoverFault.{RecoverFault}
 use Rattle.ckrt_image.specs.declared.fault.RecoverFault.TheVariants as recover
 use Rattle.ckrt_inspect.specs.declared.fault.InspectFault.{InspectFault}
 use Rattle.ckrt_inspect.specs.declared.fault.InspectFault.TheVariants as look
+use Rattle.ckrt_drive.specs.declared.fault.DriveFault.{DriveFault}
+use Rattle.ckrt_drive.specs.declared.fault.DriveFault.TheVariants as drive
 use Rattle.ckrt_main.specs.declared.fault.ServeFault.{ServeFault}
 use Rattle.ckrt_main.specs.declared.fault.ServeFault.TheVariants as serve
 
@@ -41,6 +43,13 @@ name_of_look look.OutOfMemory = codes "OutOfMemory"
 name_of_look look.Write = codes "Write"
 name_of_look look.Range = codes "Range"
 
+abbrev pub name_of_drive : DriveFault → List ℕ
+name_of_drive drive.Device = codes "Device"
+name_of_drive drive.Output = codes "Output"
+name_of_drive drive.OutputFull = codes "OutputFull"
+name_of_drive drive.GenerationsUsed = codes "GenerationsUsed"
+name_of_drive (drive.Refused why) = codes "Refused"
+
 abbrev pub name_of : JobFault → List ℕ
 name_of (job.File at why) = codes "File"
 name_of job.OutOfMemory = codes "OutOfMemory"
@@ -48,3 +57,5 @@ name_of (job.Format f) = name_of_format f
 name_of (job.Recover f) = name_of_recover f
 name_of (job.Serve f) = name_of_serve f
 name_of (job.Inspect f) = name_of_look f
+name_of job.Range = codes "Range"
+name_of (job.Drive f) = name_of_drive f

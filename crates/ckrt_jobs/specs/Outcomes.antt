@@ -1,11 +1,10 @@
 -- How a job ends.
-use Rattle.std.specs.Prelude.{◌≡◌, ℕ, List, [], ◌∷◌, ◌++◌, codes, decimal, Result, Ok, Err}
+use Rattle.std.specs.Prelude.{◌≡◌, ℕ, List, [], ◌∷◌, ◌++◌, codes, decimal, Option, None, Some, Result, Ok, Err}
+use Rattle.ckrt_jobs.specs.Ends.{end_status}
+use Rattle.ckrt_jobs.specs.declared.driven.Driven.{Driven}
 use Rattle.ckrt_jobs.specs.declared.fault.JobFault.{JobFault}
 use Rattle.ckrt_jobs.specs.declared.fault.JobFault.TheVariants as job
-use Rattle.ckrt_jobs.specs.declared.file.FileFault.{FileFault}
 use Rattle.ckrt_jobs.specs.declared.file.JobFile.{JobFile}
-use Rattle.ckrt_jobs.specs.declared.file.Opening.{Opening}
-use Rattle.ckrt_jobs.specs.declared.file.Opening.TheVariants.{Opened, Refused}
 use Rattle.ckrt_jobs.specs.declared.running.Unserved.{Unserved}
 use Rattle.ckrt_image.specs.declared.fault.RecoverFault.{RecoverFault}
 use Rattle.ckrt_image.specs.Recovery.{AgreesOnFault, Recovered}
@@ -14,11 +13,6 @@ use Rattle.ckrt_checkpoint.specs.declared.config.Config.{Config}
 use Rattle.ckrt_words.specs.Jobs.{Formatting}
 use Rattle.ckrt_words.specs.declared.job.WordsFault.{WordsFault}
 use Rattle.ckrt_words.specs.declared.job.WordsFault.TheVariants as words
-
--- how the opening with this answer went
-abbrev pub opening_of : {X : Type 0} → Result X FileFault → Opening
-opening_of (Ok x) = Opened
-opening_of (Err why) = Refused why
 
 -- the faults that come before a byte is read or written
 abbrev pub IsBeforeService : JobFault → Type 0
@@ -33,9 +27,10 @@ formatted_line size = codes "formatted " ++ (decimal size ++ 10 ∷ [])
 abbrev pub version_line : List ℕ
 version_line = codes "ckrt " ++ (codes "0.1.0, proved with rattle-kit-13b logic dac8208d650f15bf" ++ 10 ∷ [])
 
--- the program's status for a job: 0 where it is done
-abbrev pub status_of : Result (Unit {0}) JobFault → ℕ
-status_of (Ok _) = 0
+-- the program's status for a job: 0 where it is done; of a drive, its end's
+abbrev pub status_of : Result (Option Driven) JobFault → ℕ
+status_of (Ok None) = 0
+status_of (Ok (Some driven)) = end_status driven.ending
 status_of (Err fault) = 1
 
 -- and for words that name none

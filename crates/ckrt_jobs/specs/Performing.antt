@@ -6,31 +6,33 @@ use Rattle.clap.specs.Words.{takes}
 use Rattle.ckrt_disk.specs.declared.disk.Disk.{Ghosts}
 use Rattle.ckrt_checkpoint.specs.Layout.{size_needed}
 use Rattle.ckrt_recovery.specs.View.{fresh}
-use Rattle.ckrt_main.specs.Service.{IsStartFault, Served, ServedPart}
+use Rattle.ckrt_main.specs.Service.{AppendsPart, IsStartFault, Served, ServedPart}
 use Rattle.ckrt_main.specs.declared.fault.ServeFault.{ServeFault}
 use Rattle.ckrt_main.specs.declared.fault.ServeFault.TheVariants as serve
 use Rattle.ckrt_words.specs.Commands.{ckrt_app}
-use Rattle.ckrt_words.specs.Jobs.{Formatting, Request, Inspection, format, inspect, run, stored, version}
+use Rattle.ckrt_words.specs.Jobs.{Formatting, Request, Inspection, drive, format, inspect, request_of_words, run, stored, version}
 use Rattle.ckrt_words.specs.declared.job.WordsFault.{WordsFault}
 use Rattle.ckrt_words.specs.declared.job.WordsFault.TheVariants as words
+use Rattle.ckrt_jobs.specs.Driving.{DrivesPath}
+use Rattle.ckrt_jobs.specs.Ends.{end_line}
 use Rattle.ckrt_jobs.specs.Making.{Makes}
-use Rattle.ckrt_jobs.specs.Outcomes.{config_of, made_line, status_of, status_of_words, version_line}
+use Rattle.ckrt_jobs.specs.Openings.{Openings, opened, refused, unopened}
+use Rattle.ckrt_jobs.specs.Outcomes.{config_of, disk_of, made_line, status_of, status_of_words, version_line}
 use Rattle.ckrt_jobs.specs.Reports.{report_of, words_report_of}
 use Rattle.ckrt_jobs.specs.Running.{RunsDisk}
 use Rattle.ckrt_jobs.specs.Showing.{Shows, shown_of}
+use Rattle.ckrt_jobs.specs.declared.driven.Driven.{Driven}
 use Rattle.ckrt_jobs.specs.declared.fault.JobFault.{JobFault}
 use Rattle.ckrt_jobs.specs.declared.fault.JobFault.TheVariants as job
 use Rattle.ckrt_jobs.specs.declared.file.FileFault.{FileFault}
 use Rattle.ckrt_jobs.specs.declared.file.JobFile.TheVariants as file
-use Rattle.ckrt_jobs.specs.declared.file.Opening.{Opening}
-use Rattle.ckrt_jobs.specs.declared.file.Opening.TheVariants.{Refused}
 use Rattle.ckrt_jobs.specs.declared.running.Unserved.{Unserved}
 use Rattle.ckrt_jobs.specs.declared.stored.TheConstants.{CONFIG, IMAGE}
 
--- the line was written, or the writer failed
+-- the line was written, or the writer failed, and what was written is a beginning of it
 abbrev pub SaysLine : (a b : Option (List ℕ)) → List ℕ → Result (Unit {0}) JobFault → Type 0
 SaysLine a b line (Ok done) = Appends a b line
-SaysLine a b line (Err e) = e ≡ job.Serve serve.Write
+SaysLine a b line (Err e) = (e ≡ job.Serve serve.Write) × AppendsPart a b line
 
 -- the service of the stored program ended early, or didn't begin; its configuration isn't refused
 pub record EndsStored (a b r s : Option (List ℕ)) (e : JobFault) : Type 0 where
@@ -49,14 +51,14 @@ ServesStored a b r s (Ok done) = Served a b r s (fresh CONFIG IMAGE)
 ServesStored a b r s (Err e) = EndsStored a b r s e
 
 -- the line of a disk that was made; nothing is written where none was
-abbrev pub SaysMade : {D : Type 0} → (a b : Option (List ℕ)) → List ℕ → Result D JobFault → Result (Unit {0}) JobFault → Type 0
-SaysMade a b line (Ok disk) result = SaysLine a b line result
+abbrev pub SaysMade : (a b : Option (List ℕ)) → List ℕ → (made result : Result (Unit {0}) JobFault) → Type 0
+SaysMade a b line (Ok done) result = SaysLine a b line result
 SaysMade a b line (Err e) result = (result ≡ Err e) × (b ≡ a)
 
--- a disk was made, or why it wasn't
-pub record MakesPath {D : Type 0} (d : Ghosts D) (f : Formatting) (known : Option (List ℕ)) (Fills : D → Type 0) (image before after : Opening) (a b : Option (List ℕ)) (result : Result (Unit {0}) JobFault) : Type 0 where
-  pub made : Result D JobFault
-  pub makes : Makes d (config_of f) known Fills image before after made
+-- the disk of the job's path was made with the image of the job's path, or why it wasn't
+pub record MakesPath {D : Type 0} (d : Ghosts D) (f : Formatting) (known : Option (List ℕ)) (Fills : D → Type 0) (old new : Openings D) (a b : Option (List ℕ)) (result : Result (Unit {0}) JobFault) : Type 0 where
+  pub made : Result (Unit {0}) JobFault
+  pub makes : Makes d (config_of f) known Fills f.image f.disk old new made
   pub says : SaysMade a b (made_line f) made result
 
 -- what a run answers
@@ -64,73 +66,101 @@ abbrev pub outcome_of : {D : Type 0} → Result D (Unserved D) → Result (Unit 
 outcome_of (Ok disk) = Ok tt
 outcome_of (Err u) = Err u.fault
 
--- the disk of a path was opened and run
-pub record RunsOpened {D : Type 0} (d : Ghosts D) (Opens : D → Type 0) (a b r s : Option (List ℕ)) (result : Result (Unit {0}) JobFault) : Type 0 where
+-- a disk that was opened was run, and closed as the run left it; the openings go from asked to new
+pub record RunsOpened {D : Type 0} (d : Ghosts D) (Opens : D → Type 0) (asked new : Openings D) (a b r s : Option (List ℕ)) (result : Result (Unit {0}) JobFault) : Type 0 where
   pub start : D
   pub is_opened : Opens start
   pub ran : Result D (Unserved D)
   pub runs : RunsDisk d start a b r s ran
   pub gives : result ≡ outcome_of ran
+  pub closes : new ≡ record asked { closed = Some (disk_of ran) }
 
--- the disk of a path can't be opened
-abbrev pub IsRefused : Opening → (a b r s : Option (List ℕ)) → Result (Unit {0}) JobFault → Type 0
-IsRefused after a b r s result = (why : FileFault) × (result ≡ Err (job.File file.Disk why)) × (after ≡ Refused why) × (b ≡ a) × (s ≡ r)
+-- the disk of this path was asked for and can't be opened
+abbrev pub IsRefused : {D : Type 0} → (path : List ℕ) → (old new : Openings D) → (a b r s : Option (List ℕ)) → Result (Unit {0}) JobFault → Type 0
+IsRefused path old new a b r s result = (why : FileFault) × (result ≡ Err (job.File file.Disk why)) × (new ≡ record old { disk = refused path why }) × (b ≡ a) × (s ≡ r)
 
-abbrev pub RunsPath : {D : Type 0} → Ghosts D → (D → Type 0) → Opening → (a b r s : Option (List ℕ)) → Result (Unit {0}) JobFault → Type 0
-RunsPath d Opens after a b r s result = IsRefused after a b r s result ⊎ RunsOpened d Opens a b r s result
+-- the disk of this path was run, or can't be opened
+abbrev pub RunsPath : {D : Type 0} → Ghosts D → (path : List ℕ) → (D → Type 0) → (old new : Openings D) → (a b r s : Option (List ℕ)) → Result (Unit {0}) JobFault → Type 0
+RunsPath d path Opens old new a b r s result = IsRefused path old new a b r s result ⊎ RunsOpened d Opens (record old { disk = opened path }) new a b r s result
 
--- the disk of a path was opened to be looked at, and was shown
-pub record ShowsOpened {D : Type 0} (d : Ghosts D) (Opens : D → Type 0) (i : Inspection) (a b r s : Option (List ℕ)) (result : Result (Unit {0}) JobFault) : Type 0 where
+-- a disk that was opened to be looked at was shown, and closed as it was then
+pub record ShowsOpened {D : Type 0} (d : Ghosts D) (Opens : D → Type 0) (i : Inspection) (asked new : Openings D) (a b r s : Option (List ℕ)) (result : Result (Unit {0}) JobFault) : Type 0 where
   pub start : D
   pub is_opened : Opens start
-  -- the disk as it was let go
   pub end : D
   pub shows : Shows d start end (shown_of i.at i.code) a b result
+  pub closes : new ≡ record asked { closed = Some end }
   pub unread : s ≡ r
 
-abbrev pub ShowsPath : {D : Type 0} → Ghosts D → (D → Type 0) → Inspection → Opening → (a b r s : Option (List ℕ)) → Result (Unit {0}) JobFault → Type 0
-ShowsPath d Opens i after a b r s result = IsRefused after a b r s result ⊎ ShowsOpened d Opens i a b r s result
+-- the disk of the inspection's path was shown, or can't be opened
+abbrev pub ShowsPath : {D : Type 0} → Ghosts D → (D → Type 0) → Inspection → (old new : Openings D) → (a b r s : Option (List ℕ)) → Result (Unit {0}) JobFault → Type 0
+ShowsPath d Opens i old new a b r s result = IsRefused i.disk old new a b r s result ⊎ ShowsOpened d Opens i (record old { disk = opened i.disk }) new a b r s result
 
--- What the program does for a request, where its sources give these bytes for the path of an image, these disks for that of a disk, and these
--- once it is filled; with the openings of the image, and of the disk before and after: what asks for no disk opens none.
-abbrev pub Performs : {D : Type 0} → Ghosts D → Request → (List ℕ → Option (List ℕ)) → (List ℕ → D → Type 0) → (List ℕ → ℕ → D → Type 0)
-    → (image before after : Opening) → (a b r s : Option (List ℕ)) → Result (Unit {0}) JobFault → Type 0
-Performs d stored known Opens Fills image before after a b r s result = ServesStored a b r s result × (after ≡ before)
-Performs d version known Opens Fills image before after a b r s result = SaysLine a b version_line result × (s ≡ r) × (after ≡ before)
-Performs d (format f) known Opens Fills image before after a b r s result = MakesPath d f (known f.image) (Fills f.disk (size_needed (config_of f))) image before after a b result × (s ≡ r)
-Performs d (run disk) known Opens Fills image before after a b r s result = RunsPath d (Opens disk) after a b r s result
-Performs d (inspect i) known Opens Fills image before after a b r s result = ShowsPath d (Opens i.disk) i after a b r s result
+-- the outcome of a job that has no end of its own
+abbrev pub outcome_without_end : Result (Unit {0}) JobFault → Result (Option Driven) JobFault
+outcome_without_end (Ok done) = Ok None
+outcome_without_end (Err fault) = Err fault
+
+-- such a job was done, or why it wasn't
+abbrev pub Does : (Result (Unit {0}) JobFault → Type 0) → Result (Option Driven) JobFault → Type 0
+Does Holds outcome = (result : Result (Unit {0}) JobFault) × (outcome ≡ outcome_without_end result) × Holds result
+
+-- what a drive came to is its outcome
+abbrev pub outcome_with_end : Result Driven JobFault → Result (Option Driven) JobFault
+outcome_with_end (Ok driven) = Ok (Some driven)
+outcome_with_end (Err fault) = Err fault
+
+abbrev pub Comes : (Result Driven JobFault → Type 0) → Result (Option Driven) JobFault → Type 0
+Comes Holds outcome = (result : Result Driven JobFault) × (outcome ≡ outcome_with_end result) × Holds result
+
+-- What the program does for a request, where its sources give these bytes for the path of an image, these disks for that of a disk, these
+-- once it is filled, and these outputs for that of an output; the openings go from old to new: what asks for no file opens none.
+abbrev pub Performs : {D : Type 0} → Ghosts D → Request → (List ℕ → Option (List ℕ)) → (List ℕ → D → Type 0) → (List ℕ → ℕ → D → Type 0) → (List ℕ → D → Type 0)
+    → (old new : Openings D) → (a b r s : Option (List ℕ)) → Result (Option Driven) JobFault → Type 0
+Performs d stored known Opens Fills Outputs old new a b r s outcome = Does (ServesStored a b r s) outcome × (new ≡ old)
+Performs d version known Opens Fills Outputs old new a b r s outcome = Does (SaysLine a b version_line) outcome × (s ≡ r) × (new ≡ old)
+Performs d (format f) known Opens Fills Outputs old new a b r s outcome = Does (MakesPath d f (known f.image) (Fills f.disk (size_needed (config_of f))) old new a b) outcome × (s ≡ r)
+Performs d (run disk) known Opens Fills Outputs old new a b r s outcome = Does (RunsPath d disk (Opens disk) old new a b r s) outcome
+Performs d (inspect i) known Opens Fills Outputs old new a b r s outcome = Does (ShowsPath d (Opens i.disk) i old new a b r s) outcome
+Performs d (drive j) known Opens Fills Outputs old new a b r s outcome = Comes (DrivesPath d (Opens j.disk) (Outputs j.output) j old new) outcome × (b ≡ a) × (s ≡ r)
 
 -- a reporter said this text behind what it had said, unless it has failed
 abbrev pub Reports : (before after : Option (List ℕ)) → Bool → List ℕ → Type 0
 Reports before after has_failed text = has_failed ≡ false → Appends before after text
 
--- what a reporter said of an outcome
-abbrev pub ReportsOutcome : Request → Result (Unit {0}) JobFault → (before after : Option (List ℕ)) → Bool → Type 0
-ReportsOutcome q (Ok done) before after has_failed = after ≡ before
+-- what a reporter said of an outcome: the line of what a drive came to, the lines of a fault, and else nothing
+abbrev pub ReportsOutcome : Request → Result (Option Driven) JobFault → (before after : Option (List ℕ)) → Bool → Type 0
+ReportsOutcome q (Ok None) before after has_failed = after ≡ before
+ReportsOutcome q (Ok (Some driven)) before after has_failed = Reports before after has_failed (end_line driven)
 ReportsOutcome q (Err fault) before after has_failed = Reports before after has_failed (report_of q fault)
 
 -- the program's words ask for something: what was done, what was said of it, and the status
 pub record RunsRequest {D : Type 0} (d : Ghosts D) (q : Request) (known : List ℕ → Option (List ℕ)) (Opens : List ℕ → D → Type 0) (Fills : List ℕ → ℕ → D → Type 0)
-    (image before after : Opening) (a b r s said_before said_after : Option (List ℕ)) (has_failed : Bool) (status : ℕ) : Type 0 where
-  pub outcome : Result (Unit {0}) JobFault
-  pub performs : Performs d q known Opens Fills image before after a b r s outcome
+    (Outputs : List ℕ → D → Type 0) (old new : Openings D) (a b r s said_before said_after : Option (List ℕ)) (has_failed : Bool) (status : ℕ) : Type 0 where
+  pub outcome : Result (Option Driven) JobFault
+  pub performs : Performs d q known Opens Fills Outputs old new a b r s outcome
   pub reports : ReportsOutcome q outcome said_before said_after has_failed
   pub gives : status ≡ status_of outcome
 
--- the same with files of the system, of which nothing is known but how the last of each was opened
-pub record RunsOnFiles {D : Type 0} (d : Ghosts D) (q : Request) (a b r s said_before said_after : Option (List ℕ)) (has_failed : Bool) (status : ℕ) : Type 0 where
-  pub image : Opening
-  pub before : Opening
-  pub after : Opening
-  pub runs : RunsRequest d q (λ _. None) (λ _ _. Unit {0}) (λ _ _ _. Unit {0}) image before after a b r s said_before said_after has_failed status
-
--- they ask for nothing, or couldn't be read for want of memory
-pub record RefusesWords (ws : List (List ℕ)) (a b r s said_before said_after : Option (List ℕ)) (has_failed : Bool) (status : ℕ) : Type 0 where
+-- they ask for nothing, or couldn't be read for want of memory: nothing was opened, written or read
+pub record RefusesWords {D : Type 0} (ws : List (List ℕ)) (old new : Openings D) (a b r s said_before said_after : Option (List ℕ)) (has_failed : Bool) (status : ℕ) : Type 0 where
   pub fault : WordsFault
   pub reports : Reports said_before said_after has_failed (words_report_of fault)
+  pub unasked : new ≡ old
   pub unwritten : b ≡ a
   pub unread : s ≡ r
   pub some : ws ≢ []
   pub taken : takes ckrt_app ws ≡ true → fault ≡ words.OutOfMemory
   pub gives : status ≡ status_of_words fault
+
+-- what the program does for its words
+abbrev pub RunsWords : {D : Type 0} → Ghosts D → (ws : List (List ℕ)) → (List ℕ → Option (List ℕ)) → (List ℕ → D → Type 0) → (List ℕ → ℕ → D → Type 0)
+    → (List ℕ → D → Type 0) → (old new : Openings D) → (a b r s said_before said_after : Option (List ℕ)) → Bool → ℕ → Type 0
+RunsWords d ws known Opens Fills Outputs old new a b r s said_before said_after has_failed status =
+    ((q : Request) × (request_of_words ws ≡ Some q) × RunsRequest d q known Opens Fills Outputs old new a b r s said_before said_after has_failed status)
+    ⊎ RefusesWords ws old new a b r s said_before said_after has_failed status
+
+-- the same with files of the system, of which nothing is known but what was asked for last, and how that was opened
+pub record RunsOnFiles {D : Type 0} (d : Ghosts D) (ws : List (List ℕ)) (a b r s said_before said_after : Option (List ℕ)) (has_failed : Bool) (status : ℕ) : Type 0 where
+  pub openings : Openings D
+  pub runs : RunsWords d ws (λ _. None) (λ _ _. Unit {0}) (λ _ _ _. Unit {0}) (λ _ _. Unit {0}) unopened openings a b r s said_before said_after has_failed status

@@ -13,13 +13,15 @@ use Rattle.ckrt_image.specs.declared.fault.FormatFault.{FormatFault}
 use Rattle.ckrt_image.specs.declared.fault.FormatFault.TheVariants as format
 use Rattle.ckrt_image.specs.declared.fault.RecoverFault.{RecoverFault}
 use Rattle.ckrt_image.specs.declared.fault.RecoverFault.TheVariants as recover
+use Rattle.ckrt_drive.specs.declared.fault.DriveFault.{DriveFault}
+use Rattle.ckrt_drive.specs.declared.fault.DriveFault.TheVariants as drive
 use Rattle.ckrt_main.specs.declared.fault.ServeFault.{ServeFault}
 use Rattle.ckrt_main.specs.declared.fault.ServeFault.TheVariants as serve
 use Rattle.ckrt_inspect.specs.declared.fault.InspectFault.{InspectFault}
 use Rattle.ckrt_inspect.specs.declared.fault.InspectFault.TheVariants as look
 use Rattle.ckrt_words.specs.declared.job.WordsFault.{WordsFault}
 use Rattle.ckrt_words.specs.declared.job.WordsFault.TheVariants as words
-use Rattle.ckrt_words.specs.Jobs.{Request, format as asks_format, run as asks_run, inspect as asks_inspect, stored}
+use Rattle.ckrt_words.specs.Jobs.{Request, format as asks_format, run as asks_run, inspect as asks_inspect, drive as asks_drive, stored}
 
 -- what the system's error says of a file (POSIX.1-2017, open, read, write: ENOENT, EISDIR, EACCES and EPERM, ENOSPC, EROFS; EWOULDBLOCK of a
 -- lock that is held)
@@ -35,9 +37,12 @@ file_fault_of _ = fault.Other
 abbrev pub file_text : JobFile → List ℕ
 file_text file.Image = codes "the image "
 file_text file.Disk = codes "the disk "
+file_text file.Output = codes "the output "
 
 abbrev pub file_fault_text : FileFault → List ℕ
 file_fault_text fault.NotFound = codes "there is no such file"
+file_fault_text fault.NoFolder = codes "its folder is missing"
+file_fault_text fault.IsImage = codes "the image has this path too"
 file_fault_text fault.IsADirectory = codes "it is a directory"
 file_fault_text fault.PermissionDenied = codes "permission denied"
 file_fault_text fault.InUse = codes "another program has it locked"
@@ -45,6 +50,14 @@ file_fault_text fault.StorageFull = codes "no space is left for it"
 file_fault_text fault.ReadOnly = codes "its file system is read-only"
 file_fault_text fault.StreamClosed = codes "a standard stream is closed"
 file_fault_text fault.Other = codes "it can't be opened, read or filled"
+
+-- the file that a fault of a drive is of
+abbrev pub file_of_drive : DriveFault → JobFile
+file_of_drive drive.Device = file.Disk
+file_of_drive drive.Output = file.Output
+file_of_drive drive.OutputFull = file.Output
+file_of_drive drive.GenerationsUsed = file.Disk
+file_of_drive (drive.Refused why) = file.Disk
 
 -- the file that a fault is of
 abbrev pub file_of : JobFault → Option JobFile
@@ -62,6 +75,7 @@ file_of (job.Inspect look.Version) = Some file.Disk
 file_of (job.Inspect look.Damaged) = Some file.Disk
 file_of (job.Inspect look.Device) = Some file.Disk
 file_of (job.Inspect look.Range) = Some file.Disk
+file_of (job.Drive f) = Some (file_of_drive f)
 file_of _ = None
 
 abbrev pub device_advice : List ℕ
@@ -101,6 +115,13 @@ advice_of_look look.OutOfMemory = memory_advice
 advice_of_look look.Write = advice_of_serve serve.Write
 advice_of_look look.Range = codes "it has no state after so many events: any more, or not yet; without --at it is shown after the last one"
 
+abbrev pub advice_of_drive : DriveFault → List ℕ
+advice_of_drive drive.Device = device_advice
+advice_of_drive drive.Output = device_advice
+advice_of_drive drive.OutputFull = codes "it can't have so many bytes"
+advice_of_drive drive.GenerationsUsed = codes "it has made as many checkpoints as there can be; make another"
+advice_of_drive (drive.Refused why) = codes "it can't take another event: its counters are used up"
+
 abbrev pub advice_of : JobFault → List ℕ
 advice_of (job.File at why) = file_fault_text why
 advice_of job.OutOfMemory = memory_advice
@@ -108,6 +129,8 @@ advice_of (job.Format f) = advice_of_format f
 advice_of (job.Recover f) = advice_of_recover f
 advice_of (job.Serve f) = advice_of_serve f
 advice_of (job.Inspect f) = advice_of_look f
+advice_of job.Range = codes "--turn is 1 to 65535, and --rounds-per-commit 1 or more"
+advice_of (job.Drive f) = advice_of_drive f
 
 -- the path that the words give for a file
 abbrev pub path_of : JobFile → Request → List ℕ
@@ -115,6 +138,8 @@ path_of file.Image (asks_format f) = f.image
 path_of file.Disk (asks_format f) = f.disk
 path_of file.Disk (asks_run disk) = disk
 path_of file.Disk (asks_inspect i) = i.disk
+path_of file.Disk (asks_drive j) = j.disk
+path_of file.Output (asks_drive j) = j.output
 path_of _ _ = []
 
 -- the file that is spoken of, with its path

@@ -1,8 +1,9 @@
 ghost use Rattle.std.specs.Prelude.{◌≡◌};
-ghost use Rattle.ckrt_jobs.specs.Names.{name_of, name_of_look};
-ghost use Rattle.ckrt_jobs.specs.Reports.{advice_of, advice_of_format, advice_of_look, advice_of_recover, advice_of_serve, device_advice, file_of, memory_advice};
+ghost use Rattle.ckrt_jobs.specs.Names.{name_of, name_of_drive, name_of_look};
+ghost use Rattle.ckrt_jobs.specs.Reports.{advice_of, advice_of_drive, advice_of_format, advice_of_look, advice_of_recover, advice_of_serve, device_advice, file_of, file_of_drive, memory_advice};
 
 use crate::file::{FileFault, JobFile};
+use ckrt_drive::DriveFault;
 use ckrt_inspect::InspectFault;
 use ckrt_main::ServeFault;
 use ckrt_recovery::{FormatFault, RecoverFault};
@@ -22,6 +23,10 @@ pub enum JobFault {
     Serve(ServeFault),
     /// The disk wasn't shown.
     Inspect(InspectFault),
+    /// The numbers of a drive are out of their ranges.
+    Range,
+    /// The drive ended early.
+    Drive(DriveFault),
 }
 
 /// What is said where the disk failed a call.
@@ -110,6 +115,45 @@ fn inspection_name(fault: InspectFault) -> &'static str
     }
 }
 
+/// What is said of a fault of a drive.
+fn drive_advice(fault: DriveFault) -> &'static str
+    ensures { result.now ≡ advice_of_drive fault }
+{
+    match fault {
+        DriveFault::Device | DriveFault::Output => DEVICE_ADVICE,
+        DriveFault::OutputFull => "it can't have so many bytes",
+        DriveFault::GenerationsUsed =>
+            "it has made as many checkpoints as there can be; make another",
+        DriveFault::Refused(_) => "it can't take another event: its counters are used up",
+    }
+}
+
+/// The name of a fault of a drive.
+fn drive_name(fault: DriveFault) -> &'static str
+    ensures { result.now ≡ name_of_drive fault }
+{
+    match fault {
+        DriveFault::Device => "Device",
+        DriveFault::Output => "Output",
+        DriveFault::OutputFull => "OutputFull",
+        DriveFault::GenerationsUsed => "GenerationsUsed",
+        DriveFault::Refused(_) => "Refused",
+    }
+}
+
+/// What is said of numbers of a drive that are out of their ranges.
+const RANGE_ADVICE: &str = "--turn is 1 to 65535, and --rounds-per-commit 1 or more";
+
+/// The file that a fault of a drive is of.
+fn drive_file(fault: DriveFault) -> JobFile
+    ensures { result ≡ file_of_drive fault }
+{
+    match fault {
+        DriveFault::Output | DriveFault::OutputFull => JobFile::Output,
+        DriveFault::Device | DriveFault::GenerationsUsed | DriveFault::Refused(_) => JobFile::Disk,
+    }
+}
+
 impl JobFault {
     /// The fault's name, as the program prints it.
     pub fn name(self) -> &'static str
@@ -135,6 +179,8 @@ impl JobFault {
             JobFault::Serve(ServeFault::Write) => "Write",
             JobFault::Serve(ServeFault::Format) => "Format",
             JobFault::Inspect(fault) => inspection_name(fault),
+            JobFault::Range => "Range",
+            JobFault::Drive(fault) => drive_name(fault),
         }
     }
     /// What is wrong, in plain words, and what to do about it.
@@ -148,6 +194,8 @@ impl JobFault {
             JobFault::Recover(fault) => recovery_advice(fault),
             JobFault::Serve(fault) => service_advice(fault),
             JobFault::Inspect(fault) => inspection_advice(fault),
+            JobFault::Range => RANGE_ADVICE,
+            JobFault::Drive(fault) => drive_advice(fault),
         }
     }
 
@@ -174,6 +222,7 @@ impl JobFault {
                 | InspectFault::Device
                 | InspectFault::Range,
             ) => Some(JobFile::Disk),
+            JobFault::Drive(fault) => Some(drive_file(fault)),
             _ => None,
         }
     }

@@ -1,7 +1,7 @@
 //! The files of a job, and why one can't be used.
 ghost use Rattle.std.specs.Prelude.{◌≡◌};
 ghost use Rattle.std.specs.IoError.{error_kind};
-ghost use Rattle.ckrt_jobs.specs.Outcomes.{opening_of};
+ghost use Rattle.ckrt_jobs.specs.Openings.{kept_opening, opening_of};
 ghost use Rattle.ckrt_jobs.specs.Reports.{file_fault_of, file_fault_text, file_text};
 
 use std::io::{self, ErrorKind};
@@ -13,6 +13,8 @@ pub enum JobFile {
     Image,
     /// The disk.
     Disk,
+    /// The file of the output.
+    Output,
 }
 
 /// Why a file can't be opened, read, locked or filled.
@@ -20,6 +22,10 @@ pub enum JobFile {
 pub enum FileFault {
     /// Nothing has this path.
     NotFound,
+    /// No folder is there for a file that was to be made.
+    NoFolder,
+    /// The disk's path is the image's too.
+    IsImage,
     /// A directory has this path.
     IsADirectory,
     /// The user may not open it so.
@@ -36,25 +42,25 @@ pub enum FileFault {
     Other,
 }
 
-/// How the opening of a file went.
-#[derive(Clone, Copy, Debug, PartialEq, Eq)]
-pub enum Opening {
-    /// It wasn't asked for.
+/// The last opening of a file: of which path, and how it went.
+#[derive(Clone, Copy)]
+pub(crate) enum LastOpening<'a> {
+    /// None was asked for.
     Unasked,
-    /// It is open.
-    Opened,
-    /// It can't be used, and this is why.
-    Refused(FileFault),
+    /// The file of this path is open.
+    Opened(&'a str),
+    /// That of this path can't be used, and this is why.
+    Refused(&'a str, FileFault),
 }
 
-impl Opening {
-    /// How the opening with this answer went.
-    pub(crate) fn of<T>(answer: &Result<T, FileFault>) -> Opening
-        ensures { result ≡ opening_of answer.now }
+impl<'a> LastOpening<'a> {
+    /// The opening of a path with this answer.
+    pub(crate) fn of<T>(path: &'a str, answer: &Result<T, FileFault>) -> LastOpening<'a>
+        ensures { kept_opening result ≡ opening_of path.now answer.now }
     {
         match answer {
-            Ok(_) => Opening::Opened,
-            Err(fault) => Opening::Refused(*fault),
+            Ok(_) => LastOpening::Opened(path),
+            Err(fault) => LastOpening::Refused(path, *fault),
         }
     }
 }
@@ -67,6 +73,7 @@ impl JobFile {
         match self {
             JobFile::Image => "the image ",
             JobFile::Disk => "the disk ",
+            JobFile::Output => "the output ",
         }
     }
 }
@@ -78,6 +85,8 @@ impl FileFault {
     {
         match self {
             FileFault::NotFound => "there is no such file",
+            FileFault::NoFolder => "its folder is missing",
+            FileFault::IsImage => "the image has this path too",
             FileFault::IsADirectory => "it is a directory",
             FileFault::PermissionDenied => "permission denied",
             FileFault::InUse => "another program has it locked",

@@ -1,15 +1,16 @@
-//! The jobs of the program: making a disk, running one, showing one, and what is printed for each outcome.
+//! The jobs of the program: making a disk, running one, driving one, showing one, and what is printed for each outcome.
 //!
 //! [`run_words`] is the whole program behind its words, with files of the system; [`run_words_with`] is the same with images
 //! and disks of any [`Sources`]; [`make_disk`], [`run_disk`] and [`inspect_disk`] are its jobs over any disk.
 //!
 //! Proved of [`make_disk`]: BadConfig comes exactly where the configuration is out of its ranges, before anything is
 //! opened; with a fault of the image, ImageTooLong and want of memory for the image the disk wasn't asked for; a fault of a
-//! file is that of its opening, or of a read of the image. Where the disk is open it is formatted, once: TooSmall comes
-//! exactly where it is shorter than needed; AlreadyFormatted where its first byte is an open gate, and it reads as before
-//! then; a disk whose first byte is an open gate isn't written, whatever the answer; Ok comes where that gate was closed,
-//! and it holds the program with exactly this image then; Device only where the disk's failures grew; and what a stop
-//! leaves at any moment is that of formatting.
+//! file is that of the opening of its path, or of a read of the image; a disk with the image's path isn't asked for. Where
+//! the disk is open it is formatted, once: TooSmall comes exactly where it is shorter than needed; AlreadyFormatted where its
+//! first byte is an open gate, and it reads as before then; a disk whose first byte is an open gate isn't written, whatever
+//! the answer; Ok comes where that gate was closed, and it holds the program with exactly this image then; Device only where
+//! the disk's failures grew; what a stop leaves at any moment is that of formatting; and the disk is closed as formatting
+//! left it.
 //!
 //! Proved of [`run_disk`], whatever it answers and over any disk: where nothing is recovered that comes before a byte is
 //! read or written; the fault is the content's, and it is Device only where a call of the disk failed. Else what was written
@@ -24,25 +25,39 @@
 //! Damaged and Range are the content's, Device comes only where a read failed; the disk is only read, at every moment, and
 //! nothing is written with a fault but Write.
 //!
+//! Proved of `drive`: numbers out of their ranges are the fault Range, before anything is opened; the output is asked for
+//! only once the disk is recovered; the session that its content recovers to was driven as `ckrt_drive` says, with the
+//! options of the words; the ending is the plan's where the drive stands then, and the program's status the session's; and
+//! disk and output are closed as the drive left them.
+//!
 //! Proved of [`run_words_with`]: its outcome is the one that the words ask for, and the status is that outcome's: for
 //! `format` that of making the disk of DISK with the image of IMAGE, and then the line `formatted SIZE`; for `run` that of
-//! running the disk of DISK; for `inspect` that of showing it; for no words that of serving the stored program, of which a
-//! service that ends early has written a beginning; for `--version` the line of version and kit. A disk that can't be
-//! opened is a fault of File with what its sources said. For each fault the line in plain words, with the path of the file,
-//! and the line with its name were reported exactly, or the reporter failed. The status is 2 never for no words, nor for
-//! words that `clap` takes. [`run_words`] says the same of some disk of the system for each path.
+//! running the disk of DISK; for `inspect` that of showing it; for `drive` that of driving it with its output in FILE, and
+//! then the line of what it came to; for no words that of serving the stored program, of which a
+//! service that ends early has written a beginning; for `--version` the line of version and kit. Where a line can't be
+//! written, what was written is a beginning of it. The files that were asked for last are those of DISK and IMAGE, and none
+//! where the words name none; the disk is closed as its job left it. A disk that can't be opened is a fault of File with
+//! what its sources said of that path. For each fault the line in plain words, with the path of the file, and the line with
+//! its name were reported exactly, or the reporter failed. The status is 2 never for no words, nor for words that `clap`
+//! takes. [`run_words`] says the same of some disk of the system for each path.
 //!
 //! Proved of the files of the system: none that is opened has the descriptor of a standard stream. Filling writes nothing
 //! below the length that a file tells.
 //!
-//! Only tested: what a path opens, that a file is filled and locked and its folder synced, that faults on standard error
-//! reach it.
+//! A law: a byte that was printed at an offset is never another, over any number of runs of a disk
+//! ([`printed_bytes_stay`]).
+//!
+//! Only tested: what a path opens, that a file is filled and locked and its folder synced, that what is printed is flushed,
+//! that faults on standard error reach it.
 #![tactic(auto)]
 
+mod driven;
+mod driving;
 mod fault;
 mod file;
 mod filling;
 mod image;
+mod laws;
 mod making;
 mod program;
 mod report;
@@ -54,8 +69,10 @@ mod stored;
 mod system;
 mod version;
 
+pub use driven::Driven;
 pub use fault::JobFault;
-pub use file::{FileFault, JobFile, Opening};
+pub use file::{FileFault, JobFile};
+pub use laws::printed_bytes_stay;
 pub use making::make_disk;
 pub use program::{run_words, run_words_with};
 pub use reporter::{Reporter, Unsaid, WrittenReport};

@@ -1,13 +1,15 @@
 //! The program behind its words.
-ghost use Rattle.std.specs.Prelude.{◌≡◌, ◌≢◌, ◌≤◌, ◌⊎◌, [], List, Option, ℕ, Some, OnOk, map, true};
+ghost use Rattle.std.specs.Prelude.{◌≡◌, ◌≢◌, ◌≤◌, [], List, Option, ℕ, Some, OnOk, map, true};
 ghost use Rattle.std.specs.Io.KnownBytes.{Appends};
 ghost use Rattle.clap.specs.Words.{takes};
 ghost use Rattle.ckrt_checkpoint.specs.Layout.{size_needed};
 ghost use Rattle.ckrt_words.specs.Commands.{ckrt_app};
 ghost use Rattle.ckrt_words.specs.Jobs.{Formatting, Request, format, version, formatting_of, inspection_of, request_of, request_of_words};
 ghost use Rattle.ckrt_jobs.specs.Outcomes.{config_of, made_line, version_line};
-ghost use Rattle.ckrt_jobs.specs.Performing.{MakesPath, Performs, RefusesWords, RunsOnFiles, RunsOpened, RunsPath, RunsRequest, ServesStored, ShowsPath};
+ghost use Rattle.ckrt_jobs.specs.Performing.{MakesPath, Performs, RunsOnFiles, RunsOpened, RunsPath, RunsWords, ServesStored, ShowsOpened, ShowsPath, outcome_with_end, outcome_without_end};
 
+use crate::driven::Driven;
+use crate::driving::drive_path;
 use crate::fault::JobFault;
 use crate::file::JobFile;
 use crate::making::make_disk;
@@ -31,13 +33,13 @@ use std::marker::Brand;
 type SystemDisk = FileDisk<SystemFile<Brand>>;
 
 /// Makes the disk of a job, and says how many bytes it needs.
-fn make<I: Read + Drop, D: Disk + Drop, S: Sources<I, D>, W: Write>(
+fn make<'a, I: Read + Drop, D: Disk, S: Sources<'a, I, D>, W: Write>(
     alloc: Global,
-    job: &FormatJob<'_>,
+    job: &FormatJob<'a>,
     sources: &mut S,
     writer: &mut W,
 ) -> Result<(), JobFault>
-    ensures makes { MakesPath D.Disk (formatting_of job.now) (S.image_bytes sources.old job.now.image.now) (S.fills sources.old job.now.disk.now (size_needed (config_of (formatting_of job.now)))) (S.image_opening sources.new) (S.disk_opening sources.old) (S.disk_opening sources.new) (W.contents writer.old) (W.contents writer.new) result }
+    ensures makes { MakesPath D.Disk (formatting_of job.now) (S.image_bytes sources.old job.now.image.now) (S.fills sources.old job.now.disk.now (size_needed (config_of (formatting_of job.now)))) (S.openings sources.old) (S.openings sources.new) (W.contents writer.old) (W.contents writer.new) result }
 {
     let config = Config {
         pages: job.pages,
@@ -45,53 +47,76 @@ fn make<I: Read + Drop, D: Disk + Drop, S: Sources<I, D>, W: Write>(
         journal: job.journal,
     };
     match make_disk::<I, D, S>(alloc, sources, job.image, job.disk, config) {
-        Ok(_) => write_formatted(writer, config.size_needed() as u64),
+        Ok(()) => write_formatted(writer, config.size_needed() as u64),
         Err(fault) => Err(fault),
     }
 }
 
-/// Runs a disk that was opened.
-fn run_opened<D: Disk + Drop, R: Read, W: Write>(
+/// Runs a disk that was opened, and closes it.
+fn run_opened<'a, I: Read, D: Disk + Drop, S: Sources<'a, I, D>, R: Read, W: Write>(
     alloc: Global,
     disk: D,
+    sources: &mut S,
     reader: &mut R,
     writer: &mut W,
 ) -> Result<(), JobFault>
-    ensures runs { RunsOpened D.Disk (λ start. start ≡ disk) (W.contents writer.old) (W.contents writer.new) (R.remaining reader.old) (R.remaining reader.new) result }
+    ensures runs { RunsOpened D.Disk (λ start. start ≡ disk) (S.openings sources.old) (S.openings sources.new) (W.contents writer.old) (W.contents writer.new) (R.remaining reader.old) (R.remaining reader.new) result }
 {
     match run_disk(alloc, disk, reader, writer) {
-        Ok(_) => Ok(()),
-        Err(unserved) => Err(unserved.fault),
+        Ok(disk) => {
+            sources.close(disk);
+            Ok(())
+        }
+        Err(unserved) => {
+            sources.close(unserved.disk);
+            Err(unserved.fault)
+        }
     }
 }
 
 /// Runs the disk of a path.
-fn run<I: Read, D: Disk + Drop, S: Sources<I, D>, R: Read, W: Write>(
+fn run<'a, I: Read, D: Disk + Drop, S: Sources<'a, I, D>, R: Read, W: Write>(
     alloc: Global,
-    path: &str,
+    path: &'a str,
     sources: &mut S,
     reader: &mut R,
     writer: &mut W,
 ) -> Result<(), JobFault>
-    ensures runs { RunsPath D.Disk (S.opens sources.old path.now) (S.disk_opening sources.new) (W.contents writer.old) (W.contents writer.new) (R.remaining reader.old) (R.remaining reader.new) result }
+    ensures runs { RunsPath D.Disk path.now (S.opens sources.old path.now) (S.openings sources.old) (S.openings sources.new) (W.contents writer.old) (W.contents writer.new) (R.remaining reader.old) (R.remaining reader.new) result }
 {
     match sources.open_disk(path) {
-        Ok(disk) => run_opened(alloc, disk, reader, writer),
+        Ok(disk) => run_opened::<I, D, S, R, W>(alloc, disk, sources, reader, writer),
         Err(fault) => Err(JobFault::File(JobFile::Disk, fault)),
     }
 }
 
-/// Shows the disk of a path.
-fn inspect_path<I: Read, D: Disk + Drop, S: Sources<I, D>, W: Write>(
+/// Shows a disk that was opened, and closes it.
+fn show_opened<'a, I: Read, D: Disk, S: Sources<'a, I, D>, W: Write>(
     alloc: Global,
-    job: &InspectJob<'_>,
+    disk: D,
+    job: &InspectJob<'a>,
     sources: &mut S,
     writer: &mut W,
 ) -> Result<(), JobFault>
-    ensures shows { (left : Option (List ℕ)) → ShowsPath D.Disk (S.opens sources.old job.now.disk.now) (inspection_of job.now) (S.disk_opening sources.new) (W.contents writer.old) (W.contents writer.new) left left result }
+    ensures shows { (left : Option (List ℕ)) → ShowsOpened D.Disk (λ start. start ≡ disk) (inspection_of job.now) (S.openings sources.old) (S.openings sources.new) (W.contents writer.old) (W.contents writer.new) left left result }
+{
+    let mut disk = disk;
+    let answer = inspect_disk(alloc, &mut disk, job, writer);
+    sources.close(disk);
+    answer
+}
+
+/// Shows the disk of a path.
+fn inspect_path<'a, I: Read, D: Disk, S: Sources<'a, I, D>, W: Write>(
+    alloc: Global,
+    job: &InspectJob<'a>,
+    sources: &mut S,
+    writer: &mut W,
+) -> Result<(), JobFault>
+    ensures shows { (left : Option (List ℕ)) → ShowsPath D.Disk (S.opens sources.old job.now.disk.now) (inspection_of job.now) (S.openings sources.old) (S.openings sources.new) (W.contents writer.old) (W.contents writer.new) left left result }
 {
     match sources.look_at_disk(job.disk) {
-        Ok(mut disk) => inspect_disk(alloc, &mut disk, job, writer),
+        Ok(disk) => show_opened::<I, D, S, W>(alloc, disk, job, sources, writer),
         Err(fault) => Err(JobFault::File(JobFile::Disk, fault)),
     }
 }
@@ -110,52 +135,75 @@ fn serve_stored<R: Read, W: Write>(
     }
 }
 
+/// The outcome of a job that has no end of its own.
+fn without_end(done: Result<(), JobFault>) -> Result<Option<Driven>, JobFault>
+    ensures { result ≡ outcome_without_end done }
+{
+    match done {
+        Ok(()) => Ok(None),
+        Err(fault) => Err(fault),
+    }
+}
+
+/// What a drive came to, as the outcome of its job.
+fn with_end(driven: Result<Driven, JobFault>) -> Result<Option<Driven>, JobFault>
+    ensures { result ≡ outcome_with_end driven }
+{
+    match driven {
+        Ok(driven) => Ok(Some(driven)),
+        Err(fault) => Err(fault),
+    }
+}
+
 /// Does a job.
-fn perform<I: Read + Drop, D: Disk + Drop, S: Sources<I, D>, R: Read, W: Write>(
+fn perform<'a, I: Read + Drop, D: Disk + Drop, S: Sources<'a, I, D>, R: Read, W: Write>(
     alloc: Global,
-    job: &Job<'_>,
+    job: &Job<'a>,
     sources: &mut S,
     reader: &mut R,
     writer: &mut W,
-) -> Result<(), JobFault>
-    ensures performs { Performs D.Disk (request_of job.now) (S.image_bytes sources.old) (S.opens sources.old) (S.fills sources.old) (S.image_opening sources.new) (S.disk_opening sources.old) (S.disk_opening sources.new) (W.contents writer.old) (W.contents writer.new) (R.remaining reader.old) (R.remaining reader.new) result }
+) -> Result<Option<Driven>, JobFault>
+    ensures performs { Performs D.Disk (request_of job.now) (S.image_bytes sources.old) (S.opens sources.old) (S.fills sources.old) (S.outputs sources.old) (S.openings sources.old) (S.openings sources.new) (W.contents writer.old) (W.contents writer.new) (R.remaining reader.old) (R.remaining reader.new) result }
 {
     match job {
-        Job::Stored => serve_stored(alloc, reader, writer),
-        Job::Version => write_version(writer),
-        Job::Format(job) => make::<I, D, S, W>(alloc, job, sources, writer),
-        Job::Run(path) => run::<I, D, S, R, W>(alloc, path, sources, reader, writer),
-        Job::Inspect(job) => inspect_path::<I, D, S, W>(alloc, job, sources, writer),
+        Job::Stored => without_end(serve_stored(alloc, reader, writer)),
+        Job::Version => without_end(write_version(writer)),
+        Job::Format(job) => without_end(make::<I, D, S, W>(alloc, job, sources, writer)),
+        Job::Run(path) => without_end(run::<I, D, S, R, W>(alloc, path, sources, reader, writer)),
+        Job::Inspect(job) => without_end(inspect_path::<I, D, S, W>(alloc, job, sources, writer)),
+        Job::Drive(job) => with_end(drive_path::<I, D, S>(alloc, job, sources)),
     }
 }
 
 /// Does what the words after the program's name ask for, with images and disks of any sources: `format DISK IMAGE` prints
-/// `formatted SIZE`, `run DISK` answers the lines of the reader, `inspect DISK` shows what the disk holds, `--version` prints
-/// the version and its kit, no words serve the stored program in memory. Of a fault two lines are reported: what is wrong in plain words, with the path of the file
-/// that it is of, and `ckrt: NAME`. Of words that name no job a text is. The answer is the program's status: 0 where all was
-/// done, 1 for a fault, 2 for words that name no job.
+/// `formatted SIZE`, `run DISK` answers the lines of the reader, `inspect DISK` shows what the disk holds, `drive DISK --output
+/// FILE` runs its program to its end and reports what it came to in a line, `--version` prints the version and its kit, no
+/// words serve the stored program in memory. Of a fault two lines are reported: what is wrong in plain words, with the path
+/// of the file that it is of, and `ckrt: NAME`. Of words that name no job a text is. The answer is the program's status: 0
+/// where all was done, 1 for a fault, 2 for words that name no job, 3 for a program that waits for input, 4 for a deadlock.
 pub fn run_words_with<
+    'a,
     I: Read + Drop,
     D: Disk + Drop,
-    S: Sources<I, D>,
+    S: Sources<'a, I, D>,
     R: Read,
     W: Write,
     E: Reporter,
 >(
     alloc: Global,
-    words: &[&str],
+    words: &'a [&'a str],
     sources: &mut S,
     reader: &mut R,
     writer: &mut W,
     reporter: &mut E,
 ) -> u8
-    ensures bound { result ≤ 2 }
-    ensures asked { result ≡ 0 → (r : Request) × (request_of_words (map (λ s. s.now) words.now) ≡ Some r) }
-    ensures made { result ≡ 0 → (f : Formatting) → request_of_words (map (λ s. s.now) words.now) ≡ Some (format f) → Appends (W.contents writer.old) (W.contents writer.new) (made_line f) }
-    ensures version { result ≡ 0 → request_of_words (map (λ s. s.now) words.now) ≡ Some version → Appends (W.contents writer.old) (W.contents writer.new) version_line }
-    ensures usage { result ≡ 2 → takes ckrt_app (map (λ s. s.now) words.now) ≢ true }
-    ensures stored { result ≡ 2 → words.now ≢ [] }
-    ensures outcome { ((q : Request) × (request_of_words (map (λ s. s.now) words.now) ≡ Some q) × RunsRequest D.Disk q (S.image_bytes sources.old) (S.opens sources.old) (S.fills sources.old) (S.image_opening sources.new) (S.disk_opening sources.old) (S.disk_opening sources.new) (W.contents writer.old) (W.contents writer.new) (R.remaining reader.old) (R.remaining reader.new) (E.said reporter.old) (E.said reporter.new) (E.has_failed reporter.new) result) ⊎ RefusesWords (map (λ s. s.now) words.now) (W.contents writer.old) (W.contents writer.new) (R.remaining reader.old) (R.remaining reader.new) (E.said reporter.old) (E.said reporter.new) (E.has_failed reporter.new) result }
+    ensures bound { result ≤ 4 }
+    ensures asked { result ≡ 0 → (r : Request) × (request_of_words (map (λ s. s.now) words.entry.now) ≡ Some r) }
+    ensures made { result ≡ 0 → (f : Formatting) → request_of_words (map (λ s. s.now) words.entry.now) ≡ Some (format f) → Appends (W.contents writer.old) (W.contents writer.new) (made_line f) }
+    ensures version { result ≡ 0 → request_of_words (map (λ s. s.now) words.entry.now) ≡ Some version → Appends (W.contents writer.old) (W.contents writer.new) version_line }
+    ensures usage { result ≡ 2 → takes ckrt_app (map (λ s. s.now) words.entry.now) ≢ true }
+    ensures stored { result ≡ 2 → words.entry.now ≢ [] }
+    ensures outcome { RunsWords D.Disk (map (λ s. s.now) words.entry.now) (S.image_bytes sources.old) (S.opens sources.old) (S.fills sources.old) (S.outputs sources.old) (S.openings sources.old) (S.openings sources.new) (W.contents writer.old) (W.contents writer.new) (R.remaining reader.old) (R.remaining reader.new) (E.said reporter.old) (E.said reporter.new) (E.has_failed reporter.new) result }
 {
     match read_words(alloc, words) {
         Ok(job) => {
@@ -176,16 +224,16 @@ pub fn run_words<F: Files<File = File>, R: Read, W: Write, E: Reporter>(
     writer: &mut W,
     reporter: &mut E,
 ) -> u8
-    ensures bound { result ≤ 2 }
+    ensures bound { result ≤ 4 }
     ensures asked { result ≡ 0 → (r : Request) × (request_of_words (map (λ s. s.now) words.now) ≡ Some r) }
     ensures made { result ≡ 0 → (f : Formatting) → request_of_words (map (λ s. s.now) words.now) ≡ Some (format f) → Appends (W.contents writer.old) (W.contents writer.new) (made_line f) }
     ensures version { result ≡ 0 → request_of_words (map (λ s. s.now) words.now) ≡ Some version → Appends (W.contents writer.old) (W.contents writer.new) version_line }
     ensures usage { result ≡ 2 → takes ckrt_app (map (λ s. s.now) words.now) ≢ true }
     ensures stored { result ≡ 2 → words.now ≢ [] }
-    ensures outcome { ((q : Request) × (request_of_words (map (λ s. s.now) words.now) ≡ Some q) × RunsOnFiles ⟦<FileDisk<SystemFile<Brand>> as Disk>⟧ q (W.contents writer.old) (W.contents writer.new) (R.remaining reader.old) (R.remaining reader.new) (E.said reporter.old) (E.said reporter.new) (E.has_failed reporter.new) result) ⊎ RefusesWords (map (λ s. s.now) words.now) (W.contents writer.old) (W.contents writer.new) (R.remaining reader.old) (R.remaining reader.new) (E.said reporter.old) (E.said reporter.new) (E.has_failed reporter.new) result }
+    ensures outcome { RunsOnFiles ⟦<FileDisk<SystemFile<Brand>> as Disk>⟧ (map (λ s. s.now) words.now) (W.contents writer.old) (W.contents writer.new) (R.remaining reader.old) (R.remaining reader.new) (E.said reporter.old) (E.said reporter.new) (E.has_failed reporter.new) result }
 {
     let mut sources = SystemSources::new(rt);
-    run_words_with::<File, SystemDisk, SystemSources<'_, F>, R, W, E>(
+    run_words_with::<File, SystemDisk, SystemSources<'_, F, SystemDisk>, R, W, E>(
         alloc,
         words,
         &mut sources,

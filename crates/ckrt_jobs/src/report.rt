@@ -1,33 +1,65 @@
 //! What the program prints for an outcome, and its status.
-ghost use Rattle.std.specs.Prelude.{◌≡◌, ◌++◌, ◌∷◌, [], true, false, OnOk, OnErr, IfErr, Err, Ok};
+ghost use Rattle.std.specs.Prelude.{◌≡◌, ◌≤◌, ◌<◌, ◌+◌, ◌++◌, ◌∷◌, [], length, codes, decimal, true, false, OnOk, OnErr, Err, Ok};
 ghost use Rattle.std.specs.Io.KnownBytes.{Appends};
+ghost use Rattle.arrayvec.specs.ArrayVec.{array_vec_len};
 ghost use Rattle.ckrt_words.specs.Jobs.{request_of};
+ghost use Rattle.ckrt_calls.specs.declared.table.Status.TheVariants.{Exited, Faulted};
+ghost use Rattle.ckrt_inspect.specs.Texts.{hex_text, status_text};
+ghost use Rattle.ckrt_rv32i.specs.Names.{cause_name};
+ghost use Rattle.ckrt_jobs.specs.Ends.{end_line, end_text};
 ghost use Rattle.ckrt_jobs.specs.Outcomes.{formatted_line, status_of, status_of_words, version_line};
+ghost use Rattle.ckrt_jobs.specs.Performing.{ReportsOutcome, SaysLine};
 ghost use Rattle.ckrt_jobs.specs.Reports.{path_of, report_of, subject_of, words_report_of};
-ghost use Rattle.ckrt_jobs.specs.declared.fault.JobFault.TheVariants.{Serve};
-ghost use Rattle.ckrt_main.specs.declared.fault.ServeFault.TheVariants as serve;
 
+use crate::driven::Driven;
 use crate::fault::JobFault;
 use crate::file::JobFile;
 use crate::reporter::{Reporter, Unsaid};
 use crate::version::VERSION;
-use ckrt_main::ServeFault;
+use arrayvec::ArrayVec;
+use ckrt_calls::Status;
+use ckrt_drive::Ending;
+use ckrt_main::write_reply;
+use ckrt_rv32i::Cause;
+use ckrt_thread::ThreadId;
 use ckrt_words::{Job, WordsFault};
 use std::io::Write;
 
+/// A line of standard output.
+type Line = ArrayVec<u8, 80>;
+
+/// Puts bytes behind a line.
+fn push(line: &mut Line, bytes: &[u8])
+    requires { array_vec_len line.old + length bytes.now ≤ 80 }
+    ensures { line.new.items ≡ line.old.items ++ bytes.now }
+{
+    match line.try_extend_from_slice(bytes) {
+        Ok(()) => {}
+        Err(_) => unreachable!(),
+    }
+}
+
+/// The line of a word with its text behind it.
+fn line_of(word: &[u8], text: &[u8]) -> Line
+    requires { length word.now + length text.now < 80 }
+    ensures { result.items ≡ word.now ++ (text.now ++ 10 ∷ []) }
+{
+    let mut line = Line::new();
+    push(&mut line, word);
+    push(&mut line, text);
+    push(&mut line, b"\n");
+    line
+}
+
 /// Writes a word with its text behind it and a line feed, and flushes it.
 fn write_line<W: Write>(writer: &mut W, word: &[u8], text: &[u8]) -> Result<(), JobFault>
-    ensures ok { OnOk result (Appends (W.contents writer.old) (W.contents writer.new) (word.now ++ (text.now ++ 10 ∷ []))) }
-    ensures err { IfErr result (λ e. e ≡ Serve serve.Write) }
+    requires { length word.now + length text.now < 80 }
+    ensures { SaysLine (W.contents writer.old) (W.contents writer.new) (word.now ++ (text.now ++ 10 ∷ [])) result }
 {
-    if writer.write_all(word).is_err()
-        || writer.write_all(text).is_err()
-        || writer.write_all(b"\n").is_err()
-        || writer.flush().is_err()
-    {
-        return Err(JobFault::Serve(ServeFault::Write));
+    match write_reply(writer, &line_of(word, text)) {
+        Ok(()) => Ok(()),
+        Err(fault) => Err(JobFault::Serve(fault)),
     }
-    Ok(())
 }
 
 /// The path that the words give for a file of their job; empty where they give none.
@@ -39,6 +71,8 @@ fn path<'a>(job: &Job<'a>, file: JobFile) -> &'a str
         (Job::Format(job), JobFile::Disk) => job.disk,
         (Job::Run(disk), JobFile::Disk) => disk,
         (Job::Inspect(job), JobFile::Disk) => job.disk,
+        (Job::Drive(job), JobFile::Disk) => job.disk,
+        (Job::Drive(job), JobFile::Output) => job.output,
         _ => "",
     }
 }
@@ -80,10 +114,122 @@ fn say_fault<E: Reporter>(reporter: &mut E, job: &Job<'_>, fault: JobFault) -> R
     say_line(reporter, b"ckrt: ", fault.name().as_bytes())
 }
 
+/// The name of a fault's cause.
+fn cause_name(cause: Cause) -> &'static str
+    ensures { result.now ≡ cause_name cause }
+{
+    match cause {
+        Cause::FetchRange => "FetchRange",
+        Cause::Illegal => "Illegal",
+        Cause::JumpMisaligned => "JumpMisaligned",
+        Cause::LoadMisaligned => "LoadMisaligned",
+        Cause::LoadRange => "LoadRange",
+        Cause::StoreMisaligned => "StoreMisaligned",
+        Cause::StoreRange => "StoreRange",
+        Cause::Breakpoint => "Breakpoint",
+        Cause::Gate => "Gate",
+    }
+}
+
+/// Says a number in decimal.
+fn say_number<E: Reporter>(reporter: &mut E, number: u64) -> Result<(), Unsaid>
+    ensures said { OnOk result (Appends (E.said reporter.old) (E.said reporter.new) (decimal number)) }
+    ensures failed { OnErr result (E.has_failed reporter.new ≡ true) }
+{
+    let mut buffer = itoa::Buffer::new();
+    reporter.say(buffer.format(number).as_bytes())
+}
+
+/// Says a pc in eight hexadecimal digits.
+fn say_hex<E: Reporter>(reporter: &mut E, number: u32) -> Result<(), Unsaid>
+    ensures said { OnOk result (Appends (E.said reporter.old) (E.said reporter.new) (hex_text number)) }
+    ensures failed { OnErr result (E.has_failed reporter.new ≡ true) }
+{
+    let bytes = number.to_be_bytes();
+    let mut digits = [0u8; 8];
+    match hex::encode_to_slice(&bytes, &mut digits) {
+        Ok(()) => reporter.say(&digits),
+        Err(_) => unreachable!(),
+    }
+}
+
+/// Says how a thread's fault ended the program.
+fn say_program_fault<E: Reporter>(
+    reporter: &mut E,
+    thread: ThreadId,
+    pc: u32,
+    cause: Cause,
+) -> Result<(), Unsaid>
+    ensures said { OnOk result (Appends (E.said reporter.old) (E.said reporter.new) (status_text (Faulted thread pc cause))) }
+    ensures failed { OnErr result (E.has_failed reporter.new ≡ true) }
+{
+    reporter.say(b"fault ")?;
+    say_number(reporter, u64::from(thread))?;
+    reporter.say(b" ")?;
+    say_hex(reporter, pc)?;
+    reporter.say(b" ")?;
+    reporter.say(cause_name(cause).as_bytes())
+}
+
+/// Says with which status the program ended.
+fn say_exit<E: Reporter>(reporter: &mut E, code: u32) -> Result<(), Unsaid>
+    ensures said { OnOk result (Appends (E.said reporter.old) (E.said reporter.new) (status_text (Exited code))) }
+    ensures failed { OnErr result (E.has_failed reporter.new ≡ true) }
+{
+    reporter.say(b"exit ")?;
+    say_number(reporter, u64::from(code))
+}
+
+/// Says how the program stands.
+fn say_status<E: Reporter>(reporter: &mut E, status: Status) -> Result<(), Unsaid>
+    ensures said { OnOk result (Appends (E.said reporter.old) (E.said reporter.new) (status_text status)) }
+    ensures failed { OnErr result (E.has_failed reporter.new ≡ true) }
+{
+    match status {
+        Status::Running => reporter.say(b"running"),
+        Status::Exited(code) => say_exit(reporter, code),
+        Status::Faulted(thread, pc, cause) => say_program_fault(reporter, thread, pc, cause),
+    }
+}
+
+/// Says that the program ended, and how.
+fn say_ended<E: Reporter>(reporter: &mut E, status: Status) -> Result<(), Unsaid>
+    ensures said { OnOk result (Appends (E.said reporter.old) (E.said reporter.new) (codes "ended: " ++ status_text status)) }
+    ensures failed { OnErr result (E.has_failed reporter.new ≡ true) }
+{
+    reporter.say(b"ended: ")?;
+    say_status(reporter, status)
+}
+
+/// Says an end in words.
+fn say_end_text<E: Reporter>(
+    reporter: &mut E,
+    ending: Option<Ending>,
+    status: Status,
+) -> Result<(), Unsaid>
+    ensures said { OnOk result (Appends (E.said reporter.old) (E.said reporter.new) (end_text ending status)) }
+    ensures failed { OnErr result (E.has_failed reporter.new ≡ true) }
+{
+    match ending {
+        Some(Ending::Ended) => say_ended(reporter, status),
+        Some(Ending::WaitsForInput) => reporter.say(b"waits for input"),
+        Some(Ending::Deadlock) => reporter.say(b"deadlock"),
+        Some(Ending::Enough) | None => reporter.say(b"enough"),
+    }
+}
+
+/// Says what a drive came to.
+fn say_end<E: Reporter>(reporter: &mut E, driven: Driven) -> Result<(), Unsaid>
+    ensures said { OnOk result (Appends (E.said reporter.old) (E.said reporter.new) (end_line driven)) }
+    ensures failed { OnErr result (E.has_failed reporter.new ≡ true) }
+{
+    say_end_text(reporter, driven.ending, driven.status)?;
+    reporter.say(b"\n")
+}
+
 /// Writes the line of a disk that was made.
 pub(crate) fn write_formatted<W: Write>(writer: &mut W, size: u64) -> Result<(), JobFault>
-    ensures ok { OnOk result (Appends (W.contents writer.old) (W.contents writer.new) (formatted_line size)) }
-    ensures err { IfErr result (λ e. e ≡ Serve serve.Write) }
+    ensures { SaysLine (W.contents writer.old) (W.contents writer.new) (formatted_line size) result }
 {
     let mut buffer = itoa::Buffer::new();
     write_line(writer, b"formatted ", buffer.format(size).as_bytes())
@@ -91,24 +237,26 @@ pub(crate) fn write_formatted<W: Write>(writer: &mut W, size: u64) -> Result<(),
 
 /// Writes the line of the version.
 pub(crate) fn write_version<W: Write>(writer: &mut W) -> Result<(), JobFault>
-    ensures ok { OnOk result (Appends (W.contents writer.old) (W.contents writer.new) version_line) }
-    ensures err { IfErr result (λ e. e ≡ Serve serve.Write) }
+    ensures { SaysLine (W.contents writer.old) (W.contents writer.new) version_line result }
 {
     write_line(writer, b"ckrt ", VERSION)
 }
 
-/// Says why a job wasn't done, if it wasn't. The answer is the program's status.
+/// Says what a drive came to, or why a job wasn't done, if it wasn't. The answer is the program's status.
 pub(crate) fn report<E: Reporter>(
     reporter: &mut E,
     job: &Job<'_>,
-    outcome: Result<(), JobFault>,
+    outcome: Result<Option<Driven>, JobFault>,
 ) -> u8
     ensures status { result ≡ status_of outcome }
-    ensures silent { OnOk outcome (reporter.new ≡ reporter.old) }
-    ensures said { IfErr outcome (λ fault. E.has_failed reporter.new ≡ false → Appends (E.said reporter.old) (E.said reporter.new) (report_of (request_of job.now) fault)) }
+    ensures reports { ReportsOutcome (request_of job.now) outcome (E.said reporter.old) (E.said reporter.new) (E.has_failed reporter.new) }
 {
     match outcome {
-        Ok(_) => 0,
+        Ok(None) => 0,
+        Ok(Some(driven)) => {
+            let _ = say_end(reporter, driven);
+            driven.exit_status()
+        }
         Err(fault) => {
             let _ = say_fault(reporter, job, fault);
             1

@@ -1,14 +1,17 @@
 //! Disks and images that are files of the system.
 ghost use Rattle.std.specs.Prelude.{◌≡◌, None, IfOk, IfErr};
+ghost use Rattle.ckrt_jobs.specs.Openings.{kept_opening};
 ghost use Rattle.ckrt_jobs.specs.Streams.{IsBesideStreams};
+ghost use Rattle.ckrt_jobs.specs.declared.file.LastOpening.TheVariants.{Unasked};
 
-use crate::file::{FileFault, Opening};
+use crate::file::{FileFault, LastOpening};
 use crate::filling::fill_up;
 use crate::sources::Sources;
 use ckrt_disk::{FileDisk, Holds, SystemFile};
 use std::fs::{File, Files, OpenOptions};
 use std::io;
 use std::os::fd::AsRawFd;
+use std::snapshot::Snapshot;
 
 /// The file, unless its descriptor is that of standard input, output or error: a stream that is closed when the program
 /// begins leaves its descriptor to the next file, whose bytes it would then read, or print over.
@@ -75,13 +78,23 @@ fn sync_folder<R: Files<File = File>>(rt: &R, path: &str) -> Result<(), FileFaul
     Ok(())
 }
 
+/// Makes a file, and opens it as [`open_locked`] does. Where it can't be found no folder is there for it.
+fn make_locked<R: Files<File = File>>(rt: &R, path: &str) -> Result<File, FileFault>
+    ensures { IfOk result IsBesideStreams }
+{
+    match open_locked(rt, path, true) {
+        Err(FileFault::NotFound) => Err(FileFault::NoFolder),
+        made => made,
+    }
+}
+
 /// The file of a path, which is made where there is none; its name is durable then.
 fn open_or_make<R: Files<File = File>>(rt: &R, path: &str) -> Result<File, FileFault>
     ensures { IfOk result IsBesideStreams }
 {
     match open_locked(rt, path, false) {
         Err(FileFault::NotFound) => {
-            let file = open_locked(rt, path, true)?;
+            let file = make_locked(rt, path)?;
             sync_folder(rt, path)?;
             Ok(file)
         }
@@ -120,6 +133,18 @@ fn open_system_disk<R: Files<File = File>, H: Holds>(
     disk_of(file)
 }
 
+/// How many bytes an output has: more than any file. Those behind the end of its file are zeros until they are written.
+const OUTPUT_SIZE: usize = i64::MAX as usize;
+
+/// The output of a path: a file that grows as it is written.
+fn open_system_output<R: Files<File = File>, H: Holds>(
+    rt: &R,
+    path: &str,
+) -> Result<FileDisk<SystemFile<H>>, FileFault> {
+    let file = open_or_make(rt, path)?;
+    Ok(FileDisk::new(SystemFile::new(file), OUTPUT_SIZE))
+}
+
 /// The disk of a path, to be looked at.
 fn look_at_system_disk<R: Files<File = File>, H: Holds>(
     rt: &R,
@@ -139,62 +164,88 @@ fn open_filled_disk<R: Files<File = File>, H: Holds>(
     disk_of(file)
 }
 
-/// The files of the system.
+/// The files of the system. A disk or an output that is given back is closed.
 #[derive(Drop)]
-pub(crate) struct SystemSources<'a, R> {
+pub(crate) struct SystemSources<'a, R, D> {
     rt: &'a R,
-    image: Opening,
-    disk: Opening,
+    image: LastOpening<'a>,
+    disk: LastOpening<'a>,
+    output: LastOpening<'a>,
+    closed: Snapshot<Option<D>>,
+    closed_output: Snapshot<Option<D>>,
 }
 
-impl<'a, R> SystemSources<'a, R> {
+impl<'a, R, D> SystemSources<'a, R, D> {
     /// The files of the system, of which none was asked for.
-    pub(crate) fn new(rt: &'a R) -> SystemSources<'a, R> {
+    pub(crate) fn new(rt: &'a R) -> SystemSources<'a, R, D>
+        ensures image { result.image ≡ Unasked }
+        ensures disk { result.disk ≡ Unasked }
+        ensures output { result.output ≡ Unasked }
+        ensures closed { result.closed.value ≡ None }
+        ensures closed_output { result.closed_output.value ≡ None }
+    {
         SystemSources {
             rt,
-            image: Opening::Unasked,
-            disk: Opening::Unasked,
+            image: LastOpening::Unasked,
+            disk: LastOpening::Unasked,
+            output: LastOpening::Unasked,
+            closed: Snapshot::of(&None),
+            closed_output: Snapshot::of(&None),
         }
     }
 }
 
-impl<'a, R: Files<File = File>, H: Holds> Sources<File, FileDisk<SystemFile<H>>>
-    for SystemSources<'a, R> {
+impl<'a, R: Files<File = File>, H: Holds> Sources<'a, File, FileDisk<SystemFile<H>>>
+    for SystemSources<'a, R, FileDisk<SystemFile<H>>> {
     ghost image_bytes = { λ _ _. None };
 
-    ghost image_opening = { λ s. s.image };
-
-    ghost disk_opening = { λ s. s.disk };
+    ghost openings = { λ s. record { image = kept_opening s.image; disk = kept_opening s.disk; output = kept_opening s.output; closed = s.closed.value; closed_output = s.closed_output.value } };
 
     ghost opens = { λ _ _ _. Unit {0} };
 
     ghost fills = { λ _ _ _ _. Unit {0} };
 
-    fn open_image(&mut self, path: &str) -> Result<File, FileFault> {
+    ghost outputs = { λ _ _ _. Unit {0} };
+
+    fn open_image(&mut self, path: &'a str) -> Result<File, FileFault> {
         let opened = open_read(self.rt, path);
-        self.image = Opening::of(&opened);
+        self.image = LastOpening::of(path, &opened);
         opened
     }
 
-    fn open_disk(&mut self, path: &str) -> Result<FileDisk<SystemFile<H>>, FileFault> {
+    fn open_disk(&mut self, path: &'a str) -> Result<FileDisk<SystemFile<H>>, FileFault> {
         let opened = open_system_disk(self.rt, path);
-        self.disk = Opening::of(&opened);
+        self.disk = LastOpening::of(path, &opened);
         opened
     }
 
-    fn look_at_disk(&mut self, path: &str) -> Result<FileDisk<SystemFile<H>>, FileFault> {
+    fn look_at_disk(&mut self, path: &'a str) -> Result<FileDisk<SystemFile<H>>, FileFault> {
         let opened = look_at_system_disk(self.rt, path);
-        self.disk = Opening::of(&opened);
+        self.disk = LastOpening::of(path, &opened);
         opened
     }
 
     fn open_filled(
         &mut self,
-        path: &str,
+        path: &'a str,
         size: usize,
     ) -> Result<FileDisk<SystemFile<H>>, FileFault> {
         let opened = open_filled_disk(self.rt, path, size);
-        self.disk = Opening::of(&opened);
+        self.disk = LastOpening::of(path, &opened);
         opened
+    }
+
+    fn open_output(&mut self, path: &'a str) -> Result<FileDisk<SystemFile<H>>, FileFault> {
+        let opened = open_system_output(self.rt, path);
+        self.output = LastOpening::of(path, &opened);
+        opened
+    }
+
+    fn close(&mut self, disk: FileDisk<SystemFile<H>>) {
+        self.closed = Snapshot::of(&Some(disk));
+    }
+
+    fn close_output(&mut self, output: FileDisk<SystemFile<H>>) {
+        self.closed_output = Snapshot::of(&Some(output));
     }
 }

@@ -13,4 +13,4 @@ pub use in_memory::serve_image;
 pub use laws::{
     answers_alike, output_goes_on, same_events_are_alike, told_is_durable, transcript_folds_events,
 };
-pub use service::serve;
+pub use service::{serve, write_reply};

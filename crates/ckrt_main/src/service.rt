@@ -52,8 +52,12 @@ fn write_bytes<W: Write>(writer: &mut W, bytes: &[u8]) -> Result<(), ServeFault>
     Err(ServeFault::Write)
 }
 
-/// Writes a text whole, and flushes it.
-fn write_reply<W: Write>(writer: &mut W, text: &[u8]) -> Result<(), ServeFault>
+/// Writes a text whole, and flushes it. Where the writer fails, what it took is a beginning of the text.
+///
+/// # Errors
+///
+/// `Write` where the writer failed, or took nothing.
+pub fn write_reply<W: Write>(writer: &mut W, text: &[u8]) -> Result<(), ServeFault>
     ensures ok { OnOk result (Appends (W.contents writer.old) (W.contents writer.new) text.now) }
     ensures part { OnErr result (AppendsPart (W.contents writer.old) (W.contents writer.new) text.now) }
     ensures err { IfErr result (λ e. e ≡ ServeFault.Write) }

@@ -2,11 +2,46 @@ use crate::expect::{expect_eq, expect_eq_at, filled, remove_file, write_file};
 use crate::small_disk::IMAGE;
 use ckrt_jobs::{WrittenReport, run_words};
 use std::fs::{self, File, Files};
+use std::io::{self, Write};
 use std::process::Abort;
 
-/// What the program printed, and its status.
+/// A writer of which only what was flushed is seen.
 #[derive(Drop)]
-struct Printed {
+struct Buffered {
+    bytes: Vec<u8>,
+    flushed: usize,
+}
+
+impl Write for Buffered {
+    fn write(&mut self, buf: &[u8]) -> io::Result<usize> {
+        self.bytes.write(buf)
+    }
+
+    fn flush(&mut self) -> io::Result<()> {
+        self.flushed = self.bytes.len();
+        Ok(())
+    }
+}
+
+impl Buffered {
+    fn new<R: AllocGlobal>(rt: &R) -> Buffered {
+        Buffered {
+            bytes: Vec::new(rt.alloc()),
+            flushed: 0,
+        }
+    }
+
+    /// What was flushed.
+    fn into_seen(self) -> Vec<u8> {
+        let mut seen = self.bytes;
+        seen.truncate(self.flushed);
+        seen
+    }
+}
+
+/// What the program printed and flushed, and its status.
+#[derive(Drop)]
+pub struct Printed {
     output: Vec<u8>,
     errors: Vec<u8>,
     status: u8,
@@ -14,7 +49,7 @@ struct Printed {
 
 impl Printed {
     /// Whether it printed this and ended with this status.
-    fn is(&self, output: &str, errors: &str, status: u8) -> bool {
+    pub fn is(&self, output: &str, errors: &str, status: u8) -> bool {
         self.output.as_slice() == output.as_bytes()
             && self.errors.as_slice() == errors.as_bytes()
             && self.status == status
@@ -30,11 +65,15 @@ fn words_of<'a, R: Abort + AllocGlobal>(rt: &R, words: &'a str) -> Vec<&'a str> 
 }
 
 /// Runs the program with these words and these lines.
-fn ckrt<R: Abort + Files<File = File> + AllocGlobal>(rt: &R, words: &str, lines: &str) -> Printed {
+pub fn ckrt<R: Abort + Files<File = File> + AllocGlobal>(
+    rt: &R,
+    words: &str,
+    lines: &str,
+) -> Printed {
     let words = words_of(rt, words);
     let mut reader = lines.as_bytes();
-    let mut output = Vec::new(rt.alloc());
-    let mut reporter = WrittenReport::new(Vec::new(rt.alloc()));
+    let mut output = Buffered::new(rt);
+    let mut reporter = WrittenReport::new(Buffered::new(rt));
     let status = run_words(
         rt,
         rt.alloc(),
@@ -44,8 +83,8 @@ fn ckrt<R: Abort + Files<File = File> + AllocGlobal>(rt: &R, words: &str, lines:
         &mut reporter,
     );
     Printed {
-        output,
-        errors: reporter.into_writer(),
+        output: output.into_seen(),
+        errors: reporter.into_writer().into_seen(),
         status,
     }
 }
@@ -85,13 +124,18 @@ fn expect_length<R: Abort + Files<File = File>>(rt: &R, path: &str, length: u64)
 const HOLDS_A_PROGRAM: &str =
     "the disk jobs_a.disk: it holds a program already, and is unchanged; `ckrt run` goes on with it\nckrt: AlreadyFormatted\n";
 
-/// A disk that is made, run and run again.
+/// The listing of a program that hasn't begun.
+const FRESH: &str =
+    "events 0\nclock 0\nstatus running\nhart 0 idle\nthread 1 joinable ready pc 00001000 enabled deferred none handlers 0\n";
+
+/// A disk that is made, shown, run and run again.
 fn expect_runs<R: Abort + Files<File = File> + AllocGlobal>(rt: &R) {
     let format = "format jobs_a.disk jobs_a.img --pages 16 --journal 4096";
     let run = "run jobs_a.disk";
     write_file(rt, "jobs_a.img", &IMAGE);
     expect_output(rt, format, "", "formatted 348160\n");
     expect_length(rt, "jobs_a.disk", 348_160);
+    expect_output(rt, "inspect jobs_a.disk", "", FRESH);
     expect_output(rt, run, LINES, REPLIES);
     // what was confirmed isn't on the disk
     expect_output(rt, run, "run 0 1\n", "out 0 41\nno 1 Ended\n");
@@ -102,7 +146,7 @@ fn expect_runs<R: Abort + Files<File = File> + AllocGlobal>(rt: &R) {
 }
 
 #[test]
-fn a_disk_is_made_run_and_run_again(rt: HostRuntime) {
+fn a_disk_is_made_shown_run_and_run_again(rt: HostRuntime) {
     expect_runs(&rt);
 }
 
@@ -188,6 +232,37 @@ fn expect_faults<R: Abort + Files<File = File> + AllocGlobal>(rt: &R) {
     expect_absent(rt, "jobs_d.disk");
     expect_fault(rt, "format . jobs_d.img --pages 17", FOLDER);
     remove_file(rt, "jobs_d.img");
+}
+
+/// The file has these bytes.
+fn expect_file<R: Abort + Files<File = File> + AllocGlobal>(rt: &R, path: &str, want: &[u8]) {
+    let left = fs::read(rt, path).expect(rt, "the file is read");
+    expect_eq(rt, left.as_slice() == want, true);
+}
+
+const ONE_PATH: &str = "the disk jobs_i.img: the image has this path too\nckrt: File\n";
+
+const NO_FOLDER: &str = "the disk jobs_none/i.disk: its folder is missing\nckrt: File\n";
+
+/// An image is never made a disk, and a missing folder is told as that.
+fn expect_refused_paths<R: Abort + Files<File = File> + AllocGlobal>(rt: &R) {
+    let one_path = "format jobs_i.img jobs_i.img";
+    expect_fault(rt, "format jobs_i.img jobs_i.img --pages 15", BAD_CONFIG);
+    expect_fault(
+        rt,
+        one_path,
+        "the image jobs_i.img: there is no such file\nckrt: File\n",
+    );
+    write_file(rt, "jobs_i.img", &IMAGE);
+    expect_fault(rt, one_path, ONE_PATH);
+    expect_file(rt, "jobs_i.img", &IMAGE);
+    expect_fault(rt, "format jobs_none/i.disk jobs_i.img", NO_FOLDER);
+    remove_file(rt, "jobs_i.img");
+}
+
+#[test]
+fn no_disk_over_the_image_or_without_a_folder(rt: HostRuntime) {
+    expect_refused_paths(&rt);
 }
 
 #[test]

@@ -14,6 +14,8 @@ mod cancellation;
 #[cfg(test)]
 mod cancelled_guests;
 #[cfg(test)]
+mod changed_pages;
+#[cfg(test)]
 mod checkpoints;
 #[cfg(test)]
 mod conditions;
@@ -23,6 +25,9 @@ mod contention;
 mod decoded_tables;
 #[cfg(test)]
 mod disks;
+#[cfg(test)]
+mod drive_words;
+mod drives;
 #[cfg(test)]
 mod events;
 #[cfg(test)]
@@ -51,6 +56,8 @@ mod journal;
 mod largest;
 #[cfg(test)]
 mod lives;
+#[cfg(test)]
+mod marks;
 #[cfg(test)]
 mod mutexes;
 #[cfg(test)]

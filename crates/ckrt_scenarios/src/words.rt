@@ -1,5 +1,5 @@
 use crate::expect::expect_eq_at;
-use ckrt_words::{FormatJob, Job, WordsFault, read_words};
+use ckrt_words::{DriveJob, FormatJob, Job, WordsFault, read_words};
 use std::process::Abort;
 
 /// Words that name a job.
@@ -84,6 +84,49 @@ fn a_format_with_every_option(rt: HostRuntime) {
             "i",
         ],
         Job::Format(all),
+    );
+}
+
+const DRIVE: DriveJob<'static> = DriveJob {
+    disk: "d",
+    output: "o",
+    turn: 65_535,
+    rounds: 16,
+    events: None,
+};
+
+#[test]
+fn a_drive_with_its_defaults(rt: HostRuntime) {
+    expect_job(&rt, &["drive", "d", "--output", "o"], Job::Drive(DRIVE));
+    expect_usage(&rt, &["drive", "d"], "--output");
+}
+
+#[test]
+fn a_drive_with_every_option(rt: HostRuntime) {
+    let all = DriveJob {
+        turn: 0,
+        rounds: 4_294_967_295,
+        events: Some(18_446_744_073_709_551_615),
+        ..DRIVE
+    };
+    expect_job(
+        &rt,
+        &[
+            "drive",
+            "d",
+            "--output=o",
+            "--turn=0",
+            "--rounds-per-commit",
+            "4294967295",
+            "--events",
+            "18446744073709551615",
+        ],
+        Job::Drive(all),
+    );
+    expect_usage(
+        &rt,
+        &["drive", "d", "--output", "o", "--turn", "x"],
+        "[--rounds-per-commit NUMBER OF ROUNDS]",
     );
 }
 

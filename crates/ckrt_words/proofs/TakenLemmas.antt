@@ -17,7 +17,7 @@ use Rattle.clap.specs.declared.builder.value_parser.ValueParser.TheVariants as v
 use Rattle.clap.proofs.CallerReads.{signed_reads}
 use Rattle.clap.proofs.ValueTestLemmas.{accepts-Accepts}
 use Rattle.ckrt_words.specs.Commands.{ckrt_app}
-use Rattle.ckrt_words.specs.Jobs.{Request, flag_in, format, inspect, run, number_in, number_of, place_in, request_in}
+use Rattle.ckrt_words.specs.Jobs.{Request, drive, flag_in, format, inspect, run, number_in, number_of, place_in, request_in}
 use Rattle.clap.proofs.WalkLemmas.{both}
 use Rattle.ckrt_words.proofs.MatchLemmas.{AreRows, AreRules, defaults_give, given_found, has_command, has_required, level_kept, level_valid, row_found, taken_levels, value_there}
 use Rattle.ckrt_words.proofs.NumberLemmas.{number_reads}
@@ -35,6 +35,9 @@ run_shape = unwrap_or (slice_get built_app.subs 1) built_app.top
 abbrev inspect_shape : Shape
 inspect_shape = unwrap_or (slice_get built_app.subs 2) built_app.top
 
+abbrev drive_shape : Shape
+drive_shape = unwrap_or (slice_get built_app.subs 3) built_app.top
+
 format_rules : AreRules format_shape refl format_shape.rules
 format_rules = ((refl, inl (refl, refl)), ((refl, inl (refl, refl)), ((refl, inl (refl, refl)), ((refl, inl (refl, refl)), ((refl, inl (refl, refl)), ((refl, inr (inl refl)), tt))))))
 
@@ -43,6 +46,9 @@ run_rules = ((refl, inl (refl, refl)), ((refl, inr (inl refl)), tt))
 
 inspect_rules : AreRules inspect_shape refl inspect_shape.rules
 inspect_rules = ((refl, inl (refl, refl)), ((refl, inl (refl, refl)), ((refl, inr (inr (refl, (_, [], refl)))), ((refl, inr (inl refl)), tt))))
+
+drive_rules : AreRules drive_shape refl drive_shape.rules
+drive_rules = ((refl, inl (refl, refl)), ((refl, inl (refl, refl)), ((refl, inl (refl, refl)), ((refl, inl (refl, refl)), ((refl, inl (refl, refl)), ((refl, inr (inl refl)), tt))))))
 
 number_there : (v : Text) → accepts false (vp.Signed (pos 0) (pos 4294967295)) v ≡ true → (n : ℕ) × (number_of 32 (without_minus v) ≡ Some n)
 number_there v pass =
@@ -65,21 +71,21 @@ inspect_named words pass =
     let disk = value_there inspect_shape refl (codes "disk") rows _ kept refl (given_found (codes "disk") rows (both (is_given (codes "disk") rows) true given).0) in
     (inspect (record { disk = disk.0; at = place_in (codes "at") rows; code = flag_in (codes "code") rows }), rw disk.1 refl)
 
-abbrev slot : ℕ → Rule
-slot i = slice_index_or format_shape.rules i (new_rule [])
+abbrev slot : Shape → ℕ → Rule
+slot shape i = slice_index_or shape.rules i (new_rule [])
 
-abbrev slots : ℕ → List Rule
-slots i = take i format_shape.rules
+abbrev slots : Shape → ℕ → List Rule
+slots shape i = take i shape.rules
 
-abbrev after : ℕ → List Rule
-after i = drop i format_shape.rules
+abbrev after : Shape → ℕ → List Rule
+after shape i = drop i shape.rules
 
 -- an option that is a number of 32 bits has one
-number_at : (id : Text) (rows : List Row) (a : Rule) → AreRows format_shape refl rows → arg_by_id format_shape.rules id ≡ Some a
+number_at : (shape : Shape) (once : shape.args_override_self ≡ false) (id : Text) (rows : List Row) (a : Rule) → AreRows shape once rows → arg_by_id shape.rules id ≡ Some a
     → (a.parser ≡ Some (vp.Signed (pos 0) (pos 4294967295))) → is_some (find (λ (r : Row). bytes_eq r.id id) rows) ≡ true
     → (n : ℕ) × (number_in id rows ≡ Some n)
-number_at id rows a kept found parser has =
-    let there = value_there format_shape refl id rows a kept found has in
+number_at shape once id rows a kept found parser has =
+    let there = value_there shape once id rows a kept found has in
     let text : one_of id rows ≡ Some (without_minus there.0) = subst (λ (o : Option ValueParser). one_of id rows ≡ Some (read_as (reading_of (parser_of_value o)) there.0)) parser there.2 in
     let passes : accepts a.ignore_case (vp.Signed (pos 0) (pos 4294967295)) there.0 ≡ true = subst (λ (o : Option ValueParser). accepts a.ignore_case (parser_of_value o) there.0 ≡ true) parser there.3 in
     let number = number_there there.0 passes in
@@ -94,26 +100,40 @@ format_named words pass =
     let disk = value_there format_shape refl (codes "disk") rows _ kept refl (given_found (codes "disk") rows given.0) in
     let image = value_there format_shape refl (codes "image") rows _ kept refl (given_found (codes "image") rows (both (is_given (codes "image") rows) true given.1).0) in
     let before = (settled format_shape.rules end).rows in
-    let pages = number_at (codes "pages") rows _ kept refl refl (row_found (codes "pages") rows (defaults_give (slots 2) (after 3) (slot 2) before refl)) in
-    let harts = number_at (codes "harts") rows _ kept refl refl (row_found (codes "harts") rows (defaults_give (slots 3) (after 4) (slot 3) before refl)) in
-    let journal = number_at (codes "journal") rows _ kept refl refl (row_found (codes "journal") rows (defaults_give (slots 4) (after 5) (slot 4) before refl)) in
+    let pages = number_at format_shape refl (codes "pages") rows _ kept refl refl (row_found (codes "pages") rows (defaults_give (slots format_shape 2) (after format_shape 3) (slot format_shape 2) before refl)) in
+    let harts = number_at format_shape refl (codes "harts") rows _ kept refl refl (row_found (codes "harts") rows (defaults_give (slots format_shape 3) (after format_shape 4) (slot format_shape 3) before refl)) in
+    let journal = number_at format_shape refl (codes "journal") rows _ kept refl refl (row_found (codes "journal") rows (defaults_give (slots format_shape 4) (after format_shape 5) (slot format_shape 4) before refl)) in
     (format (record { disk = disk.0; image = image.0; pages = pages.0; harts = harts.0; journal = journal.0 }), rw (disk.1, image.1, pages.1, harts.1, journal.1) refl)
+
+drive_named : (words : List Text) → level_passes drive_shape [] nothing_held words false ≡ true → (r : Request) × (request_in (rows_at drive_shape words) ≡ Some r)
+drive_named words pass =
+    let end = (walk drive_shape.rules [] nothing_held words).held in
+    let rows = finished drive_shape.rules end in
+    let kept = level_kept drive_shape refl drive_rules [] nothing_held words false pass tt in
+    let given = both (is_given (codes "disk") rows) (is_given (codes "output") rows && true) (has_required drive_shape rows false (level_valid drive_shape [] nothing_held words false pass) refl) in
+    let disk = value_there drive_shape refl (codes "disk") rows _ kept refl (given_found (codes "disk") rows given.0) in
+    let output = value_there drive_shape refl (codes "output") rows _ kept refl (given_found (codes "output") rows (both (is_given (codes "output") rows) true given.1).0) in
+    let before = (settled drive_shape.rules end).rows in
+    let turn = number_at drive_shape refl (codes "turn") rows _ kept refl refl (row_found (codes "turn") rows (defaults_give (slots drive_shape 2) (after drive_shape 3) (slot drive_shape 2) before refl)) in
+    let rounds = number_at drive_shape refl (codes "rounds-per-commit") rows _ kept refl refl (row_found (codes "rounds-per-commit") rows (defaults_give (slots drive_shape 3) (after drive_shape 4) (slot drive_shape 3) before refl)) in
+    (drive (record { disk = disk.0; output = output.0; turn = turn.0; rounds = rounds.0; events = place_in (codes "events") rows }), rw (disk.1, output.1, turn.1, rounds.1) refl)
 
 -- what a command that takes the words is asked for
 entered_named : (stop : Option (Text × List Text)) → entered_passes built_app stop ≡ true → is_some (entered built_app stop) ≡ true
     → (r : Request) × (option_and_then request_in (entered built_app stop) ≡ Some r)
 entered_named None pass some = absurd (true≢false (sym some))
-entered_named (Some p) pass some = go (answers_to p.0 (label_of format_shape)) (answers_to p.0 (label_of run_shape)) (answers_to p.0 (label_of inspect_shape)) pass some
+entered_named (Some p) pass some = go (answers_to p.0 (label_of format_shape)) (answers_to p.0 (label_of run_shape)) (answers_to p.0 (label_of inspect_shape)) (answers_to p.0 (label_of drive_shape)) pass some
   where
-    found : Bool → Bool → Bool → Option Shape
-    found a b c = cond a (Some format_shape) (cond b (Some run_shape) (cond c (Some inspect_shape) None))
+    found : Bool → Bool → Bool → Bool → Option Shape
+    found a b c d = cond a (Some format_shape) (cond b (Some run_shape) (cond c (Some inspect_shape) (cond d (Some drive_shape) None)))
 
-    go : (a b c : Bool) → option_map_or (λ s. level_passes s [] nothing_held p.1 false) (found a b c) true ≡ true → is_some (option_map (λ s. rows_at s p.1) (found a b c)) ≡ true
-        → (r : Request) × (option_and_then request_in (option_map (λ s. rows_at s p.1) (found a b c)) ≡ Some r)
-    go true b c e is = format_named p.1 e
-    go false true c e is = run_named p.1 e
-    go false false true e is = inspect_named p.1 e
-    go false false false e is = absurd (true≢false (sym is))
+    go : (a b c d : Bool) → option_map_or (λ s. level_passes s [] nothing_held p.1 false) (found a b c d) true ≡ true → is_some (option_map (λ s. rows_at s p.1) (found a b c d)) ≡ true
+        → (r : Request) × (option_and_then request_in (option_map (λ s. rows_at s p.1) (found a b c d)) ≡ Some r)
+    go true b c d e is = format_named p.1 e
+    go false true c d e is = run_named p.1 e
+    go false false true d e is = inspect_named p.1 e
+    go false false false true e is = drive_named p.1 e
+    go false false false false e is = absurd (true≢false (sym is))
 
 -- words that the command line takes ask for something
 taken_named : (words : List Text) → takes ckrt_app words ≡ true → (r : Request) × (option_and_then request_in (subcommand_of ckrt_app words) ≡ Some r)

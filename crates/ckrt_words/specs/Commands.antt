@@ -1,5 +1,5 @@
--- The program's command line, as `clap` sees it: `format DISK IMAGE [--pages P] [--harts H] [--journal J]`, `run DISK` and
--- `inspect DISK [--at K] [--code]`.
+-- The program's command line, as `clap` sees it: `format DISK IMAGE [--pages P] [--harts H] [--journal J]`, `run DISK`,
+-- `inspect DISK [--at K] [--code]` and `drive DISK --output FILE [--turn N] [--rounds-per-commit R] [--events N]`.
 use Rattle.std.specs.Prelude.{pos, codes, Some, true, [], ◌∷◌}
 use Rattle.clap.specs.Words.{App, Rule, Text, new_app, new_rule, with_rule, with_subcommand}
 use Rattle.clap.specs.declared.builder.value_parser.ValueParser.TheVariants.{Signed, Unsigned}
@@ -26,6 +26,10 @@ place_rule id = record (new_rule id) {
   parser = Some (Unsigned 0 18446744073709551615);
 }
 
+-- an option `--id FILE` that has to be given
+abbrev pub needed_option_rule : Text → Rule
+needed_option_rule id = record (new_rule id) { long = Some id; required = true; value_names = 1 }
+
 -- an option `--id` without a value
 abbrev pub flag_rule : Text → Rule
 flag_rule id = record (new_rule id) { long = Some id; action = Some SetTrue }
@@ -49,6 +53,15 @@ inspect_app =
     (place_rule (codes "at")))
     (flag_rule (codes "code"))
 
+abbrev pub drive_app : App
+drive_app =
+    with_rule (with_rule (with_rule (with_rule (with_rule (new_app (codes "drive"))
+    (needed_rule (codes "disk")))
+    (needed_option_rule (codes "output")))
+    (number_rule (codes "turn") (codes "65535")))
+    (number_rule (codes "rounds-per-commit") (codes "16")))
+    (place_rule (codes "events"))
+
 -- the program without a command: its words don't begin with its name, and `help` is no command
 abbrev pub bare_app : App
 bare_app = record {
@@ -57,4 +70,4 @@ bare_app = record {
 }
 
 abbrev pub ckrt_app : App
-ckrt_app = with_subcommand (with_subcommand (with_subcommand bare_app format_app.top) run_app.top) inspect_app.top
+ckrt_app = with_subcommand (with_subcommand (with_subcommand (with_subcommand bare_app format_app.top) run_app.top) inspect_app.top) drive_app.top

@@ -11,6 +11,7 @@ use Rattle.ckrt_words.specs.declared.job.Job.{Job}
 use Rattle.ckrt_words.specs.declared.job.Job.TheVariants as job
 use Rattle.ckrt_words.specs.declared.job.FormatJob.{FormatJob}
 use Rattle.ckrt_words.specs.declared.job.InspectJob.{InspectJob}
+use Rattle.ckrt_words.specs.declared.job.DriveJob.{DriveJob}
 
 -- what `format` makes
 pub record Formatting : Type 0 where
@@ -26,6 +27,14 @@ pub record Inspection : Type 0 where
   pub at : Option ℕ
   pub code : Bool
 
+-- what `drive` drives: which disk, the file of its output, steps of a turn, rounds between commits, and after how many events it ends
+pub record Driving : Type 0 where
+  pub disk : Text
+  pub output : Text
+  pub turn : ℕ
+  pub rounds : ℕ
+  pub events : Option ℕ
+
 -- a job, by its texts and numbers alone
 pub data Request : Type 0 where
   stored : Request
@@ -33,6 +42,7 @@ pub data Request : Type 0 where
   format : Formatting → Request
   run : Text → Request
   inspect : Inspection → Request
+  drive : Driving → Request
 
 abbrev pub formatting_of : FormatJob → Formatting
 formatting_of f = record { disk = f.disk.now; image = f.image.now; pages = f.pages; harts = f.harts; journal = f.journal }
@@ -40,12 +50,16 @@ formatting_of f = record { disk = f.disk.now; image = f.image.now; pages = f.pag
 abbrev pub inspection_of : InspectJob → Inspection
 inspection_of i = record { disk = i.disk.now; at = i.at; code = i.code }
 
+abbrev pub driving_of : DriveJob → Driving
+driving_of d = record { disk = d.disk.now; output = d.output.now; turn = d.turn; rounds = d.rounds; events = d.events }
+
 abbrev pub request_of : Job → Request
 request_of job.Stored = stored
 request_of job.Version = version
 request_of (job.Format f) = format (formatting_of f)
 request_of (job.Run disk) = run disk.now
 request_of (job.Inspect i) = inspect (inspection_of i)
+request_of (job.Drive d) = drive (driving_of d)
 
 -- decimal digits, one or more, after a plus or not, of a number of so many bits
 abbrev pub is_number : ℕ → Text → Bool
@@ -88,12 +102,21 @@ inspection_in rows = do
   disk ← first_of (codes "disk") rows
   Some (record { disk = disk; at = place_in (codes "at") rows; code = flag_in (codes "code") rows })
 
+abbrev pub driving_in : List Row → Option Driving
+driving_in rows = do
+  disk ← first_of (codes "disk") rows
+  output ← first_of (codes "output") rows
+  turn ← number_in (codes "turn") rows
+  rounds ← number_in (codes "rounds-per-commit") rows
+  Some (record { disk = disk; output = output; turn = turn; rounds = rounds; events = place_in (codes "events") rows })
+
 -- what a command with these matches asks for
 abbrev pub request_in : Text × List Row → Option Request
 request_in p =
     if bytes_eq p.0 (codes "format") then option_map format (formatting_in p.1)
     else if bytes_eq p.0 (codes "run") then option_map run (first_of (codes "disk") p.1)
     else if bytes_eq p.0 (codes "inspect") then option_map inspect (inspection_in p.1)
+    else if bytes_eq p.0 (codes "drive") then option_map drive (driving_in p.1)
     else None
 
 -- the one word `--version`

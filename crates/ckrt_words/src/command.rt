@@ -3,7 +3,7 @@ ghost use Rattle.std.specs.Prelude.{◌≡◌, IfOk, codes, false, fold, map, no
 ghost use Rattle.std.specs.List.{list_all};
 ghost use Rattle.clap.specs.Words.{app_of, new_app, rule_of, with_rule};
 ghost use Rattle.clap.specs.declared.builder.command.Command.TheViews.{out-Command};
-ghost use Rattle.ckrt_words.specs.Commands.{bare_app, ckrt_app, flag_rule, format_app, inspect_app, needed_rule, number_rule, place_rule, run_app};
+ghost use Rattle.ckrt_words.specs.Commands.{bare_app, ckrt_app, drive_app, flag_rule, format_app, inspect_app, needed_option_rule, needed_rule, number_rule, place_rule, run_app};
 
 use clap::{Arg, ArgAction, Command, value_parser};
 use std::alloc::{AllocError, Global};
@@ -42,6 +42,18 @@ fn place<'a>(alloc: Global, id: &'a str, name: &'a str, help: &'a str) -> Arg<'a
         .value_name(name)
         .value_parser(value_parser!(u64))
         .help(help)
+}
+
+/// An option that has to be given.
+fn needed_option<'a>(alloc: Global, id: &'a str, name: &'a str, help: &'a str) -> Arg<'a>
+    ensures rule { rule_of result ≡ needed_option_rule id.entry.now }
+    ensures local { result.global ≡ false }
+{
+    Arg::new(alloc, id)
+        .long(id)
+        .value_name(name)
+        .help(help)
+        .required(true)
 }
 
 /// An option without a value.
@@ -131,6 +143,47 @@ fn inspect_arguments<'a>(alloc: Global) -> Result<Vec<Arg<'a>>, AllocError>
     Ok(arguments)
 }
 
+/// `drive DISK --output FILE [--turn N] [--rounds-per-commit R] [--events N]`.
+fn drive_command<'a>(alloc: Global) -> Result<Command<'a>, AllocError>
+    ensures app { IfOk result (λ c. app_of c ≡ drive_app) }
+    ensures local { IfOk result (λ c. (out-Command c).has_globals ≡ false) }
+{
+    let arguments = drive_arguments(alloc)?;
+    Command::new(alloc, "drive")
+        .about("Recovers a disk and runs its program to its end, with its output in a file")
+        .args(arguments)
+}
+
+/// What `drive` is given.
+fn drive_arguments<'a>(alloc: Global) -> Result<Vec<Arg<'a>>, AllocError>
+    ensures app { IfOk result (λ arguments. fold with_rule (new_app (codes "drive")) (map rule_of arguments.items) ≡ drive_app) }
+    ensures local { IfOk result (λ arguments. list_all (λ a. not a.global) arguments.items ≡ true) }
+{
+    let arguments = vec![in alloc;
+        needed(alloc, "disk", "DISK", "A disk that `format` made"),
+        needed_option(
+            alloc,
+            "output",
+            "FILE",
+            "The file to put the program's output in, each byte at its offset"
+        ),
+        number(
+            alloc,
+            "turn",
+            "65535",
+            "Steps of a thread's turn on a hart, 1 to 65535"
+        ),
+        number(
+            alloc,
+            "rounds-per-commit",
+            "16",
+            "Rounds of turns between two commits, 1 or more"
+        ),
+        place(alloc, "events", "N", "End after N events"),
+    ]?;
+    Ok(arguments)
+}
+
 /// The program without a command.
 fn bare_command<'a>(alloc: Global) -> Result<Command<'a>, AllocError>
     ensures app { IfOk result (λ c. app_of c ≡ bare_app) }
@@ -156,5 +209,7 @@ pub(crate) fn command<'a>(alloc: Global) -> Result<Command<'a>, AllocError>
     let run = run_command(alloc)?;
     let with_run = with_format.subcommand(run)?;
     let inspect = inspect_command(alloc)?;
-    with_run.subcommand(inspect)
+    let with_inspect = with_run.subcommand(inspect)?;
+    let drive = drive_command(alloc)?;
+    with_inspect.subcommand(drive)
 }

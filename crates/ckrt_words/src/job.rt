@@ -13,6 +13,8 @@ pub enum Job<'a> {
     Run(&'a str),
     /// Show what a disk holds: `inspect DISK`.
     Inspect(InspectJob<'a>),
+    /// Drive a disk to its end: `drive DISK --output FILE`.
+    Drive(DriveJob<'a>),
 }
 
 /// What `format` makes. The numbers are as they were given, and may be out of a disk's ranges.
@@ -39,6 +41,21 @@ pub struct InspectJob<'a> {
     pub at: Option<u64>,
     /// Whether each thread's next instructions are shown too.
     pub code: bool,
+}
+
+/// What `drive` drives, and how. The numbers are as they were given, and may be out of a drive's ranges.
+#[derive(Clone, Copy, Debug, PartialEq, Eq)]
+pub struct DriveJob<'a> {
+    /// The path of the disk.
+    pub disk: &'a str,
+    /// The path of the file of its output.
+    pub output: &'a str,
+    /// Steps of a turn, at most.
+    pub turn: u32,
+    /// Rounds between two commits.
+    pub rounds: u32,
+    /// After how many events it ends; this isn't given where it has no limit.
+    pub events: Option<u64>,
 }
 
 /// Why words name no job.

@@ -1,9 +1,9 @@
 //! What the matches of a command line name.
 ghost use Rattle.std.specs.Prelude.{◌≡◌, option_and_then, option_map};
 ghost use Rattle.clap.specs.Words.{first_of, found_of, rows_of, subcommand_rows_of};
-ghost use Rattle.ckrt_words.specs.Jobs.{flag_in, formatting_in, formatting_of, inspection_in, inspection_of, number_in, place_in, request_in, request_of};
+ghost use Rattle.ckrt_words.specs.Jobs.{driving_in, driving_of, flag_in, formatting_in, formatting_of, inspection_in, inspection_of, number_in, place_in, request_in, request_of};
 
-use crate::job::{FormatJob, InspectJob, Job};
+use crate::job::{DriveJob, FormatJob, InspectJob, Job};
 use clap::ArgMatches;
 
 /// The text that was given for an argument.
@@ -48,6 +48,19 @@ fn inspection<'a>(matches: &ArgMatches<'a>) -> Option<InspectJob<'a>>
     })
 }
 
+/// What `drive` was given.
+fn driving<'a>(matches: &ArgMatches<'a>) -> Option<DriveJob<'a>>
+    ensures { option_map driving_of result ≡ driving_in (rows_of (found_of matches.now)) }
+{
+    Some(DriveJob {
+        disk: text(matches, "disk")?,
+        output: text(matches, "output")?,
+        turn: number(matches, "turn")?,
+        rounds: number(matches, "rounds-per-commit")?,
+        events: place(matches, "events"),
+    })
+}
+
 /// What `format` was given.
 fn formatting<'a>(matches: &ArgMatches<'a>) -> Option<FormatJob<'a>>
     ensures { option_map formatting_of result ≡ formatting_in (rows_of (found_of matches.now)) }
@@ -81,6 +94,9 @@ pub(crate) fn job_named<'a>(matches: &ArgMatches<'a>) -> Option<Job<'a>>
     }
     if name == "inspect" {
         return Some(Job::Inspect(inspection(given)?));
+    }
+    if name == "drive" {
+        return Some(Job::Drive(driving(given)?));
     }
     None
 }

@@ -1,0 +1,5 @@
+pub mod PlanLemmas
+pub mod SaveLemmas
+pub mod WriteLemmas
+pub mod StepLemmas
+pub mod RunLemmas

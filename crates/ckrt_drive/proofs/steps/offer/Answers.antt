@@ -1,0 +1,29 @@
+use Rattle.std.proofs.Common.{◌+◌, ◌∙◌, sym}
+use Rattle.ckrt_machine.specs.Events as machine
+use Rattle.ckrt_recovery.specs.View.{view_of, refusal_of}
+use Rattle.ckrt_drive.proofs.SaveLemmas.{at_ok, taken, refused, at_none, at_some, advances_taken, advances_short, advances_refused}
+use Rattle.ckrt_drive.proofs.steps.offer.Goals as goal
+
+pub returns-in-Ok : goal.returns-in-Ok
+returns-in-Ok g c =
+    let s = c.args.session.now in
+    let e = c.args.event in
+    let f = c.submit.ensures in
+    let is = taken c.submit.result (refusal_of (view_of s) e) c.in-Ok.field-0 (s.progress.count + 1, (machine.step e s.progress.machine.state).answer) c.in-Ok.is f.answer in
+    advances_taken e s c.submit.new.self is (at_none (refusal_of (view_of s) e) _ _ is f.view) f.disk (λ p events reps. at_ok c.submit.result _ c.in-Ok.field-0 c.in-Ok.is (f.represents p events reps))
+
+pub returns-then-is_shortage : goal.returns-then-is_shortage
+returns-then-is_shortage g c =
+    let s = c.args.session.now in
+    let e = c.args.event in
+    let f = c.submit.ensures in
+    let is = refused c.submit.result (refusal_of (view_of s) e) c.in-Err.fault (s.progress.count + 1, (machine.step e s.progress.machine.state).answer) c.in-Err.is f.answer in
+    advances_short e c.in-Err.fault s c.submit.new.self c.save.new.session c.save.result is (at_some (refusal_of (view_of s) e) _ _ c.in-Err.fault is f.view) (sym c.is_shortage.ensures ∙ c.if-is_shortage.true) c.save.ensures
+
+pub returns-else-is_shortage : goal.returns-else-is_shortage
+returns-else-is_shortage g c =
+    let s = c.args.session.now in
+    let e = c.args.event in
+    let f = c.submit.ensures in
+    let is = refused c.submit.result (refusal_of (view_of s) e) c.in-Err.fault (s.progress.count + 1, (machine.step e s.progress.machine.state).answer) c.in-Err.is f.answer in
+    advances_refused e c.in-Err.fault s c.submit.new.self is (at_some (refusal_of (view_of s) e) _ _ c.in-Err.fault is f.view) (sym c.is_shortage.ensures ∙ c.if-is_shortage.false)

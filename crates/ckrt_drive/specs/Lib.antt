@@ -1,0 +1,4 @@
+pub mod Plan
+pub mod Output
+pub mod Steps
+pub mod Runs

@@ -1,0 +1,154 @@
+-- What a drive does next (this project's choice): a function of its options, of where it stands, and of what the session shows.
+use Rattle.std.specs.Prelude.{ℕ, zero, suc, ◌+◌, ◌-◌, ◌*◌, ◌==◌, ◌||◌, nat_lt, min, max, Bool, true, false, if◌then◌else◌, Option, Some, None, is_some, List, [], ◌∷◌, Result, Ok, Err}
+use Rattle.ckrt_thread.specs.declared.records.Wait.{Wait}
+use Rattle.ckrt_thread.specs.declared.records.Object.TheVariants.{Input}
+use Rattle.ckrt_thread.specs.State.{first_waiter}
+use Rattle.ckrt_calls.specs.declared.table.Tables.{Tables}
+use Rattle.ckrt_events.specs.Bytes.{IsInRange}
+use Rattle.ckrt_events.specs.declared.event.Event.{Event}
+use Rattle.ckrt_events.specs.declared.event.Event.TheVariants.{Place, Run, Tick}
+use Rattle.ckrt_events.specs.declared.event.Event.TheVariants as event
+use Rattle.ckrt_machine.specs.declared.event.Refusal.TheVariants.{OutputFull}
+use Rattle.ckrt_machine.specs.Steps.{hart_of}
+use Rattle.ckrt_machine.specs.Runs.{is_running}
+use Rattle.ckrt_machine.specs.Plans.{planned}
+use Rattle.ckrt_image.specs.Recovery.{room_of}
+use Rattle.ckrt_recovery.specs.declared.fault.SubmitFault.{SubmitFault}
+use Rattle.ckrt_recovery.specs.declared.fault.SubmitFault.TheVariants as fault
+use Rattle.ckrt_recovery.specs.View.{View, refusal_of}
+use Rattle.ckrt_drive.specs.declared.cursor.Cursor.{Cursor}
+use Rattle.ckrt_drive.specs.declared.options.Options.{Options}
+use Rattle.ckrt_drive.specs.declared.fault.DriveFault.{DriveFault}
+use Rattle.ckrt_drive.specs.declared.fault.DriveFault.TheVariants.{Refused}
+use Rattle.ckrt_drive.specs.declared.progress.Ending.TheVariants.{Ended, WaitsForInput, Deadlock, Enough}
+use Rattle.ckrt_drive.specs.declared.progress.Progress.{Progress}
+use Rattle.ckrt_drive.specs.declared.progress.Progress.TheVariants.{Submitted, Committed, Checkpointed, Released, Stopped}
+use Rattle.ckrt_drive.specs.declared.plan.Next.{Next}
+use Rattle.ckrt_drive.specs.declared.plan.Next.TheVariants.{Submit, End}
+
+-- THE PROGRAM
+
+-- a thread is on the hart, or one is ready to go there
+abbrev pub is_busy : Tables → ℕ → Bool
+is_busy s h = is_some (hart_of s h) || is_some (planned h s)
+
+-- the first busy hart of h, h + 1, .., among n of them
+abbrev pub busy_from : ℕ → ℕ → Tables → Option ℕ
+busy_from zero h s = None
+busy_from (suc n) h s = if is_busy s h then Some h else busy_from n (h + 1) s
+
+-- the first busy hart from this one on
+abbrev pub next_busy : ℕ → Tables → Option ℕ
+next_busy h s = busy_from (s.threads.hart_count - h) h s
+
+abbrev pub sooner : Option ℕ → Option ℕ → Option ℕ
+sooner None o = o
+sooner (Some d) None = Some d
+sooner (Some d) (Some e) = Some (min d e)
+
+-- the least deadline of these waits
+abbrev pub earliest_deadline : List Wait → Option ℕ
+earliest_deadline [] = None
+earliest_deadline (w ∷ ws) = sooner w.deadline (earliest_deadline ws)
+
+-- the ticks from one moment to a later one, as many as one event takes
+abbrev pub ticks_to : (deadline clock : ℕ) → ℕ
+ticks_to deadline clock = max 1 (min (deadline - clock) 4294967295)
+
+-- THE NEXT EVENT
+
+-- nobody is on a hart or ready: the clock goes to the earliest deadline, and without one the drive is at an end
+abbrev pub idle_until : Option ℕ → Tables → Next
+idle_until (Some d) s = Submit (Tick (ticks_to d s.clock))
+idle_until None s = End (if is_some (first_waiter Input s.threads) then WaitsForInput else Deadlock)
+
+-- behind the turn of the last hart
+abbrev pub round_end : Option ℕ → Tables → Next
+round_end (Some h) s = Submit (Tick 1)
+round_end None s = idle_until (earliest_deadline s.threads.waits) s
+
+-- who is planned goes onto the hart, and else the hart's thread runs on
+abbrev pub on_turn : Option ℕ → ℕ → ℕ → Event
+on_turn (Some t) h n = Place h t
+on_turn None h n = Run h n
+
+-- the turn of a busy hart
+abbrev pub turn_of : Option ℕ → Options → Tables → Next
+turn_of (Some h) o s = Submit (on_turn (planned h s) h o.turn)
+turn_of None o s = round_end (next_busy 0 s) s
+
+-- while the program runs; who was placed in this turn runs
+abbrev pub next_running : Options → Cursor → Tables → Next
+next_running o c s = if c.is_placed then Submit (Run c.hart o.turn) else turn_of (next_busy c.hart s) o s
+
+-- the event that is next, or why there is none
+abbrev pub next : Options → Cursor → Tables → Next
+next o c s = if is_running s.status then (if c.events_left == 0 then End Enough else next_running o c s) else End Ended
+
+-- THE PLAN
+
+-- A commit, or a checkpoint where the journal might have no room for a full batch behind this one: a batch takes 4,099 bytes of it at most.
+abbrev pub save : View → Progress
+save v = if nat_lt (room_of v.recovered.journal) (2 * 4099) then Checkpointed else Committed
+
+-- a commit or a checkpoint makes room for the event
+abbrev pub is_shortage : SubmitFault → Bool
+is_shortage fault.Failed = false
+is_shortage (fault.Refused OutputFull) = true
+is_shortage (fault.Refused _) = false
+is_shortage fault.BatchFull = true
+is_shortage fault.JournalFull = true
+is_shortage fault.CountersUsed = false
+
+-- an event that the session takes, or refuses so
+abbrev pub offered : View → Event → Option SubmitFault → Result Progress DriveFault
+offered v e None = Ok (Submitted e)
+offered v e (Some why) = if is_shortage why then Ok (save v) else Err (Refused why)
+
+-- an event waits until the rounds are saved, and an end until all is saved
+abbrev pub plan_for : Next → Cursor → View → Result Progress DriveFault
+plan_for (Submit e) c v = if c.rounds_left == 0 then Ok (save v) else offered v e (refusal_of v e)
+plan_for (End ending) c v = if c.is_saved then Ok (Stopped ending) else Ok (save v)
+
+-- released output goes out first
+abbrev pub plan : Options → Cursor → View → Result Progress DriveFault
+plan o c v = if nat_lt v.recovered.confirmed v.released then Ok Released else plan_for (next o c v.recovered.state.tables) c v
+
+-- the event's fields are in their ranges
+abbrev pub IsInRangeProgress : Progress → Type 0
+IsInRangeProgress (Submitted e) = IsInRange e
+IsInRangeProgress Committed = Unit {0}
+IsInRangeProgress Checkpointed = Unit {0}
+IsInRangeProgress Released = Unit {0}
+IsInRangeProgress (Stopped ending) = Unit {0}
+
+abbrev pub IsInRangeNext : Next → Type 0
+IsInRangeNext (Submit e) = IsInRange e
+IsInRangeNext (End ending) = Unit {0}
+
+-- THE CURSOR
+
+abbrev pub cursor_at_start : Options → Cursor
+cursor_at_start o = record { hart = 0; is_placed = false; rounds_left = o.rounds; events_left = o.events; is_saved = false }
+
+-- whose turn it is behind an event
+abbrev pub turned : Event → Cursor → Cursor
+turned (Place h t) c = record c { hart = h; is_placed = true }
+turned (Run h n) c = record c { hart = h + 1; is_placed = false }
+turned (Tick k) c = record c { hart = 0; is_placed = false; rounds_left = c.rounds_left - 1 }
+turned (event.Input bytes) c = c
+turned event.Eof c = c
+
+abbrev pub after_event : Event → Cursor → Cursor
+after_event e c = turned e (record c { events_left = c.events_left - 1; is_saved = false })
+
+abbrev pub saved : Options → Cursor → Cursor
+saved o c = record c { rounds_left = o.rounds; is_saved = true }
+
+-- where the drive stands behind what it did
+abbrev pub cursor_after : Options → Progress → Cursor → Cursor
+cursor_after o (Submitted e) c = after_event e c
+cursor_after o Committed c = saved o c
+cursor_after o Checkpointed c = saved o c
+cursor_after o Released c = c
+cursor_after o (Stopped ending) c = c

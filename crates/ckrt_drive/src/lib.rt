@@ -1,0 +1,17 @@
+//! Unattended runs: a drive runs a program on all its harts to its end, commits and checkpoints by itself, and puts each
+//! byte of output at its offset of a disk of its own.
+#![tactic(auto)]
+
+mod cursor;
+mod drive;
+mod fault;
+mod options;
+mod plan;
+mod progress;
+mod steps;
+
+pub use cursor::Cursor;
+pub use drive::Drive;
+pub use fault::DriveFault;
+pub use options::Options;
+pub use progress::{Ending, Progress};

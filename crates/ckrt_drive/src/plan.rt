@@ -1,0 +1,140 @@
+//! Which event is next.
+ghost use Rattle.std.specs.Prelude.{◌≡◌, ◌≤◌, true, IfSome};
+ghost use Rattle.ckrt_thread.specs.declared.records.Object.TheVariants.{Input};
+ghost use Rattle.ckrt_machine.specs.Plans.{planned};
+ghost use Rattle.ckrt_machine.specs.Runs.{is_running};
+ghost use Rattle.ckrt_drive.specs.Plan.{IsInRangeNext, is_busy, next_busy, sooner, earliest_deadline, ticks_to, idle_until, round_end, turn_of, next_running, next};
+
+use crate::cursor::Cursor;
+use crate::options::Options;
+use crate::progress::Ending;
+use ckrt_calls::{Status, Tables};
+use ckrt_events::Event;
+use ckrt_machine::Machine;
+use ckrt_thread::{Object, Wait};
+
+/// The event that is next, or why there is none.
+#[derive(Clone, Debug, Drop, PartialEq, Eq)]
+pub enum Next {
+    Submit(Event),
+    End(Ending),
+}
+
+/// Whether a thread is on the hart, or one is ready to go there.
+fn is_busy(machine: &Machine, hart: u8) -> bool
+    ensures { result ≡ is_busy machine.now.state.tables hart }
+{
+    machine
+        .tables()
+        .threads
+        .on_hart(usize::from(hart))
+        .is_some()
+        || machine.planned(hart).is_some()
+}
+
+/// The first busy hart from this one on.
+fn next_busy(machine: &Machine, from: u8) -> Option<u8>
+    requires { from ≤ 8 }
+    ensures busy { result ≡ next_busy from machine.now.state.tables }
+    ensures small { IfSome result (λ hart. hart ≤ 7) }
+{
+    let count = machine.tables().threads.hart_count() as u8;
+    for hart in from..count {
+        if is_busy(machine, hart) {
+            return Some(hart);
+        }
+    }
+    None
+}
+
+/// The sooner of two deadlines, where there are two.
+fn sooner(first: Option<u64>, second: Option<u64>) -> Option<u64>
+    ensures { result ≡ sooner first second }
+{
+    match (first, second) {
+        (None, other) => other,
+        (Some(deadline), None) => Some(deadline),
+        (Some(deadline), Some(other)) => Some(deadline.min(other)),
+    }
+}
+
+/// The least deadline of the waits.
+fn earliest_deadline(waits: &[Wait]) -> Option<u64>
+    ensures { result ≡ earliest_deadline waits.now }
+{
+    let mut earliest = None;
+    for place in (0..waits.len()).rev() {
+        earliest = sooner(waits[place].deadline, earliest);
+    }
+    earliest
+}
+
+/// The ticks from one moment to a later one, as many as one event takes.
+fn ticks_to(deadline: u64, clock: u64) -> u32
+    ensures ticks { result ≡ ticks_to deadline clock }
+    ensures some { 1 ≤ result }
+{
+    deadline
+        .saturating_sub(clock)
+        .min(u64::from(u32::MAX))
+        .max(1) as u32
+}
+
+/// What is next where nobody is on a hart or ready.
+fn idle(tables: &Tables) -> Next
+    ensures next { result ≡ idle_until (earliest_deadline tables.now.threads.waits) tables.now }
+    ensures in_range { IsInRangeNext result }
+{
+    if let Some(deadline) = earliest_deadline(tables.threads.waits()) {
+        return Next::Submit(Event::Tick(ticks_to(deadline, tables.clock)));
+    }
+    if tables.threads.first_waiter(Object::Input).is_some() {
+        return Next::End(Ending::WaitsForInput);
+    }
+    Next::End(Ending::Deadlock)
+}
+
+/// What is next behind the turn of the last hart.
+fn round_end(machine: &Machine) -> Next
+    ensures next { result ≡ round_end (next_busy 0 machine.now.state.tables) machine.now.state.tables }
+    ensures in_range { IsInRangeNext result }
+{
+    match next_busy(machine, 0) {
+        Some(_) => Next::Submit(Event::Tick(1)),
+        None => idle(machine.tables()),
+    }
+}
+
+/// What is next from the turn of a hart on.
+fn turn(machine: &Machine, options: &Options, from: u8) -> Next
+    requires { from ≤ 8 }
+    ensures next { result ≡ turn_of (next_busy from machine.now.state.tables) options.now machine.now.state.tables }
+    ensures in_range { IsInRangeNext result }
+{
+    let Some(hart) = next_busy(machine, from) else {
+        return round_end(machine);
+    };
+    match machine.planned(hart) {
+        Some(thread) => Next::Submit(Event::Place(hart, thread)),
+        None => Next::Submit(Event::Run(hart, options.turn)),
+    }
+}
+
+/// What is next: an event, or why there is none.
+pub(crate) fn next_event(machine: &Machine, options: &Options, cursor: &Cursor) -> Next
+    requires hart { cursor.now.hart ≤ 8 }
+    requires placed { cursor.now.is_placed ≡ true → cursor.now.hart ≤ 7 }
+    ensures next { result ≡ next options.now cursor.now machine.now.state.tables }
+    ensures in_range { IsInRangeNext result }
+{
+    if !matches!(machine.status(), Status::Running) {
+        return Next::End(Ending::Ended);
+    }
+    if cursor.events_left == 0 {
+        return Next::End(Ending::Enough);
+    }
+    if cursor.is_placed {
+        return Next::Submit(Event::Run(cursor.hart, options.turn));
+    }
+    turn(machine, options, cursor.hart)
+}

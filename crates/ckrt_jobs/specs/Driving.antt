@@ -1,0 +1,137 @@
+-- The drive of a disk, with its output in a disk of its own: from the words' options to the ending.
+use Rattle.std.specs.Prelude.{◌≡◌, ◌⊎◌, ◌-◌, ◌^◌, ◌&&◌, ℕ, nat_lt, nat_le, Bool, true, false, List, Option, Some, None, Result, Ok, Err, IfOk, IfErr}
+use Rattle.ckrt_disk.specs.Disk.{HasFailed}
+use Rattle.ckrt_disk.specs.declared.disk.Disk.{Ghosts}
+use Rattle.ckrt_events.specs.declared.event.Event.{Event}
+use Rattle.ckrt_image.specs.Programs.{Program, RecoversTo}
+use Rattle.ckrt_image.specs.Progress.{recovered_of}
+use Rattle.ckrt_image.specs.Reads.{is_device}
+use Rattle.ckrt_image.specs.Recovery.{AgreesOnFault, Recovers}
+use Rattle.ckrt_image.specs.declared.fault.RecoverFault.{RecoverFault}
+use Rattle.ckrt_recovery.specs.Opening.{IsSyncedAndRead}
+use Rattle.ckrt_recovery.specs.Represents.{Represents}
+use Rattle.ckrt_recovery.specs.View.{opened as opened_view, view_of}
+use Rattle.ckrt_recovery.specs.declared.session.Session.{Session}
+use Rattle.ckrt_drive.specs.Runs.{IsAtEnd, Runs}
+use Rattle.ckrt_drive.specs.declared.cursor.Cursor.{Cursor}
+use Rattle.ckrt_drive.specs.declared.fault.DriveFault.{DriveFault}
+use Rattle.ckrt_drive.specs.declared.fault.DriveFault.TheVariants.{Device, Output}
+use Rattle.ckrt_drive.specs.declared.options.Options.{Options}
+use Rattle.ckrt_words.specs.Jobs.{Driving}
+use Rattle.ckrt_jobs.specs.Openings.{Openings, opened, refused}
+use Rattle.ckrt_jobs.specs.declared.driven.Driven.{Driven}
+use Rattle.ckrt_jobs.specs.declared.fault.JobFault.{JobFault}
+use Rattle.ckrt_jobs.specs.declared.fault.JobFault.TheVariants as job
+use Rattle.ckrt_jobs.specs.declared.file.FileFault.{FileFault}
+use Rattle.ckrt_jobs.specs.declared.file.JobFile.TheVariants as file
+
+-- THE OPTIONS
+
+-- a turn has 1 to 65,535 steps, and there is a round or more between two commits
+abbrev pub is_in_range : Driving → Bool
+is_in_range j = nat_lt 0 j.turn && (nat_le j.turn 65535 && nat_lt 0 j.rounds)
+
+-- the greatest number of 64 bits where no limit is given
+abbrev pub limit_of : Option ℕ → ℕ
+limit_of None = 2 ^ 64 - 1
+limit_of (Some events) = events
+
+-- how the drive goes that the words ask for
+pub record IsAsked (j : Driving) (o : Options) : Type 0 where
+  pub turn : o.turn ≡ j.turn
+  pub rounds : o.rounds ≡ j.rounds
+  pub events : o.events ≡ limit_of j.events
+
+-- THE SESSION
+
+-- From s to t, with its output from a to b, a session was driven.
+pub record DrivesSession {D O : Type 0} {g : Ghosts D} (o : Ghosts O) (options : Options) (s t : Session D g) (a b : O) (answer : Result Driven DriveFault) : Type 0 where
+  -- what every stop left, what was acknowledged, and what the output holds
+  pub runs : Runs o s t a b
+  -- its ending is the plan's where the drive stands then, and the program stands as it says
+  pub ended : IfOk answer (λ e. (cursor : Cursor) × IsAtEnd options cursor (view_of t) e.ending × (e.status ≡ t.progress.machine.state.tables.status))
+  pub device : IfErr answer (λ fault. fault ≡ Device → t.failed ≡ true)
+  pub output : IfErr answer (λ fault. fault ≡ Output → HasFailed (o.failures a) (o.failures b))
+
+-- THE FILES
+
+-- what a job answers where its drive answered so
+abbrev pub answer_of : Result Driven DriveFault → Result Driven JobFault
+answer_of (Ok driven) = Ok driven
+answer_of (Err fault) = Err (job.Drive fault)
+
+-- A session was driven onto an output that was opened, and both were closed as the drive left them. The openings go from asked to new.
+pub record DrivesOnto {D : Type 0} (d : Ghosts D) (options : Options) (s : Session D d) (output : D) (asked new : Openings D) (result : Result Driven JobFault) : Type 0 where
+  pub after : Session D d
+  pub end : D
+  pub answer : Result Driven DriveFault
+  pub drives : DrivesSession d options s after output end answer
+  pub gives : result ≡ answer_of answer
+  pub closes : new ≡ record asked { closed = Some after.disk; closed_output = Some end }
+
+-- the output of this path can't be opened, and the disk was closed as it was recovered
+pub record LacksOutput {D : Type 0} (d : Ghosts D) (path : List ℕ) (s : Session D d) (old new : Openings D) (result : Result Driven JobFault) : Type 0 where
+  pub why : FileFault
+  pub is : result ≡ Err (job.File file.Output why)
+  pub closes : new ≡ record old { output = refused path why; closed = Some s.disk }
+
+-- the output of this path was opened, and the session driven onto it
+pub record OpensOutput {D : Type 0} (d : Ghosts D) (Outputs : D → Type 0) (path : List ℕ) (options : Options) (s : Session D d) (old new : Openings D) (result : Result Driven JobFault) : Type 0 where
+  pub output : D
+  pub is_opened : Outputs output
+  pub drives : DrivesOnto d options s output (record old { output = opened path }) new result
+
+abbrev pub DrivesRecovered : {D : Type 0} (d : Ghosts D) → (D → Type 0) → List ℕ → Options → Session D d → (old new : Openings D) → Result Driven JobFault → Type 0
+DrivesRecovered d Outputs path options s old new result = LacksOutput d path s old new result ⊎ OpensOutput d Outputs path options s old new result
+
+-- THE DISK
+
+-- the session is what the disk's content recovers to
+pub record IsRecovered {D : Type 0} (d : Ghosts D) (start : D) (s : Session D d) : Type 0 where
+  pub content : d.is_honest s.disk → Recovers (d.content start) (Ok (recovered_of s.progress))
+  pub view : view_of s ≡ opened_view (recovered_of s.progress)
+  -- so what a drive says of a list of events it says of the one that the content recovers to
+  pub represents : d.is_honest s.disk → (p : Program) (events : List Event) (limit : ℕ) → RecoversTo p events limit (d.content start) → Represents p events s
+  pub disk : IsSyncedAndRead d start s.disk false
+
+-- nothing was recovered, and no output was asked for; the fault is the content's, or the device failed a call, or memory was refused
+pub record LacksRecovery {D : Type 0} (d : Ghosts D) (start : D) (old new : Openings D) (result : Result Driven JobFault) : Type 0 where
+  pub end : D
+  pub why : RecoverFault
+  pub is : result ≡ Err (job.Recover why)
+  pub content : d.is_honest end → AgreesOnFault why (Recovers (d.content start))
+  pub disk : IsSyncedAndRead d start end (is_device {X = Unit {0}} (Err why))
+  pub closes : new ≡ record old { closed = Some end }
+
+-- the disk was recovered, and driven
+pub record DrivesDisk {D : Type 0} (d : Ghosts D) (Outputs : D → Type 0) (path : List ℕ) (options : Options) (start : D) (old new : Openings D) (result : Result Driven JobFault) : Type 0 where
+  pub session : Session D d
+  pub recovered : IsRecovered d start session
+  pub drives : DrivesRecovered d Outputs path options session old new result
+
+abbrev pub DrivesOpened : {D : Type 0} (d : Ghosts D) → (D → Type 0) → List ℕ → Options → D → (old new : Openings D) → Result Driven JobFault → Type 0
+DrivesOpened d Outputs path options start old new result = LacksRecovery d start old new result ⊎ DrivesDisk d Outputs path options start old new result
+
+-- THE JOB
+
+-- the disk of this path can't be opened; nothing else was asked for
+pub record LacksDisk {D : Type 0} (path : List ℕ) (old new : Openings D) (result : Result Driven JobFault) : Type 0 where
+  pub why : FileFault
+  pub is : result ≡ Err (job.File file.Disk why)
+  pub refuses : new ≡ record old { disk = refused path why }
+
+-- the disk of the words' path was opened, and driven as they ask
+pub record OpensDisk {D : Type 0} (d : Ghosts D) (Opens Outputs : D → Type 0) (j : Driving) (old new : Openings D) (result : Result Driven JobFault) : Type 0 where
+  pub options : Options
+  pub asked : IsAsked j options
+  pub start : D
+  pub is_opened : Opens start
+  pub drives : DrivesOpened d Outputs j.output options start (record old { disk = opened j.disk }) new result
+
+-- Out of its ranges nothing is asked for.
+abbrev pub DrivesInRange : {D : Type 0} → Ghosts D → (Opens Outputs : D → Type 0) → Driving → (old new : Openings D) → Result Driven JobFault → Bool → Type 0
+DrivesInRange d Opens Outputs j old new result true = LacksDisk j.disk old new result ⊎ OpensDisk d Opens Outputs j old new result
+DrivesInRange d Opens Outputs j old new result false = (result ≡ Err job.Range) × (new ≡ old)
+
+abbrev pub DrivesPath : {D : Type 0} → Ghosts D → (Opens Outputs : D → Type 0) → Driving → (old new : Openings D) → Result Driven JobFault → Type 0
+DrivesPath d Opens Outputs j old new result = DrivesInRange d Opens Outputs j old new result (is_in_range j)
