@@ -27,6 +27,7 @@ mod decoded_tables;
 mod disks;
 #[cfg(test)]
 mod drive_words;
+#[cfg(test)]
 mod drives;
 #[cfg(test)]
 mod events;
