@@ -24,12 +24,3 @@ ReadsArea c area image (Err Device) = Unit {0}
 ReadsArea c area image (Err GenerationsUsed) = Unit {0}
 ReadsArea c area image (Err OutOfMemory) = Unit {0}
 ReadsArea c area image (Err Version) = Unit {0}
-
--- the same of the tables alone
-abbrev pub ReadsTables : Config → Area → List ℕ → Result (Tables × Buffer ℕ) AreaFault → Type 0
-ReadsTables c area image (Ok r) = DecodesTo c.harts (tables_of c area image) (Some (record { tables = r.0; held = r.1.items }))
-ReadsTables c area image (Err Damaged) = DecodesTo c.harts (tables_of c area image) None
-ReadsTables c area image (Err Device) = Unit {0}
-ReadsTables c area image (Err GenerationsUsed) = Unit {0}
-ReadsTables c area image (Err OutOfMemory) = Unit {0}
-ReadsTables c area image (Err Version) = Unit {0}

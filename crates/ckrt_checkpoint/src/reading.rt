@@ -8,8 +8,8 @@ ghost use Rattle.ckrt_checkpoint.specs.Answers.{is_device};
 ghost use Rattle.ckrt_checkpoint.specs.Areas.{IsPicked};
 ghost use Rattle.ckrt_memory.specs.Marks.{IsAllClean};
 ghost use Rattle.ckrt_checkpoint.specs.Holds.{BothStand};
-ghost use Rattle.ckrt_checkpoint.specs.Layout.{is_valid, memory_of, memory_size, size_needed};
-ghost use Rattle.ckrt_checkpoint.specs.Read.{ReadsArea, ReadsTables};
+ghost use Rattle.ckrt_checkpoint.specs.Layout.{is_valid, memory_of, memory_size, size_needed, tables_of};
+ghost use Rattle.ckrt_checkpoint.specs.Read.{ReadsArea};
 
 use crate::area::Area;
 use crate::config::Config;
@@ -20,29 +20,23 @@ use ckrt_memory::Memory;
 use ckrt_tables::{Held, decode_tables};
 use std::alloc::Global;
 
-// The tables and the held output.
-fn read_tables<D: Disk>(
+// The bytes of the tables and the held output, as many as the area's header says.
+fn read_table_bytes<D: Disk>(
     alloc: Global,
     disk: &mut D,
     config: &Config,
     area: &Area,
-) -> Result<(Tables, Held), AreaFault>
+) -> Result<Vec<u8>, AreaFault>
     requires valid { is_valid config.now ≡ true }
     requires disk { size_needed config.now ≤ D.size disk.old }
     requires picked { IsPicked area.now }
-    ensures exact { D.is_honest disk.new → ReadsTables config.now area.now (D.content disk.old) result }
-    ensures savable { IfOk result (λ r. CanBeSaved config.now.harts r.0 r.1.items) }
-    ensures held { IfOk result (λ r. r.1.capacity ≡ HELD_LIMIT) }
+    ensures exact { D.is_honest disk.new → IfOk result (λ bytes. bytes.items ≡ tables_of config.now area.now (D.content disk.old)) }
+    ensures errors { IfErr result (λ e. (e ≡ Device) ⊎ (e ≡ OutOfMemory)) }
     ensures read { IsOnlyRead D.Disk disk.old disk.new (is_device result) }
-    ensures no_generations { result ≢ Err GenerationsUsed }
-    ensures no_version { result ≢ Err Version }
 {
     let mut bytes = vec![in alloc; 0; area.header.tables as usize]?;
     disk.read(config.tables_at(area.index), &mut bytes)?;
-    match decode_tables(alloc, &bytes, config.harts as usize)? {
-        Some(parts) => Ok(parts),
-        None => Err(AreaFault::Damaged),
-    }
+    Ok(bytes)
 }
 
 // The guest's memory. It stands in the area as it is, so it is clean for that.
@@ -94,7 +88,14 @@ pub fn read_area<D: Disk>(
     ensures no_generations { result ≢ Err GenerationsUsed }
     ensures no_version { result ≢ Err Version }
 {
-    let (tables, held) = read_tables(alloc, disk, config, area)?;
-    let memory = read_memory(alloc, disk, config, area.index)?;
-    Ok((memory, tables, held))
+    let bytes = read_table_bytes(alloc, disk, config, area)?;
+    // tables are large: a `?` would move them three times
+    match decode_tables(alloc, &bytes, config.harts as usize) {
+        Ok(Some((tables, held))) => {
+            let memory = read_memory(alloc, disk, config, area.index)?;
+            Ok((memory, tables, held))
+        }
+        Ok(None) => Err(AreaFault::Damaged),
+        Err(_) => Err(AreaFault::OutOfMemory),
+    }
 }

@@ -1,17 +1,21 @@
-use Rattle.std.proofs.Common.{arith}
-use Rattle.std.proofs.lemmas.Grind.{common_steps}
+use Rattle.std.proofs.Common.{◌≡◌, Err, sym, subst, rules}
+use Rattle.ckrt_disk.specs.Frame.{IsOnlyRead}
 use Rattle.ckrt_image.specs.Reads.{is_device}
 use Rattle.ckrt_disk.proofs.FrameLemmas.{read_on}
-use Rattle.ckrt_image.proofs.PageLemmas.{pages_replayed}
+use Rattle.ckrt_image.proofs.PageLemmas.{pages_follow}
 use Rattle.ckrt_image.proofs.reading.read_replayed.Goals as goal
 
-pub returns-clause-exact : goal.returns-clause-exact
-returns-clause-exact g c = grind (arith, common_steps)
+pub returns-in_err-replay-in-Ok-clause-read : goal.returns-in_err-replay-in-Ok-clause-read
+returns-in_err-replay-in-Ok-clause-read g c =
+    let fault = c.in_err-replay-in-Ok.field-0.0 in
+    let is : c.from_residual.result ≡ Err fault = search rules in
+    subst (λ r. IsOnlyRead g.D.Disk c.args.disk.now c.replay.new.disk (is_device r)) (sym is)
+    (read_on g.D.Disk c.args.disk.now c.read_state.new.disk c.replay.new.disk _ c.in-Ok.ensures.read c.in_err-replay-in-Ok.ensures.read)
 
-pub returns-clause-read : goal.returns-clause-read
-returns-clause-read g c = read_on g.D.Disk c.args.disk.now c.read_state.new.disk c.replay.new.disk (is_device c.replay.result) c.in_ok-progress.ensures.read c.replay.ensures.read
-
-pub returns-clause-pages : goal.returns-clause-pages
-returns-clause-pages g c = λ honest.
+pub returns-in_ok-replay-in-Ok-clause-pages : goal.returns-in_ok-replay-in-Ok-clause-pages
+returns-in_ok-replay-in-Ok-clause-pages g c = λ honest.
     let before : g.D.Disk.is_honest c.read_state.new.disk = c.replay.ensures.read.same.honest honest in
-    pages_replayed c.in_ok-progress.progress c.replay.result (g.D.Disk.content c.args.disk.now) c.replay.ensures.config c.replay.ensures.follows (c.in_ok-progress.ensures.pages before)
+    pages_follow c.in-Ok.progress c.replay.new.progress (g.D.Disk.content c.args.disk.now) c.replay.ensures.config c.replay.ensures.follows (c.in-Ok.ensures.pages before)
+
+pub returns-in_ok-replay-in-Ok-clause-read : goal.returns-in_ok-replay-in-Ok-clause-read
+returns-in_ok-replay-in-Ok-clause-read g c = read_on g.D.Disk c.args.disk.now c.read_state.new.disk c.replay.new.disk _ c.in-Ok.ensures.read c.in_ok-replay-in-Ok.ensures.read

@@ -12,11 +12,11 @@ use Rattle.ckrt_image.proofs.reading.read_state.Goals as goal
 
 pub returns-then-not-ends_in_range-clause-exact : goal.returns-then-not-ends_in_range-clause-exact
 returns-then-not-ends_in_range-clause-exact g c = λ honest.
-    let read = c.in_ok-memory.ensures.exact honest in
+    let read = c.in-Ok.ensures.exact honest in
     let image = g.D.Disk.content c.args.disk.now in
     let config = c.args.config.now in
     let area = c.args.area.now in
-    let s : Saved = record { tables = c.in_ok-memory.tables; held = c.in_ok-memory.held.items } in
+    let s : Saved = record { tables = c.in-Ok.tables; held = c.in-Ok.held.items } in
     let past : is_end_in_range area s.held ≡ false = search rules in
     record {
       saved = Some s;
@@ -24,14 +24,14 @@ returns-then-not-ends_in_range-clause-exact g c = λ honest.
       gives = ap (λ b. cond b (ok (unreplayed config area (memory_of config area.index image) s)) (Err Damaged)) past;
     }
 
-pub returns-clause-exact : goal.returns-clause-exact
-returns-clause-exact g c = λ honest.
-    let read = c.in_ok-memory.ensures.exact honest in
+pub returns-else-not-ends_in_range-clause-exact : goal.returns-else-not-ends_in_range-clause-exact
+returns-else-not-ends_in_range-clause-exact g c = λ honest.
+    let read = c.in-Ok.ensures.exact honest in
     let image = g.D.Disk.content c.args.disk.now in
     let config = c.args.config.now in
     let area = c.args.area.now in
-    let memory = c.in_ok-memory.memory in
-    let s : Saved = record { tables = c.in_ok-memory.tables; held = c.in_ok-memory.held.items } in
+    let memory = c.in-Ok.memory in
+    let s : Saved = record { tables = c.in-Ok.tables; held = c.in-Ok.held.items } in
     let within : is_end_in_range area s.held ≡ true = search rules in
     record {
       saved = Some s;
@@ -42,6 +42,6 @@ returns-clause-exact g c = λ honest.
           ∙ ap (λ (x : State). ok (record (unreplayed config area memory.bytes s) { journal = c.journal_of.result; state = x })) (sym c.from_parts.ensures.state);
     }
 
-pub returns-clause-pages : goal.returns-clause-pages
-returns-clause-pages g c = λ honest.
-    subst (λ (m : Memory). BothStand c.args.config.now m (g.D.Disk.content c.args.disk.now)) (sym c.from_parts.ensures.memory) (c.in_ok-memory.ensures.pages honest)
+pub returns-else-not-ends_in_range-clause-pages : goal.returns-else-not-ends_in_range-clause-pages
+returns-else-not-ends_in_range-clause-pages g c = λ honest.
+    subst (λ (m : Memory). BothStand c.args.config.now m (g.D.Disk.content c.args.disk.now)) (sym c.from_parts.ensures.memory) (c.in-Ok.ensures.pages honest)
