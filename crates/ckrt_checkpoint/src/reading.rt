@@ -89,13 +89,13 @@ pub fn read_area<D: Disk>(
     ensures no_version { result ≢ Err Version }
 {
     let bytes = read_table_bytes(alloc, disk, config, area)?;
-    // tables are large: a `?` would move them three times
+    // tables are large: `?` would move them three times more, and the value of the match once more
     match decode_tables(alloc, &bytes, config.harts as usize) {
         Ok(Some((tables, held))) => {
             let memory = read_memory(alloc, disk, config, area.index)?;
-            Ok((memory, tables, held))
+            return Ok((memory, tables, held));
         }
-        Ok(None) => Err(AreaFault::Damaged),
-        Err(_) => Err(AreaFault::OutOfMemory),
+        Ok(None) => return Err(AreaFault::Damaged),
+        Err(_) => return Err(AreaFault::OutOfMemory),
     }
 }

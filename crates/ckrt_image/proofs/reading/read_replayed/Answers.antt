@@ -12,10 +12,10 @@ returns-in_err-replay-in-Ok-clause-read g c =
     subst (λ r. IsOnlyRead g.D.Disk c.args.disk.now c.replay.new.disk (is_device r)) (sym is)
     (read_on g.D.Disk c.args.disk.now c.read_state.new.disk c.replay.new.disk _ c.in-Ok.ensures.read c.in_err-replay-in-Ok.ensures.read)
 
-pub returns-in_ok-replay-in-Ok-clause-pages : goal.returns-in_ok-replay-in-Ok-clause-pages
-returns-in_ok-replay-in-Ok-clause-pages g c = λ honest.
+pub returns-in-Ok-clause-pages : goal.returns-in-Ok-clause-pages
+returns-in-Ok-clause-pages g c = λ honest.
     let before : g.D.Disk.is_honest c.read_state.new.disk = c.replay.ensures.read.same.honest honest in
     pages_follow c.in-Ok.progress c.replay.new.progress (g.D.Disk.content c.args.disk.now) c.replay.ensures.config c.replay.ensures.follows (c.in-Ok.ensures.pages before)
 
-pub returns-in_ok-replay-in-Ok-clause-read : goal.returns-in_ok-replay-in-Ok-clause-read
-returns-in_ok-replay-in-Ok-clause-read g c = read_on g.D.Disk c.args.disk.now c.read_state.new.disk c.replay.new.disk _ c.in-Ok.ensures.read c.in_ok-replay-in-Ok.ensures.read
+pub returns-in-Ok-clause-read : goal.returns-in-Ok-clause-read
+returns-in-Ok-clause-read g c = read_on g.D.Disk c.args.disk.now c.read_state.new.disk c.replay.new.disk _ c.in-Ok.ensures.read c.in_ok-replay-in-Ok.ensures.read

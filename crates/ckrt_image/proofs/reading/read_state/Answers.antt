@@ -24,8 +24,8 @@ returns-then-not-ends_in_range-clause-exact g c = λ honest.
       gives = ap (λ b. cond b (ok (unreplayed config area (memory_of config area.index image) s)) (Err Damaged)) past;
     }
 
-pub returns-else-not-ends_in_range-clause-exact : goal.returns-else-not-ends_in_range-clause-exact
-returns-else-not-ends_in_range-clause-exact g c = λ honest.
+pub returns-in-Ok-clause-exact : goal.returns-in-Ok-clause-exact
+returns-in-Ok-clause-exact g c = λ honest.
     let read = c.in-Ok.ensures.exact honest in
     let image = g.D.Disk.content c.args.disk.now in
     let config = c.args.config.now in
@@ -42,6 +42,6 @@ returns-else-not-ends_in_range-clause-exact g c = λ honest.
           ∙ ap (λ (x : State). ok (record (unreplayed config area memory.bytes s) { journal = c.journal_of.result; state = x })) (sym c.from_parts.ensures.state);
     }
 
-pub returns-else-not-ends_in_range-clause-pages : goal.returns-else-not-ends_in_range-clause-pages
-returns-else-not-ends_in_range-clause-pages g c = λ honest.
+pub returns-in-Ok-clause-pages : goal.returns-in-Ok-clause-pages
+returns-in-Ok-clause-pages g c = λ honest.
     subst (λ (m : Memory). BothStand c.args.config.now m (g.D.Disk.content c.args.disk.now)) (sym c.from_parts.ensures.memory) (c.in-Ok.ensures.pages honest)
