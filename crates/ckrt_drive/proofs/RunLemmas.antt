@@ -1,12 +1,14 @@
 -- Steps of a drive, one after another, and its ends.
-use Rattle.std.proofs.Common.{◌≡◌, ⊎_elim, ◌*◌, ◌≤◌, ℕ, nat_lt, Bool, true, false, if◌then◌else◌, Option, Some, None, List, [], ◌++◌, Result, Ok, Err, refl, sym, ◌∙◌, subst, arith, append_assoc}
+use Rattle.std.proofs.Common.{◌≡◌, ⊎_elim, ◌+◌, ◌-◌, ◌*◌, ◌<◌, ◌≤◌, ℕ, nat_lt, Bool, true, false, if◌then◌else◌, Option, Some, None, List, [], ◌∷◌, ◌++◌, length, Result, Ok, Err, refl, sym, ◌∙◌, ap, subst, arith, append_assoc, append-nil, length-append}
 use Rattle.std.specs.Prelude.{◌==◌, IfOk}
 use Rattle.std.proofs.lemmas.Bool.Decides.{nat_tests}
 use Rattle.ckrt_disk.specs.Disk.{IsImage}
 use Rattle.ckrt_disk.specs.declared.disk.Disk.{Ghosts}
 use Rattle.ckrt_disk.proofs.Moments.{weaker, goes_on}
 use Rattle.ckrt_events.specs.declared.event.Event.{Event}
+use Rattle.ckrt_events.specs.declared.event.Event.TheVariants.{Place, Run, Tick, Input, Eof}
 use Rattle.ckrt_image.specs.Recovery.{room_of}
+use Rattle.ckrt_machine.specs.Runs.{is_running}
 use Rattle.ckrt_recovery.specs.declared.fault.SubmitFault.{SubmitFault}
 use Rattle.ckrt_recovery.specs.declared.session.Session.{Session}
 use Rattle.ckrt_recovery.specs.View.{View, view_of, refusal_of}
@@ -17,14 +19,16 @@ use Rattle.ckrt_drive.specs.declared.options.Options.{Options}
 use Rattle.ckrt_drive.specs.declared.plan.Next.{Next}
 use Rattle.ckrt_drive.specs.declared.plan.Next.TheVariants.{Submit, End}
 use Rattle.ckrt_drive.specs.declared.fault.DriveFault.{DriveFault}
-use Rattle.ckrt_drive.specs.declared.fault.DriveFault.TheVariants.{Refused}
+use Rattle.ckrt_drive.specs.declared.fault.DriveFault.TheVariants.{Device, Output, OutputFull, GenerationsUsed, Refused}
 use Rattle.ckrt_drive.specs.declared.progress.Ending.{Ending}
+use Rattle.ckrt_drive.specs.declared.progress.Ending.TheVariants.{Ended, Enough}
 use Rattle.ckrt_drive.specs.declared.progress.Progress.{Progress}
 use Rattle.ckrt_drive.specs.declared.progress.Progress.TheVariants.{Submitted, Committed, Checkpointed, Released, Stopped}
-use Rattle.ckrt_drive.specs.Plan.{is_shortage, next, offered, plan, plan_for, save}
+use Rattle.ckrt_drive.specs.Plan.{after_event, cursor_after, is_shortage, next, next_running, offered, plan, plan_for, save}
 use Rattle.ckrt_drive.specs.Output.{HasOutput, HoldsOutput, Writes, acknowledged_output}
-use Rattle.ckrt_drive.specs.Runs.{IsAllSaved, Runs, StopsSaved}
-use Rattle.ckrt_drive.specs.Steps.{IsSound, Steps, accepted_in}
+use Rattle.ckrt_drive.specs.Runs.{FollowsPlan, GoesByPlan, IsAtEnd, IsFault, IsOnward, Runs, Stand, StopsRightly, events_in, stand, stand_after, stand_of}
+use Rattle.ckrt_drive.specs.Steps.{IsSound, IsWhyStep, Steps, accepted_by, view_after}
+use Rattle.ckrt_drive.proofs.EndLemmas.{end_of}
 use Rattle.ckrt_drive.proofs.WriteLemmas.{same_output, writes_kept}
 
 -- ENDS
@@ -48,35 +52,126 @@ no_stop_offered : (v : View) (e : Event) (o : Option SubmitFault) → IsNoStop (
 no_stop_offered v e None = λ ending is. absurd (cc)
 no_stop_offered v e (Some why) = one_of (is_shortage why) (Ok (save v)) (Err (Refused why)) (no_stop_saved v) (λ ending is. absurd (cc))
 
-saved_by : (b : Bool) (x y : Result Progress DriveFault) (ending : Ending) → IsNoStop y → (if b then x else y) ≡ Ok (Stopped ending) → b ≡ true
-saved_by true x y ending none e = refl
-saved_by false x y ending none e = absurd (none ending e)
+saved_by : (b : Bool) (why ending : Ending) (v : View) (planned : Result Progress DriveFault) → planned ≡ (if b then Ok (Stopped why) else Ok (save v)) → planned ≡ Ok (Stopped ending) → (b ≡ true) × (why ≡ ending)
+saved_by true why ending v planned is e = (refl, cc)
+saved_by false why ending v planned is e = absurd (no_stop_saved v ending (sym is ∙ e))
 
-saved_for : (n : Next) (c : Cursor) (v : View) (ending : Ending) → plan_for n c v ≡ Ok (Stopped ending) → c.is_saved ≡ true
+saved_for : (n : Next) (c : Cursor) (v : View) (ending : Ending) → plan_for n c v ≡ Ok (Stopped ending) → (c.is_saved ≡ true) × (n ≡ End ending)
 saved_for (Submit e) c v ending is = absurd (one_of (c.rounds_left == 0) (Ok (save v)) (offered v e (refusal_of v e)) (no_stop_saved v) (no_stop_offered v e (refusal_of v e)) ending is)
-saved_for (End why) c v ending is = saved_by c.is_saved (Ok (Stopped why)) (Ok (save v)) ending (no_stop_saved v) is
+saved_for (End why) c v ending is = let h = saved_by c.is_saved why ending v (plan_for (End why) c v) refl is in (h.0, ap End h.1)
 
-kept_by : (b : Bool) (n : Next) (c : Cursor) (v : View) (ending : Ending) → (if b then Ok Released else plan_for n c v) ≡ Ok (Stopped ending) → (b ≡ false) × (c.is_saved ≡ true)
+kept_by : (b : Bool) (n : Next) (c : Cursor) (v : View) (ending : Ending) → (if b then Ok Released else plan_for n c v) ≡ Ok (Stopped ending) → (b ≡ false) × (c.is_saved ≡ true) × (n ≡ End ending)
 kept_by true n c v ending is = absurd (cc)
-kept_by false n c v ending is = (refl, saved_for n c v ending is)
+kept_by false n c v ending is = let h = saved_for n c v ending is in (refl, h.0, h.1)
 
 reached : (n m : ℕ) → nat_lt n m ≡ false → n ≤ m → n ≡ m
 reached n m e le = grind (arith, nat_tests)
 
--- an end is planned only where all is saved
-pub saved_at_end : (o : Options) (c : Cursor) (v : View) (ending : Ending) → v.recovered.confirmed ≤ v.released → IsSound c v → plan o c v ≡ Ok (Stopped ending) → IsAllSaved v
-saved_at_end o c v ending le sound is =
+-- an end is planned only where all is saved, and it is what it says
+pub at_end : (o : Options) (c : Cursor) (v : View) (ending : Ending) → v.recovered.confirmed ≤ v.released → IsSound c v → plan o c v ≡ Ok (Stopped ending) → IsAtEnd c v ending
+at_end o c v ending le sound is =
     let kept = kept_by (nat_lt v.recovered.confirmed v.released) (next o c v.recovered.state.tables) c v ending is in
-    record { acknowledged = sound.saved kept.1; confirmed = reached v.recovered.confirmed v.released kept.0 le }
+    record {
+      saved = record { acknowledged = sound.saved kept.1; confirmed = reached v.recovered.confirmed v.released kept.0 le };
+      is = end_of o c v.recovered.state.tables ending kept.2;
+    }
+
+-- EVENTS
+
+-- an event is planned only where one is left
+abbrev pub IsNoEvent : Result Progress DriveFault → Type 0
+IsNoEvent planned = (e : Event) → planned ≡ Ok (Submitted e) → ⊥
+
+no_event_by : (b : Bool) → IsNoEvent (Ok (if b then Checkpointed else Committed))
+no_event_by true = λ e is. absurd (cc)
+no_event_by false = λ e is. absurd (cc)
+
+no_event_saved : (v : View) → IsNoEvent (Ok (save v))
+no_event_saved v = no_event_by (nat_lt (room_of v.recovered.journal) (2 * 4099))
+
+no_event_of : (b : Bool) (x y : Result Progress DriveFault) → IsNoEvent x → IsNoEvent y → IsNoEvent (if b then x else y)
+no_event_of true x y h k = h
+no_event_of false x y h k = k
+
+submits_for : (n : Next) (c : Cursor) (v : View) (e : Event) → plan_for n c v ≡ Ok (Submitted e) → (ending : Ending) → n ≡ End ending → ⊥
+submits_for (Submit x) c v e is = λ ending no. absurd (cc)
+submits_for (End why) c v e is = λ ending no. no_event_of c.is_saved (Ok (Stopped why)) (Ok (save v)) (λ x are. absurd (cc)) (no_event_saved v) e is
+
+submits_by : (b : Bool) (n : Next) (c : Cursor) (v : View) (e : Event) → (if b then Ok Released else plan_for n c v) ≡ Ok (Submitted e) → (ending : Ending) → n ≡ End ending → ⊥
+submits_by true n c v e is = absurd (cc)
+submits_by false n c v e is = submits_for n c v e is
+
+left_by : (r b : Bool) (c : Cursor) (n : Next) → (c.events_left == 0) ≡ b → ((ending : Ending) → (if r then (if b then End Enough else n) else End Ended) ≡ End ending → ⊥) → 0 < c.events_left
+left_by true true c n is never = absurd (never Enough refl)
+left_by true false c n is never = grind (arith, nat_tests)
+left_by false b c n is never = absurd (never Ended refl)
+
+some_left : (o : Options) (x : Stand) (e : Event) → plan o x.cursor x.view ≡ Ok (Submitted e) → 0 < x.cursor.events_left
+some_left o x e is =
+    let s = x.view.recovered.state.tables in
+    left_by (is_running s.status) (x.cursor.events_left == 0) x.cursor (next_running o x.cursor s) refl (submits_by (nat_lt x.view.recovered.confirmed x.view.released) (next o x.cursor s) x.cursor x.view e is)
+
+one_less : (e : Event) (c : Cursor) → (after_event e c).events_left ≡ c.events_left - 1
+one_less (Place h t) c = refl
+one_less (Run h n) c = refl
+one_less (Tick k) c = refl
+one_less (Input bytes) c = refl
+one_less Eof c = refl
+
+-- as many events are left as were, less those that were taken
+counted : (o : Options) (did : List Progress) (x y : Stand) → FollowsPlan o did x y → length (events_in did) + y.cursor.events_left ≡ x.cursor.events_left
+counted o [] x y h = let same = ap (λ (q : Stand). q.cursor.events_left) h in omega (arith, same)
+counted o (Submitted e ∷ more) x y h =
+    let rest = counted o more (stand_after o (Submitted e) x) y h.2 in
+    let less = one_less e x.cursor in
+    omega (arith, rest, less, some_left o x e h.0)
+counted o (Committed ∷ more) x y h = counted o more (stand_after o Committed x) y h.2
+counted o (Checkpointed ∷ more) x y h = counted o more (stand_after o Checkpointed x) y h.2
+counted o (Released ∷ more) x y h = counted o more (stand_after o Released x) y h.2
+counted o (Stopped ending ∷ more) x y h = absurd h.1
+
+-- whatever isn't an end goes on
+pub onward : (did : Progress) → ((ending : Ending) → did ≡ Stopped ending → ⊥) → IsOnward did
+onward (Submitted e) no_stop = tt
+onward Committed no_stop = tt
+onward Checkpointed no_stop = tt
+onward Released no_stop = tt
+onward (Stopped ending) no_stop = no_stop ending refl
+
+follows_more : (o : Options) (xs : List Progress) (did : Progress) (x y : Stand) → FollowsPlan o xs x y → plan o y.cursor y.view ≡ Ok did → IsOnward did → FollowsPlan o (xs ++ did ∷ []) x (stand_after o did y)
+follows_more o [] did x y h is on = (subst (λ (q : Stand). plan o q.cursor q.view ≡ Ok did) h is, on, ap (stand_after o did) h)
+follows_more o (first ∷ xs) did x y h is on = (h.0, h.1, follows_more o xs did (stand_after o first x) y h.2 is on)
+
+events_more : (xs : List Progress) (did : Progress) → events_in (xs ++ did ∷ []) ≡ events_in xs ++ accepted_by did
+events_more [] did = append-nil (accepted_by did)
+events_more (x ∷ xs) did = ap (λ (l : List Event). accepted_by x ++ l) (events_more xs did) ∙ sym (append_assoc (accepted_by x) (events_in xs) (accepted_by did))
+
+same_stand : (c d : Cursor) (v w : View) → c ≡ d → v ≡ w → stand c v ≡ stand d w
+same_stand c d v w e f = ap (λ q. stand q v) e ∙ ap (λ q. stand d q) f
+
+enough_by : (o : Options) (did : List Progress) (x y : Stand) (ending : Ending) → FollowsPlan o did x y → IsAtEnd y.cursor y.view ending → (result : Result (Option Ending) DriveFault) → result ≡ Ok (Some ending) → result ≡ Ok (Some Enough) → length (events_in did) ≡ x.cursor.events_left
+enough_by o did x y ending h at result gives is =
+    let same : ending ≡ Enough = cc in
+    let none = subst (λ e. IsAtEnd y.cursor y.view e) same at in
+    omega (arith, counted o did x y h, none.is.1)
 
 module _ {D O : Type 0} {g : Ghosts D} (o : Ghosts O) where
-  pub stops_saved : (options : Options) (c : Cursor) (s t : Session D g) (a b : O) (r : Result Progress DriveFault) → IsSound c (view_of s) → Steps o (plan options c (view_of s)) s t a b r → IfOk r (StopsSaved (view_of t))
-  stops_saved options c s t a b (Ok (Submitted e)) sound h = tt
-  stops_saved options c s t a b (Ok Committed) sound h = tt
-  stops_saved options c s t a b (Ok Checkpointed) sound h = tt
-  stops_saved options c s t a b (Ok Released) sound h = tt
-  stops_saved options c s t a b (Ok (Stopped ending)) sound h = subst IsAllSaved (sym h.done.1) (saved_at_end options c (view_of s) ending s.released_from sound h.done.0)
-  stops_saved options c s t a b (Err e) sound h = tt
+  pub stops_rightly : (options : Options) (c c' : Cursor) (s t : Session D g) (a b : O) (r : Result Progress DriveFault) → IsSound c (view_of s) → Steps o (plan options c (view_of s)) s t a b r
+      → IfOk r (λ did. c' ≡ cursor_after options did c) → IfOk r (StopsRightly c' (view_of t))
+  stops_rightly options c c' s t a b (Ok (Submitted e)) sound h turned = tt
+  stops_rightly options c c' s t a b (Ok Committed) sound h turned = tt
+  stops_rightly options c c' s t a b (Ok Checkpointed) sound h turned = tt
+  stops_rightly options c c' s t a b (Ok Released) sound h turned = tt
+  stops_rightly options c c' s t a b (Ok (Stopped ending)) sound h turned = subst (λ (q : Stand). IsAtEnd q.cursor q.view ending) (sym (same_stand c' c (view_of t) (view_of s) turned h.done.1)) (at_end options c (view_of s) ending s.released_from sound h.done.0)
+  stops_rightly options c c' s t a b (Err e) sound h turned = tt
+
+  -- how a step's fault leaves where it stands
+  fault_stands : (options : Options) (c c' : Cursor) (s t : Session D g) (a b : O) (fault : DriveFault) → c' ≡ c → IsWhyStep o (plan options c (view_of s)) s t a b fault → IsFault options (stand_of c s) (stand_of c' t) fault
+  fault_stands options c c' s t a b Device same h = same_stand c' c (view_of t) (record (view_of s) { failed = true }) same h
+  fault_stands options c c' s t a b Output same h = (h.0, same_stand c' c (view_of t) (view_of s) same h.2)
+  fault_stands options c c' s t a b OutputFull same h = (h.0, same_stand c' c (view_of t) (view_of s) same (ap view_of h.2))
+  fault_stands options c c' s t a b GenerationsUsed same h = (h.0, same_stand c' c (view_of t) (view_of s) same (ap view_of h.1))
+  fault_stands options c c' s t a b (Refused why) same h = (h.0, same_stand c' c (view_of t) (view_of s) same (ap view_of h.1))
 
   -- ONE AFTER ANOTHER
 
@@ -100,41 +195,93 @@ module _ {D O : Type 0} {g : Ghosts D} (o : Ghosts O) where
     size = w2.size ∙ w1.size;
   }
 
-  -- steps so far, of which none failed
-  pub record SoFar (s t : Session D g) (a b : O) : Type 0 where
-    pub accepted : List Event
-    pub accepts : Accepts accepted s t
-    pub writes : Writes o accepted s t a b
+  -- steps so far, of which none failed, and none was an end
+  pub record SoFar (options : Options) (made : ℕ) (c c' : Cursor) (s t : Session D g) (a b : O) : Type 0 where
+    pub did : List Progress
+    pub follows : FollowsPlan options did (stand_of c s) (stand_of c' t)
+    pub count : length did ≡ made
+    pub accepts : Accepts (events_in did) s t
+    pub writes : Writes o (events_in did) s t a b
     pub well : o.failures b ≡ o.failures a
 
-  pub so_far_nothing : (s : Session D g) (a : O) → SoFar s s a a
-  so_far_nothing s a = let accepts = accepts_kept s s refl refl in record { accepted = []; accepts = accepts; writes = writes_kept o [] s s a accepts refl; well = refl }
+  pub so_far_nothing : (options : Options) (c : Cursor) (s : Session D g) (a : O) → SoFar options 0 c c s s a a
+  so_far_nothing options c s a = let accepts = accepts_kept s s refl refl in record { did = []; follows = refl; count = refl; accepts = accepts; writes = writes_kept o [] s s a accepts refl; well = refl }
 
-  pub so_far_more : (planned r : Result Progress DriveFault) (s m u : Session D g) (a b c : O) → SoFar s m a b → Steps o planned m u b c r → o.failures c ≡ o.failures b → SoFar s u a c
-  so_far_more planned r s m u a b c h k well = record {
-    accepted = h.accepted ++ accepted_in r;
-    accepts = accepts_more h.accepted (accepted_in r) s m u h.accepts k.accepts;
-    writes = writes_more h.accepted (accepted_in r) s m u a b c h.accepts k.accepts h.writes k.writes;
+  pub so_far_more : (options : Options) (made : ℕ) (c d e : Cursor) (did : Progress) (s m u : Session D g) (x y z : O) → SoFar options made c d s m x y → IsOnward did → Steps o (plan options d (view_of m)) m u y z (Ok did)
+      → e ≡ cursor_after options did d → o.failures z ≡ o.failures y → SoFar options (made + 1) c e s u x z
+  so_far_more options made c d e did s m u x y z h on k turned well = record {
+    did = h.did ++ did ∷ [];
+    follows = subst (λ q. FollowsPlan options (h.did ++ did ∷ []) (stand_of c s) q) (sym (same_stand e (cursor_after options did d) (view_of u) (view_after did (view_of m)) turned k.done.1))
+        (follows_more options h.did did (stand_of c s) (stand_of d m) h.follows k.done.0 on);
+    count = length-append h.did (did ∷ []) ∙ ap (λ n. n + 1) h.count;
+    accepts = subst (λ (l : List Event). Accepts l s u) (sym (events_more h.did did)) (accepts_more (events_in h.did) (accepted_by did) s m u h.accepts k.accepts);
+    writes = subst (λ (l : List Event). Writes o l s u x z) (sym (events_more h.did did)) (writes_more (events_in h.did) (accepted_by did) s m u x y z h.accepts k.accepts h.writes k.writes);
     well = well ∙ h.well;
   }
 
-  pub runs_by : (law : (disk : D) (image : List ℕ) → g.is_honest disk → g.left_since disk (g.moment disk) image → IsImage (g.content disk) (g.pending disk) image)
+  module _ (law : (disk : D) (image : List ℕ) → g.is_honest disk → g.left_since disk (g.moment disk) image → IsImage (g.content disk) (g.pending disk) image)
       (output_law : (disk : O) (image : List ℕ) → o.is_honest disk → o.left_since disk (o.moment disk) image → IsImage (o.content disk) (o.pending disk) image)
-      (accepted : List Event) (s t : Session D g) (a b : O) → Accepts accepted s t → Writes o accepted s t a b → Runs o s t a b
-  runs_by law output_law accepted s t a b accepts writes = record {
-    accepted = accepted;
-    accepts = accepts;
-    writes = writes;
-    since_start = λ honest p events reps image left. since_start law accepted s t accepts honest p events reps image left;
-    output_since_start = λ honest whole p events from reps h image left. ⊎_elim
-        (λ (past : _). λ i le lt. (output_law a image (writes.honest whole) past).same i (h.durable i le lt) ∙ h.has i le lt)
-        (λ (meant : _). meant)
-        ((writes.any_moment honest whole p events from reps h).each (o.moment a) image (omega arith) left);
-  }
+      (options : Options) (steps : ℕ) where
+    runs_by : (accepted : List Event) (c e : Cursor) (s u : Session D g) (x z : O) (result : Result (Option Ending) DriveFault) → Accepts accepted s u → Writes o accepted s u x z
+        → GoesByPlan options steps accepted (stand_of c s) (stand_of e u) result → Runs o options steps c e s u x z result
+    runs_by accepted c e s u x z result accepts writes goes = record {
+      accepted = accepted;
+      accepts = accepts;
+      goes = goes;
+      writes = writes;
+      since_start = λ honest p events reps image left. since_start law accepted s u accepts honest p events reps image left;
+      output_since_start = λ honest whole p events from reps h image left. ⊎_elim
+          (λ (past : _). λ i le lt. (output_law x image (writes.honest whole) past).same i (h.durable i le lt) ∙ h.has i le lt)
+          (λ (meant : _). meant)
+          ((writes.any_moment honest whole p events from reps h).each (o.moment x) image (omega arith) left);
+    }
 
-  -- steps so far, and one more, that perhaps failed
-  pub runs_more : (law : (disk : D) (image : List ℕ) → g.is_honest disk → g.left_since disk (g.moment disk) image → IsImage (g.content disk) (g.pending disk) image)
-      (output_law : (disk : O) (image : List ℕ) → o.is_honest disk → o.left_since disk (o.moment disk) image → IsImage (o.content disk) (o.pending disk) image)
-      (planned r : Result Progress DriveFault) (s m u : Session D g) (a b c : O) → SoFar s m a b → Steps o planned m u b c r → Runs o s u a c
-  runs_more law output_law planned r s m u a b c h k = runs_by law output_law (h.accepted ++ accepted_in r) s u a c
-      (accepts_more h.accepted (accepted_in r) s m u h.accepts k.accepts) (writes_more h.accepted (accepted_in r) s m u a b c h.accepts k.accepts h.writes k.writes)
+    -- all the steps were made
+    pub runs_all : (c d : Cursor) (s m : Session D g) (x y : O) → SoFar options steps c d s m x y → Runs o options steps c d s m x y (Ok None)
+    runs_all c d s m x y h = runs_by (events_in h.did) c d s m x y (Ok None) h.accepts h.writes (record {
+      did = h.did;
+      last = stand_of d m;
+      follows = h.follows;
+      few = omega (arith, h.count);
+      took = refl;
+      why = (h.count, refl);
+      enough = λ is. absurd (cc);
+    })
+
+    -- steps so far, and then an end
+    pub runs_to_end : (made : ℕ) (c d e : Cursor) (ending : Ending) (s m u : Session D g) (x y z : O) → made < steps → SoFar options made c d s m x y → Steps o (plan options d (view_of m)) m u y z (Ok (Stopped ending))
+        → e ≡ d → IsAtEnd e (view_of u) ending → Runs o options steps c e s u x z (Ok (Some ending))
+    runs_to_end made c d e ending s m u x y z some h k same at =
+        let there = same_stand e d (view_of u) (view_of m) same k.done.1 in
+        let none = append-nil (events_in h.did) in
+        runs_by (events_in h.did) c e s u x z (Ok (Some ending))
+        (subst (λ (l : List Event). Accepts l s u) none (accepts_more (events_in h.did) [] s m u h.accepts k.accepts))
+        (subst (λ (l : List Event). Writes o l s u x z) none (writes_more (events_in h.did) [] s m u x y z h.accepts k.accepts h.writes k.writes))
+        (record {
+          did = h.did;
+          last = stand_of d m;
+          follows = h.follows;
+          few = omega (arith, h.count, some);
+          took = refl;
+          why = (k.done.0, there, at);
+          enough = enough_by options h.did (stand_of c s) (stand_of d m) ending h.follows (subst (λ (q : Stand). IsAtEnd q.cursor q.view ending) there at) (Ok (Some ending)) refl;
+        })
+
+    -- steps so far, and then one that failed
+    pub runs_to_fault : (made : ℕ) (c d e : Cursor) (fault : DriveFault) (s m u : Session D g) (x y z : O) → made < steps → SoFar options made c d s m x y → Steps o (plan options d (view_of m)) m u y z (Err fault)
+        → e ≡ d → Runs o options steps c e s u x z (Err fault)
+    runs_to_fault made c d e fault s m u x y z some h k same =
+        let none = append-nil (events_in h.did) in
+        let count : length h.did < steps = omega (arith, h.count, some) in
+        runs_by (events_in h.did) c e s u x z (Err fault)
+        (subst (λ (l : List Event). Accepts l s u) none (accepts_more (events_in h.did) [] s m u h.accepts k.accepts))
+        (subst (λ (l : List Event). Writes o l s u x z) none (writes_more (events_in h.did) [] s m u x y z h.accepts k.accepts h.writes k.writes))
+        (record {
+          did = h.did;
+          last = stand_of d m;
+          follows = h.follows;
+          few = omega (arith, count);
+          took = refl;
+          why = (count, fault_stands options d e m u y z fault same k.why);
+          enough = λ is. absurd (cc);
+        })

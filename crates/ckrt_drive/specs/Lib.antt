@@ -1,4 +1,5 @@
 pub mod Plan
 pub mod Output
 pub mod Steps
+pub mod Ends
 pub mod Runs

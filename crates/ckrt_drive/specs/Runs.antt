@@ -1,44 +1,114 @@
 -- What step after step of a drive makes of the session, of its disk, and of the output.
-use Rattle.std.specs.Prelude.{◌≡◌, ◌++◌, ℕ, List, Ok, Option, Some, None}
+use Rattle.std.specs.Prelude.{◌≡◌, ◌++◌, ◌≤◌, ◌<◌, ◌-◌, ◌^◌, ℕ, true, List, [], ◌∷◌, length, Result, Ok, Err, Option, Some, None}
 use Rattle.ckrt_disk.specs.declared.disk.Disk.{Ghosts}
 use Rattle.ckrt_events.specs.declared.event.Event.{Event}
 use Rattle.ckrt_image.specs.Programs.{Program}
 use Rattle.ckrt_recovery.specs.declared.session.Session.{Session}
 use Rattle.ckrt_recovery.specs.Between.{RecoversBetween}
 use Rattle.ckrt_recovery.specs.Represents.{Represents, acknowledged_of}
-use Rattle.ckrt_recovery.specs.View.{View}
+use Rattle.ckrt_recovery.specs.View.{View, view_of}
 use Rattle.ckrt_main.specs.Service.{Accepts}
 use Rattle.ckrt_drive.specs.declared.cursor.Cursor.{Cursor}
+use Rattle.ckrt_drive.specs.declared.fault.DriveFault.{DriveFault}
+use Rattle.ckrt_drive.specs.declared.fault.DriveFault.TheVariants.{Device, Output, OutputFull, GenerationsUsed, Refused}
 use Rattle.ckrt_drive.specs.declared.options.Options.{Options}
 use Rattle.ckrt_drive.specs.declared.progress.Ending.{Ending}
+use Rattle.ckrt_drive.specs.declared.progress.Ending.TheVariants.{Enough}
 use Rattle.ckrt_drive.specs.declared.progress.Progress.{Progress}
 use Rattle.ckrt_drive.specs.declared.progress.Progress.TheVariants.{Submitted, Committed, Checkpointed, Released, Stopped}
+use Rattle.ckrt_drive.specs.Ends.{IsEnd}
 use Rattle.ckrt_drive.specs.Output.{HasOutput, HoldsOutput, Writes, acknowledged_output}
-use Rattle.ckrt_drive.specs.Plan.{plan}
+use Rattle.ckrt_drive.specs.Plan.{cursor_after, plan}
+use Rattle.ckrt_drive.specs.Steps.{accepted_by, view_after}
+
+-- ENDS
 
 -- all events are acknowledged, and all released output is confirmed
 pub record IsAllSaved (v : View) : Type 0 where
   pub acknowledged : v.acknowledged ≡ v.recovered.count
   pub confirmed : v.recovered.confirmed ≡ v.released
 
--- at an end all is saved
-abbrev pub StopsSaved : View → Progress → Type 0
-StopsSaved v (Submitted e) = Unit {0}
-StopsSaved v Committed = Unit {0}
-StopsSaved v Checkpointed = Unit {0}
-StopsSaved v Released = Unit {0}
-StopsSaved v (Stopped ending) = IsAllSaved v
+-- at an end all is saved, and the end is what it says
+pub record IsAtEnd (c : Cursor) (v : View) (ending : Ending) : Type 0 where
+  pub saved : IsAllSaved v
+  pub is : IsEnd ending c v.recovered.state.tables
 
--- nothing more is planned, for this reason, and all is saved
-abbrev pub IsAtEnd : Options → Cursor → View → Option Ending → Type 0
-IsAtEnd o c v None = Unit {0}
-IsAtEnd o c v (Some ending) = (plan o c v ≡ Ok (Stopped ending)) × IsAllSaved v
+abbrev pub StopsRightly : Cursor → View → Progress → Type 0
+StopsRightly c v (Submitted e) = Unit {0}
+StopsRightly c v Committed = Unit {0}
+StopsRightly c v Checkpointed = Unit {0}
+StopsRightly c v Released = Unit {0}
+StopsRightly c v (Stopped ending) = IsAtEnd c v ending
 
--- From s to t, with the output from a to b, a drive made steps, whatever they answered.
-pub record Runs {D O : Type 0} {g : Ghosts D} (o : Ghosts O) (s t : Session D g) (a b : O) : Type 0 where
+-- STEP BY STEP
+
+-- where a drive stands: its cursor, and what its session shows
+pub record Stand : Type 0 where
+  pub cursor : Cursor
+  pub view : View
+
+abbrev pub stand : Cursor → View → Stand
+stand c v = record { cursor = c; view = v }
+
+abbrev pub stand_of : {D : Type 0} {g : Ghosts D} → Cursor → Session D g → Stand
+stand_of c s = stand c (view_of s)
+
+-- behind what it did
+abbrev pub stand_after : Options → Progress → Stand → Stand
+stand_after o did x = record { cursor = cursor_after o did x.cursor; view = view_after did x.view }
+
+-- it isn't an end
+abbrev pub IsOnward : Progress → Type 0
+IsOnward (Submitted e) = Unit {0}
+IsOnward Committed = Unit {0}
+IsOnward Checkpointed = Unit {0}
+IsOnward Released = Unit {0}
+IsOnward (Stopped ending) = ⊥
+
+-- From one stand to another a drive did these things, each as planned, and none of them was an end.
+abbrev pub FollowsPlan : Options → List Progress → (x y : Stand) → Type 0
+FollowsPlan o [] x y = y ≡ x
+FollowsPlan o (did ∷ more) x y = (plan o x.cursor x.view ≡ Ok did) × IsOnward did × FollowsPlan o more (stand_after o did x) y
+
+-- the events among them
+abbrev pub events_in : List Progress → List Event
+events_in [] = []
+events_in (did ∷ more) = accepted_by did ++ events_in more
+
+-- how a drive stands at y that couldn't do what is planned at x
+abbrev pub IsFault : Options → (x y : Stand) → DriveFault → Type 0
+IsFault o x y Device = y ≡ record x { view = record x.view { failed = true } }
+IsFault o x y Output = (plan o x.cursor x.view ≡ Ok Released) × (y ≡ x)
+IsFault o x y OutputFull = (plan o x.cursor x.view ≡ Ok Released) × (y ≡ x)
+IsFault o x y GenerationsUsed = (x.view.recovered.generation ≡ 2 ^ 64 - 1) × (y ≡ x)
+IsFault o x y (Refused why) = (plan o x.cursor x.view ≡ Err (Refused why)) × (y ≡ x)
+
+-- Why a drive that may make so many steps makes no more than these, behind which it stood at x: it made them all, an end is planned, or it
+-- couldn't do what is planned.
+abbrev pub IsWhyNoMore : Options → (steps made : ℕ) → (x y : Stand) → Result (Option Ending) DriveFault → Type 0
+IsWhyNoMore o steps made x y (Ok None) = (made ≡ steps) × (y ≡ x)
+IsWhyNoMore o steps made x y (Ok (Some ending)) = (plan o x.cursor x.view ≡ Ok (Stopped ending)) × (y ≡ x) × IsAtEnd y.cursor y.view ending
+IsWhyNoMore o steps made x y (Err fault) = (made < steps) × IsFault o x y fault
+
+-- From x to y a drive took these events, in at most so many steps.
+pub record GoesByPlan (o : Options) (steps : ℕ) (accepted : List Event) (x y : Stand) (result : Result (Option Ending) DriveFault) : Type 0 where
+  pub did : List Progress
+  pub last : Stand
+  pub follows : FollowsPlan o did x last
+  pub few : length did ≤ steps
+  pub took : accepted ≡ events_in did
+  pub why : IsWhyNoMore o steps (length did) last y result
+  -- it had enough where it took as many events as were left for it
+  pub enough : result ≡ Ok (Some Enough) → length accepted ≡ x.cursor.events_left
+
+-- WHAT IS LEFT
+
+-- From s to t, with the output from a to b, a drive made at most so many steps by its plan, whatever they answered.
+pub record Runs {D O : Type 0} {g : Ghosts D} (o : Ghosts O) (options : Options) (steps : ℕ) (c c' : Cursor) (s t : Session D g) (a b : O) (result : Result (Option Ending) DriveFault) : Type 0 where
   -- the events that the session took
   pub accepted : List Event
   pub accepts : Accepts accepted s t
+  pub goes : GoesByPlan options steps accepted (stand_of c s) (stand_of c' t) result
   pub writes : Writes o accepted s t a b
   -- every image that a stop left of the disk since the start
   pub since_start : g.is_honest t.disk → (p : Program) (events : List Event) → Represents p events s

@@ -5,7 +5,7 @@ ghost use Rattle.ckrt_recovery.specs.View.{view_of};
 ghost use Rattle.ckrt_drive.specs.declared.fault.DriveFault.TheVariants.{Device, Output};
 ghost use Rattle.ckrt_drive.specs.Plan.{cursor_at_start, cursor_after, plan};
 ghost use Rattle.ckrt_drive.specs.Steps.{IsSound, Steps};
-ghost use Rattle.ckrt_drive.specs.Runs.{IsAtEnd, Runs, StopsSaved};
+ghost use Rattle.ckrt_drive.specs.Runs.{Runs, StopsRightly};
 
 use crate::cursor::Cursor;
 use crate::fault::DriveFault;
@@ -51,7 +51,7 @@ impl<D: Disk, O: Disk> Drive<D, O> {
         ensures options { self.new.options ≡ self.old.options }
         ensures cursor { IfOk result (λ did. self.new.cursor ≡ cursor_after self.old.options did self.old.cursor) }
         ensures kept { OnErr result (self.new.cursor ≡ self.old.cursor) }
-        ensures saved { IfOk result (StopsSaved (view_of self.new.session)) }
+        ensures ends { IfOk result (StopsRightly self.new.cursor (view_of self.new.session)) }
     {
         step(
             &mut self.session,
@@ -61,15 +61,14 @@ impl<D: Disk, O: Disk> Drive<D, O> {
         )
     }
 
-    /// Makes so many steps at most, and answers the end, if it came to one: then nothing more is planned.
+    /// Makes so many steps, or as many as there are before an end, which it answers, or a fault.
     pub fn run(&mut self, steps: u64) -> Result<Option<Ending>, DriveFault>
-        ensures runs { Runs O.Disk self.old.session self.new.session self.old.output self.new.output }
-        ensures ended { IfOk result (IsAtEnd self.new.options self.new.cursor (view_of self.new.session)) }
+        ensures runs { Runs O.Disk self.old.options steps self.old.cursor self.new.cursor self.old.session self.new.session self.old.output self.new.output result }
         ensures options { self.new.options ≡ self.old.options }
         ensures device { IfErr result (λ fault. fault ≡ Device → self.new.session.failed ≡ true) }
         ensures output { IfErr result (λ fault. fault ≡ Output → HasFailed (O.failures self.old.output) (O.failures self.new.output)) }
     {
-        for _ in 0..steps {
+        for made in 0..steps {
             if let Progress::Stopped(ending) = self.step()? {
                 return Ok(Some(ending));
             }

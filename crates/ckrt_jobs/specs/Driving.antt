@@ -1,5 +1,5 @@
 -- The drive of a disk, with its output in a disk of its own: from the words' options to the ending.
-use Rattle.std.specs.Prelude.{◌≡◌, ◌⊎◌, ◌-◌, ◌^◌, ◌&&◌, ℕ, nat_lt, nat_le, Bool, true, false, List, Option, Some, None, Result, Ok, Err, IfOk, IfErr}
+use Rattle.std.specs.Prelude.{◌≡◌, ◌⊎◌, ◌-◌, ◌^◌, ◌&&◌, ℕ, nat_lt, nat_le, Bool, true, false, List, Option, Some, None, Result, Ok, Err, IfErr}
 use Rattle.ckrt_disk.specs.Disk.{HasFailed}
 use Rattle.ckrt_disk.specs.declared.disk.Disk.{Ghosts}
 use Rattle.ckrt_events.specs.declared.event.Event.{Event}
@@ -12,11 +12,14 @@ use Rattle.ckrt_recovery.specs.Opening.{IsSyncedAndRead}
 use Rattle.ckrt_recovery.specs.Represents.{Represents}
 use Rattle.ckrt_recovery.specs.View.{opened as opened_view, view_of}
 use Rattle.ckrt_recovery.specs.declared.session.Session.{Session}
-use Rattle.ckrt_drive.specs.Runs.{IsAtEnd, Runs}
+use Rattle.ckrt_calls.specs.declared.table.Status.{Status}
+use Rattle.ckrt_drive.specs.Plan.{cursor_at_start}
+use Rattle.ckrt_drive.specs.Runs.{Runs}
 use Rattle.ckrt_drive.specs.declared.cursor.Cursor.{Cursor}
 use Rattle.ckrt_drive.specs.declared.fault.DriveFault.{DriveFault}
-use Rattle.ckrt_drive.specs.declared.fault.DriveFault.TheVariants.{Device, Output}
+use Rattle.ckrt_drive.specs.declared.fault.DriveFault.TheVariants.{Output}
 use Rattle.ckrt_drive.specs.declared.options.Options.{Options}
+use Rattle.ckrt_drive.specs.declared.progress.Ending.{Ending}
 use Rattle.ckrt_words.specs.Jobs.{Driving}
 use Rattle.ckrt_jobs.specs.Openings.{Openings, opened, refused}
 use Rattle.ckrt_jobs.specs.declared.driven.Driven.{Driven}
@@ -44,13 +47,19 @@ pub record IsAsked (j : Driving) (o : Options) : Type 0 where
 
 -- THE SESSION
 
--- From s to t, with its output from a to b, a session was driven.
+-- what a drive came to where its run answered so, and the program stands so
+abbrev pub driven_of : Status → Result (Option Ending) DriveFault → Result Driven DriveFault
+driven_of status (Ok ending) = Ok (record { ending = ending; status = status })
+driven_of status (Err fault) = Err fault
+
+-- From s to t, with its output from a to b, a session was driven: from the first round on, by the plan, up to an end.
 pub record DrivesSession {D O : Type 0} {g : Ghosts D} (o : Ghosts O) (options : Options) (s t : Session D g) (a b : O) (answer : Result Driven DriveFault) : Type 0 where
-  -- what every stop left, what was acknowledged, and what the output holds
-  pub runs : Runs o s t a b
-  -- its ending is the plan's where the drive stands then, and the program stands as it says
-  pub ended : IfOk answer (λ e. (cursor : Cursor) × IsAtEnd options cursor (view_of t) e.ending × (e.status ≡ t.progress.machine.state.tables.status))
-  pub device : IfErr answer (λ fault. fault ≡ Device → t.failed ≡ true)
+  pub ran : Result (Option Ending) DriveFault
+  pub cursor : Cursor
+  -- what it did, what every stop left, what was acknowledged, and what the output holds
+  pub runs : Runs o options (2 ^ 64 - 1) (cursor_at_start options) cursor s t a b ran
+  -- the program stands as it says
+  pub gives : answer ≡ driven_of t.progress.machine.state.tables.status ran
   pub output : IfErr answer (λ fault. fault ≡ Output → HasFailed (o.failures a) (o.failures b))
 
 -- THE FILES

@@ -1,15 +1,16 @@
 //! Driving a disk.
 ghost use Rattle.std.specs.Prelude.{◌≡◌, IfSome, IfErr, IfOk, None, OnOk, false, true};
 ghost use Rattle.ckrt_words.specs.Jobs.{driving_of};
-ghost use Rattle.ckrt_jobs.specs.Driving.{DrivesDisk, DrivesOnto, DrivesOpened, DrivesPath, DrivesRecovered, DrivesSession, IsAsked, is_in_range};
+ghost use Rattle.ckrt_jobs.specs.Driving.{DrivesDisk, DrivesOnto, DrivesOpened, DrivesPath, DrivesRecovered, DrivesSession, IsAsked, driven_of, is_in_range};
 ghost use Rattle.ckrt_jobs.specs.Openings.{opened, refused};
 
 use crate::driven::Driven;
 use crate::fault::JobFault;
 use crate::file::JobFile;
 use crate::sources::Sources;
+use ckrt_calls::Status;
 use ckrt_disk::Disk;
-use ckrt_drive::{Drive, DriveFault, Options};
+use ckrt_drive::{Drive, DriveFault, Ending, Options};
 use ckrt_recovery::{Session, recover};
 use ckrt_words::DriveJob;
 use std::alloc::Global;
@@ -41,6 +42,19 @@ fn options_of(job: &DriveJob<'_>) -> Options
     Options::new(job.turn as u16, job.rounds, job.events.unwrap_or(u64::MAX))
 }
 
+/// What a drive came to where its run answered so, and the program stands so.
+fn driven_of(
+    status: Status,
+    answer: Result<Option<Ending>, DriveFault>,
+) -> Result<Driven, DriveFault>
+    ensures { result ≡ driven_of status answer }
+{
+    match answer {
+        Ok(ending) => Ok(Driven { ending, status }),
+        Err(fault) => Err(fault),
+    }
+}
+
 /// Drives a session, with its output in a disk of its own.
 fn drive_session<D: Disk>(session: Session<D>, output: D, options: Options) -> Undertaken<D>
     ensures { DrivesSession D.Disk options session result.session output result.output result.driven }
@@ -49,10 +63,7 @@ fn drive_session<D: Disk>(session: Session<D>, output: D, options: Options) -> U
     let answer = drive.run(u64::MAX);
     let status = drive.session().machine().status();
     let (session, output) = drive.into_parts();
-    let driven = match answer {
-        Ok(ending) => Ok(Driven { ending, status }),
-        Err(fault) => Err(fault),
-    };
+    let driven = driven_of(status, answer);
     Undertaken {
         session,
         output,
