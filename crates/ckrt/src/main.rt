@@ -1,7 +1,7 @@
 //! Checkpoint and restart of pthread programs: does what its words ask for, on standard input, output and error.
 #![tactic(auto)]
 
-use ckrt_jobs::{WrittenReport, run_words};
+use ckrt_jobs::{SystemSources, WrittenReport, run_words};
 use std::env;
 use std::io::{self, ErrorKind};
 use std::process::ExitCode;
@@ -9,9 +9,9 @@ use std::process::ExitCode;
 /// The job of these words on the standard streams; the answer is the program's status.
 fn run(rt: &HostRuntime, words: &[&str]) -> u8 {
     run_words(
-        rt,
         rt.alloc(),
         words,
+        &mut SystemSources::new(rt),
         &mut rt.reader(),
         &mut io::writer(rt),
         &mut WrittenReport::new(rt.stderr()),

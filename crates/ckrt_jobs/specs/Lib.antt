@@ -3,6 +3,7 @@ pub mod Ends
 pub mod Making
 pub mod Names
 pub mod Openings
+pub mod Files
 pub mod Outcomes
 pub mod Performing
 pub mod Printing

@@ -16,7 +16,7 @@ use Rattle.ckrt_words.specs.declared.job.WordsFault.TheVariants as words
 use Rattle.ckrt_jobs.specs.Driving.{DrivesPath}
 use Rattle.ckrt_jobs.specs.Ends.{end_line}
 use Rattle.ckrt_jobs.specs.Making.{Makes}
-use Rattle.ckrt_jobs.specs.Openings.{Openings, opened, refused, unopened}
+use Rattle.ckrt_jobs.specs.Openings.{Openings, opened, refused}
 use Rattle.ckrt_jobs.specs.Outcomes.{config_of, disk_of, made_line, status_of, status_of_words, version_line}
 use Rattle.ckrt_jobs.specs.Reports.{report_of, words_report_of}
 use Rattle.ckrt_jobs.specs.Running.{RunsDisk}
@@ -161,6 +161,6 @@ RunsWords d ws known Opens Fills Outputs old new a b r s said_before said_after 
     ⊎ RefusesWords ws old new a b r s said_before said_after has_failed status
 
 -- the same with files of the system, of which nothing is known but what was asked for last, and how that was opened
-pub record RunsOnFiles {D : Type 0} (d : Ghosts D) (ws : List (List ℕ)) (a b r s said_before said_after : Option (List ℕ)) (has_failed : Bool) (status : ℕ) : Type 0 where
-  pub openings : Openings D
-  pub runs : RunsWords d ws (λ _. None) (λ _ _. Unit {0}) (λ _ _ _. Unit {0}) (λ _ _. Unit {0}) unopened openings a b r s said_before said_after has_failed status
+abbrev pub RunsOnFiles : {D : Type 0} → Ghosts D → (ws : List (List ℕ)) → (old new : Openings D) → (a b r s said_before said_after : Option (List ℕ)) → Bool → ℕ → Type 0
+RunsOnFiles d ws old new a b r s said_before said_after has_failed status =
+    RunsWords d ws (λ _. None) (λ _ _. Unit {0}) (λ _ _ _. Unit {0}) (λ _ _. Unit {0}) old new a b r s said_before said_after has_failed status

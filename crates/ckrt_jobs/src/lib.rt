@@ -26,9 +26,9 @@
 //! nothing is written with a fault but Write.
 //!
 //! Proved of `drive`: numbers out of their ranges are the fault Range, before anything is opened; the output is asked for
-//! only once the disk is recovered; the session that its content recovers to was driven as `ckrt_drive` says, with the
-//! options of the words; the ending is the plan's where the drive stands then, and the program's status the session's; and
-//! disk and output are closed as the drive left them.
+//! only once the disk is recovered; the session that its content recovers to was driven as `ckrt_drive` says, step by step
+//! from the first round up to an end, with the options of the words; the program's status is the session's; and disk and
+//! output are closed as the drive left them.
 //!
 //! Proved of [`run_words_with`]: its outcome is the one that the words ask for, and the status is that outcome's: for
 //! `format` that of making the disk of DISK with the image of IMAGE, and then the line `formatted SIZE`; for `run` that of
@@ -39,7 +39,8 @@
 //! where the words name none; the disk is closed as its job left it. A disk that can't be opened is a fault of File with
 //! what its sources said of that path. For each fault the line in plain words, with the path of the file, and the line with
 //! its name were reported exactly, or the reporter failed. The status is 2 never for no words, nor for words that `clap`
-//! takes. [`run_words`] says the same of some disk of the system for each path.
+//! takes. [`run_words`] says the same of some disk of the system for each path, and of the files that it was handed, what
+//! they were asked for last.
 //!
 //! Proved of the files of the system: none that is opened has the descriptor of a standard stream. Filling writes nothing
 //! below the length that a file tells.
@@ -79,3 +80,4 @@ pub use reporter::{Reporter, Unsaid, WrittenReport};
 pub use running::{Unserved, run_disk};
 pub use showing::inspect_disk;
 pub use sources::Sources;
+pub use system::{SystemDisk, SystemSources};

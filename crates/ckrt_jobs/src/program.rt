@@ -5,6 +5,7 @@ ghost use Rattle.clap.specs.Words.{takes};
 ghost use Rattle.ckrt_checkpoint.specs.Layout.{size_needed};
 ghost use Rattle.ckrt_words.specs.Commands.{ckrt_app};
 ghost use Rattle.ckrt_words.specs.Jobs.{Formatting, Request, format, version, formatting_of, inspection_of, request_of, request_of_words};
+ghost use Rattle.ckrt_jobs.specs.Files.{openings_of};
 ghost use Rattle.ckrt_jobs.specs.Outcomes.{config_of, made_line, version_line};
 ghost use Rattle.ckrt_jobs.specs.Performing.{MakesPath, Performs, RunsOnFiles, RunsOpened, RunsPath, RunsWords, ServesStored, ShowsOpened, ShowsPath, outcome_with_end, outcome_without_end};
 
@@ -19,18 +20,14 @@ use crate::running::run_disk;
 use crate::showing::inspect_disk;
 use crate::sources::Sources;
 use crate::stored;
-use crate::system::SystemSources;
-use ckrt_disk::{Disk, FileDisk, SystemFile};
+use crate::system::{SystemDisk, SystemSources};
+use ckrt_disk::Disk;
 use ckrt_main::serve_image;
 use ckrt_recovery::Config;
 use ckrt_words::{FormatJob, InspectJob, Job, read_words};
 use std::alloc::Global;
 use std::fs::{File, Files};
 use std::io::{Read, Write};
-use std::marker::Brand;
-
-/// A disk that is a file of the system.
-type SystemDisk = FileDisk<SystemFile<Brand>>;
 
 /// Makes the disk of a job, and says how many bytes it needs.
 fn make<'a, I: Read + Drop, D: Disk, S: Sources<'a, I, D>, W: Write>(
@@ -216,29 +213,23 @@ pub fn run_words_with<
 
 /// Does what the words after the program's name ask for, with images and disks that are files of the system, as
 /// [`run_words_with`] says.
-pub fn run_words<F: Files<File = File>, R: Read, W: Write, E: Reporter>(
-    rt: &F,
+pub fn run_words<'a, F: Files<File = File>, R: Read, W: Write, E: Reporter>(
     alloc: Global,
-    words: &[&str],
+    words: &'a [&'a str],
+    sources: &mut SystemSources<'a, F, SystemDisk>,
     reader: &mut R,
     writer: &mut W,
     reporter: &mut E,
 ) -> u8
     ensures bound { result ≤ 4 }
-    ensures asked { result ≡ 0 → (r : Request) × (request_of_words (map (λ s. s.now) words.now) ≡ Some r) }
-    ensures made { result ≡ 0 → (f : Formatting) → request_of_words (map (λ s. s.now) words.now) ≡ Some (format f) → Appends (W.contents writer.old) (W.contents writer.new) (made_line f) }
-    ensures version { result ≡ 0 → request_of_words (map (λ s. s.now) words.now) ≡ Some version → Appends (W.contents writer.old) (W.contents writer.new) version_line }
-    ensures usage { result ≡ 2 → takes ckrt_app (map (λ s. s.now) words.now) ≢ true }
-    ensures stored { result ≡ 2 → words.now ≢ [] }
-    ensures outcome { RunsOnFiles ⟦<FileDisk<SystemFile<Brand>> as Disk>⟧ (map (λ s. s.now) words.now) (W.contents writer.old) (W.contents writer.new) (R.remaining reader.old) (R.remaining reader.new) (E.said reporter.old) (E.said reporter.new) (E.has_failed reporter.new) result }
+    ensures asked { result ≡ 0 → (r : Request) × (request_of_words (map (λ s. s.now) words.entry.now) ≡ Some r) }
+    ensures made { result ≡ 0 → (f : Formatting) → request_of_words (map (λ s. s.now) words.entry.now) ≡ Some (format f) → Appends (W.contents writer.old) (W.contents writer.new) (made_line f) }
+    ensures version { result ≡ 0 → request_of_words (map (λ s. s.now) words.entry.now) ≡ Some version → Appends (W.contents writer.old) (W.contents writer.new) version_line }
+    ensures usage { result ≡ 2 → takes ckrt_app (map (λ s. s.now) words.entry.now) ≢ true }
+    ensures stored { result ≡ 2 → words.entry.now ≢ [] }
+    ensures outcome { RunsOnFiles ⟦<SystemDisk as Disk>⟧ (map (λ s. s.now) words.entry.now) (openings_of sources.old) (openings_of sources.new) (W.contents writer.old) (W.contents writer.new) (R.remaining reader.old) (R.remaining reader.new) (E.said reporter.old) (E.said reporter.new) (E.has_failed reporter.new) result }
 {
-    let mut sources = SystemSources::new(rt);
-    run_words_with::<File, SystemDisk, SystemSources<'_, F, SystemDisk>, R, W, E>(
-        alloc,
-        words,
-        &mut sources,
-        reader,
-        writer,
-        reporter,
+    run_words_with::<File, SystemDisk, SystemSources<'a, F, SystemDisk>, R, W, E>(
+        alloc, words, sources, reader, writer, reporter,
     )
 }

@@ -1,8 +1,8 @@
 //! Disks and images that are files of the system.
 ghost use Rattle.std.specs.Prelude.{◌≡◌, None, IfOk, IfErr};
-ghost use Rattle.ckrt_jobs.specs.Openings.{kept_opening};
+ghost use Rattle.ckrt_jobs.specs.Files.{openings_of};
+ghost use Rattle.ckrt_jobs.specs.Openings.{unopened};
 ghost use Rattle.ckrt_jobs.specs.Streams.{IsBesideStreams};
-ghost use Rattle.ckrt_jobs.specs.declared.file.LastOpening.TheVariants.{Unasked};
 
 use crate::file::{FileFault, LastOpening};
 use crate::filling::fill_up;
@@ -10,6 +10,7 @@ use crate::sources::Sources;
 use ckrt_disk::{FileDisk, Holds, SystemFile};
 use std::fs::{File, Files, OpenOptions};
 use std::io;
+use std::marker::Brand;
 use std::os::fd::AsRawFd;
 use std::snapshot::Snapshot;
 
@@ -164,9 +165,12 @@ fn open_filled_disk<R: Files<File = File>, H: Holds>(
     disk_of(file)
 }
 
+/// A disk that is a file of the system.
+pub type SystemDisk = FileDisk<SystemFile<Brand>>;
+
 /// The files of the system. A disk or an output that is given back is closed.
 #[derive(Drop)]
-pub(crate) struct SystemSources<'a, R, D> {
+pub struct SystemSources<'a, R, D> {
     rt: &'a R,
     image: LastOpening<'a>,
     disk: LastOpening<'a>,
@@ -177,12 +181,8 @@ pub(crate) struct SystemSources<'a, R, D> {
 
 impl<'a, R, D> SystemSources<'a, R, D> {
     /// The files of the system, of which none was asked for.
-    pub(crate) fn new(rt: &'a R) -> SystemSources<'a, R, D>
-        ensures image { result.image ≡ Unasked }
-        ensures disk { result.disk ≡ Unasked }
-        ensures output { result.output ≡ Unasked }
-        ensures closed { result.closed.value ≡ None }
-        ensures closed_output { result.closed_output.value ≡ None }
+    pub fn new(rt: &'a R) -> SystemSources<'a, R, D>
+        ensures { openings_of result ≡ unopened }
     {
         SystemSources {
             rt,
@@ -199,7 +199,7 @@ impl<'a, R: Files<File = File>, H: Holds> Sources<'a, File, FileDisk<SystemFile<
     for SystemSources<'a, R, FileDisk<SystemFile<H>>> {
     ghost image_bytes = { λ _ _. None };
 
-    ghost openings = { λ s. record { image = kept_opening s.image; disk = kept_opening s.disk; output = kept_opening s.output; closed = s.closed.value; closed_output = s.closed_output.value } };
+    ghost openings = { openings_of };
 
     ghost opens = { λ _ _ _. Unit {0} };
 

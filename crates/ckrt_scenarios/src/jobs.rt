@@ -1,6 +1,6 @@
 use crate::expect::{expect_eq, expect_eq_at, filled, remove_file, write_file};
 use crate::small_disk::IMAGE;
-use ckrt_jobs::{WrittenReport, run_words};
+use ckrt_jobs::{SystemSources, WrittenReport, run_words};
 use std::fs::{self, File, Files};
 use std::io::{self, Write};
 use std::process::Abort;
@@ -75,9 +75,9 @@ pub fn ckrt<R: Abort + Files<File = File> + AllocGlobal>(
     let mut output = Buffered::new(rt);
     let mut reporter = WrittenReport::new(Buffered::new(rt));
     let status = run_words(
-        rt,
         rt.alloc(),
         words.as_slice(),
+        &mut SystemSources::new(rt),
         &mut reader,
         &mut output,
         &mut reporter,
