@@ -1,10 +1,11 @@
 """Measures checkpoints and recoveries of real disks, alternating with what they are measured beside, and prints ratios.
 
 Words: the plain program, `ckrt`, `ckrt_probe`, the folder of the guests, the folder of the disks, and jobs (`checkpoints`,
-`recovery`, `power-on`, `resident`, `inspect`; all, if none is named).
+`changed`, `recovery`, `power-on`, `resident`, `inspect`; all, if none is named).
 
 checkpoints: on disks of 64, 256 and 1,024 pages, of all of them, beside the same reads, writes and syncs in plain Rust. Each program has a
-disk of its own; after all rounds the two are compared byte by byte. recovery: of such disks with an empty journal, in a new
+disk of its own; after all rounds the two are compared byte by byte. changed: the same on a disk of 1,024 pages, of which four, or none,
+have changed since the last checkpoint into the same area. recovery: of such disks with an empty journal, in a new
 process each time, beside the same sync and reading the same bytes into new memory. power-on: from the start of `ckrt run` to
 its first reply, on a disk of 64 pages whose journal of 1,048,576 bytes has no room for another batch of Runs, beside reading the disk's
 bytes and the machine alone with as many Runs. resident: of `ckrt run` with 1,024 pages, after an event, a commit and two
@@ -35,6 +36,10 @@ RUNS = 1_024
 GUEST = "nqueens-big"
 # Its first thread owns 201 mutexes, and 61 of the other 63 wait for one, once each has had a turn with one of the first between.
 CROWD, TURNS = "locks-crowded", 128
+# A round of its one thread has nine steps, and stores into four pages.
+STORES, STORES_ROUND = "stores-4", 9
+# Checkpoints of one process; each is fast, and the first ones are whole.
+CHANGES = 21
 MAPPED_LIMIT = 4_096 + 1_280
 
 
@@ -47,7 +52,7 @@ def run(command, lines=""):
 class Bench:
     def __init__(self, plain, ckrt, probe, guests, folder):
         self.plain, self.ckrt, self.probe, self.folder = plain, ckrt, probe, folder
-        self.image, self.crowd = (os.path.join(guests, name + ".bin") for name in (GUEST, CROWD))
+        self.image, self.crowd, self.stores = (os.path.join(guests, name + ".bin") for name in (GUEST, CROWD, STORES))
 
     def format_disk(self, name, pages, journal=4_096, image=None):
         """A disk that was just formatted."""
@@ -57,27 +62,41 @@ class Bench:
         run([self.ckrt, "format", path, image or self.image, "--pages", str(pages), "--journal", str(journal)])
         return path
 
-    def checkpoint_times(self, program, path, count):
-        return [int(word) for word in run([program, "checkpoint", path, str(count)])[1].split()]
+    def checkpoint_times(self, program, job, path, count):
+        return [int(word) for word in run([program, job, path, str(count)])[1].split()]
+
+    def alternate(self, what, job, disks, count):
+        """Checkpoints of one job in turns, `count` of each process; then the disks have to be the same."""
+        programs, times = (self.plain, self.probe), ([], [])
+        for program, disk in zip(programs, disks):
+            self.checkpoint_times(program, job, disk, WARM_UP)
+        for turn in range(ROUNDS):
+            for k in (0, 1) if turn % 2 == 0 else (1, 0):
+                times[k].append(statistics.median(self.checkpoint_times(programs[k], job, disks[k], count)))
+        self.report(what, times[1], times[0])
+        contents = []
+        for disk in disks:
+            with open(disk, "rb") as file:
+                contents.append(file.read())
+            os.remove(disk)
+        if contents[0] != contents[1]:
+            sys.exit("the two disks differ")
 
     def checkpoints(self):
         for pages in PAGES:
-            programs = (self.plain, self.probe)
             disks = [self.format_disk(f"checkpoint_{k}.disk", pages) for k in (0, 1)]
-            for program, disk in zip(programs, disks):
-                self.checkpoint_times(program, disk, WARM_UP)
-            times = ([], [])
-            for turn in range(ROUNDS):
-                for k in (0, 1) if turn % 2 == 0 else (1, 0):
-                    times[k].append(statistics.median(self.checkpoint_times(programs[k], disks[k], CHECKPOINTS)))
-            self.report(f"checkpoint of {pages} pages", times[1], times[0])
-            contents = []
-            for disk in disks:
-                with open(disk, "rb") as file:
-                    contents.append(file.read())
-                os.remove(disk)
-            if contents[0] != contents[1]:
-                sys.exit("the two disks differ")
+            self.alternate(f"checkpoint of {pages} pages", "checkpoint", disks, CHECKPOINTS)
+
+    def stores_disk(self, name):
+        """A disk on which the guest has made a round, and is at the beginning of the next."""
+        disk = self.format_disk(name, 1_024, image=self.stores)
+        run([self.ckrt, "run", disk], f"place 0 1\nrun 0 {STORES_ROUND}\ncheckpoint\n")
+        return disk
+
+    def changed(self):
+        for job, what in (("changed", "4 changed pages of 1024"), ("unchanged", "no changed page of 1024")):
+            disks = [self.stores_disk(f"changed_{k}.disk") for k in (0, 1)]
+            self.alternate(f"checkpoint of {what}", job, disks, CHANGES)
 
     def recovery(self):
         for pages in PAGES:
@@ -182,7 +201,7 @@ class Bench:
               f"ratio {middle:.3f} ({low:.3f} to {high:.3f})", flush=True)
 
 
-JOBS = {"checkpoints": Bench.checkpoints, "recovery": Bench.recovery, "power-on": Bench.power_on,
+JOBS = {"checkpoints": Bench.checkpoints, "changed": Bench.changed, "recovery": Bench.recovery, "power-on": Bench.power_on,
         "resident": Bench.resident, "inspect": Bench.inspect}
 
 

@@ -1,12 +1,15 @@
-"""Writes the guests that measure calls: locks-4.bin, plain-4.bin (the same without its calls) and locks-crowded.bin.
+"""Writes the guests that measure calls: locks-4.bin, plain-4.bin (the same without its calls) and locks-crowded.bin; and
+stores-4.bin, which measures checkpoints of changed pages.
 
 Each of four threads makes ROUNDS rounds of: lock, eight additions, unlock. In plain-4 an addition stands in the place
-of each ECALL. In locks-crowded 200 other mutexes are owned and 60 threads wait for one of them.
+of each ECALL. In locks-crowded 200 other mutexes are owned and 60 threads wait for one of them. In stores-4 one thread
+goes round for ever: each round of STORES_ROUND steps stores the address of each of four pages into its first word.
 """
 import os
 import struct
 
 ROUNDS = 400_000
+STORES_ROUND = 9
 
 
 class Program:
@@ -147,11 +150,25 @@ def crowded():
     return program.image()
 
 
+def stores():
+    program = Program()
+    program.label("round")
+    for page in range(2, 6):
+        program.lui(5, page)
+        # sw x5, 0(x5)
+        program.emit(lambda at: 5 << 20 | 5 << 15 | 2 << 12 | 0x23)
+    program.emit(lambda at: jump(at, program.labels["round"]))
+    assert len(program.words) == STORES_ROUND
+    return program.image()
+
+
 def main():
     guests = os.path.join(os.path.dirname(os.path.abspath(__file__)), "guests")
-    for name, image in (("locks-4", four(True)), ("plain-4", four(False)), ("locks-crowded", crowded())):
+    images = {"locks-4": four(True), "plain-4": four(False), "locks-crowded": crowded(), "stores-4": stores()}
+    for name, image in images.items():
         with open(os.path.join(guests, name + ".bin"), "wb") as file:
             file.write(image)
 
 
-main()
+if __name__ == "__main__":
+    main()

@@ -1,7 +1,7 @@
 //! Checkpoint and restart of pthread programs: does what its words ask for, on standard input, output and error.
 #![tactic(auto)]
 
-use ckrt_jobs::{SystemSources, WrittenReport, run_words};
+use ckrt_jobs::{SystemMeter, SystemSources, WrittenReport, run_words};
 use std::env;
 use std::io::{self, ErrorKind};
 use std::process::ExitCode;
@@ -15,6 +15,7 @@ fn run(rt: &HostRuntime, words: &[&str]) -> u8 {
         &mut rt.reader(),
         &mut io::writer(rt),
         &mut WrittenReport::new(rt.stderr()),
+        &mut SystemMeter::new(rt),
     )
 }
 

@@ -17,7 +17,7 @@ use Rattle.ckrt_drive.specs.declared.progress.Ending.TheVariants.{Ended, WaitsFo
 use Rattle.ckrt_drive.specs.declared.plan.Next.{Next}
 use Rattle.ckrt_drive.specs.declared.plan.Next.TheVariants.{End}
 use Rattle.ckrt_drive.specs.Ends.{IsStuck, IsRead, IsUnread, IsEnd}
-use Rattle.ckrt_drive.specs.Plan.{is_busy, busy_from, next_busy, sooner, earliest_deadline, idle_until, round_end, turn_of, next_running, next}
+use Rattle.ckrt_drive.specs.Plan.{is_busy, busy_from, next_busy, sooner, earliest_deadline, idle_until, round_end, turn_of, hart_by, steps_by, next_turn, next_running, next}
 
 -- SEARCHES THAT FIND NOTHING
 
@@ -108,13 +108,13 @@ at_round_end : (o : Option ℕ) (s : Tables) (ending : Ending) → round_end o s
 at_round_end (Some h) s ending e = absurd (cc)
 at_round_end None s ending e = (refl, e)
 
-at_turn : (h : Option ℕ) (o : Options) (s : Tables) (ending : Ending) → turn_of h o s ≡ End ending → round_end (next_busy 0 s) s ≡ End ending
-at_turn (Some h) o s ending e = absurd (cc)
-at_turn None o s ending e = e
+at_turn : (h : Option ℕ) (n : ℕ) (s : Tables) (ending : Ending) → turn_of h n s ≡ End ending → round_end (next_busy 0 s) s ≡ End ending
+at_turn (Some h) n s ending e = absurd (cc)
+at_turn None n s ending e = e
 
-at_running : (b : Bool) (n m : Next) (ending : Ending) → (m ≡ End ending → ⊥) → (if b then m else n) ≡ End ending → n ≡ End ending
-at_running true n m ending never e = absurd (never e)
-at_running false n m ending never e = e
+at_running : (placed : Option ℕ) (o : Options) (c : Cursor) (s : Tables) (ending : Ending) → next_turn placed o c s ≡ End ending → round_end (next_busy 0 s) s ≡ End ending
+at_running (Some h) o c s ending e = absurd (cc)
+at_running None o c s ending e = at_turn (hart_by c.lot c.turn s) (steps_by c.lot o.turn) s ending e
 
 -- STUCK
 
@@ -155,7 +155,7 @@ end_running true o c s ending none running e =
     let is : Enough ≡ ending = cc in
     subst (λ x. IsEnd x c s) is (running, grind (arith, nat_tests))
 end_running false o c s ending none running e =
-    end_idle c s ending running (at_turn (next_busy c.hart s) o s ending (at_running c.is_placed (turn_of (next_busy c.hart s) o s) _ ending (λ no. absurd (cc)) e))
+    end_idle c s ending running (at_running c.placed o c s ending e)
 
 end_by : (b : Bool) (o : Options) (c : Cursor) (s : Tables) (ending : Ending) → is_running s.status ≡ b → (if b then (if c.events_left == 0 then End Enough else next_running o c s) else End Ended) ≡ End ending → IsEnd ending c s
 end_by true o c s ending running e = end_running (c.events_left == 0) o c s ending refl running e

@@ -6,6 +6,7 @@ use Rattle.ckrt_disk.specs.Disk.{IsImage}
 use Rattle.ckrt_disk.specs.declared.disk.Disk.{Ghosts}
 use Rattle.ckrt_disk.proofs.Moments.{weaker, goes_on}
 use Rattle.ckrt_events.specs.declared.event.Event.{Event}
+use Rattle.ckrt_machine.specs.declared.event.Answer.{Answer}
 use Rattle.ckrt_events.specs.declared.event.Event.TheVariants.{Place, Run, Tick, Input, Eof}
 use Rattle.ckrt_image.specs.Recovery.{room_of}
 use Rattle.ckrt_machine.specs.Runs.{is_running}
@@ -16,6 +17,7 @@ use Rattle.ckrt_main.specs.Service.{Accepts}
 use Rattle.ckrt_main.proofs.AcceptLemmas.{accepts_kept, accepts_more, since_start}
 use Rattle.ckrt_drive.specs.declared.cursor.Cursor.{Cursor}
 use Rattle.ckrt_drive.specs.declared.options.Options.{Options}
+use Rattle.ckrt_drive.specs.declared.lot.Lot.{Lot}
 use Rattle.ckrt_drive.specs.declared.plan.Next.{Next}
 use Rattle.ckrt_drive.specs.declared.plan.Next.TheVariants.{Submit, End}
 use Rattle.ckrt_drive.specs.declared.fault.DriveFault.{DriveFault}
@@ -24,7 +26,7 @@ use Rattle.ckrt_drive.specs.declared.progress.Ending.{Ending}
 use Rattle.ckrt_drive.specs.declared.progress.Ending.TheVariants.{Ended, Enough}
 use Rattle.ckrt_drive.specs.declared.progress.Progress.{Progress}
 use Rattle.ckrt_drive.specs.declared.progress.Progress.TheVariants.{Submitted, Committed, Checkpointed, Released, Stopped}
-use Rattle.ckrt_drive.specs.Plan.{after_event, cursor_after, is_shortage, next, next_running, offered, plan, plan_for, save}
+use Rattle.ckrt_drive.specs.Plan.{after_event, behind_turn, cursor_after, is_shortage, next, next_running, offered, plan, plan_for, save}
 use Rattle.ckrt_drive.specs.Output.{HasOutput, HoldsOutput, Writes, acknowledged_output}
 use Rattle.ckrt_drive.specs.Runs.{FollowsPlan, GoesByPlan, IsAtEnd, IsFault, IsOnward, Runs, Stand, StopsRightly, events_in, stand, stand_after, stand_of}
 use Rattle.ckrt_drive.specs.Steps.{IsSound, IsWhyStep, Steps, accepted_by, view_after}
@@ -80,11 +82,11 @@ at_end o c v ending le sound is =
 
 -- an event is planned only where one is left
 abbrev pub IsNoEvent : Result Progress DriveFault → Type 0
-IsNoEvent planned = (e : Event) → planned ≡ Ok (Submitted e) → ⊥
+IsNoEvent planned = (e : Event) (answer : Answer) → planned ≡ Ok (Submitted e answer) → ⊥
 
 no_event_by : (b : Bool) → IsNoEvent (Ok (if b then Checkpointed else Committed))
-no_event_by true = λ e is. absurd (cc)
-no_event_by false = λ e is. absurd (cc)
+no_event_by true = λ e answer is. absurd (cc)
+no_event_by false = λ e answer is. absurd (cc)
 
 no_event_saved : (v : View) → IsNoEvent (Ok (save v))
 no_event_saved v = no_event_by (nat_lt (room_of v.recovered.journal) (2 * 4099))
@@ -93,27 +95,31 @@ no_event_of : (b : Bool) (x y : Result Progress DriveFault) → IsNoEvent x → 
 no_event_of true x y h k = h
 no_event_of false x y h k = k
 
-submits_for : (n : Next) (c : Cursor) (v : View) (e : Event) → plan_for n c v ≡ Ok (Submitted e) → (ending : Ending) → n ≡ End ending → ⊥
-submits_for (Submit x) c v e is = λ ending no. absurd (cc)
-submits_for (End why) c v e is = λ ending no. no_event_of c.is_saved (Ok (Stopped why)) (Ok (save v)) (λ x are. absurd (cc)) (no_event_saved v) e is
+submits_for : (n : Next) (c : Cursor) (v : View) (e : Event) (answer : Answer) → plan_for n c v ≡ Ok (Submitted e answer) → (ending : Ending) → n ≡ End ending → ⊥
+submits_for (Submit x) c v e answer is = λ ending no. absurd (cc)
+submits_for (End why) c v e answer is = λ ending no. no_event_of c.is_saved (Ok (Stopped why)) (Ok (save v)) (λ x a are. absurd (cc)) (no_event_saved v) e answer is
 
-submits_by : (b : Bool) (n : Next) (c : Cursor) (v : View) (e : Event) → (if b then Ok Released else plan_for n c v) ≡ Ok (Submitted e) → (ending : Ending) → n ≡ End ending → ⊥
-submits_by true n c v e is = absurd (cc)
-submits_by false n c v e is = submits_for n c v e is
+submits_by : (b : Bool) (n : Next) (c : Cursor) (v : View) (e : Event) (answer : Answer) → (if b then Ok Released else plan_for n c v) ≡ Ok (Submitted e answer) → (ending : Ending) → n ≡ End ending → ⊥
+submits_by true n c v e answer is = absurd (cc)
+submits_by false n c v e answer is = submits_for n c v e answer is
 
 left_by : (r b : Bool) (c : Cursor) (n : Next) → (c.events_left == 0) ≡ b → ((ending : Ending) → (if r then (if b then End Enough else n) else End Ended) ≡ End ending → ⊥) → 0 < c.events_left
 left_by true true c n is never = absurd (never Enough refl)
 left_by true false c n is never = grind (arith, nat_tests)
 left_by false b c n is never = absurd (never Ended refl)
 
-some_left : (o : Options) (x : Stand) (e : Event) → plan o x.cursor x.view ≡ Ok (Submitted e) → 0 < x.cursor.events_left
-some_left o x e is =
+some_left : (o : Options) (x : Stand) (e : Event) (answer : Answer) → plan o x.cursor x.view ≡ Ok (Submitted e answer) → 0 < x.cursor.events_left
+some_left o x e answer is =
     let s = x.view.recovered.state.tables in
-    left_by (is_running s.status) (x.cursor.events_left == 0) x.cursor (next_running o x.cursor s) refl (submits_by (nat_lt x.view.recovered.confirmed x.view.released) (next o x.cursor s) x.cursor x.view e is)
+    left_by (is_running s.status) (x.cursor.events_left == 0) x.cursor (next_running o x.cursor s) refl (submits_by (nat_lt x.view.recovered.confirmed x.view.released) (next o x.cursor s) x.cursor x.view e answer is)
+
+turn_keeps : (lot : Option Lot) (h : ℕ) (c : Cursor) → (behind_turn lot h c).events_left ≡ c.events_left
+turn_keeps None h c = refl
+turn_keeps (Some lot) h c = refl
 
 one_less : (e : Event) (c : Cursor) → (after_event e c).events_left ≡ c.events_left - 1
 one_less (Place h t) c = refl
-one_less (Run h n) c = refl
+one_less (Run h n) c = turn_keeps c.lot h (record c { events_left = c.events_left - 1; is_saved = false })
 one_less (Tick k) c = refl
 one_less (Input bytes) c = refl
 one_less Eof c = refl
@@ -121,10 +127,10 @@ one_less Eof c = refl
 -- as many events are left as were, less those that were taken
 counted : (o : Options) (did : List Progress) (x y : Stand) → FollowsPlan o did x y → length (events_in did) + y.cursor.events_left ≡ x.cursor.events_left
 counted o [] x y h = let same = ap (λ (q : Stand). q.cursor.events_left) h in omega (arith, same)
-counted o (Submitted e ∷ more) x y h =
-    let rest = counted o more (stand_after o (Submitted e) x) y h.2 in
+counted o (Submitted e answer ∷ more) x y h =
+    let rest = counted o more (stand_after o (Submitted e answer) x) y h.2 in
     let less = one_less e x.cursor in
-    omega (arith, rest, less, some_left o x e h.0)
+    omega (arith, rest, less, some_left o x e answer h.0)
 counted o (Committed ∷ more) x y h = counted o more (stand_after o Committed x) y h.2
 counted o (Checkpointed ∷ more) x y h = counted o more (stand_after o Checkpointed x) y h.2
 counted o (Released ∷ more) x y h = counted o more (stand_after o Released x) y h.2
@@ -132,7 +138,7 @@ counted o (Stopped ending ∷ more) x y h = absurd h.1
 
 -- whatever isn't an end goes on
 pub onward : (did : Progress) → ((ending : Ending) → did ≡ Stopped ending → ⊥) → IsOnward did
-onward (Submitted e) no_stop = tt
+onward (Submitted e answer) no_stop = tt
 onward Committed no_stop = tt
 onward Checkpointed no_stop = tt
 onward Released no_stop = tt
@@ -158,7 +164,7 @@ enough_by o did x y ending h at result gives is =
 module _ {D O : Type 0} {g : Ghosts D} (o : Ghosts O) where
   pub stops_rightly : (options : Options) (c c' : Cursor) (s t : Session D g) (a b : O) (r : Result Progress DriveFault) → IsSound c (view_of s) → Steps o (plan options c (view_of s)) s t a b r
       → IfOk r (λ did. c' ≡ cursor_after options did c) → IfOk r (StopsRightly c' (view_of t))
-  stops_rightly options c c' s t a b (Ok (Submitted e)) sound h turned = tt
+  stops_rightly options c c' s t a b (Ok (Submitted e answer)) sound h turned = tt
   stops_rightly options c c' s t a b (Ok Committed) sound h turned = tt
   stops_rightly options c c' s t a b (Ok Checkpointed) sound h turned = tt
   stops_rightly options c c' s t a b (Ok Released) sound h turned = tt

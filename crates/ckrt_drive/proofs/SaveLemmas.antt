@@ -6,6 +6,7 @@ use Rattle.ckrt_disk.specs.Disk.{LeavesOnly}
 use Rattle.ckrt_disk.specs.Frame.{WritesWithin}
 use Rattle.ckrt_disk.specs.declared.disk.Disk.{Ghosts}
 use Rattle.ckrt_events.specs.declared.event.Event.{Event}
+use Rattle.ckrt_machine.specs.Events.{step}
 use Rattle.ckrt_image.specs.Programs.{Program}
 use Rattle.ckrt_machine.specs.declared.event.Answer.{Answer}
 use Rattle.ckrt_recovery.specs.declared.fault.CommitFault.{CommitFault}
@@ -69,6 +70,9 @@ choice b x y c e = ap (λ d. if d then x else y) e
 running : (b : Bool) (o : Option SubmitFault) → (if b then Some submit.Failed else o) ≡ None → b ≡ false
 running true o e = absurd (cc)
 running false o e = refl
+
+abbrev submitted : Event → Answer → Result Progress DriveFault
+submitted e answer = Ok (Submitted e answer)
 
 module _ {D : Type 0} {g : Ghosts D} where
   -- COMMITS
@@ -153,14 +157,14 @@ module _ {D : Type 0} {g : Ghosts D} where
 
   -- EVENTS
 
-  pub advances_taken : (e : Event) (old new : Session D g) → refusal_of (view_of old) e ≡ None → view_of new ≡ after_event (view_of old) e → new.disk ≡ old.disk
+  pub advances_taken : (e : Event) (answer : Answer) (old new : Session D g) → answer ≡ (step e old.progress.machine.state).answer → refusal_of (view_of old) e ≡ None → view_of new ≡ after_event (view_of old) e → new.disk ≡ old.disk
       → ((p : Program) (events : List Event) → Represents p events old → Represents p (events ++ e ∷ []) new)
-      → Advances (offered (view_of old) e (refusal_of (view_of old) e)) old new (Ok (Submitted e))
-  advances_taken e old new none view disk represents =
+      → Advances (offered (view_of old) e (refusal_of (view_of old) e)) old new (Ok (Submitted e answer))
+  advances_taken e answer old new is none view disk represents =
       let confirmed : new.progress.confirmed ≡ old.progress.confirmed = ap (λ (v : View). v.recovered.confirmed) view in
       let runs : old.failed ≡ false = running old.failed (refusal_when_running (view_of old) e) none in
       record {
-        done = (ap (offered (view_of old) e) none, view);
+        done = (ap (offered (view_of old) e) none ∙ ap (submitted e) (sym is), view);
         why = tt;
         accepts = accepts_still (e ∷ []) old new disk (ap (λ (v : View). v.failed) view) (ap (λ (v : View). v.acknowledged) view) (omega (arith, confirmed)) (λ was. let no : true ≡ false = sym was ∙ runs in absurd (cc)) represents;
       }

@@ -66,7 +66,7 @@ module _ {D : Type 0} {g : Ghosts D} where
 
   -- nothing more is confirmed
   pub confirmed_kept : (planned : Result Progress DriveFault) (old new : Session D g) (r : Result Progress DriveFault) → IsNoRelease planned → Advances planned old new r → new.progress.confirmed ≡ old.progress.confirmed
-  confirmed_kept planned old new (Ok (Submitted e)) fits h = ap (λ (v : View). v.recovered.confirmed) h.done.1
+  confirmed_kept planned old new (Ok (Submitted e answer)) fits h = ap (λ (v : View). v.recovered.confirmed) h.done.1
   confirmed_kept planned old new (Ok Committed) fits h = ap (λ (v : View). v.recovered.confirmed) h.done.1
   confirmed_kept planned old new (Ok Checkpointed) fits h = ap (λ (v : View). v.recovered.confirmed) h.done.1
   confirmed_kept planned old new (Ok Released) fits h = absurd (fits h.done.0)

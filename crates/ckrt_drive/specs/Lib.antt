@@ -1,3 +1,4 @@
+pub mod Lots
 pub mod Plan
 pub mod Output
 pub mod Steps

@@ -1,5 +1,5 @@
 -- What a drive does next (this project's choice): a function of its options, of where it stands, and of what the session shows.
-use Rattle.std.specs.Prelude.{ℕ, zero, suc, ◌+◌, ◌-◌, ◌*◌, ◌==◌, ◌||◌, nat_lt, min, max, Bool, true, false, if◌then◌else◌, Option, Some, None, is_some, List, [], ◌∷◌, Result, Ok, Err}
+use Rattle.std.specs.Prelude.{ℕ, zero, suc, ◌+◌, ◌-◌, ◌*◌, ◌/◌, ◌%◌, ◌==◌, ◌||◌, nat_lt, min, max, Bool, true, false, if◌then◌else◌, Option, Some, None, is_some, option_map, List, [], ◌∷◌, Result, Ok, Err}
 use Rattle.ckrt_thread.specs.declared.records.Wait.{Wait}
 use Rattle.ckrt_thread.specs.declared.records.Object.TheVariants.{Input}
 use Rattle.ckrt_thread.specs.State.{first_waiter}
@@ -9,13 +9,16 @@ use Rattle.ckrt_events.specs.declared.event.Event.{Event}
 use Rattle.ckrt_events.specs.declared.event.Event.TheVariants.{Place, Run, Tick}
 use Rattle.ckrt_events.specs.declared.event.Event.TheVariants as event
 use Rattle.ckrt_machine.specs.declared.event.Refusal.TheVariants.{OutputFull}
+use Rattle.ckrt_machine.specs.Events.{step}
 use Rattle.ckrt_machine.specs.Steps.{hart_of}
 use Rattle.ckrt_machine.specs.Runs.{is_running}
-use Rattle.ckrt_machine.specs.Plans.{planned}
+use Rattle.ckrt_machine.specs.Plans.{or_else, planned}
 use Rattle.ckrt_image.specs.Recovery.{room_of}
 use Rattle.ckrt_recovery.specs.declared.fault.SubmitFault.{SubmitFault}
 use Rattle.ckrt_recovery.specs.declared.fault.SubmitFault.TheVariants as fault
 use Rattle.ckrt_recovery.specs.View.{View, refusal_of}
+use Rattle.ckrt_drive.specs.Lots.{lots_of, next_lot, number_of}
+use Rattle.ckrt_drive.specs.declared.lot.Lot.{Lot}
 use Rattle.ckrt_drive.specs.declared.cursor.Cursor.{Cursor}
 use Rattle.ckrt_drive.specs.declared.options.Options.{Options}
 use Rattle.ckrt_drive.specs.declared.fault.DriveFault.{DriveFault}
@@ -73,13 +76,31 @@ on_turn (Some t) h n = Place h t
 on_turn None h n = Run h n
 
 -- the turn of a busy hart
-abbrev pub turn_of : Option ℕ → Options → Tables → Next
-turn_of (Some h) o s = Submit (on_turn (planned h s) h o.turn)
-turn_of None o s = round_end (next_busy 0 s) s
+abbrev pub turn_of : Option ℕ → ℕ → Tables → Next
+turn_of (Some h) n s = Submit (on_turn (planned h s) h n)
+turn_of None n s = round_end (next_busy 0 s) s
+
+-- the first busy hart from a drawn one on, and else from the first one; a round has as many turns as there are harts
+abbrev pub drawn_hart : Lot → ℕ → Tables → Option ℕ
+drawn_hart lot turn s = if nat_lt turn s.threads.hart_count then or_else (next_busy (number_of lot % s.threads.hart_count) s) (next_busy 0 s) else None
+
+-- the hart whose turn it is: the first busy one that hasn't had its turn in the round, or one by lot
+abbrev pub hart_by : Option Lot → ℕ → Tables → Option ℕ
+hart_by None turn s = next_busy turn s
+hart_by (Some lot) turn s = drawn_hart lot turn s
+
+-- how many steps it has: the most, or a drawn number up to it
+abbrev pub steps_by : Option Lot → ℕ → ℕ
+steps_by None most = most
+steps_by (Some lot) most = number_of lot / 8 % most + 1
 
 -- while the program runs; who was placed in this turn runs
+abbrev pub next_turn : Option ℕ → Options → Cursor → Tables → Next
+next_turn (Some h) o c s = Submit (Run h (steps_by c.lot o.turn))
+next_turn None o c s = turn_of (hart_by c.lot c.turn s) (steps_by c.lot o.turn) s
+
 abbrev pub next_running : Options → Cursor → Tables → Next
-next_running o c s = if c.is_placed then Submit (Run c.hart o.turn) else turn_of (next_busy c.hart s) o s
+next_running o c s = next_turn c.placed o c s
 
 -- the event that is next, or why there is none
 abbrev pub next : Options → Cursor → Tables → Next
@@ -100,9 +121,9 @@ is_shortage fault.BatchFull = true
 is_shortage fault.JournalFull = true
 is_shortage fault.CountersUsed = false
 
--- an event that the session takes, or refuses so
+-- an event that the session takes, with what it comes to, or refuses so
 abbrev pub offered : View → Event → Option SubmitFault → Result Progress DriveFault
-offered v e None = Ok (Submitted e)
+offered v e None = Ok (Submitted e (step e v.recovered.state).answer)
 offered v e (Some why) = if is_shortage why then Ok (save v) else Err (Refused why)
 
 -- an event waits until the rounds are saved, and an end until all is saved
@@ -116,7 +137,7 @@ plan o c v = if nat_lt v.recovered.confirmed v.released then Ok Released else pl
 
 -- the event's fields are in their ranges
 abbrev pub IsInRangeProgress : Progress → Type 0
-IsInRangeProgress (Submitted e) = IsInRange e
+IsInRangeProgress (Submitted e answer) = IsInRange e
 IsInRangeProgress Committed = Unit {0}
 IsInRangeProgress Checkpointed = Unit {0}
 IsInRangeProgress Released = Unit {0}
@@ -129,13 +150,18 @@ IsInRangeNext (End ending) = Unit {0}
 -- THE CURSOR
 
 abbrev pub cursor_at_start : Options → Cursor
-cursor_at_start o = record { hart = 0; is_placed = false; rounds_left = o.rounds; events_left = o.events; is_saved = false }
+cursor_at_start o = record { turn = 0; placed = None; lot = option_map lots_of o.seed; rounds_left = o.rounds; events_left = o.events; is_saved = false }
+
+-- behind the turn of a hart; no round has more than eight
+abbrev pub behind_turn : Option Lot → ℕ → Cursor → Cursor
+behind_turn None h c = record c { turn = h + 1; placed = None }
+behind_turn (Some lot) h c = record c { turn = min (c.turn + 1) 8; placed = None; lot = Some (next_lot lot) }
 
 -- whose turn it is behind an event
 abbrev pub turned : Event → Cursor → Cursor
-turned (Place h t) c = record c { hart = h; is_placed = true }
-turned (Run h n) c = record c { hart = h + 1; is_placed = false }
-turned (Tick k) c = record c { hart = 0; is_placed = false; rounds_left = c.rounds_left - 1 }
+turned (Place h t) c = record c { placed = Some h }
+turned (Run h n) c = behind_turn c.lot h c
+turned (Tick k) c = record c { turn = 0; placed = None; rounds_left = c.rounds_left - 1 }
 turned (event.Input bytes) c = c
 turned event.Eof c = c
 
@@ -147,7 +173,7 @@ saved o c = record c { rounds_left = o.rounds; is_saved = true }
 
 -- where the drive stands behind what it did
 abbrev pub cursor_after : Options → Progress → Cursor → Cursor
-cursor_after o (Submitted e) c = after_event e c
+cursor_after o (Submitted e answer) c = after_event e c
 cursor_after o Committed c = saved o c
 cursor_after o Checkpointed c = saved o c
 cursor_after o Released c = c

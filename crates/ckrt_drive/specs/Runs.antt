@@ -34,7 +34,7 @@ pub record IsAtEnd (c : Cursor) (v : View) (ending : Ending) : Type 0 where
   pub is : IsEnd ending c v.recovered.state.tables
 
 abbrev pub StopsRightly : Cursor → View → Progress → Type 0
-StopsRightly c v (Submitted e) = Unit {0}
+StopsRightly c v (Submitted e answer) = Unit {0}
 StopsRightly c v Committed = Unit {0}
 StopsRightly c v Checkpointed = Unit {0}
 StopsRightly c v Released = Unit {0}
@@ -59,7 +59,7 @@ stand_after o did x = record { cursor = cursor_after o did x.cursor; view = view
 
 -- it isn't an end
 abbrev pub IsOnward : Progress → Type 0
-IsOnward (Submitted e) = Unit {0}
+IsOnward (Submitted e answer) = Unit {0}
 IsOnward Committed = Unit {0}
 IsOnward Checkpointed = Unit {0}
 IsOnward Released = Unit {0}

@@ -1,5 +1,5 @@
 -- What a step of a drive makes of the session, of its disk, and of the output.
-use Rattle.std.specs.Prelude.{◌≡◌, ◌≤◌, ◌<◌, ◌-◌, ◌^◌, Bool, true, false, List, [], ◌∷◌, Result, Ok, Err, IfOk, IfErr}
+use Rattle.std.specs.Prelude.{◌≡◌, ◌≤◌, ◌<◌, ◌-◌, ◌^◌, ℕ, Bool, true, false, List, [], ◌∷◌, Result, Ok, Err, Some, IfOk, IfErr}
 use Rattle.ckrt_disk.specs.Disk.{HasFailed}
 use Rattle.ckrt_disk.specs.declared.disk.Disk.{Ghosts}
 use Rattle.ckrt_events.specs.declared.event.Event.{Event}
@@ -15,7 +15,7 @@ use Rattle.ckrt_drive.specs.Output.{Writes}
 
 -- the session behind what the drive did
 abbrev pub view_after : Progress → View → View
-view_after (Submitted e) v = after_event v e
+view_after (Submitted e answer) v = after_event v e
 view_after Committed v = committed v
 view_after Checkpointed v = checkpointed v
 view_after Released v = confirmed_to v v.released
@@ -23,7 +23,7 @@ view_after (Stopped ending) v = v
 
 -- the event that the session took then
 abbrev pub accepted_by : Progress → List Event
-accepted_by (Submitted e) = e ∷ []
+accepted_by (Submitted e answer) = e ∷ []
 accepted_by Committed = []
 accepted_by Checkpointed = []
 accepted_by Released = []
@@ -45,9 +45,9 @@ is_output_fault (Err (Refused why)) = false
 
 -- where a drive stands, beside what its session shows
 pub record IsSound (c : Cursor) (v : View) : Type 0 where
-  pub hart : c.hart ≤ 8
-  -- who was placed is on a hart that there is
-  pub placed : c.is_placed ≡ true → c.hart ≤ 7
+  pub turn : c.turn ≤ 8
+  -- who was placed is on a hart that there may be
+  pub placed : (h : ℕ) → c.placed ≡ Some h → h ≤ 7
   -- behind a commit or checkpoint all is acknowledged
   pub saved : c.is_saved ≡ true → v.acknowledged ≡ v.recovered.count
 

@@ -1,8 +1,9 @@
 //! Where a drive stands.
-ghost use Rattle.std.specs.Prelude.{◌≡◌};
+ghost use Rattle.std.specs.Prelude.{◌≡◌, ◌≤◌};
 ghost use Rattle.ckrt_events.specs.Bytes.{IsInRange};
-ghost use Rattle.ckrt_drive.specs.Plan.{IsInRangeProgress, cursor_at_start, cursor_after, after_event};
+ghost use Rattle.ckrt_drive.specs.Plan.{IsInRangeProgress, behind_turn, cursor_at_start, cursor_after, after_event};
 
+use crate::lot::Lot;
 use crate::options::Options;
 use crate::progress::Progress;
 use ckrt_events::Event;
@@ -10,10 +11,12 @@ use ckrt_events::Event;
 /// Where a drive stands.
 #[derive(Clone, Copy, Debug, PartialEq, Eq)]
 pub struct Cursor {
-    /// The hart whose turn it is.
-    pub hart: u8,
-    /// Whether a thread was placed there in this turn, so that it runs next.
-    pub is_placed: bool,
+    /// The hart whose turn it is; where harts are drawn by lot, how many turns of the round are over.
+    pub turn: u8,
+    /// The hart on which a thread was placed in this turn, so that it runs next.
+    pub placed: Option<u8>,
+    /// By which lot the turn's hart and steps are drawn, where they are.
+    pub lot: Option<Lot>,
     /// How many rounds are left before the next commit.
     pub rounds_left: u32,
     /// How many events are left for the drive.
@@ -28,11 +31,32 @@ impl Cursor {
         ensures { result ≡ cursor_at_start options.now }
     {
         Cursor {
-            hart: 0,
-            is_placed: false,
+            turn: 0,
+            placed: None,
+            lot: options.seed.map(Lot::new),
             rounds_left: options.rounds,
             events_left: options.events,
             is_saved: false,
+        }
+    }
+
+    /// Behind the turn of a hart.
+    fn behind_turn(self, hart: u8) -> Cursor
+        requires { hart ≤ 7 }
+        ensures { result ≡ behind_turn self.lot hart self }
+    {
+        match self.lot {
+            None => Cursor {
+                turn: hart + 1,
+                placed: None,
+                ..self
+            },
+            Some(lot) => Cursor {
+                turn: self.turn.saturating_add(1).min(8),
+                placed: None,
+                lot: Some(lot.next()),
+                ..self
+            },
         }
     }
 
@@ -46,16 +70,14 @@ impl Cursor {
         next.is_saved = false;
         match event {
             Event::Place(hart, _) => {
-                next.hart = *hart;
-                next.is_placed = true;
+                next.placed = Some(*hart);
             }
             Event::Run(hart, _) => {
-                next.hart = *hart + 1;
-                next.is_placed = false;
+                next = next.behind_turn(*hart);
             }
             Event::Tick(_) => {
-                next.hart = 0;
-                next.is_placed = false;
+                next.turn = 0;
+                next.placed = None;
                 next.rounds_left = self.rounds_left.saturating_sub(1);
             }
             Event::Input(_) | Event::Eof => {}
@@ -69,7 +91,7 @@ impl Cursor {
         ensures { result ≡ cursor_after options.now progress.now self }
     {
         match progress {
-            Progress::Submitted(event) => self.behind_event(event),
+            Progress::Submitted(event, _) => self.behind_event(event),
             Progress::Committed | Progress::Checkpointed => Cursor {
                 rounds_left: options.rounds,
                 is_saved: true,

@@ -9,6 +9,7 @@ ghost use Rattle.ckrt_drive.specs.Runs.{Runs, StopsRightly};
 
 use crate::cursor::Cursor;
 use crate::fault::DriveFault;
+use crate::onlooker::Onlooker;
 use crate::options::Options;
 use crate::progress::{Ending, Progress};
 use crate::steps::step;
@@ -61,15 +62,33 @@ impl<D: Disk, O: Disk> Drive<D, O> {
         )
     }
 
-    /// Makes so many steps, or as many as there are before an end, which it answers, or a fault.
-    pub fn run(&mut self, steps: u64) -> Result<Option<Ending>, DriveFault>
+    /// A step, of which an onlooker is told where it is none of a fault.
+    fn shown_step<L: Onlooker>(&mut self, onlooker: &mut L) -> Result<Progress, DriveFault>
+        ensures steps { Steps O.Disk (plan self.old.options self.old.cursor (view_of self.old.session)) self.old.session self.new.session self.old.output self.new.output result }
+        ensures options { self.new.options ≡ self.old.options }
+        ensures cursor { IfOk result (λ did. self.new.cursor ≡ cursor_after self.old.options did self.old.cursor) }
+        ensures kept { OnErr result (self.new.cursor ≡ self.old.cursor) }
+        ensures ends { IfOk result (StopsRightly self.new.cursor (view_of self.new.session)) }
+    {
+        let did = self.step()?;
+        onlooker.look(&did, &self.session);
+        Ok(did)
+    }
+
+    /// Makes so many steps, or as many as there are before an end, which it answers, or a fault. The onlooker is told each
+    /// one that is none of a fault.
+    pub fn run<L: Onlooker>(
+        &mut self,
+        steps: u64,
+        onlooker: &mut L,
+    ) -> Result<Option<Ending>, DriveFault>
         ensures runs { Runs O.Disk self.old.options steps self.old.cursor self.new.cursor self.old.session self.new.session self.old.output self.new.output result }
         ensures options { self.new.options ≡ self.old.options }
         ensures device { IfErr result (λ fault. fault ≡ Device → self.new.session.failed ≡ true) }
         ensures output { IfErr result (λ fault. fault ≡ Output → HasFailed (O.failures self.old.output) (O.failures self.new.output)) }
     {
         for made in 0..steps {
-            if let Progress::Stopped(ending) = self.step()? {
+            if let Progress::Stopped(ending) = self.shown_step(onlooker)? {
                 return Ok(Some(ending));
             }
         }

@@ -5,6 +5,8 @@
 mod cursor;
 mod drive;
 mod fault;
+mod lot;
+mod onlooker;
 mod options;
 mod plan;
 mod progress;
@@ -13,5 +15,7 @@ mod steps;
 pub use cursor::Cursor;
 pub use drive::Drive;
 pub use fault::DriveFault;
+pub use lot::Lot;
+pub use onlooker::{Nobody, Onlooker};
 pub use options::Options;
 pub use progress::{Ending, Progress};

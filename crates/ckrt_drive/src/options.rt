@@ -1,5 +1,5 @@
 //! How a drive goes.
-ghost use Rattle.std.specs.Prelude.{◌≡◌, ◌≤◌};
+ghost use Rattle.std.specs.Prelude.{◌≡◌, ◌≤◌, None, Some};
 
 /// How a drive goes.
 #[derive(Clone, Copy, Debug, PartialEq, Eq)]
@@ -7,25 +7,41 @@ pub struct Options {
     pub(crate) turn: u16,
     pub(crate) rounds: u32,
     pub(crate) events: u64,
+    pub(crate) seed: Option<u64>,
     ghost some_steps: { 1 ≤ turn },
     ghost few_steps: { turn ≤ 65535 },
     ghost some_rounds: { 1 ≤ rounds },
 }
 
 impl Options {
-    /// In each round each hart runs `turn` steps at most; there is a commit after `rounds` rounds; the drive ends after
-    /// `events` events.
+    /// In each round each hart in turn runs `turn` steps at most; there is a commit after `rounds` rounds; the drive ends
+    /// after `events` events.
     pub fn new(turn: u16, rounds: u32, events: u64) -> Options
         requires turn { 1 ≤ turn }
         requires rounds { 1 ≤ rounds }
         ensures turn { result.turn ≡ turn }
         ensures rounds { result.rounds ≡ rounds }
         ensures events { result.events ≡ events }
+        ensures seed { result.seed ≡ None }
     {
         Options {
             turn,
             rounds,
             events,
+            seed: None,
+        }
+    }
+
+    /// The same with harts and the steps of their turns by lot, as a generator draws them that begins with this seed: a
+    /// round has as many turns as there are harts.
+    pub fn with_seed(self, seed: u64) -> Options
+        ensures { result ≡ record self { seed = Some seed } }
+    {
+        Options {
+            turn: self.turn,
+            rounds: self.rounds,
+            events: self.events,
+            seed: Some(seed),
         }
     }
 }

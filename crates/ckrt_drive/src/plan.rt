@@ -1,11 +1,12 @@
 //! Which event is next.
-ghost use Rattle.std.specs.Prelude.{◌≡◌, ◌≤◌, true, IfSome};
+ghost use Rattle.std.specs.Prelude.{◌≡◌, ◌≤◌, ℕ, IfSome, Some};
 ghost use Rattle.ckrt_thread.specs.declared.records.Object.TheVariants.{Input};
 ghost use Rattle.ckrt_machine.specs.Plans.{planned};
 ghost use Rattle.ckrt_machine.specs.Runs.{is_running};
-ghost use Rattle.ckrt_drive.specs.Plan.{IsInRangeNext, is_busy, next_busy, sooner, earliest_deadline, ticks_to, idle_until, round_end, turn_of, next_running, next};
+ghost use Rattle.ckrt_drive.specs.Plan.{IsInRangeNext, is_busy, next_busy, sooner, earliest_deadline, ticks_to, idle_until, round_end, turn_of, drawn_hart, hart_by, steps_by, next_running, next};
 
 use crate::cursor::Cursor;
+use crate::lot::Lot;
 use crate::options::Options;
 use crate::progress::Ending;
 use ckrt_calls::{Status, Tables};
@@ -105,25 +106,63 @@ fn round_end(machine: &Machine) -> Next
     }
 }
 
-/// What is next from the turn of a hart on.
-fn turn(machine: &Machine, options: &Options, from: u8) -> Next
-    requires { from ≤ 8 }
-    ensures next { result ≡ turn_of (next_busy from machine.now.state.tables) options.now machine.now.state.tables }
+/// The first busy hart from a drawn one on, and else from the first one, while the round has turns left.
+fn drawn_hart(machine: &Machine, lot: Lot, turn: u8) -> Option<u8>
+    ensures busy { result ≡ drawn_hart lot turn machine.now.state.tables }
+    ensures small { IfSome result (λ hart. hart ≤ 7) }
+{
+    let count = machine.tables().threads.hart_count() as u32;
+    if u32::from(turn) >= count {
+        return None;
+    }
+    match next_busy(machine, (lot.number() % count) as u8) {
+        Some(hart) => Some(hart),
+        None => next_busy(machine, 0),
+    }
+}
+
+/// The hart whose turn it is.
+fn hart_by(machine: &Machine, cursor: &Cursor) -> Option<u8>
+    requires { cursor.now.turn ≤ 8 }
+    ensures busy { result ≡ hart_by cursor.now.lot cursor.now.turn machine.now.state.tables }
+    ensures small { IfSome result (λ hart. hart ≤ 7) }
+{
+    match cursor.lot {
+        None => next_busy(machine, cursor.turn),
+        Some(lot) => drawn_hart(machine, lot, cursor.turn),
+    }
+}
+
+/// How many steps a turn has.
+fn steps_by(options: &Options, cursor: &Cursor) -> u16
+    ensures steps { result ≡ steps_by cursor.now.lot options.now.turn }
+    ensures range { (1 ≤ result) × (result ≤ 65535) }
+{
+    match cursor.lot {
+        None => options.turn,
+        Some(lot) => (lot.number() / 8 % u32::from(options.turn)) as u16 + 1,
+    }
+}
+
+/// What is next from a turn on.
+fn turn(machine: &Machine, options: &Options, cursor: &Cursor) -> Next
+    requires { cursor.now.turn ≤ 8 }
+    ensures next { result ≡ turn_of (hart_by cursor.now.lot cursor.now.turn machine.now.state.tables) (steps_by cursor.now.lot options.now.turn) machine.now.state.tables }
     ensures in_range { IsInRangeNext result }
 {
-    let Some(hart) = next_busy(machine, from) else {
+    let Some(hart) = hart_by(machine, cursor) else {
         return round_end(machine);
     };
     match machine.planned(hart) {
         Some(thread) => Next::Submit(Event::Place(hart, thread)),
-        None => Next::Submit(Event::Run(hart, options.turn)),
+        None => Next::Submit(Event::Run(hart, steps_by(options, cursor))),
     }
 }
 
 /// What is next: an event, or why there is none.
 pub(crate) fn next_event(machine: &Machine, options: &Options, cursor: &Cursor) -> Next
-    requires hart { cursor.now.hart ≤ 8 }
-    requires placed { cursor.now.is_placed ≡ true → cursor.now.hart ≤ 7 }
+    requires turn { cursor.now.turn ≤ 8 }
+    requires placed { (hart : ℕ) → cursor.now.placed ≡ Some hart → hart ≤ 7 }
     ensures next { result ≡ next options.now cursor.now machine.now.state.tables }
     ensures in_range { IsInRangeNext result }
 {
@@ -133,8 +172,8 @@ pub(crate) fn next_event(machine: &Machine, options: &Options, cursor: &Cursor) 
     if cursor.events_left == 0 {
         return Next::End(Ending::Enough);
     }
-    if cursor.is_placed {
-        return Next::Submit(Event::Run(cursor.hart, options.turn));
+    match cursor.placed {
+        Some(hart) => Next::Submit(Event::Run(hart, steps_by(options, cursor))),
+        None => turn(machine, options, cursor),
     }
-    turn(machine, options, cursor.hart)
 }

@@ -1,4 +1,5 @@
 use ckrt_events::Event;
+use ckrt_machine::Answer;
 
 /// Why a drive has nothing more to do.
 #[derive(Clone, Copy, Debug, PartialEq, Eq)]
@@ -16,8 +17,8 @@ pub enum Ending {
 /// What a drive did.
 #[derive(Clone, Debug, Drop, PartialEq, Eq)]
 pub enum Progress {
-    /// The session took this event.
-    Submitted(Event),
+    /// The session took this event, which came to this.
+    Submitted(Event, Answer),
     /// The events so far are acknowledged, by a commit.
     Committed,
     /// The same, by a checkpoint.

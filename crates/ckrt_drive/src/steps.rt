@@ -71,7 +71,7 @@ fn offer<D: Disk>(session: &mut Session<D>, event: Event) -> Result<Progress, Dr
     ensures { Advances (offered (view_of session.old) event (refusal_of (view_of session.old) event)) session.old session.new result }
 {
     match session.submit(&event) {
-        Ok(_) => Ok(Progress::Submitted(event)),
+        Ok((_, answer)) => Ok(Progress::Submitted(event, answer)),
         Err(fault) => {
             if is_shortage(fault) {
                 return save(session);

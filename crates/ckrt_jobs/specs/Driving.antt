@@ -30,9 +30,14 @@ use Rattle.ckrt_jobs.specs.declared.file.JobFile.TheVariants as file
 
 -- THE OPTIONS
 
+-- a second or more lies between two lines, where there are any
+abbrev pub is_interval : Option ℕ → Bool
+is_interval None = true
+is_interval (Some seconds) = nat_lt 0 seconds
+
 -- a turn has 1 to 65,535 steps, and there is a round or more between two commits
 abbrev pub is_in_range : Driving → Bool
-is_in_range j = nat_lt 0 j.turn && (nat_le j.turn 65535 && nat_lt 0 j.rounds)
+is_in_range j = nat_lt 0 j.turn && (nat_le j.turn 65535 && (nat_lt 0 j.rounds && is_interval j.progress))
 
 -- the greatest number of 64 bits where no limit is given
 abbrev pub limit_of : Option ℕ → ℕ
@@ -44,6 +49,7 @@ pub record IsAsked (j : Driving) (o : Options) : Type 0 where
   pub turn : o.turn ≡ j.turn
   pub rounds : o.rounds ≡ j.rounds
   pub events : o.events ≡ limit_of j.events
+  pub seed : o.seed ≡ j.seed
 
 -- THE SESSION
 

@@ -48,7 +48,7 @@
 //! A law: a byte that was printed at an offset is never another, over any number of runs of a disk
 //! ([`printed_bytes_stay`]).
 //!
-//! Only tested: what a path opens, that a file is filled and locked and its folder synced, that what is printed is flushed,
+//! Only tested: the lines on how far a drive is, what a path opens, that a file is filled and locked and its folder synced, that what is printed is flushed,
 //! that faults on standard error reach it.
 #![tactic(auto)]
 
@@ -60,6 +60,7 @@ mod filling;
 mod image;
 mod laws;
 mod making;
+mod meter;
 mod program;
 mod report;
 mod reporter;
@@ -75,6 +76,7 @@ pub use fault::JobFault;
 pub use file::{FileFault, JobFile};
 pub use laws::printed_bytes_stay;
 pub use making::make_disk;
+pub use meter::{Meter, SystemMeter};
 pub use program::{run_words, run_words_with};
 pub use reporter::{Reporter, Unsaid, WrittenReport};
 pub use running::{Unserved, run_disk};

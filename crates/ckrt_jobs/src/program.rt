@@ -14,6 +14,7 @@ use crate::driving::drive_path;
 use crate::fault::JobFault;
 use crate::file::JobFile;
 use crate::making::make_disk;
+use crate::meter::Meter;
 use crate::report::{report, report_words, write_formatted, write_version};
 use crate::reporter::Reporter;
 use crate::running::run_disk;
@@ -153,12 +154,13 @@ fn with_end(driven: Result<Driven, JobFault>) -> Result<Option<Driven>, JobFault
 }
 
 /// Does a job.
-fn perform<'a, I: Read + Drop, D: Disk + Drop, S: Sources<'a, I, D>, R: Read, W: Write>(
+fn perform<'a, I: Read + Drop, D: Disk + Drop, S: Sources<'a, I, D>, R: Read, W: Write, M: Meter>(
     alloc: Global,
     job: &Job<'a>,
     sources: &mut S,
     reader: &mut R,
     writer: &mut W,
+    meter: &mut M,
 ) -> Result<Option<Driven>, JobFault>
     ensures performs { Performs D.Disk (request_of job.now) (S.image_bytes sources.old) (S.opens sources.old) (S.fills sources.old) (S.outputs sources.old) (S.openings sources.old) (S.openings sources.new) (W.contents writer.old) (W.contents writer.new) (R.remaining reader.old) (R.remaining reader.new) result }
 {
@@ -168,7 +170,7 @@ fn perform<'a, I: Read + Drop, D: Disk + Drop, S: Sources<'a, I, D>, R: Read, W:
         Job::Format(job) => without_end(make::<I, D, S, W>(alloc, job, sources, writer)),
         Job::Run(path) => without_end(run::<I, D, S, R, W>(alloc, path, sources, reader, writer)),
         Job::Inspect(job) => without_end(inspect_path::<I, D, S, W>(alloc, job, sources, writer)),
-        Job::Drive(job) => with_end(drive_path::<I, D, S>(alloc, job, sources)),
+        Job::Drive(job) => with_end(drive_path::<I, D, S, M>(alloc, job, sources, meter)),
     }
 }
 
@@ -176,7 +178,7 @@ fn perform<'a, I: Read + Drop, D: Disk + Drop, S: Sources<'a, I, D>, R: Read, W:
 /// `formatted SIZE`, `run DISK` answers the lines of the reader, `inspect DISK` shows what the disk holds, `drive DISK --output
 /// FILE` runs its program to its end and reports what it came to in a line, `--version` prints the version and its kit, no
 /// words serve the stored program in memory. Of a fault two lines are reported: what is wrong in plain words, with the path
-/// of the file that it is of, and `ckrt: NAME`. Of words that name no job a text is. The answer is the program's status: 0
+/// of the file that it is of, and `ckrt: NAME`. Of words that name no job a text is. A drive is looked on by the meter. The answer is the program's status: 0
 /// where all was done, 1 for a fault, 2 for words that name no job, 3 for a program that waits for input, 4 for a deadlock.
 pub fn run_words_with<
     'a,
@@ -186,6 +188,7 @@ pub fn run_words_with<
     R: Read,
     W: Write,
     E: Reporter,
+    M: Meter,
 >(
     alloc: Global,
     words: &'a [&'a str],
@@ -193,6 +196,7 @@ pub fn run_words_with<
     reader: &mut R,
     writer: &mut W,
     reporter: &mut E,
+    meter: &mut M,
 ) -> u8
     ensures bound { result ≤ 4 }
     ensures asked { result ≡ 0 → (r : Request) × (request_of_words (map (λ s. s.now) words.entry.now) ≡ Some r) }
@@ -204,7 +208,7 @@ pub fn run_words_with<
 {
     match read_words(alloc, words) {
         Ok(job) => {
-            let outcome = perform::<I, D, S, R, W>(alloc, &job, sources, reader, writer);
+            let outcome = perform::<I, D, S, R, W, M>(alloc, &job, sources, reader, writer, meter);
             report(reporter, &job, outcome)
         }
         Err(fault) => report_words(reporter, fault),
@@ -213,13 +217,14 @@ pub fn run_words_with<
 
 /// Does what the words after the program's name ask for, with images and disks that are files of the system, as
 /// [`run_words_with`] says.
-pub fn run_words<'a, F: Files<File = File>, R: Read, W: Write, E: Reporter>(
+pub fn run_words<'a, F: Files<File = File>, R: Read, W: Write, E: Reporter, M: Meter>(
     alloc: Global,
     words: &'a [&'a str],
     sources: &mut SystemSources<'a, F, SystemDisk>,
     reader: &mut R,
     writer: &mut W,
     reporter: &mut E,
+    meter: &mut M,
 ) -> u8
     ensures bound { result ≤ 4 }
     ensures asked { result ≡ 0 → (r : Request) × (request_of_words (map (λ s. s.now) words.entry.now) ≡ Some r) }
@@ -229,7 +234,7 @@ pub fn run_words<'a, F: Files<File = File>, R: Read, W: Write, E: Reporter>(
     ensures stored { result ≡ 2 → words.entry.now ≢ [] }
     ensures outcome { RunsOnFiles ⟦<SystemDisk as Disk>⟧ (map (λ s. s.now) words.entry.now) (openings_of sources.old) (openings_of sources.new) (W.contents writer.old) (W.contents writer.new) (R.remaining reader.old) (R.remaining reader.new) (E.said reporter.old) (E.said reporter.new) (E.has_failed reporter.new) result }
 {
-    run_words_with::<File, SystemDisk, SystemSources<'a, F, SystemDisk>, R, W, E>(
-        alloc, words, sources, reader, writer, reporter,
+    run_words_with::<File, SystemDisk, SystemSources<'a, F, SystemDisk>, R, W, E, M>(
+        alloc, words, sources, reader, writer, reporter, meter,
     )
 }

@@ -2,9 +2,13 @@
 
 use anyhow::{Result, bail};
 use ckrt_disk::{FileDisk, SystemFile};
+use ckrt_events::Event;
 use ckrt_recovery::{Session, recover};
 use std::marker::Brand;
 use std::time::Instant;
+
+/// How many steps a round of the guest `stores-4` has.
+const STORES_ROUND: u16 = 9;
 
 /// A file of the system as a disk.
 type RealDisk = FileDisk<SystemFile<Brand>>;
@@ -43,6 +47,43 @@ fn time_checkpoint(rt: &HostRuntime, session: &mut Session<RealDisk>) -> Result<
 /// Makes `count` checkpoints of what a disk recovers to.
 pub fn time_checkpoints(rt: &HostRuntime, path: &str, count: u32) -> Result<()> {
     let (mut session, _) = recovered(rt, path)?;
+    for _ in 0..count {
+        time_checkpoint(rt, &mut session)?;
+    }
+    Ok(())
+}
+
+/// Brings both areas up to date: memory that was read of one is dirty everywhere for the other.
+fn save_twice(session: &mut Session<RealDisk>) -> Result<()> {
+    if session.checkpoint().is_err() || session.checkpoint().is_err() {
+        bail!("no checkpoint");
+    }
+    Ok(())
+}
+
+/// Hands in one round of the guest `stores-4`.
+fn store(session: &mut Session<RealDisk>) -> Result<()> {
+    match session.submit(&Event::Run(0, STORES_ROUND)) {
+        Ok(_) => Ok(()),
+        Err(fault) => bail!("{fault}"),
+    }
+}
+
+/// Makes `count` checkpoints, each of four pages that have changed: the disk is one on which `stores-4` has begun a round.
+pub fn time_changed(rt: &HostRuntime, path: &str, count: u32) -> Result<()> {
+    let (mut session, _) = recovered(rt, path)?;
+    save_twice(&mut session)?;
+    for _ in 0..count {
+        store(&mut session)?;
+        time_checkpoint(rt, &mut session)?;
+    }
+    Ok(())
+}
+
+/// Makes `count` checkpoints, each with no page that has changed.
+pub fn time_unchanged(rt: &HostRuntime, path: &str, count: u32) -> Result<()> {
+    let (mut session, _) = recovered(rt, path)?;
+    save_twice(&mut session)?;
     for _ in 0..count {
         time_checkpoint(rt, &mut session)?;
     }

@@ -7,6 +7,8 @@
 //! - `ckrt_probe save FILE HARTS COUNT` decodes and encodes saved tables.
 //! - `ckrt_probe recover FILE` recovers a disk.
 //! - `ckrt_probe checkpoint FILE COUNT` recovers a disk and makes checkpoints.
+//! - `ckrt_probe changed FILE COUNT` makes checkpoints of a disk of the guest `stores-4`, with four changed pages each.
+//! - `ckrt_probe unchanged FILE COUNT` makes checkpoints with no changed page.
 //! - `ckrt_probe grow` formats a disk and recovers it, and says which growth of memory was refused, if one was.
 //! - `ckrt_probe tables` decodes saved tables, and says whether a growth of memory was refused.
 //! - `ckrt_probe lives` runs lives of one program, and says whether a growth of memory was refused.
@@ -19,7 +21,7 @@ mod lives;
 mod run;
 mod saved;
 
-use crate::disk::{time_checkpoints, time_recovery};
+use crate::disk::{time_changed, time_checkpoints, time_recovery, time_unchanged};
 use crate::growth::{report, report_tables};
 use crate::journal::{time_appends, time_decoding};
 use crate::lives::report_lives;
@@ -29,7 +31,7 @@ use anyhow::{Context, Result, bail};
 use std::env;
 
 const USAGE: &str =
-    "usage: ckrt_probe (run IMAGE PAGES HARTS STEPS | append FILE BYTES COUNT | decode COUNT | save FILE HARTS COUNT | recover FILE | checkpoint FILE COUNT | grow | tables | lives)...";
+    "usage: ckrt_probe (run IMAGE PAGES HARTS STEPS | append FILE BYTES COUNT | decode COUNT | save FILE HARTS COUNT | recover FILE | checkpoint FILE COUNT | changed FILE COUNT | unchanged FILE COUNT | grow | tables | lives)...";
 
 fn number(word: &str) -> Result<u32> {
     word.parse::<u32>().context(USAGE)
@@ -87,6 +89,22 @@ fn checkpoint<'a>(rt: &HostRuntime, words: &'a [String]) -> Rest<'a> {
     Ok(rest)
 }
 
+fn change<'a>(rt: &HostRuntime, words: &'a [String]) -> Rest<'a> {
+    let [path, count, rest @ ..] = words else {
+        bail!(USAGE);
+    };
+    time_changed(rt, path, number(count)?)?;
+    Ok(rest)
+}
+
+fn keep<'a>(rt: &HostRuntime, words: &'a [String]) -> Rest<'a> {
+    let [path, count, rest @ ..] = words else {
+        bail!(USAGE);
+    };
+    time_unchanged(rt, path, number(count)?)?;
+    Ok(rest)
+}
+
 fn grow<'a>(rt: &HostRuntime, words: &'a [String]) -> Rest<'a> {
     println!(rt; "{}", report(rt.alloc()))?;
     Ok(words)
@@ -114,6 +132,8 @@ fn probe<'a>(rt: &HostRuntime, words: &'a [String]) -> Rest<'a> {
         "save" => save(rt, rest),
         "recover" => recover(rt, rest),
         "checkpoint" => checkpoint(rt, rest),
+        "changed" => change(rt, rest),
+        "unchanged" => keep(rt, rest),
         "grow" => grow(rt, rest),
         "tables" => tables(rt, rest),
         "lives" => live(rt, rest),

@@ -68,7 +68,7 @@ fn expect_driven_on<R: Abort + Files<File = File> + AllocGlobal>(rt: &R) {
     );
     expect_end(
         rt,
-        "drive drive_a.disk --output drive_a.out --events 1",
+        "drive drive_a.disk --output drive_a.out --events 1 --seed 5 --progress 60",
         "enough\n",
         0,
     );
@@ -154,7 +154,8 @@ fn a_guest_that_waits_for_input_is_driven_on(rt: HostRuntime) {
     expect_fed(&rt);
 }
 
-const OUT_OF_RANGE: &str = "--turn is 1 to 65535, and --rounds-per-commit 1 or more\nckrt: Range\n";
+const OUT_OF_RANGE: &str =
+    "--turn is 1 to 65535, --rounds-per-commit and --progress 1 or more\nckrt: Range\n";
 
 const ABSENT: &str = "the disk drive_none.disk: there is no such file\nckrt: File\n";
 
@@ -182,6 +183,11 @@ fn expect_drive_faults<R: Abort + Files<File = File> + AllocGlobal>(rt: &R) {
     expect_fault(
         rt,
         "drive drive_none.disk --output . --rounds-per-commit 0",
+        OUT_OF_RANGE,
+    );
+    expect_fault(
+        rt,
+        "drive drive_none.disk --output . --progress 0",
         OUT_OF_RANGE,
     );
     expect_fault(rt, "drive drive_none.disk --output .", ABSENT);

@@ -10,8 +10,9 @@ use crate::small_disk::{SIZE, SMALL, format_outcome, recovered_in_memory, recove
 use crate::waiting::{BOUNDED, READERS, SLEEPERS};
 use arrayvec::ArrayVec;
 use ckrt_disk::{Disk, MemoryDisk};
-use ckrt_drive::{Drive, DriveFault, Ending, Options};
+use ckrt_drive::{Drive, DriveFault, Ending, Nobody, Onlooker, Options, Progress};
 use ckrt_events::Event;
+use ckrt_machine::{Answer, How};
 use ckrt_recovery::{Config, Session};
 use std::process::Abort;
 
@@ -57,6 +58,16 @@ const DEADLOCK: [u32; 23] = [
     0x00000073, // ecall
 ];
 
+/// Puts an A and exits.
+const PUTS_ONCE: [u32; 6] = [
+    0x04100513, // addi x10, x0, 0x41
+    0x00200893, // addi x17, x0, 2
+    0x00000073, // ecall
+    0x00000513, // addi x10, x0, 0
+    0x00100893, // addi x17, x0, 1
+    0x00000073, // ecall
+];
+
 /// Puts its argument for ever.
 const PUTS_FOR_EVER: [u32; 3] = [0x00200893, 0x00000073, 0xffdff06f];
 
@@ -87,7 +98,7 @@ fn ended<R: Abort, D: Disk, O: Disk>(
     ending: Ending,
 ) -> (Session<D>, O) {
     let mut drive = Drive::new(session, output, options);
-    expect_eq(rt, drive.run(1_000_000), Ok(Some(ending)));
+    expect_eq(rt, drive.run(1_000_000, &mut Nobody), Ok(Some(ending)));
     drive.into_parts()
 }
 
@@ -118,6 +129,58 @@ fn guests_are_driven_to_their_ends(rt: HostRuntime) {
     expect_driven(&rt, &ROUNDS, Ending::Ended, &[0x06, 0x0c, 0x12, 0x18, 0x00]);
     expect_driven(&rt, &PAIR, Ending::Ended, &[0x14]);
     expect_driven(&rt, &COUNTERS, Ending::Ended, &[0x50]);
+}
+
+/// Compares what it is told with a list.
+#[derive(Drop)]
+struct Listener<'a> {
+    awaited: &'a [Progress],
+    told: usize,
+    first_difference: Option<usize>,
+}
+
+impl Onlooker for Listener<'_> {
+    fn look<D: Disk>(&mut self, did: &Progress, _session: &Session<D>) {
+        if self.first_difference.is_none() && self.awaited.get(self.told) != Some(did) {
+            self.first_difference = Some(self.told);
+        }
+        self.told = self.told.saturating_add(1);
+    }
+}
+
+/// A journal of 4,096 bytes has never room for a full batch behind another one, so each commit is a checkpoint.
+#[test]
+fn an_onlooker_is_told_each_step(rt: HostRuntime) {
+    let session = recovered_in_memory(&rt, formatted_for(&rt, &PUTS_ONCE, 1));
+    let output = memory_disk(&rt, filled(&rt, 0, 64));
+    let awaited = [
+        Progress::Submitted(Event::Place(0, 1), Answer::Placed),
+        Progress::Submitted(Event::Run(0, 65_535), Answer::Ran(6, How::End)),
+        Progress::Checkpointed,
+        Progress::Released,
+        Progress::Stopped(Ending::Ended),
+    ];
+    let mut listener = Listener {
+        awaited: &awaited,
+        told: 0,
+        first_difference: None,
+    };
+    let mut drive = Drive::new(session, output, usual(u64::MAX));
+    expect_eq(&rt, drive.run(100, &mut listener), Ok(Some(Ending::Ended)));
+    expect_eq(&rt, (listener.told, listener.first_difference), (5, None));
+}
+
+#[test]
+fn guests_are_driven_by_lot(rt: HostRuntime) {
+    for seed in 0..8 {
+        for harts in [1, 3, 8] {
+            let session = recovered_in_memory(&rt, formatted_for(&rt, &COUNTERS, harts));
+            let output = memory_disk(&rt, filled(&rt, 0, 64));
+            let options = Options::new(7, 16, u64::MAX).with_seed(seed);
+            let (_, output) = ended(&rt, session, output, options, Ending::Ended);
+            expect_held(&rt, output, &[0x50]);
+        }
+    }
 }
 
 #[test]
@@ -173,7 +236,11 @@ fn output_without_room(rt: HostRuntime) {
     let session = recovered_in_memory(&rt, formatted_for(&rt, &PUTS_FOR_EVER, 1));
     let output = memory_disk(&rt, filled(&rt, 0, 100));
     let mut drive = Drive::new(session, output, usual(200));
-    expect_eq(&rt, drive.run(1_000), Err(DriveFault::OutputFull));
+    expect_eq(
+        &rt,
+        drive.run(1_000, &mut Nobody),
+        Err(DriveFault::OutputFull),
+    );
     let (session, output) = drive.into_parts();
     expect_eq(&rt, session.confirmed(), 0);
     expect_held(&rt, output, b"");
@@ -184,7 +251,11 @@ fn output_that_fails(rt: HostRuntime) {
     let session = recovered_in_memory(&rt, formatted_for(&rt, &PAIR, 3));
     let output = stopping_disk(&rt, filled(&rt, 0, 64), 2, &[0xee]);
     let mut drive = Drive::new(session, output, usual(u64::MAX));
-    expect_eq(&rt, drive.run(1_000_000), Err(DriveFault::Output));
+    expect_eq(
+        &rt,
+        drive.run(1_000_000, &mut Nobody),
+        Err(DriveFault::Output),
+    );
     let (session, output) = drive.into_parts();
     expect_eq(&rt, session.confirmed(), 0);
     let (_, output) = ended(
@@ -206,8 +277,13 @@ fn expect_whole_after_stop<R: Abort + AllocGlobal>(rt: &R, formatted: &[u8], at_
     let (image, output) = match recovery_outcome(rt, disk) {
         Ok(session) => {
             let mut drive = Drive::new(session, output, Options::new(40, 1, u64::MAX));
-            expect_eq_at(rt, at_call, drive.run(1_000_000), Err(DriveFault::Device));
-            let again = drive.run(1_000_000);
+            expect_eq_at(
+                rt,
+                at_call,
+                drive.run(1_000_000, &mut Nobody),
+                Err(DriveFault::Device),
+            );
+            let again = drive.run(1_000_000, &mut Nobody);
             expect_eq_at(rt, at_call, again.is_err(), true);
             let (session, output) = drive.into_parts();
             (session.into_disk().into_image(), output)

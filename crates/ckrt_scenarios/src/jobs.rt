@@ -1,5 +1,6 @@
 use crate::expect::{expect_eq, expect_eq_at, filled, remove_file, write_file};
 use crate::small_disk::IMAGE;
+use ckrt_drive::Nobody;
 use ckrt_jobs::{SystemSources, WrittenReport, run_words};
 use std::fs::{self, File, Files};
 use std::io::{self, Write};
@@ -81,6 +82,7 @@ pub fn ckrt<R: Abort + Files<File = File> + AllocGlobal>(
         &mut reader,
         &mut output,
         &mut reporter,
+        &mut Nobody,
     );
     Printed {
         output: output.into_seen(),

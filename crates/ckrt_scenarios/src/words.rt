@@ -93,6 +93,8 @@ const DRIVE: DriveJob<'static> = DriveJob {
     turn: 65_535,
     rounds: 16,
     events: None,
+    seed: None,
+    progress: None,
 };
 
 #[test]
@@ -107,6 +109,8 @@ fn a_drive_with_every_option(rt: HostRuntime) {
         turn: 0,
         rounds: 4_294_967_295,
         events: Some(18_446_744_073_709_551_615),
+        seed: Some(7),
+        progress: Some(10),
         ..DRIVE
     };
     expect_job(
@@ -120,6 +124,9 @@ fn a_drive_with_every_option(rt: HostRuntime) {
             "4294967295",
             "--events",
             "18446744073709551615",
+            "--seed=7",
+            "--progress",
+            "10",
         ],
         Job::Drive(all),
     );

@@ -48,7 +48,7 @@ inspect_rules : AreRules inspect_shape refl inspect_shape.rules
 inspect_rules = ((refl, inl (refl, refl)), ((refl, inl (refl, refl)), ((refl, inr (inr (refl, (_, [], refl)))), ((refl, inr (inl refl)), tt))))
 
 drive_rules : AreRules drive_shape refl drive_shape.rules
-drive_rules = ((refl, inl (refl, refl)), ((refl, inl (refl, refl)), ((refl, inl (refl, refl)), ((refl, inl (refl, refl)), ((refl, inl (refl, refl)), ((refl, inr (inl refl)), tt))))))
+drive_rules = ((refl, inl (refl, refl)), ((refl, inl (refl, refl)), ((refl, inl (refl, refl)), ((refl, inl (refl, refl)), ((refl, inl (refl, refl)), ((refl, inl (refl, refl)), ((refl, inl (refl, refl)), ((refl, inr (inl refl)), tt))))))))
 
 number_there : (v : Text) → accepts false (vp.Signed (pos 0) (pos 4294967295)) v ≡ true → (n : ℕ) × (number_of 32 (without_minus v) ≡ Some n)
 number_there v pass =
@@ -116,7 +116,7 @@ drive_named words pass =
     let before = (settled drive_shape.rules end).rows in
     let turn = number_at drive_shape refl (codes "turn") rows _ kept refl refl (row_found (codes "turn") rows (defaults_give (slots drive_shape 2) (after drive_shape 3) (slot drive_shape 2) before refl)) in
     let rounds = number_at drive_shape refl (codes "rounds-per-commit") rows _ kept refl refl (row_found (codes "rounds-per-commit") rows (defaults_give (slots drive_shape 3) (after drive_shape 4) (slot drive_shape 3) before refl)) in
-    (drive (record { disk = disk.0; output = output.0; turn = turn.0; rounds = rounds.0; events = place_in (codes "events") rows }), rw (disk.1, output.1, turn.1, rounds.1) refl)
+    (drive (record { disk = disk.0; output = output.0; turn = turn.0; rounds = rounds.0; events = place_in (codes "events") rows; seed = place_in (codes "seed") rows; progress = place_in (codes "progress") rows }), rw (disk.1, output.1, turn.1, rounds.1) refl)
 
 -- what a command that takes the words is asked for
 entered_named : (stop : Option (Text × List Text)) → entered_passes built_app stop ≡ true → is_some (entered built_app stop) ≡ true

@@ -143,7 +143,7 @@ fn inspect_arguments<'a>(alloc: Global) -> Result<Vec<Arg<'a>>, AllocError>
     Ok(arguments)
 }
 
-/// `drive DISK --output FILE [--turn N] [--rounds-per-commit R] [--events N]`.
+/// `drive DISK --output FILE [--turn N] [--rounds-per-commit R] [--events N] [--seed S] [--progress SECONDS]`.
 fn drive_command<'a>(alloc: Global) -> Result<Command<'a>, AllocError>
     ensures app { IfOk result (λ c. app_of c ≡ drive_app) }
     ensures local { IfOk result (λ c. (out-Command c).has_globals ≡ false) }
@@ -180,6 +180,18 @@ fn drive_arguments<'a>(alloc: Global) -> Result<Vec<Arg<'a>>, AllocError>
             "Rounds of turns between two commits, 1 or more"
         ),
         place(alloc, "events", "N", "End after N events"),
+        place(
+            alloc,
+            "seed",
+            "S",
+            "Draw harts and turns by lot, with this seed"
+        ),
+        place(
+            alloc,
+            "progress",
+            "SECONDS",
+            "Tell how far it is at most each so many seconds, 1 or more"
+        ),
     ]?;
     Ok(arguments)
 }

@@ -58,6 +58,8 @@ fn driving<'a>(matches: &ArgMatches<'a>) -> Option<DriveJob<'a>>
         turn: number(matches, "turn")?,
         rounds: number(matches, "rounds-per-commit")?,
         events: place(matches, "events"),
+        seed: place(matches, "seed"),
+        progress: place(matches, "progress"),
     })
 }
 

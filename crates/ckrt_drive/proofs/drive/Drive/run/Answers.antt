@@ -16,7 +16,7 @@ pub loop-made-preserved : goal.loop-made-preserved
 loop-made-preserved g c =
     let old = c.args.self.now in
     let mid = c.loop-made.self in
-    let new = c.step.new.self in
+    let new = c.shown_step.new.self in
     let h = c.in_ok-ending.ensures in
     let did = c.in_ok-ending.field-0 in
     let so_far = so_far_more g.O.Disk mid.options c.loop-made.made old.cursor mid.cursor new.cursor did old.session mid.session new.session old.output mid.output new.output c.loop-made.invariant.so_far (onward did c.in_default.not-Stopped) h.steps h.cursor
@@ -30,7 +30,7 @@ pub returns-in_err-ending-clause-runs : goal.returns-in_err-ending-clause-runs
 returns-in_err-ending-clause-runs g c =
     let old = c.args.self.now in
     let mid = c.loop-made.self in
-    let new = c.step.new.self in
+    let new = c.shown_step.new.self in
     let h = c.in_err-ending.ensures in
     let fault = c.in_err-ending.field-0.0 in
     let is : c.from_residual.result ≡ Err fault = search rules in
@@ -43,11 +43,11 @@ pub returns-in-Stopped-clause-runs : goal.returns-in-Stopped-clause-runs
 returns-in-Stopped-clause-runs g c =
     let old = c.args.self.now in
     let mid = c.loop-made.self in
-    let new = c.step.new.self in
+    let new = c.shown_step.new.self in
     let h = c.in_ok-ending.ensures in
     let ending = c.in-Stopped.ending in
-    let is : c.step.result ≡ Ok (Stopped ending) = search rules in
-    let steps = subst (λ r. Steps g.O.Disk (plan mid.options mid.cursor (view_of mid.session)) mid.session new.session mid.output new.output r) is c.step.ensures.steps in
+    let is : c.shown_step.result ≡ Ok (Stopped ending) = search rules in
+    let steps = subst (λ r. Steps g.O.Disk (plan mid.options mid.cursor (view_of mid.session)) mid.session new.session mid.output new.output r) is c.shown_step.ensures.steps in
     let turned = subst (λ did. new.cursor ≡ cursor_after mid.options did mid.cursor) c.in-Stopped.is h.cursor in
     let ends = subst (λ did. StopsRightly new.cursor (view_of new.session) did) c.in-Stopped.is h.ends in
     subst (λ o. Runs g.O.Disk o c.args.steps old.cursor new.cursor old.session new.session old.output new.output (Ok (Some ending))) c.loop-made.invariant.options

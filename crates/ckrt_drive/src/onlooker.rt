@@ -1,0 +1,19 @@
+//! Who looks on while a drive runs.
+
+use crate::progress::Progress;
+use ckrt_disk::Disk;
+use ckrt_recovery::Session;
+
+/// Who looks on while a drive runs. It is told each step, and nothing of the drive depends on it.
+pub trait Onlooker {
+    /// The drive did this, and its session stands so then.
+    fn look<D: Disk>(&mut self, did: &Progress, session: &Session<D>);
+}
+
+/// Nobody looks on.
+#[derive(Clone, Copy, Debug, PartialEq, Eq)]
+pub struct Nobody;
+
+impl Onlooker for Nobody {
+    fn look<D: Disk>(&mut self, _did: &Progress, _session: &Session<D>) {}
+}
