@@ -113,7 +113,7 @@ impl Barriers {
     {
         self.known();
         each_awaits_more(threads, self.rows())
-            && each_waits_where_a_barrier_is(self, threads.waits())
+            && each_waits_where_a_barrier_is(self, threads.waits().as_slice())
     }
 
     /// The barrier at an address, if there is one.

@@ -52,7 +52,8 @@ fn may_be_its_status(threads: &Threads, clock: u64, status: Status) -> bool
     ensures { result ≡ may_be_its_status status clock threads.now }
 {
     match status {
-        Status::Running => threads.is_any_live() && all_lie_ahead(clock, threads.waits()),
+        Status::Running => threads.is_any_live()
+            && all_lie_ahead(clock, threads.waits().as_slice()),
         Status::Exited(_) => true,
         Status::Faulted(thread, pc, _) => pc % 4 == 0 && is_live(threads, thread),
     }

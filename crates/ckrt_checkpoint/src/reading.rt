@@ -58,7 +58,7 @@ fn read_memory<D: Disk>(
 {
     let mut bytes = vec![in alloc; 0; config.memory_size()]?;
     disk.read(config.memory_at(area), &mut bytes)?;
-    let mut memory = Memory::from_bytes(bytes);
+    let mut memory = Memory::from_bytes(alloc, bytes)?;
     memory.clean(area);
     Ok(memory)
 }

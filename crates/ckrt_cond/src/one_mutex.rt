@@ -22,7 +22,7 @@ fn names_the_one_mutex(threads: &Threads, wait: &Wait) -> bool
 {
     match wait.reason {
         Reason::Condition(condition, mutex) => {
-            !is_any_with_other(threads.waits(), condition, mutex)
+            !is_any_with_other(threads.waits().as_slice(), condition, mutex)
         }
         _ => true,
     }
@@ -39,5 +39,5 @@ fn each_names_the_one_mutex(threads: &Threads, waits: &[Wait]) -> bool
 pub fn are_conditions_well_formed(threads: &Threads) -> bool
     ensures { (result ≡ true) ↔ IsWellFormed threads.now }
 {
-    each_names_the_one_mutex(threads, threads.waits())
+    each_names_the_one_mutex(threads, threads.waits().as_slice())
 }

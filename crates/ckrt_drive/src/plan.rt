@@ -86,7 +86,7 @@ fn idle(tables: &Tables) -> Next
     ensures next { result ≡ idle_until (earliest_deadline tables.now.threads.waits) tables.now }
     ensures in_range { IsInRangeNext result }
 {
-    if let Some(deadline) = earliest_deadline(tables.threads.waits()) {
+    if let Some(deadline) = earliest_deadline(tables.threads.waits().as_slice()) {
         return Next::Submit(Event::Tick(ticks_to(deadline, tables.clock)));
     }
     if tables.threads.first_waiter(Object::Input).is_some() {

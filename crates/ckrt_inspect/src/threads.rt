@@ -139,7 +139,11 @@ fn push_thread_code(
 fn is_waiting(threads: &Threads, thread: ThreadId) -> bool
     ensures { result ≡ is_waiting threads.now thread }
 {
-    threads.waits().iter().any(|wait| thread == wait.thread)
+    threads
+        .waits()
+        .as_slice()
+        .iter()
+        .any(|wait| thread == wait.thread)
 }
 
 /// A thread's line, and its code where that is shown.
@@ -237,5 +241,5 @@ pub fn push_all_threads(
 {
     push_harts(out, threads)?;
     push_threads(out, with_code, memory, threads)?;
-    push_rows(out, threads.waits())
+    push_rows(out, threads.waits().as_slice())
 }

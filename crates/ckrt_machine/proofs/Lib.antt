@@ -1,4 +1,3 @@
-pub mod BurstLaws
 pub mod EffectLaws
 pub mod RegsLaws
 pub mod RunLaws

@@ -13,7 +13,8 @@ use Rattle.ckrt_thread.specs.State as threads
 use Rattle.ckrt_calls.specs.declared.table.Tables.{Tables}
 use Rattle.ckrt_calls.specs.Table as calls
 use Rattle.ckrt_machine.specs.declared.event.How.TheVariants.{On}
-use Rattle.ckrt_machine.specs.Bursts.{burst, is_next, Burst, fault_ending, ending}
+use Rattle.ckrt_rv32i.specs.Bursts.{burst, is_next, Burst}
+use Rattle.ckrt_machine.specs.Bursts.{fault_ending, ending}
 use Rattle.ckrt_machine.specs.Steps.{State, quiet, hart_of, with_regs, acted, called, performed, thread_step, slot_step, step_of, hart_step}
 use Rattle.ckrt_machine.specs.Runs.{Ran, stop_of, stopped, continued, run_on, with_byte}
 use Rattle.ckrt_rv32i.proofs.EffectLaws.{kept, kept_size}

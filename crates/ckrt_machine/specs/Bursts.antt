@@ -1,8 +1,6 @@
--- Instructions in a row, with the registers at hand (this project's choice).
-use Rattle.std.specs.Prelude.{ℕ, zero, suc, ◌==◌, List, Bool, true, false, if◌then◌else◌, Option, Some, None, is_some}
-use Rattle.ckrt_rv32i.specs.Registers.{Registers}
+-- What follows the last instruction of a burst (this project's choice).
+use Rattle.std.specs.Prelude.{ℕ, ◌==◌, if◌then◌else◌, Option, Some, None, is_some}
 use Rattle.ckrt_rv32i.specs.Registers.{get}
-use Rattle.ckrt_rv32i.specs.Effect.{Effect, instruction_step}
 use Rattle.ckrt_rv32i.specs.declared.execution.Outcome.{Outcome}
 use Rattle.ckrt_rv32i.specs.declared.execution.Outcome.TheVariants.{Next, Call, Fault}
 use Rattle.ckrt_rv32i.specs.declared.execution.Cause.{Cause}
@@ -12,21 +10,6 @@ use Rattle.ckrt_thread.specs.State as threads
 use Rattle.ckrt_calls.specs.Table as calls
 use Rattle.ckrt_thread.specs.Abi.{A0, RETURN_GATE, UNWIND_GATE}
 use Rattle.ckrt_machine.specs.Steps.{State, Stepped, quiet, called, returned, handled, faulted}
-
-abbrev pub is_next : Outcome → Bool
-is_next Next = true
-is_next Call = false
-is_next (Fault cause) = false
-
--- the effect of the last instruction, and how many instructions were left as it began, 0 if none ended the burst
-pub record Burst : Type 0 where
-  pub left : ℕ
-  pub effect : Effect
-
--- instructions up to the first that has another outcome than Next, n at most
-abbrev pub burst : ℕ → Registers → List ℕ → Burst
-burst zero r m = record { left = 0; effect = record { outcome = Next; registers = r; bytes = m } }
-burst (suc n) r m = if is_next (instruction_step r m).outcome then burst n (instruction_step r m).registers (instruction_step r m).bytes else record { left = suc n; effect = instruction_step r m }
 
 -- A fault of the thread whose record this is. No instruction is at a gate, so a thread that is at one faults: it returned.
 abbrev pub fault_ending : Cause → Option Thread → ℕ → State → Stepped

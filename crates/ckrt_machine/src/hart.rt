@@ -6,7 +6,6 @@ ghost use Rattle.ckrt_calls.specs.WellFormed.{IsWellFormed};
 ghost use Rattle.ckrt_machine.specs.Steps.{hart_of, with_regs};
 ghost use Rattle.ckrt_machine.specs.Runs.{is_running, stop_of, stopped, run_on, with_byte};
 
-use crate::burst::burst;
 use crate::ending::end_burst;
 use crate::event::How;
 use arrayvec::ArrayVec;
@@ -121,7 +120,7 @@ fn turn(
     }
     let mut regs = live.regs;
     memory.known();
-    let (left, outcome) = burst(memory, &mut regs, limit);
+    let (left, outcome) = memory.burst(&mut regs, limit);
     put_back(tables, thread, &regs);
     if left == 0 {
         return (0, Some(How::On));

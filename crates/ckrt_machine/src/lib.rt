@@ -3,7 +3,6 @@
 #![tactic(auto)]
 
 mod accept;
-mod burst;
 mod ending;
 mod event;
 mod hart;

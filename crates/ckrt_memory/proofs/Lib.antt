@@ -1,2 +1,4 @@
 pub mod MarkLemmas
 pub mod FollowLemmas
+pub mod EntryLemmas
+pub mod StepLemmas

@@ -128,7 +128,7 @@ impl Mutexes {
         ensures { (result ≡ true) ↔ IsWellFormedWith threads.now self.now }
     {
         self.known();
-        self.are_few_in_use(threads) && may_all_wait(self, threads.waits())
+        self.are_few_in_use(threads) && may_all_wait(self, threads.waits().as_slice())
     }
 
     /// Whether at most 256 mutexes are in use.
@@ -424,18 +424,17 @@ impl Mutexes {
     }
 
     /// The mutex is given up, and the thread that waits longest for it has it at once.
-    #[tactic(auto, using(crate::proofs::Granting::grants_none, crate::proofs::Granting::grants_first))]
     fn hand_over(&mut self, threads: &mut Threads, kind: Kind, address: u32)
         requires { has_room 256 address self.old ≡ true }
         ensures threads { threads.new ≡ (released kind address threads.old self.old).threads }
         ensures mutexes { self.new ≡ (released kind address threads.old self.old).mutexes }
     {
-        let Some(wait) = threads.first_waiter(Object::Mutex(address)) else {
+        let Some(waiter) = threads.wake_first(Object::Mutex(address)) else {
             self.put(address, Mutex::free(kind));
             return;
         };
-        self.put(address, Mutex::owned(kind, wait.thread, 1));
-        threads.obtain(&wait);
+        self.put(address, Mutex::owned(kind, waiter.thread, 1));
+        threads.answer(waiter.thread, waiter.result());
     }
 
     /// Locks a mutex again for a thread whose wait at a condition has just been taken away, with the result that the

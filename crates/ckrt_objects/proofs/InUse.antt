@@ -1,5 +1,5 @@
 -- How many addresses are in use.
-use Rattle.std.proofs.Common.{◌≡◌, ℕ, zero, suc, ◌+◌, ◌-◌, ◌≤◌, ◌<◌, nat_eq, Bool, true, false, cond, ◌||◌, not, List, [], ◌∷◌, ◌++◌, length, map, Option, Some, None, is_some, refl, sym, ap, ◌∙◌, arith, slice_get, drop}
+use Rattle.std.proofs.Common.{◌≡◌, ℕ, zero, suc, ◌+◌, ◌-◌, ◌≤◌, ◌<◌, nat_eq, nat_le, Bool, true, false, cond, ◌||◌, not, List, [], ◌∷◌, ◌++◌, length, map, Option, Some, None, is_some, refl, sym, ap, ◌∙◌, arith, slice_get, drop}
 use Rattle.std.specs.List.{list_any, filter_map, cons_option, IsDistinct, AllByRecursion}
 use Rattle.std.specs.Set.{distinct_count, unique_keys, is_member}
 use Rattle.std.proofs.lemmas.Bool.Decides.{nat_tests}
@@ -151,3 +151,7 @@ module _ {T : Type 0} (name_of : Wait → Option ℕ) where
       let left = count_le (drop place ws) es h in
       let size : length (drop place ws) ≡ length ws - place = length-drop place ws in
       omega (arith, left, size, c, f)
+
+  -- entries and waits that are too few
+  pub too_few : (limit : ℕ) (ws : List Wait) (es : List (Entry T)) → is_rising es ≡ true → length es + length ws < limit → nat_le limit (count_in_use name_of ws es) ≡ false
+  too_few limit ws es h l = (let c = count_le ws es h in grind (arith, nat_tests, c, l))

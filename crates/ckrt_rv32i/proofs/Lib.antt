@@ -4,3 +4,4 @@ pub mod DecodingLaws
 pub mod EffectLaws
 pub mod TextLaws
 pub mod ParsingLaws
+pub mod BurstLaws

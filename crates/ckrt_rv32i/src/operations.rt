@@ -38,7 +38,7 @@ fn less_signed(a: u32, b: u32) -> u32
 impl Condition {
     /// Whether the condition holds of two registers' values.
     #[inline(always)]
-    pub(crate) fn holds(self, a: u32, b: u32) -> bool
+    pub fn holds(self, a: u32, b: u32) -> bool
         ensures { result ≡ holds self a b }
     {
         match self {
@@ -55,7 +55,7 @@ impl Condition {
 impl ImmOp {
     /// The result for a register's value and an immediate.
     #[inline(always)]
-    pub(crate) fn apply(self, a: u32, imm: i32) -> u32
+    pub fn apply(self, a: u32, imm: i32) -> u32
         ensures { result ≡ imm_result self a (cast_unsigned w32 imm) }
     {
         let b = imm.cast_unsigned();
@@ -73,7 +73,7 @@ impl ImmOp {
 impl ShiftOp {
     /// The result for a register's value and an amount from 0 to 31.
     #[inline(always)]
-    pub(crate) fn apply(self, a: u32, shamt: u8) -> u32
+    pub fn apply(self, a: u32, shamt: u8) -> u32
         requires { shamt < 32 }
         ensures { result ≡ shift_result self a shamt }
     {
@@ -89,7 +89,7 @@ impl ShiftOp {
 impl AluOp {
     /// The result for two registers' values.
     #[inline(always)]
-    pub(crate) fn apply(self, a: u32, b: u32) -> u32
+    pub fn apply(self, a: u32, b: u32) -> u32
         ensures { result ≡ alu_result self a b }
     {
         match self {
@@ -110,7 +110,7 @@ impl AluOp {
 impl LoadKind {
     /// How many bytes are loaded.
     #[inline(always)]
-    pub(crate) fn size(self) -> Size
+    pub fn size(self) -> Size
         ensures { result ≡ load_size self }
     {
         match self {
@@ -122,7 +122,7 @@ impl LoadKind {
 
     /// The word that a loaded value is extended to.
     #[inline(always)]
-    pub(crate) fn extend(self, value: u32) -> u32
+    pub fn extend(self, value: u32) -> u32
         requires { value < value_end (load_size self) }
         ensures { result ≡ extended self value }
     {

@@ -1,6 +1,6 @@
 //! The registers of a hart.
 ghost use Rattle.std.specs.Prelude.{◌≡◌, ◌<◌, ◌^◌, ℕ, length, slice_index, replicate};
-ghost use Rattle.ckrt_rv32i.specs.Registers.{Registers, get, put};
+ghost use Rattle.ckrt_rv32i.specs.Registers.{Registers, get, put, registers_of};
 
 use std::marker::Model;
 
@@ -80,5 +80,31 @@ impl Regs {
         if register != 0 {
             self.x[register as usize] = value;
         }
+    }
+
+    /// The register file: x0 to x31, and behind them a place that no instruction reads.
+    #[inline(always)]
+    pub fn file(&self) -> [u32; 33]
+        ensures registers { registers_of self.now.pc result ≡ self.now }
+        ensures zero { slice_index result 0 ≡ 0 }
+    {
+        let mut file = [0; 33];
+        for register in 0..32 {
+            file[register] = self.x[register];
+        }
+        file
+    }
+
+    /// This pc, and x0 to x31 from a register file, whose x0 is 0.
+    #[inline(always)]
+    pub fn from_file(pc: u32, file: &[u32; 33]) -> Regs
+        requires { slice_index file.now 0 ≡ 0 }
+        ensures { result ≡ registers_of pc file.now }
+    {
+        let mut x = [0; 32];
+        for register in 0..32 {
+            x[register] = file[register];
+        }
+        Regs { pc, x }
     }
 }

@@ -123,7 +123,7 @@ impl RwLocks {
         ensures { (result ≡ true) ↔ IsWellFormedWith threads.now self.now }
     {
         self.known();
-        self.are_few_in_use(threads) && may_all_wait(self, threads, threads.waits())
+        self.are_few_in_use(threads) && may_all_wait(self, threads, threads.waits().as_slice())
     }
 
     /// Whether at most 64 locks are in use.

@@ -56,6 +56,8 @@ mod journal;
 #[cfg(test)]
 mod largest;
 #[cfg(test)]
+mod linked_waits;
+#[cfg(test)]
 mod lives;
 #[cfg(test)]
 mod marks;
@@ -81,6 +83,8 @@ mod schedules;
 mod seats;
 #[cfg(test)]
 mod second_format;
+#[cfg(test)]
+mod self_modifying;
 #[cfg(test)]
 mod service;
 #[cfg(test)]

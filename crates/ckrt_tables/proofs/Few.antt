@@ -8,7 +8,9 @@ use Rattle.ckrt_thread.specs.Waits.{is_of}
 use Rattle.ckrt_thread.specs.State as threads
 use Rattle.ckrt_thread.proofs.Counting.{none_of_count}
 use Rattle.ckrt_thread.proofs.Known.{waiting_index}
-use Rattle.ckrt_thread.proofs.WaitLemmas.{ids, apart, ids_distinct, ids_any}
+use Rattle.ckrt_thread.specs.Queues.{ids}
+use Rattle.ckrt_thread.proofs.WaitLemmas.{apart, ids_distinct}
+use Rattle.ckrt_thread.proofs.QueueLemmas.{ids_any}
 use Rattle.ckrt_objects.proofs.InUse.{entries_le}
 use Rattle.ckrt_mutex.specs.Rows as mutex
 use Rattle.ckrt_rwlock.specs.Rows as rwlock

@@ -137,7 +137,7 @@ pub(crate) fn most_bytes(tables: &Tables, held: &Held) -> usize
     requires held { IsHeld held.now.items }
     ensures { length (encoding_of tables.now held.now.items) ≤ result }
 {
-    let threads = 264 * tables.threads.thread_count() + 20 * tables.threads.waits().len();
+    let threads = 264 * tables.threads.thread_count() + 20 * tables.threads.wait_count();
     let mutexes = 8 * tables.mutexes.count();
     let others = 8 * tables.barriers.count() + 198 * tables.rwlocks.count();
     FIXED_BYTES + threads + mutexes + others + tables.input.len() + held.len()

@@ -167,7 +167,7 @@ pub fn known_savable(tables: &Tables, held: &Held)
     ensures { CanBeSaved tables.now.threads.hart_count tables.now held.now.items }
 {
     known_all(tables.threads.slots());
-    known_all(tables.threads.waits());
+    known_all(tables.threads.waits().as_slice());
     known_all(tables.mutexes.rows().as_slice());
     known_all(tables.barriers.rows());
     known_all(tables.rwlocks.rows());

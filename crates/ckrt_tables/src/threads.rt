@@ -146,7 +146,8 @@ pub fn put_waits(out: &mut [u8], at: usize, threads: &Threads) -> usize
     requires { HasRoom out.old at (counted one_byte wait_bytes threads.now.waits) }
     ensures { IsPut out.old at (counted one_byte wait_bytes threads.now.waits) out.new result }
 {
-    let waits = threads.waits();
+    let table = threads.waits();
+    let waits = table.as_slice();
     let end = put(out, at, &[waits.len() as u8]);
     put_all(out, end, waits)
 }

@@ -19,7 +19,9 @@ use Rattle.ckrt_thread.specs.Cancellation.{is_unwinding, is_consistent, is_align
 use Rattle.ckrt_thread.specs.Rows.{detached}
 use Rattle.ckrt_thread.specs.Unwinding.{with_cancellation_of, pushed}
 use Rattle.ckrt_thread.specs.Waits.{is_of, is_for, is_reason_for, without, is_deadline_of, has_proper_deadline, joins_another, is_to_unwind, is_unwind_of}
-use Rattle.ckrt_thread.specs.State.{State, IsWellFormed, thread_of, is_live, is_live_thread, is_initial, is_joinable, is_waiting, is_ready, holds, off, count_of, places, joiners, unwind_waits, is_aligned, is_proper_live, is_proper_slot, fresh, first_of_program, with_word, with_regs, change_live, change_thread, with_slot, off_hart, placed_on, may_join, may_wait, blocked}
+use Rattle.ckrt_thread.specs.State.{State, IsWellFormed, first_waiter, thread_of, is_live, is_live_thread, is_initial, is_joinable, is_waiting, is_ready, holds, off, count_of, places, joiners, unwind_waits, is_aligned, is_proper_live, is_proper_slot, fresh, first_of_program, with_word, with_regs, change_live, change_thread, with_slot, off_hart, placed_on, may_join, may_wait, blocked}
+use Rattle.ckrt_thread.specs.declared.records.Object.{Object}
+use Rattle.ckrt_thread.specs.WaitList.{without_wait, without_first}
 use Rattle.ckrt_thread.specs.Contents.{empty}
 use Rattle.ckrt_thread.proofs.Counting.{count_of-append, count_of_none}
 use Rattle.ckrt_thread.proofs.WaitLemmas.{count_of-without, list_all-without, unwind_of, no_unwind}
@@ -111,6 +113,13 @@ well_formed_without s t h = record {
   deadlines = list_all-without has_proper_deadline t s.waits h.deadlines;
   unwinding_waits = λ q. omega (arith, h.unwinding_waits q, count_of-without (is_unwind_of q) t s.waits);
 }
+
+pub well_formed_without_wait : (s : State) (f : Option Wait) → IsWellFormed s → IsWellFormed (record s { waits = without_wait f s.waits })
+well_formed_without_wait s None h = h
+well_formed_without_wait s (Some w) h = well_formed_without s w.thread h
+
+pub well_formed_without_first : (s : State) (o : Object) → IsWellFormed s → IsWellFormed (record s { waits = without_first o s.waits })
+well_formed_without_first s o h = well_formed_without_wait s (first_waiter o s) h
 
 -- A THREAD CHANGES
 

@@ -11,8 +11,10 @@ use Rattle.ckrt_thread.specs.declared.records.Wait.{Wait}
 use Rattle.ckrt_thread.specs.declared.records.Object.TheVariants as object
 use Rattle.ckrt_thread.specs.Waits.{is_of, is_for}
 use Rattle.ckrt_thread.specs.State.{State, IsWellFormed, thread_of, is_live, is_live_thread, is_waiting, is_ready, is_joined, holds, count_of, places, joiners, off_hart, woken, set_word, first_waiter, free_place}
+use Rattle.ckrt_thread.specs.Queues.{ids}
+use Rattle.ckrt_thread.proofs.QueueLemmas.{ids_any}
 use Rattle.ckrt_thread.proofs.Counting.{count_of_none, count_of_some, none_of_count}
-use Rattle.ckrt_thread.proofs.WaitLemmas.{ids, apart, ids_distinct, ids_any, found_waits, count_of-find, count_of-without, count_of-without_found}
+use Rattle.ckrt_thread.proofs.WaitLemmas.{apart, ids_distinct, found_waits, count_of-find, count_of-without, count_of-without_found}
 use Rattle.ckrt_thread.proofs.SlotLemmas.{live_below, free_slot_none}
 use Rattle.ckrt_thread.proofs.HartLemmas.{count_of-off, held_at}
 

@@ -1,6 +1,10 @@
+pub mod Paths
+pub mod Directory
+pub mod QueueLemmas
 pub mod Counting
 pub mod WaitLemmas
 pub mod Marks
+pub mod Kept
 pub mod SlotLemmas
 pub mod HartLemmas
 pub mod Known

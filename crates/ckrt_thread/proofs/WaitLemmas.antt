@@ -6,34 +6,8 @@ use Rattle.std.proofs.lemmas.List.Recursion.{is_position_or_len}
 use Rattle.ckrt_thread.specs.declared.records.Wait.{Wait}
 use Rattle.ckrt_thread.specs.Waits.{is_of, without, is_unwind_of}
 use Rattle.ckrt_thread.specs.State.{count_of}
+use Rattle.ckrt_thread.specs.Queues.{ids}
 use Rattle.ckrt_thread.proofs.Counting.{count_of_some, count_of_none}
-
--- how many waits stand before the thread's
-abbrev place_in : ℕ → List Wait → ℕ
-place_in t [] = 0
-place_in t (w ∷ ws) = cond (is_of t w) 0 (1 + place_in t ws)
-
-at_place : (t : ℕ) (ws : List Wait) (i : ℕ) → i ≡ place_in t ws → i < length ws → remove ws i ≡ without t ws
-at_place t [] i e l = absurd (omega arith)
-at_place t (w ∷ ws) zero e l = grind (arith, nat_tests)
-at_place t (w ∷ ws) (suc i) e l =
-    let f : i ≡ place_in t ws → remove ws i ≡ without t ws = λ h. at_place t ws i h (omega arith) in
-    grind (arith, nat_tests, f)
-
-no_place : (t : ℕ) (ws : List Wait) → length ws ≤ place_in t ws → without t ws ≡ ws
-no_place t [] l = refl
-no_place t (w ∷ ws) l = grind (arith, nat_tests, no_place t ws)
-
-pub taken_out : (t : ℕ) (ws : List Wait) (i : ℕ) → position (is_of t) ws ≡ Some i → remove ws i ≡ without t ws
-taken_out t ws i e =
-    let p = is_position_or_len (place_in t) (is_of t) refl (λ _ _. refl) ws in
-    let f : i ≡ place_in t ws → i < length ws → remove ws i ≡ without t ws = at_place t ws i in
-    grind (arith, nat_tests, p, f)
-
-pub not_there : (t : ℕ) (ws : List Wait) → position (is_of t) ws ≡ None → without t ws ≡ ws
-not_there t ws e =
-    let p = is_position_or_len (place_in t) (is_of t) refl (λ _ _. refl) ws in
-    grind (arith, nat_tests, p, no_place t ws)
 
 -- who has the first of some waits waits
 pub found_waits : (p : Wait → Bool) (ws : List Wait) (w : Wait) → find p ws ≡ Some w → list_any (is_of w.thread) ws ≡ true
@@ -88,10 +62,6 @@ pub length-part : (p : Wait → Bool) (ws : List Wait) → length (filter p ws) 
 length-part p [] = omega arith
 length-part p (w ∷ ws) = grind (arith, nat_tests, length-part p ws)
 
--- the threads that wait
-abbrev pub ids : List Wait → List ℕ
-ids ws = map (λ w. w.thread) ws
-
 pub apart : (t : ℕ) (ws : List Wait) → list_any (is_of t) ws ≡ false → AllByRecursion (λ u. eqb t u ≡ false) (ids ws)
 apart t [] h = tt
 apart t (w ∷ ws) h = (grind (arith, nat_tests), apart t ws (grind (arith, nat_tests)))
@@ -101,7 +71,3 @@ unfolding IsDistinct
 ids_distinct [] h = tt
 ids_distinct (w ∷ ws) h =
     (apart w.thread ws (grind (arith, nat_tests, h w.thread, count_of_some (is_of w.thread) ws)), ids_distinct ws (λ t. grind (arith, nat_tests, h t)))
-
-pub ids_any : (q : ℕ) (ws : List Wait) → list_any (eqb q) (ids ws) ≡ list_any (is_of q) ws
-ids_any q [] = refl
-ids_any q (w ∷ ws) = ap (λ b. eqb q w.thread || b) (ids_any q ws)

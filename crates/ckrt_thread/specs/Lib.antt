@@ -3,6 +3,8 @@ pub mod Errors
 pub mod Cancellation
 pub mod Waits
 pub mod Deadlines
+pub mod Links
+pub mod Queues
 pub mod WaitList
 pub mod State
 pub mod Rows

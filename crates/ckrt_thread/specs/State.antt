@@ -8,6 +8,7 @@ use Rattle.ckrt_thread.specs.declared.records.Thread.{Thread}
 use Rattle.ckrt_thread.specs.declared.records.Thread.TheVariants as thread
 use Rattle.ckrt_thread.specs.declared.records.Live.{Live}
 use Rattle.ckrt_thread.specs.declared.records.Wait.{Wait}
+use Rattle.ckrt_thread.specs.declared.records.Waiter.{Waiter}
 use Rattle.ckrt_thread.specs.declared.records.Reason.{Reason}
 use Rattle.ckrt_thread.specs.declared.records.Reason.TheVariants as reason
 use Rattle.ckrt_thread.specs.declared.records.Object.{Object}
@@ -226,6 +227,21 @@ blocked t r d s = record {
 -- the thread's wait is taken away
 abbrev pub unwaited : ℕ → State → State
 unwaited t s = record s { waits = without t s.waits }
+
+-- who waits, and why
+abbrev pub of_wait : Wait → ℕ × Reason
+of_wait w = (w.thread, w.reason)
+
+abbrev pub of_waiter : Waiter → ℕ × Reason
+of_waiter w = (w.thread, w.reason)
+
+-- the wait that has waited longest for an object is taken away, if there is one
+abbrev pub unwaited_first : Option Wait → State → State
+unwaited_first None s = s
+unwaited_first (Some w) s = unwaited w.thread s
+
+abbrev pub first_unwaited : Object → State → State
+first_unwaited o s = unwaited_first (first_waiter o s) s
 
 -- the thread's wait ends, and it gets this result
 abbrev pub woken : ℕ → ℕ → State → State

@@ -8,11 +8,12 @@ mod deadlines;
 mod errors;
 mod harts;
 mod laws;
+mod links;
+mod queues;
 mod records;
 mod slots;
 mod table;
 mod wait_list;
-mod waits;
 
 pub use abi::{PROGRAM_START, RETURN_GATE, UNWIND_GATE};
 pub use errors::{EAGAIN, EBUSY, EDEADLK, EINVAL, ENOSYS, EPERM, ESRCH, ETIMEDOUT};
@@ -22,6 +23,6 @@ pub use laws::{
 };
 pub use records::{
     CANCELED, CallResult, Cancellation, Handler, Live, MAX_HANDLERS, MAX_HARTS, MAX_THREADS,
-    MOMENT_END, Object, Reason, RetakeResult, Thread, ThreadId, Wait,
+    MOMENT_END, Object, Reason, RetakeResult, Thread, ThreadId, Wait, Waiter,
 };
 pub use table::Threads;

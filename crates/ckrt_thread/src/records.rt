@@ -179,6 +179,19 @@ pub enum Reason {
     Write(u32),
 }
 
+ghost use Rattle.std.specs.Prelude.{◌≡◌};
+ghost use Rattle.ckrt_thread.specs.Granting.{wait_result};
+
+/// What goes to x10 when who waits for this reason gets what it waited for.
+fn result_of(reason: Reason) -> Option<u32>
+    ensures { result ≡ wait_result reason }
+{
+    match reason {
+        Reason::Retake(_, result) => result.code(),
+        _ => Some(0),
+    }
+}
+
 /// One entry of the list of waits.
 #[derive(Clone, Copy, Debug, Default, Drop)]
 pub struct Wait {
@@ -199,17 +212,38 @@ impl Wait {
     pub fn result(&self) -> Option<u32>
         ensures { result ≡ wait_result self.now.reason }
     {
-        match self.reason {
-            Reason::Retake(_, result) => result.code(),
-            _ => Some(0),
-        }
+        result_of(self.reason)
+    }
+}
+
+/// Who was taken out of the list of waits.
+#[derive(Clone, Copy, Debug, Drop)]
+pub struct Waiter {
+    /// Who waited.
+    pub thread: ThreadId,
+    /// Why.
+    pub reason: Reason,
+    /// How often that reached an entry of the table of waits: at most 8, however many wait.
+    pub reached: u8,
+}
+
+impl Waiter {
+    ghost use Rattle.std.specs.Prelude.{◌≡◌};
+    ghost use Rattle.ckrt_thread.specs.Granting.{wait_result};
+
+    /// What goes to x10 when the thread gets what it waited for. A cancelled thread gets nothing.
+    pub fn result(&self) -> Option<u32>
+        ensures { result ≡ wait_result self.now.reason }
+    {
+        result_of(self.reason)
     }
 }
 
 /// What a thread may wait for.
-#[derive(Clone, Copy, Debug, Drop)]
+#[derive(Clone, Copy, Debug, Default, Drop)]
 pub enum Object {
     /// The console's input.
+    #[default]
     Input,
     /// The end of a thread.
     End(ThreadId),

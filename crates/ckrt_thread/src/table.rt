@@ -1,9 +1,9 @@
 //! The table of threads.
-ghost use Rattle.std.specs.Prelude.{◌≡◌, ℕ, ◌+◌, ◌≤◌, ◌<◌, ◌%◌, length, slice_get, IfSome, IfOk, true, false, Some, None, is_some, []};
+ghost use Rattle.std.specs.Prelude.{◌≡◌, ℕ, ◌+◌, ◌≤◌, ◌<◌, ◌%◌, length, slice_get, IfSome, IfOk, option_map, true, false, Some, None, is_some, []};
 ghost use Rattle.std.specs.List.{find};
 ghost use Rattle.std.specs.Option.{option_flatten, option_copied};
 ghost use Rattle.ckrt_thread.specs.Abi.{A0, A1};
-ghost use Rattle.ckrt_thread.specs.State.{IsWellFormed, thread_of, is_live, is_live_thread, is_any_live, is_initial, is_detached, is_joinable, regs_of, is_waiting, is_ready, first_waiter, is_joined, free_place, places, joiners, unwind_waits, is_aligned, is_proper_live, is_proper_slot, fresh, with_thread_regs, set_word, change_thread, with_slot, off_hart, placed_on, may_wait, blocked, unwaited, woken, all_woken};
+ghost use Rattle.ckrt_thread.specs.State.{IsWellFormed, thread_of, is_live, is_live_thread, is_any_live, is_initial, is_detached, is_joinable, regs_of, is_waiting, is_ready, first_waiter, first_unwaited, of_wait, of_waiter, is_joined, free_place, places, joiners, unwind_waits, is_aligned, is_proper_live, is_proper_slot, fresh, with_thread_regs, set_word, change_thread, with_slot, off_hart, placed_on, may_wait, blocked, unwaited, woken, all_woken};
 ghost use Rattle.ckrt_thread.specs.Cancellation.{cancellation_of, handlers_of, is_unwinding, is_consistent, is_aligned_handler, popping};
 ghost use Rattle.ckrt_thread.specs.Unwinding.{newest_handler, pushed, popped, entered, next_handler, with_cancellation_of};
 ghost use Rattle.ckrt_thread.specs.Deadlines.{earliest_due};
@@ -18,12 +18,12 @@ use crate::deadlines::earliest_due;
 use crate::errors::{EAGAIN, EDEADLK, EINVAL, ESRCH};
 use crate::harts::{harts_any, take_off};
 use crate::records::{
-    CallResult, Cancellation, Handler, Live, MAX_HANDLERS, MAX_HARTS, Object, Reason, Thread,
-    ThreadId, Wait,
+    CallResult, Cancellation, Handler, Live, MAX_HANDLERS, MAX_HARTS, MAX_THREADS, Object, Reason,
+    Thread, ThreadId, Wait, Waiter,
 };
 use crate::slots::{Slots, any_live, first_thread, free_slot, new_thread};
 use crate::wait_list::WaitList;
-use crate::waits::{count_for, first_for, wait_of};
+use arrayvec::ArrayVec;
 use ckrt_rv32i::Regs;
 use std::alloc::{AllocError, Global};
 use std::marker::Model;
@@ -245,22 +245,21 @@ impl Threads {
         requires { place < length self.now.waits }
         ensures { slice_get self.now.waits place ≡ Some result }
     {
-        self.waits.as_slice()[place]
+        self.waits.at(place)
     }
 
-    /// The waits in order of the start of waiting.
-    pub fn waits(&self) -> &[Wait]
-        ensures waits { result.now ≡ self.now.waits }
-        ensures few { length result.now ≤ 64 }
+    /// The waits in order of the start of waiting, put together from the table.
+    pub fn waits(&self) -> ArrayVec<Wait, MAX_THREADS>
+        ensures { result.items ≡ self.now.waits }
     {
-        self.waits.as_slice()
+        self.waits.in_order()
     }
 
     /// The wait of a thread, if it waits.
     pub fn wait_of(&self, thread: ThreadId) -> Option<Wait>
         ensures { result ≡ find (is_of thread) self.now.waits }
     {
-        wait_of(self.waits.as_slice(), thread)
+        self.waits.wait_of(thread)
     }
 
     /// The wait that has waited longest for the object.
@@ -270,7 +269,7 @@ impl Threads {
         ensures waiting { IfSome result (λ w. is_waiting self.now w.thread ≡ true) }
         ensures thread { IfSome result (λ w. (0 < w.thread) × (w.thread ≤ 64)) }
     {
-        first_for(self.waits.as_slice(), object)
+        self.waits.first_for(object)
     }
 
     /// How many wait for the object.
@@ -278,7 +277,7 @@ impl Threads {
         ensures count { result ≡ length (queue_of object self.now) }
         ensures few { result ≤ 64 }
     {
-        count_for(self.waits.as_slice(), object)
+        self.waits.count_for(object)
     }
 
     /// The due wait that ends first at this moment: by deadline, then by thread.
@@ -286,7 +285,7 @@ impl Threads {
         ensures first { result ≡ earliest_due now self.now.waits }
         ensures found { IfSome result (λ w. (find (is_of w.thread) self.now.waits ≡ Some w) × (is_live self.now w.thread ≡ true)) }
     {
-        earliest_due(self.waits.as_slice(), now)
+        earliest_due(self.waits.in_order().as_slice(), now)
     }
 
     /// Whether a thread joins this one.
@@ -376,15 +375,35 @@ impl Threads {
     }
 
     /// All who wait for the object get this result in x10, in order of the start of waiting, and their waits end.
-    #[tactic(auto, using(crate::proofs::Waking::first_woken, crate::proofs::Waking::none_woken, crate::proofs::Grants::empty_queue))]
+    #[tactic(auto, using(crate::proofs::Waking::none_woken, crate::proofs::Waking::no_first, crate::proofs::Grants::empty_queue))]
     pub fn wake_all(&mut self, object: Object, value: u32)
         ensures woken { self.new ≡ all_woken value (queue_of object self.old) self.old }
         ensures queue { queue_of object self.new ≡ [] }
     {
-        while let Some(wait) = self.first_waiter(object) {
+        self.known();
+        while let Some(waiter) = self.wake_first(object) {
+            self.set_result(waiter.thread, value);
             self.known();
-            self.wake(wait.thread, value);
         }
+    }
+
+    /// The wait that has waited longest for the object ends, and x10 stays. None where nobody waits for it, and then
+    /// nothing changes.
+    #[tactic(auto, using(crate::proofs::WaitLemmas::found_waits))]
+    pub fn wake_first(&mut self, object: Object) -> Option<Waiter>
+        ensures first { option_map of_waiter result ≡ option_map of_wait (first_waiter object self.old) }
+        ensures waiting { IfSome result (λ w. is_waiting self.old w.thread ≡ true) }
+        ensures thread { IfSome result (λ w. (0 < w.thread) × (w.thread ≤ 64)) }
+        ensures ready { IfSome result (λ w. (is_live self.new w.thread ≡ true) × (is_waiting self.new w.thread ≡ false)) }
+        ensures threads { self.new ≡ first_unwaited object self.old }
+    {
+        self.known();
+        let (wait, reached) = self.waits.take_first(object)?;
+        Some(Waiter {
+            thread: wait.thread,
+            reason: wait.reason,
+            reached,
+        })
     }
 
     /// The thread's wait ends, if it waits, and x10 stays.

@@ -9,5 +9,5 @@ pub returns-clause-pages : goal.returns-clause-pages
 returns-clause-pages g c = λ honest.
     let config = c.args.config.now in let area = c.args.area in let image = g.D.Disk.content c.args.disk.now in let valid = c.requires.valid in
     let few : config.pages ≤ 1024 = grind (arith, nat_tests, valid) in
-    let is : c.from_bytes-memory.result.bytes ≡ memory_of config area image = grind (arith, common_steps, honest) in
-    read_stand config area c.from_bytes-memory.result c.clean.new.self image c.requires.area few c.from_bytes-memory.ensures.dirty c.clean.ensures is
+    let is : c.in_ok-memory.memory.bytes ≡ memory_of config area image = grind (arith, common_steps, honest) in
+    read_stand config area c.in_ok-memory.memory c.clean.new.self image c.requires.area few c.in_ok-memory.ensures.dirty c.clean.ensures is

@@ -1,4 +1,4 @@
-use Rattle.std.proofs.Common.{◌≡◌, true, false, cond, List, Some, Err, sym, ◌∙◌, ap, subst, rules}
+use Rattle.std.proofs.Common.{◌≡◌, ◌+◌, ◌<◌, ◌^◌, true, false, cond, List, Some, Err, sym, ◌∙◌, ap, subst, rules}
 use Rattle.ckrt_journal.specs.declared.journal.Journal.{Journal}
 use Rattle.ckrt_machine.specs.Steps.{State}
 use Rattle.ckrt_tables.specs.Decoding.{Saved}
@@ -7,7 +7,7 @@ use Rattle.ckrt_checkpoint.specs.Holds.{BothStand}
 use Rattle.ckrt_checkpoint.specs.Layout.{memory_of}
 use Rattle.ckrt_image.specs.declared.fault.RecoverFault.TheVariants.{Damaged}
 use Rattle.ckrt_image.specs.Recovery.{is_end_in_range, unreplayed}
-use Rattle.ckrt_image.proofs.RecoverLemmas.{ok}
+use Rattle.ckrt_image.proofs.RecoverLemmas.{ok, small_journal}
 use Rattle.ckrt_image.proofs.reading.read_state.Goals as goal
 
 pub returns-then-not-ends_in_range-clause-exact : goal.returns-then-not-ends_in_range-clause-exact
@@ -45,3 +45,11 @@ returns-in-Ok-clause-exact g c = λ honest.
 pub returns-in-Ok-clause-pages : goal.returns-in-Ok-clause-pages
 returns-in-Ok-clause-pages g c = λ honest.
     subst (λ (m : Memory). BothStand c.args.config.now m (g.D.Disk.content c.args.disk.now)) (sym c.from_parts.ensures.memory) (c.in-Ok.ensures.pages honest)
+
+-- the fields of the state one by one
+pub invariant_of-result-clause-valid : goal.invariant_of-result-clause-valid
+invariant_of-result-clause-valid g c = search rules
+
+pub invariant_of-result-clause-small : goal.invariant_of-result-clause-small
+invariant_of-result-clause-small g c =
+    subst (λ (j : Journal). j.at + j.size < 2 ^ 64) (sym c.journal_of.ensures) (small_journal c.args.config.now c.args.area.now.index c.requires.valid c.requires.picked.index)

@@ -6,5 +6,4 @@ use Rattle.ckrt_tables.proofs.encoding.most_bytes.Goals as goal
 pub returns : goal.returns
 returns c =
     let size = encoding_size c.args.tables.now c.args.held.now.items c.requires.well_formed in
-    let waits : length c.waits.result.now ≡ length c.args.tables.now.threads.waits = ap length c.waits.ensures.waits in
-    omega (arith, size, c.thread_count.ensures.count, waits, c.count-mutexes.ensures, c.count.ensures, c.count-2.ensures, c.len.ensures.len, c.len-2.ensures)
+    omega (arith, size, c.thread_count.ensures.count, c.wait_count.ensures.count, c.count-mutexes.ensures, c.count.ensures, c.count-2.ensures, c.len.ensures.len, c.len-2.ensures)

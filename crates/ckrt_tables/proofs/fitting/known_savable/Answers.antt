@@ -9,7 +9,7 @@ pub known_all-requires : goal.known_all-requires
 known_all-requires c = ap (list_all is_proper_slot) c.slots.ensures.slots ∙ proper_slots c.args.tables.now.threads c.requires.well_formed.threads
 
 pub known_all-requires-2 : goal.known_all-requires-2
-known_all-requires-2 c = all_true c.waits.result.now
+known_all-requires-2 c = all_true c.as_slice.result.now
 
 pub known_all-requires-4 : goal.known_all-requires-4
 known_all-requires-4 c = all_true c.rows-2.result.now
@@ -17,7 +17,7 @@ known_all-requires-4 c = all_true c.rows-2.result.now
 pub returns : goal.returns
 returns c =
     let s = c.args.tables.now in
-    let rows : s.mutexes ≡ c.as_slice.result.now = search rules in
+    let rows : s.mutexes ≡ c.as_slice-2.result.now = search rules in
     record {
       well_formed = c.requires.well_formed;
       fit = record {
@@ -25,7 +25,7 @@ returns c =
         status = c.known_status.ensures;
         harts = harts_fit s.threads c.requires.well_formed.threads;
         threads = ap (list_all fits_slot) (sym c.slots.ensures.slots) ∙ c.known_all.ensures;
-        waits = ap (list_all fits_wait) (sym c.waits.ensures.waits) ∙ c.known_all-2.ensures;
+        waits = ap (list_all fits_wait) (sym (c.as_slice.ensures.value ∙ c.waits.ensures)) ∙ c.known_all-2.ensures;
         mutexes = ap (list_all fits_mutex) rows ∙ c.known_all-3.ensures;
         barriers = ap (list_all fits_barrier) (sym c.rows-2.ensures) ∙ c.known_all-4.ensures;
         rwlocks = ap (list_all fits_rwlock) (sym c.rows-3.ensures) ∙ c.known_all-5.ensures;

@@ -7,7 +7,7 @@ use Rattle.ckrt_barrier.proofs.barriers.Barriers.is_well_formed_with.Goals as go
 pub returns-then-each_awaits_more : goal.returns-then-each_awaits_more
 returns-then-each_awaits_more c =
     let fewer : c.each_awaits_more.result ≡ list_all (awaits_more c.args.threads.now) c.args.self.now = rw c.rows.ensures at c.each_awaits_more.ensures in
-    let there : c.each_waits_where_a_barrier_is.result ≡ list_all (waits_where_a_barrier_is c.args.self.now) c.args.threads.now.waits = rw c.waits.ensures.waits at c.each_waits_where_a_barrier_is.ensures in (
+    let there : c.each_waits_where_a_barrier_is.result ≡ list_all (waits_where_a_barrier_is c.args.self.now) c.args.threads.now.waits = rw (c.as_slice.ensures.value, c.waits.ensures) at c.each_waits_where_a_barrier_is.ensures in (
       (λ t. tested c.args.threads.now c.args.self.now c.known.ensures (sym fewer ∙ c.if-each_awaits_more.true) (sym there ∙ t)),
       (λ h. there ∙ barriers_there c.args.threads.now c.args.self.now h),
     )

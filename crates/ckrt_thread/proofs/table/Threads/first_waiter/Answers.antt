@@ -3,4 +3,4 @@ use Rattle.ckrt_thread.proofs.Known.{found_range}
 use Rattle.ckrt_thread.proofs.table.Threads.first_waiter.Goals as goal
 
 pub returns-clause-thread : goal.returns-clause-thread
-returns-clause-thread c = rw (c.first_for.ensures, c.as_slice.ensures.value) (found_range _ (is_for c.args.object) c.self.invariant)
+returns-clause-thread c = rw c.first_for.ensures (found_range _ (is_for c.args.object) c.self.invariant)

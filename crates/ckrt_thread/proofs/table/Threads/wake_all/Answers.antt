@@ -1,9 +1,12 @@
-use Rattle.std.proofs.Common.{arith}
-use Rattle.ckrt_thread.proofs.Waking.{one_fewer, first_woken}
+use Rattle.std.proofs.Common.{◌≡◌, ◌<◌, ◌∙◌, sym, length}
+use Rattle.ckrt_thread.proofs.Waking.{fewer_left, first_woken}
 use Rattle.ckrt_thread.proofs.table.Threads.wake_all.Goals as goal
 
-pub loop-wait-smaller : goal.loop-wait-smaller
-loop-wait-smaller c = rw c.wake.ensures (one_fewer c.in-Some.wait.thread c.args.value c.loop-wait.self c.in-Some.ensures.waiting)
+pub loop-waiter-smaller : goal.loop-waiter-smaller
+loop-waiter-smaller c = rw (c.set_result.ensures, c.wake_first.ensures.threads) (fewer_left c.args.object c.args.value c.in-Some.waiter c.loop-waiter.self c.in-Some.ensures.first)
 
-pub loop-wait-preserved : goal.loop-wait-preserved
-loop-wait-preserved c = grind (arith, first_woken, c.loop-wait.invariant)
+pub loop-waiter-preserved : goal.loop-waiter-preserved
+loop-waiter-preserved c = record {
+  left = rw (c.set_result.ensures, c.wake_first.ensures.threads) (sym (first_woken c.args.object c.args.value c.in-Some.waiter c.loop-waiter.self c.in-Some.ensures.first c.loop-waiter.invariant.well_formed) ∙ c.loop-waiter.invariant.left);
+  well_formed = c.known-in-Some.ensures;
+}

@@ -1,9 +1,0 @@
-use Rattle.std.proofs.Common.{◌≡◌, ◌≤◌, ◌+◌, drop, length}
-use Rattle.ckrt_objects.specs.InUse.{count_in_use}
-use Rattle.ckrt_objects.proofs.in_use.are_limit_in_use.Given as goal
-
-abbrev pub invariant-loop-place : goal.invariant-loop-place
-invariant-loop-place g l = record {
-  few : l.count ≤ length l.entries + l.place;
-  counted : l.count + count_in_use g.T.Named.named (drop l.place l.threads.waits) l.entries ≡ count_in_use g.T.Named.named l.threads.waits l.entries + length l.entries;
-}

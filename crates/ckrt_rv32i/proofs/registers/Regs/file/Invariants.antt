@@ -1,0 +1,8 @@
+use Rattle.std.proofs.Common.{◌≡◌, length, take}
+use Rattle.ckrt_rv32i.proofs.registers.Regs.file.Given as goal
+
+abbrev pub invariant-loop-register : goal.invariant-loop-register
+invariant-loop-register l = record {
+  size : length l.file ≡ 33;
+  same : take l.register l.file ≡ take l.register l.self.x;
+}
