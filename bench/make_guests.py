@@ -1,14 +1,18 @@
-"""Writes the guests that measure calls: locks-4.bin, plain-4.bin (the same without its calls) and locks-crowded.bin; and
-stores-4.bin, which measures checkpoints of changed pages.
+"""Writes the guests that measure calls: locks-4.bin, plain-4.bin (the same without its calls) and locks-crowded.bin;
+those that measure stores: scattered-stores.bin and own-page-stores.bin; and stores-4.bin, which measures checkpoints of
+changed pages.
 
 Each of four threads makes ROUNDS rounds of: lock, eight additions, unlock. In plain-4 an addition stands in the place
 of each ECALL. In locks-crowded 200 other mutexes are owned and 60 threads wait for one of them. In stores-4 one thread
 goes round for ever: each round of STORES_ROUND steps stores the address of each of four pages into its first word.
+In scattered-stores each of STORES rounds stores a word at a place of 3 MiB that a generator draws; in own-page-stores it
+stores one into the page of the code, behind its words. Both put one byte of the generator's state at the end.
 """
 import os
 import struct
 
 ROUNDS = 400_000
+STORES = 8_000_000
 STORES_ROUND = 9
 
 
@@ -54,6 +58,27 @@ class Program:
     def constant(self, rd, value):
         self.lui(rd, (value + 0x800) >> 12)
         self.addi(rd, rd, value - ((value + 0x800) >> 12 << 12))
+
+    def register(self, funct7, funct3, rd, rs1, rs2):
+        self.emit(lambda at: funct7 << 25 | rs2 << 20 | rs1 << 15 | funct3 << 12 | rd << 7 | 0x33)
+
+    def add(self, rd, rs1, rs2):
+        self.register(0, 0, rd, rs1, rs2)
+
+    def xor(self, rd, rs1, rs2):
+        self.register(0, 4, rd, rs1, rs2)
+
+    def both(self, rd, rs1, rs2):
+        self.register(0, 7, rd, rs1, rs2)
+
+    def slli(self, rd, rs1, shamt):
+        self.emit(lambda at: shamt << 20 | rs1 << 15 | 1 << 12 | rd << 7 | 0x13)
+
+    def srli(self, rd, rs1, shamt):
+        self.emit(lambda at: shamt << 20 | rs1 << 15 | 5 << 12 | rd << 7 | 0x13)
+
+    def store_word(self, rs2, rs1):
+        self.emit(lambda at: rs2 << 20 | rs1 << 15 | 2 << 12 | 0x23)
 
     def ecall(self):
         self.emit(lambda at: 0x73)
@@ -155,16 +180,58 @@ def stores():
     program.label("round")
     for page in range(2, 6):
         program.lui(5, page)
-        # sw x5, 0(x5)
-        program.emit(lambda at: 5 << 20 | 5 << 15 | 2 << 12 | 0x23)
+        program.store_word(5, 5)
     program.emit(lambda at: jump(at, program.labels["round"]))
     assert len(program.words) == STORES_ROUND
     return program.image()
 
 
+def draw(program):
+    """The next number of the generator xorshift32 in x5; x6 is used."""
+    for shift, count in ((program.slli, 13), (program.srli, 17), (program.slli, 5)):
+        shift(6, 5, count)
+        program.xor(5, 5, 6)
+
+
+def drawn_stores(base, masks):
+    """Rounds that store at `base` plus the sum of the drawn number under each mask; x7 is the address."""
+    program = Program()
+    program.constant(5, 0x2545F491)
+    program.constant(8, STORES)
+    program.constant(9, base)
+    for number, mask in enumerate(masks):
+        program.constant(18 + number, mask)
+    program.label("round")
+    draw(program)
+    program.add(7, 9, 0)
+    for number in range(len(masks)):
+        program.srli(6, 5, 5 * number)
+        program.both(6, 6, 18 + number)
+        program.add(7, 7, 6)
+    program.store_word(5, 7)
+    program.addi(8, 8, -1)
+    program.bne(8, 0, "round")
+    program.addi(10, 5, 0)
+    program.call(2)
+    program.addi(10, 0, 0)
+    program.call(1)
+    return program.image()
+
+
+def scattered_stores():
+    return drawn_stores(0x10000, (0x1FFFFC, 0xFFFFC))
+
+
+def own_page_stores():
+    image = drawn_stores(0x1400, (0x3FC,))
+    assert len(image) < 0x400
+    return image
+
+
 def main():
     guests = os.path.join(os.path.dirname(os.path.abspath(__file__)), "guests")
-    images = {"locks-4": four(True), "plain-4": four(False), "locks-crowded": crowded(), "stores-4": stores()}
+    images = {"locks-4": four(True), "plain-4": four(False), "locks-crowded": crowded(), "stores-4": stores(),
+              "scattered-stores": scattered_stores(), "own-page-stores": own_page_stores()}
     for name, image in images.items():
         with open(os.path.join(guests, name + ".bin"), "wb") as file:
             file.write(image)
