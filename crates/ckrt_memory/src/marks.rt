@@ -1,0 +1,81 @@
+//! The marks of pages: a byte for each page, with a bit for each area.
+ghost use Rattle.std.specs.Prelude.{◌≡◌, ◌≢◌, ◌+◌, ◌/◌, ◌%◌, ◌^◌, ◌<◌, ◌≤◌, ℕ, length, slice_index, true, false, []};
+ghost use Rattle.ckrt_memory.specs.Marks.{has_bit, IsNextDirty};
+
+/// How many pages a memory has at most, page 0 counted.
+pub const PAGES_LIMIT: usize = 1024;
+
+/// How many marks are looked at together.
+const GROUP: usize = 32;
+
+/// Whether a mark has the bit of an area.
+#[inline(always)]
+pub fn has_bit(mark: u8, area: usize) -> bool
+    requires { area ≤ 1 }
+    ensures { result ≡ has_bit area mark }
+{
+    (mark >> area) % 2 == 1
+}
+
+/// The bits that some of these marks have.
+#[inline(always)]
+fn all_bits(marks: &[u8]) -> u8
+    ensures { (area p : ℕ) → p < length marks.now → has_bit area result ≡ false → has_bit area (slice_index marks.now p) ≡ false }
+{
+    let mut bits = 0;
+    for i in 0..marks.len() {
+        bits |= marks[i];
+    }
+    bits
+}
+
+/// Whether none of a group of marks, from this one on, has the bit of an area.
+#[inline(always)]
+fn is_group_clean(marks: &[u8; 1024], area: usize, first: usize) -> bool
+    requires area { area ≤ 1 }
+    requires group { first + 32 ≤ 1024 }
+    ensures { result ≡ true → (p : ℕ) → first ≤ p → p < first + 32 → has_bit area (slice_index marks.now p) ≡ false }
+{
+    !has_bit(all_bits(&marks[first..first + GROUP]), area)
+}
+
+/// The first page from `from` on whose mark has the bit of an area, or `end` where none below it has.
+pub fn next_marked(marks: &[u8; 1024], area: usize, from: usize, end: usize) -> usize
+    requires area { area ≤ 1 }
+    requires range { (from ≤ end) × (end ≤ 1024) }
+    ensures { IsNextDirty area from end (record { bytes = []; marks = marks.now }) result }
+{
+    let mut page = from;
+    while page < end {
+        if page % GROUP == 0 && is_group_clean(marks, area, page) {
+            page += GROUP;
+        } else if has_bit(marks[page], area) {
+            return page;
+        } else {
+            page += 1;
+        }
+    }
+    end
+}
+
+/// A page's mark without that for an area.
+#[inline(always)]
+fn cleaned(mark: u8, area: usize) -> u8
+    requires { area ≤ 1 }
+    ensures clean { result / 2 ^ area % 2 ≡ 0 }
+    ensures others { (b : ℕ) → b ≤ 1 → b ≢ area → result / 2 ^ b % 2 ≡ mark / 2 ^ b % 2 }
+{
+    if area == 0 { mark & !1 } else { mark & 1 }
+}
+
+/// Takes the marks for an area away.
+pub fn clean_marks(marks: &mut [u8; 1024], area: usize)
+    requires { area ≤ 1 }
+    ensures length { length marks.new ≡ length marks.old }
+    ensures clean { (p : ℕ) → slice_index marks.new p / 2 ^ area % 2 ≡ 0 }
+    ensures others { (b p : ℕ) → b ≤ 1 → b ≢ area → slice_index marks.new p / 2 ^ b % 2 ≡ slice_index marks.old p / 2 ^ b % 2 }
+{
+    for p in 0..PAGES_LIMIT {
+        marks[p] = cleaned(marks[p], area);
+    }
+}
