@@ -1,5 +1,5 @@
 -- How the calls that write an area join, and what they leave standing.
-use Rattle.std.proofs.Common.{◌≡◌, ◌⊎◌, inl, inr, ⊎_elim, ℕ, zero, suc, ◌+◌, ◌-◌, ◌*◌, ◌≤◌, ◌<◌, Bool, true, false, List, [], ◌∷◌, length, take, drop, Result, Ok, Err, OnOk, is_err, refl, sym, ◌∙◌, ap, subst, arith, length-drop}
+use Rattle.std.proofs.Common.{◌≡◌, ◌⊎◌, inl, inr, ⊎_elim, ℕ, zero, suc, ◌+◌, ◌-◌, ◌*◌, ◌≤◌, ◌<◌, Bool, true, false, List, [], ◌∷◌, length, take, drop, Result, Ok, Err, OnOk, is_err, refl, sym, ◌∙◌, ap, subst, arith, cond, length-drop}
 use Rattle.std.proofs.lemmas.Bool.{cases_eq, cases_lt}
 use Rattle.std.proofs.lemmas.Bool.Decides.{nat_tests}
 use Rattle.std.proofs.lemmas.List.{length-take-le}
@@ -13,10 +13,10 @@ use Rattle.ckrt_memory.specs.Pages.{page_of}
 use Rattle.ckrt_checkpoint.specs.declared.config.Config.{Config}
 use Rattle.ckrt_checkpoint.specs.declared.header.Header.{Header}
 use Rattle.ckrt_checkpoint.specs.Fields.{HasBytes, header_fields}
-use Rattle.ckrt_checkpoint.specs.Holds.{CleanPagesStand, HasNoBatch, IsInSlot, slot, slot_at}
+use Rattle.ckrt_checkpoint.specs.Holds.{CleanPagesStand, HasNoBatch, slot, slot_at}
 use Rattle.ckrt_checkpoint.proofs.PickLemmas.{area_end}
 use Rattle.ckrt_checkpoint.specs.Layout.{is_valid, area_at, area_size, journal_of, size_needed, tables_at}
-use Rattle.ckrt_checkpoint.specs.Write.{FillsAt, IsFilled, PagesAt, dirty_count, one_if_dirty}
+use Rattle.ckrt_checkpoint.specs.Write.{FillsAt, IsFilled, PagesAt, dirty_count}
 
 -- what holds where the last call answered Ok, from what it says of that
 pub on_ok_with : {D T E P Q : Type 0} {d : Ghosts D} {region : ℕ → Type 0} {n : ℕ} {old new : D} (result : Result T E) → OnOk result P → WritesWithin d region n old new (is_err result)
@@ -50,11 +50,31 @@ journal_inside c area size low some room = elim (cases_lt area 1) [
 abbrev pub StandUpTo : Config → (area n : ℕ) → Memory → List ℕ → Type 0
 StandUpTo c area n m image = (p : ℕ) → 1 ≤ p → p < c.pages → (p < n) ⊎ (is_dirty area p m ≡ false) → slot c area p image ≡ page_of m.bytes p
 
-count_on : (area p : ℕ) (m : Memory) → 1 ≤ p → dirty_count area (p - 1) m + one_if_dirty area p m ≡ dirty_count area (p + 1 - 1) m
-count_on area zero m some = absurd (omega (arith, some))
-count_on area (suc p) m some =
-    let before : suc p - 1 ≡ p = omega arith in let now : suc p + 1 - 1 ≡ suc p = omega arith in
-    ap (λ n. dirty_count area n m + one_if_dirty area (suc p) m) before ∙ ap (λ n. dirty_count area n m) (sym now)
+-- a page that is dirty counts as one
+count_on : (area p : ℕ) (m : Memory) → 1 ≤ p → is_dirty area p m ≡ true → dirty_count area (p - 1) m + 1 ≡ dirty_count area p m
+count_on area zero m some dirty = absurd (omega (arith, some))
+count_on area (suc p) m some dirty =
+    let before : suc p - 1 ≡ p = omega arith in
+    ap (λ n. dirty_count area n m + 1) before ∙ ap (λ b. dirty_count area p m + cond b 1 0) (sym dirty)
+
+-- clean pages behind page n don't count
+pub count_same : (area n q : ℕ) (m : Memory) → n ≤ q → ((p : ℕ) → n < p → p ≤ q → is_dirty area p m ≡ false) → dirty_count area n m ≡ dirty_count area q m
+count_same area n zero m le clean = ap (λ k. dirty_count area k m) (let none : n ≡ zero = omega (arith, le) in none)
+count_same area n (suc q) m le clean = elim (cases_eq n (suc q)) [
+  | inl same ↦ ap (λ k. dirty_count area k m) same
+  | inr other ↦
+      (let last : dirty_count area q m ≡ dirty_count area q m + 0 = omega arith in
+      count_same area n q m (omega (arith, le, other)) (λ p from to. clean p from (omega (arith, to)))
+      ∙ last ∙ ap (λ b. dirty_count area q m + cond b 1 0) (sym (clean (suc q) (omega (arith, le, other)) (omega arith))))
+]
+
+-- and stand in their slots
+pub stand_same : (c : Config) (area n q : ℕ) (m : Memory) (image : List ℕ) → ((p : ℕ) → n ≤ p → p < q → is_dirty area p m ≡ false) → StandUpTo c area n m image → StandUpTo c area q m image
+stand_same c area n q m image clean stand p some inside (inl lt) = elim (cases_lt p n) [
+  | inl before ↦ stand p some inside (inl before)
+  | inr from ↦ stand p some inside (inr (clean p from lt))
+]
+stand_same c area n q m image clean stand p some inside (inr is) = stand p some inside (inr is)
 
 pub page_inside : (c : Config) (area p size : ℕ) → area ≤ 1 → p < c.pages → size_needed c ≤ size → slot_at c area p + 4096 ≤ size
 page_inside c area p size low below room = let end = area_within c area low in omega (arith, end, below, room)
@@ -76,22 +96,22 @@ module _ {D : Type 0} (d : Ghosts D) where
       ∙ written_there (d.content old) at page (d.content new) written (omega (arith, long, room))
       ∙ is
 
-  -- one page more was written, if it is dirty
-  pub pages_on : (c : Config) (area p : ℕ) (m : Memory) (start mid new : D) (failed : Bool) → 1 ≤ p → p < c.pages
-      → WritesWithin d (PagesAt c area) (dirty_count area (p - 1) m) start mid false → WritesWithin d (IsWithin (slot_at c area p) 4096) (one_if_dirty area p m) mid new failed
-      → WritesWithin d (PagesAt c area) (dirty_count area (p + 1 - 1) m) start new failed
-  pages_on c area p m start mid new failed some below first second =
-      subst (λ n. WritesWithin d (PagesAt c area) n start new failed) (count_on area p m some)
-      (writes_on_within d (PagesAt c area) (IsWithin (slot_at c area p) 4096) (dirty_count area (p - 1) m) (one_if_dirty area p m) start mid new failed (λ i w. (omega (arith, w.0), omega (arith, w.1))) first second)
+  -- one dirty page more was written, and those behind it up to page q are clean
+  pub pages_on : (c : Config) (area p q : ℕ) (m : Memory) (start mid new : D) (failed : Bool) → 1 ≤ p → p < c.pages → is_dirty area p m ≡ true → p < q → ((r : ℕ) → p + 1 ≤ r → r < q → is_dirty area r m ≡ false)
+      → WritesWithin d (PagesAt c area) (dirty_count area (p - 1) m) start mid false → WritesWithin d (IsWithin (slot_at c area p) 4096) 1 mid new failed
+      → WritesWithin d (PagesAt c area) (dirty_count area (q - 1) m) start new failed
+  pages_on c area p q m start mid new failed some below dirty on clean first second =
+      subst (λ n. WritesWithin d (PagesAt c area) n start new failed) (count_on area p m some dirty ∙ count_same area p (q - 1) m (omega (arith, on)) (λ r from to. clean r (omega (arith, from)) (omega (arith, from, to))))
+      (writes_on_within d (PagesAt c area) (IsWithin (slot_at c area p) 4096) (dirty_count area (p - 1) m) 1 start mid new failed (λ i w. (omega (arith, w.0), omega (arith, w.1))) first second)
 
   -- so it stands in its slot, and the others stand as before
   pub pages_stand : (c : Config) (area p : ℕ) (m : Memory) (mid new : D) → d.is_honest new → 1 ≤ p → p < c.pages
-      → WritesWithin d (IsWithin (slot_at c area p) 4096) (one_if_dirty area p m) mid new false → (IsInSlot c area p m (d.content mid) → slot c area p (d.content new) ≡ page_of m.bytes p)
+      → WritesWithin d (IsWithin (slot_at c area p) 4096) 1 mid new false → slot c area p (d.content new) ≡ page_of m.bytes p
       → StandUpTo c area p m (d.content mid) → StandUpTo c area (p + 1) m (d.content new)
   pages_stand c area p m mid new honest low below calls written before q some inside which = elim (cases_eq q p) [
-    | inl same ↦ subst (λ n. slot c area n (d.content new) ≡ page_of m.bytes n) (sym same) (written (λ clean. before p low below (inr clean)))
+    | inl same ↦ subst (λ n. slot c area n (d.content new) ≡ page_of m.bytes n) (sym same) written
     | inr other ↦
-        part_kept (IsWithin (slot_at c area p) 4096) (one_if_dirty area p m) mid new honest calls (slot_at c area q) 4096 (λ i w v. other (omega (arith, w.0, w.1, v.0, v.1)))
+        part_kept (IsWithin (slot_at c area p) 4096) 1 mid new honest calls (slot_at c area q) 4096 (λ i w v. other (omega (arith, w.0, w.1, v.0, v.1)))
         ∙ before q some inside (⊎_elim (λ lt. inl (omega (arith, lt, other))) inr which)
   ]
 

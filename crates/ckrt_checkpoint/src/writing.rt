@@ -4,9 +4,9 @@ ghost use Rattle.ckrt_disk.specs.Disk.{IsOverwritten, IsWithin};
 ghost use Rattle.ckrt_disk.specs.Frame.{AtAnyMoment, WritesWithin};
 ghost use Rattle.ckrt_memory.specs.Pages.{page_of};
 ghost use Rattle.ckrt_tables.specs.declared.encoding.TheConstants.{TABLES_ROOM};
-ghost use Rattle.ckrt_checkpoint.specs.Holds.{slot, slot_at, AllPagesStand, CleanPagesStand, IsInSlot};
+ghost use Rattle.ckrt_checkpoint.specs.Holds.{slot, slot_at, AllPagesStand, CleanPagesStand};
 ghost use Rattle.ckrt_checkpoint.specs.Layout.{is_valid, is_gate_open, memory_size, size_needed};
-ghost use Rattle.ckrt_checkpoint.specs.Write.{calls_of_closing, dirty_pages, next_header, one_if_dirty, other_area, FillsAt, HasSaved, IsAreaWrite, IsClosing, IsDurable, IsFilled, IsRefusedExactly, IsSaving, PagesAt};
+ghost use Rattle.ckrt_checkpoint.specs.Write.{calls_of_closing, dirty_pages, next_header, other_area, FillsAt, HasSaved, IsAreaWrite, IsClosing, IsDurable, IsFilled, IsRefusedExactly, IsSaving, PagesAt};
 
 use crate::config::Config;
 use crate::fault::AreaFault;
@@ -45,7 +45,7 @@ fn write_part<D: Disk>(disk: &mut D, at: usize, bytes: &[u8]) -> Result<(), Devi
     disk.write(at, bytes)
 }
 
-// Writes a page of the guest's memory into its slot, unless it is clean for the area: then it has to stand there already.
+// Writes a page of the guest's memory into its slot.
 fn write_page<D: Disk>(
     disk: &mut D,
     config: &Config,
@@ -58,12 +58,9 @@ fn write_page<D: Disk>(
     requires area { area ≤ 1 }
     requires memory { length memory.now.bytes ≡ memory_size config.now }
     requires page { (1 ≤ page) × (page < config.now.pages) }
-    ensures within { WritesWithin D.Disk (IsWithin (slot_at config.now area page) 4096) (one_if_dirty area page memory.now) disk.old disk.new (is_err result) }
-    ensures written { OnOk result (D.is_honest disk.new → IsInSlot config.now area page memory.now (D.content disk.old) → slot config.now area page (D.content disk.new) ≡ page_of memory.now.bytes page) }
+    ensures within { WritesWithin D.Disk (IsWithin (slot_at config.now area page) 4096) 1 disk.old disk.new (is_err result) }
+    ensures written { OnOk result (D.is_honest disk.new → slot config.now area page (D.content disk.new) ≡ page_of memory.now.bytes page) }
 {
-    if !memory.dirty(area, page) {
-        return Ok(());
-    }
     write_part(disk, config.slot_at(area, page), memory.page(page))
 }
 
@@ -81,8 +78,10 @@ fn write_pages<D: Disk>(
     ensures within { WritesWithin D.Disk (PagesAt config.now area) (dirty_pages config.now area memory.now) disk.old disk.new (is_err result) }
     ensures written { OnOk result (D.is_honest disk.new → CleanPagesStand config.now area memory.now (D.content disk.old) → AllPagesStand config.now area memory.now.bytes (D.content disk.new)) }
 {
-    for page in 1..config.pages {
+    let mut page = memory.next_dirty(area, 1, config.pages);
+    while page < config.pages {
         write_page(disk, config, area, memory, page)?;
+        page = memory.next_dirty(area, page + 1, config.pages);
     }
     Ok(())
 }

@@ -3,7 +3,7 @@ use Rattle.ckrt_checkpoint.proofs.WriteLemmas.{on_ok_with, page_inside, page_len
 use Rattle.ckrt_checkpoint.proofs.writing.write_page.Goals as goal
 
 pub returns-clause-written : goal.returns-clause-written
-returns-clause-written g c = on_ok_with c.write_part.result c.write_part.ensures.written c.write_part.ensures.within (λ written within honest clean.
+returns-clause-written g c = on_ok_with c.write_part.result c.write_part.ensures.written c.write_part.ensures.within (λ written within honest.
     let d = g.D.Disk in let config = c.args.config.now in let area = c.args.area in let p = c.args.page in let before = within.same.honest honest in
     let long : length c.page.result.now ≡ 4096 = ap length c.page.ensures ∙ page_length c.args.memory.now.bytes config.pages p c.requires.memory c.requires.page.0 c.requires.page.1 in
     let inside = page_inside config area p _ c.requires.area c.requires.page.1 (omega (arith, c.requires.room, g.met.D.Disk.whole c.args.disk.now before)) in
