@@ -1,5 +1,5 @@
 -- The directory of queues: its entries while ends are stored and removed.
-use Rattle.std.proofs.Common.{◌≡◌, ℕ, zero, suc, ◌+◌, ◌≤◌, ◌<◌, Bool, true, false, cond, eqb, eqb-true, ◌||◌, List, [], ◌∷◌, ◌++◌, length, Option, Some, None, refl, sym, ap, ◌∙◌, arith, slice_set}
+use Rattle.std.proofs.Common.{◌≡◌, ℕ, zero, suc, ◌+◌, ◌≤◌, ◌<◌, true, false, cond, eqb-true, ◌||◌, List, [], ◌∷◌, ◌++◌, length, Some, None, refl, sym, ap, ◌∙◌, arith, slice_set}
 use Rattle.std.specs.List.{position, remove, find, list_any, refill}
 use Rattle.std.proofs.lemmas.Bool.Decides.{nat_tests}
 use Rattle.std.proofs.lemmas.List.Recursion.{is_position_or_len}
@@ -44,14 +44,14 @@ same_back o p e = same_from p p o (same_self p) ∙ (ap (λ x. is_same x o) (sym
 
 -- ENDS STORED AND REMOVED
 
-abbrev entry : Object → Ends → Queue
+abbrev pub entry : Object → Ends → Queue
 entry o e = record { object = o; ends = e }
 
-abbrev stored : Object → Ends → List Queue → List Queue
+abbrev pub stored : Object → Ends → List Queue → List Queue
 stored o e [] = entry o e ∷ []
 stored o e (q ∷ qs) = cond (is_queue_of o q) (entry o e ∷ qs) (q ∷ stored o e qs)
 
-abbrev removed : Object → List Queue → List Queue
+abbrev pub removed : Object → List Queue → List Queue
 removed o [] = []
 removed o (q ∷ qs) = cond (is_queue_of o q) qs (q ∷ removed o qs)
 

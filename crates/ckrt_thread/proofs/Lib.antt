@@ -2,6 +2,7 @@ pub mod Paths
 pub mod Directory
 pub mod QueueLemmas
 pub mod Counting
+pub mod Naming
 pub mod WaitLemmas
 pub mod Marks
 pub mod Kept

@@ -1,10 +1,9 @@
 -- The queues of the list of waits, while a wait comes and goes.
-use Rattle.std.proofs.Common.{◌≡◌, ℕ, zero, suc, ◌+◌, ◌≤◌, ◌<◌, Bool, true, false, cond, eqb, eqb-true, nat_eq, ◌||◌, List, [], ◌∷◌, ◌++◌, length, map, Option, Some, None, refl, sym, ap, subst, ◌∙◌, arith, slice_index}
-use Rattle.std.specs.List.{position, find, filter, list_any}
+use Rattle.std.proofs.Common.{◌≡◌, ℕ, ◌+◌, ◌≤◌, ◌<◌, Bool, true, false, cond, eqb, eqb-true, nat_eq, ◌||◌, List, [], ◌∷◌, ◌++◌, length, Option, Some, None, refl, sym, ap, subst, ◌∙◌, arith}
+use Rattle.std.specs.List.{find, filter, list_any}
 use Rattle.std.proofs.lemmas.Bool.Decides.{nat_tests}
 use Rattle.std.proofs.lemmas.List.{length-append}
 use Rattle.std.proofs.lemmas.List.Elements.{filter-append}
-use Rattle.std.proofs.lemmas.List.Folds.{list_any-append}
 use Rattle.ckrt_thread.specs.declared.records.Wait.{Wait}
 use Rattle.ckrt_thread.specs.declared.records.Reason.{Reason}
 use Rattle.ckrt_thread.specs.declared.records.Reason.TheVariants as reason
@@ -12,19 +11,18 @@ use Rattle.ckrt_thread.specs.declared.records.Object.{Object}
 use Rattle.ckrt_thread.specs.declared.records.Object.TheVariants as object
 use Rattle.ckrt_thread.specs.declared.links.Links.{Links}
 use Rattle.ckrt_thread.specs.declared.links.Ends.{Ends}
-use Rattle.ckrt_thread.specs.declared.queues.Queue.{Queue}
 use Rattle.ckrt_thread.specs.declared.queues.Queues.{Queues}
 use Rattle.ckrt_thread.specs.Waits.{is_for, is_of, is_reason_for, without}
 use Rattle.ckrt_thread.specs.State.{count_of}
-use Rattle.ckrt_thread.specs.Links.{dropped, IsPath, IsChain, AreApart, KeepsOthers}
-use Rattle.ckrt_thread.specs.Queues.{object_of, is_same, is_queue_of, has_object, ids, queued, no_ends, ends_of, total, IsDirectory, IsWithEnds, AreQueues, WaitOnce, MayJoin, MayLeave}
-use Rattle.ckrt_thread.proofs.Counting.{count_of-append, count_of_none, none_of_count}
+use Rattle.ckrt_thread.specs.Links.{dropped, IsChain, AreApart, KeepsOthers}
+use Rattle.ckrt_thread.specs.Queues.{object_of, is_same, has_object, ids, queued, no_ends, ends_of, total, IsDirectory, IsWithEnds, AreQueues, WaitOnce}
+use Rattle.ckrt_thread.proofs.Counting.{count_of-append, none_of_count}
 use Rattle.ckrt_thread.proofs.Paths.{length-dropped}
-use Rattle.ckrt_thread.proofs.Directory.{same_self, same_equal, same_as, same_back, length_total}
+use Rattle.ckrt_thread.proofs.Directory.{same_self, same_equal, same_as, length_total}
 
 -- WHICH WAITS ARE IN A QUEUE
 
-abbrev is_same_option : Object → Option Object → Bool
+abbrev pub is_same_option : Object → Option Object → Bool
 is_same_option o None = false
 is_same_option o (Some p) = is_same o p
 
@@ -40,7 +38,7 @@ for_reason (object.RwLock a) (reason.Read l) = refl
 for_reason (object.RwLock a) (reason.Write l) = refl
 for_reason _ _ = refl
 
-waits_for : (o : Object) (w : Wait) (a : Option Object) → object_of w.reason ≡ a → is_for o w ≡ is_same_option o a
+pub waits_for : (o : Object) (w : Wait) (a : Option Object) → object_of w.reason ≡ a → is_for o w ≡ is_same_option o a
 waits_for o w a e = for_reason o w.reason ∙ ap (is_same_option o) e
 
 -- who waits for one object waits for no other

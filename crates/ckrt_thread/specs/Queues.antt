@@ -1,5 +1,5 @@
 -- The queues of the list of waits: each object's waits, as a chain, with its ends in a directory (this project's choice).
-use Rattle.std.specs.Prelude.{◌≡◌, ℕ, ◌+◌, ◌<◌, ◌≤◌, ◌==◌, nat_eq, length, Bool, true, false, if◌then◌else◌, List, [], ◌∷◌, map, Option, Some, None, is_some, ⊤}
+use Rattle.std.specs.Prelude.{◌≡◌, ℕ, ◌+◌, ◌<◌, ◌≤◌, ◌==◌, nat_eq, min, length, Bool, true, false, not, ◌||◌, if◌then◌else◌, List, [], ◌∷◌, map, Option, Some, None, is_some, ⊤}
 use Rattle.std.specs.List.{filter, find, list_any}
 use Rattle.ckrt_thread.specs.declared.records.Wait.{Wait}
 use Rattle.ckrt_thread.specs.declared.records.Reason.{Reason}
@@ -40,6 +40,23 @@ is_queue_of o q = is_same o q.object
 abbrev pub has_object : Wait → Bool
 has_object w = is_some (object_of w.reason)
 
+-- HOW MANY OBJECTS OF ONE KIND WAITS MAY NAME. Who waits at a condition names a mutex too, and others there may name other
+-- ones; all who wait for another object name that one.
+
+abbrev pub is_condition : Object → Bool
+is_condition (object.Condition c) = true
+is_condition o = false
+
+-- whether a wait for this may name an object that none of the waits behind it names
+abbrev pub may_name_another : Option Object → List Wait → Bool
+may_name_another None ws = false
+may_name_another (Some o) ws = is_condition o || not (list_any (is_for o) ws)
+
+-- how many wait at conditions, and how many other objects are waited for
+abbrev pub named_at_most : List Wait → ℕ
+named_at_most [] = 0
+named_at_most (w ∷ ws) = (if may_name_another (object_of w.reason) ws then 1 else 0) + named_at_most ws
+
 -- the threads of waits
 abbrev pub ids : List Wait → List ℕ
 ids ws = map (λ w. w.thread) ws
@@ -61,6 +78,15 @@ ends_of o (q ∷ qs) = if is_queue_of o q then q.ends else ends_of o qs
 abbrev pub total : List Queue → ℕ
 total [] = 0
 total (q ∷ qs) = q.ends.count + total qs
+
+-- how many objects of one kind the waits of a queue may name, by how many there are
+abbrev pub named_by : Object → ℕ → ℕ
+named_by o n = if is_condition o then n else min n 1
+
+-- the same of all queues
+abbrev pub named_by_all : List Queue → ℕ
+named_by_all [] = 0
+named_by_all (q ∷ qs) = named_by q.object q.ends.count + named_by_all qs
 
 -- no object has two entries, and no entry is that of an empty queue
 abbrev pub IsDirectory : List Queue → Type 0

@@ -3,7 +3,7 @@ ghost use Rattle.std.specs.Prelude.{◌≡◌, ◌+◌, ◌<◌, ◌≤◌, ◌+
 ghost use Rattle.std.specs.List.{list_any, position, find};
 ghost use Rattle.ckrt_thread.specs.declared.records.Wait.{Wait};
 ghost use Rattle.ckrt_thread.specs.Waits.{without};
-ghost use Rattle.ckrt_thread.specs.Queues.{object_of, is_same, is_queue_of, no_ends, ends_of, total, IsDirectory, IsWithEnds, AreQueues, MayJoin, MayLeave};
+ghost use Rattle.ckrt_thread.specs.Queues.{object_of, is_same, is_queue_of, no_ends, ends_of, total, named_by, named_by_all, named_at_most, IsDirectory, IsWithEnds, AreQueues, MayJoin, MayLeave};
 
 use crate::links::{ENTRIES, Ends, Links, link, unlink};
 use crate::records::{MAX_THREADS, Object, Reason, ThreadId, Wait};
@@ -118,6 +118,31 @@ fn forget_ends(directory: &mut ArrayVec<Queue, MAX_THREADS>, object: Object)
     directory.remove(place);
 }
 
+/// How many objects of one kind those who wait in a queue may name.
+fn named_by(queue: &Queue) -> usize
+    ensures value { result ≡ named_by queue.now.object queue.now.ends.count }
+    ensures few { result ≤ 255 }
+{
+    let count = queue.ends.count as usize;
+    match queue.object {
+        Object::Condition(_) => count,
+        _ => count.min(1),
+    }
+}
+
+/// How many objects of one kind those who wait in these queues may name.
+#[tactic(auto, using(crate::proofs::Naming::named_at))]
+fn named_by_all(queues: &[Queue]) -> usize
+    requires { length queues.now ≤ 64 }
+    ensures { result ≡ named_by_all queues.now }
+{
+    let mut count = 0;
+    for place in (0..queues.len()).rev() {
+        count += named_by(&queues[place]);
+    }
+    count
+}
+
 impl Queues {
     /// Nobody waits.
     pub fn new() -> Self
@@ -130,6 +155,13 @@ impl Queues {
             },
             directory: ArrayVec::new(),
         }
+    }
+
+    /// At most so many objects of one kind are named by the waits.
+    pub fn named_at_most(&self) -> usize
+        ensures { (ws : List Wait) → AreQueues self.now ws → result ≡ named_at_most ws }
+    {
+        named_by_all(self.directory.as_slice())
     }
 
     /// A thread waits from now on, behind all others that wait for the same.

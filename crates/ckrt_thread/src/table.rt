@@ -9,6 +9,7 @@ ghost use Rattle.ckrt_thread.specs.Unwinding.{newest_handler, pushed, popped, en
 ghost use Rattle.ckrt_thread.specs.Deadlines.{earliest_due};
 ghost use Rattle.ckrt_thread.specs.Granting.{queue_of, answered, obtained};
 ghost use Rattle.ckrt_thread.specs.Waits.{is_of};
+ghost use Rattle.ckrt_thread.specs.Queues.{named_at_most};
 ghost use Rattle.ckrt_thread.specs.Contents.{empty};
 ghost use Rattle.ckrt_thread.specs.declared.records.Thread.TheVariants as slots;
 ghost use Rattle.ckrt_thread.specs.Rows.{create_row, join_row, detach_row, detached, finished};
@@ -240,14 +241,6 @@ impl Threads {
         self.waits.len()
     }
 
-    /// The wait at a place of the list, from 0 in order of the start of waiting.
-    pub fn wait_at(&self, place: usize) -> Wait
-        requires { place < length self.now.waits }
-        ensures { slice_get self.now.waits place ≡ Some result }
-    {
-        self.waits.at(place)
-    }
-
     /// The waits in order of the start of waiting, put together from the table.
     pub fn waits(&self) -> ArrayVec<Wait, MAX_THREADS>
         ensures { result.items ≡ self.now.waits }
@@ -278,6 +271,15 @@ impl Threads {
         ensures few { result ≤ 64 }
     {
         self.waits.count_for(object)
+    }
+
+    /// At most so many objects of one kind are named by the waits: how many wait at conditions, and how many other
+    /// objects are waited for. It goes over the queues alone.
+    pub fn named_at_most(&self) -> usize
+        ensures count { result ≡ named_at_most self.now.waits }
+        ensures few { result ≤ 64 }
+    {
+        self.waits.named_at_most()
     }
 
     /// The due wait that ends first at this moment: by deadline, then by thread.

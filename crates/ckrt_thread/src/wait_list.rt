@@ -4,7 +4,7 @@ ghost use Rattle.std.specs.List.{list_any, find, filter};
 ghost use Rattle.ckrt_thread.specs.declared.records.Wait.{Wait};
 ghost use Rattle.ckrt_thread.specs.Waits.{is_for, is_of, without};
 ghost use Rattle.ckrt_thread.specs.Links.{IsPath};
-ghost use Rattle.ckrt_thread.specs.Queues.{ids};
+ghost use Rattle.ckrt_thread.specs.Queues.{ids, named_at_most};
 ghost use Rattle.ckrt_thread.specs.WaitList.{AreEntries, without_first};
 
 use crate::links::{ENTRIES, Ends, Links, entry_of, link, unlink};
@@ -112,14 +112,6 @@ impl WaitList {
         )
     }
 
-    /// The wait at a place of the list.
-    pub fn at(&self, place: usize) -> Wait
-        requires { place < length self.now }
-        ensures { slice_get self.now place ≡ Some result }
-    {
-        self.in_order()[place]
-    }
-
     /// Whether the thread waits.
     pub fn is_waiting(&self, thread: ThreadId) -> bool
         ensures { result ≡ list_any (is_of thread) self.now }
@@ -154,6 +146,14 @@ impl WaitList {
         ensures fits { result ≤ 64 }
     {
         ends_of(self.queues.directory.as_slice(), object).count as usize
+    }
+
+    /// At most so many objects of one kind are named by the waits.
+    pub fn named_at_most(&self) -> usize
+        ensures value { result ≡ named_at_most self.now }
+        ensures fits { result ≤ 64 }
+    {
+        self.queues.named_at_most()
     }
 
     /// One more wait, behind all others. There must be room, and its thread must not wait.
