@@ -151,5 +151,5 @@ entries_removed a es h = record { rising = rising_removed a es h.rising; proper 
 pub count_kept : (s : State) (es : List (Entry Mutex)) → used_count s (kept es) ≤ used_count s es
 count_kept s es = count_part is_kept named s.waits es
 
-pub not_full_kept : (a : ℕ) (s : State) (es : List (Entry Mutex)) → nat_le 256 (used_count s es) ≡ false → is_full a s (kept es) ≡ false
+pub not_full_kept : (a : ℕ) (s : State) (es : List (Entry Mutex)) → used_count s es < 256 → is_full a s (kept es) ≡ false
 not_full_kept a s es h = grind (arith, nat_tests, count_kept s es, h)

@@ -1,3 +1,4 @@
 pub mod Mutex
 pub mod Rows
 pub mod WellFormed
+pub mod Named

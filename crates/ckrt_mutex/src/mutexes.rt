@@ -14,7 +14,9 @@ ghost use Rattle.ckrt_mutex.specs.declared.records.Kind.TheVariants.{Normal};
 use crate::entries::{append_entry, kept_count, kept_of, mutex_of, put_entry};
 use crate::records::{Kind, Mutex};
 use arrayvec::ArrayVec;
-use ckrt_objects::{Entry, Named, are_limit_in_use, is_full, is_named_by_wait, remove};
+use ckrt_objects::{
+    Entry, Named, are_limit_in_use, are_too_few, is_full, is_named_by_wait, remove,
+};
 use ckrt_thread::{
     CallResult, EAGAIN, EBUSY, EDEADLK, EINVAL, EPERM, ETIMEDOUT, MOMENT_END, Object, Reason,
     RetakeResult, Threads, Wait,
@@ -152,7 +154,7 @@ impl Mutexes {
         ensures { result ≡ is_full address threads.now self.now }
     {
         let entries = self.table.as_slice();
-        if !are_limit_in_use(threads, entries, LIMIT) {
+        if are_too_few(threads, entries, LIMIT) {
             return false;
         }
         is_full(threads, kept_of(entries).as_slice(), address, LIMIT)

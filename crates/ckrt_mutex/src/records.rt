@@ -155,8 +155,11 @@ impl Mutex {
 
 impl Named for Mutex {
     ghost use Rattle.ckrt_mutex.specs.Rows.{named};
+    ghost use Rattle.ckrt_mutex.specs.Named.{named_by_object};
 
     ghost named = { named };
+
+    ghost by_object = { named_by_object };
 
     fn named_by(wait: &Wait) -> Option<u32> {
         match wait.reason {

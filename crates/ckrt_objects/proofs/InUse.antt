@@ -8,9 +8,13 @@ use Rattle.std.proofs.lemmas.List.Folds.{list_any-append}
 use Rattle.std.proofs.lemmas.Map.Made.{length-le_from_is_member}
 use Rattle.std.proofs.lemmas.Cmp.{nat_eq_equiv}
 use Rattle.ckrt_thread.specs.declared.records.Wait.{Wait}
+use Rattle.ckrt_thread.specs.declared.records.Object.{Object}
+use Rattle.ckrt_thread.specs.Waits.{is_for}
+use Rattle.ckrt_thread.specs.Queues.{object_of, is_condition, may_name_another, named_at_most}
+use Rattle.ckrt_thread.proofs.QueueLemmas.{for_own}
 use Rattle.ckrt_objects.specs.declared.address_map.Entry.{Entry}
 use Rattle.ckrt_objects.specs.AddressMap.{has_entry, lookup, are_above, is_rising, has_room}
-use Rattle.ckrt_objects.specs.InUse.{is_name, addresses_in_use, is_in_use, count_in_use, is_new, is_new_name}
+use Rattle.ckrt_objects.specs.InUse.{is_name, addresses_in_use, is_in_use, count_in_use, is_new, is_new_name, NamesByObject}
 
 pub drop_at : {X : Type 0} (xs : List X) (i : ℕ) (x : X) → slice_get xs i ≡ Some x → drop i xs ≡ x ∷ drop (i + 1) xs
 drop_at [] i x e = absurd (cc)
@@ -62,6 +66,15 @@ any_option a (Some b) ns = refl
 any_names : (name_of : Wait → Option ℕ) (a : ℕ) (ws : List Wait) → list_any (nat_eq a) (filter_map name_of ws) ≡ list_any (λ w. is_name a (name_of w)) ws
 any_names name_of a [] = refl
 any_names name_of a (w ∷ ws) = any_option a (name_of w) (filter_map name_of ws) ∙ ap (λ b. is_name a (name_of w) || b) (any_names name_of a ws)
+
+-- who waits for one object names the same
+object_named : (name_of : Wait → Option ℕ) (o : Object) (a : ℕ) (w : Wait) (ws : List Wait) → NamesByObject name_of → is_condition o ≡ false → is_for o w ≡ true → name_of w ≡ Some a → list_any (is_for o) ws ≡ true
+    → list_any (λ v. is_name a (name_of v)) ws ≡ true
+object_named name_of o a w [] law n f e m = absurd (cc)
+object_named name_of o a w (v ∷ ws) law n f e m =
+    let same : is_for o v ≡ true → is_name a (name_of v) ≡ true = λ k. rw (law.same o v w n k f ∙ e) (grind (arith, nat_tests)) in
+    let rest : list_any (is_for o) ws ≡ true → list_any (λ v. is_name a (name_of v)) ws ≡ true = object_named name_of o a w ws law n f e in
+    grind (arith, nat_tests, same, rest, m)
 
 module _ {T : Type 0} (name_of : Wait → Option ℕ) where
   pub any_in_use : (a : ℕ) (ws : List Wait) (es : List (Entry T)) → is_in_use name_of a ws es ≡ (list_any (λ w. is_name a (name_of w)) ws || has_entry a es)
@@ -152,6 +165,21 @@ module _ {T : Type 0} (name_of : Wait → Option ℕ) where
       let size : length (drop place ws) ≡ length ws - place = length-drop place ws in
       omega (arith, left, size, c, f)
 
-  -- entries and waits that are too few
-  pub too_few : (limit : ℕ) (ws : List Wait) (es : List (Entry T)) → is_rising es ≡ true → length es + length ws < limit → nat_le limit (count_in_use name_of ws es) ≡ false
-  too_few limit ws es h l = (let c = count_le ws es h in grind (arith, nat_tests, c, l))
+  -- NAMES BY OBJECT: no more are in use than there are entries, waits at conditions, and other objects that are waited for
+
+  -- a wait whose name is new is at a condition, or the last one for its object
+  may_be_new : (o : Option Object) (p : Option ℕ) (w : Wait) (ws : List Wait) (es : List (Entry T)) → NamesByObject name_of → object_of w.reason ≡ o → name_of w ≡ p
+      → is_new_name name_of p ws es ≡ true → may_name_another o ws ≡ true
+  may_be_new None p w ws es law k e h = absurd (let n = law.none w k in cc)
+  may_be_new (Some o) None w ws es law k e h = absurd (cc)
+  may_be_new (Some o) (Some a) w ws es law k e h =
+      let f = for_own o w k in
+      let u = any_in_use a ws es in
+      let n : is_condition o ≡ false → list_any (is_for o) ws ≡ true → list_any (λ v. is_name a (name_of v)) ws ≡ true = λ c. object_named name_of o a w ws law c f e in
+      grind (arith, nat_tests, u, n, h)
+
+  pub count_named : (ws : List Wait) (es : List (Entry T)) → NamesByObject name_of → is_rising es ≡ true → count_in_use name_of ws es ≤ length es + named_at_most ws
+  count_named [] es law h = omega (arith, count_entries es h)
+  count_named (w ∷ ws) es law h =
+      let m = may_be_new (object_of w.reason) (name_of w) w ws es law refl refl in
+      grind (arith, nat_tests, count_first w ws es, count_named ws es law h, m)

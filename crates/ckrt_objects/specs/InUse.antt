@@ -1,13 +1,22 @@
 -- Which addresses are in use: those that have an entry, and those that a wait names (this project's choice).
-use Rattle.std.specs.Prelude.{ℕ, ◌==◌, nat_eq, nat_le, Bool, false, not, ◌&&◌, List, [], ◌∷◌, ◌++◌, map, Option, Some, None}
+use Rattle.std.specs.Prelude.{◌≡◌, ℕ, ◌==◌, nat_eq, nat_le, Bool, true, false, not, ◌&&◌, List, [], ◌∷◌, ◌++◌, map, Option, Some, None}
 use Rattle.std.specs.List.{list_any, filter_map}
 use Rattle.std.specs.Set.{distinct_count}
 use Rattle.ckrt_thread.specs.declared.records.Wait.{Wait}
+use Rattle.ckrt_thread.specs.declared.records.Object.{Object}
+use Rattle.ckrt_thread.specs.Waits.{is_for}
+use Rattle.ckrt_thread.specs.Queues.{object_of, is_condition}
 use Rattle.ckrt_objects.specs.declared.address_map.Entry.{Entry}
 
 abbrev pub is_name : ℕ → Option ℕ → Bool
 is_name a None = false
 is_name a (Some b) = a == b
+
+-- Who waits for no object names none, and all who wait for one object name the same, or none of them does. Who waits at a
+-- condition may name another than the others there.
+pub record NamesByObject (name_of : Wait → Option ℕ) : Type 0 where
+  pub none : (w : Wait) → object_of w.reason ≡ None → name_of w ≡ None
+  pub same : (o : Object) (v w : Wait) → is_condition o ≡ false → is_for o v ≡ true → is_for o w ≡ true → name_of v ≡ name_of w
 
 -- `name_of` is the address that a wait names
 module _ (name_of : Wait → Option ℕ) where

@@ -1,5 +1,6 @@
 //! Which objects of a kind are in use, and how many.
-ghost use Rattle.std.specs.Prelude.{◌≡◌, ◌<◌, ◌≤◌, length, drop, true, nat_le, cond, slice_get, Some};
+ghost use Rattle.std.specs.Prelude.{◌≡◌, ◌<◌, ◌≤◌, length, drop, true, ◌+◌, nat_le, nat_lt, cond, slice_get, Some};
+ghost use Rattle.ckrt_thread.specs.Queues.{named_at_most};
 ghost use Rattle.ckrt_objects.specs.AddressMap.{is_rising};
 ghost use Rattle.ckrt_objects.specs.InUse.{names, is_named, is_in_use, is_new, is_full, count_in_use};
 
@@ -118,8 +119,19 @@ fn are_limit_named<T: Named + Copy>(waits: &[Wait], entries: &[Entry<T>], limit:
     limit <= count
 }
 
-/// Whether so many objects are in use. Where entries and waits together are too few for that, it looks at none of them.
-#[tactic(auto, using(crate::proofs::InUse::too_few))]
+/// Whether there are too few entries, and objects that the waits may name, for so many objects to be in use. It looks at
+/// no wait.
+#[tactic(auto, using(crate::proofs::InUse::count_named))]
+pub fn are_too_few<T: Named + Copy>(threads: &Threads, entries: &[Entry<T>], limit: usize) -> bool
+    requires rising { is_rising entries.now ≡ true }
+    requires small { length entries.now ≤ 65535 }
+    ensures value { result ≡ nat_lt (length entries.now + named_at_most threads.now.waits) limit }
+    ensures few { result ≡ true → count_in_use T.named threads.now.waits entries.now < limit }
+{
+    entries.len() + threads.wait_count() < limit || entries.len() + threads.named_at_most() < limit
+}
+
+/// Whether so many objects are in use. Where entries and waits can't make up so many, it looks at none of them.
 pub fn are_limit_in_use<T: Named + Copy>(
     threads: &Threads,
     entries: &[Entry<T>],
@@ -130,7 +142,7 @@ pub fn are_limit_in_use<T: Named + Copy>(
     requires small { limit ≤ 65535 }
     ensures { result ≡ nat_le limit (count_in_use T.named threads.now.waits entries.now) }
 {
-    if entries.len() + threads.wait_count() < limit {
+    if are_too_few(threads, entries, limit) {
         return false;
     }
     are_limit_named(threads.waits().as_slice(), entries, limit)

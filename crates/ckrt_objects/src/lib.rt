@@ -10,6 +10,6 @@ mod named;
 
 pub use address_map::{Entry, append, get, remove, store};
 pub use grants::{Grant, grant_waiters};
-pub use in_use::{are_limit_in_use, is_full, is_in_use, is_named_by_wait};
+pub use in_use::{are_limit_in_use, are_too_few, is_full, is_in_use, is_named_by_wait};
 pub use laws::{map_after_a_change, map_stays_rising};
 pub use named::Named;

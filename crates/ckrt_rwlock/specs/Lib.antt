@@ -1,3 +1,4 @@
 pub mod RwLock
 pub mod Rows
 pub mod WellFormed
+pub mod Named

@@ -26,8 +26,11 @@ impl Default for RwLock {
 
 impl Named for RwLock {
     ghost use Rattle.ckrt_rwlock.specs.Rows.{named};
+    ghost use Rattle.ckrt_rwlock.specs.Named.{named_by_object};
 
     ghost named = { named };
+
+    ghost by_object = { named_by_object };
 
     fn named_by(wait: &Wait) -> Option<u32> {
         match wait.reason {

@@ -1,28 +1,34 @@
 //! What the tables of objects share, at a type of object that the guest does not have: the table, the count and the
 //! granting.
-ghost use Rattle.std.specs.Prelude.{Some, nat_lt, ◌-◌, ◌≡◌, ◌≤◌, true, length};
+ghost use Rattle.std.specs.Prelude.{nat_lt, ◌-◌, ◌≡◌, ◌≤◌, true, length};
 ghost use Rattle.ckrt_objects.specs.AddressMap.{is_rising};
 
 use crate::expect::{expect_eq, expect_eq_at};
 use arrayvec::ArrayVec;
+use ckrt_mutex::Mutex;
 use ckrt_objects::{
-    Entry, Grant, Named, are_limit_in_use, get, grant_waiters, is_full, is_in_use,
+    Entry, Grant, Named, are_limit_in_use, are_too_few, get, grant_waiters, is_full, is_in_use,
     is_named_by_wait, remove, store,
 };
 use ckrt_thread::{CallResult, Object, Reason, Threads, Wait};
 use std::process::Abort;
 
-/// Seats that are granted one by one. Each wait names the seat of its thread's number.
+/// Seats that are granted one by one. Who waits at a condition names the seat that it wants, as it would its mutex.
 #[derive(Clone, Copy, Debug, Default, Drop, PartialEq, Eq)]
 struct Seats {
     free: u32,
 }
 
 impl Named for Seats {
-    ghost named = { λ w. Some w.thread };
+    ghost use Rattle.ckrt_mutex.specs.Rows.{named};
+    ghost use Rattle.ckrt_mutex.specs.Named.{named_by_object};
+
+    ghost named = { named };
+
+    ghost by_object = { named_by_object };
 
     fn named_by(wait: &Wait) -> Option<u32> {
-        Some(wait.thread as u32)
+        Mutex::named_by(wait)
     }
 }
 
@@ -61,10 +67,10 @@ fn begin<R: Abort>(rt: &R, threads: &mut Threads) {
     expect_eq(rt, created, CallResult::Done(0));
 }
 
-/// A thread that is ready waits for a seat.
+/// A thread that is ready waits for the seat of its number.
 fn wait<R: Abort>(rt: &R, threads: &mut Threads, thread: u8) {
     assert!(rt; threads.is_ready(thread));
-    threads.block(thread, Reason::Write(SEATS), None);
+    threads.block(thread, Reason::Condition(SEATS, thread as u32), None);
 }
 
 /// A thread is ready or not.
@@ -93,6 +99,9 @@ fn expect_in_use<R: Abort>(rt: &R, threads: &Threads, table: &[Entry<Seats>])
     expect_eq(rt, is_named_by_wait::<Seats>(threads, 3), true);
     expect_eq(rt, is_in_use(threads, table, 9), true);
     expect_eq(rt, is_in_use(threads, table, 7), false);
+    expect_eq(rt, threads.named_at_most(), 2);
+    expect_eq(rt, are_too_few(threads, table, 5), true);
+    expect_eq(rt, are_too_few(threads, table, 4), false);
     expect_eq(rt, are_limit_in_use(threads, table, 3), true);
     expect_eq(rt, are_limit_in_use(threads, table, 4), false);
     expect_eq(rt, is_full(threads, table, 7, 3), true);
@@ -112,12 +121,12 @@ fn in_use(rt: HostRuntime) {
 fn granted_in_order(rt: HostRuntime) {
     let mut threads = waiting(&rt);
     let mut seats = Seats { free: 1 };
-    grant_waiters(&mut threads, Object::RwLock(SEATS), &mut seats);
+    grant_waiters(&mut threads, Object::Condition(SEATS), &mut seats);
     expect_eq(&rt, seats.free, 0);
     expect_ready(&rt, &threads, 2, true);
     expect_ready(&rt, &threads, 3, false);
     seats.free = 5;
-    grant_waiters(&mut threads, Object::RwLock(SEATS), &mut seats);
+    grant_waiters(&mut threads, Object::Condition(SEATS), &mut seats);
     expect_eq(&rt, seats.free, 4);
     expect_ready(&rt, &threads, 3, true);
 }
