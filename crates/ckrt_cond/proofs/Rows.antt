@@ -26,7 +26,7 @@ use Rattle.ckrt_objects.proofs.Changes.{not_full_after}
 use Rattle.ckrt_objects.proofs.Obtained.{PassesNoJoiner, among_answered, queue_answered}
 use Rattle.ckrt_objects.proofs.Waits.{either, found, found_any, found_holds, queue_other, any_among}
 use Rattle.ckrt_mutex.proofs.WellFormed.{can_retake_after}
-use Rattle.ckrt_cond.specs.Rows.{waiters, resume_row, signal_row, broadcast_row}
+use Rattle.ckrt_cond.specs.Rows.{waiters, resume_row, signal_row}
 use Rattle.ckrt_cond.specs.WellFormed.{IsWellFormed, is_at_condition_with, may_resume}
 use Rattle.ckrt_cond.proofs.Waits.{at_condition, join_not_condition, no_waiters, conditions_fewer, conditions_unwaited, conditions_other}
 
@@ -122,10 +122,7 @@ is_first_condition c s w e = at_condition c w.reason (found_holds (is_for (objec
 pub first_is : (c : ℕ) (s : State) (w : Wait) (ws : List Wait) → waiters c s ≡ w ∷ ws → first_waiter (object.Condition c) s ≡ Some w
 first_is c s w ws e = first_of_queue (object.Condition c) s ∙ ap (λ l. slice_get l 0) e
 
--- THE ROWS where nobody waits
+-- THE ROW where nobody waits
 
 pub signal_none : (c : ℕ) (s : State) (ms : List (Entry Mutex)) → first_waiter (object.Condition c) s ≡ None → signal_row c s ms ≡ unchanged (Done 0) s ms
 signal_none c s ms e = rw (no_waiters c s e) refl
-
-pub broadcast_none : (c : ℕ) (s : State) (ms : List (Entry Mutex)) → first_waiter (object.Condition c) s ≡ None → broadcast_row c s ms ≡ unchanged (Done 0) s ms
-broadcast_none c s ms e = rw (no_waiters c s e) refl

@@ -11,7 +11,7 @@ use Rattle.ckrt_mutex.specs.declared.records.Mutex.{Mutex}
 use Rattle.ckrt_mutex.specs.Mutex.{mutex_at}
 use Rattle.ckrt_mutex.specs.Rows.{is_full}
 use Rattle.ckrt_mutex.specs.WellFormed.{IsWellFormedWith, can_retake}
-use Rattle.ckrt_cond.specs.Rows.{has_other_mutex}
+use Rattle.ckrt_cond.specs.Rows.{is_with_other, has_other_mutex}
 
 -- whether who waits for this reason is at the condition c, with the mutex a
 abbrev pub is_with : ℕ → ℕ → Reason → Bool
@@ -28,13 +28,13 @@ pub record IsWellFormed (s : State) : Type 0 where
 
 -- THE SAME AS A TEST of each wait.
 
-abbrev pub is_alone_with : State → Reason → Bool
-is_alone_with s (reason.Condition c a) = not (has_other_mutex c a s)
-is_alone_with s _ = true
+abbrev pub is_alone_with : List Wait → Reason → Bool
+is_alone_with ws (reason.Condition c a) = not (list_any (λ w. is_with_other c a w.reason) ws)
+is_alone_with ws _ = true
 
--- nobody waits at the wait's condition with another mutex
-abbrev pub names_the_one_mutex : State → Wait → Bool
-names_the_one_mutex s w = is_alone_with s w.reason
+-- none of the waits is at this wait's condition with another mutex
+abbrev pub names_the_one_mutex : List Wait → Wait → Bool
+names_the_one_mutex ws w = is_alone_with ws w.reason
 
 -- WHO MAY RESUME
 

@@ -13,7 +13,7 @@ ghost use Rattle.ckrt_cond.specs.WellFormed.{IsWellFormed, HasReleased};
 use crate::waiters::{has_other_mutex, has_waiters, wake_first};
 use ckrt_mutex::Mutexes;
 use ckrt_thread::{
-    CallResult, EBUSY, EINVAL, EPERM, MOMENT_END, Object, Reason, RetakeResult, ThreadId, Threads,
+    CallResult, EBUSY, EINVAL, EPERM, MOMENT_END, Reason, RetakeResult, ThreadId, Threads,
 };
 
 /// Initialises a condition (POSIX.1-2017, pthread_cond_init). EBUSY where threads wait at it; else 0.
@@ -206,7 +206,7 @@ pub fn timedwait(
 
 /// Wakes the thread that has waited longest at the condition, if there is one: its wait ends, and it retakes its mutex,
 /// to get 0 with it (POSIX.1-2017, pthread_cond_signal). Answers 0.
-#[tactic(auto, using(crate::proofs::Rows::signal_none, crate::proofs::Waits::no_waiters))]
+#[tactic(auto, using(crate::proofs::Woken::signal_result))]
 pub fn signal(threads: &mut Threads, mutexes: &mut Mutexes, condition: u32) -> CallResult
     requires well_formed { IsWellFormedWith threads.old mutexes.old }
     requires conditions { IsWellFormed threads.old }
@@ -217,15 +217,12 @@ pub fn signal(threads: &mut Threads, mutexes: &mut Mutexes, condition: u32) -> C
     ensures threads { threads.new ≡ (signal_row condition threads.old mutexes.old).threads }
     ensures mutexes { mutexes.new ≡ (signal_row condition threads.old mutexes.old).mutexes }
 {
-    if let Some(first) = threads.first_waiter(Object::Condition(condition)) {
-        wake_first(threads, mutexes, condition, first);
-    }
+    wake_first(threads, mutexes, condition);
     CallResult::Done(0)
 }
 
 /// Wakes all threads that wait at the condition, in order of the start of waiting, each as `signal` does (POSIX.1-2017,
 /// pthread_cond_broadcast). Answers 0.
-#[tactic(auto, using(crate::proofs::Rows::broadcast_none, crate::proofs::Waits::no_waiters))]
 pub fn broadcast(threads: &mut Threads, mutexes: &mut Mutexes, condition: u32) -> CallResult
     requires well_formed { IsWellFormedWith threads.old mutexes.old }
     requires conditions { IsWellFormed threads.old }
@@ -236,8 +233,6 @@ pub fn broadcast(threads: &mut Threads, mutexes: &mut Mutexes, condition: u32) -
     ensures threads { threads.new ≡ (broadcast_row condition threads.old mutexes.old).threads }
     ensures mutexes { mutexes.new ≡ (broadcast_row condition threads.old mutexes.old).mutexes }
 {
-    while let Some(first) = threads.first_waiter(Object::Condition(condition)) {
-        wake_first(threads, mutexes, condition, first);
-    }
+    while wake_first(threads, mutexes, condition) {}
     CallResult::Done(0)
 }

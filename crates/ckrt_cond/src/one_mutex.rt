@@ -1,7 +1,7 @@
 //! The test of waits at conditions: the waiters of one condition name one mutex.
 ghost use Rattle.std.specs.Prelude.{◌≡◌, ◌↔◌, true};
 ghost use Rattle.std.specs.List.{list_all, list_any};
-ghost use Rattle.ckrt_cond.specs.Rows.{is_with_other, has_other_mutex};
+ghost use Rattle.ckrt_cond.specs.Rows.{is_with_other};
 ghost use Rattle.ckrt_cond.specs.WellFormed.{IsWellFormed, names_the_one_mutex};
 
 use crate::waiters::is_with_other;
@@ -16,28 +16,26 @@ fn is_any_with_other(waits: &[Wait], condition: u32, mutex: u32) -> bool
         .any(|wait| is_with_other(wait.reason, condition, mutex))
 }
 
-/// Whether nobody waits at the wait's condition with another mutex.
-fn names_the_one_mutex(threads: &Threads, wait: &Wait) -> bool
-    ensures { result ≡ names_the_one_mutex threads.now wait.now }
+/// Whether none of these waits is at this wait's condition with another mutex.
+fn names_the_one_mutex(waits: &[Wait], wait: &Wait) -> bool
+    ensures { result ≡ names_the_one_mutex waits.now wait.now }
 {
     match wait.reason {
-        Reason::Condition(condition, mutex) => {
-            !is_any_with_other(threads.waits().as_slice(), condition, mutex)
-        }
+        Reason::Condition(condition, mutex) => !is_any_with_other(waits, condition, mutex),
         _ => true,
     }
 }
 
 /// Whether each of these waits names the one mutex of its condition.
-fn each_names_the_one_mutex(threads: &Threads, waits: &[Wait]) -> bool
-    ensures { result ≡ list_all (names_the_one_mutex threads.now) waits.now }
+fn each_names_the_one_mutex(waits: &[Wait]) -> bool
+    ensures { result ≡ list_all (names_the_one_mutex waits.now) waits.now }
 {
-    waits.iter().all(|wait| names_the_one_mutex(threads, wait))
+    waits.iter().all(|wait| names_the_one_mutex(waits, wait))
 }
 
 /// Whether the waiters of each condition name one mutex.
 pub fn are_conditions_well_formed(threads: &Threads) -> bool
     ensures { (result ≡ true) ↔ IsWellFormed threads.now }
 {
-    each_names_the_one_mutex(threads, threads.waits().as_slice())
+    each_names_the_one_mutex(threads.waits().as_slice())
 }

@@ -1,14 +1,13 @@
 //! Who waits at a condition, and how a wait there ends.
-ghost use Rattle.std.specs.Prelude.{◌≡◌, true, ◌∷◌, Some};
-ghost use Rattle.ckrt_thread.specs.declared.records.Object.TheVariants.{Condition};
+ghost use Rattle.std.specs.Prelude.{◌≡◌, true, drop};
 ghost use Rattle.ckrt_thread.specs.declared.records.Reason.TheVariants.{Retake};
-ghost use Rattle.ckrt_thread.specs.State.{first_waiter, may_unwind};
+ghost use Rattle.ckrt_thread.specs.State.{may_unwind};
 ghost use Rattle.ckrt_mutex.specs.WellFormed.{IsWellFormedWith};
-ghost use Rattle.ckrt_cond.specs.Rows.{waiters, has_waiters, is_with_other, has_other_mutex, resume_row, woken_from};
+ghost use Rattle.ckrt_cond.specs.Rows.{waiters, has_waiters, is_with_other, has_other_mutex, resume_row, signal_row};
 ghost use Rattle.ckrt_cond.specs.WellFormed.{IsWellFormed, may_resume};
 
 use ckrt_mutex::Mutexes;
-use ckrt_thread::{CallResult, Object, Reason, RetakeResult, ThreadId, Threads, Wait};
+use ckrt_thread::{CallResult, Object, Reason, RetakeResult, ThreadId, Threads};
 
 /// Whether a thread waits at the condition.
 pub fn has_waiters(threads: &Threads, condition: u32) -> bool
@@ -65,19 +64,24 @@ pub fn resume(
     mutexes.retake(threads, thread, mutex, outcome)
 }
 
-/// The first waiter of a condition is woken: its wait ends, and it retakes its mutex, to get 0 with it.
-pub fn wake_first(threads: &mut Threads, mutexes: &mut Mutexes, condition: u32, first: Wait)
-    requires first { first_waiter (Condition condition) threads.old ≡ Some first }
+/// The thread that has waited longest at the condition is woken, if there is one: its wait ends, and it retakes its
+/// mutex, to get 0 with it. Says whether there was one.
+pub fn wake_first(threads: &mut Threads, mutexes: &mut Mutexes, condition: u32) -> bool
     requires well_formed { IsWellFormedWith threads.old mutexes.old }
     requires conditions { IsWellFormed threads.old }
     ensures well_formed { IsWellFormedWith threads.new mutexes.new }
     ensures conditions { IsWellFormed threads.new }
-    ensures queue { waiters condition threads.old ≡ first ∷ waiters condition threads.new }
-    ensures threads { threads.new ≡ (woken_from first.reason first.thread threads.old mutexes.old).threads }
-    ensures mutexes { mutexes.new ≡ (woken_from first.reason first.thread threads.old mutexes.old).mutexes }
+    ensures waiting { result ≡ has_waiters condition threads.old }
+    ensures queue { waiters condition threads.new ≡ drop 1 (waiters condition threads.old) }
+    ensures threads { threads.new ≡ (signal_row condition threads.old mutexes.old).threads }
+    ensures mutexes { mutexes.new ≡ (signal_row condition threads.old mutexes.old).mutexes }
 {
     threads.known();
+    let Some(first) = threads.wake_first(Object::Condition(condition)) else {
+        return false;
+    };
     if let Reason::Condition(_, mutex) = first.reason {
-        resume(threads, mutexes, first.thread, mutex, RetakeResult::Done);
+        mutexes.retake(threads, first.thread, mutex, RetakeResult::Done);
     }
+    true
 }

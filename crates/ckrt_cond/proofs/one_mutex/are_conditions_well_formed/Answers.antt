@@ -6,7 +6,7 @@ use Rattle.ckrt_cond.proofs.one_mutex.are_conditions_well_formed.Goals as goal
 
 pub returns : goal.returns
 returns c =
-    let each : c.each_names_the_one_mutex.result ≡ list_all (names_the_one_mutex c.args.threads.now) c.args.threads.now.waits = rw (c.as_slice.ensures.value, c.waits.ensures) at c.each_names_the_one_mutex.ensures in (
+    let each : c.each_names_the_one_mutex.result ≡ list_all (names_the_one_mutex c.args.threads.now.waits) c.args.threads.now.waits = rw (c.as_slice.ensures.value, c.waits.ensures) at c.each_names_the_one_mutex.ensures in (
       (λ t. tested c.args.threads.now (sym each ∙ t)),
       (λ h. each ∙ one_named c.args.threads.now h),
     )
