@@ -1,16 +1,19 @@
 -- Input, and who waits for it.
-use Rattle.std.proofs.Common.{◌≡◌, ℕ, ◌+◌, ◌≤◌, Bool, true, false, not, List, [], ◌∷◌, ◌++◌, length, drop, slice_get, Option, Some, None, ◌⊎◌, inl, inr, refl, ap, ◌∙◌, arith, length-append}
+use Rattle.std.proofs.Common.{◌≡◌, ℕ, ◌+◌, ◌≤◌, ◌<◌, Bool, true, false, not, List, [], ◌∷◌, ◌++◌, length, drop, slice_get, Option, Some, None, ◌⊎◌, inl, inr, refl, sym, ap, ◌∙◌, arith, length-append}
+use Rattle.std.specs.Prelude.{option_map}
 use Rattle.std.specs.List.{list_all, find}
 use Rattle.std.proofs.lemmas.Bool.Decides.{nat_tests}
 use Rattle.ckrt_thread.specs.declared.records.Wait.{Wait}
+use Rattle.ckrt_thread.specs.declared.records.Waiter.{Waiter}
 use Rattle.ckrt_thread.specs.declared.records.Object.TheVariants as object
 use Rattle.ckrt_thread.specs.Abi.{A0}
 use Rattle.ckrt_thread.specs.Waits.{is_for}
 use Rattle.ckrt_thread.specs.Granting.{queue_of}
 use Rattle.ckrt_thread.specs.State as threads
-use Rattle.ckrt_thread.specs.State.{State, first_waiter, woken, all_woken, is_waiting, is_live, is_live_thread, is_any_live, with_word}
+use Rattle.ckrt_thread.specs.State.{State, first_waiter, first_unwaited, of_wait, of_waiter, set_word, woken, all_woken, is_waiting, is_live, is_live_thread, is_any_live, with_word}
 use Rattle.ckrt_thread.proofs.Grants.{first_of_queue}
-use Rattle.ckrt_thread.proofs.Waking.{kept_all_woken}
+use Rattle.ckrt_thread.proofs.Waking.{kept_all_woken, waiter_is, taken_woken, none_unwaited}
+use Rattle.ckrt_thread.proofs.Waking as waking
 use Rattle.ckrt_thread.proofs.SlotLemmas.{kept_at, live_change}
 use Rattle.ckrt_objects.proofs.Granting.{well_formed_woken}
 use Rattle.ckrt_mutex.specs.WellFormed.{IsWellFormedWith}
@@ -39,9 +42,17 @@ feed_some (c ∷ bs) b w z e f =
     let rest : drop 1 (c ∷ bs) ≡ bs = grind (arith, nat_tests) in
     ap (λ o. feed_first (feed bs) o (c ∷ bs) c z) f ∙ rw (rest, same) refl
 
-pub feed_empty : (bs : List ℕ) (z : State) → slice_get bs 0 ≡ None → feed bs z ≡ record { input = drop 1 bs; threads = z }
-feed_empty [] z e = (let rest : drop 1 (let ns : List ℕ = [] in ns) ≡ [] = grind (arith, nat_tests) in rw rest refl)
-feed_empty (c ∷ bs) z e = absurd (cc)
+-- the same by who was taken out of the list
+pub feed_nobody : (bs : List ℕ) (z : State) → None ≡ option_map of_wait (first_waiter object.Input z) → feed bs z ≡ record { input = bs; threads = first_unwaited object.Input z }
+feed_nobody bs z e =
+    let none = waking.no_first (first_waiter object.Input z) e in
+    feed_none bs z none ∙ ap (λ y. record { input = bs; threads = y }) (sym (none_unwaited object.Input z none))
+
+pub feed_taken : (bs : List ℕ) (b : ℕ) (x : Waiter) (z : State) → Some b ≡ slice_get bs 0 → Some (of_waiter x) ≡ option_map of_wait (first_waiter object.Input z)
+    → feed (drop 1 bs) (set_word x.thread A0 b (first_unwaited object.Input z)) ≡ feed bs z
+feed_taken bs b x z e f =
+    let i = waiter_is (first_waiter object.Input z) x f in
+    ap (feed (drop 1 bs)) (taken_woken object.Input b x z i) ∙ sym (feed_some bs b i.wait z (sym e) i.first)
 
 -- what the end of a wait keeps, feeding keeps
 module _ (P : State → Type 0) (ends : (t v : ℕ) (s : State) → P s → P (woken t v s)) where

@@ -22,16 +22,17 @@ pub fn take_input(tables: &mut Tables, bytes: &[u8])
 }
 
 /// While a byte is left and a thread waits for one, who waits longest gets the first.
-#[tactic(auto, using(crate::proofs::Readers::feed_none, crate::proofs::Readers::feed_some, crate::proofs::Readers::feed_empty))]
 fn feed_readers(threads: &mut Threads, input: &mut InputQueue)
     ensures threads { threads.new ≡ (feed input.old threads.old).threads }
     ensures input { input.new ≡ (feed input.old threads.old).input }
 {
-    while let Some(wait) = threads.first_waiter(Object::Input) {
-        let Some(byte) = input.pop_first() else {
+    while input.len() > 0 {
+        let Some(reader) = threads.wake_first(Object::Input) else {
             return;
         };
-        threads.wake(wait.thread, u32::from(byte));
+        if let Some(byte) = input.pop_first() {
+            threads.set_result(reader.thread, u32::from(byte));
+        }
     }
 }
 

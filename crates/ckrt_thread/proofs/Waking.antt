@@ -25,7 +25,7 @@ waiter_is None x e = absurd (cc)
 waiter_is (Some w) x e = record { wait = w; first = refl; who = (cc) }
 
 -- it is woken
-taken_woken : (o : Object) (v : ℕ) (x : Waiter) (s : State) (i : IsFirst (first_waiter o s) x) → set_word x.thread A0 v (first_unwaited o s) ≡ woken i.wait.thread v s
+pub taken_woken : (o : Object) (v : ℕ) (x : Waiter) (s : State) (i : IsFirst (first_waiter o s) x) → set_word x.thread A0 v (first_unwaited o s) ≡ woken i.wait.thread v s
 taken_woken o v x s i = ap (λ f. set_word x.thread A0 v (unwaited_first f s)) i.first ∙ ap (λ t. set_word t A0 v (unwaited i.wait.thread s)) (ap (λ p. p.0) i.who)
 
 pub fewer_left : (o : Object) (v : ℕ) (x : Waiter) (s : State) → Some (of_waiter x) ≡ option_map of_wait (first_waiter o s) → length (set_word x.thread A0 v (first_unwaited o s)).waits < length s.waits
