@@ -49,6 +49,13 @@ class Call(IntEnum):
     SETCANCELTYPE = 63
     CLEANUP_PUSH = 64
     CLEANUP_POP = 65
+    KEY_CREATE = 70
+    KEY_DELETE = 71
+    SETSPECIFIC = 72
+    GETSPECIFIC = 73
+
+
+KEY_CALLS = (Call.KEY_CREATE, Call.KEY_DELETE, Call.SETSPECIFIC, Call.GETSPECIFIC)
 
 
 class Error(IntEnum):

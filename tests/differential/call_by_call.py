@@ -3,7 +3,7 @@
 The model runs along while the lines are made: so the next call can depend on who waits for what.
 """
 from abi import ALL_ONES, RETURN_GATE, UNWIND_GATE, Call
-from choices import FLAVOURS, RETURN_TO_X1, Chooser
+from choices import RETURN_TO_X1, Chooser, flavours
 from devices import MemoryDisk
 from layout import Geometry, format_disk
 from lines import parse, run_command
@@ -13,17 +13,18 @@ from threads import THREAD_IDS
 
 PRINTER = 2  # the id of the printing thread
 TOP, BEHIND_CALL = LABELS["top"], LABELS["behind the call"]
-LENGTHS = {"many mutexes": 420, "many locks": 250, "many barriers": 220, "many threads": 130, "many handlers": 120}
+LENGTHS = {"many mutexes": 420, "many locks": 250, "many barriers": 220, "many threads": 130, "many handlers": 120,
+           "many keys": 150}
 
 
 class Script:
-    """`lines` for the guest `image`; a flavour says which calls are mixed."""
+    """`lines` for the guest `image`; a flavour says which calls are mixed. The disk may be of an older version."""
 
-    def __init__(self, chance, flavour, length=None):
+    def __init__(self, chance, flavour, length=None, version=None):
         self.chance, self.flavour = chance, flavour
         self.geometry = Geometry(16, chance.choice([1, 2, 3, 8]), 1 << 20)
         self.records, self.lines, self.idle_turns = [], [], 0
-        self.session = Session(MemoryDisk(format_disk(self.geometry, image_with([]))))
+        self.session = Session(MemoryDisk(format_disk(self.geometry, image_with([]), version)))
         self.machine = self.session.machine
         self.chooser = Chooser(chance, self.machine, flavour)
         self.begin()
@@ -142,4 +143,4 @@ class Script:
 
 
 def flavour_of(seed):
-    return list(FLAVOURS)[seed % len(FLAVOURS)]
+    return list(flavours())[seed % len(flavours())]

@@ -7,7 +7,7 @@ from dataclasses import dataclass
 from enum import Enum
 from typing import Callable
 
-from abi import ALL_ONES, MOMENTS, Call, Error
+from abi import ALL_ONES, KEY_CALLS, MOMENTS, Call, Error
 from objects import retake_mutex
 from threads import THREAD_IDS, UNWIND, Handler, WaitKind, new_thread
 
@@ -41,11 +41,16 @@ def guest_call(number, arguments=0, is_point=False):
     return enter
 
 
+def row_of(state, number):
+    """None where there is no such call; those on keys are there where the state has keys."""
+    return CALLS.get(number) if state.has_keys or number not in KEY_CALLS else None
+
+
 def perform(state, caller):
     """Makes the call that stands in the caller's registers."""
     thread = state.threads[caller]
     number = thread.registers[17]
-    row = CALLS.get(number)
+    row = row_of(state, number)
     if row is None:
         answer = Error.ENOSYS
     elif row.is_point and state.acts_at_point(caller):

@@ -13,6 +13,7 @@ from layout import Geometry, format_disk
 from limits import limit_case
 from saved_disks import ChangedArea, asks, serve_and_save, stopped_disk, with_checkpoints
 from streams import MALFORMED, joined, last_lines, mangled, random_lines
+from switches import SWITCHES
 from traced_cases import cuts_case, fates_case, listings_case, lists_case, parts_case
 from words import words_case
 
@@ -21,16 +22,23 @@ from words import words_case
 class Case:
     """A disk, formatted with an image or given byte by byte, and the lines of each life on it.
 
-    A killed case's program gets a signal as soon as all replies of a life have come.
+    A killed case's program gets a signal as soon as all replies of a life have come. A version is that of a disk which an
+    older program formatted.
     """
     geometry: Geometry
     image: bytes
     lives: list
     damaged: bytes | None = None
     is_killed: bool = False
+    version: int | None = None
 
     def disk(self):
-        return bytearray(format_disk(self.geometry, self.image) if self.damaged is None else self.damaged)
+        return bytearray(format_disk(self.geometry, self.image, self.version) if self.damaged is None else self.damaged)
+
+
+def disk_version(chance):
+    """Mostly the newest."""
+    return 1 if SWITCHES.keys and chance.random() < 0.15 else None
 
 
 def threads_case(chance, seed):
@@ -38,13 +46,14 @@ def threads_case(chance, seed):
     guest = Guest(chance)
     geometry = Geometry(chance.choice([16] * 30 + [17]), chance.choice([1, 2, 2, 3, 8]), chance.choice([4096, 4096, 65536]))
     lines = random_lines(chance, geometry.harts) + last_lines(chance, geometry.harts, guest.dump_steps)
-    return Case(geometry, guest.image, [joined(chance, lines)])
+    return Case(geometry, guest.image, [joined(chance, lines)], version=disk_version(chance))
 
 
 def calls_case(chance, seed):
     """Call by call, chosen with a look at the model."""
-    script = Script(chance, flavour_of(seed))
-    return Case(script.geometry, script.image, [joined(chance, script.lines)])
+    version = disk_version(chance)
+    script = Script(chance, flavour_of(seed), version=version)
+    return Case(script.geometry, script.image, [joined(chance, script.lines)], version=version)
 
 
 def processor_case(chance, seed):
@@ -99,13 +108,14 @@ def disks_case(chance, seed):
 
 def killed_case(chance, seed):
     """Three lives, each killed when its replies have come; the next begins some lines before."""
-    script = Script(chance, flavour_of(seed), 60)
+    version = disk_version(chance)
+    script = Script(chance, flavour_of(seed), 60, version)
     left, lives = script.lines, []
     while left and len(lives) < 3:
         cut = chance.randrange(1, len(left) + 1)
         lives.append(joined(chance, left[:cut]))
         left = left[max(0, cut - 5):]
-    return Case(script.geometry, script.image, lives, is_killed=True)
+    return Case(script.geometry, script.image, lives, is_killed=True, version=version)
 
 
 def limits_case(chance, seed):

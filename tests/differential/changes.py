@@ -8,6 +8,7 @@ from dataclasses import dataclass
 from abi import ALL_ONES, MOMENTS
 from objects import Mutex, ReadWriteLock
 from processor import Cause
+from switches import SWITCHES
 from threads import UNWIND, Handler, State, Status, Thread, Wait, WaitKind
 
 HELD = (WaitKind.LOCK, WaitKind.RETAKE, WaitKind.CONDITION, WaitKind.READ, WaitKind.WRITE)
@@ -219,12 +220,32 @@ def change_status(chance, saved):
     state.fault_cause = chance.choice([0, 1, 9, 10, *map(int, Cause)])
 
 
+def change_keys(chance, saved):
+    """Keys, the mark, and a thread's values and round."""
+    state, odd_keys = saved.state, [0, 1, 31, 32, ALL_ONES]
+    thread = state.threads.get(some(chance, saved.ids()), Thread())
+    match chance.randrange(8):
+        case 0:
+            state.has_keys = not state.has_keys
+        case 1 | 2:
+            state.keys[chance.choice(odd_keys)] = chance.choice([0, 0x1000, 0x1001, 0x1002, ALL_ONES])
+        case 3 if state.keys:
+            del state.keys[chance.choice(list(state.keys))]
+        case 4 | 5:
+            thread.values[chance.choice([*state.keys, *odd_keys])] = chance.choice([0, 1, ALL_ONES])
+        case 6:
+            thread.round = chance.choice([0, 1, 4, 5])
+        case _:
+            thread.next_key = chance.choice([0, 1, 32, 33])
+
+
 CHANGES = {change_thread: 5, end_all: 1, change_wait: 6, add_wait: 5, change_harts: 2, change_mutex: 4, change_lock: 4,
            change_barrier: 2, change_queues: 2, change_clock: 2, change_status: 3, make_waiter_hold: 5, part_condition: 2}
 
 
 def change(chance, saved):
-    chance.choices(list(CHANGES), CHANGES.values())[0](chance, saved)
+    changes = CHANGES | {change_keys: 6} if SWITCHES.keys else CHANGES
+    chance.choices(list(changes), changes.values())[0](chance, saved)
 
 
 def damaged_bytes(chance, tables):

@@ -3,9 +3,10 @@
 A chosen call is its number and arguments.
 """
 from abi import ALL_ONES, MOMENTS, RETURN_GATE, UNWIND_GATE, Call
-from guests import UNKNOWN_CALLS
+from guests import unknown_calls
 from record_guest import LABELS
-from threads import WaitKind
+from switches import SWITCHES
+from threads import KEYS, WaitKind
 
 RETURN_TO_X1 = (0, 0, 0, 0, 0, 1)  # the record of a thread that returns
 TOP, FIVE_MORE = LABELS["top"], LABELS["five more"]
@@ -24,6 +25,14 @@ FLAVOURS = {
     "many barriers": ["many_barriers"] * 9 + ["barrier"], "many threads": ["many_threads"] * 3 + ["thread"],
     "many handlers": ["many_handlers"] * 3 + ["cancel"],
 }
+FLAVOURS_OF_KEYS = {
+    "keys": ["keys"] * 4 + ["thread"], "keys and ends": ["keys", "keys", "key_ends"],
+    "keys and cancel": ["keys", "keys", "cancel", "key_ends", "condition"], "many keys": ["many_keys"] * 6 + ["keys", "key_ends"],
+}
+
+
+def flavours():
+    return FLAVOURS | FLAVOURS_OF_KEYS if SWITCHES.keys else FLAVOURS
 
 
 class Chooser:
@@ -35,7 +44,7 @@ class Chooser:
         """Where the thread alone is ready, mostly a call that lets another one go on."""
         if is_alone and self.chance.random() < (0.1 if self.flavour == "ends" else 0.85):
             return self.chance.choice(self.rescues(thread_id))
-        theme = self.chance.choice(FLAVOURS[self.flavour])
+        theme = self.chance.choice(flavours()[self.flavour])
         options = getattr(self, f"{theme}_options")(thread_id)
         return self.chance.choice(options)
 
@@ -206,6 +215,40 @@ class Chooser:
                 (Call.CREATE, TOP, 3, 0, chance.choice([0, 1])), (Call.SETCANCELSTATE, chance.choice([0, 1])),
                 (Call.SETCANCELTYPE, chance.choice([0, 1]))]
 
+    def key(self):
+        """Mostly one that is there."""
+        there = list(self.machine.keys)
+        return self.chance.choice(there) if there and self.chance.random() < 0.85 else self.chance.choice([0, 1, 31, 32, ALL_ONES])
+
+    def destructor(self):
+        """Some take records, and so may set values again; one returns at once."""
+        places = [HANDLER_1, HANDLER_2, HANDLER_1, HANDLER_BACK, TOP, TOP, 0, 0x1002]
+        return self.chance.choice([UNWIND_GATE, RETURN_GATE]) if self.chance.random() < 0.04 else self.chance.choice(places)
+
+    def keys_options(self, thread_id):
+        """Who unwinds mostly sets a value again or goes on, so that all rounds come up."""
+        chance = self.chance
+        if self.machine.threads[thread_id].is_unwinding and chance.random() < 0.8:
+            return [(Call.SETSPECIFIC, self.key(), 3), RETURN_TO_X1]
+        values = [0, 1, 2, 0x41, ALL_ONES]
+        setting = [(Call.SETSPECIFIC, self.key(), chance.choice(values)) for _ in range(5)]
+        return (setting + [(Call.GETSPECIFIC, self.key()) for _ in range(3)] +
+                [(Call.KEY_CREATE, self.destructor())] * 3 + [(Call.KEY_DELETE, self.key())])
+
+    def many_keys_options(self, thread_id):
+        """The table fills; then a key goes at times."""
+        is_full = len(self.machine.keys) == len(KEYS)
+        return ([(Call.KEY_CREATE, self.destructor())] * 8 + [(Call.SETSPECIFIC, self.key(), 7)] * 2 +
+                [(Call.KEY_DELETE, self.key()) if is_full else (Call.GETSPECIFIC, self.key())])
+
+    def key_ends_options(self, thread_id):
+        """Threads end, and others begin."""
+        if self.machine.threads[thread_id].is_unwinding:
+            return self.keys_options(thread_id)
+        create = (Call.CREATE, TOP, 7, 0, self.chance.choice([0, 1]))
+        return [(Call.THREAD_EXIT, 5), RETURN_TO_X1, (Call.CANCEL, self.thread_id()), (Call.TESTCANCEL,), create, create,
+                (Call.CLEANUP_PUSH, HANDLER_BACK, 1), (Call.JOIN, self.thread_id())]
+
     def stream_options(self, thread_id):
         return [(Call.PUTC, self.chance.choice([65, 0x1FF])), *[(Call.GETC,)] * 3, (Call.CLOCK,),
                 *[(Call.SLEEP_UNTIL, *self.moment())] * 3]
@@ -213,4 +256,4 @@ class Chooser:
     def odd_options(self, thread_id):
         if self.chance.random() < 0.02:
             return [(Call.EXIT, 7)]
-        return [(number, 1, 2, 3, 4) for number in UNKNOWN_CALLS]
+        return [(number, 1, 2, 3, 4) for number in unknown_calls()]

@@ -4,7 +4,7 @@ from copy import deepcopy
 from abi import ALL_ONES, MOMENTS
 from objects import Mutex, MutexKind, ReadWriteLock
 from processor import Cause
-from threads import THREAD_IDS, UNWIND, Handler, Wait, WaitKind
+from threads import KEYS, ROUNDS, THREAD_IDS, UNWIND, Handler, Wait, WaitKind
 from well_formed import is_well_formed
 
 MUTEXES = [0x2000, 0x2004, 0x2008, ALL_ONES]
@@ -20,6 +20,8 @@ class Crowd:
 
     def grow(self, count):
         """More threads, like those that there are, and waits for most that are ready."""
+        if self.state.has_keys and self.chance.random() < 0.7:
+            self.add_keys()
         free = [number for number in THREAD_IDS if number not in self.threads]
         live = [thread for thread in self.threads.values() if not thread.has_ended]
         for number in self.chance.sample(free, min(count, len(free))):
@@ -32,6 +34,24 @@ class Crowd:
             if number not in self.state.harts:
                 self.state.harts[hart] = number
 
+    def add_keys(self):
+        """Some or all keys, and values of the threads that there are."""
+        for key in self.chance.sample(KEYS, self.chance.choice([1, 2, 5, 32])):
+            self.state.keys.setdefault(key, self.chance.choice([0, 0x1000, 0x1010, ALL_ONES - 3]))
+        for thread in self.threads.values():
+            if not thread.has_ended:
+                self.add_values(thread)
+
+    def add_values(self, thread):
+        """Values of some keys; of one who unwinds a round too."""
+        chance, keys = self.chance, list(self.state.keys)
+        count = chance.choice([0, 0, 1, 2, len(keys)])
+        for key in chance.sample(keys, min(count, len(keys))):
+            thread.values[key] = chance.choice([1, 0x42, ALL_ONES])
+        thread.round = thread.next_key = 0
+        if thread.is_unwinding and chance.random() < 0.7:
+            thread.round, thread.next_key = chance.randrange(1, ROUNDS + 1), chance.randrange(len(KEYS) + 1)
+
     def like(self, other):
         chance, thread = self.chance, deepcopy(other)
         thread.is_initial, thread.is_detached = False, chance.random() < 0.2
@@ -43,6 +63,8 @@ class Crowd:
             thread.value = chance.choice([5, ALL_ONES])
         if chance.random() < 0.3:
             thread.handlers = [Handler(thread.pc, number) for number in range(chance.choice([1, 2, 16]))]
+        if self.state.has_keys:
+            self.add_values(thread)
         return thread
 
     def add_wait(self, number):

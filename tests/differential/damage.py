@@ -5,7 +5,7 @@ from abi import ALL_ONES
 from devices import MemoryDisk
 from events import Eof, Input, Place, Run, Tick
 from guests import Guest
-from layout import CLOSED, OPEN, TABLES_AT, Geometry, format_disk
+from layout import CLOSED, OPEN, TABLES_AT, Geometry, format_disk, fresh_tables
 from lines import serve_disk
 from session import Session
 from streams import random_lines
@@ -37,6 +37,7 @@ class Damage:
         self.used = Session(MemoryDisk(self.disk)).journal_used
         self.areas = [self.geometry.area_at(area) for area in (0, 1)]
         self.journal = self.geometry.journal_at(0)
+        self.tables_length = len(fresh_tables(self.geometry.pages))
         kinds = [self.superblock, self.header, self.second_header, self.second_area, self.journal_byte, self.journal_tail,
                  self.journal_tail, self.stopped_commit, self.wrong_length, self.full_journal, self.tables, self.page,
                  self.journal_end, self.unread_bytes]
@@ -132,13 +133,13 @@ class Damage:
             at += 3 + length
 
     def tables(self):
-        self.disk[self.areas[0] + TABLES_AT + self.chance.randrange(170)] ^= self.chance.choice([1, 2, 128])
+        self.disk[self.areas[0] + TABLES_AT + self.chance.randrange(self.tables_length)] ^= self.chance.choice([1, 2, 128])
 
     def page(self):
         self.disk[self.areas[0] + 102400 + 4096 + self.chance.randrange(4096 * 15)] = self.chance.randrange(256)
 
     def unread_bytes(self):
         """Those of the superblock, the header and behind the tables that mean nothing."""
-        first = self.areas[0]
-        for at in (1, 7, 32, 4095, first + 1, first + 7, first + 40, first + TABLES_AT + 170, first + TABLES_AT + 4000):
+        first, behind = self.areas[0], TABLES_AT + self.tables_length
+        for at in (1, 7, 32, 4095, first + 1, first + 7, first + 40, first + behind, first + TABLES_AT + 4000):
             self.disk[at] = self.chance.randrange(256)

@@ -10,7 +10,7 @@ from dataclasses import dataclass, field
 from pathlib import Path
 from random import Random
 
-from abi import Call
+from abi import KEY_CALLS, Call
 from cases import KINDS, case_of
 from formats import FormatCase
 from layout import Geometry, format_disk
@@ -18,6 +18,7 @@ from lines import serve_disk
 from listing import OutOfRange, listing
 from recovery import Unrecovered
 from streams import joined
+from switches import SWITCHES
 from traced_cases import CutCase, ListingsCase, LivesCase, TracedCase
 from traced_runs import difference_of_cut, difference_of_lists, difference_of_traced
 from words import WordsCase
@@ -194,7 +195,7 @@ def first_difference(ckrt, case, folder, tally, count_life):
 
 def difference_of_lives(ckrt, case, folder, tally, count_life):
     disk, path = case.disk(), folder / "disk"
-    if case.damaged is None:
+    if case.damaged is None and case.version is None:
         difference = difference_of_format(ckrt, FormatCase(case.geometry, case.image, None), folder, tally)
         if difference is not None:
             return difference
@@ -279,7 +280,8 @@ def run_case(ckrt, kind, seed, folder, totals):
             (work / f"lines.{number}").write_bytes(joined(Random(0), lines))
     totals.differences.append(f"{kind} {seed}")
     print(f"DIFFERENCE {kind} {seed}: {difference}\n  files in {work}\n"
-          f"  again: python3 {Path(__file__).name} {ckrt} {folder} --kinds {kind} --seed {seed} --count 1", flush=True)
+          f"  again: python3 {Path(__file__).name} {ckrt} {folder} --kinds {kind} --seed {seed} --count 1"
+          f"{' --keys' * SWITCHES.keys}", flush=True)
 
 
 def print_answers(answers):
@@ -289,7 +291,8 @@ def print_answers(answers):
         rows.setdefault(name, []).append((answer, count))
     for name in sorted(rows):
         print(f"  {name:20}" + ", ".join(f"{answer} {count}" for answer, count in sorted(rows[name])))
-    never = [call.name.lower() for call in Call if call.name.lower() not in rows]
+    known = [call.name.lower() for call in Call if SWITCHES.keys or call not in KEY_CALLS]
+    never = [name for name in known if name not in rows]
     if never:
         print("  never made: " + ", ".join(never))
 
@@ -311,6 +314,7 @@ def words():
     parser.add_argument("--step", type=int, default=1, help="from one seed to the next (1)")
     parser.add_argument("--kinds", help="kinds of cases, with commas between (all)")
     parser.add_argument("--stop-after", type=int, default=5, help="stop after so many differences (5)")
+    parser.add_argument("--keys", action="store_true", help="the program has thread-specific keys and tables of version 2")
     chosen = parser.parse_args()
     chosen.kinds = chosen.kinds.split(",") if chosen.kinds else list(KINDS)
     unknown = set(chosen.kinds) - set(KINDS)
@@ -321,6 +325,7 @@ def words():
 
 def main():
     chosen = words()
+    SWITCHES.keys = chosen.keys
     folder = Path(chosen.folder or tempfile.mkdtemp(prefix="differential-"))
     folder.mkdir(parents=True, exist_ok=True)
     totals = Totals()

@@ -3,9 +3,10 @@
 Each call adds x10 and x11 to two words of its own in a log. The thread with id 2 is made first, sleeps till the end, and
 then prints the log.
 """
-from abi import ALL_ONES, RETURN_GATE, UNWIND_GATE, Call
+from abi import ALL_ONES, KEY_CALLS, RETURN_GATE, UNWIND_GATE, Call
 from assembler import (STOP, Branch, Jump, Label, Program, add, add_immediate, call_words, image_of, jump_register,
                        length_of, load_byte, load_number, load_word, store_word)
+from switches import SWITCHES
 
 LOG = 0xF800
 LOG_SLOTS = 400
@@ -15,6 +16,14 @@ RETURN = jump_register(0, 9, 0)  # x9 keeps what x1 was at the start
 WEIGHTS = {"mutex": 5, "condition": 5, "barrier": 2, "lock": 3, "thread": 3, "cancel": 4, "stream": 2, "odd": 0.3}
 
 
+def unknown_calls():
+    return [number for number in UNKNOWN_CALLS if not (SWITCHES.keys and number in KEY_CALLS)]
+
+
+def theme_weights():
+    return {"key": 4, **WEIGHTS} if SWITCHES.keys else dict(WEIGHTS)
+
+
 class Guest:
     """`image` is the guest, `dump_steps` a number of steps in which the log is printed."""
 
@@ -22,10 +31,10 @@ class Guest:
         self.chance, self.slots = chance, 0
         self.starts = [f"start {number}" for number in range(chance.choice([1, 2, 3, 3, 4]))]
         self.handlers = [f"handler {number}" for number in range(chance.choice([1, 2, 3]))]
-        self.weights = dict(WEIGHTS)
+        self.weights = theme_weights()
         if chance.random() < 0.5:
-            kept = chance.sample(list(WEIGHTS)[:-1], chance.choice([1, 2, 2, 3]))
-            self.weights = {theme: weight * (8 if theme in kept else 0.5) for theme, weight in WEIGHTS.items()}
+            kept = chance.sample(list(self.weights)[:-1], chance.choice([1, 2, 2, 3]))
+            self.weights = {theme: weight * (8 if theme in kept else 0.5) for theme, weight in self.weights.items()}
         self.program = Program()
         self.add_main()
         for name in self.starts:
@@ -112,13 +121,23 @@ class Guest:
             (12, (Call.SETCANCELTYPE, chance.choice([0, 1, 1, 2]))),
             (18, push), (12, (Call.CLEANUP_POP, chance.choice([0, 1, 1, 2]))))
 
+    def key(self):
+        return self.chance.choice([4, 31, 32, ALL_ONES]) if self.chance.random() < 0.06 else self.chance.choice([0, 0, 1, 1, 2, 3])
+
+    def key_operation(self):
+        """Destructors are handlers: these put what they are handed, and may set values again."""
+        chance, destructor = self.chance, 0 if self.chance.random() < 0.2 else self.routine(self.handlers)
+        setting = (Call.SETSPECIFIC, self.key(), chance.choice([0, 1, 66, 0x43, 0x11223344, ALL_ONES]))
+        return self.choose((30, (Call.KEY_CREATE, destructor)), (8, (Call.KEY_DELETE, self.key())), (37, setting),
+                           (25, (Call.GETSPECIFIC, self.key())))
+
     def stream_operation(self):
         return self.choose((30, (Call.PUTC, self.chance.choice([65, 66, 0x1FF, 0x41424344]))), (35, (Call.GETC,)),
                            (15, (Call.CLOCK,)), (20, (Call.SLEEP_UNTIL, *self.moment())))
 
     def odd_operation(self):
         return self.choose((1, (Call.EXIT, self.chance.choice([0, 3, ALL_ONES]))),
-                           (9, (self.chance.choice(UNKNOWN_CALLS),)))
+                           (9, (self.chance.choice(unknown_calls()),)))
 
     def logged(self, number, *arguments):
         """The words of a call, of adding its results to the log, and at times of putting one."""

@@ -4,17 +4,18 @@ Numbers are little-endian. A gate byte is open exactly where it is 0xA5. The sup
 with a header, tables and pages, then two journals.
 """
 import struct
-from dataclasses import dataclass
+from dataclasses import dataclass, field
 
 from abi import PAGE
 from devices import MemoryDisk
 from processor import Memory
+from switches import newest_version
 from tables import encode_tables
 from threads import State
 
 OPEN, CLOSED = 0xA5, 0
 MAGIC = b"CKRTDISK"
-VERSION = 1
+VERSION = 1  # of the superblock
 SUPERBLOCK_AT = 8
 SUPERBLOCK = struct.Struct("<8sIIII")  # magic, version, pages, harts, length of a journal
 SUPERBLOCK_END = SUPERBLOCK_AT + SUPERBLOCK.size
@@ -71,7 +72,7 @@ class Header:
     events: int
     offset: int
     tables_length: int
-    version: int = VERSION
+    version: int = field(default_factory=newest_version)  # of the tables and the journal
 
     def encoding(self):
         return HEADER.pack(self.generation, self.events, self.offset, self.tables_length, self.version)
@@ -105,24 +106,28 @@ def refusal_of_format(length, geometry, image):
     return "TooSmall" if length < geometry.size else None
 
 
-def fresh_tables(pages):
+def fresh_tables(pages, version=None):
     state = State()
     state.add_initial_thread(pages)
-    return encode_tables(state, b"")
+    return encode_tables(state, b"", version)
 
 
-def format_onto(disk, geometry, image):
-    """Area 0 with the fresh state, all gates but its own closed, and the superblock's gate last of all."""
+def format_onto(disk, geometry, image, version=None):
+    """Area 0 with the fresh state, all gates but its own closed, and the superblock's gate last of all.
+
+    An older version is that of a disk which an older program wrote.
+    """
+    version = version or newest_version()
     refusal = refusal_of_format(len(disk), geometry, image)
     if refusal is None:
         disk.sync()
         refusal = "AlreadyFormatted" if disk.read(0, 1)[0] == OPEN else None
     if refusal is not None:
         raise Unformatted(refusal)
-    tables = fresh_tables(geometry.pages)
+    tables = fresh_tables(geometry.pages, version)
     memory = Memory(geometry.pages, image + bytes(geometry.image_limit - len(image)))
     write_gate(disk, geometry.area_at(0), OPEN)
-    write_contents(disk, geometry, 0, Header(1, 0, 0, len(tables)), tables, memory)
+    write_contents(disk, geometry, 0, Header(1, 0, 0, len(tables), version), tables, memory)
     write_gate(disk, geometry.journal_at(0), CLOSED)
     write_gate(disk, geometry.area_at(1), CLOSED)
     disk.write(SUPERBLOCK_AT, SUPERBLOCK.pack(MAGIC, VERSION, geometry.pages, geometry.harts, geometry.journal))
@@ -131,8 +136,8 @@ def format_onto(disk, geometry, image):
     disk.sync()
 
 
-def format_disk(geometry, image):
+def format_disk(geometry, image, version=None):
     """The bytes of a formatted disk that held zeros before."""
     contents = bytearray(geometry.size)
-    format_onto(MemoryDisk(contents), geometry, image)
+    format_onto(MemoryDisk(contents), geometry, image, version)
     return contents

@@ -3,6 +3,7 @@ from abi import Call
 from assembler import Branch, Program, STOP, add_immediate, call_words, image_of, jump_form, load_number
 from layout import Geometry
 from processor import ECALL
+from switches import SWITCHES
 
 FIRST = 0x2000  # the address of the first object
 INPUT = b"in " + b"4a" * 64  # 66 bytes of events
@@ -47,15 +48,25 @@ def count_limit(chance):
 
 def full_table(chance):
     """A table is filled, and then calls are made on those within and on others."""
-    number, size, calls = chance.choice([
-        (Call.MUTEX_INIT, 256, [*MUTEXES, Call.MUTEX_INIT]), (Call.MUTEX_LOCK, 256, [*MUTEXES, Call.MUTEX_INIT]),
-        (Call.RWLOCK_WRLOCK, 64, RWLOCKS), (Call.BARRIER_INIT, 64, [Call.BARRIER_INIT, Call.BARRIER_DESTROY])])
+    tables = [(Call.MUTEX_INIT, 256, [*MUTEXES, Call.MUTEX_INIT]), (Call.MUTEX_LOCK, 256, [*MUTEXES, Call.MUTEX_INIT]),
+              (Call.RWLOCK_WRLOCK, 64, RWLOCKS), (Call.BARRIER_INIT, 64, [Call.BARRIER_INIT, Call.BARRIER_DESTROY])]
+    number, size, calls = chance.choice(tables)
     program = Program()
     program.add(load_number(6, FIRST) + load_number(11, 1))
     call = [add_immediate(10, 6, 0), *load_number(17, number), ECALL, add_immediate(6, 6, 4)]
     repeat(program, size - chance.choice([0, 1]), call)
     addresses = [FIRST, FIRST + 4, FIRST + 4 * size - 4, FIRST + 4 * size, FIRST + 4 * size + 4]
     made = [(chance.choice(calls), chance.choice(addresses), chance.choice([0, 1, 2, 3])) for _ in range(20)]
+    return Geometry(16, 1, 65536), end_of_program(program, made), [RECORD]
+
+
+def full_keys(chance):
+    """All keys are made, and then some are made, deleted, set and asked for, those behind the last too."""
+    program = Program()
+    repeat(program, 32 - chance.choice([0, 1]), call_words(Call.KEY_CREATE, 0))
+    keys = [0, 1, 30, 31, 32, 33]
+    made = [chance.choice([(Call.KEY_CREATE, chance.choice([0, 4, 2])), (Call.KEY_DELETE, chance.choice(keys)),
+                           (Call.SETSPECIFIC, chance.choice(keys), 7), (Call.GETSPECIFIC, chance.choice(keys))]) for _ in range(30)]
     return Geometry(16, 1, 65536), end_of_program(program, made), [RECORD]
 
 
@@ -105,5 +116,6 @@ SHAPES = [count_limit, full_table, input_queue, held_output, full_batch, full_jo
 
 
 def limit_case(chance, seed):
-    geometry, image, lives = SHAPES[seed % len(SHAPES)](chance)
+    shapes = SHAPES + [full_keys] if SWITCHES.keys else SHAPES
+    geometry, image, lives = shapes[seed % len(shapes)](chance)
     return geometry, image, [b"".join(line + b"\n" for line in life) for life in lives]

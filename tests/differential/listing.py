@@ -3,6 +3,7 @@ from devices import MemoryDisk
 from objects import MutexKind
 from processor import Cause
 from recovery import events_of_journal, read_area, recover
+from switches import SWITCHES
 from tables import saved_locks, saved_mutexes
 from texts import text_of
 from threads import UNWIND, Status, WaitKind
@@ -62,6 +63,15 @@ def lock_line(address, lock):
     return f"rwlock {address_text(address)} {holders}"
 
 
+def lines_of_keys(state):
+    """Whether there are keys at all is told only where it could be."""
+    if SWITCHES.keys and not state.has_keys:
+        return ["keys off"]
+    values = [(number, *row) for number, thread in sorted(state.threads.items()) for row in sorted(thread.values.items())]
+    return [f"key {key} {address_text(destructor)}" for key, destructor in sorted(state.keys.items())] + [
+        f"value {number} {key} {value}" for number, key, value in values]
+
+
 def lines_of_code(machine, number):
     """The words from a thread's pc on, as many as the memory has of them."""
     thread = machine.threads[number]
@@ -84,6 +94,7 @@ def lines_of_state(events, state, harts, is_with_code=False):
         *[f"mutex {address_text(at)} {MUTEX_KINDS[mutex.kind]} {mutex.owner} {mutex.count}" for at, mutex in saved_mutexes(state)],
         *[f"barrier {address_text(at)} {count}" for at, count in sorted(state.barriers.items())],
         *[lock_line(at, lock) for at, lock in saved_locks(state)],
+        *lines_of_keys(state),
     ]
 
 

@@ -1,7 +1,8 @@
 """The machine: which events it refuses, and what the others do."""
 from enum import IntEnum
 
-import object_calls  # noqa: F401 (enters its calls into the table)
+import key_calls  # noqa: F401 (enters its calls into the table)
+import object_calls  # noqa: F401
 from abi import ALL_ONES, MOMENTS, RETURN_GATE, UNWIND_GATE, Error
 from calls import perform
 from events import Eof, Input, Place, Run, Tick
@@ -12,8 +13,8 @@ from threads import State, Status, WaitKind
 INPUT_QUEUE = 4096
 OUTPUT_OF_RUN = 1024
 OUTPUT_HELD = 16384
-SAVED = ["threads", "harts", "waits", "mutexes", "barriers", "locks", "clock", "input", "is_input_closed", "status",
-         "status_word", "fault_thread", "fault_cause"]
+SAVED = ["threads", "harts", "waits", "mutexes", "barriers", "locks", "keys", "has_keys", "clock", "input",
+         "is_input_closed", "status", "status_word", "fault_thread", "fault_cause"]
 
 
 class Refusal(IntEnum):

@@ -12,13 +12,14 @@ from pathlib import Path
 HERE = Path(__file__).parent
 TIME_LIMIT = 900
 # That of the module first, then the quick ones.
-FIRST = {"lives.py": "test_lives", "foreseen.py": "test_lives", "ledger.py": "test_fates", "devices.py": "test_fates"}
-TESTS = ["test_calls", "test_listings", "test_rows", "test_tables", "test_texts", "test_fates", "test_lives", "test_stops"]
+FIRST = {"lives.py": "test_lives", "foreseen.py": "test_lives", "ledger.py": "test_fates", "devices.py": "test_fates",
+         "key_calls.py": "test_keys"}
+TESTS = ["test_calls", "test_keys", "test_listings", "test_rows", "test_tables", "test_texts", "test_fates", "test_lives", "test_stops"]
 MUTATIONS = [
     ("tables.py", "for wait in state.waits]),", "for wait in sorted(state.waits, key=lambda wait: wait.thread)]),"),
     ("tables.py", "value = thread.value if thread.is_unwinding else 0", "value = thread.value"),
     ("tables.py", "HALF.pack(len(held)) + bytes(held)", "HALF.pack(0)"),
-    ("tables.py", "encode_tables(state, held) != data or ", ""),
+    ("tables.py", "encode_tables(state, held, version) != data or ", ""),
     ("tables.py", "if mutex.owner or mutex.kind]", "if mutex.owner]"),
     ("tables.py", "UNWIND_RESULT if wait.result == UNWIND else int(wait.result)", "int(wait.result) & 255 ^ 1"),
     ("tables.py", "0 if state.status is Status.RUNNING else state.status_word", "0 if is_faulted else state.status_word"),
@@ -49,7 +50,7 @@ MUTATIONS = [
     ("recovery.py", "areas[generations.index(max(generations))]", "areas[generations.index(min(generations))]"),
     ("recovery.py", "len(set(generations)) == len(areas) and ", ""),
     ("recovery.py", " and max(generations) > 0", ""),
-    ("recovery.py", 'require(header.version == VERSION, "Version")', 'require(header.version == VERSION)'),
+    ("recovery.py", 'require(header.version in known_versions(), "Version")', 'require(header.version in known_versions())'),
     ("recovery.py", "require(header.offset + len(held) < COUNTERS)", ""),
     ("recovery.py", "header.offset + len(held), bytearray(held)", "header.offset + len(held), bytearray()"),
     ("recovery.py", "require(found.machine.refusal_of(event, 0) is None and counters", "require(counters"),
@@ -187,6 +188,44 @@ MUTATIONS = [
      "ARITHMETIC[0, instruction.funct3], instruction.word >> 20"),
     ("processor.py", "(32, 5): lambda left, right: signed(left) >> (right & 31)",
      "(32, 5): lambda left, right: left >> (right & 31)"),
+    ("key_calls.py", "if destructor % 4:", "if destructor % 2:"),
+    ("key_calls.py", "for number in KEYS if", "for number in list(KEYS)[:-1] if"),
+    ("key_calls.py", "(number for number in KEYS if", "(number for number in reversed(KEYS) if"),
+    ("key_calls.py", "        thread.values.pop(key, None)\n", "        pass\n"),
+    ("key_calls.py", "    for thread in state.threads.values():", "    for thread in [state.threads[caller]]:"),
+    ("key_calls.py", "thread.registers[11] = thread.values.get(key, 0)", "thread.registers[11] = thread.values.get(key, 1)"),
+    ("calls.py", "if state.has_keys or number not in KEY_CALLS else None", "if True else None"),
+    ("threads.py", "            self.values.pop(key, None)\n", "            pass\n"),
+    ("threads.py", "ROUNDS = 4", "ROUNDS = 5"),
+    ("threads.py", "ROUNDS = 4", "ROUNDS = 3"),
+    ("threads.py", "        if not thread.handlers:\n            self.next_destructor(thread_id)\n            return\n",
+     "        if not thread.handlers or thread.round:\n            self.next_destructor(thread_id)\n            return\n"),
+    ("threads.py", "self.key_to_destroy(thread, thread.next_key)", "self.key_to_destroy(thread, 0)"),
+    ("threads.py", "            key = self.key_to_destroy(thread, 0)\n", "            key = self.key_to_destroy(thread, thread.next_key)\n"),
+    ("threads.py", "thread.next_key = key + 1", "thread.next_key = key"),
+    ("threads.py", "self.keys.get(key) and key in thread.values", "key in self.keys and key in thread.values"),
+    ("threads.py", "self.keys.get(key) and key in thread.values", "self.keys.get(key)"),
+    ("threads.py", "thread.values.pop(key))", "thread.values[key])"),
+    ("threads.py", "self.has_keys = SWITCHES.keys", "self.has_keys = True"),
+    ("tables.py", "state.has_keys = version > 1 and bool(reader.number(BYTE))", "state.has_keys = version > 1 and bool(reader.number(BYTE) + 1)"),
+    ("tables.py", "ROUND.pack(thread.round, thread.next_key, len(thread.values), 0)", "ROUND.pack(thread.round, 0, len(thread.values), 0)"),
+    ("tables.py", "for row in sorted(thread.values.items()))", "for row in thread.values.items())"),
+    ("tables.py", "for row in sorted(state.keys.items())]", "for row in state.keys.items()]"),
+    ("tables.py", "if encode_tables(state, held, version) != data", "if encode_tables(state, held) != data"),
+    ("layout.py", "fresh_tables(geometry.pages, version)", "fresh_tables(geometry.pages)"),
+    ("recovery.py", "geometry.harts, header.version)", "geometry.harts)"),
+    ("machine.py", '"keys", "has_keys", ', '"keys", '),
+    ("well_formed.py", "(state.has_keys or not state.keys) and ", ""),
+    ("well_formed.py", "key in state.keys and value != 0", "value != 0"),
+    ("well_formed.py", "key in state.keys and value != 0", "key in state.keys"),
+    ("well_formed.py", "key in KEYS and destructor % 4 == 0", "key in KEYS"),
+    ("well_formed.py", "key in KEYS and destructor % 4 == 0", "destructor % 4 == 0"),
+    ("well_formed.py", "thread.round <= ROUNDS", "thread.round <= ROUNDS + 1"),
+    ("well_formed.py", "thread.next_key <= len(KEYS)", "thread.next_key <= len(KEYS) + 1"),
+    ("well_formed.py", "(thread.next_key and not thread.round) or ", ""),
+    ("well_formed.py", " or (thread.round and not thread.is_unwinding)", ""),
+    ("listing.py", "if SWITCHES.keys and not state.has_keys:", "if SWITCHES.keys and not state.keys:"),
+    ("listing.py", "row in sorted(thread.values.items())]", "row in thread.values.items()]"),
 ]
 
 

@@ -67,7 +67,7 @@ class ChangedArea:
         """A crowd in the place of the state; its journal is emptied."""
         found = read_area(self.device, self.geometry)
         state = crowded(self.chance, found.machine, found.held, self.geometry.harts)
-        self.write_tables(encode_tables(state, found.held))
+        self.write_tables(self.encoded(state, found.held))
         write_gate(self.device, self.geometry.journal_at(self.area), CLOSED)
 
     def header(self):
@@ -76,6 +76,10 @@ class ChangedArea:
     def write_header(self, **fields):
         header = Header(**{**vars(self.header()), **fields})
         self.device.write(self.geometry.area_at(self.area) + HEADER_AT, header.encoding())
+
+    def encoded(self, state, held):
+        """Of the area's version."""
+        return encode_tables(state, held, self.header().version)
 
     def write_tables(self, tables):
         self.device.write(self.geometry.tables_at(self.area), tables)
@@ -88,7 +92,7 @@ class ChangedArea:
             saved = Saved(found.machine, found.held)
             for _ in range(self.chance.choice([1, 1, 1, 2, 4])):
                 change(self.chance, saved)
-            self.write_tables(encode_tables(saved.state, saved.held))
+            self.write_tables(self.encoded(saved.state, saved.held))
         except (Unrecovered, struct.error, ValueError):
             pass
 

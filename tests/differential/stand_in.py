@@ -12,6 +12,7 @@ from lines import reply_lines
 from listing import OutOfRange, listing
 from recovery import Unrecovered
 from session import Session
+from switches import SWITCHES
 
 
 class FileDisk:
@@ -156,7 +157,8 @@ WRONG = {"without a sync": {"disk": Without}, "short": {"disk": Short}, "again":
          "hopeful": {"session": Hopeful}, "late": {"printer": Late}}
 
 
-def main():
+def main(keys=False):
+    SWITCHES.keys = keys
     which, word, path, *options = sys.argv[1:]
     wrong = WRONG.get(which, {})
     try:

@@ -2,7 +2,7 @@
 
 What they are is `saved` (a well-formed state and held output have just these bytes), `short` (they end too early, or a
 number has no meaning), `other` (their state has other bytes) or the first rule of `well_formed.py` that their state breaks.
-Words: how many of each at most (12), the longest in bytes (1500), the first seed (1).
+Words: how many of each at most (12), the longest in bytes (1500), the first seed (1), the version (1).
 """
 import struct
 import sys
@@ -11,9 +11,10 @@ from random import Random
 
 from changes import Saved, change, damaged_bytes
 from crowds import Crowd
+from switches import switched
 from tables import NoEncoding, encode_tables, read_tables
 from threads import State
-from well_formed import RULES
+from well_formed import rules
 
 SEEDS = 20000
 
@@ -25,7 +26,7 @@ def kind_of(tables, harts):
         return "short"
     if encode_tables(state, held) != tables:
         return "other"
-    return next((rule.__name__ for rule in RULES if not rule(state, held, harts)), "saved")
+    return next((rule.__name__ for rule in rules() if not rule(state, held, harts)), "saved")
 
 
 def candidate(chance):
@@ -50,7 +51,12 @@ def candidates(first):
 
 
 def main():
-    most, longest, first = [int(word) for word in sys.argv[1:]] + [12, 1500, 1][len(sys.argv) - 1:]
+    most, longest, first, version = [int(word) for word in sys.argv[1:]] + [12, 1500, 1, 1][len(sys.argv) - 1:]
+    with switched(keys=version == 2):
+        print_vectors(most, longest, first)
+
+
+def print_vectors(most, longest, first):
     seen, found = set(), Counter()
     for harts, tables in candidates(first):
         kind = kind_of(tables, harts)
@@ -59,7 +65,7 @@ def main():
             seen.add((harts, tables))
             found[kind] += 1
             print(harts, kind, tables.hex() or "-", flush=True)
-        if len(found) == len(RULES) + 3 and found.total() == (len(RULES) + 6) * most:
+        if len(found) == len(rules()) + 3 and found.total() == (len(rules()) + 6) * most:
             break
 
 

@@ -9,18 +9,20 @@ from pathlib import Path
 
 from cases import case_of
 from differential import first_difference
+from switches import SWITCHES, switched
 
 HERE = Path(__file__).parent
+KINDS_WITH_KEYS = {"lists": 2, "fates": 2, "listings": 3, "lives": 2, "cuts": 2}
 KINDS = {"lists": 4, "fates": 4, "parts": 3, "listings": 3, "lives": 2, "cuts": 8}
 FOUND_BY = [("without a sync", "lists"), ("split", "lists"), ("late", "lists"), ("short", "parts"), ("again", "fates"),
             ("hopeful", "fates"), ("without a sync", "cuts")]
 
 
-def program(folder, which):
+def program(folder, which, keys=False):
     """A file that the system starts."""
     path = Path(folder) / which.replace(" ", "_")
     path.write_text(f"#!{os.path.realpath(sys.executable)} -B\nimport sys\nsys.path.insert(0, {str(HERE)!r})\n"
-                    f"sys.argv.insert(1, {which!r})\nimport stand_in\nstand_in.main()\n")
+                    f"sys.argv.insert(1, {which!r})\nimport stand_in\nstand_in.main(keys={keys})\n")
     path.chmod(0o755)
     return path
 
@@ -36,10 +38,25 @@ class Driver(unittest.TestCase):
         case = case_of(kind, seed)
         if kind == "lives":
             case.damaged = bytes(case.disk())
-        return first_difference(program(self.folder, which), case, self.folder, Counter(), lambda count: None)
+        return first_difference(program(self.folder, which, SWITCHES.keys), case, self.folder, Counter(), lambda count: None)
 
     def test_right(self):
-        for kind, count in KINDS.items():
+        self.finds_nothing(KINDS)
+
+    def test_right_with_keys(self):
+        with switched(keys=True):
+            self.finds_nothing(KINDS_WITH_KEYS)
+
+    def test_keys_of_one_side(self):
+        """The program has keys and the model none, or the other way round."""
+        for here in (False, True):
+            with switched(keys=here):
+                case = case_of("listings", 1)
+                path = program(self.folder, "right", not here)
+                self.assertIsNotNone(first_difference(path, case, self.folder, Counter(), lambda count: None))
+
+    def finds_nothing(self, kinds):
+        for kind, count in kinds.items():
             for seed in range(1, count + 1):
                 with self.subTest(kind=kind, seed=seed):
                     self.assertIsNone(self.difference("right", kind, seed))

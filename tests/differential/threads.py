@@ -5,9 +5,12 @@ from enum import Enum
 from typing import NamedTuple
 
 from abi import ALL_ONES, PAGE, RETURN_GATE, UNWIND_GATE
+from switches import SWITCHES
 
 THREAD_IDS = range(1, 65)
 HARTS = 8
+KEYS = range(32)
+ROUNDS = 4  # in which an ending thread looks for destructors
 # In place of a result: the thread that gets its mutex goes on to its next handler.
 UNWIND = -1
 
@@ -37,6 +40,7 @@ class Handler(NamedTuple):
 
 @dataclass
 class Thread:
+    """`values` has by key those that aren't 0; `round` and `next_key` tell how far destructors have come."""
     pc: int = 0
     registers: list = field(default_factory=lambda: [0] * 32)
     is_initial: bool = False
@@ -48,6 +52,21 @@ class Thread:
     has_ended: bool = False
     value: int = 0
     handlers: list = field(default_factory=list)
+    values: dict = field(default_factory=dict)
+    round: int = 0
+    next_key: int = 0
+
+    def set_value(self, key, value):
+        """A value of 0 is none."""
+        if value:
+            self.values[key] = value
+        else:
+            self.values.pop(key, None)
+
+    def run_back_to_gate(self, routine, argument):
+        """A handler or destructor, from which the thread comes back to its unwinding."""
+        self.pc = routine
+        self.registers[1], self.registers[10] = UNWIND_GATE, argument
 
 
 def new_thread(start, argument, stack, is_detached, is_initial=False):
@@ -71,7 +90,7 @@ class Wait:
 class State:
     """All that calls and time change, but not the memory. Waits stand in the order in which they began.
 
-    The status word is the exit status, or the pc of the fault.
+    The status word is the exit status, or the pc of the fault. `keys` has by key its destructor, 0 for none.
     """
 
     def __init__(self, tally=None):
@@ -81,6 +100,8 @@ class State:
         self.mutexes = {}
         self.barriers = {}
         self.locks = {}
+        self.keys = {}
+        self.has_keys = SWITCHES.keys
         self.clock = 0
         self.input = []
         self.is_input_closed = False
@@ -148,14 +169,33 @@ class State:
             self.end_process(0)
 
     def next_handler(self, thread_id):
-        """The newest handler is removed and runs; without one the thread ends."""
+        """The newest handler is removed and runs; without one the thread goes to its next destructor."""
         thread = self.threads[thread_id]
         if not thread.handlers:
-            self.end_thread(thread_id)
+            self.next_destructor(thread_id)
             return
         handler = thread.handlers.pop()
-        thread.pc = handler.routine
-        thread.registers[1], thread.registers[10] = UNWIND_GATE, handler.argument
+        thread.run_back_to_gate(handler.routine, handler.argument)
+
+    def key_to_destroy(self, thread, first):
+        """The first key from there on that has a destructor, and a value of the thread; or None."""
+        return next((key for key in KEYS if key >= first and self.keys.get(key) and key in thread.values), None)
+
+    def next_destructor(self, thread_id):
+        """The destructor of the next key takes its value; where there is none the next round begins; at last the thread ends."""
+        thread = self.threads[thread_id]
+        if thread.round == 0:
+            thread.round, thread.next_key = 1, 0
+        key = self.key_to_destroy(thread, thread.next_key)
+        if key is None and thread.round < ROUNDS:
+            thread.round += 1
+            key = self.key_to_destroy(thread, 0)
+        if key is None:
+            self.end_thread(thread_id)
+            return
+        thread.next_key = key + 1
+        self.tally["destructors", f"run in round {thread.round}"] += 1
+        thread.run_back_to_gate(self.keys[key], thread.values.pop(key))
 
     def mark_unwinding(self, thread_id, value):
         """From now on the thread is disabled and deferred; a later value replaces this one."""

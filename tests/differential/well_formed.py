@@ -4,7 +4,8 @@ from calls import HANDLERS
 from machine import INPUT_QUEUE, OUTPUT_HELD
 from objects import BARRIERS, COUNT_LIMIT, LOCKS, MUTEXES, MutexKind, locks_in_use, mutexes_in_use
 from processor import Cause
-from threads import THREAD_IDS, UNWIND, Status, WaitKind
+from switches import SWITCHES
+from threads import KEYS, ROUNDS, THREAD_IDS, UNWIND, Status, WaitKind
 
 TIMED = (WaitKind.LOCK, WaitKind.CONDITION, WaitKind.SLEEP)
 FOR_MUTEX = (WaitKind.LOCK, WaitKind.RETAKE)
@@ -165,10 +166,35 @@ def fault_is_possible(state, held, harts):
     return live(state, state.fault_thread) is not None and state.fault_cause in list(Cause) and state.status_word % 4 == 0
 
 
+def keys_are_possible(state, held, harts):
+    """Destructors are multiples of 4, and there are values of keys that there are; without the mark there is no key."""
+    if not all(key in KEYS and destructor % 4 == 0 for key, destructor in state.keys.items()):
+        return False
+    values = [row for thread in state.threads.values() for row in thread.values.items()]
+    return (state.has_keys or not state.keys) and all(key in state.keys and value != 0 for key, value in values)
+
+
+def rounds_are_possible(state, held, harts):
+    """Only who unwinds is in a round; before the first one no key is next. An ended thread has neither values nor round."""
+    for thread in state.threads.values():
+        is_in_range = thread.round <= ROUNDS and thread.next_key <= len(KEYS)
+        if not is_in_range or (thread.next_key and not thread.round) or (thread.round and not thread.is_unwinding):
+            return False
+        if thread.has_ended and (thread.values or thread.round):
+            return False
+    return True
+
+
 RULES = [threads_are_possible, waiters_and_runners_are_live, somebody_is_left, deadlines_are_ahead, joins_are_possible,
          objects_are_possible, owners_wait_rightly, conditions_have_one_mutex, barriers_are_open,
          locks_have_no_reader_beside_a_writer, nobody_waits_at_a_free_lock, queues_are_possible, fault_is_possible]
 
+RULES_OF_KEYS = [keys_are_possible, rounds_are_possible]
+
+
+def rules():
+    return RULES + RULES_OF_KEYS if SWITCHES.keys else RULES
+
 
 def is_well_formed(state, held, harts):
-    return all(rule(state, held, harts) for rule in RULES)
+    return all(rule(state, held, harts) for rule in rules())

@@ -1,0 +1,32 @@
+"""What the program that is compared knows already: each switch is off until it does. A case is a function of these too."""
+from contextlib import contextmanager
+from dataclasses import dataclass
+
+
+@dataclass
+class Switches:
+    """`keys`: thread-specific keys, and saved tables of version 2."""
+    keys: bool = False
+
+
+SWITCHES = Switches()
+
+
+def newest_version():
+    """That of the tables which `format` and checkpoints write."""
+    return 2 if SWITCHES.keys else 1
+
+
+def known_versions():
+    return range(1, newest_version() + 1)
+
+
+@contextmanager
+def switched(**wanted):
+    """With these switches, for a while."""
+    before = dict(vars(SWITCHES))
+    vars(SWITCHES).update(wanted)
+    try:
+        yield
+    finally:
+        vars(SWITCHES).update(before)
