@@ -9,6 +9,8 @@ from layout import Geometry, format_disk
 from lines import parse, run_command
 from record_guest import (DUMP_STEPS, LABELS, STEPS_TO_CALL, STEPS_TO_TOP, image_with, next_record, write_record)
 from session import Session
+from streams import with_long_runs
+from switches import SWITCHES
 from threads import THREAD_IDS
 
 PRINTER = 2  # the id of the printing thread
@@ -40,6 +42,8 @@ class Script:
         if len(self.session.pending) > 3900 or len(self.session.held) > 12000:
             self.lines.append(b"commit")
             run_command(self.session, parse(b"commit"))
+        if SWITCHES.long_runs and (self.session.recovered.version > 1 or self.chance.random() < 0.02):
+            text = with_long_runs(self.chance, [text])[0]
         self.lines.append(text)
         run_command(self.session, parse(text))
 

@@ -12,7 +12,7 @@ from guests import Guest
 from layout import Geometry, format_disk
 from limits import limit_case
 from saved_disks import ChangedArea, asks, serve_and_save, stopped_disk, with_checkpoints
-from streams import MALFORMED, joined, last_lines, mangled, random_lines
+from streams import joined, last_lines, malformed_line, mangled, random_lines, with_long_runs
 from switches import SWITCHES
 from traced_cases import cuts_case, fates_case, listings_case, lists_case, parts_case
 from words import words_case
@@ -63,6 +63,7 @@ def processor_case(chance, seed):
     if chance.random() < 0.5:
         lines += [b"run 0 %d" % before] + [b"run 0 1"] * chance.choice([0, length])
     lines += [b"run 0 %d" % chance.choice([500, 2000]), b"commit", b"run 0 1500", b"commit"]
+    lines = with_long_runs(chance, lines)
     return Case(Geometry(16, 1, 4096), image, [joined(chance, lines)])
 
 
@@ -72,7 +73,7 @@ def lines_case(chance, seed):
     fed = [b"place 0 1", b"run 0 3"]
     for _ in range(chance.choice([20, 60])):
         data = b"%02X" % chance.randrange(256) * chance.choice([1, 2, 63, 64])
-        options = [chance.choice(MALFORMED), b"in " + data, b"auto 0 %d" % chance.choice([1, 20, 300]), b"commit",
+        options = [malformed_line(chance), b"in " + data, b"auto 0 %d" % chance.choice([1, 20, 300]), b"commit",
                    b"tick %d" % chance.choice([1, 4294967295]), b"eof", b"quit", mangled(chance)]
         fed += chance.choices(options, [50, 10, 15, 5, 10, 0.5, 0.5, 9])
     data = joined(chance, fed + [b"commit"])

@@ -3,12 +3,13 @@ import struct
 
 from abi import ALL_ONES
 from devices import MemoryDisk
-from events import Eof, Input, Place, Run, Tick
+from events import Eof, Input, Place, Run, RunLong, Tick
 from guests import Guest
 from layout import CLOSED, OPEN, TABLES_AT, Geometry, format_disk, fresh_tables
 from lines import serve_disk
 from session import Session
 from streams import random_lines
+from switches import SWITCHES
 
 TICK = Tick(1).encoding()
 # Events' bytes by their number, to fill a journal up to a given byte.
@@ -83,7 +84,10 @@ class Damage:
         place = Place(chance.randrange(8), chance.randrange(1, 6))
         run = Run(chance.randrange(8), chance.randrange(1, 30))
         tick = Tick(chance.choice([1, ALL_ONES]))
-        return chance.choice([place, run, tick, Input(b"ab"), Eof(), Tick(1), Input(b"a")])
+        events = [place, run, tick, Input(b"ab"), Eof(), Tick(1), Input(b"a")]
+        if SWITCHES.long_runs:
+            events += [RunLong(chance.randrange(8), chance.choice([1, 20, 1000000, 0, 1000001]))]
+        return chance.choice(events)
 
     def journal_tail(self):
         """One more batch, perhaps of a wrong length, with a wrong byte, or without its gate behind."""

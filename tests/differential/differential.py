@@ -281,7 +281,7 @@ def run_case(ckrt, kind, seed, folder, totals):
     totals.differences.append(f"{kind} {seed}")
     print(f"DIFFERENCE {kind} {seed}: {difference}\n  files in {work}\n"
           f"  again: python3 {Path(__file__).name} {ckrt} {folder} --kinds {kind} --seed {seed} --count 1"
-          f"{' --keys' * SWITCHES.keys}", flush=True)
+          f"{''.join(' ' + word for word in SWITCHES.words())}", flush=True)
 
 
 def print_answers(answers):
@@ -315,6 +315,7 @@ def words():
     parser.add_argument("--kinds", help="kinds of cases, with commas between (all)")
     parser.add_argument("--stop-after", type=int, default=5, help="stop after so many differences (5)")
     parser.add_argument("--keys", action="store_true", help="the program has thread-specific keys and tables of version 2")
+    parser.add_argument("--long-runs", action="store_true", help="the program has long runs, and all of --keys")
     chosen = parser.parse_args()
     chosen.kinds = chosen.kinds.split(",") if chosen.kinds else list(KINDS)
     unknown = set(chosen.kinds) - set(KINDS)
@@ -325,7 +326,7 @@ def words():
 
 def main():
     chosen = words()
-    SWITCHES.keys = chosen.keys
+    SWITCHES.keys, SWITCHES.long_runs = chosen.keys or chosen.long_runs, chosen.long_runs
     folder = Path(chosen.folder or tempfile.mkdtemp(prefix="differential-"))
     folder.mkdir(parents=True, exist_ok=True)
     totals = Totals()

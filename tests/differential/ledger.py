@@ -7,10 +7,11 @@ from dataclasses import dataclass, field
 
 from abi import PAGE
 from devices import MemoryDisk
-from events import Place, Run
+from events import Place, Run, RunLong
 from lines import Auto, LineFault, Plain, lines_of, parse
 from machine import Machine, Refusal
 from recovery import recover
+from switches import newest_version
 
 BATCH, GATE_AND_LENGTH, COUNTED, LAST_GENERATION = 4096, 3, 2 ** 62, 2 ** 64 - 1
 CHARACTERS = 64  # in a line of output
@@ -27,6 +28,7 @@ class Ledger:
     output: bytearray
     room: int
     generation: int
+    version: int
     fate: int | None = None
     accepted: list = field(default_factory=list)
     released_bytes: bytearray = field(default_factory=bytearray)
@@ -43,6 +45,8 @@ class Ledger:
         refusal = self.machine.refusal_of(event, len(self.output))
         if self.has_failed:
             return "no 21 Failed", False
+        if self.version == 1 and isinstance(event, RunLong):
+            return "no 27 NeedsCheckpoint", False
         if refusal is not None:
             return f"no {int(refusal)} {Refusal(refusal).name}", False
         if self.pending + length > BATCH:
@@ -70,6 +74,7 @@ class Ledger:
             return ["no 25 Device"]
         if command == CHECKPOINT:
             self.room, self.generation = self.journal - 1, self.generation + 1
+            self.version = newest_version()
         elif has_work:
             self.room -= GATE_AND_LENGTH + self.pending
         self.pending, self.acknowledged, self.committed_output = 0, self.events, len(self.output)
@@ -105,7 +110,7 @@ def ledger_of(contents, fate=None):
     found = recover(MemoryDisk(bytearray(contents)))
     held = bytearray(found.held)
     return Ledger(found.machine, found.geometry.journal, found.events, found.output_length - len(held), held,
-                  found.geometry.journal - 1 - found.journal_used, found.generation, fate)
+                  found.geometry.journal - 1 - found.journal_used, found.generation, found.version, fate)
 
 
 def transcript(contents, data, fate=None):

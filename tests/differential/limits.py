@@ -70,6 +70,14 @@ def full_keys(chance):
     return Geometry(16, 1, 65536), end_of_program(program, made), [RECORD]
 
 
+def long_run(chance):
+    """Runs of more steps than a plain one has; at times they put all that a run may put."""
+    counts = [65535, 65536, 65537, 70000, 100000] * 4 + [1000000]
+    lines = [b"runlong 0 %d" % chance.choice(counts) for _ in range(2)] + [b"runlong 0 1000001", b"commit"]
+    image = image_of(chance.choice([PUTS_FOR_EVER, [STOP], [STOP]]))
+    return Geometry(16, 1, 65536), image, [[b"place 0 1"] + lines + [b"checkpoint"] + lines, lines]
+
+
 def input_queue(chance):
     """The queue is filled, read a little, and closed."""
     filled = [INPUT] * 20 + [b"commit"]
@@ -116,6 +124,6 @@ SHAPES = [count_limit, full_table, input_queue, held_output, full_batch, full_jo
 
 
 def limit_case(chance, seed):
-    shapes = SHAPES + [full_keys] if SWITCHES.keys else SHAPES
+    shapes = SHAPES + [full_keys] * SWITCHES.keys + [long_run] * SWITCHES.long_runs
     geometry, image, lives = shapes[seed % len(shapes)](chance)
     return geometry, image, [b"".join(line + b"\n" for line in life) for life in lives]

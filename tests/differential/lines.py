@@ -4,8 +4,9 @@ from enum import IntEnum
 
 from abi import ALL_ONES
 from devices import MemoryDisk
-from events import INPUT_LIMIT, Eof, Input, Place, Run, Tick
+from events import INPUT_LIMIT, LONG_RUN, Eof, Input, Place, Run, RunLong, Tick
 from session import Session
+from switches import SWITCHES
 
 LINE_LIMIT = 160
 
@@ -69,6 +70,8 @@ def parse(line):
             return Place(number(hart, 0, 7), number(thread, 1, 64))
         case [b"run", hart, steps]:
             return Run(number(hart, 0, 7), number(steps, 1, 65535))
+        case [b"runlong", hart, steps] if SWITCHES.long_runs:
+            return RunLong(number(hart, 0, 7), number(steps, 1, LONG_RUN))
         case [b"auto", hart, steps]:
             return Auto(number(hart, 0, 7), number(steps, 1, 65535))
         case [b"tick", count]:

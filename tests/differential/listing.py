@@ -110,7 +110,7 @@ def earlier_state(disk, whole, at):
     found = read_area(disk, whole.geometry)
     if not found.events <= at <= whole.events:
         raise OutOfRange
-    for event in events_of_journal(disk, whole.geometry, whole.area)[0][:at - found.events]:
+    for event in events_of_journal(disk, found)[0][:at - found.events]:
         found.take(event)
     return found
 

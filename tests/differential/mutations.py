@@ -13,8 +13,8 @@ HERE = Path(__file__).parent
 TIME_LIMIT = 900
 # That of the module first, then the quick ones.
 FIRST = {"lives.py": "test_lives", "foreseen.py": "test_lives", "ledger.py": "test_fates", "devices.py": "test_fates",
-         "key_calls.py": "test_keys"}
-TESTS = ["test_calls", "test_keys", "test_listings", "test_rows", "test_tables", "test_texts", "test_fates", "test_lives", "test_stops"]
+         "key_calls.py": "test_keys", "events.py": "test_long_runs"}
+TESTS = ["test_calls", "test_keys", "test_long_runs", "test_listings", "test_rows", "test_tables", "test_texts", "test_fates", "test_lives", "test_stops"]
 MUTATIONS = [
     ("tables.py", "for wait in state.waits]),", "for wait in sorted(state.waits, key=lambda wait: wait.thread)]),"),
     ("tables.py", "value = thread.value if thread.is_unwinding else 0", "value = thread.value"),
@@ -226,6 +226,17 @@ MUTATIONS = [
     ("well_formed.py", " or (thread.round and not thread.is_unwinding)", ""),
     ("listing.py", "if SWITCHES.keys and not state.has_keys:", "if SWITCHES.keys and not state.keys:"),
     ("listing.py", "row in sorted(thread.values.items())]", "row in thread.values.items()]"),
+    ("events.py", "LONG_RUN = 1_000_000", "LONG_RUN = 999_999"),
+    ("events.py", "LONG_RUN = 1_000_000", "LONG_RUN = 1_000_001"),
+    ("events.py", " and version >= VERSION_OF_LONG_RUNS", ""),
+    ("events.py", "VERSION_OF_LONG_RUNS = 2", "VERSION_OF_LONG_RUNS = 3"),
+    ("session.py", "self.recovered.version = newest_version()", "pass"),
+    ("session.py", "self.recovered.version < VERSION_OF_LONG_RUNS", "self.recovered.version < 1"),
+    ("session.py", 'return 27, "NeedsCheckpoint"', 'return 26, "NeedsCheckpoint"'),
+    ("ledger.py", "            self.version = newest_version()\n", "            pass\n"),
+    ("ledger.py", "if self.version == 1 and isinstance(event, RunLong):", "if False:"),
+    ("recovery.py", "header.generation, header.version, machine", "header.generation, 2, machine"),
+    ("recovery.py", "found.geometry.journal), found.version)", "found.geometry.journal), 2)"),
 ]
 
 

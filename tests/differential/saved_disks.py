@@ -9,12 +9,13 @@ from changes import Saved, change, damaged_bytes
 from crowds import crowded
 from damage import batch
 from devices import MemoryDisk, StoppingDisk, filled
-from events import Place, Run, Tick
+from events import Place, Run, RunLong, Tick
 from layout import (CLOSED, COUNTERS, HEADER_AT, LAST_GENERATION, OPEN, TABLES_LIMIT, Header, header_of, write_gate)
 from lines import LineFault, parse, run_command, serve_disk
 from recovery import Unrecovered, pick_area, read_area, read_superblock, tables_of
 from session import Session
 from streams import joined
+from switches import SWITCHES
 from tables import encode_tables
 
 FILLS = [b"", b"\xa5", b"\x00", b"\xff", b"\xa5\x00"]
@@ -120,6 +121,8 @@ class ChangedArea:
         """One more batch at the front of the journal in use."""
         chance = self.chance
         events = [Place(0, chance.randrange(1, 4)), Run(0, chance.randrange(1, 30)), Tick(1), Tick(4294967295)]
+        if SWITCHES.long_runs:
+            events += [RunLong(0, chance.randrange(1, 30)), Place(0, 1)]
         chosen = b"".join(event.encoding() for event in chance.choices(events, k=chance.choice([1, 2, 3])))
         self.device.write(self.geometry.journal_at(self.area), batch(chosen))
 

@@ -157,8 +157,8 @@ WRONG = {"without a sync": {"disk": Without}, "short": {"disk": Short}, "again":
          "hopeful": {"session": Hopeful}, "late": {"printer": Late}}
 
 
-def main(keys=False):
-    SWITCHES.keys = keys
+def main(**switches):
+    vars(SWITCHES).update(switches)
     which, word, path, *options = sys.argv[1:]
     wrong = WRONG.get(which, {})
     try:

@@ -1,4 +1,5 @@
 """Lines that are fed: malformed ones, random ones for a guest of several threads, and the last ones of a life."""
+from switches import SWITCHES
 
 MALFORMED = [
     b"", b"   ", b"\t \t", b"jump", b"place 0", b"run 0 x", b"in 4", b"run 0 0", b"tick 4294967296", b"a" * 161, b" " * 161,
@@ -12,6 +13,10 @@ MALFORMED = [
     b"run 0 18446744073709551617", b"place 256 1", b"place 0 257",
 ]
 GOOD = [b"place 0 1", b"run 0 77", b"in 41ff", b"eof", b"tick 12", b"auto 0 3", b"commit", b"quit"]
+MALFORMED_LONG_RUNS = [
+    b"runlong", b"runlong 0", b"runlong 0 0", b"runlong 0 1000001", b"runlong 8 1", b"runlong 0 x", b"runlong x 0", b"runlong 0 1 1",
+    b"Runlong 0 1", b"run long 0 1", b"runlong 0 4294967297", b"runlong 0 00065536", b"runlong 8 x",
+]
 ODD_BYTES = b" \t\r\x00\x0b0189afAFgx-+\x80"
 
 
@@ -19,9 +24,20 @@ def joined(chance, lines):
     return b"".join(line + (b"\r\n" if chance.random() < 0.02 else b"\n") for line in lines)
 
 
+def malformed_line(chance):
+    return chance.choice(MALFORMED + MALFORMED_LONG_RUNS * 3 if SWITCHES.long_runs else MALFORMED)
+
+
+def with_long_runs(chance, lines):
+    """Some runs are long ones, by name."""
+    if not SWITCHES.long_runs:
+        return lines
+    return [line.replace(b"run ", b"runlong ") if line.startswith(b"run ") and chance.random() < 0.3 else line for line in lines]
+
+
 def mangled(chance):
     """A good line with a byte or two changed, added or dropped."""
-    line = bytearray(chance.choice(GOOD))
+    line = bytearray(chance.choice(GOOD + [b"runlong 0 77"] * 2 if SWITCHES.long_runs else GOOD))
     for _ in range(chance.choice([1, 1, 2])):
         at, byte = chance.randrange(len(line) + 1), bytes([chance.choice(ODD_BYTES)])
         line[at:at + chance.choice([0, 1])] = chance.choice([byte, byte, b""])
@@ -35,7 +51,7 @@ def random_lines(chance, harts):
     lengths = chance.choice([[1, 2, 4, 8, 13, 25], [1, 2, 4, 8, 13, 25], [20, 40, 90, 150]])
     for _ in range(chance.choice([10, 30, 60])):
         if chance.random() < malformed:
-            lines.append(chance.choice(MALFORMED))
+            lines.append(malformed_line(chance))
             continue
         if chance.random() < commits:
             lines.append(b"commit")
@@ -46,7 +62,7 @@ def random_lines(chance, harts):
                  b"run %d %d" % (hart, steps), b"in " + b"%02x" % chance.randrange(256) * chance.choice([1, 1, 2, 3]),
                  b"eof", b"tick %d" % ticks]
         lines += chance.choices(kinds, [50, 12, 23, 5, 0.5, 9])
-    return lines
+    return with_long_runs(chance, lines)
 
 
 def last_lines(chance, harts, dump_steps):

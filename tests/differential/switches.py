@@ -5,8 +5,13 @@ from dataclasses import dataclass
 
 @dataclass
 class Switches:
-    """`keys`: thread-specific keys, and saved tables of version 2."""
+    """`keys`: thread-specific keys, and saved tables of version 2. `long_runs`: the event of a long run, with keys alone."""
     keys: bool = False
+    long_runs: bool = False
+
+    def words(self):
+        """The driver's options."""
+        return [word for word, is_on in (("--keys", self.keys), ("--long-runs", self.long_runs)) if is_on]
 
 
 SWITCHES = Switches()

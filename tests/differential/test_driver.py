@@ -18,11 +18,11 @@ FOUND_BY = [("without a sync", "lists"), ("split", "lists"), ("late", "lists"), 
             ("hopeful", "fates"), ("without a sync", "cuts")]
 
 
-def program(folder, which, keys=False):
+def program(folder, which, **switches):
     """A file that the system starts."""
     path = Path(folder) / which.replace(" ", "_")
     path.write_text(f"#!{os.path.realpath(sys.executable)} -B\nimport sys\nsys.path.insert(0, {str(HERE)!r})\n"
-                    f"sys.argv.insert(1, {which!r})\nimport stand_in\nstand_in.main(keys={keys})\n")
+                    f"sys.argv.insert(1, {which!r})\nimport stand_in\nstand_in.main(**{switches})\n")
     path.chmod(0o755)
     return path
 
@@ -38,7 +38,7 @@ class Driver(unittest.TestCase):
         case = case_of(kind, seed)
         if kind == "lives":
             case.damaged = bytes(case.disk())
-        return first_difference(program(self.folder, which, SWITCHES.keys), case, self.folder, Counter(), lambda count: None)
+        return first_difference(program(self.folder, which, **vars(SWITCHES)), case, self.folder, Counter(), lambda count: None)
 
     def test_right(self):
         self.finds_nothing(KINDS)
@@ -47,12 +47,16 @@ class Driver(unittest.TestCase):
         with switched(keys=True):
             self.finds_nothing(KINDS_WITH_KEYS)
 
+    def test_right_with_long_runs(self):
+        with switched(keys=True, long_runs=True):
+            self.finds_nothing({"lists": 2, "fates": 2, "listings": 2, "lives": 2})
+
     def test_keys_of_one_side(self):
         """The program has keys and the model none, or the other way round."""
         for here in (False, True):
             with switched(keys=here):
                 case = case_of("listings", 1)
-                path = program(self.folder, "right", not here)
+                path = program(self.folder, "right", keys=not here)
                 self.assertIsNotNone(first_difference(path, case, self.folder, Counter(), lambda count: None))
 
     def finds_nothing(self, kinds):
