@@ -23,14 +23,14 @@ impl<S> Drop for History<S> {
 
 impl<S> History<S> {
     /// No state yet.
-    pub(crate) fn new() -> History<S>
+    pub fn new() -> History<S>
         ensures { result.states ≡ [] }
     {
         History { of: PhantomData }
     }
 
     /// One state more.
-    pub(crate) fn with(&self, state: &S) -> History<S>
+    pub fn with(&self, state: &S) -> History<S>
         ensures { result.states ≡ state.now ∷ self.now.states }
     {
         History { of: PhantomData }

@@ -23,6 +23,7 @@ pub use disk::{DeviceFault, Disk};
 pub use failing::FailingDisk;
 pub use file::FileDisk;
 pub use file_call::FileCall;
+pub use history::History;
 pub use memory::MemoryDisk;
 pub use memory_file::MemoryFile;
 pub use positioned::PositionedFile;
