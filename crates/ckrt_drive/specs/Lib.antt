@@ -2,5 +2,6 @@ pub mod Lots
 pub mod Plan
 pub mod Output
 pub mod Steps
+pub mod Streams
 pub mod Ends
 pub mod Runs

@@ -1,5 +1,5 @@
 //! Unattended runs: a drive runs a program on all its harts to its end, commits and checkpoints by itself, and puts each
-//! byte of output at its offset of a disk of its own.
+//! byte of output at its offset of a disk of its own, or hands it on ([`StreamOutput`]).
 #![tactic(auto)]
 
 mod cursor;
@@ -11,6 +11,7 @@ mod options;
 mod plan;
 mod progress;
 mod steps;
+mod stream;
 
 pub use cursor::Cursor;
 pub use drive::Drive;
@@ -19,3 +20,4 @@ pub use lot::Lot;
 pub use onlooker::{Nobody, Onlooker};
 pub use options::Options;
 pub use progress::{Ending, Progress};
+pub use stream::StreamOutput;
