@@ -7,7 +7,7 @@ use Rattle.std.specs.Option.{option_map_or}
 use Rattle.clap.specs.Facts.{parser_of_value}
 use Rattle.clap.specs.Values.{read_as, reading_of}
 use Rattle.clap.specs.declared.builder.value_parser.ValueParser.{ValueParser}
-use Rattle.clap.specs.Words.{App, Row, Rule, Text, subcommand_of, takes}
+use Rattle.clap.specs.Words.{App, Row, Rule, Text, first_of, subcommand_of, takes}
 use Rattle.clap.specs.Lexer.{without_minus}
 use Rattle.clap.specs.Walk.{answers_to, arg_by_id, one_of, settled, finished, nothing_held, walk}
 use Rattle.clap.specs.Simple.{Shape, built, entered, label_of, names_of, new_rule, rows_at}
@@ -48,7 +48,7 @@ inspect_rules : AreRules inspect_shape refl inspect_shape.rules
 inspect_rules = ((refl, inl (refl, refl)), ((refl, inl (refl, refl)), ((refl, inr (inr (refl, (_, [], refl)))), ((refl, inr (inl refl)), tt))))
 
 drive_rules : AreRules drive_shape refl drive_shape.rules
-drive_rules = ((refl, inl (refl, refl)), ((refl, inl (refl, refl)), ((refl, inl (refl, refl)), ((refl, inl (refl, refl)), ((refl, inl (refl, refl)), ((refl, inl (refl, refl)), ((refl, inl (refl, refl)), ((refl, inr (inl refl)), tt))))))))
+drive_rules = ((refl, inl (refl, refl)), ((refl, inl (refl, refl)), ((refl, inl (refl, refl)), ((refl, inl (refl, refl)), ((refl, inl (refl, refl)), ((refl, inl (refl, refl)), ((refl, inl (refl, refl)), ((refl, inl (refl, refl)), ((refl, inr (inl refl)), tt)))))))))
 
 number_there : (v : Text) → accepts false (vp.Signed (pos 0) (pos 4294967295)) v ≡ true → (n : ℕ) × (number_of 32 (without_minus v) ≡ Some n)
 number_there v pass =
@@ -110,13 +110,16 @@ drive_named words pass =
     let end = (walk drive_shape.rules [] nothing_held words).held in
     let rows = finished drive_shape.rules end in
     let kept = level_kept drive_shape refl drive_rules [] nothing_held words false pass tt in
-    let given = both (is_given (codes "disk") rows) (is_given (codes "output") rows && true) (has_required drive_shape rows false (level_valid drive_shape [] nothing_held words false pass) refl) in
-    let disk = value_there drive_shape refl (codes "disk") rows _ kept refl (given_found (codes "disk") rows given.0) in
-    let output = value_there drive_shape refl (codes "output") rows _ kept refl (given_found (codes "output") rows (both (is_given (codes "output") rows) true given.1).0) in
+    let given = has_required drive_shape rows false (level_valid drive_shape [] nothing_held words false pass) refl in
+    let disk = value_there drive_shape refl (codes "disk") rows _ kept refl (given_found (codes "disk") rows (both (is_given (codes "disk") rows) true given).0) in
     let before = (settled drive_shape.rules end).rows in
     let turn = number_at drive_shape refl (codes "turn") rows _ kept refl refl (row_found (codes "turn") rows (defaults_give (slots drive_shape 2) (after drive_shape 3) (slot drive_shape 2) before refl)) in
     let rounds = number_at drive_shape refl (codes "rounds-per-commit") rows _ kept refl refl (row_found (codes "rounds-per-commit") rows (defaults_give (slots drive_shape 3) (after drive_shape 4) (slot drive_shape 3) before refl)) in
-    (drive (record { disk = disk.0; output = output.0; turn = turn.0; rounds = rounds.0; events = place_in (codes "events") rows; seed = place_in (codes "seed") rows; progress = place_in (codes "progress") rows }), rw (disk.1, output.1, turn.1, rounds.1) refl)
+    let events = place_in (codes "events") rows in
+    let seed = place_in (codes "seed") rows in
+    let progress = place_in (codes "progress") rows in
+    let output = first_of (codes "output") rows in
+    (drive (record { disk = disk.0; output = output; turn = turn.0; rounds = rounds.0; events = events; seed = seed; progress = progress; from = place_in (codes "from") rows }), rw (disk.1, turn.1, rounds.1) refl)
 
 -- what a command that takes the words is asked for
 entered_named : (stop : Option (Text × List Text)) → entered_passes built_app stop ≡ true → is_some (entered built_app stop) ≡ true

@@ -1,6 +1,6 @@
 -- The program's command line, as `clap` sees it: `format DISK IMAGE [--pages P] [--harts H] [--journal J]`, `run DISK`,
--- `inspect DISK [--at K] [--code]` and `drive DISK --output FILE [--turn N] [--rounds-per-commit R] [--events N]
--- [--seed S] [--progress SECONDS]`.
+-- `inspect DISK [--at K] [--code]` and `drive DISK [--output FILE] [--turn N] [--rounds-per-commit R] [--events N]
+-- [--seed S] [--progress SECONDS] [--from OFFSET]`.
 use Rattle.std.specs.Prelude.{pos, codes, Some, true, [], ◌∷◌}
 use Rattle.clap.specs.Words.{App, Rule, Text, new_app, new_rule, with_rule, with_subcommand}
 use Rattle.clap.specs.declared.builder.value_parser.ValueParser.TheVariants.{Signed, Unsigned}
@@ -27,9 +27,9 @@ place_rule id = record (new_rule id) {
   parser = Some (Unsigned 0 18446744073709551615);
 }
 
--- an option `--id FILE` that has to be given
-abbrev pub needed_option_rule : Text → Rule
-needed_option_rule id = record (new_rule id) { long = Some id; required = true; value_names = 1 }
+-- an option `--id FILE`, a text, which may be left out
+abbrev pub option_rule : Text → Rule
+option_rule id = record (new_rule id) { long = Some id; value_names = 1 }
 
 -- an option `--id` without a value
 abbrev pub flag_rule : Text → Rule
@@ -56,14 +56,15 @@ inspect_app =
 
 abbrev pub drive_app : App
 drive_app =
-    with_rule (with_rule (with_rule (with_rule (with_rule (with_rule (with_rule (new_app (codes "drive"))
+    with_rule (with_rule (with_rule (with_rule (with_rule (with_rule (with_rule (with_rule (new_app (codes "drive"))
     (needed_rule (codes "disk")))
-    (needed_option_rule (codes "output")))
+    (option_rule (codes "output")))
     (number_rule (codes "turn") (codes "65535")))
     (number_rule (codes "rounds-per-commit") (codes "16")))
     (place_rule (codes "events")))
     (place_rule (codes "seed")))
-    (place_rule (codes "progress"))
+    (place_rule (codes "progress")))
+    (place_rule (codes "from"))
 
 -- the program without a command: its words don't begin with its name, and `help` is no command
 abbrev pub bare_app : App

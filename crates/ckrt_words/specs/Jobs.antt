@@ -28,15 +28,16 @@ pub record Inspection : Type 0 where
   pub code : Bool
 
 -- what `drive` drives: which disk, the file of its output, steps of a turn, rounds between commits, after how many events it ends, the seed of its
--- lots, and at most each how many seconds it tells how far it is
+-- lots, at most each how many seconds it tells how far it is, and below which offset output is left out
 pub record Driving : Type 0 where
   pub disk : Text
-  pub output : Text
+  pub output : Option Text
   pub turn : ℕ
   pub rounds : ℕ
   pub events : Option ℕ
   pub seed : Option ℕ
   pub progress : Option ℕ
+  pub from : Option ℕ
 
 -- a job, by its texts and numbers alone
 pub data Request : Type 0 where
@@ -54,7 +55,16 @@ abbrev pub inspection_of : InspectJob → Inspection
 inspection_of i = record { disk = i.disk.now; at = i.at; code = i.code }
 
 abbrev pub driving_of : DriveJob → Driving
-driving_of d = record { disk = d.disk.now; output = d.output.now; turn = d.turn; rounds = d.rounds; events = d.events; seed = d.seed; progress = d.progress }
+driving_of d = record {
+  disk = d.disk.now;
+  output = option_map (λ path. path.now) d.output;
+  turn = d.turn;
+  rounds = d.rounds;
+  events = d.events;
+  seed = d.seed;
+  progress = d.progress;
+  from = d.from;
+}
 
 abbrev pub request_of : Job → Request
 request_of job.Stored = stored
@@ -108,10 +118,18 @@ inspection_in rows = do
 abbrev pub driving_in : List Row → Option Driving
 driving_in rows = do
   disk ← first_of (codes "disk") rows
-  output ← first_of (codes "output") rows
   turn ← number_in (codes "turn") rows
   rounds ← number_in (codes "rounds-per-commit") rows
-  Some (record { disk = disk; output = output; turn = turn; rounds = rounds; events = place_in (codes "events") rows; seed = place_in (codes "seed") rows; progress = place_in (codes "progress") rows })
+  Some (record {
+    disk = disk;
+    output = first_of (codes "output") rows;
+    turn = turn;
+    rounds = rounds;
+    events = place_in (codes "events") rows;
+    seed = place_in (codes "seed") rows;
+    progress = place_in (codes "progress") rows;
+    from = place_in (codes "from") rows;
+  })
 
 -- what a command with these matches asks for
 abbrev pub request_in : Text × List Row → Option Request

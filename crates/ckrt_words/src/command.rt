@@ -3,7 +3,7 @@ ghost use Rattle.std.specs.Prelude.{◌≡◌, IfOk, codes, false, fold, map, no
 ghost use Rattle.std.specs.List.{list_all};
 ghost use Rattle.clap.specs.Words.{app_of, new_app, rule_of, with_rule};
 ghost use Rattle.clap.specs.declared.builder.command.Command.TheViews.{out-Command};
-ghost use Rattle.ckrt_words.specs.Commands.{bare_app, ckrt_app, drive_app, flag_rule, format_app, inspect_app, needed_option_rule, needed_rule, number_rule, place_rule, run_app};
+ghost use Rattle.ckrt_words.specs.Commands.{bare_app, ckrt_app, drive_app, flag_rule, format_app, inspect_app, needed_rule, number_rule, option_rule, place_rule, run_app};
 
 use clap::{Arg, ArgAction, Command, value_parser};
 use std::alloc::{AllocError, Global};
@@ -44,16 +44,12 @@ fn place<'a>(alloc: Global, id: &'a str, name: &'a str, help: &'a str) -> Arg<'a
         .help(help)
 }
 
-/// An option that has to be given.
-fn needed_option<'a>(alloc: Global, id: &'a str, name: &'a str, help: &'a str) -> Arg<'a>
-    ensures rule { rule_of result ≡ needed_option_rule id.entry.now }
+/// An option with a text, which may be left out.
+fn option<'a>(alloc: Global, id: &'a str, name: &'a str, help: &'a str) -> Arg<'a>
+    ensures rule { rule_of result ≡ option_rule id.entry.now }
     ensures local { result.global ≡ false }
 {
-    Arg::new(alloc, id)
-        .long(id)
-        .value_name(name)
-        .help(help)
-        .required(true)
+    Arg::new(alloc, id).long(id).value_name(name).help(help)
 }
 
 /// An option without a value.
@@ -143,14 +139,16 @@ fn inspect_arguments<'a>(alloc: Global) -> Result<Vec<Arg<'a>>, AllocError>
     Ok(arguments)
 }
 
-/// `drive DISK --output FILE [--turn N] [--rounds-per-commit R] [--events N] [--seed S] [--progress SECONDS]`.
+/// `drive DISK [--output FILE] [--turn N] [--rounds-per-commit R] [--events N] [--seed S] [--progress SECONDS] [--from OFFSET]`.
 fn drive_command<'a>(alloc: Global) -> Result<Command<'a>, AllocError>
     ensures app { IfOk result (λ c. app_of c ≡ drive_app) }
     ensures local { IfOk result (λ c. (out-Command c).has_globals ≡ false) }
 {
     let arguments = drive_arguments(alloc)?;
     Command::new(alloc, "drive")
-        .about("Recovers a disk and runs its program to its end, with its output in a file")
+        .about(
+            "Recovers a disk and runs its program to its end, with its output in a file or on the standard output",
+        )
         .args(arguments)
 }
 
@@ -161,11 +159,11 @@ fn drive_arguments<'a>(alloc: Global) -> Result<Vec<Arg<'a>>, AllocError>
 {
     let arguments = vec![in alloc;
         needed(alloc, "disk", "DISK", "A disk that `format` made"),
-        needed_option(
+        option(
             alloc,
             "output",
             "FILE",
-            "The file to put the program's output in, each byte at its offset"
+            "The file to put the program's output in, each byte at its offset; the standard output without it"
         ),
         number(
             alloc,
@@ -191,6 +189,12 @@ fn drive_arguments<'a>(alloc: Global) -> Result<Vec<Arg<'a>>, AllocError>
             "progress",
             "SECONDS",
             "Tell how far it is at most each so many seconds, 1 or more"
+        ),
+        place(
+            alloc,
+            "from",
+            "OFFSET",
+            "Leave out the bytes below it, on the standard output"
         ),
     ]?;
     Ok(arguments)

@@ -13,7 +13,7 @@ pub enum Job<'a> {
     Run(&'a str),
     /// Show what a disk holds: `inspect DISK`.
     Inspect(InspectJob<'a>),
-    /// Drive a disk to its end: `drive DISK --output FILE`.
+    /// Drive a disk to its end: `drive DISK`.
     Drive(DriveJob<'a>),
 }
 
@@ -48,8 +48,8 @@ pub struct InspectJob<'a> {
 pub struct DriveJob<'a> {
     /// The path of the disk.
     pub disk: &'a str,
-    /// The path of the file of its output.
-    pub output: &'a str,
+    /// The path of the file of its output, which goes to the standard output where this isn't given.
+    pub output: Option<&'a str>,
     /// Steps of a turn, at most.
     pub turn: u32,
     /// Rounds between two commits.
@@ -60,6 +60,8 @@ pub struct DriveJob<'a> {
     pub seed: Option<u64>,
     /// At most each how many seconds a line tells how far it is; this isn't given where no line does.
     pub progress: Option<u64>,
+    /// Below which offset bytes of output are left out; this isn't given where none are. It has no meaning with a file.
+    pub from: Option<u64>,
 }
 
 /// Why words name no job.

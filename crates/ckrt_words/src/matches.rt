@@ -54,12 +54,13 @@ fn driving<'a>(matches: &ArgMatches<'a>) -> Option<DriveJob<'a>>
 {
     Some(DriveJob {
         disk: text(matches, "disk")?,
-        output: text(matches, "output")?,
+        output: text(matches, "output"),
         turn: number(matches, "turn")?,
         rounds: number(matches, "rounds-per-commit")?,
         events: place(matches, "events"),
         seed: place(matches, "seed"),
         progress: place(matches, "progress"),
+        from: place(matches, "from"),
     })
 }
 

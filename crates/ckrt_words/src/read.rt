@@ -29,7 +29,7 @@ const INSPECT_USAGE: &str = "Usage: ckrt inspect <DISK> [--at NUMBER OF EVENTS] 
 
 /// What follows a number of `drive` that isn't one.
 const DRIVE_USAGE: &str =
-    "Usage: ckrt drive <DISK> --output <FILE> [--turn 1 to 65535] [--rounds-per-commit NUMBER OF ROUNDS] [--events NUMBER OF EVENTS] [--seed NUMBER] [--progress SECONDS]";
+    "Usage: ckrt drive <DISK> [--output <FILE>] [--turn 1 to 65535] [--rounds-per-commit NUMBER OF ROUNDS] [--events NUMBER OF EVENTS] [--seed NUMBER] [--progress SECONDS] [--from OFFSET]";
 
 /// What follows a number that isn't one, by the command.
 fn number_usage(words: &[&str]) -> &'static str {
@@ -75,8 +75,8 @@ fn is_version(words: &[&str]) -> bool
 /// they are `--version` alone, else what `clap` makes of them. An option of `format` that isn't given has 64 pages, 1 hart
 /// and a journal of 65,536 bytes; one that is given has to be a number below 2^32. `inspect` shows the disk after the last
 /// event where `--at` isn't given, which has to be a number below 2^64. `drive` has turns of 65,535 steps, 16 rounds between
-/// two commits, no limit of events, no seed and no line of progress where these aren't given; those that are have to be numbers
-/// below 2^32 and, of events, a seed and seconds, 2^64.
+/// two commits, no file of its output, no limit of events, no seed, no line of progress and no offset where these aren't given;
+/// the numbers that are have to be below 2^32 and, of events, a seed, seconds and an offset, 2^64.
 ///
 /// # Errors
 ///
