@@ -1,4 +1,4 @@
--- The drive of a disk, with its output in a disk of its own: from the words' options to the ending.
+-- The drive of a disk, with its output in a disk of its own or on the standard output: from the words' options to the ending.
 use Rattle.std.specs.Prelude.{◌≡◌, ◌⊎◌, ◌-◌, ◌^◌, ◌&&◌, ℕ, nat_lt, nat_le, Bool, true, false, List, Option, Some, None, Result, Ok, Err, IfErr}
 use Rattle.ckrt_disk.specs.Disk.{HasFailed}
 use Rattle.ckrt_disk.specs.declared.disk.Disk.{Ghosts}
@@ -15,11 +15,13 @@ use Rattle.ckrt_recovery.specs.declared.session.Session.{Session}
 use Rattle.ckrt_calls.specs.declared.table.Status.{Status}
 use Rattle.ckrt_drive.specs.Plan.{cursor_at_start}
 use Rattle.ckrt_drive.specs.Runs.{Runs}
+use Rattle.ckrt_drive.specs.Streams.{got_to}
 use Rattle.ckrt_drive.specs.declared.cursor.Cursor.{Cursor}
 use Rattle.ckrt_drive.specs.declared.fault.DriveFault.{DriveFault}
 use Rattle.ckrt_drive.specs.declared.fault.DriveFault.TheVariants.{Output}
 use Rattle.ckrt_drive.specs.declared.options.Options.{Options}
 use Rattle.ckrt_drive.specs.declared.progress.Ending.{Ending}
+use Rattle.ckrt_drive.specs.declared.stream.StreamOutput.{StreamOutput}
 use Rattle.ckrt_words.specs.Jobs.{Driving}
 use Rattle.ckrt_jobs.specs.Openings.{Openings, opened, refused}
 use Rattle.ckrt_jobs.specs.declared.driven.Driven.{Driven}
@@ -35,9 +37,20 @@ abbrev pub is_interval : Option ℕ → Bool
 is_interval None = true
 is_interval (Some seconds) = nat_lt 0 seconds
 
+-- an offset goes with the standard output alone
+abbrev pub is_target : Option (List ℕ) → Option ℕ → Bool
+is_target None from = true
+is_target (Some path) None = true
+is_target (Some path) (Some from) = false
+
 -- a turn has 1 to 65,535 steps, and there is a round or more between two commits
 abbrev pub is_in_range : Driving → Bool
-is_in_range j = nat_lt 0 j.turn && (nat_le j.turn 65535 && (nat_lt 0 j.rounds && is_interval j.progress))
+is_in_range j = nat_lt 0 j.turn && (nat_le j.turn 65535 && (nat_lt 0 j.rounds && (is_interval j.progress && is_target j.output j.from)))
+
+-- below which offset output is left out
+abbrev pub offset_of : Option ℕ → ℕ
+offset_of None = 0
+offset_of (Some from) = from
 
 -- the greatest number of 64 bits where no limit is given
 abbrev pub limit_of : Option ℕ → ℕ
@@ -96,8 +109,26 @@ pub record OpensOutput {D : Type 0} (d : Ghosts D) (Outputs : D → Type 0) (pat
   pub is_opened : Outputs output
   pub drives : DrivesOnto d options s output (record old { output = opened path }) new result
 
-abbrev pub DrivesRecovered : {D : Type 0} (d : Ghosts D) → (D → Type 0) → List ℕ → Options → Session D d → (old new : Openings D) → Result Driven JobFault → Type 0
-DrivesRecovered d Outputs path options s old new result = LacksOutput d path s old new result ⊎ OpensOutput d Outputs path options s old new result
+-- the session was driven onto a stream that leaves out the bytes below an offset, and its disk was closed as the drive left it
+pub record DrivesStream {D W : Type 0} (d : Ghosts D) (o : Ghosts (StreamOutput W)) (from : ℕ) (options : Options) (s : Session D d) (old new : Openings D) (result : Result Driven JobFault) : Type 0 where
+  pub stream : StreamOutput W
+  pub begins : got_to stream ≡ from
+  pub after : Session D d
+  pub end : StreamOutput W
+  pub answer : Result Driven DriveFault
+  pub drives : DrivesSession o options s after stream end answer
+  pub gives : result ≡ answer_of answer
+  pub closes : new ≡ record old { closed = Some after.disk }
+
+-- the session was driven with its output in the file of a path, where there is one, else onto a stream
+abbrev pub DrivesRecovered : {D W : Type 0} (d : Ghosts D) (o : Ghosts (StreamOutput W)) → (List ℕ → D → Type 0) → (output : Option (List ℕ)) (from : ℕ) → Options → Session D d → (old new : Openings D) → Result Driven JobFault → Type 0
+DrivesRecovered d o Outputs (Some path) from options s old new result = LacksOutput d path s old new result ⊎ OpensOutput d (Outputs path) path options s old new result
+DrivesRecovered d o Outputs None from options s old new result = DrivesStream d o from options s old new result
+
+-- where the output goes into a file nothing is written
+abbrev pub IsUnwritten : (output : Option (List ℕ)) → (a b : Option (List ℕ)) → Type 0
+IsUnwritten (Some path) a b = b ≡ a
+IsUnwritten None a b = Unit {0}
 
 -- THE DISK
 
@@ -119,13 +150,14 @@ pub record LacksRecovery {D : Type 0} (d : Ghosts D) (start : D) (old new : Open
   pub closes : new ≡ record old { closed = Some end }
 
 -- the disk was recovered, and driven
-pub record DrivesDisk {D : Type 0} (d : Ghosts D) (Outputs : D → Type 0) (path : List ℕ) (options : Options) (start : D) (old new : Openings D) (result : Result Driven JobFault) : Type 0 where
+pub record DrivesDisk {D W : Type 0} (d : Ghosts D) (o : Ghosts (StreamOutput W)) (Outputs : List ℕ → D → Type 0) (output : Option (List ℕ)) (from : ℕ) (options : Options) (start : D)
+    (old new : Openings D) (result : Result Driven JobFault) : Type 0 where
   pub session : Session D d
   pub recovered : IsRecovered d start session
-  pub drives : DrivesRecovered d Outputs path options session old new result
+  pub drives : DrivesRecovered d o Outputs output from options session old new result
 
-abbrev pub DrivesOpened : {D : Type 0} (d : Ghosts D) → (D → Type 0) → List ℕ → Options → D → (old new : Openings D) → Result Driven JobFault → Type 0
-DrivesOpened d Outputs path options start old new result = LacksRecovery d start old new result ⊎ DrivesDisk d Outputs path options start old new result
+abbrev pub DrivesOpened : {D W : Type 0} (d : Ghosts D) (o : Ghosts (StreamOutput W)) → (List ℕ → D → Type 0) → (output : Option (List ℕ)) (from : ℕ) → Options → D → (old new : Openings D) → Result Driven JobFault → Type 0
+DrivesOpened d o Outputs output from options start old new result = LacksRecovery d start old new result ⊎ DrivesDisk d o Outputs output from options start old new result
 
 -- THE JOB
 
@@ -136,17 +168,17 @@ pub record LacksDisk {D : Type 0} (path : List ℕ) (old new : Openings D) (resu
   pub refuses : new ≡ record old { disk = refused path why }
 
 -- the disk of the words' path was opened, and driven as they ask
-pub record OpensDisk {D : Type 0} (d : Ghosts D) (Opens Outputs : D → Type 0) (j : Driving) (old new : Openings D) (result : Result Driven JobFault) : Type 0 where
+pub record OpensDisk {D W : Type 0} (d : Ghosts D) (o : Ghosts (StreamOutput W)) (Opens : D → Type 0) (Outputs : List ℕ → D → Type 0) (j : Driving) (old new : Openings D) (result : Result Driven JobFault) : Type 0 where
   pub options : Options
   pub asked : IsAsked j options
   pub start : D
   pub is_opened : Opens start
-  pub drives : DrivesOpened d Outputs j.output options start (record old { disk = opened j.disk }) new result
+  pub drives : DrivesOpened d o Outputs j.output (offset_of j.from) options start (record old { disk = opened j.disk }) new result
 
 -- Out of its ranges nothing is asked for.
-abbrev pub DrivesInRange : {D : Type 0} → Ghosts D → (Opens Outputs : D → Type 0) → Driving → (old new : Openings D) → Result Driven JobFault → Bool → Type 0
-DrivesInRange d Opens Outputs j old new result true = LacksDisk j.disk old new result ⊎ OpensDisk d Opens Outputs j old new result
-DrivesInRange d Opens Outputs j old new result false = (result ≡ Err job.Range) × (new ≡ old)
+abbrev pub DrivesInRange : {D W : Type 0} → Ghosts D → Ghosts (StreamOutput W) → (Opens : D → Type 0) (Outputs : List ℕ → D → Type 0) → Driving → (old new : Openings D) → Result Driven JobFault → Bool → Type 0
+DrivesInRange d o Opens Outputs j old new result true = LacksDisk j.disk old new result ⊎ OpensDisk d o Opens Outputs j old new result
+DrivesInRange d o Opens Outputs j old new result false = (result ≡ Err job.Range) × (new ≡ old)
 
-abbrev pub DrivesPath : {D : Type 0} → Ghosts D → (Opens Outputs : D → Type 0) → Driving → (old new : Openings D) → Result Driven JobFault → Type 0
-DrivesPath d Opens Outputs j old new result = DrivesInRange d Opens Outputs j old new result (is_in_range j)
+abbrev pub DrivesPath : {D W : Type 0} → Ghosts D → Ghosts (StreamOutput W) → (Opens : D → Type 0) (Outputs : List ℕ → D → Type 0) → Driving → (old new : Openings D) → Result Driven JobFault → Type 0
+DrivesPath d o Opens Outputs j old new result = DrivesInRange d o Opens Outputs j old new result (is_in_range j)

@@ -13,7 +13,8 @@ use Rattle.ckrt_words.specs.Commands.{ckrt_app}
 use Rattle.ckrt_words.specs.Jobs.{Formatting, Request, Inspection, drive, format, inspect, request_of_words, run, stored, version}
 use Rattle.ckrt_words.specs.declared.job.WordsFault.{WordsFault}
 use Rattle.ckrt_words.specs.declared.job.WordsFault.TheVariants as words
-use Rattle.ckrt_jobs.specs.Driving.{DrivesPath}
+use Rattle.ckrt_drive.specs.declared.stream.StreamOutput.{StreamOutput}
+use Rattle.ckrt_jobs.specs.Driving.{DrivesPath, IsUnwritten}
 use Rattle.ckrt_jobs.specs.Ends.{end_line}
 use Rattle.ckrt_jobs.specs.Making.{Makes}
 use Rattle.ckrt_jobs.specs.Openings.{Openings, opened, refused}
@@ -115,14 +116,14 @@ Comes Holds outcome = (result : Result Driven JobFault) × (outcome ≡ outcome_
 
 -- What the program does for a request, where its sources give these bytes for the path of an image, these disks for that of a disk, these
 -- once it is filled, and these outputs for that of an output; the openings go from old to new: what asks for no file opens none.
-abbrev pub Performs : {D : Type 0} → Ghosts D → Request → (List ℕ → Option (List ℕ)) → (List ℕ → D → Type 0) → (List ℕ → ℕ → D → Type 0) → (List ℕ → D → Type 0)
+abbrev pub Performs : {D W : Type 0} → Ghosts D → Ghosts (StreamOutput W) → Request → (List ℕ → Option (List ℕ)) → (List ℕ → D → Type 0) → (List ℕ → ℕ → D → Type 0) → (List ℕ → D → Type 0)
     → (old new : Openings D) → (a b r s : Option (List ℕ)) → Result (Option Driven) JobFault → Type 0
-Performs d stored known Opens Fills Outputs old new a b r s outcome = Does (ServesStored a b r s) outcome × (new ≡ old)
-Performs d version known Opens Fills Outputs old new a b r s outcome = Does (SaysLine a b version_line) outcome × (s ≡ r) × (new ≡ old)
-Performs d (format f) known Opens Fills Outputs old new a b r s outcome = Does (MakesPath d f (known f.image) (Fills f.disk (size_needed (config_of f))) old new a b) outcome × (s ≡ r)
-Performs d (run disk) known Opens Fills Outputs old new a b r s outcome = Does (RunsPath d disk (Opens disk) old new a b r s) outcome
-Performs d (inspect i) known Opens Fills Outputs old new a b r s outcome = Does (ShowsPath d (Opens i.disk) i old new a b r s) outcome
-Performs d (drive j) known Opens Fills Outputs old new a b r s outcome = Comes (DrivesPath d (Opens j.disk) (Outputs j.output) j old new) outcome × (b ≡ a) × (s ≡ r)
+Performs d o stored known Opens Fills Outputs old new a b r s outcome = Does (ServesStored a b r s) outcome × (new ≡ old)
+Performs d o version known Opens Fills Outputs old new a b r s outcome = Does (SaysLine a b version_line) outcome × (s ≡ r) × (new ≡ old)
+Performs d o (format f) known Opens Fills Outputs old new a b r s outcome = Does (MakesPath d f (known f.image) (Fills f.disk (size_needed (config_of f))) old new a b) outcome × (s ≡ r)
+Performs d o (run disk) known Opens Fills Outputs old new a b r s outcome = Does (RunsPath d disk (Opens disk) old new a b r s) outcome
+Performs d o (inspect i) known Opens Fills Outputs old new a b r s outcome = Does (ShowsPath d (Opens i.disk) i old new a b r s) outcome
+Performs d o (drive j) known Opens Fills Outputs old new a b r s outcome = Comes (DrivesPath d o (Opens j.disk) Outputs j old new) outcome × IsUnwritten j.output a b × (s ≡ r)
 
 -- a reporter said this text behind what it had said, unless it has failed
 abbrev pub Reports : (before after : Option (List ℕ)) → Bool → List ℕ → Type 0
@@ -135,10 +136,10 @@ ReportsOutcome q (Ok (Some driven)) before after has_failed = Reports before aft
 ReportsOutcome q (Err fault) before after has_failed = Reports before after has_failed (report_of q fault)
 
 -- the program's words ask for something: what was done, what was said of it, and the status
-pub record RunsRequest {D : Type 0} (d : Ghosts D) (q : Request) (known : List ℕ → Option (List ℕ)) (Opens : List ℕ → D → Type 0) (Fills : List ℕ → ℕ → D → Type 0)
+pub record RunsRequest {D W : Type 0} (d : Ghosts D) (o : Ghosts (StreamOutput W)) (q : Request) (known : List ℕ → Option (List ℕ)) (Opens : List ℕ → D → Type 0) (Fills : List ℕ → ℕ → D → Type 0)
     (Outputs : List ℕ → D → Type 0) (old new : Openings D) (a b r s said_before said_after : Option (List ℕ)) (has_failed : Bool) (status : ℕ) : Type 0 where
   pub outcome : Result (Option Driven) JobFault
-  pub performs : Performs d q known Opens Fills Outputs old new a b r s outcome
+  pub performs : Performs d o q known Opens Fills Outputs old new a b r s outcome
   pub reports : ReportsOutcome q outcome said_before said_after has_failed
   pub gives : status ≡ status_of outcome
 
@@ -154,13 +155,13 @@ pub record RefusesWords {D : Type 0} (ws : List (List ℕ)) (old new : Openings 
   pub gives : status ≡ status_of_words fault
 
 -- what the program does for its words
-abbrev pub RunsWords : {D : Type 0} → Ghosts D → (ws : List (List ℕ)) → (List ℕ → Option (List ℕ)) → (List ℕ → D → Type 0) → (List ℕ → ℕ → D → Type 0)
+abbrev pub RunsWords : {D W : Type 0} → Ghosts D → Ghosts (StreamOutput W) → (ws : List (List ℕ)) → (List ℕ → Option (List ℕ)) → (List ℕ → D → Type 0) → (List ℕ → ℕ → D → Type 0)
     → (List ℕ → D → Type 0) → (old new : Openings D) → (a b r s said_before said_after : Option (List ℕ)) → Bool → ℕ → Type 0
-RunsWords d ws known Opens Fills Outputs old new a b r s said_before said_after has_failed status =
-    ((q : Request) × (request_of_words ws ≡ Some q) × RunsRequest d q known Opens Fills Outputs old new a b r s said_before said_after has_failed status)
+RunsWords d o ws known Opens Fills Outputs old new a b r s said_before said_after has_failed status =
+    ((q : Request) × (request_of_words ws ≡ Some q) × RunsRequest d o q known Opens Fills Outputs old new a b r s said_before said_after has_failed status)
     ⊎ RefusesWords ws old new a b r s said_before said_after has_failed status
 
 -- the same with files of the system, of which nothing is known but what was asked for last, and how that was opened
-abbrev pub RunsOnFiles : {D : Type 0} → Ghosts D → (ws : List (List ℕ)) → (old new : Openings D) → (a b r s said_before said_after : Option (List ℕ)) → Bool → ℕ → Type 0
-RunsOnFiles d ws old new a b r s said_before said_after has_failed status =
-    RunsWords d ws (λ _. None) (λ _ _. Unit {0}) (λ _ _ _. Unit {0}) (λ _ _. Unit {0}) old new a b r s said_before said_after has_failed status
+abbrev pub RunsOnFiles : {D W : Type 0} → Ghosts D → Ghosts (StreamOutput W) → (ws : List (List ℕ)) → (old new : Openings D) → (a b r s said_before said_after : Option (List ℕ)) → Bool → ℕ → Type 0
+RunsOnFiles d o ws old new a b r s said_before said_after has_failed status =
+    RunsWords d o ws (λ _. None) (λ _ _. Unit {0}) (λ _ _ _. Unit {0}) (λ _ _. Unit {0}) old new a b r s said_before said_after has_failed status

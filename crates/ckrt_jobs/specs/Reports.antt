@@ -129,8 +129,13 @@ advice_of (job.Format f) = advice_of_format f
 advice_of (job.Recover f) = advice_of_recover f
 advice_of (job.Serve f) = advice_of_serve f
 advice_of (job.Inspect f) = advice_of_look f
-advice_of job.Range = codes "--turn is 1 to 65535, --rounds-per-commit and --progress 1 or more"
+advice_of job.Range = codes "--turn is 1 to 65535, --rounds-per-commit and --progress 1 or more, and --from goes without --output"
 advice_of (job.Drive f) = advice_of_drive f
+
+-- the path of an output, or what stands for it where it is printed
+abbrev pub output_text : Option (List ℕ) → List ℕ
+output_text None = codes "(standard output)"
+output_text (Some path) = path
 
 -- the path that the words give for a file
 abbrev pub path_of : JobFile → Request → List ℕ
@@ -139,7 +144,7 @@ path_of file.Disk (asks_format f) = f.disk
 path_of file.Disk (asks_run disk) = disk
 path_of file.Disk (asks_inspect i) = i.disk
 path_of file.Disk (asks_drive j) = j.disk
-path_of file.Output (asks_drive j) = j.output
+path_of file.Output (asks_drive j) = output_text j.output
 path_of _ _ = []
 
 -- the file that is spoken of, with its path

@@ -1,7 +1,7 @@
 //! Driving a disk.
-ghost use Rattle.std.specs.Prelude.{◌≡◌, IfSome, IfErr, IfOk, None, OnOk, false, true};
+ghost use Rattle.std.specs.Prelude.{◌≡◌, ◌⊎◌, IfSome, IfErr, IfOk, None, OnOk, false, option_map, true};
 ghost use Rattle.ckrt_words.specs.Jobs.{driving_of};
-ghost use Rattle.ckrt_jobs.specs.Driving.{DrivesDisk, DrivesOnto, DrivesOpened, DrivesPath, DrivesRecovered, DrivesSession, IsAsked, driven_of, is_in_range};
+ghost use Rattle.ckrt_jobs.specs.Driving.{DrivesDisk, DrivesOnto, DrivesOpened, DrivesPath, DrivesRecovered, DrivesSession, DrivesStream, IsAsked, IsUnwritten, LacksOutput, OpensOutput, answer_of, driven_of, is_in_range, is_target, offset_of};
 ghost use Rattle.ckrt_jobs.specs.Openings.{opened, refused};
 
 use crate::driven::Driven;
@@ -11,28 +11,39 @@ use crate::meter::Meter;
 use crate::sources::Sources;
 use ckrt_calls::Status;
 use ckrt_disk::Disk;
-use ckrt_drive::{Drive, DriveFault, Ending, Options};
+use ckrt_drive::{Drive, DriveFault, Ending, Options, StreamOutput};
 use ckrt_recovery::{Session, recover};
 use ckrt_words::DriveJob;
 use std::alloc::Global;
-use std::io::Read;
+use std::io::{Read, Write};
 
 /// The longest turn, in steps.
 const LONGEST_TURN: u32 = 65_535;
 
 /// A session and its output behind a drive, and what it came to.
 #[derive(Drop)]
-pub(crate) struct Undertaken<D: Disk> {
+pub(crate) struct Undertaken<D: Disk, O> {
     pub(crate) session: Session<D>,
-    pub(crate) output: D,
+    pub(crate) output: O,
     pub(crate) driven: Result<Driven, DriveFault>,
+}
+
+/// Whether an offset goes with where the output goes: with the standard output alone.
+fn is_target(output: Option<&str>, from: Option<u64>) -> bool
+    ensures { result ≡ is_target (option_map (λ path. path.now) output.entry) from }
+{
+    output.is_none() || from.is_none()
 }
 
 /// Whether the job's numbers are in their ranges.
 fn is_in_range(job: &DriveJob<'_>) -> bool
     ensures { result ≡ is_in_range (driving_of job.now) }
 {
-    job.turn > 0 && job.turn <= LONGEST_TURN && job.rounds > 0 && job.progress != Some(0)
+    job.turn > 0
+        && job.turn <= LONGEST_TURN
+        && job.rounds > 0
+        && job.progress != Some(0)
+        && is_target(job.output, job.from)
 }
 
 /// How the drive goes that the words ask for.
@@ -61,13 +72,13 @@ fn driven_of(
 }
 
 /// Drives a session, with its output in a disk of its own.
-fn drive_session<D: Disk, M: Meter>(
+fn drive_session<D: Disk, O: Disk, M: Meter>(
     session: Session<D>,
-    output: D,
+    output: O,
     options: Options,
     meter: &mut M,
-) -> Undertaken<D>
-    ensures { DrivesSession D.Disk options session result.session output result.output result.driven }
+) -> Undertaken<D, O>
+    ensures { DrivesSession O.Disk options session result.session output result.output result.driven }
 {
     let mut drive = Drive::new(session, output, options);
     let answer = drive.run(u64::MAX, meter);
@@ -78,6 +89,16 @@ fn drive_session<D: Disk, M: Meter>(
         session,
         output,
         driven,
+    }
+}
+
+/// What the job answers where its drive answered so.
+fn answer_of(driven: Result<Driven, DriveFault>) -> Result<Driven, JobFault>
+    ensures { result ≡ answer_of driven }
+{
+    match driven {
+        Ok(driven) => Ok(driven),
+        Err(fault) => Err(JobFault::Drive(fault)),
     }
 }
 
@@ -94,21 +115,18 @@ fn drive_onto<'a, I: Read, D: Disk, S: Sources<'a, I, D>, M: Meter>(
     let undertaken = drive_session(session, output, options, meter);
     sources.close_output(undertaken.output);
     sources.close(undertaken.session.into_disk());
-    match undertaken.driven {
-        Ok(driven) => Ok(driven),
-        Err(fault) => Err(JobFault::Drive(fault)),
-    }
+    answer_of(undertaken.driven)
 }
 
 /// Drives a session, with its output in the file of a path.
-fn drive_recovered<'a, I: Read, D: Disk, S: Sources<'a, I, D>, M: Meter>(
+fn drive_into_file<'a, I: Read, D: Disk, S: Sources<'a, I, D>, M: Meter>(
     session: Session<D>,
     path: &'a str,
     options: Options,
     sources: &mut S,
     meter: &mut M,
 ) -> Result<Driven, JobFault>
-    ensures { DrivesRecovered D.Disk (S.outputs sources.old path.now) path.now options session (S.openings sources.old) (S.openings sources.new) result }
+    ensures lacks_or_opens { LacksOutput D.Disk path.now session (S.openings sources.old) (S.openings sources.new) result ⊎ OpensOutput D.Disk (S.outputs sources.old path.now) path.now options session (S.openings sources.old) (S.openings sources.new) result }
 {
     match sources.open_output(path) {
         Ok(output) => drive_onto::<I, D, S, M>(session, output, options, sources, meter),
@@ -119,19 +137,75 @@ fn drive_recovered<'a, I: Read, D: Disk, S: Sources<'a, I, D>, M: Meter>(
     }
 }
 
-/// Recovers a disk that was opened, and drives it.
-fn drive_opened<'a, I: Read, D: Disk, S: Sources<'a, I, D>, M: Meter>(
-    alloc: Global,
-    disk: D,
-    path: &'a str,
+/// Drives a session, with its output on a writer but for the bytes below an offset, and closes its disk.
+fn drive_onto_stream<'a, I: Read, D: Disk, S: Sources<'a, I, D>, W: Write, M: Meter>(
+    session: Session<D>,
+    from: u64,
     options: Options,
     sources: &mut S,
+    writer: &mut W,
     meter: &mut M,
 ) -> Result<Driven, JobFault>
-    ensures { DrivesOpened D.Disk (S.outputs sources.old path.now) path.now options disk (S.openings sources.old) (S.openings sources.new) result }
+    ensures { DrivesStream D.Disk ⟦<StreamOutput<&'a mut W> as Disk>⟧ from options session (S.openings sources.old) (S.openings sources.new) result }
+{
+    let undertaken = drive_session(session, StreamOutput::new(writer, from), options, meter);
+    let disk = undertaken.session.into_disk();
+    sources.close(disk);
+    answer_of(undertaken.driven)
+}
+
+/// Below which offset output is left out.
+fn offset_of(from: Option<u64>) -> u64
+    ensures { result ≡ offset_of from }
+{
+    match from {
+        None => 0,
+        Some(from) => from,
+    }
+}
+
+/// Drives a session, with its output in the job's file, or on the writer where the words name none.
+fn drive_recovered<'a, I: Read, D: Disk, S: Sources<'a, I, D>, W: Write, M: Meter>(
+    session: Session<D>,
+    job: &DriveJob<'a>,
+    options: Options,
+    sources: &mut S,
+    writer: &mut W,
+    meter: &mut M,
+) -> Result<Driven, JobFault>
+    ensures drives { DrivesRecovered D.Disk ⟦<StreamOutput<&'a mut W> as Disk>⟧ (S.outputs sources.old) (driving_of job.now).output (offset_of job.now.from) options session (S.openings sources.old) (S.openings sources.new) result }
+    ensures unwritten { IsUnwritten (driving_of job.now).output (W.contents writer.old) (W.contents writer.new) }
+{
+    match job.output {
+        Some(path) => drive_into_file::<I, D, S, M>(session, path, options, sources, meter),
+        None => drive_onto_stream::<I, D, S, W, M>(
+            session,
+            offset_of(job.from),
+            options,
+            sources,
+            writer,
+            meter,
+        ),
+    }
+}
+
+/// Recovers a disk that was opened, and drives it.
+fn drive_opened<'a, I: Read, D: Disk, S: Sources<'a, I, D>, W: Write, M: Meter>(
+    alloc: Global,
+    disk: D,
+    job: &DriveJob<'a>,
+    options: Options,
+    sources: &mut S,
+    writer: &mut W,
+    meter: &mut M,
+) -> Result<Driven, JobFault>
+    ensures drives { DrivesOpened D.Disk ⟦<StreamOutput<&'a mut W> as Disk>⟧ (S.outputs sources.old) (driving_of job.now).output (offset_of job.now.from) options disk (S.openings sources.old) (S.openings sources.new) result }
+    ensures unwritten { IsUnwritten (driving_of job.now).output (W.contents writer.old) (W.contents writer.new) }
 {
     match recover(alloc, disk) {
-        Ok(session) => drive_recovered::<I, D, S, M>(session, path, options, sources, meter),
+        Ok(session) => {
+            drive_recovered::<I, D, S, W, M>(session, job, options, sources, writer, meter)
+        }
         Err(unrecovered) => {
             sources.close(unrecovered.disk);
             Err(JobFault::Recover(unrecovered.fault))
@@ -139,20 +213,22 @@ fn drive_opened<'a, I: Read, D: Disk, S: Sources<'a, I, D>, M: Meter>(
     }
 }
 
-/// Drives the disk of a path to an end, with its output in the file of another: the output is asked for once the disk is
-/// recovered.
+/// Drives the disk of a path to an end, with its output in the file of another, which is asked for once the disk is
+/// recovered, or on the writer where the words name none.
 ///
 /// # Errors
 ///
 /// The first that applies: `Range`, before anything is opened; `File` of the disk; `Recover`, before the output is asked
 /// for; `File` of the output; then what the drive answers.
-pub(crate) fn drive_path<'a, I: Read, D: Disk, S: Sources<'a, I, D>, M: Meter>(
+pub(crate) fn drive_path<'a, I: Read, D: Disk, S: Sources<'a, I, D>, W: Write, M: Meter>(
     alloc: Global,
     job: &DriveJob<'a>,
     sources: &mut S,
+    writer: &mut W,
     meter: &mut M,
 ) -> Result<Driven, JobFault>
-    ensures { DrivesPath D.Disk (S.opens sources.old job.now.disk.now) (S.outputs sources.old job.now.output.now) (driving_of job.now) (S.openings sources.old) (S.openings sources.new) result }
+    ensures drives { DrivesPath D.Disk ⟦<StreamOutput<&'a mut W> as Disk>⟧ (S.opens sources.old job.now.disk.now) (S.outputs sources.old) (driving_of job.now) (S.openings sources.old) (S.openings sources.new) result }
+    ensures unwritten { IsUnwritten (driving_of job.now).output (W.contents writer.old) (W.contents writer.new) }
 {
     if !is_in_range(job) {
         return Err(JobFault::Range);
@@ -161,7 +237,7 @@ pub(crate) fn drive_path<'a, I: Read, D: Disk, S: Sources<'a, I, D>, M: Meter>(
     match sources.open_disk(job.disk) {
         Ok(disk) => {
             meter.begin(job.progress);
-            drive_opened::<I, D, S, M>(alloc, disk, job.output, options, sources, meter)
+            drive_opened::<I, D, S, W, M>(alloc, disk, job, options, sources, writer, meter)
         }
         Err(fault) => Err(JobFault::File(JobFile::Disk, fault)),
     }

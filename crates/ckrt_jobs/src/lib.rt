@@ -28,11 +28,12 @@
 //! Proved of `drive`: numbers out of their ranges are the fault Range, before anything is opened; the output is asked for
 //! only once the disk is recovered; the session that its content recovers to was driven as `ckrt_drive` says, step by step
 //! from the first round up to an end, with the options of the words; the program's status is the session's; and disk and
-//! output are closed as the drive left them.
+//! output are closed as the drive left them. Where the words name no file the output is a stream that leaves out what lies
+//! below their offset, else nothing is printed; an offset beside a file is the fault Range too.
 //!
 //! Proved of [`run_words_with`]: its outcome is the one that the words ask for, and the status is that outcome's: for
 //! `format` that of making the disk of DISK with the image of IMAGE, and then the line `formatted SIZE`; for `run` that of
-//! running the disk of DISK; for `inspect` that of showing it; for `drive` that of driving it with its output in FILE, and
+//! running the disk of DISK; for `inspect` that of showing it; for `drive` that of driving it with its output in FILE or on a stream, and
 //! then the line of what it came to; for no words that of serving the stored program, of which a
 //! service that ends early has written a beginning; for `--version` the line of version and kit. Where a line can't be
 //! written, what was written is a beginning of it. The files that were asked for last are those of DISK and IMAGE, and none
@@ -48,7 +49,7 @@
 //! A law: a byte that was printed at an offset is never another, over any number of runs of a disk
 //! ([`printed_bytes_stay`]).
 //!
-//! Only tested: the lines on how far a drive is, what a path opens, that a file is filled and locked and its folder synced, that what is printed is flushed,
+//! Only tested: that the stream of a drive is the writer, and what a whole drive hands on, the lines on how far a drive is, what a path opens, that a file is filled and locked and its folder synced, that what is printed is flushed,
 //! that faults on standard error reach it.
 #![tactic(auto)]
 

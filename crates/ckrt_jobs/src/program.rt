@@ -23,6 +23,7 @@ use crate::sources::Sources;
 use crate::stored;
 use crate::system::{SystemDisk, SystemSources};
 use ckrt_disk::Disk;
+use ckrt_drive::StreamOutput;
 use ckrt_main::serve_image;
 use ckrt_recovery::Config;
 use ckrt_words::{FormatJob, InspectJob, Job, read_words};
@@ -162,7 +163,7 @@ fn perform<'a, I: Read + Drop, D: Disk + Drop, S: Sources<'a, I, D>, R: Read, W:
     writer: &mut W,
     meter: &mut M,
 ) -> Result<Option<Driven>, JobFault>
-    ensures performs { Performs D.Disk (request_of job.now) (S.image_bytes sources.old) (S.opens sources.old) (S.fills sources.old) (S.outputs sources.old) (S.openings sources.old) (S.openings sources.new) (W.contents writer.old) (W.contents writer.new) (R.remaining reader.old) (R.remaining reader.new) result }
+    ensures performs { Performs D.Disk ⟦<StreamOutput<&'a mut W> as Disk>⟧ (request_of job.now) (S.image_bytes sources.old) (S.opens sources.old) (S.fills sources.old) (S.outputs sources.old) (S.openings sources.old) (S.openings sources.new) (W.contents writer.old) (W.contents writer.new) (R.remaining reader.old) (R.remaining reader.new) result }
 {
     match job {
         Job::Stored => without_end(serve_stored(alloc, reader, writer)),
@@ -170,13 +171,15 @@ fn perform<'a, I: Read + Drop, D: Disk + Drop, S: Sources<'a, I, D>, R: Read, W:
         Job::Format(job) => without_end(make::<I, D, S, W>(alloc, job, sources, writer)),
         Job::Run(path) => without_end(run::<I, D, S, R, W>(alloc, path, sources, reader, writer)),
         Job::Inspect(job) => without_end(inspect_path::<I, D, S, W>(alloc, job, sources, writer)),
-        Job::Drive(job) => with_end(drive_path::<I, D, S, M>(alloc, job, sources, meter)),
+        Job::Drive(job) => {
+            with_end(drive_path::<I, D, S, W, M>(alloc, job, sources, writer, meter))
+        }
     }
 }
 
 /// Does what the words after the program's name ask for, with images and disks of any sources: `format DISK IMAGE` prints
-/// `formatted SIZE`, `run DISK` answers the lines of the reader, `inspect DISK` shows what the disk holds, `drive DISK --output
-/// FILE` runs its program to its end and reports what it came to in a line, `--version` prints the version and its kit, no
+/// `formatted SIZE`, `run DISK` answers the lines of the reader, `inspect DISK` shows what the disk holds, `drive DISK`
+/// runs its program to its end, with its output in a file or printed, and reports what it came to in a line, `--version` prints the version and its kit, no
 /// words serve the stored program in memory. Of a fault two lines are reported: what is wrong in plain words, with the path
 /// of the file that it is of, and `ckrt: NAME`. Of words that name no job a text is. A drive is looked on by the meter. The answer is the program's status: 0
 /// where all was done, 1 for a fault, 2 for words that name no job, 3 for a program that waits for input, 4 for a deadlock.
@@ -204,7 +207,7 @@ pub fn run_words_with<
     ensures version { result ≡ 0 → request_of_words (map (λ s. s.now) words.entry.now) ≡ Some version → Appends (W.contents writer.old) (W.contents writer.new) version_line }
     ensures usage { result ≡ 2 → takes ckrt_app (map (λ s. s.now) words.entry.now) ≢ true }
     ensures stored { result ≡ 2 → words.entry.now ≢ [] }
-    ensures outcome { RunsWords D.Disk (map (λ s. s.now) words.entry.now) (S.image_bytes sources.old) (S.opens sources.old) (S.fills sources.old) (S.outputs sources.old) (S.openings sources.old) (S.openings sources.new) (W.contents writer.old) (W.contents writer.new) (R.remaining reader.old) (R.remaining reader.new) (E.said reporter.old) (E.said reporter.new) (E.has_failed reporter.new) result }
+    ensures outcome { RunsWords D.Disk ⟦<StreamOutput<&'a mut W> as Disk>⟧ (map (λ s. s.now) words.entry.now) (S.image_bytes sources.old) (S.opens sources.old) (S.fills sources.old) (S.outputs sources.old) (S.openings sources.old) (S.openings sources.new) (W.contents writer.old) (W.contents writer.new) (R.remaining reader.old) (R.remaining reader.new) (E.said reporter.old) (E.said reporter.new) (E.has_failed reporter.new) result }
 {
     match read_words(alloc, words) {
         Ok(job) => {
@@ -232,7 +235,7 @@ pub fn run_words<'a, F: Files<File = File>, R: Read, W: Write, E: Reporter, M: M
     ensures version { result ≡ 0 → request_of_words (map (λ s. s.now) words.entry.now) ≡ Some version → Appends (W.contents writer.old) (W.contents writer.new) version_line }
     ensures usage { result ≡ 2 → takes ckrt_app (map (λ s. s.now) words.entry.now) ≢ true }
     ensures stored { result ≡ 2 → words.entry.now ≢ [] }
-    ensures outcome { RunsOnFiles ⟦<SystemDisk as Disk>⟧ (map (λ s. s.now) words.entry.now) (openings_of sources.old) (openings_of sources.new) (W.contents writer.old) (W.contents writer.new) (R.remaining reader.old) (R.remaining reader.new) (E.said reporter.old) (E.said reporter.new) (E.has_failed reporter.new) result }
+    ensures outcome { RunsOnFiles ⟦<SystemDisk as Disk>⟧ ⟦<StreamOutput<&'a mut W> as Disk>⟧ (map (λ s. s.now) words.entry.now) (openings_of sources.old) (openings_of sources.new) (W.contents writer.old) (W.contents writer.new) (R.remaining reader.old) (R.remaining reader.new) (E.said reporter.old) (E.said reporter.new) (E.has_failed reporter.new) result }
 {
     run_words_with::<File, SystemDisk, SystemSources<'a, F, SystemDisk>, R, W, E, M>(
         alloc, words, sources, reader, writer, reporter, meter,

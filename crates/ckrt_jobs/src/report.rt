@@ -62,7 +62,10 @@ fn write_line<W: Write>(writer: &mut W, word: &[u8], text: &[u8]) -> Result<(), 
     }
 }
 
-/// The path that the words give for a file of their job; empty where they give none.
+/// What stands for the path of an output that is printed.
+const STANDARD_OUTPUT: &str = "(standard output)";
+
+/// The path that the words give for a file of their job; empty where they give none, but of an output that is printed.
 fn path<'a>(job: &Job<'a>, file: JobFile) -> &'a str
     ensures { result.now ≡ path_of file (request_of job.now) }
 {
@@ -72,7 +75,7 @@ fn path<'a>(job: &Job<'a>, file: JobFile) -> &'a str
         (Job::Run(disk), JobFile::Disk) => disk,
         (Job::Inspect(job), JobFile::Disk) => job.disk,
         (Job::Drive(job), JobFile::Disk) => job.disk,
-        (Job::Drive(job), JobFile::Output) => job.output,
+        (Job::Drive(job), JobFile::Output) => job.output.unwrap_or(STANDARD_OUTPUT),
         _ => "",
     }
 }
