@@ -154,8 +154,33 @@ fn a_guest_that_waits_for_input_is_driven_on(rt: HostRuntime) {
     expect_fed(&rt);
 }
 
+/// Words to which the program prints these bytes of a guest, and that it has ended.
+fn expect_printed<R: Abort + Files<File = File> + AllocGlobal>(rt: &R, words: &str, output: &str) {
+    let printed = ckrt(rt, words, "");
+    expect_eq_at(rt, words, printed.is(output, "ended: exit 0\n", 0), true);
+}
+
+/// A guest whose output is printed: what isn't confirmed on the disk yet comes again, but for what lies below an offset.
+fn expect_streamed<R: Abort + Files<File = File> + AllocGlobal>(rt: &R) {
+    format(
+        rt,
+        "format drive_e.disk drive_e.img --pages 16 --journal 4096",
+        "drive_e.img",
+        &IMAGE,
+    );
+    expect_printed(rt, "drive drive_e.disk", "A");
+    expect_printed(rt, "drive drive_e.disk --from 0", "A");
+    expect_printed(rt, "drive drive_e.disk --from 1", "");
+    remove_file(rt, "drive_e.disk");
+}
+
+#[test]
+fn output_without_a_file_is_printed(rt: HostRuntime) {
+    expect_streamed(&rt);
+}
+
 const OUT_OF_RANGE: &str =
-    "--turn is 1 to 65535, --rounds-per-commit and --progress 1 or more\nckrt: Range\n";
+    "--turn is 1 to 65535, --rounds-per-commit and --progress 1 or more, and --from goes without --output\nckrt: Range\n";
 
 const ABSENT: &str = "the disk drive_none.disk: there is no such file\nckrt: File\n";
 
@@ -190,7 +215,13 @@ fn expect_drive_faults<R: Abort + Files<File = File> + AllocGlobal>(rt: &R) {
         "drive drive_none.disk --output . --progress 0",
         OUT_OF_RANGE,
     );
+    expect_fault(
+        rt,
+        "drive drive_none.disk --output . --from 0",
+        OUT_OF_RANGE,
+    );
     expect_fault(rt, "drive drive_none.disk --output .", ABSENT);
+    expect_fault(rt, "drive drive_none.disk --from 7", ABSENT);
     write_file(rt, "drive_d.disk", b"");
     expect_fault(rt, "drive drive_d.disk --output .", UNFORMATTED);
     remove_file(rt, "drive_d.disk");

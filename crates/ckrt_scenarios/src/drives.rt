@@ -10,10 +10,11 @@ use crate::small_disk::{SIZE, SMALL, format_outcome, recovered_in_memory, recove
 use crate::waiting::{BOUNDED, READERS, SLEEPERS};
 use arrayvec::ArrayVec;
 use ckrt_disk::{Disk, MemoryDisk};
-use ckrt_drive::{Drive, DriveFault, Ending, Nobody, Onlooker, Options, Progress};
+use ckrt_drive::{Drive, DriveFault, Ending, Nobody, Onlooker, Options, Progress, StreamOutput};
 use ckrt_events::Event;
 use ckrt_machine::{Answer, How};
 use ckrt_recovery::{Config, Session};
+use std::io::{self, ErrorKind, Write};
 use std::process::Abort;
 
 /// Sleeps until the moment 7 · 2^32 + 5, puts a Y and exits.
@@ -301,5 +302,118 @@ fn each_byte_once_after_a_stop_at_each_call(rt: HostRuntime) {
     // recovery's sync, a checkpoint of all 15 pages by 21 calls, and four of none by 8 each: the guest stores nothing
     for at_call in 1..55 {
         expect_whole_after_stop(&rt, formatted.as_slice(), at_call);
+    }
+}
+
+/// Takes so many bytes, and no more.
+#[derive(Drop)]
+struct Narrow {
+    bytes: Vec<u8>,
+    takes: usize,
+}
+
+impl Write for Narrow {
+    fn write(&mut self, buf: &[u8]) -> io::Result<usize> {
+        let left = self.takes.saturating_sub(self.bytes.len());
+        let size = buf.len().min(left);
+        if size == 0 && !buf.is_empty() {
+            return Err(io::Error::from(ErrorKind::BrokenPipe));
+        }
+        self.bytes.write_all(&buf[..size])?;
+        Ok(size)
+    }
+
+    fn flush(&mut self) -> io::Result<()> {
+        Ok(())
+    }
+}
+
+/// A stream onto a writer that takes so many bytes.
+fn stream<R: AllocGlobal>(rt: &R, from: u64, takes: usize) -> StreamOutput<Narrow> {
+    let bytes = Vec::new(rt.alloc());
+    StreamOutput::new(Narrow { bytes, takes }, from)
+}
+
+/// The bytes that a stream has handed on.
+fn handed_on(stream: StreamOutput<Narrow>) -> Vec<u8> {
+    let writer: Narrow = stream.into_writer();
+    writer.bytes
+}
+
+/// The session is driven to its end, and hands these bytes on, which lie at or behind an offset.
+fn expect_streamed<R: Abort + AllocGlobal, D: Disk + Drop>(
+    rt: &R,
+    session: Session<D>,
+    from: u64,
+    want: &[u8],
+) {
+    let output = stream(rt, from, 64);
+    let (_, output) = ended(rt, session, output, usual(u64::MAX), Ending::Ended);
+    expect_bytes(rt, handed_on(output).as_slice(), want);
+}
+
+#[test]
+fn a_stream_leaves_out_the_bytes_below_its_offset(rt: HostRuntime) {
+    let formatted = formatted_for(&rt, &ROUNDS, 3);
+    let wanted = [0x06, 0x0c, 0x12, 0x18, 0x00];
+    for from in [0, 1, 4, 5] {
+        let bytes = formatted.to_vec(rt.alloc()).expect(&rt, "memory for bytes");
+        let session = recovered_in_memory(&rt, bytes);
+        expect_streamed(&rt, session, from as u64, &wanted[from..]);
+    }
+}
+
+/// The writer takes two bytes of five, and then no more; another one gets those behind them.
+#[test]
+fn a_stream_that_breaks(rt: HostRuntime) {
+    let session = recovered_in_memory(&rt, formatted_for(&rt, &ROUNDS, 3));
+    let mut drive = Drive::new(session, stream(&rt, 0, 2), usual(u64::MAX));
+    for _ in 0..2 {
+        expect_eq(
+            &rt,
+            drive.run(1_000_000, &mut Nobody),
+            Err(DriveFault::Output),
+        );
+    }
+    let (session, output) = drive.into_parts();
+    expect_eq(&rt, session.confirmed(), 0);
+    expect_bytes(&rt, handed_on(output).as_slice(), &[0x06, 0x0c]);
+    expect_streamed(&rt, session, 2, &[0x12, 0x18, 0x00]);
+}
+
+/// A drive of small turns with a commit after each round onto a stream, over a disk that stops at a call, and then one to
+/// the end over what is left, onto a stream that begins behind what the first one handed on: each byte is handed on once.
+fn expect_streamed_once<R: Abort + AllocGlobal>(rt: &R, formatted: &[u8], at_call: u64) {
+    let bytes = formatted.to_vec(rt.alloc()).expect(rt, "memory for bytes");
+    let disk = stopping_disk(rt, bytes, at_call, &[0xa5]);
+    let output = stream(rt, 0, 64);
+    let (image, output) = match recovery_outcome(rt, disk) {
+        Ok(session) => {
+            let mut drive = Drive::new(session, output, Options::new(40, 1, u64::MAX));
+            expect_eq_at(
+                rt,
+                at_call,
+                drive.run(1_000_000, &mut Nobody),
+                Err(DriveFault::Device),
+            );
+            let (session, output) = drive.into_parts();
+            (session.into_disk().into_image(), output)
+        }
+        Err(unrecovered) => (unrecovered.disk.into_image(), output),
+    };
+    let got = handed_on(output);
+    let wanted = [0x14, 0x28, 0x3c];
+    assert!(rt; got.len() <= wanted.len());
+    let (front, back) = wanted.split_at(got.len());
+    expect_bytes(rt, got.as_slice(), front);
+    let session = recovered_in_memory(rt, image);
+    expect_streamed(rt, session, got.len() as u64, back);
+}
+
+#[test]
+fn each_byte_is_handed_on_once_after_a_stop_at_each_call(rt: HostRuntime) {
+    let formatted = formatted_for(&rt, &SLEEPERS, 3);
+    for at_call in 1..55 {
+        expect_streamed_once(&rt, formatted.as_slice(), at_call);
     }
 }

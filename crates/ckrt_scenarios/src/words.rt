@@ -89,18 +89,24 @@ fn a_format_with_every_option(rt: HostRuntime) {
 
 const DRIVE: DriveJob<'static> = DriveJob {
     disk: "d",
-    output: "o",
+    output: Some("o"),
     turn: 65_535,
     rounds: 16,
     events: None,
     seed: None,
     progress: None,
+    from: None,
 };
 
 #[test]
 fn a_drive_with_its_defaults(rt: HostRuntime) {
     expect_job(&rt, &["drive", "d", "--output", "o"], Job::Drive(DRIVE));
-    expect_usage(&rt, &["drive", "d"], "--output");
+    let printed = DriveJob {
+        output: None,
+        ..DRIVE
+    };
+    expect_job(&rt, &["drive", "d"], Job::Drive(printed));
+    expect_usage(&rt, &["drive", "--output", "o"], "<DISK>");
 }
 
 #[test]
@@ -111,6 +117,7 @@ fn a_drive_with_every_option(rt: HostRuntime) {
         events: Some(18_446_744_073_709_551_615),
         seed: Some(7),
         progress: Some(10),
+        from: Some(18_446_744_073_709_551_615),
         ..DRIVE
     };
     expect_job(
@@ -127,9 +134,11 @@ fn a_drive_with_every_option(rt: HostRuntime) {
             "--seed=7",
             "--progress",
             "10",
+            "--from=18446744073709551615",
         ],
         Job::Drive(all),
     );
+    expect_usage(&rt, &["drive", "d", "--from", "x"], "[--from OFFSET]");
     expect_usage(
         &rt,
         &["drive", "d", "--output", "o", "--turn", "x"],
