@@ -1,20 +1,21 @@
 //! The entries of a table of mutexes. Some may be of free normal mutexes, which the table doesn't have: `kept` says
 //! what it has.
 ghost use Rattle.std.specs.Prelude.{◌≡◌, ◌≤◌, length, true};
-ghost use Rattle.ckrt_objects.specs.AddressMap.{has_room, is_rising};
+ghost use Rattle.ckrt_objects.specs.AddressMap.{has_room, is_rising, place_in};
 ghost use Rattle.ckrt_objects.specs.Appended.{Appends, IsTableUpTo};
 ghost use Rattle.ckrt_mutex.specs.Mutex.{mutex_at, put, kept, is_proper, AreEntries, IsTable};
 
 use crate::records::{Kind, Mutex};
 use arrayvec::ArrayVec;
-use ckrt_objects::{Entry, append, get, store};
+use ckrt_objects::{Entry, append, get_near, store_near};
 
-/// The mutex at an address: free and normal where there is no entry.
-pub fn mutex_of(entries: &[Entry<Mutex>], address: u32) -> Mutex
+/// The mutex at an address, free and normal where there is no entry. It is found at once where the address has its entry
+/// at the place `near`.
+pub fn mutex_of(entries: &[Entry<Mutex>], near: usize, address: u32) -> Mutex
     requires { is_rising entries.now ≡ true }
     ensures { result ≡ mutex_at address entries.now }
 {
-    get(entries, address).unwrap_or(Mutex::free(Kind::Normal))
+    get_near(entries, near, address).unwrap_or(Mutex::free(Kind::Normal))
 }
 
 /// The entries without those of free normal mutexes.
@@ -46,16 +47,23 @@ fn make_room(entries: &mut ArrayVec<Entry<Mutex>, 256>, address: u32)
     }
 }
 
-/// The mutex at an address becomes this one.
-pub fn put_entry(entries: &mut ArrayVec<Entry<Mutex>, 256>, address: u32, mutex: Mutex)
+/// The mutex at an address becomes this one, at once where the address has its entry at the place `near`. Answers the
+/// place of its entry.
+pub fn put_entry(
+    entries: &mut ArrayVec<Entry<Mutex>, 256>,
+    near: usize,
+    address: u32,
+    mutex: Mutex,
+) -> usize
     requires entries { AreEntries entries.old.items }
     requires room { has_room 256 address (kept entries.old.items) ≡ true }
     requires proper { is_proper mutex ≡ true }
     ensures entries { AreEntries entries.new.items }
     ensures kept { kept entries.new.items ≡ put address mutex (kept entries.old.items) }
+    ensures place { result ≡ place_in address entries.new.items }
 {
     make_room(entries, address);
-    store(entries, address, mutex);
+    store_near(entries, near, address, mutex)
 }
 
 /// How many entries there are without those of free normal mutexes.

@@ -15,7 +15,7 @@ use crate::entries::{append_entry, kept_count, kept_of, mutex_of, put_entry};
 use crate::records::{Kind, Mutex};
 use arrayvec::ArrayVec;
 use ckrt_objects::{
-    Entry, Named, are_limit_in_use, are_too_few, is_full, is_named_by_wait, remove,
+    Entry, Named, Places, are_limit_in_use, are_too_few, is_full, is_named_by_wait, remove,
 };
 use ckrt_thread::{
     CallResult, EAGAIN, EBUSY, EDEADLK, EINVAL, EPERM, ETIMEDOUT, MOMENT_END, Object, Reason,
@@ -28,10 +28,12 @@ const LIMIT: usize = 256;
 
 /// The mutexes of a program, by their addresses. An address at which no mutex was initialised has a free normal one.
 /// At most 256 are in use: owned, or not normal, or named by a wait. A mutex that becomes free and normal keeps its entry
-/// until the room is needed, so that no other entry moves while it is locked and unlocked.
+/// until the room is needed, so that no other entry moves while it is locked and unlocked; and where the entry was put is
+/// remembered.
 #[derive(Drop)]
 pub struct Mutexes {
     table: ArrayVec<Entry<Mutex>, 256>,
+    places: Places,
 }
 
 impl Model for Mutexes {
@@ -81,6 +83,7 @@ impl Mutexes {
     {
         Mutexes {
             table: ArrayVec::new(),
+            places: Places::new(),
         }
     }
 
@@ -146,7 +149,7 @@ impl Mutexes {
         ensures mutex { result ≡ mutex_at address self.now }
         ensures proper { is_proper result ≡ true }
     {
-        mutex_of(self.table.as_slice(), address)
+        mutex_of(self.table.as_slice(), self.places.near(address), address)
     }
 
     /// Whether the mutex is not in use, and 256 others are.
@@ -173,7 +176,9 @@ impl Mutexes {
         requires proper { is_proper mutex ≡ true }
         ensures { self.new ≡ put address mutex self.old }
     {
-        put_entry(&mut self.table, address, mutex);
+        let near = self.places.near(address);
+        let place = put_entry(&mut self.table, near, address, mutex);
+        self.places.remember(address, place);
     }
 
     /// The mutex at an address is free and normal from now on.

@@ -49,6 +49,20 @@ module _ {T : Type 0} where
       let rest : i ≡ place_in a es → is_entry_of a (slice_get es i) ≡ has_entry a es = entry_at_place a es i (grind (arith, nat_tests)) in
       grind (arith, nat_tests, rest)
 
+  entry_above : (n a : ℕ) (es : List (Entry T)) (i : ℕ) → are_above n es ≡ true → is_entry_of a (slice_get es i) ≡ true → n < a
+  entry_above n a [] i h t = absurd (cc)
+  entry_above n a (x ∷ es) zero h t = grind (arith, nat_tests)
+  entry_above n a (x ∷ es) (suc i) h t = entry_above n a es i (grind (arith, nat_tests)) t
+
+  -- in a rising map every entry is at the place of its address
+  pub entry_is_placed : (a : ℕ) (es : List (Entry T)) (i : ℕ) → is_rising es ≡ true → is_entry_of a (slice_get es i) ≡ true → i ≡ place_in a es
+  entry_is_placed a [] i h t = absurd (cc)
+  entry_is_placed a (x ∷ es) zero h t = grind (arith, nat_tests)
+  entry_is_placed a (x ∷ es) (suc i) h t =
+      let rest = entry_is_placed a es i (grind (arith, nat_tests)) t in
+      let below : x.address < a = entry_above x.address a es i (grind (arith, nat_tests)) t in
+      grind (arith, nat_tests, rest, below)
+
   -- where an entry is, there is a place
   pub entry_within : (a : ℕ) (es : List (Entry T)) (i : ℕ) → is_entry_of a (slice_get es i) ≡ true → i < length es
   entry_within a [] i t = absurd (cc)
@@ -100,6 +114,11 @@ module _ {T : Type 0} where
   stored_new a v (x ∷ es) (suc i) e t =
       let rest : i ≡ place_in a es → insert es i (record { address = a; value = v }) ≡ stored a v es = λ q. stored_new a v es i q t in
       grind (arith, nat_tests, rest)
+
+  -- what is stored has the place that it had
+  pub place_stored : (a : ℕ) (v : T) (es : List (Entry T)) → place_in a (stored a v es) ≡ place_in a es
+  place_stored a v [] = grind (arith, nat_tests)
+  place_stored a v (e ∷ es) = grind (arith, nat_tests, place_stored a v es)
 
   -- the same, written through a slice that was lent
   pub stored_through : (a : ℕ) (v : T) (es shown seen lent : List (Entry T)) (i : ℕ) → shown ≡ es → seen ≡ es → lent ≡ es → i ≡ place_in a shown → is_entry_of a (slice_get seen i) ≡ true

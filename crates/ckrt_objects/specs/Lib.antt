@@ -2,3 +2,4 @@ pub mod AddressMap
 pub mod Appended
 pub mod Granting
 pub mod InUse
+pub mod Places

@@ -1,6 +1,6 @@
 use Rattle.std.proofs.Common.{arith, sym, ◌∙◌}
 use Rattle.ckrt_objects.proofs.AddressMap.{entry_within, lookup_there, lookup_nowhere}
-use Rattle.ckrt_objects.proofs.address_map.get.Goals as goal
+use Rattle.ckrt_objects.proofs.address_map.get_at.Goals as goal
 
 pub bounds-entries-place : goal.bounds-entries-place
 bounds-entries-place g c =
@@ -14,8 +14,8 @@ bounds-entries-place-then-is_entry_at g c =
 
 pub returns-then-is_entry_at : goal.returns-then-is_entry_at
 returns-then-is_entry_at g c =
-    sym (lookup_there c.args.address c.args.entries.now c.place_of-place.result c.index-entries-place.result c.place_of-place.ensures.place (sym c.is_entry_at.ensures ∙ c.if-is_entry_at.true))
+    sym (lookup_there c.args.address c.args.entries.now c.args.place c.index-entries-place.result c.requires.place (sym c.is_entry_at.ensures ∙ c.if-is_entry_at.true))
 
 pub returns-else-is_entry_at : goal.returns-else-is_entry_at
 returns-else-is_entry_at g c =
-    sym (lookup_nowhere c.args.address c.args.entries.now c.place_of-place.result c.requires c.place_of-place.ensures.place (sym c.is_entry_at.ensures ∙ c.if-is_entry_at.false))
+    sym (lookup_nowhere c.args.address c.args.entries.now c.args.place c.requires.rising c.requires.place (sym c.is_entry_at.ensures ∙ c.if-is_entry_at.false))
