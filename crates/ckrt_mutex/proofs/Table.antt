@@ -93,6 +93,12 @@ no_entry_free a ms h = ap (λ o. is_owned (unwrap_or o (free Normal))) (no_looku
 pub owned_entry : (a : ℕ) (ms : List (Entry Mutex)) → is_owned (mutex_at a ms) ≡ true → has_entry a ms ≡ true
 owned_entry a ms o = grind (arith, nat_tests, no_entry_free a ms)
 
+no_entry_plain : (a : ℕ) (ms : List (Entry Mutex)) → has_entry a ms ≡ false → is_plain (mutex_at a ms) ≡ true
+no_entry_plain a ms h = ap (λ o. is_plain (unwrap_or o (free Normal))) (no_lookup a ms h)
+
+pub other_entry : (a : ℕ) (ms : List (Entry Mutex)) → is_plain (mutex_at a ms) ≡ false → has_entry a ms ≡ true
+other_entry a ms p = grind (arith, nat_tests, no_entry_plain a ms)
+
 -- an owned mutex has an entry, and so there is room for what it becomes
 pub room_of_owned : (a t : ℕ) (m : Mutex) (ms : List (Entry Mutex)) → m ≡ mutex_at a ms → is_owner t m ≡ true → has_room 256 a ms ≡ true
 room_of_owned a t m ms e o =

@@ -14,19 +14,23 @@ use Rattle.ckrt_mutex.specs.declared.records.Kind.{Kind}
 use Rattle.ckrt_mutex.specs.declared.records.Mutex.{Mutex}
 use Rattle.ckrt_objects.specs.AddressMap.{has_entry, removed}
 use Rattle.ckrt_objects.specs.InUse.{is_name, names, is_named}
-use Rattle.ckrt_mutex.specs.Mutex.{free, owned, is_owned, is_owner, is_thread, is_proper, mutex_at, put, IsTable}
+use Rattle.ckrt_mutex.specs.Mutex.{free, owned, is_owned, is_owner, is_thread, is_plain, is_proper, mutex_at, put, IsTable}
 use Rattle.ckrt_mutex.specs.Rows.{named, mutex_of, is_used, used_count, is_full}
 use Rattle.ckrt_mutex.specs.WellFormed.{is_lock, is_retake, waits_at_owned, relocks_normal, retakes_of_another, can_retake, can_wake, meets_at, meets, AllMeet, IsWellFormedWith}
 use Rattle.ckrt_objects.proofs.AddressMap.{entry_removed, entry_stored}
 use Rattle.ckrt_objects.proofs.Changes.{not_full, used_not_full, entry_in_use, count_removed, few_appended, count_unnamed, count_among}
 use Rattle.ckrt_objects.proofs.InUse.{any_in_use, few_kept}
 use Rattle.ckrt_objects.proofs.Waits.{either, all_true, IsAmong, any_among, among_without, found_all}
-use Rattle.ckrt_mutex.proofs.Table.{mutex_put, table_put, owned_entry, proper_at, proper_unlocked}
+use Rattle.ckrt_mutex.proofs.Table.{mutex_put, table_put, owned_entry, other_entry, proper_at, proper_unlocked}
 
 -- HOW MANY ARE IN USE
 
 pub owned_not_full : (a : ℕ) (s : State) (ms : List (Entry Mutex)) → is_owned (mutex_at a ms) ≡ true → is_full a s ms ≡ false
 owned_not_full a s ms o = used_not_full named 256 a s.waits ms (entry_in_use named a s.waits ms (owned_entry a ms o))
+
+-- one that isn't free and normal is in use
+pub other_not_full : (a : ℕ) (s : State) (ms : List (Entry Mutex)) → is_plain (mutex_at a ms) ≡ false → is_full a s ms ≡ false
+other_not_full a s ms p = used_not_full named 256 a s.waits ms (entry_in_use named a s.waits ms (other_entry a ms p))
 
 entry_put : (a q : ℕ) (m : Mutex) (es : List (Entry Mutex)) → has_entry q (put a m es) ≡ true → (nat_eq q a || has_entry q es) ≡ true
 entry_put a q m es h = grind (arith, nat_tests, entry_removed a q es, entry_stored a q m es)

@@ -163,6 +163,15 @@ impl Mutexes {
         is_full(threads, kept_of(entries).as_slice(), address, LIMIT)
     }
 
+    /// The same of a mutex that has just been looked up: one that isn't free and normal is in use.
+    #[tactic(auto, using(crate::proofs::WellFormed::other_not_full))]
+    fn has_no_room(&self, threads: &Threads, mutex: Mutex, address: u32) -> bool
+        requires { mutex ≡ mutex_at address self.now }
+        ensures { result ≡ is_full address threads.now self.now }
+    {
+        mutex.is_plain() && self.is_full(threads, address)
+    }
+
     /// Whether the mutex is owned, or named by a wait.
     fn is_busy(&self, threads: &Threads, address: u32) -> bool
         ensures { result ≡ is_busy address threads.now self.now }
@@ -261,7 +270,7 @@ impl Mutexes {
         ensures result { result ≡ (taken mutex thread address threads.now self.old).result }
         ensures mutexes { self.new ≡ (taken mutex thread address threads.now self.old).mutexes }
     {
-        if mutex.count >= 65535 || self.is_full(threads, address) {
+        if mutex.count >= 65535 || self.has_no_room(threads, mutex, address) {
             return CallResult::Done(EAGAIN);
         }
         self.known();

@@ -5,4 +5,4 @@ use Rattle.ckrt_mutex.proofs.mutexes.Mutexes.take.Goals as goal
 
 pub put-requires-clause-room : goal.put-requires-clause-room
 put-requires-clause-room c =
-    room_of_not_full named 256 c.args.address c.args.threads.now.waits c.args.self.now c.known.ensures.table.rising c.requires.few (sym c.is_full.ensures ∙ c.if-is_full.false)
+    room_of_not_full named 256 c.args.address c.args.threads.now.waits c.args.self.now c.known.ensures.table.rising c.requires.few (sym c.has_no_room.ensures ∙ c.if-has_no_room.false)
