@@ -6,12 +6,12 @@ use Rattle.ckrt_thread.specs.State.{State}
 use Rattle.ckrt_objects.specs.declared.address_map.Entry.{Entry}
 use Rattle.ckrt_mutex.specs.declared.records.Kind.TheVariants.{Normal}
 use Rattle.ckrt_mutex.specs.declared.records.Mutex.{Mutex}
-use Rattle.ckrt_objects.specs.AddressMap.{is_at, lookup, removed, stored, are_above, is_rising}
+use Rattle.ckrt_objects.specs.AddressMap.{is_at, lookup, removed, stored, are_above, is_rising, has_room}
 use Rattle.ckrt_mutex.specs.Mutex.{free, is_plain, is_proper, mutex_at, put, is_kept, kept, AreEntries, IsTable}
 use Rattle.ckrt_mutex.specs.Rows.{named, used_count, is_full}
 use Rattle.ckrt_objects.proofs.AddressMap.{above_no_entry, above_weaker, no_lookup, not_removed, rising_removed, rising_stored, all_removed, all_stored}
 use Rattle.ckrt_objects.proofs.Parts.{above_part, rising_part, all_part, part_all, part_twice, no_entry_part, removed_part, count_part}
-use Rattle.ckrt_mutex.proofs.Table.{plain_is}
+use Rattle.ckrt_mutex.proofs.Table.{plain_is, other_entry}
 
 -- WHAT IS KEPT
 
@@ -153,3 +153,7 @@ count_kept s es = count_part is_kept named s.waits es
 
 pub not_full_kept : (a : ℕ) (s : State) (es : List (Entry Mutex)) → used_count s es < 256 → is_full a s (kept es) ≡ false
 not_full_kept a s es h = grind (arith, nat_tests, count_kept s es, h)
+
+-- an entry of the address itself is room for it
+pub room_for_entry : (n a : ℕ) (es : List (Entry Mutex)) → is_plain (mutex_at a es) ≡ false → has_room n a es ≡ true
+room_for_entry n a es p = grind (arith, nat_tests, other_entry a es)

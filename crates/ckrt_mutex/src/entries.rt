@@ -32,16 +32,17 @@ pub fn kept_of(entries: &[Entry<Mutex>]) -> ArrayVec<Entry<Mutex>, 256>
     left
 }
 
-/// Where the room is used up, the entries of free normal mutexes go. Then there is room for an entry of the address.
-#[tactic(auto, using(crate::proofs::Kept::kept_twice, crate::proofs::Kept::entries_kept))]
-fn make_room(entries: &mut ArrayVec<Entry<Mutex>, 256>, address: u32)
+/// Where the room is used up, the entries of free normal mutexes go, unless the mutex at the address is another: that has an
+/// entry. Then there is room for an entry of the address.
+#[tactic(auto, using(crate::proofs::Kept::kept_twice, crate::proofs::Kept::entries_kept, crate::proofs::Kept::room_for_entry))]
+fn make_room(entries: &mut ArrayVec<Entry<Mutex>, 256>, near: usize, address: u32)
     requires entries { AreEntries entries.old.items }
     requires room { has_room 256 address (kept entries.old.items) ≡ true }
     ensures entries { AreEntries entries.new.items }
     ensures room { has_room 256 address entries.new.items ≡ true }
     ensures kept { kept entries.new.items ≡ kept entries.old.items }
 {
-    if entries.is_full() {
+    if entries.is_full() && mutex_of(entries.as_slice(), near, address).is_plain() {
         let left = kept_of(entries.as_slice());
         *entries = left;
     }
@@ -62,7 +63,7 @@ pub fn put_entry(
     ensures kept { kept entries.new.items ≡ put address mutex (kept entries.old.items) }
     ensures place { result ≡ place_in address entries.new.items }
 {
-    make_room(entries, address);
+    make_room(entries, near, address);
     store_near(entries, near, address, mutex)
 }
 
