@@ -218,6 +218,26 @@ def drawn_stores(base, masks):
     return program.image()
 
 
+def putting(seed, count, between):
+    """Puts so many bytes (2^32, if none), each the least of the generator's next number, with so many rounds of two steps before each."""
+    program = Program()
+    program.constant(5, seed)
+    program.constant(8, count)
+    program.label("round")
+    program.constant(7, between)
+    program.label("between")
+    program.addi(7, 7, -1)
+    program.bne(7, 0, "between")
+    draw(program)
+    program.addi(10, 5, 0)
+    program.call(2)
+    program.addi(8, 8, -1)
+    program.bne(8, 0, "round")
+    program.addi(10, 0, 0)
+    program.call(1)
+    return program.image()
+
+
 def scattered_stores():
     return drawn_stores(0x10000, (0x1FFFFC, 0xFFFFC))
 
