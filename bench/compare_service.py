@@ -3,7 +3,8 @@
 Commits: lines with one event of seven bytes and a `commit`, all handed in at once; the time from one `ack` to a later one,
 for each commit between them, beside the median of the same four calls in plain Rust. Steps: a guest in Runs of 65,535 steps
 with a commit after every 100, from the first line to the end of the process, beside the machine alone: once with lines from
-a file and replies to one, and once through pipes, where whoever reads the replies is on the same machine. Recovery: a disk
+a file and replies to one, and once through pipes, where whoever reads the replies is on the same machine; by the clock, and by
+processor time, since a service sleeps in each sync and gets a processor back when others leave it one. Recovery: a disk
 of 256 pages whose journal of 65,536 bytes is full of the guest's Runs, from the start of the process to its end, beside
 reading the disk's bytes and the machine alone with the same Runs. Memory: the resident size of `ckrt run` on a disk of 1,024
 pages, that of the process alone and that with its program and the C library.
@@ -15,6 +16,7 @@ import subprocess
 import sys
 import time
 
+from processes import Spent, timed
 from results import note
 
 ROUNDS = 30
@@ -86,44 +88,44 @@ def commits(plain, ckrt, image, folder):
 
 
 def piped(command, lines, _folder):
-    """The replies to lines that come through a pipe, and go through one to a reader that takes each as it comes; and the seconds."""
-    start = time.perf_counter()
-    replies = run(command, lines)[0]
-    return replies, time.perf_counter() - start
+    """The replies to lines that come through a pipe, and go through one to a reader that takes each as it comes; and what it took."""
+    done, spent = timed(command, input=lines, capture_output=True, text=True)
+    return done.stdout, spent
 
 
 def from_file(command, lines, folder):
-    """The replies, in a file, to lines from a file; and the seconds."""
+    """The replies, in a file, to lines from a file; and what it took."""
     asked, answered = os.path.join(folder, "service.lines"), os.path.join(folder, "service.replies")
     with open(asked, "w", encoding="ascii") as file:
         file.write(lines)
     with open(asked, "rb") as source, open(answered, "wb") as target:
-        start = time.perf_counter()
-        subprocess.run(command, stdin=source, stdout=target, check=True)
-        seconds = time.perf_counter() - start
+        spent = timed(command, stdin=source, stdout=target)[1]
     with open(answered, encoding="ascii") as file:
         replies = file.read()
     os.remove(asked)
     os.remove(answered)
-    return replies, seconds
+    return replies, spent
 
 
-def service_rate(ckrt, path, image, runs, feed):
+def rates(count, spent):
+    """So many steps, by each kind of second."""
+    return Spent(*(count / seconds for seconds in spent))
+
+
+def service_rates(ckrt, path, image, runs, feed):
     """The steps a second of a guest through the program, whose lines are fed so."""
     format_disk(ckrt, path, image, 64)
     lines = "place 0 1\n" + ("run 0 65535\n" * 100 + "commit\n") * (runs // 100 + 1)
-    replies, seconds = feed([ckrt, "run", path], lines, os.path.dirname(path))
+    replies, spent = feed([ckrt, "run", path], lines, os.path.dirname(path))
     os.remove(path)
-    return sum(int(m) for m in re.findall(r"ran (\d+)", replies)) / seconds
+    return rates(sum(int(m) for m in re.findall(r"ran (\d+)", replies)), spent)
 
 
-def machine_rate(machine, image):
-    """The steps a second of the same guest on the machine alone, from the start of the process to its end."""
-    start = time.perf_counter()
-    said = run([machine, "run", image, "64", "1", "65535"])[1]
-    seconds = time.perf_counter() - start
-    steps = int(re.search(r"steps (\d+)", said)[1])
-    return steps, steps / seconds
+def machine_rates(machine, image):
+    """The steps of the same guest on the machine alone, and how many a second, from the start of the process to its end."""
+    done, spent = timed([machine, "run", image, "64", "1", "65535"], capture_output=True, text=True)
+    steps = int(re.search(r"steps (\d+)", done.stderr)[1])
+    return steps, rates(steps, spent)
 
 
 def steps(ckrt, machine, image, folder):
@@ -131,18 +133,21 @@ def steps(ckrt, machine, image, folder):
     feeds = {"lines from a file": from_file, "lines through pipes": piped}
     ours, base = {name: [] for name in feeds}, []
     for _ in range(STEP_ROUNDS):
-        count, rate = machine_rate(machine, image)
-        base.append(rate)
+        count, alone = machine_rates(machine, image)
+        base.append(alone)
         for name, feed in feeds.items():
-            ours[name].append(service_rate(ckrt, disk, image, count // 65_535, feed))
-    print(f"steps: machine alone {statistics.median(base) / 1e6:.0f} million a second")
-    for name, rates in ours.items():
-        print(f"steps, {name}: ckrt run {statistics.median(rates) / 1e6:.0f} million a second, {noted('steps, ' + name, 'steps/s', rates, base)}")
+            ours[name].append(service_rates(ckrt, disk, image, count // 65_535, feed))
+    for name, through in ours.items():
+        for part in Spent._fields:
+            mine, alone = ([getattr(it, part) for it in rounds] for rounds in (through, base))
+            what = f"steps, {name}" + (", processor time" if part == "processor" else "")
+            print(f"{what}: machine alone {statistics.median(alone) / 1e6:.0f} million a second, "
+                  f"ckrt run {statistics.median(mine) / 1e6:.0f}, {noted(what, 'steps/s', mine, alone)}")
 
 
 def recovery(ckrt, machine, image, folder):
     disk = os.path.join(folder, "service.disk")
-    count = machine_rate(machine, image)[0]
+    count = machine_rates(machine, image)[0]
     most = -(-count // (RUNS * BATCHES - 1))
     format_disk(ckrt, disk, image, 256, 65_536)
     run([ckrt, "run", disk], "place 0 1\n" + (f"run 0 {most}\n" * (RUNS - 1) + "commit\n") * BATCHES)

@@ -238,6 +238,30 @@ def putting(seed, count, between):
     return program.image()
 
 
+def sleeping(waits, ticks):
+    """Sleeps so often for so many ticks, and then ends."""
+    program = Program()
+    program.constant(5, ticks & 0xFFFFFFFF)
+    program.addi(6, 0, ticks >> 32)
+    program.addi(8, 0, waits)
+    # x18 and x19 are the moment of the last sleep's end
+    program.addi(18, 0, 0)
+    program.addi(19, 0, 0)
+    program.label("wait")
+    program.add(18, 18, 5)
+    program.register(0, 3, 7, 18, 5)
+    program.add(19, 19, 6)
+    program.add(19, 19, 7)
+    program.add(10, 18, 0)
+    program.add(11, 19, 0)
+    program.call(5)
+    program.addi(8, 8, -1)
+    program.bne(8, 0, "wait")
+    program.addi(10, 0, 0)
+    program.call(1)
+    return program.image()
+
+
 def scattered_stores():
     return drawn_stores(0x10000, (0x1FFFFC, 0xFFFFC))
 

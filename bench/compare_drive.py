@@ -1,0 +1,128 @@
+"""Measures `ckrt drive` on a disk in a file, alternating with the machine alone, and prints ratios.
+
+Words: `ckrt`, `ckrt_probe`, the folder of the guests, the folder of the disks, and jobs (all, if none is named).
+
+steps: guests driven to their ends with the defaults of a drive, commits and checkpoints and an output file included, on a disk of 64
+pages, beside the machine alone with Runs of as many steps; whole processes, by the clock and by processor time. A drive sleeps while the
+disk syncs, the machine alone never does: where other programs want the processors, the clock tells how soon a sleeper gets one again, so the
+processor time is what compares. instructions: what a step more costs each of them in host instructions, which callgrind counts: a guest of
+two lengths, so that what a process does once drops out. waits: a guest that sleeps 100 times for a year of ticks, the whole process, for each wait.
+"""
+import os
+import re
+import statistics
+import subprocess
+import sys
+
+from make_guests import putting, sleeping
+from processes import timed
+from results import note
+
+GUESTS = ("nqueens-big", "pi-big", "primes-big", "sha256-big")
+ROUNDS, WAIT_ROUNDS, WAITS = 9, 31, 100
+YEAR = 365 * 86_400 * 1_000
+# Bytes that a guest puts, and rounds of two steps before each: some 4 and 8 million steps, with 4 and 8 commits.
+PUT, BETWEEN = 20, (100_000, 200_000)
+JOURNAL = 1_048_576
+
+
+class Bench:
+    def __init__(self, ckrt, probe, guests, folder):
+        self.ckrt, self.probe, self.guests = ckrt, probe, guests
+        self.disk, self.output, self.image = (os.path.join(folder, f"drive.{it}") for it in ("disk", "output", "image"))
+
+    def remove(self):
+        for file in (self.disk, self.output, self.image):
+            if os.path.exists(file):
+                os.remove(file)
+
+    def make_disk(self, image):
+        for file in (self.disk, self.output):
+            if os.path.exists(file):
+                os.remove(file)
+        subprocess.run([self.ckrt, "format", self.disk, image, "--journal", str(JOURNAL)], check=True, stdout=subprocess.DEVNULL)
+        with open(self.disk, "rb") as file:
+            os.fsync(file.fileno())
+
+    def drive_words(self):
+        return [self.ckrt, "drive", self.disk, "--output", self.output]
+
+    def machine_words(self, image):
+        return [self.probe, "run", image, "64", "1", "65535"]
+
+    def driven(self, image):
+        """What a whole drive took, and what it put."""
+        self.make_disk(image)
+        spent = timed(self.drive_words(), stderr=subprocess.DEVNULL)[1]
+        with open(self.output, "rb") as file:
+            return spent, file.read()
+
+    def machine(self, image):
+        """What the machine alone took, what it put and how many steps it made."""
+        done, spent = timed(self.machine_words(image), capture_output=True)
+        return spent, done.stdout, int(re.search(rb"steps (\d+)", done.stderr)[1])
+
+    def steps(self):
+        for name in GUESTS:
+            image, ours, base = os.path.join(self.guests, name + ".bin"), [], []
+            for turn in range(ROUNDS):
+                if turn % 2 == 0:
+                    mine, put = self.driven(image)
+                alone, console, count = self.machine(image)
+                if turn % 2 == 1:
+                    mine, put = self.driven(image)
+                if put != console:
+                    sys.exit(f"{name}: the outputs differ")
+                ours.append(mine)
+                base.append(alone)
+            for part in ("processor", "clock"):
+                rates = [[count / getattr(it, part) for it in spent] for spent in (ours, base)]
+                self.report(f"steps, {name}, {part}", rates, "steps/s")
+
+    def count(self, words):
+        """The host instructions of a process."""
+        callgrind = ["valgrind", "--tool=callgrind", "--callgrind-out-file=/dev/null", *words]
+        said = subprocess.run(callgrind, check=True, capture_output=True, text=True).stderr
+        return int(re.search(r"Collected : (\d+)", said)[1])
+
+    def instructions(self):
+        counts = []
+        for between in BETWEEN:
+            with open(self.image, "wb") as file:
+                file.write(putting(1, PUT, between))
+            self.make_disk(self.image)
+            counts.append((self.count(self.drive_words()), self.count(self.machine_words(self.image)), self.machine(self.image)[2]))
+        ours, base, steps = (more - few for few, more in zip(*counts))
+        note("drive", "host instructions of a step more", "instructions", ours / steps, base / steps, ("", base / ours, ""))
+        print(f"a step more: machine alone {base / steps:.2f} host instructions, ckrt drive {ours / steps:.2f}, ratio {base / ours:.3f}")
+
+    def waits(self):
+        with open(self.image, "wb") as file:
+            file.write(sleeping(WAITS, YEAR))
+        times = [self.driven(self.image)[0].clock / WAITS for _ in range(WAIT_ROUNDS)]
+        low, middle, high = statistics.quantiles(times, n=4)
+        note("drive", "a wait of a year", "s", middle)
+        print(f"a wait of a year: {middle * 1e6:.0f} us ({low * 1e6:.0f} to {high * 1e6:.0f})")
+
+    def report(self, what, rates, unit):
+        """Prints the medians, and the median of the rounds' ratios with its quartiles, and notes them."""
+        ours, base = rates
+        low, middle, high = statistics.quantiles([mine / alone for mine, alone in zip(ours, base)], n=4)
+        note("drive", what, unit, statistics.median(ours), statistics.median(base), (low, middle, high))
+        print(f"{what}: machine alone {statistics.median(base) / 1e6:.0f} million a second, ckrt drive {statistics.median(ours) / 1e6:.0f}, "
+              f"ratio {middle:.3f} ({low:.3f} to {high:.3f})", flush=True)
+
+
+JOBS = {"steps": Bench.steps, "instructions": Bench.instructions, "waits": Bench.waits}
+
+
+def main():
+    bench = Bench(*sys.argv[1:5])
+    try:
+        for job in sys.argv[5:] or JOBS:
+            JOBS[job](bench)
+    finally:
+        bench.remove()
+
+
+main()
