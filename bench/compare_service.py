@@ -4,7 +4,8 @@ Commits: lines with one event of seven bytes and a `commit`, all handed in at on
 for each commit between them, beside the median of the same four calls in plain Rust. Steps: a guest in Runs of 65,535 steps
 with a commit after every 100, from the first line to the end of the process, beside the machine alone: once with lines from
 a file and replies to one, and once through pipes, where whoever reads the replies is on the same machine; by the clock, and by
-processor time, since a service sleeps in each sync and gets a processor back when others leave it one. Recovery: a disk
+processor time, since a service sleeps in each sync and gets a processor back when others leave it one. Syncs: a plain loop in
+batches of as long, with the four calls of a commit behind each, beside the same loop without. Recovery: a disk
 of 256 pages whose journal of 65,536 bytes is full of the guest's Runs, from the start of the process to its end, beside
 reading the disk's bytes and the machine alone with the same Runs. Memory: the resident size of `ckrt run` on a disk of 1,024
 pages, that of the process alone and that with its program and the C library.
@@ -27,6 +28,8 @@ WARM_UP = 5
 JOURNAL = 1_048_576
 # Runs in a batch, and batches in a journal of 65,536 bytes: a Run has 4 bytes, and a batch 3 more.
 RUNS, BATCHES = 1_000, 16
+# Batches of a plain loop, and the seconds of processor time of each: what a hundred Runs take on the machine.
+BATCHES_TIMED, BATCH_SECONDS = 60, 0.0155
 GUEST = "nqueens-big"
 
 
@@ -145,6 +148,32 @@ def steps(ckrt, machine, image, folder):
                   f"ckrt run {statistics.median(mine) / 1e6:.0f}, {noted(what, 'steps/s', mine, alone)}")
 
 
+def batch_words(batches, folder):
+    """The file of a plain loop, and how many rounds of it take as long as a hundred Runs."""
+    file, rounds = os.path.join(folder, "service.batches"), 1_000_000
+    with open(file, "wb") as it:
+        it.write(bytes(JOURNAL))
+        it.flush()
+        os.fsync(it.fileno())
+    spent = timed([batches, "alone", file, str(rounds), str(BATCHES_TIMED)], stdout=subprocess.DEVNULL)[1]
+    return file, str(int(rounds * BATCH_SECONDS * BATCHES_TIMED / spent.processor))
+
+
+def syncs(batches, folder):
+    """What the four calls of a commit behind each batch cost a plain loop."""
+    file, rounds = batch_words(batches, folder)
+    times = {job: [] for job in ("alone", "synced")}
+    for turn in range(STEP_ROUNDS):
+        for job in sorted(times, reverse=turn % 2 == 1):
+            times[job].append(timed([batches, job, file, rounds, str(BATCHES_TIMED)], stdout=subprocess.DEVNULL)[1])
+    os.remove(file)
+    for part in Spent._fields:
+        rate = {job: [BATCHES_TIMED / getattr(it, part) for it in spent] for job, spent in times.items()}
+        what = "plain batches with a commit's calls" + (", processor time" if part == "processor" else "")
+        print(f"{what}: without {statistics.median(rate['alone']):.1f} a second, with {statistics.median(rate['synced']):.1f}, "
+              f"{noted(what, 'batches/s', rate['synced'], rate['alone'])}")
+
+
 def recovery(ckrt, machine, image, folder):
     disk = os.path.join(folder, "service.disk")
     count = machine_rates(machine, image)[0]
@@ -181,10 +210,11 @@ def resident(ckrt, path, image, pages):
 
 
 def main():
-    plain, ckrt, machine, guests, folder = sys.argv[1:6]
+    plain, batches, ckrt, machine, guests, folder = sys.argv[1:7]
     image = os.path.join(guests, GUEST + ".bin")
     commits(plain, ckrt, image, folder)
     steps(ckrt, machine, image, folder)
+    syncs(batches, folder)
     recovery(ckrt, machine, image, folder)
     disk = os.path.join(folder, "service.disk")
     alone, mapped = resident(ckrt, disk, image, 1_024)
