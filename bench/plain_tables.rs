@@ -1,4 +1,4 @@
-//! Saved tables in plain safe Rust: what `ckrt_probe save` is measured against. The word's meaning, the tables and the work
+//! Saved tables, in version 2, in plain safe Rust: what `ckrt_probe save` is measured against. The word's meaning, the tables and the work
 //! are the same: all room is taken first, each row is read and goes onto its table where that may go on so, the whole is
 //! tested, written again and compared. Tables are arrays, that of mutexes keeps those that became free until the room is
 //! needed, objects are found by halving, and whether a thread waits is looked up.
@@ -12,6 +12,8 @@ const INPUT_LIMIT: usize = 4_096;
 const HELD_LIMIT: usize = 16_384;
 const TABLES_ROOM: usize = 98_304;
 const ENDED: u8 = 64;
+const KEYS: usize = 32;
+const ROUNDS: u8 = 4;
 
 #[derive(Clone, Copy)]
 struct Few<T: Copy, const N: usize> {
@@ -45,6 +47,13 @@ struct Handler {
 }
 
 #[derive(Clone, Copy)]
+struct Values {
+    values: [u32; KEYS],
+    round: u8,
+    next_key: u8,
+}
+
+#[derive(Clone, Copy)]
 struct Live {
     pc: u32,
     registers: [u32; 32],
@@ -55,6 +64,7 @@ struct Live {
     is_requested: bool,
     unwinding: Option<u32>,
     handlers: Few<Handler, 16>,
+    specific: Values,
 }
 
 #[derive(Clone, Copy)]
@@ -90,12 +100,18 @@ struct Wait {
     deadline: Option<u64>,
 }
 
+struct Keys {
+    is_on: bool,
+    destructors: [Option<u32>; KEYS],
+}
+
 struct Threads {
     slots: Vec<Option<Thread>>,
     waits: Few<Wait, 64>,
     is_waiting: [bool; 256],
     harts: [Option<u8>; 8],
     hart_count: usize,
+    keys: Keys,
 }
 
 #[derive(Clone, Copy)]
@@ -155,6 +171,7 @@ impl Tables {
                 is_waiting: [false; 256],
                 harts: [None; 8],
                 hart_count: harts,
+                keys: Keys { is_on: true, destructors: [Some(0); KEYS] },
             },
             mutexes: Few::new(Entry { address: 0, value: FREE }),
             barriers: Few::new(Entry { address: 0, value: 0 }),
@@ -299,7 +316,10 @@ impl Threads {
             let is_initial = |slot: &Option<Thread>| matches!(slot, Some(Thread::Live(live)) if live.is_initial);
             let unwinds_rightly = live.unwinding.is_none() || (!live.is_enabled && !live.is_asynchronous);
             let is_aligned = live.pc % 4 == 0 && live.handlers.all().iter().all(|handler| handler.routine % 4 == 0);
-            if !is_aligned || !unwinds_rightly || (live.is_initial && self.slots.iter().any(is_initial)) {
+            let values = &live.specific;
+            let is_in_round = if values.round == 0 { values.next_key == 0 } else { live.unwinding.is_some() };
+            let is_round = is_in_round && values.round <= ROUNDS && usize::from(values.next_key) <= KEYS;
+            if !is_aligned || !unwinds_rightly || !is_round || (live.is_initial && self.slots.iter().any(is_initial)) {
                 return false;
             }
         }
@@ -322,6 +342,17 @@ impl Threads {
             _ => wait.deadline.is_none(),
         };
         is_possible && is_timed
+    }
+
+    fn set_keys(&mut self, keys: Keys) {
+        let is_of_keys = |values: &Values| values.values.iter().zip(&keys.destructors).all(|(value, key)| *value == 0 || key.is_some());
+        let is_proper = |slot: &Thread| match slot {
+            Thread::Live(live) => is_of_keys(&live.specific),
+            Thread::Ended(_) => true,
+        };
+        if self.slots.iter().flatten().all(is_proper) {
+            self.keys = keys;
+        }
     }
 
     fn append_wait(&mut self, wait: Wait) -> bool {
@@ -448,6 +479,34 @@ impl<'a> Cursor<'a> {
     }
 }
 
+/// Keys with their words; what has no place is left out.
+fn read_key_words(cursor: &mut Cursor, count: u8, mut take: impl FnMut(usize, u32)) {
+    for _ in 0..count {
+        let (key, word) = (cursor.word() as usize, cursor.word());
+        if key < KEYS {
+            take(key, word);
+        }
+    }
+}
+
+fn read_values(cursor: &mut Cursor) -> Values {
+    let [round, next_key, count, _] = cursor.array();
+    let mut values = [0; KEYS];
+    read_key_words(cursor, count, |key, value| values[key] = value);
+    Values { values, round, next_key }
+}
+
+fn read_keys(cursor: &mut Cursor) -> Keys {
+    let (is_on, count) = (cursor.byte() == 1, cursor.byte());
+    let mut destructors = [None; KEYS];
+    read_key_words(cursor, count, |key, destructor| destructors[key] = Some(destructor));
+    let is_aligned = destructors.iter().flatten().all(|destructor| destructor % 4 == 0);
+    if !is_aligned || (!is_on && destructors.iter().any(Option::is_some)) {
+        return Keys { is_on: true, destructors: [None; KEYS] };
+    }
+    Keys { is_on, destructors }
+}
+
 fn read_thread(cursor: &mut Cursor) -> (u8, Thread) {
     let [id, flags, count, _] = cursor.array();
     let value = cursor.word();
@@ -460,6 +519,7 @@ fn read_thread(cursor: &mut Cursor) -> (u8, Thread) {
     for _ in 0..count {
         handlers.push(Handler { routine: cursor.word(), argument: cursor.word() });
     }
+    let specific = read_values(cursor);
     if flags == ENDED {
         return (id, Thread::Ended(value));
     }
@@ -475,6 +535,7 @@ fn read_thread(cursor: &mut Cursor) -> (u8, Thread) {
         is_requested: is(16),
         unwinding,
         handlers,
+        specific,
     };
     (id, Thread::Live(live))
 }
@@ -564,6 +625,7 @@ fn decode(bytes: &[u8], harts: usize) -> Option<(Tables, VecDeque<u8>)> {
     tables.status = read_status(&mut cursor);
     read_threads(&mut cursor, &mut tables.threads);
     read_objects(&mut cursor, &mut tables);
+    tables.threads.set_keys(read_keys(&mut cursor));
     tables.input.extend(cursor.queue(INPUT_LIMIT));
     held.extend(cursor.queue(HELD_LIMIT));
     if !is_well_formed(&tables) {
@@ -601,7 +663,7 @@ fn put_thread(writer: &mut Writer, id: u8, thread: &Thread) {
         Thread::Ended(value) => {
             writer.put(&[id, ENDED, 0, 0]);
             writer.put(&value.to_le_bytes());
-            writer.put(&[0; 128]);
+            writer.put(&[0; 132]);
             return;
         }
     };
@@ -616,6 +678,26 @@ fn put_thread(writer: &mut Writer, id: u8, thread: &Thread) {
     for handler in live.handlers.all() {
         writer.put(&handler.routine.to_le_bytes());
         writer.put(&handler.argument.to_le_bytes());
+    }
+    put_values(writer, &live.specific);
+}
+
+fn put_values(writer: &mut Writer, specific: &Values) {
+    let values = specific.values.iter().enumerate().filter(|(_, value)| **value != 0);
+    writer.put(&[specific.round, specific.next_key, values.clone().count() as u8, 0]);
+    for (key, value) in values {
+        writer.put(&(key as u32).to_le_bytes());
+        writer.put(&value.to_le_bytes());
+    }
+}
+
+fn put_keys(writer: &mut Writer, keys: &Keys) {
+    writer.put(&[u8::from(keys.is_on), keys.destructors.iter().flatten().count() as u8]);
+    for (key, destructor) in keys.destructors.iter().enumerate() {
+        if let Some(destructor) = destructor {
+            writer.put(&(key as u32).to_le_bytes());
+            writer.put(&destructor.to_le_bytes());
+        }
     }
 }
 
@@ -691,6 +773,7 @@ fn encode(tables: &Tables, held: &VecDeque<u8>, out: &mut [u8]) -> usize {
     writer.put(&word.to_le_bytes());
     put_threads(&mut writer, &tables.threads);
     put_objects(&mut writer, tables);
+    put_keys(&mut writer, &tables.threads.keys);
     writer.queue(&tables.input);
     writer.queue(held);
     writer.end

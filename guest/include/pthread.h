@@ -7,8 +7,7 @@
  *
  * A call that can fail answers 0 or an error number of <errno.h>, and never EINTR: a guest has no signals.
  * What a guest can't have isn't declared: signals, priorities and scheduling, processes, robust, priority-inheriting
- * and process-shared objects, spin locks, timed read-write locks, thread-specific data by keys (`_Thread_local`
- * variables are each thread's own).
+ * and process-shared objects, spin locks, timed read-write locks.
  */
 #ifndef GUEST_PTHREAD_H
 #define GUEST_PTHREAD_H
@@ -50,7 +49,8 @@ int pthread_join(pthread_t id, void **value);
 /* The stack is freed when the thread ends. ESRCH: no such thread. EINVAL: detached, or another thread joins it. */
 int pthread_detach(pthread_t id);
 
-/* Runs the clean-up handlers, newest first, and ends the thread. The last thread that ends calls exit(0). */
+/* Runs the clean-up handlers, newest first, and the destructors of the thread's values, and ends the thread. The last thread
+   that ends calls exit(0). */
 void pthread_exit(void *value) __attribute__((noreturn));
 
 pthread_t pthread_self(void);
@@ -96,6 +96,25 @@ void pthread_testcancel(void);
 
 void __guest_cleanup_push(void (*routine)(void *), void *argument);
 void __guest_cleanup_pop(int execute);
+
+/* --- Thread-specific data ----------------------------------------------------------------------------------------- */
+
+/*
+ * A value for each thread under each key, NULL at first. (`_Thread_local` variables are each thread's own too, without a
+ * call.) Where a thread ends that has values other than NULL under keys with a destructor, each is set to NULL and given
+ * to its destructor, by rising key; where these have set values again, once more, in PTHREAD_DESTRUCTOR_ITERATIONS rounds
+ * at most. At the end of the process no destructor runs.
+ * On a disk of an older version, whose program has no keys, pthread_key_create answers ENOSYS.
+ */
+typedef unsigned int pthread_key_t;
+
+#define PTHREAD_KEYS_MAX 32
+#define PTHREAD_DESTRUCTOR_ITERATIONS 4
+
+int pthread_key_create(pthread_key_t *key, void (*destructor)(void *));                /* EAGAIN: 32 keys are there */
+int pthread_key_delete(pthread_key_t key);                   /* EINVAL: no such key; no destructor runs */
+int pthread_setspecific(pthread_key_t key, const void *value);                         /* EINVAL: no such key */
+void *pthread_getspecific(pthread_key_t key);                /* NULL also where there is no such key */
 
 /* --- Mutexes ------------------------------------------------------------------------------------------------------ */
 

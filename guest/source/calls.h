@@ -41,6 +41,10 @@
 #define CALL_SETCANCELTYPE 63
 #define CALL_CLEANUP_PUSH 64
 #define CALL_CLEANUP_POP 65
+#define CALL_KEY_CREATE 70
+#define CALL_KEY_DELETE 71
+#define CALL_SETSPECIFIC 72
+#define CALL_GETSPECIFIC 73
 
 /* A thread that returns here while it unwinds goes to its next handler, or ends where none is left. */
 #define UNWINDING_GATE 0xFFFFFFF4

@@ -17,6 +17,9 @@ struct thread {
     void *locals; /* x4 while the thread runs */
     bool is_detached;
     bool has_left; /* it never touches its memory again */
+    bool has_destroyed; /* the round of destructors that it is in has called one */
+    unsigned char rounds; /* of destructors, that are over */
+    unsigned char next_key; /* with which the round goes on */
 };
 
 /* The size of thread-local variables and their alignment, as addresses of these symbols. */
@@ -27,6 +30,9 @@ void __guest_set_locals(void *locals);
 
 /* The clean-up handler of every thread that runs last. */
 void __guest_thread_end(void *thread);
+
+/* Calls the destructors of a thread's values, in rounds. */
+void __guest_run_destructors(struct thread *thread);
 
 /* Makes the lock of the table of threads, and gives the first thread its last handler, as every other thread has it. */
 void __guest_enter_first_thread(void);

@@ -5,13 +5,15 @@
     .section .text.__guest_thread_end, "ax", @progbits
     .globl __guest_thread_end
 
-# The clean-up handler that runs last, with the thread's record in x10. The thread unwinds, so no request is acted on.
+# The clean-up handler that runs last, with the thread's record in x10. The thread unwinds, so no request is acted on. First
+# come the destructors of its values.
 #
 # A detached thread frees the memory that it stands on. So it first goes over to the spare stack (and to the first
 # thread's thread-local variables, which are never freed). One thread at a time stands there, the one that holds the
 # lock; and from the unlock on it touches no memory: what is left is done in registers.
 __guest_thread_end:
     mv      s0, a0
+    call    __guest_run_destructors
     la      s1, __guest_threads_lock
     mv      a0, s1
     li      a7, CALL_MUTEX_LOCK

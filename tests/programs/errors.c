@@ -88,5 +88,8 @@ int main(void) {
     printf("the wait for one is %s\n", is_serial ? "serial" : "not serial");
     say("no such state", pthread_setcancelstate(99, NULL));
     say("no such type", pthread_setcanceltype(99, NULL));
+    say("value under no key", pthread_setspecific(9999, &normal));
+    printf("there is %s\n", pthread_getspecific(9999) ? "one" : "none");
+    say("delete no key", pthread_key_delete(9999));
     return 0;
 }

@@ -15,6 +15,7 @@ use Rattle.ckrt_calls.proofs.KeptConditions.{kept_condition}
 use Rattle.ckrt_calls.proofs.KeptBarriers.{kept_barrier}
 use Rattle.ckrt_calls.proofs.KeptRwLocks.{kept_rwlock}
 use Rattle.ckrt_calls.proofs.KeptCancellation.{kept_cancellation}
+use Rattle.ckrt_calls.proofs.KeptKeys.{kept_key}
 use Rattle.ckrt_calls.proofs.KeptInput.{kept_process}
 pub use Rattle.ckrt_calls.specs.WellFormed.{MayCall}
 pub use Rattle.ckrt_calls.proofs.KeptEnds.{well_formed_change, well_formed_fault, well_formed_exited, well_formed_acted, well_formed_unwound, well_formed_begun}
@@ -27,6 +28,7 @@ kept_row (call.Condition c) t r s m = kept_condition c t r s m
 kept_row (call.Barrier c) t r s m = kept_barrier c t r s m
 kept_row (call.RwLock c) t r s m = kept_rwlock c t r s m
 kept_row (call.Cancellation c) t r s m = kept_cancellation c t r s m
+kept_row (call.Key c) t r s m = kept_key c t r s m
 
 kept_row_or_unknown : (o : Option Call) (t : ℕ) (r : Registers) (s : Tables) → MayCall t s → IsWellFormed (row_or_unknown o t r s).tables
 kept_row_or_unknown None t r s m = m.well_formed

@@ -23,7 +23,7 @@ use Rattle.ckrt_calls.proofs.MutexRows.{wait_rule, condition_rule}
 use Rattle.ckrt_calls.proofs.Calling.{caller_lives, ahead, lacks, all_ahead, all_lack, ahead_rule, lacks_rule, IsAfter, changed}
 
 -- the waits are the same, and who calls lives
-kept_same : (t : ℕ) (s : Tables) (z : threads.State) → MayCall t s → threads.IsWellFormed z → z.waits ≡ s.threads.waits → threads.is_live z t ≡ true → IsAfter s z s.mutexes
+pub kept_same : (t : ℕ) (s : Tables) (z : threads.State) → MayCall t s → threads.IsWellFormed z → z.waits ≡ s.threads.waits → threads.is_live z t ≡ true → IsAfter s z s.mutexes
 kept_same t s z m k e l = record {
   threads = k;
   mutexes = (let rule = wait_rule s.mutexes in rule.same_waits s.threads z e m.well_formed.mutexes);

@@ -11,6 +11,7 @@ pub mod KeptConditions
 pub mod KeptBarriers
 pub mod KeptRwLocks
 pub mod KeptCancellation
+pub mod KeptKeys
 pub mod KeptInput
 pub mod Kept
 pub mod Readers

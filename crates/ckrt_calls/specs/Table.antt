@@ -22,6 +22,7 @@ use Rattle.ckrt_cond.specs.Rows as condition
 use Rattle.ckrt_barrier.specs.Rows as barrier
 use Rattle.ckrt_rwlock.specs.Rows as rwlock
 use Rattle.ckrt_cancel.specs.Rows as cancel
+use Rattle.ckrt_cancel.specs.KeyRows as keys
 use Rattle.ckrt_calls.specs.declared.number.Call.{Call}
 use Rattle.ckrt_calls.specs.declared.number.Call.TheVariants as call
 use Rattle.ckrt_calls.specs.declared.number.ProcessCall.{ProcessCall}
@@ -38,6 +39,8 @@ use Rattle.ckrt_calls.specs.declared.number.RwLockCall.{RwLockCall}
 use Rattle.ckrt_calls.specs.declared.number.RwLockCall.TheVariants as rwlock_call
 use Rattle.ckrt_calls.specs.declared.number.CancellationCall.{CancellationCall}
 use Rattle.ckrt_calls.specs.declared.number.CancellationCall.TheVariants as cancellation_call
+use Rattle.ckrt_calls.specs.declared.number.KeyCall.{KeyCall}
+use Rattle.ckrt_calls.specs.declared.number.KeyCall.TheVariants as key_call
 use Rattle.ckrt_calls.specs.declared.table.Status.{Status}
 use Rattle.ckrt_calls.specs.declared.table.Status.TheVariants.{Running, Exited}
 use Rattle.ckrt_calls.specs.declared.table.Tables.{Tables}
@@ -126,7 +129,7 @@ status_with is_any_live st = if is_any_live then st else Exited 0
 abbrev pub by_unwinding : Tables → thread.State → Tables
 by_unwinding s z = record s { threads = z; status = status_with (thread.is_any_live z) s.status }
 
--- the thread t, which unwinds, goes to its next handler, or ends
+-- the thread t, which unwinds, goes to its next handler, else to its next destructor, or ends
 abbrev pub unwound : ℕ → Tables → Tables
 unwound t s = by_unwinding s (unwinding.next_handler t s.threads)
 
@@ -187,6 +190,10 @@ call_of n =
     else if n == 63 then Some (call.Cancellation cancellation_call.SetCancelType)
     else if n == 64 then Some (call.Cancellation cancellation_call.CleanupPush)
     else if n == 65 then Some (call.Cancellation cancellation_call.CleanupPop)
+    else if n == 70 then Some (call.Key key_call.Create)
+    else if n == 71 then Some (call.Key key_call.Delete)
+    else if n == 72 then Some (call.Key key_call.SetSpecific)
+    else if n == 73 then Some (call.Key key_call.GetSpecific)
     else None
 
 -- a result alone
@@ -256,7 +263,7 @@ thread_row thread_call.Create t r s = by_threads s (rows.create_row t (get r 10)
 thread_row thread_call.Join t r s = by_threads s (rows.join_row t (get r 10) s.threads)
 -- POSIX.1-2017, pthread_detach
 thread_row thread_call.Detach t r s = by_threads s (rows.detach_row (get r 10) s.threads)
--- POSIX.1-2017, pthread_exit: its handlers run first
+-- POSIX.1-2017, pthread_exit: its handlers and the destructors of its values run first
 thread_row thread_call.Exit t r s = record { result = Moved; put = None; tables = begun_unwind t (get r 10) s }
 -- POSIX.1-2017, pthread_self
 thread_row thread_call.SelfId t r s = done t s
@@ -332,6 +339,17 @@ cancellation_row cancellation_call.CleanupPush t r s = by_threads s (cancel.push
 -- POSIX.1-2017, pthread_cleanup_pop; the handler returns to the address after the call
 cancellation_row cancellation_call.CleanupPop t r s = by_threads s (cancel.pop_row t (get r 10) r.pc s.threads)
 
+-- the rows of thread-specific data
+abbrev pub key_row : KeyCall → ℕ → Registers → Tables → After
+-- POSIX.1-2017, pthread_key_create
+key_row key_call.Create t r s = by_threads s (keys.key_create_row t (get r 10) s.threads)
+-- POSIX.1-2017, pthread_key_delete
+key_row key_call.Delete t r s = by_threads s (keys.key_delete_row (get r 10) s.threads)
+-- POSIX.1-2017, pthread_setspecific
+key_row key_call.SetSpecific t r s = by_threads s (keys.setspecific_row t (get r 10) (get r 11) s.threads)
+-- POSIX.1-2017, pthread_getspecific
+key_row key_call.GetSpecific t r s = by_threads s (keys.getspecific_row t (get r 10) s.threads)
+
 -- the row of a call that is made
 abbrev pub row : Call → ℕ → Registers → Tables → After
 row (call.Process c) t r s = process_row c t r s
@@ -341,6 +359,7 @@ row (call.Condition c) t r s = condition_row c t r s
 row (call.Barrier c) t r s = barrier_row c t r s
 row (call.RwLock c) t r s = rwlock_row c t r s
 row (call.Cancellation c) t r s = cancellation_row c t r s
+row (call.Key c) t r s = key_row c t r s
 
 -- CANCELLATION POINTS (POSIX.1-2017, 2.9.5.2). That getc and putc are ones is this project's choice, which POSIX permits.
 

@@ -3,13 +3,13 @@ ghost use Rattle.std.specs.Prelude.{◌≡◌, true, false, Option, None};
 ghost use Rattle.ckrt_rv32i.specs.Registers.{Registers};
 ghost use Rattle.ckrt_thread.specs.State.{is_live, is_waiting};
 ghost use Rattle.ckrt_calls.specs.declared.table.Status.TheVariants.{Running};
-ghost use Rattle.ckrt_calls.specs.Table.{process_row, thread_row, mutex_row, condition_row, barrier_row, rwlock_row, cancellation_row, row, row_or_point, called};
+ghost use Rattle.ckrt_calls.specs.Table.{process_row, thread_row, mutex_row, condition_row, barrier_row, rwlock_row, cancellation_row, key_row, row, row_or_point, called};
 ghost use Rattle.ckrt_calls.specs.WellFormed.{IsWellFormed, MayCall};
 
 use crate::console::getc;
 use crate::number::{
-    BarrierCall, Call, CancellationCall, ConditionCall, MutexCall, ProcessCall, RwLockCall,
-    ThreadCall,
+    BarrierCall, Call, CancellationCall, ConditionCall, KeyCall, MutexCall, ProcessCall,
+    RwLockCall, ThreadCall,
 };
 use crate::table::{Status, Tables};
 use crate::time::{clock, moment_of, sleep_until};
@@ -87,6 +87,7 @@ fn perform(
         Call::Barrier(call) => (perform_on_barriers(tables, call, thread, regs), None),
         Call::RwLock(call) => (perform_on_rwlocks(tables, call, thread, regs), None),
         Call::Cancellation(call) => (perform_on_cancellation(tables, call, thread, regs), None),
+        Call::Key(call) => (perform_on_keys(tables, call, thread, regs), None),
     }
 }
 
@@ -275,5 +276,22 @@ fn perform_on_cancellation(
         CancellationCall::SetCancelType => ckrt_cancel::set_type(threads, thread, a),
         CancellationCall::CleanupPush => ckrt_cancel::push(threads, thread, a, regs.get(11)),
         CancellationCall::CleanupPop => ckrt_cancel::pop(threads, thread, a, regs.pc()),
+    }
+}
+
+/// A call on thread-specific data.
+fn perform_on_keys(tables: &mut Tables, call: KeyCall, thread: ThreadId, regs: &Regs) -> CallResult
+    requires { MayCall thread tables.old }
+    ensures result { result ≡ (key_row call thread regs.now tables.old).result }
+    ensures put { None ≡ (key_row call thread regs.now tables.old).put }
+    ensures tables { tables.new ≡ (key_row call thread regs.now tables.old).tables }
+{
+    let a = regs.get(10);
+    let threads = &mut tables.threads;
+    match call {
+        KeyCall::Create => ckrt_cancel::key_create(threads, thread, a),
+        KeyCall::Delete => ckrt_cancel::key_delete(threads, a),
+        KeyCall::SetSpecific => ckrt_cancel::setspecific(threads, thread, a, regs.get(11)),
+        KeyCall::GetSpecific => ckrt_cancel::getspecific(threads, thread, a),
     }
 }

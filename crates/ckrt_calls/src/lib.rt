@@ -17,8 +17,8 @@ pub use console::END_OF_INPUT;
 pub use events::{close_input, take_input, tick};
 pub use input::{INPUT_LIMIT, InputQueue};
 pub use number::{
-    BarrierCall, Call, CancellationCall, ConditionCall, MutexCall, ProcessCall, RwLockCall,
-    ThreadCall,
+    BarrierCall, Call, CancellationCall, ConditionCall, KeyCall, MutexCall, ProcessCall,
+    RwLockCall, ThreadCall,
 };
 pub use table::{Status, Tables};
 pub use unwinding::{act_on_request, begin_unwind, next_handler};

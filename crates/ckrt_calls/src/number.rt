@@ -12,6 +12,7 @@ pub enum Call {
     Barrier(BarrierCall),
     RwLock(RwLockCall),
     Cancellation(CancellationCall),
+    Key(KeyCall),
 }
 
 /// The calls on the process, its console and its time.
@@ -125,6 +126,19 @@ pub enum CancellationCall {
     CleanupPop,
 }
 
+/// The calls on thread-specific data.
+#[derive(Clone, Copy, Debug, PartialEq, Eq)]
+pub enum KeyCall {
+    /// 70 (destructor): a key is made, 0 for no destructor. Its number goes to x11.
+    Create,
+    /// 71 (key): a key is removed, and the values under it.
+    Delete,
+    /// 72 (key, value): the thread gets a value under a key.
+    SetSpecific,
+    /// 73 (key): the thread's value under a key goes to x11.
+    GetSpecific,
+}
+
 impl Call {
     /// The call of a number, if it is in the table.
     pub fn from_number(number: u32) -> Option<Self>
@@ -169,6 +183,10 @@ impl Call {
             63 => Some(Call::Cancellation(CancellationCall::SetCancelType)),
             64 => Some(Call::Cancellation(CancellationCall::CleanupPush)),
             65 => Some(Call::Cancellation(CancellationCall::CleanupPop)),
+            70 => Some(Call::Key(KeyCall::Create)),
+            71 => Some(Call::Key(KeyCall::Delete)),
+            72 => Some(Call::Key(KeyCall::SetSpecific)),
+            73 => Some(Call::Key(KeyCall::GetSpecific)),
             _ => None,
         }
     }

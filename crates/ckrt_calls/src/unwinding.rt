@@ -1,4 +1,4 @@
-//! Threads that unwind: their clean-up handlers run, and then they end.
+//! Threads that unwind: their clean-up handlers and the destructors of their values run, and then they end.
 ghost use Rattle.std.specs.Prelude.{◌≡◌, true, false};
 ghost use Rattle.ckrt_thread.specs.State.{is_live, is_waiting, is_any_live};
 ghost use Rattle.ckrt_calls.specs.declared.table.Status.TheVariants.{Running};
@@ -18,8 +18,8 @@ fn exit_with_last(tables: &mut Tables)
     }
 }
 
-/// A thread that is on a hart begins to unwind: its clean-up handlers run, the newest first, and then it ends with the
-/// value. With the last thread that ends the program exits with status 0.
+/// A thread that is on a hart begins to unwind: its clean-up handlers run, the newest first, then the destructors of its
+/// values, and then it ends with the value. With the last thread that ends the program exits with status 0.
 pub fn begin_unwind(tables: &mut Tables, thread: ThreadId, value: u32)
     requires live { is_live tables.old.threads thread ≡ true }
     requires free { is_waiting tables.old.threads thread ≡ false }
@@ -32,8 +32,8 @@ pub fn begin_unwind(tables: &mut Tables, thread: ThreadId, value: u32)
     exit_with_last(tables);
 }
 
-/// A thread that is on a hart, and that unwinds, goes to its next clean-up handler. With none left it ends, and with the
-/// last thread the program exits with status 0.
+/// A thread that is on a hart, and that unwinds, goes to its next clean-up handler, else to the next destructor. With
+/// none left it ends, and with the last thread the program exits with status 0.
 pub fn next_handler(tables: &mut Tables, thread: ThreadId)
     requires live { is_live tables.old.threads thread ≡ true }
     requires free { is_waiting tables.old.threads thread ≡ false }

@@ -26,8 +26,8 @@ use Rattle.ckrt_cond.specs.Rows.{resume_row}
 abbrev pub cancellation : ℕ → State → Cancellation
 cancellation t s = cancellation_of (thread_of s t)
 
--- UNWINDING. POSIX.1-2017, pthread_exit: the thread goes through its clean-up handlers, and then ends with the value. A
--- handler that calls pthread_exit again replaces the value (this project's choice).
+-- UNWINDING. POSIX.1-2017, pthread_exit: the thread goes through its clean-up handlers and the destructors of its values, and
+-- then ends with the value. One of these that calls pthread_exit again replaces the value (this project's choice).
 
 abbrev pub unwinding_from : ℕ → ℕ → State → State
 unwinding_from t v s = with_cancellation_of t (unwinding_with v (cancellation t s)) s

@@ -1,4 +1,4 @@
-//! Unwinding: the way of a thread through its clean-up handlers to its end.
+//! Unwinding: the way of a thread through its clean-up handlers and the destructors of its values to its end.
 ghost use Rattle.std.specs.Prelude.{◌≡◌, true, false};
 ghost use Rattle.ckrt_thread.specs.State.{is_live, is_waiting};
 ghost use Rattle.ckrt_thread.specs.Unwinding.{next_handler};
@@ -26,8 +26,8 @@ pub fn cancel(threads: &mut Threads, thread: ThreadId)
     threads.set_cancellation(thread, &cancellation);
 }
 
-/// A thread, which does not wait, begins to unwind: it goes to its newest clean-up handler, and so on to its end with
-/// the value (POSIX.1-2017, pthread_exit). Where it unwinds already, this value replaces the one that it had.
+/// A thread, which does not wait, begins to unwind: it goes to its newest clean-up handler, and so on over the destructors
+/// of its values to its end with the value (POSIX.1-2017, pthread_exit). Where it unwinds already, this value replaces the one that it had.
 pub fn begin_unwind(threads: &mut Threads, thread: ThreadId, value: u32)
     requires live { is_live threads.old thread ≡ true }
     requires free { is_waiting threads.old thread ≡ false }
@@ -47,8 +47,8 @@ pub fn act_on_request(threads: &mut Threads, thread: ThreadId)
     next_handler(threads, thread);
 }
 
-/// A thread that unwinds, and does not wait, has come to the end of a clean-up handler: it goes to its newest one, or
-/// ends where none is left.
+/// A thread that unwinds, and does not wait, has come to the end of a clean-up handler or a destructor: it goes to its
+/// newest handler, else to its next destructor, or ends where none is left.
 pub fn next_handler(threads: &mut Threads, thread: ThreadId)
     requires live { is_live threads.old thread ≡ true }
     requires free { is_waiting threads.old thread ≡ false }

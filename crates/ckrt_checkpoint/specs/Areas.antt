@@ -1,5 +1,5 @@
 -- Which of the two areas is in use (this project's own format).
-use Rattle.std.specs.Prelude.{◌≤◌, ◌<◌, ◌^◌, ◌||◌, ◌&&◌, not, ℕ, Bool, List, nat_lt, nat_le, nat_eq, if◌then◌else◌, Result, Ok, Err}
+use Rattle.std.specs.Prelude.{◌≡◌, ◌⊎◌, ◌≤◌, ◌<◌, ◌^◌, ◌||◌, ◌&&◌, not, ℕ, Bool, List, nat_lt, nat_le, nat_eq, if◌then◌else◌, Result, Ok, Err}
 use Rattle.ckrt_tables.specs.declared.encoding.TheConstants.{TABLES_ROOM}
 use Rattle.ckrt_checkpoint.specs.declared.config.Config.{Config}
 use Rattle.ckrt_checkpoint.specs.declared.fault.AreaFault.{AreaFault}
@@ -12,11 +12,15 @@ use Rattle.ckrt_checkpoint.specs.Layout.{header_of}
 abbrev pub is_in_range : Header → Bool
 is_in_range h = nat_lt h.count (2 ^ 62) && (nat_lt h.offset (2 ^ 62) && nat_le h.tables TABLES_ROOM)
 
--- the first that applies: generation 0, another version, a field out of range
+-- the versions of tables that there are
+abbrev pub is_known_version : ℕ → Bool
+is_known_version version = nat_eq version 1 || nat_eq version 2
+
+-- the first that applies: generation 0, an unknown version, a field out of range
 abbrev pub checked_area : Area → Result Area AreaFault
 checked_area area =
     if nat_eq area.header.generation 0 then Err Damaged
-    else if not (nat_eq area.header.version 1) then Err Version
+    else if not (is_known_version area.header.version) then Err Version
     else if is_in_range area.header then Ok area
     else Err Damaged
 
@@ -35,6 +39,7 @@ area_of c image = newest_area (header_of c 0 image) (header_of c 1 image)
 -- an area that was picked: it is one of the two, and its numbers are in their ranges
 pub record IsPicked (area : Area) : Type 0 where
   pub index : area.index ≤ 1
+  pub version : (area.header.version ≡ 1) ⊎ (area.header.version ≡ 2)
   pub count : area.header.count < 2 ^ 62
   pub offset : area.header.offset < 2 ^ 62
   pub tables : area.header.tables ≤ TABLES_ROOM

@@ -14,7 +14,7 @@ pub const OPEN: u8 = 0xa5;
 /// The byte that a gate is written as where it's closed.
 pub const CLOSED: u8 = 0;
 
-/// The version of the superblock, and that of tables and journal.
+/// The version of the superblock. An area has its own.
 pub const VERSION: u32 = 1;
 
 /// The offset of the first field in a superblock and in an area's header.

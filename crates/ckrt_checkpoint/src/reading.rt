@@ -79,7 +79,7 @@ pub fn read_area<D: Disk>(
     requires disk { size_needed config.now ≤ D.size disk.old }
     requires picked { IsPicked area.now }
     ensures exact { D.is_honest disk.new → ReadsArea config.now area.now (D.content disk.old) result }
-    ensures savable { IfOk result (λ r. CanBeSaved config.now.harts r.1 r.2.items) }
+    ensures savable { IfOk result (λ r. CanBeSaved area.now.header.version config.now.harts r.1 r.2.items) }
     ensures memory { IfOk result (λ r. length r.0.bytes ≡ memory_size config.now) }
     ensures pages { D.is_honest disk.new → IfOk result (λ r. BothStand config.now r.0 (D.content disk.old)) }
     ensures clean { IfOk result (λ r. IsAllClean area.now.index r.0) }
@@ -90,7 +90,7 @@ pub fn read_area<D: Disk>(
 {
     let bytes = read_table_bytes(alloc, disk, config, area)?;
     // tables are large: `?` would move them three times more, and the value of the match once more
-    match decode_tables(alloc, &bytes, config.harts as usize) {
+    match decode_tables(alloc, area.header.version, &bytes, config.harts as usize) {
         Ok(Some((tables, held))) => {
             let memory = read_memory(alloc, disk, config, area.index)?;
             return Ok((memory, tables, held));

@@ -12,10 +12,11 @@ use crate::config::Config;
 use crate::fault::AreaFault;
 use crate::fields::header_fields;
 use crate::header::Header;
-use crate::layout::{CLOSED, FIELDS_AT, OPEN, VERSION};
+use crate::layout::{CLOSED, FIELDS_AT, OPEN};
 use crate::save_point::SavePoint;
 use ckrt_disk::{DeviceFault, Disk, write_synced};
 use ckrt_memory::Memory;
+use ckrt_tables::VERSION;
 
 // Closes a gate, where it is open, and says whether it was. A gate that stands closed isn't written: a byte that is written
 // again may be left as any byte by a stop, also as an open gate.

@@ -6,7 +6,7 @@ use Rattle.ckrt_checkpoint.specs.declared.config.Config.{Config}
 use Rattle.ckrt_checkpoint.specs.declared.fault.AreaFault.{AreaFault}
 use Rattle.ckrt_checkpoint.specs.declared.fault.AreaFault.TheVariants.{Version, Damaged}
 use Rattle.ckrt_checkpoint.specs.declared.header.Header.{Header}
-use Rattle.ckrt_checkpoint.specs.Areas.{area_of, checked_area, is_in_range, newest_area}
+use Rattle.ckrt_checkpoint.specs.Areas.{area_of, checked_area, is_in_range, is_known_version, newest_area}
 use Rattle.ckrt_checkpoint.specs.Layout.{header_of}
 
 -- THE TWO AREAS
@@ -41,7 +41,7 @@ pub record IsInUse (c : Config) (area : Area) (image : List ℕ) : Type 0 where
   pub in_range : is_in_range area.header ≡ true
 
 checked_in_range : (x z : Area) → checked_area x ≡ Ok z → (x ≡ z) × (is_in_range x.header ≡ true)
-checked_in_range x z e = let p = checked_is (nat_eq x.header.generation 0) (not (nat_eq x.header.version 1)) (is_in_range x.header) x z e in (p.0, p.2)
+checked_in_range x z e = let p = checked_is (nat_eq x.header.generation 0) (not (is_known_version x.header.version)) (is_in_range x.header) x z e in (p.0, p.2)
 
 module _ (c : Config) (image : List ℕ) (z : Area) where
   abbrev zeroth : Area

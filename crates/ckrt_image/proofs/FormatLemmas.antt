@@ -34,11 +34,11 @@ pub fresh_area : (c : Config) (memory c₀ c₁ c₂ c₃ c₄ : List ℕ) → s
     → IsOverwritten c₂ (tables_at c 0) (fresh_bytes c.pages) c₃ → IsOverwritten c₃ (memory_at c 0) memory c₄ → HasFreshArea c memory c₄
 fresh_area c memory c₀ c₁ c₂ c₃ c₄ room size w₁ w₂ w₃ w₄ =
     let header : length (header_fields fresh_header) ≡ 32 = refl in
-    let tables : length (fresh_bytes c.pages) ≡ 170 = refl in
+    let tables : length (fresh_bytes c.pages) ≡ 176 = refl in
     let l₁ : length c₁ ≡ length c₀ = written_size c₀ (area_at c 0) (165 ∷ []) c₁ w₁ (omega arith) in
     let r₂ : area_at c 0 + 8 + 32 ≤ length c₁ = omega arith in
     let l₂ : length c₂ ≡ length c₁ = written_size c₁ (area_at c 0 + 8) (header_fields fresh_header) c₂ w₂ r₂ in
-    let r₃ : tables_at c 0 + 170 ≤ length c₂ = omega arith in
+    let r₃ : tables_at c 0 + 176 ≤ length c₂ = omega arith in
     let l₃ : length c₃ ≡ length c₂ = written_size c₂ (tables_at c 0) (fresh_bytes c.pages) c₃ w₃ r₃ in
     let r₄ : memory_at c 0 + length memory ≤ length c₃ = omega arith in
     record {
@@ -60,7 +60,7 @@ area_stays : (c : Config) (memory old : List ℕ) (at : ℕ) (bytes new : List �
 area_stays c memory old at bytes new pages size holds room apart has = record {
   gate = stays old at bytes new holds room (area_at c 0) (165 ∷ []) (away (area_at c 0) 1 (omega arith) (omega arith)) has.gate;
   header = stays old at bytes new holds room (area_at c 0 + 8) (header_fields fresh_header) (away (area_at c 0 + 8) 32 (omega arith) (omega arith)) has.header;
-  tables = stays old at bytes new holds room (tables_at c 0) (fresh_bytes c.pages) (away (tables_at c 0) 170 (omega arith) (omega arith)) has.tables;
+  tables = stays old at bytes new holds room (tables_at c 0) (fresh_bytes c.pages) (away (tables_at c 0) 176 (omega arith) (omega arith)) has.tables;
   pages = stays old at bytes new holds room (memory_at c 0) memory (away (memory_at c 0) (length memory) (omega arith) (omega arith)) has.pages;
 }
   where

@@ -53,7 +53,7 @@ unchanged at content image closing opened = same_number_lists image content clos
 
 -- AN AREA THAT WAS WRITTEN
 
-checked_by : (a : Area) → nat_eq a.header.generation 0 ≡ false → a.header.version ≡ 1 → is_in_range a.header ≡ true → checked_area a ≡ Ok a
+checked_by : (a : Area) → nat_eq a.header.generation 0 ≡ false → a.header.version ≡ 2 → is_in_range a.header ≡ true → checked_area a ≡ Ok a
 checked_by a generation version in_range = rw (generation, version, in_range) refl
 
 module _ (p : Progress) (tables content image : List ℕ) (r : Recovered) (was : IsBehind p content r) where
@@ -85,7 +85,7 @@ module _ (p : Progress) (tables content image : List ℕ) (r : Recovered) (was :
       by_gate true opened = subst (λ (l : List ℕ). Recovers l (Ok r)) (sym (unchanged (area_at p.config (1 - p.area)) content image c opened)) was.recovers
       by_gate false shut = kept (wider_image _ _ content image (λ i w. inl w) c.outside) shut
 
-  module _ (savable : CanBeSaved p.config.harts p.machine.state.tables p.held.items) (encoded : tables ≡ encoding_of p.machine.state.tables p.held.items) (few : length tables ≤ 98304) (last : p.generation + 1 < 2 ^ 64)
+  module _ (savable : CanBeSaved 2 p.config.harts p.machine.state.tables p.held.items) (encoded : tables ≡ encoding_of 2 p.machine.state.tables p.held.items) (few : length tables ≤ 98304) (last : p.generation + 1 < 2 ^ 64)
       (has : HasSaved p.config (1 - p.area) (next_header (save_point_of p) tables) tables p.machine.state.bytes content image) where
     abbrev h : Header
     h = next_header (save_point_of p) tables
@@ -167,7 +167,7 @@ module _ (p : Progress) (tables content image : List ℕ) (r : Recovered) (was :
 
 -- whatever a stop of a save leaves
 pub saving_recovers : (p : Progress) (tables content image : List ℕ) (r : Recovered) → IsBehind p content r
-    → CanBeSaved p.config.harts p.machine.state.tables p.held.items → tables ≡ encoding_of p.machine.state.tables p.held.items → length tables ≤ 98304 → p.generation + 1 < 2 ^ 64
+    → CanBeSaved 2 p.config.harts p.machine.state.tables p.held.items → tables ≡ encoding_of 2 p.machine.state.tables p.held.items → length tables ≤ 98304 → p.generation + 1 < 2 ^ 64
     → IsSaving p.config (save_point_of p) tables p.machine.state.bytes content image → RecoversToOldOrNew p r image
 saving_recovers p tables content image r was savable encoded few last saving = ⊎_elim
     (λ closed. inl (closing p tables content image r was closed))

@@ -1,6 +1,7 @@
 -- What a freshly formatted disk has (this project's own format).
 use Rattle.std.specs.Prelude.{◌≡◌, ◌+◌, ◌-◌, ℕ, true, List, [], ◌∷◌, ◌++◌, replicate, length}
 use Rattle.ckrt_tables.specs.Fresh.{fresh_bytes}
+use Rattle.ckrt_tables.specs.declared.encoding.TheConstants.{VERSION}
 use Rattle.ckrt_checkpoint.specs.declared.config.Config.{Config}
 use Rattle.ckrt_checkpoint.specs.declared.header.Header.{Header}
 use Rattle.ckrt_checkpoint.specs.declared.layout.TheConstants.{CLOSED, OPEN}
@@ -11,7 +12,7 @@ use Rattle.ckrt_image.specs.Superblock.{superblock_fields}
 
 -- the header of area 0 before the first event
 abbrev pub fresh_header : Header
-fresh_header = record { is_open = true; generation = 1; count = 0; offset = 0; tables = FRESH_TABLES_SIZE; version = 1 }
+fresh_header = record { is_open = true; generation = 1; count = 0; offset = 0; tables = FRESH_TABLES_SIZE; version = VERSION }
 
 -- the guest's memory before the first event: the image, and zeros behind it
 abbrev pub fresh_memory : Config → List ℕ → List ℕ

@@ -9,7 +9,7 @@ use Rattle.ckrt_image.specs.declared.fault.FormatFault.TheVariants.{AlreadyForma
 use Rattle.ckrt_image.specs.declared.fault.RecoverFault.TheVariants.{NotFormatted}
 use Rattle.ckrt_checkpoint.specs.Layout.{is_valid, memory_size, size_needed, journal_of, is_open}
 use Rattle.ckrt_image.specs.Recovery.{Recovers}
-use Rattle.ckrt_image.specs.Programs.{formatted}
+use Rattle.ckrt_image.specs.Programs.{RecoversToStart, formatted_program}
 
 -- Why a disk of so many bytes isn't formatted with this configuration and this image: the first that applies.
 abbrev pub format_refusal : ℕ → Config → List ℕ → Option FormatFault
@@ -30,7 +30,7 @@ IsRefusal OutOfMemory = ⊥
 
 -- the image recovers to a program that hasn't begun, with this configuration and this guest image
 abbrev pub IsFormatted : Config → List ℕ → List ℕ → Type 0
-IsFormatted c guest image = Recovers image (Ok (formatted (record { config = c; image = guest })))
+IsFormatted c guest image = RecoversToStart (formatted_program c guest) image
 
 -- What a stop of formatting may leave: an image that was possible before it, one that isn't formatted, or one that is and has no event.
 abbrev pub IsFormatting : {D : Type 0} → Config → List ℕ → Ghosts D → D → List ℕ → Type 0

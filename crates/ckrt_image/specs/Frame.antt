@@ -31,8 +31,8 @@ pub record HoldsState (c : Config) (area : Area) (memory : List ℕ) (s : Saved)
   pub checked : checked_area area ≡ Ok area
   pub end : is_end_in_range area s.held ≡ true
   -- its tables are the encoding of a state that can be saved
-  pub savable : CanBeSaved c.harts s.tables s.held
-  pub tables : tables_of c area image ≡ encoding_of s.tables s.held
+  pub savable : CanBeSaved area.header.version c.harts s.tables s.held
+  pub tables : tables_of c area image ≡ encoding_of area.header.version s.tables s.held
   -- its pages are the memory
   pub pages : memory_of c area.index image ≡ memory
   -- the first gate of its journal isn't open

@@ -11,8 +11,9 @@ ghost use Rattle.ckrt_image.specs.Format.{format_refusal, calls_of, is_device, C
 use crate::blocks::superblock_fields;
 use crate::fault::FormatFault;
 use crate::fresh::{FRESH_TABLES_SIZE, fresh_tables};
-use ckrt_checkpoint::{CLOSED, Config, FIELDS_AT, Header, OPEN, VERSION, header_fields};
+use ckrt_checkpoint::{CLOSED, Config, FIELDS_AT, Header, OPEN, header_fields};
 use ckrt_disk::{DeviceFault, Disk, write_synced};
+use ckrt_tables::VERSION;
 use std::alloc::{AllocError, Global};
 
 impl From<DeviceFault> for FormatFault {

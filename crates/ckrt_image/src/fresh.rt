@@ -7,10 +7,10 @@ use arrayvec::ArrayVec;
 use ckrt_checkpoint::{Config, put};
 
 /// How many bytes the tables of a program have that hasn't begun.
-pub(crate) const FRESH_TABLES_SIZE: usize = 170;
+pub(crate) const FRESH_TABLES_SIZE: usize = 176;
 
 /// The tables of a program that hasn't begun: thread 1, marked as the initial one, at the memory's first address, with the
-/// return gate in x1 and the memory's end in x2, and nothing else.
+/// return gate in x1 and the memory's end in x2; the mark of keys; and nothing else.
 pub(crate) fn fresh_tables(config: &Config) -> ArrayVec<u8, FRESH_TABLES_SIZE>
     requires { is_valid config.now ≡ true }
     ensures { result.items ≡ fresh_bytes config.now.pages }
@@ -23,5 +23,6 @@ pub(crate) fn fresh_tables(config: &Config) -> ArrayVec<u8, FRESH_TABLES_SIZE>
     put(&mut tables, &0xffff_fff0u32.to_le_bytes());
     put(&mut tables, &(4_096 * config.pages).to_le_bytes());
     put(&mut tables, &[0; 125]);
+    put(&mut tables, &[1, 0, 0, 0, 0, 0]);
     tables
 }

@@ -35,6 +35,9 @@ worked_lines = record {
   barrier = refl;
   written = refl;
   shared = refl;
+  keys_off = refl;
+  keys = refl;
+  value = refl;
 }
 
 pub worked_instructions : WorkedInstructions

@@ -14,7 +14,9 @@ use Rattle.ckrt_mutex.specs.declared.records.Mutex.{Mutex}
 use Rattle.ckrt_barrier.specs.declared.barrier.Barrier.{Barrier}
 use Rattle.ckrt_rwlock.specs.declared.records.RwLock.{RwLock}
 use Rattle.ckrt_tables.specs.declared.reading_objects.Reader.{Reader}
-use Rattle.ckrt_tables.specs.Records.{id_or_0, readers_of}
+use Rattle.ckrt_thread.specs.Keys.{KeyTable}
+use Rattle.ckrt_tables.specs.declared.reading_keys.KeyWord.{KeyWord}
+use Rattle.ckrt_tables.specs.Records.{id_or_0, readers_of, words_from, value_words, specific_of}
 use Rattle.ckrt_calls.specs.declared.table.Status.{Status}
 use Rattle.ckrt_calls.specs.declared.table.Tables.{Tables}
 use Rattle.ckrt_machine.specs.Steps.{State}
@@ -122,6 +124,26 @@ holders_text None readers = codes " readers" ++ flat_map reader_text readers
 abbrev pub rwlock_line : Entry RwLock → List ℕ
 rwlock_line e = codes "rwlock " ++ hex_text e.address ++ holders_text e.value.writer (readers_of e.value) ++ codes "\n"
 
+-- KEYS: `keys off` where they are off, and `key K ADDR`; then `value T K V` for each value that isn't 0
+
+abbrev pub mark_line : Bool → List ℕ
+mark_line is_on = if is_on then [] else codes "keys off\n"
+
+abbrev pub key_line : KeyWord → List ℕ
+key_line w = codes "key " ++ decimal w.key ++ codes " " ++ hex_text w.word ++ codes "\n"
+
+abbrev pub keys_lines : KeyTable → List ℕ
+keys_lines keys = mark_line keys.is_on ++ flat_map key_line (words_from 0 keys.destructors)
+
+abbrev pub value_line : ℕ → KeyWord → List ℕ
+value_line t w = codes "value " ++ decimal t ++ codes " " ++ decimal w.key ++ codes " " ++ decimal w.word ++ codes "\n"
+
+abbrev pub value_lines : ThreadRow → List ℕ
+value_lines r = flat_map (value_line r.id) (value_words (specific_of r.thread))
+
+abbrev pub all_key_lines : threads.State → List ℕ
+all_key_lines s = keys_lines s.keys ++ flat_map value_lines (thread_rows s)
+
 -- THE LISTING
 
 -- the lines of the program's objects
@@ -138,4 +160,8 @@ head_lines count t = events_line count ++ clock_line t.clock ++ status_line t.st
 
 -- a program after so many events, with the code that each thread is about to run or without it
 abbrev pub listing_by : (with_code : Bool) (count : ℕ) → State → List ℕ
-listing_by with_code count s = head_lines count s.tables ++ all_thread_lines with_code s.bytes s.tables.threads ++ object_lines s.tables
+listing_by with_code count s =
+    head_lines count s.tables
+    ++ all_thread_lines with_code s.bytes s.tables.threads
+    ++ object_lines s.tables
+    ++ all_key_lines s.tables.threads

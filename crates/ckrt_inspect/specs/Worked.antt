@@ -2,6 +2,7 @@
 use Rattle.std.specs.Prelude.{◌≡◌, ℕ, true, false, List, [], ◌∷◌, codes, Option, Some, None, replicate, slice_set, refl}
 use Rattle.ckrt_rv32i.specs.declared.execution.Cause.TheVariants as cause
 use Rattle.ckrt_thread.specs.Cancellation.{acted_on, at_the_start}
+use Rattle.ckrt_thread.specs.Keys.{keys_off, no_keys, no_data}
 use Rattle.ckrt_thread.specs.Contents.{ThreadRow}
 use Rattle.ckrt_thread.specs.State as threads
 use Rattle.ckrt_thread.specs.declared.records.Live.{Live}
@@ -14,18 +15,18 @@ use Rattle.ckrt_mutex.specs.declared.records.Kind.TheVariants as kind
 use Rattle.ckrt_calls.specs.declared.table.Status.TheVariants as status
 use Rattle.ckrt_calls.specs.declared.table.Tables.{Tables}
 use Rattle.ckrt_machine.specs.Steps.{State}
-use Rattle.ckrt_inspect.specs.Listing.{barrier_line, hart_line, listing_by, mutex_line, rwlock_line, status_line, thread_lines, wait_line}
+use Rattle.ckrt_inspect.specs.Listing.{barrier_line, hart_line, keys_lines, listing_by, mutex_line, rwlock_line, value_line, status_line, thread_lines, wait_line}
 use Rattle.ckrt_inspect.specs.Code.{code_line, word_line}
 
 -- TWO LISTINGS
 
 -- a thread that can be joined and cancelled, at a pc, with these registers
 abbrev pub plain : ℕ → List ℕ → Thread
-plain pc x = thread.Live (record { regs = record { pc = pc; x = x }; initial = false; detached = false; cancellation = at_the_start; handlers = record { items = [] } })
+plain pc x = thread.Live (record { regs = record { pc = pc; x = x }; initial = false; detached = false; cancellation = at_the_start; handlers = record { items = [] }; specific = no_data })
 
 -- one hart, idle, and these threads and waits
 abbrev pub off_harts : List (Option Thread) → List Wait → threads.State
-off_harts slots waits = record { threads = slots; waits = waits; harts = replicate 8 None; hart_count = 1 }
+off_harts slots waits = record { threads = slots; waits = waits; harts = replicate 8 None; hart_count = 1; keys = no_keys }
 
 -- a program that runs, with no object and no input
 abbrev pub running : List ℕ → threads.State → State
@@ -63,11 +64,12 @@ requested = record {
   detached = true;
   cancellation = record at_the_start { is_asynchronous = true; is_requested = true };
   handlers = record { items = record { routine = 0x2000; argument = 7 } ∷ [] };
+  specific = no_data;
 }
 
 -- cancelled
 abbrev pub unwinding : Live
-unwinding = record { regs = record { pc = 0x1000; x = [] }; initial = false; detached = false; cancellation = acted_on at_the_start; handlers = record { items = [] } }
+unwinding = record { regs = record { pc = 0x1000; x = [] }; initial = false; detached = false; cancellation = acted_on at_the_start; handlers = record { items = [] }; specific = no_data }
 
 pub record WorkedLines : Type 0 where
   pub exited : status_line (status.Exited 7) ≡ codes "status exit 7\n"
@@ -93,6 +95,9 @@ pub record WorkedLines : Type 0 where
   pub barrier : barrier_line (record { address = 0x3000; value = record { count = 64 } }) ≡ codes "barrier 00003000 64\n"
   pub written : rwlock_line (record { address = 0x3010; value = record { writer = Some 4; readers = replicate 65 0 } }) ≡ codes "rwlock 00003010 writer 4\n"
   pub shared : rwlock_line (record { address = 0x3010; value = record { writer = None; readers = slice_set (slice_set (replicate 65 0) 2 1) 64 65535 } }) ≡ codes "rwlock 00003010 readers 2:1 64:65535\n"
+  pub keys_off : keys_lines keys_off ≡ codes "keys off\n"
+  pub keys : keys_lines (record no_keys { destructors = slice_set (slice_set (replicate 32 None) 0 (Some 0x1028)) 31 (Some 0) }) ≡ codes "key 0 00001028\nkey 31 00000000\n"
+  pub value : value_line 2 (record { key = 31; word = 4294967295 }) ≡ codes "value 2 31 4294967295\n"
 
 -- INSTRUCTIONS
 

@@ -4,6 +4,7 @@
 mod code;
 mod fault;
 mod inspecting;
+mod keys;
 mod laws;
 mod listing;
 mod objects;

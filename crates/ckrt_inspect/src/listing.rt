@@ -5,6 +5,7 @@ ghost use Rattle.ckrt_inspect.specs.declared.fault.InspectFault.TheVariants.{Out
 ghost use Rattle.ckrt_inspect.specs.Listing.{clock_line, events_line, head_lines, listing_by, status_line};
 
 use crate::fault::InspectFault;
+use crate::keys::push_all_keys;
 use crate::objects::push_objects;
 use crate::texts::{push, push_number, push_status};
 use crate::threads::push_all_threads;
@@ -60,6 +61,7 @@ fn listing(
     push_head(&mut out, count, tables)?;
     push_all_threads(&mut out, with_code, machine.memory(), &tables.threads)?;
     push_objects(&mut out, tables)?;
+    push_all_keys(&mut out, &tables.threads)?;
     Ok(out)
 }
 
@@ -91,8 +93,8 @@ pub(crate) fn write_listing_by<W: Write>(
     write_text(writer, &text)
 }
 
-/// Writes the listing of a program after so many events: status and clock, harts, threads, waits, mutexes, barriers and
-/// read-write locks, a line each.
+/// Writes the listing of a program after so many events: status and clock, harts, threads, waits, mutexes, barriers,
+/// read-write locks, keys and values, a line each.
 ///
 /// # Errors
 ///

@@ -5,8 +5,7 @@ use Rattle.std.proofs.lemmas.List.{get_or_append_left}
 use Rattle.std.proofs.lemmas.Bool.Decides.{leb_tells}
 use Rattle.ckrt_events.specs.declared.event.Event.{Event}
 use Rattle.ckrt_machine.specs.Events.{output_of}
-use Rattle.ckrt_image.specs.Format.{IsFormatted}
-use Rattle.ckrt_image.specs.Programs.{Program, start_of, state_after, output_after}
+use Rattle.ckrt_image.specs.Programs.{RecoversToStart, Program, start_of, state_after, output_after}
 use Rattle.ckrt_image.proofs.ReplayLemmas.{output-append}
 use Rattle.ckrt_lives.specs.declared.life.Life.{Life}
 use Rattle.ckrt_lives.specs.declared.life.LifeReport.{LifeReport}
@@ -61,7 +60,7 @@ byte_kept p few all offset h lt =
     ap (λ (l : List Event). get_or (output_after p l) offset 0) h.1
     ∙ (ap (λ (l : List ℕ). get_or l offset 0) (output-append few h.0 (start_of p)) ∙ get_or_append_left (output_after p few) (output_of h.0 (state_after p few)) 0 offset lt)
 
-module _ (p : Program) (image : List ℕ) (lives : List Life) (reports : List LifeReport) (lists : List (List Event)) (starts : IsFormatted p.config p.image image) (are : AreLivesFrom p image [] lives reports lists) where
+module _ (p : Program) (image : List ℕ) (lives : List Life) (reports : List LifeReport) (lists : List (List Event)) (starts : RecoversToStart p image) (are : AreLivesFrom p image [] lives reports lists) where
   in_order : (i j offset x y : ℕ) (a b : LifeReport) → i < j → slice_get reports i ≡ Some a → slice_get reports j ≡ Some b → Releases a offset x → Releases b offset y → x ≡ y
   in_order i j offset x y a b lt at_i at_j first second =
       let k = life_at p image [] lives reports lists are i a at_i in

@@ -2,8 +2,7 @@
 use Rattle.std.proofs.Common.{◌≡◌, ⊎_elim, ℕ, zero, suc, ◌≤◌, ◌<◌, List, [], ◌∷◌, ◌++◌, length, take, Some, None, Option, refl, sym, ◌∙◌, ap, subst, arith, length-take-le}
 use Rattle.std.specs.Prelude.{slice_get}
 use Rattle.ckrt_events.specs.declared.event.Event.{Event}
-use Rattle.ckrt_image.specs.Format.{IsFormatted}
-use Rattle.ckrt_image.specs.Programs.{Program, RecoversTo, formatted}
+use Rattle.ckrt_image.specs.Programs.{RecoversToStart, Program, RecoversTo, formatted}
 use Rattle.ckrt_image.specs.Recovery.{Recovered}
 use Rattle.ckrt_image.proofs.RecoverLemmas.{recovered_once}
 use Rattle.ckrt_lives.specs.declared.life.Life.{Life}
@@ -150,7 +149,7 @@ so_far_push p formatted lives reports image life report so_far next =
     }
 
 -- no event yet
-pub stands_formatted : (p : Program) (image : List ℕ) → IsFormatted p.config p.image image → Stands p image []
+pub stands_formatted : (p : Program) (image : List ℕ) → RecoversToStart p image → Stands p image []
 stands_formatted p image is = record {
   many = 0;
   among = omega arith;
@@ -163,13 +162,13 @@ stands_formatted p image is = record {
   };
 }
 
-pub so_far_start : (p : Program) (image : List ℕ) → IsFormatted p.config p.image image → LivedSoFar p image [] [] image
+pub so_far_start : (p : Program) (image : List ℕ) → RecoversToStart p image → LivedSoFar p image [] [] image
 so_far_start p image is = record { lists = []; each = tt; left = refl; stands = stands_formatted p image is }
 
-pub durable_all : (p : Program) (image : List ℕ) (lives : List Life) (reports : List LifeReport) (lists : List (List Event)) → IsFormatted p.config p.image image → AreLivesFrom p image [] lives reports lists → AreDurable reports lists
+pub durable_all : (p : Program) (image : List ℕ) (lives : List Life) (reports : List LifeReport) (lists : List (List Event)) → RecoversToStart p image → AreLivesFrom p image [] lives reports lists → AreDurable reports lists
 durable_all p image lives reports lists is are i j n earlier more few all lt a b c d recovered = durable p image [] lives reports lists are (stands_formatted p image is) i j n earlier more few all lt a b c d recovered
 
-pub all_lived : (p : Program) (image : List ℕ) (some all : List Life) (reports : List LifeReport) (left : List ℕ) → some ≡ all → IsFormatted p.config p.image image → LivedSoFar p image some reports left → AreLives p all reports
+pub all_lived : (p : Program) (image : List ℕ) (some all : List Life) (reports : List LifeReport) (left : List ℕ) → some ≡ all → RecoversToStart p image → LivedSoFar p image some reports left → AreLives p all reports
 all_lived p image some all reports left same is so_far = subst (λ (l : List Life). AreLives p l reports) same (record {
   formatted = image;
   starts = is;

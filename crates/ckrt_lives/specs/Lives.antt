@@ -2,8 +2,7 @@
 use Rattle.std.specs.Prelude.{◌≡◌, ◌⊎◌, ◌≤◌, ◌<◌, ◌+◌, ◌-◌, ℕ, List, [], ◌∷◌, ◌++◌, length, take, drop, slice_get, slice_index, All, Some, None, Ok}
 use Rattle.ckrt_events.specs.declared.event.Event.{Event}
 use Rattle.ckrt_events.specs.Line.{IsInRangeCommand}
-use Rattle.ckrt_image.specs.Format.{IsFormatted}
-use Rattle.ckrt_image.specs.Programs.{Program, RecoversTo, output_after}
+use Rattle.ckrt_image.specs.Programs.{RecoversToStart, Program, RecoversTo, output_after}
 use Rattle.ckrt_image.specs.Recovery.{Recovered, Recovers}
 use Rattle.ckrt_recovery.specs.Between.{IsBeginningOf}
 use Rattle.ckrt_recovery.specs.View.{View, opened}
@@ -107,7 +106,7 @@ AreDurable reports lists = (i j n : ℕ) (earlier later : LifeReport) (few more 
 pub record AreLives (p : Program) (lives : List Life) (reports : List LifeReport) : Type 0 where
   -- what formatting left
   pub formatted : List ℕ
-  pub starts : IsFormatted p.config p.image formatted
+  pub starts : RecoversToStart p formatted
   -- the list of each life
   pub lists : List (List Event)
   pub each : AreLivesFrom p formatted [] lives reports lists

@@ -4,7 +4,7 @@ ghost use Rattle.ckrt_checkpoint.specs.Layout.{is_valid, size_needed};
 ghost use Rattle.ckrt_events.specs.Line.{IsInRangeCommand};
 ghost use Rattle.ckrt_events.specs.declared.event.Event.{Event};
 ghost use Rattle.ckrt_image.specs.Format.{IsFormatted};
-ghost use Rattle.ckrt_image.specs.Programs.{Program};
+ghost use Rattle.ckrt_image.specs.Programs.{Program, formatted_program};
 ghost use Rattle.ckrt_image.specs.Recovery.{Recovered, Recovers};
 ghost use Rattle.ckrt_recovery.specs.View.{is_refused};
 ghost use Rattle.ckrt_recovery.specs.declared.session.Session.{Session};
@@ -135,7 +135,7 @@ pub fn lives(
     list: &[Life],
 ) -> Result<Vec<LifeReport>, LivesFault>
     requires { All IsInRangeLife list.now }
-    ensures lived { IfOk result (λ reports. AreLives (record { config = config; image = image.now }) list.now reports.items) }
+    ensures lived { IfOk result (λ reports. AreLives (formatted_program config image.now) list.now reports.items) }
     ensures same_bytes { IfOk result (λ reports. AreSameBytes reports.items) }
     ensures format { IsErrOf result LivesFault.Format ↔ (is_refused config image.now ≡ true) }
 {

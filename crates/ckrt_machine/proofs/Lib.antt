@@ -7,4 +7,4 @@ pub mod KeptEvents
 pub mod FoldLaws
 pub mod WellFormedImplies
 pub mod StepsOfRuns
-pub mod SameHarts
+pub mod Fixed

@@ -76,7 +76,8 @@ abbrev pub returned : Bool → ℕ → ℕ → State → Stepped
 returned true v t s = tables_become (record s.tables { status = Exited v }) s
 returned false v t s = tables_become (calls.begun_unwind t v s.tables) s
 
--- a return of a clean-up handler: a thread that unwinds goes to its next handler, or ends, and any other faults
+-- a return of a clean-up handler or a destructor: a thread that unwinds goes to its next handler, else to its next destructor, or
+-- ends, and any other faults
 abbrev pub handled : Bool → ℕ → ℕ → State → Stepped
 handled true pc t s = tables_become (calls.unwound t s.tables) s
 handled false pc t s = quiet (faulted cause.Gate t pc s)

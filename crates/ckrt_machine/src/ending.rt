@@ -62,8 +62,8 @@ fn put_result(tables: &mut Tables, thread: u8, value: u32)
     tables.threads.known();
 }
 
-/// A fault of a thread. Where it is at a gate, which no instruction is at, it returned from its first function or from
-/// a clean-up handler.
+/// A fault of a thread. Where it is at a gate, which no instruction is at, it returned from its first function, from a
+/// clean-up handler or from a destructor.
 fn end_at_fault(tables: &mut Tables, cause: Cause, thread: u8)
     requires live { is_live tables.old.threads thread ≡ true }
     requires free { is_waiting tables.old.threads thread ≡ false }
@@ -103,7 +103,8 @@ fn leave(tables: &mut Tables, initial: bool, thread: u8, value: u32)
     }
 }
 
-/// A clean-up handler returned: a thread that unwinds goes to its next handler, or ends, and any other faults.
+/// A clean-up handler or a destructor returned: a thread that unwinds goes to its next handler, else to its next
+/// destructor, or ends, and any other faults.
 fn leave_handler(tables: &mut Tables, unwinds: bool, thread: u8, pc: u32)
     requires live { is_live tables.old.threads thread ≡ true }
     requires free { is_waiting tables.old.threads thread ≡ false }

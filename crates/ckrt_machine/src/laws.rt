@@ -27,6 +27,12 @@ pub fn folds_on()
     ensures accepted { (es : List Event) (e : Event) (s : State) → AllAccepted es s → IsAccepted e (fold es s).state → AllAccepted (es ++ e ∷ []) s }
 {}
 
+/// No event changes how many harts there are, nor whether the program may have keys.
+pub fn events_change_neither()
+    ensures harts { (es : List Event) (s : State) → (fold es s).state.tables.threads.hart_count ≡ s.tables.threads.hart_count }
+    ensures keys { (es : List Event) (s : State) → (fold es s).state.tables.threads.keys.is_on ≡ s.tables.threads.keys.is_on }
+{}
+
 /// What well-formed tables imply, in plain words: nobody is left waiting at a free mutex, no read-write lock has a writer
 /// beside readers or a first waiter that could be granted it, no thread waits twice, and who is on a hart has not ended and
 /// waits for nothing.

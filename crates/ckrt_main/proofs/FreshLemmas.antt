@@ -11,7 +11,7 @@ use Rattle.ckrt_recovery.specs.declared.session.Session.{Session}
 use Rattle.ckrt_image.specs.Progress.{recovered_of}
 use Rattle.ckrt_image.specs.Format.{IsFormatted}
 use Rattle.ckrt_image.specs.Recovery.{AgreesOnFault, Recovered, Recovers}
-use Rattle.ckrt_image.specs.Programs.{Program, formatted}
+use Rattle.ckrt_image.specs.Programs.{Program, formatted, formatted_program}
 use Rattle.ckrt_image.proofs.RecoverLemmas.{recovered_once, recovers_once}
 use Rattle.ckrt_recovery.specs.View.{View, view_of, opened, fresh}
 use Rattle.ckrt_recovery.specs.Transcript.{transcript, view_after}
@@ -23,7 +23,7 @@ use Rattle.ckrt_main.proofs.ProcessLemmas.{consumes_nothing}
 pub view_of_fresh : {D : Type 0} {g : Ghosts D} (config : Config) (image : List ℕ) (s : Session D g) (content : List ℕ) → IsFormatted config image content → Recovers content (Ok (recovered_of s.progress))
     → view_of s ≡ opened (recovered_of s.progress) → view_of s ≡ fresh config image
 view_of_fresh config image s content is found_by view =
-    let p : Program = record { config = config; image = image } in
+    let p : Program = formatted_program config image in
     view ∙ ap opened (recovered_once content (recovered_of s.progress) (formatted p) found_by is)
 
 -- a disk that never fails counts no failure
@@ -32,7 +32,7 @@ none_failed h = ⊎_elim (λ (lt : _). omega (arith, lt)) (λ (le : _). omega (a
 
 no_fault : (config : Config) (image content : List ℕ) (fault : RecoverFault) → IsFormatted config image content → Recovers content (Err fault) → ⊥
 no_fault config image content fault is found =
-    let both : ◌≡◌ {A = Result Recovered RecoverFault} (Ok (formatted (record { config = config; image = image }))) (Err fault) = recovers_once content _ _ is found in
+    let both : ◌≡◌ {A = Result Recovered RecoverFault} (Ok (formatted (formatted_program config image))) (Err fault) = recovers_once content _ _ is found in
     absurd (cc)
 
 -- and nothing but want of memory keeps it from being recovered

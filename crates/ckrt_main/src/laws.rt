@@ -31,7 +31,7 @@ pub fn told_is_durable<D: Disk>(before: &Session<D>, after: &Session<D>, later: 
 
 /// Sessions with the same state and count answer the same lines alike, whatever is pending, held or confirmed: the same
 /// answers, the same events, and again sessions that are alike, as far as neither refuses by its own room, batch, held output,
-/// counts or disk.
+/// counts, disk or journal's version.
 pub fn answers_alike()
     ensures { (f g : Fate) (v w : View) (bytes : List ℕ) → IsAlike v w → NoneIsLocal (transcript f v bytes).replies → NoneIsLocal (transcript g w bytes).replies → AnswerAlike (transcript f v bytes) (transcript g w bytes) }
 {}

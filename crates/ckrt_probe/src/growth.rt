@@ -5,7 +5,7 @@
 
 use ckrt_disk::{Disk, MemoryDisk};
 use ckrt_recovery::{Config, FormatFault, RecoverFault, format, recover};
-use ckrt_tables::decode_tables;
+use ckrt_tables::{VERSION, decode_tables};
 use std::alloc::{AllocError, Global};
 
 /// A guest of one word that is no instruction.
@@ -80,10 +80,10 @@ pub fn report(alloc: Global) -> &'static str {
     }
 }
 
-/// The saved tables of a program with 16 pages that hasn't begun: thread 1, the initial one, with its pc 4096, its return
-/// address and its stack pointer.
-fn fresh_tables() -> [u8; 170] {
-    let mut bytes = [0; 170];
+/// The saved tables, in version 2, of a program with 16 pages that hasn't begun: thread 1, the initial one, with its pc 4096,
+/// its return address and its stack pointer; and that there may be keys.
+fn fresh_tables() -> [u8; 176] {
+    let mut bytes = [0; 176];
     bytes[24] = 1;
     bytes[25] = 1;
     bytes[26] = 1;
@@ -93,12 +93,13 @@ fn fresh_tables() -> [u8; 170] {
     bytes[39] = 0xFF;
     bytes[40] = 0xFF;
     bytes[43] = 1;
+    bytes[170] = 1;
     bytes
 }
 
 /// What decoding saved tables met.
 pub fn report_tables(alloc: Global) -> &'static str {
-    match decode_tables(alloc, &fresh_tables(), 1) {
+    match decode_tables(alloc, VERSION, &fresh_tables(), 1) {
         Ok(Some(_)) => "decoded",
         Ok(None) => "decoding met something else",
         Err(_) => "decoding: OutOfMemory",

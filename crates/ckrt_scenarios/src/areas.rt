@@ -40,9 +40,9 @@ const POINT: SavePoint = SavePoint {
 /// Three bytes in place of tables.
 const TABLES: [u8; 3] = [1, 2, 3];
 
-/// The header's fields of that: generation 2, 5 events, offset 7, 3 bytes of tables, version 1.
+/// The header's fields of that: generation 2, 5 events, offset 7, 3 bytes of tables, version 2.
 const FIELDS: [u8; 32] = [
-    2, 0, 0, 0, 0, 0, 0, 0, 5, 0, 0, 0, 0, 0, 0, 0, 7, 0, 0, 0, 0, 0, 0, 0, 3, 0, 0, 0, 1, 0, 0, 0,
+    2, 0, 0, 0, 0, 0, 0, 0, 5, 0, 0, 0, 0, 0, 0, 0, 7, 0, 0, 0, 0, 0, 0, 0, 3, 0, 0, 0, 2, 0, 0, 0,
 ];
 
 /// Whether a disk is large enough for the small configuration, which is in its ranges.
@@ -228,9 +228,10 @@ fn picked<R: Abort, D: Disk>(rt: &R, disk: &mut D) -> Result<Area, AreaFault> {
     pick_area(disk, &SMALL)
 }
 
-/// Two headers with these gates and generations, of version 1, and what is picked: the area and its generation.
-fn expect_picked<R: Abort + AllocGlobal>(
+/// Two headers with these gates and generations, of this version, and what is picked: the area and its generation.
+fn expect_picked_of<R: Abort + AllocGlobal>(
     rt: &R,
+    version: u8,
     first: (u8, u8),
     second: (u8, u8),
     want: Result<(usize, u64), AreaFault>,
@@ -238,15 +239,33 @@ fn expect_picked<R: Abort + AllocGlobal>(
     let mut image = filled(rt, 0, SIZE);
     lay(rt, &mut image, 4_096, &[first.0]);
     lay(rt, &mut image, 4_096 + 8, &[first.1]);
-    lay(rt, &mut image, 4_096 + 36, &[1]);
+    lay(rt, &mut image, 4_096 + 36, &[version]);
     lay(rt, &mut image, AREA_1, &[second.0]);
     lay(rt, &mut image, AREA_1 + 8, &[second.1]);
-    lay(rt, &mut image, AREA_1 + 36, &[1]);
+    lay(rt, &mut image, AREA_1 + 36, &[version]);
     let got = match picked(rt, &mut memory_disk(rt, image)) {
         Ok(area) => Ok((area.index, area.header.generation)),
         Err(fault) => Err(fault),
     };
     expect_eq(rt, got, want);
+}
+
+/// The same of version 2.
+fn expect_picked<R: Abort + AllocGlobal>(
+    rt: &R,
+    first: (u8, u8),
+    second: (u8, u8),
+    want: Result<(usize, u64), AreaFault>,
+) {
+    expect_picked_of(rt, 2, first, second, want);
+}
+
+#[test]
+fn areas_of_two_versions_are_picked(rt: HostRuntime) {
+    expect_picked_of(&rt, 0, (0xa5, 1), (0, 9), Err(AreaFault::Version));
+    expect_picked_of(&rt, 1, (0xa5, 1), (0, 9), Ok((0, 1)));
+    expect_picked_of(&rt, 2, (0, 9), (0xa5, 1), Ok((1, 1)));
+    expect_picked_of(&rt, 3, (0xa5, 1), (0, 9), Err(AreaFault::Version));
 }
 
 #[test]

@@ -51,7 +51,13 @@ mutex 00003004 errorcheck 0 0\n\
 mutex 00003008 normal 10 1\n\
 barrier 00003020 3\n\
 rwlock 00003030 writer 1\n\
-rwlock 00003040 readers 1:2 10:1\n";
+rwlock 00003040 readers 1:2 10:1\n\
+key 0 00000000\n\
+key 7 00002008\n\
+key 31 fffffffc\n\
+value 1 0 9\n\
+value 1 31 16909060\n\
+value 5 7 4294967295\n";
 
 #[test]
 fn everything_is_listed(rt: HostRuntime) {

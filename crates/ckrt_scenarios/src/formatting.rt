@@ -19,12 +19,12 @@ const FRESH: &[(usize, &[u8])] = &[
         16,
         &[1, 0, 0, 0, 0x10, 0, 0, 0, 1, 0, 0, 0, 0, 0x10, 0, 0, 0xee],
     ),
-    // area 0: gate, generation 1, count 0, offset 0, tables of 170 bytes, version 1
+    // area 0: gate, generation 1, count 0, offset 0, tables of 176 bytes, version 2
     (4_096, &[0xa5, 0xee, 0xee, 0xee, 0xee, 0xee, 0xee, 0xee]),
     (4_104, &[1, 0, 0, 0, 0, 0, 0, 0, 0, 0, 0, 0, 0, 0, 0, 0]),
     (
         4_120,
-        &[0, 0, 0, 0, 0, 0, 0, 0, 0xaa, 0, 0, 0, 1, 0, 0, 0, 0xee],
+        &[0, 0, 0, 0, 0, 0, 0, 0, 0xb0, 0, 0, 0, 2, 0, 0, 0, 0xee],
     ),
     // its tables: thread 1, with pc 1000, x1 FFFFFFF0 and x2 10000
     (8_192, &[0; 24]),
@@ -33,7 +33,8 @@ const FRESH: &[(usize, &[u8])] = &[
         8_225,
         &[0, 0x10, 0, 0, 0xf0, 0xff, 0xff, 0xff, 0, 0, 1, 0, 0],
     ),
-    (8_361, &[0, 0xee]),
+    // its keys: there may be some, and there is none; then neither input nor output
+    (8_361, &[0, 1, 0, 0, 0, 0, 0, 0xee]),
     // its memory
     (110_592, &IMAGE),
     (110_616, &[0, 0]),

@@ -54,6 +54,8 @@ mod jobs;
 #[cfg(test)]
 mod journal;
 #[cfg(test)]
+mod keys;
+#[cfg(test)]
 mod largest;
 #[cfg(test)]
 mod linked_waits;
@@ -63,6 +65,8 @@ mod lives;
 mod marks;
 #[cfg(test)]
 mod mutexes;
+#[cfg(test)]
+mod old_disks;
 #[cfg(test)]
 mod power_loss;
 #[cfg(test)]

@@ -3,7 +3,8 @@
 use arrayvec::ArrayVec;
 use ckrt_rv32i::Regs;
 use ckrt_thread::{
-    Cancellation, Live, Object, Reason, RetakeResult, Thread, ThreadId, Threads, Wait,
+    Cancellation, Keys, Live, Object, Reason, RetakeResult, SpecificData, Thread, ThreadId,
+    Threads, Wait,
 };
 use std::alloc::AllocGlobal;
 use std::process::Abort;
@@ -53,12 +54,16 @@ fn live(initial: bool) -> Thread {
         detached: false,
         cancellation: Cancellation::new(),
         handlers: ArrayVec::new(),
+        specific: SpecificData::new(),
     })
 }
 
 /// 64 threads, none of which waits.
 fn all_threads<R: Abort + AllocGlobal>(rt: &R) -> Threads {
-    let mut threads = Threads::empty(rt.alloc(), 1).expect(rt, "memory for the threads");
+    let mut threads = Threads::empty(rt.alloc(), 1, Keys::new()).expect(
+        rt,
+        "memory for the threads",
+    );
     for id in 1..=64u8 {
         assert!(rt; threads.append_thread(id, live(id == 1)));
     }

@@ -84,14 +84,18 @@ fn change_superblock<R: Abort + AllocGlobal>(rt: &R) {
     expect_fault(rt, 28, &[1, 0x10], RecoverFault::Damaged);
 }
 
-/// Changes of area 0: closed, generation 0, version 9, tables of 171 and of 98,305 bytes.
+/// Changes of area 0: closed, generation 0, versions 9, 3 and 0, version 1 of tables that aren't, tables of 177 and of 98,305
+/// bytes.
 fn change_first_area<R: Abort + AllocGlobal>(rt: &R) {
     expect_fault(rt, FIRST_AREA, &[0], RecoverFault::Damaged);
     expect_fault(rt, FIRST_AREA + 8, &[0], RecoverFault::Damaged);
     expect_fault(rt, FIRST_AREA + 36, &[9], RecoverFault::Version);
+    expect_fault(rt, FIRST_AREA + 36, &[3], RecoverFault::Version);
+    expect_fault(rt, FIRST_AREA + 36, &[0], RecoverFault::Version);
+    expect_fault(rt, FIRST_AREA + 36, &[1], RecoverFault::Damaged);
     let version = (FIRST_AREA + 36, [9].as_slice());
     expect_first_fault(rt, (FIRST_AREA + 8, &[0]), version, RecoverFault::Damaged);
-    expect_fault(rt, FIRST_AREA + 32, &[0xab], RecoverFault::Damaged);
+    expect_fault(rt, FIRST_AREA + 32, &[0xb1], RecoverFault::Damaged);
     expect_fault(rt, FIRST_AREA + 32, &[1, 0x80, 1], RecoverFault::Damaged);
 }
 

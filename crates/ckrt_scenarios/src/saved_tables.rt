@@ -13,8 +13,8 @@ use ckrt_rv32i::Regs;
 use ckrt_rwlock::{RwLock, RwLocks};
 use ckrt_tables::{HELD_LIMIT, Held, TABLES_ROOM, encode_tables};
 use ckrt_thread::{
-    Cancellation, Handler, Live, MAX_HANDLERS, Reason, RetakeResult, Thread, ThreadId, Threads,
-    Wait,
+    Cancellation, Handler, Keys, Live, MAX_HANDLERS, MAX_KEYS, Reason, RetakeResult, SpecificData,
+    Thread, ThreadId, Threads, Wait,
 };
 use std::process::Abort;
 
@@ -49,8 +49,8 @@ pub fn push_zeros<R: Abort>(rt: &R, bytes: &mut Vec<u8>, count: usize) {
     }
 }
 
-/// The one thread of a program that hasn't begun, behind the count of threads.
-pub fn push_initial_thread<R: Abort>(rt: &R, bytes: &mut Vec<u8>) {
+/// The one thread of a program that hasn't begun, behind the count of threads, in version 1.
+pub fn push_old_initial_thread<R: Abort>(rt: &R, bytes: &mut Vec<u8>) {
     // Its number, the flag of the initial thread, no handler; it doesn't unwind.
     push(rt, bytes, &[1, 1, 1, 0, 0, 0, 0, 0, 0]);
     // It begins at 0x1000, returns to 0xFFFFFFF0, and has its stack at 65,536.
@@ -60,23 +60,42 @@ pub fn push_initial_thread<R: Abort>(rt: &R, bytes: &mut Vec<u8>) {
     push_zeros(rt, bytes, 29 * 4);
 }
 
+/// The same in version 2: in no round of destructors, the next key 0, and no value.
+pub fn push_initial_thread<R: Abort>(rt: &R, bytes: &mut Vec<u8>) {
+    push_old_initial_thread(rt, bytes);
+    push_zeros(rt, bytes, 4);
+}
+
 /// The tables of a program that hasn't begun.
 pub fn fresh_bytes<R: Abort + AllocGlobal>(rt: &R) -> Vec<u8> {
     let mut bytes = Vec::new(rt.alloc());
     // The clock, whether the input ended, the status, and eight idle harts.
     push_zeros(rt, &mut bytes, 8 + 1 + 7 + 8);
     push_initial_thread(rt, &mut bytes);
-    // No wait, mutex, barrier or read-write lock, no input and no output.
+    // No wait, mutex, barrier or read-write lock.
+    push_zeros(rt, &mut bytes, 1 + 2 + 1 + 1);
+    // There may be keys, and there is none.
+    push(rt, &mut bytes, &[1, 0]);
+    // No input and no output.
+    push_zeros(rt, &mut bytes, 2 + 2);
+    bytes
+}
+
+/// The same in version 1.
+pub fn old_fresh_bytes<R: Abort + AllocGlobal>(rt: &R) -> Vec<u8> {
+    let mut bytes = Vec::new(rt.alloc());
+    push_zeros(rt, &mut bytes, 8 + 1 + 7 + 8);
+    push_old_initial_thread(rt, &mut bytes);
     push_zeros(rt, &mut bytes, 1 + 2 + 1 + 1 + 2 + 2);
     bytes
 }
 
-/// The tables of a program that hasn't begun: 170 bytes.
+/// The tables of a program that hasn't begun: 176 bytes.
 #[test]
-fn fresh_tables_have_170_bytes(rt: HostRuntime) {
+fn fresh_tables_have_176_bytes(rt: HostRuntime) {
     let tables = Tables::new(rt.alloc(), 16, 1).expect(&rt, "memory for tables");
     let want = fresh_bytes(&rt);
-    expect_eq(&rt, want.len(), 170);
+    expect_eq(&rt, want.len(), 176);
     expect_encoding(&rt, &tables, &held(&rt, b""), want.as_slice());
 }
 
@@ -88,6 +107,7 @@ fn live(pc: u32) -> Live {
         detached: false,
         cancellation: Cancellation::new(),
         handlers: ArrayVec::new(),
+        specific: SpecificData::new(),
     }
 }
 
@@ -114,13 +134,23 @@ fn two_handlers() -> ArrayVec<Handler, MAX_HANDLERS> {
     handlers
 }
 
-/// The thread that the program began with: with a request, a number of its own in each register, and two handlers.
+/// Values under keys 0 and 31.
+fn two_values() -> SpecificData {
+    let mut specific = SpecificData::new();
+    specific.values[0] = 9;
+    specific.values[31] = 0x0102_0304;
+    specific
+}
+
+/// The thread that the program began with: with a request, a number of its own in each register, two handlers, and two
+/// values.
 fn first_thread() -> Thread {
     let mut first = live(0x1004);
     first.regs = numbered_registers(0x1004);
     first.initial = true;
     first.cancellation.is_requested = true;
     first.handlers = two_handlers();
+    first.specific = two_values();
     Thread::Live(first)
 }
 
@@ -131,10 +161,24 @@ fn asynchronous_thread(pc: u32) -> Thread {
     Thread::Live(thread)
 }
 
-/// A thread that was cancelled, and runs its handlers.
+/// A thread that was cancelled, and runs the destructor of key 31 in the second round; its value under key 7 was set.
 fn unwinding_thread(pc: u32) -> Thread {
     let mut thread = live(pc);
     thread.cancellation = Cancellation::new().acted_on();
+    thread.specific.values[7] = 0xFFFF_FFFF;
+    thread.specific.round = 2;
+    thread.specific.next_key = 32;
+    Thread::Live(thread)
+}
+
+/// A thread that doesn't unwind, with a value under this key, a round and a next key.
+fn thread_with(key: u8, round: u8, next_key: u8) -> Thread {
+    let mut thread = live(0x102C);
+    if let Some(value) = thread.specific.values.get_mut(key as usize) {
+        *value = 1;
+    }
+    thread.specific.round = round;
+    thread.specific.next_key = next_key;
     Thread::Live(thread)
 }
 
@@ -207,9 +251,19 @@ fn add_waits<R: Abort>(rt: &R, threads: &mut Threads) {
     add_wait(rt, threads, 9, Reason::Write(0x3040), None);
 }
 
-/// Twelve threads, nine waits, and one of two harts with a thread.
+/// Keys 0, without a destructor, 7 and 31.
+fn three_keys<R: Abort>(rt: &R) -> Keys {
+    let mut destructors = [None; MAX_KEYS];
+    destructors[0] = Some(0);
+    destructors[7] = Some(0x2008);
+    destructors[31] = Some(0xFFFF_FFFC);
+    Keys::with(true, destructors).expect(rt, "destructors are at multiples of 4")
+}
+
+/// Twelve threads, nine waits, one of two harts with a thread, and three keys.
 fn threads_with_everything<R: Abort + AllocGlobal>(rt: &R) -> Threads {
-    let mut threads = Threads::empty(rt.alloc(), 2).expect(rt, "memory for threads");
+    let keys = three_keys(rt);
+    let mut threads = Threads::empty(rt.alloc(), 2, keys).expect(rt, "memory for threads");
     add_threads(rt, &mut threads);
     add_more_threads(rt, &mut threads);
     add_waits(rt, &mut threads);
@@ -282,11 +336,17 @@ fn input<R: Abort + AllocGlobal>(rt: &R) -> InputQueue {
     input
 }
 
-/// A thread's record with zeros in its registers and no handler.
-fn push_thread<R: Abort>(rt: &R, want: &mut Vec<u8>, id: u8, flags: u8, value: u8, pc: u8) {
+/// A thread's record with zeros in its registers and no handler, up to its values.
+pub fn push_front<R: Abort>(rt: &R, want: &mut Vec<u8>, id: u8, flags: u8, value: u8, pc: u8) {
     push(rt, want, &[id, flags, 0, 0, value, value, value, value]);
     push(rt, want, &[pc, 0x10, 0x00, 0x00]);
     push_zeros(rt, want, 31 * 4);
+}
+
+/// The record of a thread without values and in no round.
+fn push_thread<R: Abort>(rt: &R, want: &mut Vec<u8>, id: u8, flags: u8, pc: u8) {
+    push_front(rt, want, id, flags, 0, pc);
+    push_zeros(rt, want, 4);
 }
 
 /// The record of the first thread.
@@ -298,27 +358,39 @@ fn push_first_thread<R: Abort>(rt: &R, want: &mut Vec<u8>) {
     }
     push(rt, want, &[0x00, 0x20, 0, 0, 7, 0, 0, 0]);
     push(rt, want, &[0x04, 0x20, 0, 0, 8, 0, 0, 0]);
+    // No round, next key 0, two values: under key 0 and under key 31.
+    push(rt, want, &[0, 0, 2, 0]);
+    push(rt, want, &[0, 0, 0, 0, 9, 0, 0, 0]);
+    push(rt, want, &[31, 0, 0, 0, 4, 3, 2, 1]);
+}
+
+/// The record of the thread that unwinds.
+fn push_unwinding_thread<R: Abort>(rt: &R, want: &mut Vec<u8>) {
+    // Disabled (4) and unwinding (32), to end with 0xFFFFFFFF.
+    push_front(rt, want, 5, 36, 0xFF, 0x14);
+    // The second round, past key 31, and one value: under key 7.
+    push(rt, want, &[2, 32, 1, 0]);
+    push(rt, want, &[7, 0, 0, 0, 0xFF, 0xFF, 0xFF, 0xFF]);
 }
 
 /// The twelve threads.
 fn push_threads<R: Abort>(rt: &R, want: &mut Vec<u8>) {
     push(rt, want, &[12]);
     push_first_thread(rt, want);
-    push_thread(rt, want, 2, 0, 0, 0x08);
-    push_thread(rt, want, 3, 8, 0, 0x0C);
-    push_thread(rt, want, 4, 0, 0, 0x10);
-    // Disabled (4) and unwinding (32), to end with 0xFFFFFFFF.
-    push_thread(rt, want, 5, 36, 0xFF, 0x14);
-    push_thread(rt, want, 6, 0, 0, 0x18);
-    push_thread(rt, want, 7, 0, 0, 0x1C);
-    push_thread(rt, want, 8, 0, 0, 0x20);
-    push_thread(rt, want, 9, 0, 0, 0x24);
+    push_thread(rt, want, 2, 0, 0x08);
+    push_thread(rt, want, 3, 8, 0x0C);
+    push_thread(rt, want, 4, 0, 0x10);
+    push_unwinding_thread(rt, want);
+    push_thread(rt, want, 6, 0, 0x18);
+    push_thread(rt, want, 7, 0, 0x1C);
+    push_thread(rt, want, 8, 0, 0x20);
+    push_thread(rt, want, 9, 0, 0x24);
     // Detached (2) and disabled (4).
-    push_thread(rt, want, 10, 6, 0, 0x28);
-    push_thread(rt, want, 11, 0, 0, 0x2C);
+    push_thread(rt, want, 10, 6, 0x28);
+    push_thread(rt, want, 11, 0, 0x2C);
     // Ended, with 0x01020304; all else is 0.
     push(rt, want, &[12, 64, 0, 0, 4, 3, 2, 1]);
-    push_zeros(rt, want, 32 * 4);
+    push_zeros(rt, want, 32 * 4 + 4);
 }
 
 /// The nine waits, 20 bytes each: thread, kind, result, whether there is a deadline; two names; the deadline.
@@ -396,6 +468,14 @@ fn push_objects<R: Abort>(rt: &R, want: &mut Vec<u8>) {
     push(rt, want, &[0x40, 0x30, 0, 0, 0, 2, 1, 2, 0, 10, 1, 0]);
 }
 
+/// That there may be keys, and three of them.
+fn push_keys<R: Abort>(rt: &R, want: &mut Vec<u8>) {
+    push(rt, want, &[1, 3]);
+    push(rt, want, &[0, 0, 0, 0, 0, 0, 0, 0]);
+    push(rt, want, &[7, 0, 0, 0, 0x08, 0x20, 0, 0]);
+    push(rt, want, &[31, 0, 0, 0, 0xFC, 0xFF, 0xFF, 0xFF]);
+}
+
 /// Everything that tables can hold, but for a wait for input.
 pub fn tables_with_everything<R: Abort + AllocGlobal>(rt: &R) -> Tables {
     Tables {
@@ -420,6 +500,7 @@ pub fn bytes_of_everything<R: Abort + AllocGlobal>(rt: &R) -> Vec<u8> {
     push_threads(rt, &mut bytes);
     push_waits(rt, &mut bytes);
     push_objects(rt, &mut bytes);
+    push_keys(rt, &mut bytes);
     push(rt, &mut bytes, &[2, 0, 0x68, 0x69]);
     push(rt, &mut bytes, &[3, 0, 0x6F, 0x75, 0x74]);
     bytes
@@ -441,6 +522,9 @@ fn rows_that_fit_nowhere_are_refused(rt: HostRuntime) {
     assert!(&rt; !threads.append_thread(65, Thread::Ended(0)));
     assert!(&rt; !threads.append_thread(13, first_thread()));
     assert!(&rt; !threads.append_thread(13, Thread::Live(live(0x1002))));
+    assert!(&rt; !threads.append_thread(13, thread_with(1, 0, 0)));
+    assert!(&rt; !threads.append_thread(13, thread_with(0, 1, 0)));
+    assert!(&rt; !threads.append_thread(13, thread_with(0, 0, 1)));
     let of_ended = Wait {
         thread: 12,
         reason: Reason::Input,

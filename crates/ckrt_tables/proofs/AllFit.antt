@@ -99,6 +99,7 @@ fresh_fits pages harts few =
       harts = refl;
       threads = all_set fits_slot (replicate 65 None) 1 (Some (first_of_program (4096 * pages))) refl first;
       waits = refl;
+      keys = refl;
       mutexes = refl;
       barriers = refl;
       rwlocks = refl;
@@ -137,10 +138,11 @@ fresh_well_formed pages harts few = record {
   fault_pc = λ t pc cause e. absurd (cc);
 }
 
-pub fresh_savable : (pages harts : ℕ) → pages ≤ 1024 → harts ≤ 8 → CanBeSaved harts (fresh pages harts) []
+pub fresh_savable : (pages harts : ℕ) → pages ≤ 1024 → harts ≤ 8 → CanBeSaved 2 harts (fresh pages harts) []
 fresh_savable pages harts few_pages few_harts = record {
   well_formed = fresh_well_formed pages harts few_harts;
   fit = fresh_fits pages harts few_pages;
+  said = λ e. absurd (cc);
   hart_count = refl;
   is_held = omega arith;
   held_bytes = refl;

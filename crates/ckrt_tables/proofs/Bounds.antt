@@ -1,5 +1,5 @@
 -- How many bytes an encoding has at most.
-use Rattle.std.proofs.Common.{◌≡◌, ℕ, suc, ◌+◌, ◌*◌, ◌≤◌, true, Option, Some, None, List, [], ◌∷◌, ◌++◌, length, length-append, refl, ap, arith}
+use Rattle.std.proofs.Common.{◌≡◌, ℕ, suc, ◌+◌, ◌*◌, ◌≤◌, ◌==◌, true, false, cond, map, ◌∙◌, Option, Some, None, List, [], ◌∷◌, ◌++◌, length, length-append, refl, ap, arith}
 use Rattle.std.specs.Prelude.{slice_get, slice_index_or}
 use Rattle.std.specs.List.{list_all, flat_map}
 use Rattle.std.specs.Option.{option_flatten}
@@ -15,10 +15,15 @@ use Rattle.ckrt_rwlock.specs.declared.records.RwLock.{RwLock}
 use Rattle.ckrt_rwlock.specs.RwLock.{is_proper}
 use Rattle.ckrt_calls.specs.declared.table.Tables.{Tables}
 use Rattle.ckrt_calls.specs.WellFormed.{IsWellFormed}
-use Rattle.ckrt_tables.specs.Records.{hart_bytes, handlers_of, handler_bytes, thread_bytes, wait_bytes, mutex_bytes, barrier_bytes, reader_at, readers_from, reader_bytes, rwlock_bytes}
+use Rattle.ckrt_thread.specs.declared.keys.SpecificData.{SpecificData}
+use Rattle.ckrt_thread.specs.Keys.{KeyTable, are_proper_keys}
+use Rattle.ckrt_thread.proofs.KeyLemmas.{enough_values}
+use Rattle.ckrt_tables.specs.Records.{hart_bytes, handlers_of, handler_bytes, specific_of, if_not_0, words_from, key_word_bytes, value_words, data_bytes, keys_bytes, thread_bytes, wait_bytes, mutex_bytes, barrier_bytes, reader_at, readers_from, reader_bytes, rwlock_bytes, flag, counted, one_byte}
 use Rattle.ckrt_tables.specs.Encoding.{encoding_of, IsHeld}
 use Rattle.ckrt_tables.proofs.Few.{few}
 use Rattle.ckrt_tables.proofs.Counts.{readers_fewer}
+use Rattle.ckrt_tables.proofs.KeyWords.{words_fewer}
+use Rattle.std.proofs.lemmas.List.{length-map}
 use Rattle.ckrt_tables.proofs.Lengths.{encoding_length, status_length}
 
 -- records of one size
@@ -30,8 +35,34 @@ length_each each n one (x ∷ xs) =
 
 -- THREADS
 
-thread_length : (r : ThreadRow) → length (thread_bytes r) ≡ 136 + length (flat_map handler_bytes (handlers_of r.thread))
-thread_length r = omega arith
+words_length : (os : List (Option ℕ)) → length os ≡ 32 → length (flat_map key_word_bytes (words_from 0 os)) ≤ 256
+words_length os n = (let each = length_each key_word_bytes 8 (λ w. refl) (words_from 0 os) in let few = words_fewer 0 os in omega (arith, each, few, n))
+
+data_bound : (version : ℕ) (d : SpecificData) → length d.values ≡ 32 → length (data_bytes version d) ≤ 260
+data_bound version d n =
+    let words = words_length (map if_not_0 d.values) (length-map d.values if_not_0 ∙ n) in
+    elim (version == 1) as (λ b. length (cond b [] (d.round ∷ d.next_key ∷ length (value_words d) ∷ 0 ∷ flat_map key_word_bytes (value_words d))) ≤ 260) [
+      | true ↦ omega arith
+      | false ↦ omega (arith, words)
+    ]
+
+keys_bound : (version : ℕ) (keys : KeyTable) → are_proper_keys keys ≡ true → length (keys_bytes version keys) ≤ 258
+keys_bound version keys p =
+    let size : length keys.destructors ≡ 32 = grind (arith, nat_tests, p) in
+    let words = words_length keys.destructors size in
+    elim (version == 1) as (λ b. length (cond b [] (flag 1 keys.is_on ∷ counted one_byte key_word_bytes (words_from 0 keys.destructors))) ≤ 258) [
+      | true ↦ omega arith
+      | false ↦ omega (arith, words)
+    ]
+
+thread_length : (version : ℕ) (r : ThreadRow) → length (thread_bytes version r) ≡ 136 + length (flat_map handler_bytes (handlers_of r.thread)) + length (data_bytes version (specific_of r.thread))
+thread_length version r =
+    let e = length-append (flat_map handler_bytes (handlers_of r.thread)) (data_bytes version (specific_of r.thread)) in
+    omega (arith, e)
+
+specific_size : (t : Thread) → is_proper_slot (Some t) ≡ true → length (specific_of t).values ≡ 32
+specific_size (thread.Ended v) is = refl
+specific_size (thread.Live l) is = enough_values l is
 
 handlers_length : (hs : List Handler) → length (flat_map handler_bytes hs) ≡ 8 * length hs
 handlers_length hs = length_each handler_bytes 8 (λ h. refl) hs
@@ -40,16 +71,17 @@ few_handlers : (t : Thread) → is_proper_slot (Some t) ≡ true → length (han
 few_handlers (thread.Ended v) is = omega arith
 few_handlers (thread.Live l) is = grind (arith, nat_tests, is)
 
-threads_bound : (k : ℕ) (slots : List (Option Thread)) → ((i : ℕ) → is_proper_slot (option_flatten (slice_get slots i)) ≡ true)
-    → length (flat_map thread_bytes (rows_from k slots)) ≤ 264 * length (rows_from k slots)
-threads_bound k [] is = omega arith
-threads_bound k (None ∷ slots) is = threads_bound (suc k) slots (λ i. is (suc i))
-threads_bound k (Some t ∷ slots) is =
+threads_bound : (version k : ℕ) (slots : List (Option Thread)) → ((i : ℕ) → is_proper_slot (option_flatten (slice_get slots i)) ≡ true)
+    → length (flat_map (thread_bytes version) (rows_from k slots)) ≤ 524 * length (rows_from k slots)
+threads_bound version k [] is = omega arith
+threads_bound version k (None ∷ slots) is = threads_bound version (suc k) slots (λ i. is (suc i))
+threads_bound version k (Some t ∷ slots) is =
     let r : ThreadRow = record { id = k; thread = t } in
-    let more = threads_bound (suc k) slots (λ i. is (suc i)) in
-    let e : length (thread_bytes r ++ flat_map thread_bytes (rows_from (suc k) slots)) ≡ length (thread_bytes r) + length (flat_map thread_bytes (rows_from (suc k) slots)) =
-    length-append (thread_bytes r) (flat_map thread_bytes (rows_from (suc k) slots)) in
-    omega (arith, e, thread_length r, handlers_length (handlers_of t), few_handlers t (is 0), more)
+    let more = threads_bound version (suc k) slots (λ i. is (suc i)) in
+    let e : length (thread_bytes version r ++ flat_map (thread_bytes version) (rows_from (suc k) slots)) ≡ length (thread_bytes version r) + length (flat_map (thread_bytes version) (rows_from (suc k) slots)) =
+    length-append (thread_bytes version r) (flat_map (thread_bytes version) (rows_from (suc k) slots)) in
+    let bound = data_bound version (specific_of t) (specific_size t (is 0)) in
+    omega (arith, e, thread_length version r, handlers_length (handlers_of t), few_handlers t (is 0), bound, more)
 
 -- READ-WRITE LOCKS
 
@@ -76,23 +108,24 @@ rwlocks_bound (l ∷ ls) is =
 -- ALL
 
 -- by the number of records
-pub encoding_size : (s : Tables) (held : List ℕ) → IsWellFormed s → length (encoding_of s held) ≤
-    34 + (264 * length (thread_rows s.threads) + 20 * length s.threads.waits) + 8 * length s.mutexes + (8 * length s.barriers + 198 * length s.rwlocks) + length s.input + length held
-encoding_size s held is =
+pub encoding_size : (version : ℕ) (s : Tables) (held : List ℕ) → IsWellFormed s → length (encoding_of version s held) ≤
+    36 + (524 * length (thread_rows s.threads) + 20 * length s.threads.waits) + 8 * length s.mutexes + (8 * length s.barriers + 198 * length s.rwlocks) + 256 + length s.input + length held
+encoding_size version s held is =
     omega (
       arith,
-      encoding_length s held,
+      encoding_length version s held,
       status_length s.status,
       length_each hart_bytes 1 (λ h. refl) s.threads.harts,
       is.threads.harts,
-      threads_bound 0 s.threads.threads is.threads.proper,
+      threads_bound version 0 s.threads.threads is.threads.proper,
+      keys_bound version s.threads.keys is.threads.proper_keys,
       length_each wait_bytes 20 (λ w. refl) s.threads.waits,
       length_each mutex_bytes 8 (λ m. refl) s.mutexes,
       length_each barrier_bytes 8 (λ b. refl) s.barriers,
       rwlocks_bound s.rwlocks is.rwlocks.table.proper,
     )
 
-pub encoding_bound : (s : Tables) (held : List ℕ) → IsWellFormed s → IsHeld held → length (encoding_of s held) ≤ 53922
-encoding_bound s held is is_held =
+pub encoding_bound : (version : ℕ) (s : Tables) (held : List ℕ) → IsWellFormed s → IsHeld held → length (encoding_of version s held) ≤ 70820
+encoding_bound version s held is is_held =
     let at_most = few s is in
-    omega (arith, encoding_size s held is, few_threads s.threads is.threads, at_most.waits, at_most.mutexes, at_most.barriers, at_most.rwlocks, at_most.input, is_held)
+    omega (arith, encoding_size version s held is, few_threads s.threads is.threads, at_most.waits, at_most.mutexes, at_most.barriers, at_most.rwlocks, at_most.input, is_held)

@@ -1,5 +1,5 @@
 -- No two savable states have one encoding: no encoding of a part begins another's.
-use Rattle.std.proofs.Common.{◌≡◌, ℕ, zero, suc, ◌+◌, ◌*◌, ◌<◌, ◌≤◌, ◌^◌, Bool, true, false, not, Option, Some, None, is_some, unwrap_or, List, [], ◌∷◌, ◌++◌, length, get_or, drop, replicate, refl, sym, ap, ◌∙◌, append_assoc, arith}
+use Rattle.std.proofs.Common.{◌≡◌, ℕ, zero, suc, ◌+◌, ◌*◌, ◌<◌, ◌≤◌, ◌^◌, ◌==◌, nat_le, Bool, true, false, not, ◌&&◌, cond, if◌then◌else◌, map, Option, Some, None, is_some, unwrap_or, List, [], ◌∷◌, ◌++◌, length, get_or, drop, replicate, refl, sym, ap, ◌∙◌, append_assoc, arith}
 use Rattle.std.proofs.lemmas.Bool.Decides.{nat_tests}
 use Rattle.std.proofs.lemmas.List.{drop_at, drop_all}
 use Rattle.std.proofs.Math.Seq.{drop-cons}
@@ -17,7 +17,10 @@ use Rattle.ckrt_thread.specs.declared.records.Wait.{Wait}
 use Rattle.ckrt_thread.specs.declared.records.Reason.{Reason}
 use Rattle.ckrt_thread.specs.declared.records.Reason.TheVariants as reason
 use Rattle.ckrt_thread.specs.declared.records.RetakeResult.TheVariants as retake
+use Rattle.ckrt_thread.specs.declared.keys.SpecificData.{SpecificData}
+use Rattle.ckrt_thread.specs.Keys.{KeyTable, keys_off}
 use Rattle.ckrt_thread.specs.Contents.{ThreadRow, rows_from, thread_rows}
+use Rattle.ckrt_thread.proofs.KeyLemmas.{both}
 use Rattle.ckrt_thread.proofs.ThreadRows.{known_by_rows}
 use Rattle.ckrt_objects.specs.declared.address_map.Entry.{Entry}
 use Rattle.ckrt_mutex.specs.declared.records.Kind.{Kind}
@@ -27,12 +30,16 @@ use Rattle.ckrt_barrier.specs.declared.barrier.Barrier.{Barrier}
 use Rattle.ckrt_rwlock.specs.declared.records.RwLock.{RwLock}
 use Rattle.ckrt_calls.specs.declared.table.Status.TheVariants as status
 use Rattle.ckrt_calls.specs.declared.table.Tables.{Tables}
+use Rattle.ckrt_calls.specs.WellFormed.{IsWellFormed}
 use Rattle.ckrt_tables.specs.declared.reading_objects.Reader.{Reader}
-use Rattle.ckrt_tables.specs.Records.{id_or_0, cause_number, cause_from, counted, one_byte, two_bytes, hart_bytes, flag, flags_of, value_of, registers_of, handlers_of, registers_bytes, handler_bytes, thread_bytes, kind_of, result_of, first_name, second_name, reason_from, wait_bytes, mutex_kind_number, mutex_bytes, barrier_bytes, readers_from, readers_of, reader_bytes, rwlock_bytes}
+use Rattle.ckrt_tables.specs.declared.reading_keys.KeyWord.{KeyWord}
+use Rattle.ckrt_tables.specs.Records.{id_or_0, cause_number, cause_from, counted, one_byte, two_bytes, hart_bytes, flag, flags_of, value_of, registers_of, handlers_of, specific_of, registers_bytes, handler_bytes, words_from, key_word_bytes, if_not_0, word_or_0, value_words, data_bytes, keys_bytes, thread_bytes, kind_of, result_of, first_name, second_name, reason_from, wait_bytes, mutex_kind_number, mutex_bytes, barrier_bytes, readers_from, readers_of, reader_bytes, rwlock_bytes}
 use Rattle.ckrt_tables.specs.Encoding.{status_bytes, queue_bytes}
-use Rattle.ckrt_tables.specs.Savable.{is_half, is_word, is_long, if_there, fit_registers, fits_handler, fits_thread, fits_slot, fits_reason, fits_wait, is_id, fits_mutex, fits_barrier, fits_rwlock, fits_status, AreDistinct}
+use Rattle.ckrt_tables.specs.DecodingThreads.{fits_key_word, AreWords}
+use Rattle.ckrt_tables.specs.Savable.{is_half, is_word, is_long, if_there, fit_registers, fits_handler, fits_data, fit_keys, is_bare, is_bare_slot, is_without_keys, fits_thread, fits_slot, fits_reason, fits_wait, is_id, fits_mutex, fits_barrier, fits_rwlock, fits_status, AreDistinct}
 use Rattle.ckrt_tables.specs.Objects.{fits_reader, with_readers}
 use Rattle.ckrt_tables.proofs.Counts.{readers_fit, counts_found}
+use Rattle.ckrt_tables.proofs.KeyWords.{words_fit, words_known, values_again, FitData, data_fits, words_of_data, same_data, bare_data, same_keys, off_keys}
 use Rattle.ckrt_tables.proofs.Few.{few}
 
 abbrev pub IsPrefixFree : {X : Type 0} → (X → Type 0) → (X → List ℕ) → Type 0
@@ -234,6 +241,7 @@ pub record SameThread (x y : Thread) : Type 0 where
   pub value : value_of x ≡ value_of y
   pub registers : registers_of x ≡ registers_of y
   pub handlers : handlers_of x ≡ handlers_of y
+  pub specific : specific_of x ≡ specific_of y
 
 pub thread_known : (x y : Thread) → SameThread x y → x ≡ y
 thread_known (thread.Ended v) (thread.Ended w) s = ap (λ n. thread.Ended n) s.value
@@ -244,57 +252,163 @@ thread_known (thread.Live l) (thread.Live m) s =
     let u = option_free l.cancellation.unwinding m.cancellation.unwinding f.unwinding s.value in
     let r = s.registers in
     let h = s.handlers in
-    let same : record { regs = l.regs; initial = l.initial; detached = l.detached; cancellation = record { is_enabled = l.cancellation.is_enabled; is_asynchronous = l.cancellation.is_asynchronous; is_requested = l.cancellation.is_requested; unwinding = l.cancellation.unwinding }; handlers = record { items = l.handlers.items } } ≡ m =
-    rw (r, f.initial, f.detached, f.enabled, f.asynchronous, f.requested, u, h) refl in
+    let k = s.specific in
+    let same : record { regs = l.regs; initial = l.initial; detached = l.detached; cancellation = record { is_enabled = l.cancellation.is_enabled; is_asynchronous = l.cancellation.is_asynchronous; is_requested = l.cancellation.is_requested; unwinding = l.cancellation.unwinding }; handlers = record { items = l.handlers.items }; specific = l.specific } ≡ m =
+    rw (r, f.initial, f.detached, f.enabled, f.asynchronous, f.requested, u, h, k) refl in
     ap (λ z. thread.Live z) same
 
 pub record FitThread (x : Thread) : Type 0 where
   pub value : is_word (value_of x) ≡ true
   pub registers : fit_registers (registers_of x) ≡ true
   pub handlers : list_all fits_handler (handlers_of x) ≡ true
+  pub specific : fits_data (specific_of x) ≡ true
 
 value_fits : (o : Option ℕ) → if_there is_word o ≡ true → is_word (unwrap_or o 0) ≡ true
 value_fits None f = refl
 value_fits (Some n) f = f
 
+pub live_rest : (l : Live) → fits_thread (thread.Live l) ≡ true → (list_all fits_handler l.handlers.items && fits_data l.specific) ≡ true
+live_rest l f = (both (nat_le (length l.handlers.items) 16) _ (both (if_there is_word l.cancellation.unwinding) _ (both (fit_registers l.regs) _ f).1).1).1
+
 pub thread_fits : (x : Thread) → fits_thread x ≡ true → FitThread x
-thread_fits (thread.Ended v) f = record { value = f; registers = refl; handlers = refl }
+thread_fits (thread.Ended v) f = record { value = f; registers = refl; handlers = refl; specific = refl }
 thread_fits (thread.Live l) f = record {
-  value = value_fits l.cancellation.unwinding (grind (arith, nat_tests, f));
-  registers = grind (arith, nat_tests, f);
-  handlers = grind (arith, nat_tests, f);
+  value = value_fits l.cancellation.unwinding (both (if_there is_word l.cancellation.unwinding) _ (both (fit_registers l.regs) _ f).1).0;
+  registers = (both (fit_registers l.regs) _ f).0;
+  handlers = (both (list_all fits_handler l.handlers.items) _ (live_rest l f)).0;
+  specific = (both (list_all fits_handler l.handlers.items) (fits_data l.specific) (live_rest l f)).1;
 }
 
-pub spelt : (v r h a : List ℕ) → (v ++ (r ++ h)) ++ a ≡ v ++ (r ++ (h ++ a))
-spelt v r h a = append_assoc v (r ++ h) a ∙ ap (λ l. v ++ l) (append_assoc r h a)
+pub spelt : (v r h d a : List ℕ) → (v ++ (r ++ (h ++ d))) ++ a ≡ v ++ (r ++ (h ++ (d ++ a)))
+spelt v r h d a = append_assoc v (r ++ (h ++ d)) a ∙ ap (λ l. v ++ l) (append_assoc r (h ++ d) a ∙ ap (λ l. r ++ l) (append_assoc h d a))
 
-thread_free : IsPrefixFree (λ (r : ThreadRow). fits_thread r.thread ≡ true) thread_bytes
-thread_free r q a b fr fq e =
-    let p = thread_fits r.thread fr in
-    let k = thread_fits q.thread fq in
+-- what a thread has under keys
+
+key_word_free : IsPrefixFree (λ w. fits_key_word w ≡ true) key_word_bytes
+key_word_free w v a b fw fv e =
+    let k = word_free w.key v.key (little_bytes 4 w.word ++ a) (little_bytes 4 v.word ++ b) (both (is_word w.key) (is_word w.word) fw).0 (both (is_word v.key) (is_word v.word) fv).0 (sym (append_assoc (little_bytes 4 w.key) (little_bytes 4 w.word) a) ∙ e ∙ append_assoc (little_bytes 4 v.key) (little_bytes 4 v.word) b) in
+    let x = word_free w.word v.word a b (both (is_word w.key) (is_word w.word) fw).1 (both (is_word v.key) (is_word v.word) fv).1 k.1 in
+    (same w.key w.word v k.0 x.0, x.1)
+  where
+    same : (key word : ℕ) (v : KeyWord) → key ≡ v.key → word ≡ v.word → record { key = key; word = word } ≡ v
+    same key word v e₁ e₂ = rw (e₁, e₂) refl
+
+-- words of 32 keys
+pub words_free : (os qs : List (Option ℕ)) (a b : List ℕ) → AreWords os → AreWords qs → length (words_from 0 os) ≡ length (words_from 0 qs)
+    → flat_map key_word_bytes (words_from 0 os) ++ a ≡ flat_map key_word_bytes (words_from 0 qs) ++ b → (os ≡ qs) × (a ≡ b)
+words_free os qs a b f g n e =
+    let so = f.0 in
+    let sq = g.0 in
+    let w = parts_free fits_key_word key_word_bytes key_word_free (words_from 0 os) (words_from 0 qs) a b (words_fit 0 os (omega (arith, so)) f.1) (words_fit 0 qs (omega (arith, sq)) g.1) n e in
+    (words_known os qs f.0 g.0 w.0, w.1)
+
+abbrev full_data : SpecificData → List ℕ
+full_data d = d.round ∷ d.next_key ∷ length (value_words d) ∷ 0 ∷ flat_map key_word_bytes (value_words d)
+
+full_data_free : (d c : SpecificData) (a b : List ℕ) → FitData d → FitData c → full_data d ++ a ≡ full_data c ++ b → (d ≡ c) × (a ≡ b)
+full_data_free d c a b f g e =
+    let da = flat_map key_word_bytes (value_words d) ++ a in
+    let ca = flat_map key_word_bytes (value_words c) ++ b in
+    let r = byte_free d.round c.round (d.next_key ∷ length (value_words d) ∷ 0 ∷ da) (c.next_key ∷ length (value_words c) ∷ 0 ∷ ca) e in
+    let k = byte_free d.next_key c.next_key (length (value_words d) ∷ 0 ∷ da) (length (value_words c) ∷ 0 ∷ ca) r.1 in
+    let n = byte_free (length (value_words d)) (length (value_words c)) (0 ∷ da) (0 ∷ ca) k.1 in
+    let z = byte_free 0 0 da ca n.1 in
+    let w = words_free (map if_not_0 d.values) (map if_not_0 c.values) a b (words_of_data d f) (words_of_data c g) n.0 z.1 in
+    let values : d.values ≡ c.values = sym (values_again d.values) ∙ ap (map word_or_0) w.0 ∙ values_again c.values in
+    (same_data d.round d.next_key d.values c r.0 k.0 values, w.1)
+
+data_free : (version : ℕ) (d c : SpecificData) (a b : List ℕ) → fits_data d ≡ true → fits_data c ≡ true → (version ≡ 1 → (is_bare d ≡ true) × (is_bare c ≡ true))
+    → data_bytes version d ++ a ≡ data_bytes version c ++ b → (d ≡ c) × (a ≡ b)
+data_free version d c a b f g bare e =
+    elim (version == 1) as (λ x. (version == 1) ≡ x → cond x [] (full_data d) ++ a ≡ cond x [] (full_data c) ++ b → (d ≡ c) × (a ≡ b)) [
+      | true ↦ λ v q.
+          let is : version ≡ 1 = grind (arith, nat_tests, v) in
+          let bs = bare is in
+          (bare_data d (data_fits d f).size bs.0 ∙ sym (bare_data c (data_fits c g).size bs.1), q)
+      | false ↦ λ v q. full_data_free d c a b (data_fits d f) (data_fits c g) q
+    ] refl e
+
+-- the keys of a program
+abbrev full_keys : KeyTable → List ℕ
+full_keys k = flag 1 k.is_on ∷ counted one_byte key_word_bytes (words_from 0 k.destructors)
+
+full_keys_free : (k q : KeyTable) (a b : List ℕ) → AreWords k.destructors → AreWords q.destructors → full_keys k ++ a ≡ full_keys q ++ b → (k ≡ q) × (a ≡ b)
+full_keys_free k q a b f g e =
+    let ka = flat_map key_word_bytes (words_from 0 k.destructors) ++ a in
+    let qa = flat_map key_word_bytes (words_from 0 q.destructors) ++ b in
+    let o = byte_free (flag 1 k.is_on) (flag 1 q.is_on) (length (words_from 0 k.destructors) ∷ ka) (length (words_from 0 q.destructors) ∷ qa) e in
+    let n = byte_free (length (words_from 0 k.destructors)) (length (words_from 0 q.destructors)) ka qa o.1 in
+    let w = words_free k.destructors q.destructors a b f g n.0 n.1 in
+    (same_keys k.is_on k.destructors q (flag_free k.is_on q.is_on o.0) w.0, w.1)
+
+keys_free : (version : ℕ) (k q : KeyTable) (a b : List ℕ) → AreWords k.destructors → AreWords q.destructors → (version ≡ 1 → (k ≡ keys_off) × (q ≡ keys_off))
+    → keys_bytes version k ++ a ≡ keys_bytes version q ++ b → (k ≡ q) × (a ≡ b)
+keys_free version k q a b f g off e =
+    elim (version == 1) as (λ x. (version == 1) ≡ x → cond x [] (full_keys k) ++ a ≡ cond x [] (full_keys q) ++ b → (k ≡ q) × (a ≡ b)) [
+      | true ↦ λ v z.
+          let is : version ≡ 1 = grind (arith, nat_tests, v) in
+          let os = off is in
+          (os.0 ∙ sym os.1, z)
+      | false ↦ λ v z. full_keys_free k q a b f g z
+    ] refl e
+
+-- a thread that fits its record in a version
+abbrev fits_in : ℕ → ThreadRow → Bool
+fits_in version r = fits_thread r.thread && (if version == 1 then is_bare (specific_of r.thread) else true)
+
+said_bare : (version : ℕ) (r : ThreadRow) → fits_in version r ≡ true → version ≡ 1 → is_bare (specific_of r.thread) ≡ true
+said_bare version r f v =
+    let here : (version == 1) ≡ true = grind (arith, nat_tests, v) in
+    let c = (both (fits_thread r.thread) (if version == 1 then is_bare (specific_of r.thread) else true) f).1 in
+    sym (ap (λ (b : Bool). if b then is_bare (specific_of r.thread) else true) here) ∙ c
+
+thread_free : (version : ℕ) → IsPrefixFree (λ (r : ThreadRow). fits_in version r ≡ true) (thread_bytes version)
+thread_free version r q a b fr fq e =
+    let p = thread_fits r.thread (both (fits_thread r.thread) _ fr).0 in
+    let k = thread_fits q.thread (both (fits_thread q.thread) _ fq).0 in
     let rv = little_bytes 4 (value_of r.thread) in
     let rr = registers_bytes (registers_of r.thread) in
     let rh = flat_map handler_bytes (handlers_of r.thread) in
+    let rd = data_bytes version (specific_of r.thread) in
     let qv = little_bytes 4 (value_of q.thread) in
     let qr = registers_bytes (registers_of q.thread) in
     let qh = flat_map handler_bytes (handlers_of q.thread) in
-    let i = byte_free r.id q.id (flags_of r.thread ∷ length (handlers_of r.thread) ∷ 0 ∷ ((rv ++ (rr ++ rh)) ++ a)) (flags_of q.thread ∷ length (handlers_of q.thread) ∷ 0 ∷ ((qv ++ (qr ++ qh)) ++ b)) e in
-    let f = byte_free (flags_of r.thread) (flags_of q.thread) (length (handlers_of r.thread) ∷ 0 ∷ ((rv ++ (rr ++ rh)) ++ a)) (length (handlers_of q.thread) ∷ 0 ∷ ((qv ++ (qr ++ qh)) ++ b)) i.1 in
-    let n = byte_free (length (handlers_of r.thread)) (length (handlers_of q.thread)) (0 ∷ ((rv ++ (rr ++ rh)) ++ a)) (0 ∷ ((qv ++ (qr ++ qh)) ++ b)) f.1 in
-    let z = byte_free 0 0 ((rv ++ (rr ++ rh)) ++ a) ((qv ++ (qr ++ qh)) ++ b) n.1 in
-    let v = word_free (value_of r.thread) (value_of q.thread) (rr ++ (rh ++ a)) (qr ++ (qh ++ b)) p.value k.value (sym (spelt rv rr rh a) ∙ z.1 ∙ spelt qv qr qh b) in
-    let g = registers_free (registers_of r.thread) (registers_of q.thread) (rh ++ a) (qh ++ b) p.registers k.registers v.1 in
-    let h = parts_free fits_handler handler_bytes handler_free (handlers_of r.thread) (handlers_of q.thread) a b p.handlers k.handlers n.0 g.1 in
-    let t = thread_known r.thread q.thread (record { flags = f.0; value = v.0; registers = g.0; handlers = h.0 }) in
-    (same r.id r.thread q i.0 t, h.1)
+    let qd = data_bytes version (specific_of q.thread) in
+    let ra = (rv ++ (rr ++ (rh ++ rd))) ++ a in
+    let qa = (qv ++ (qr ++ (qh ++ qd))) ++ b in
+    let i = byte_free r.id q.id (flags_of r.thread ∷ length (handlers_of r.thread) ∷ 0 ∷ ra) (flags_of q.thread ∷ length (handlers_of q.thread) ∷ 0 ∷ qa) e in
+    let f = byte_free (flags_of r.thread) (flags_of q.thread) (length (handlers_of r.thread) ∷ 0 ∷ ra) (length (handlers_of q.thread) ∷ 0 ∷ qa) i.1 in
+    let n = byte_free (length (handlers_of r.thread)) (length (handlers_of q.thread)) (0 ∷ ra) (0 ∷ qa) f.1 in
+    let z = byte_free 0 0 ra qa n.1 in
+    let v = word_free (value_of r.thread) (value_of q.thread) (rr ++ (rh ++ (rd ++ a))) (qr ++ (qh ++ (qd ++ b))) p.value k.value (sym (spelt rv rr rh rd a) ∙ z.1 ∙ spelt qv qr qh qd b) in
+    let g = registers_free (registers_of r.thread) (registers_of q.thread) (rh ++ (rd ++ a)) (qh ++ (qd ++ b)) p.registers k.registers v.1 in
+    let h = parts_free fits_handler handler_bytes handler_free (handlers_of r.thread) (handlers_of q.thread) (rd ++ a) (qd ++ b) p.handlers k.handlers n.0 g.1 in
+    let d = data_free version (specific_of r.thread) (specific_of q.thread) a b p.specific k.specific (λ x. (said_bare version r fr x, said_bare version q fq x)) h.1 in
+    let t = thread_known r.thread q.thread (record { flags = f.0; value = v.0; registers = g.0; handlers = h.0; specific = d.0 }) in
+    (same r.id r.thread q i.0 t, d.1)
   where
     same : (id : ℕ) (x : Thread) (q : ThreadRow) → id ≡ q.id → x ≡ q.thread → record { id = id; thread = x } ≡ q
     same id x q e₁ e₂ = rw (e₁, e₂) refl
 
-pub rows_fit : (k : ℕ) (slots : List (Option Thread)) → list_all fits_slot slots ≡ true → list_all (λ (r : ThreadRow). fits_thread r.thread) (rows_from k slots) ≡ true
-rows_fit k [] f = refl
-rows_fit k (None ∷ slots) f = rows_fit (suc k) slots (grind (arith, nat_tests, f))
-rows_fit k (Some x ∷ slots) f = (let rest = rows_fit (suc k) slots (grind (arith, nat_tests, f)) in grind (arith, nat_tests, f, rest))
+bare_specific : (t : Thread) → is_bare_slot (Some t) ≡ true → is_bare (specific_of t) ≡ true
+bare_specific (thread.Ended v) b = refl
+bare_specific (thread.Live l) b = b
+
+pub in_version : (version : ℕ) (t : Thread) → (version ≡ 1 → is_bare_slot (Some t) ≡ true) → (if version == 1 then is_bare (specific_of t) else true) ≡ true
+in_version version t b =
+    elim (version == 1) as (λ x. (version == 1) ≡ x → cond x (is_bare (specific_of t)) true ≡ true) [
+      | true ↦ λ v. bare_specific t (b (grind (arith, nat_tests, v)))
+      | false ↦ λ v. refl
+    ] refl
+
+pub rows_fit : (version k : ℕ) (slots : List (Option Thread)) → list_all fits_slot slots ≡ true → (version ≡ 1 → list_all is_bare_slot slots ≡ true) → list_all (fits_in version) (rows_from k slots) ≡ true
+rows_fit version k [] f b = refl
+rows_fit version k (None ∷ slots) f b = rows_fit version (suc k) slots (both (fits_slot None) (list_all fits_slot slots) f).1 (λ v. (both (is_bare_slot None) (list_all is_bare_slot slots) (b v)).1)
+rows_fit version k (Some x ∷ slots) f b =
+    let rest = rows_fit version (suc k) slots (both (fits_slot (Some x)) (list_all fits_slot slots) f).1 (λ v. (both (is_bare_slot (Some x)) (list_all is_bare_slot slots) (b v)).1) in
+    let here = (both (fits_slot (Some x)) (list_all fits_slot slots) f).0 in
+    let bare = in_version version x (λ v. (both (is_bare_slot (Some x)) (list_all is_bare_slot slots) (b v)).0) in
+    grind (arith, here, bare, rest)
 
 -- WAITS
 
@@ -484,8 +598,28 @@ same_tables s t e₁ e₂ e₃ e₄ e₅ e₆ e₇ e₈ =
     let fields : record { threads = s.threads; mutexes = s.mutexes; barriers = s.barriers; rwlocks = s.rwlocks; clock = s.clock; input = s.input; closed = s.closed; status = s.status } ≡ t = rw (e₁, e₂, e₃, e₄, e₅, e₆, e₇, e₈) refl in
     fields
 
-pub distinct : (harts : ℕ) → AreDistinct harts
-distinct harts s t held out h k e =
+pub words_in : (keys : KeyTable) → fit_keys keys ≡ true → AreWords keys.destructors
+words_in keys f =
+    let w = both (length keys.destructors == 32) (list_all (if_there is_word) keys.destructors) f in
+    (let n = w.0 in grind (arith, nat_tests, n), w.1)
+
+-- what version 1 says of threads and keys
+
+pub bare_threads : (s : Tables) → is_without_keys s.threads ≡ true → list_all is_bare_slot s.threads.threads ≡ true
+bare_threads s w = (both (not s.threads.keys.is_on) (list_all is_bare_slot s.threads.threads) w).1
+
+not_on : (b : Bool) → not b ≡ true → b ≡ false
+not_on true e = absurd (cc)
+not_on false e = refl
+
+pub keys_off_in : (s : Tables) → is_without_keys s.threads ≡ true → s.threads.keys.is_on ≡ false
+keys_off_in s w = not_on s.threads.keys.is_on (both (not s.threads.keys.is_on) (list_all is_bare_slot s.threads.threads) w).0
+
+keys_are_off : (s : Tables) → IsWellFormed s → is_without_keys s.threads ≡ true → s.threads.keys ≡ keys_off
+keys_are_off s h w = off_keys s.threads.keys h.threads.proper_keys (keys_off_in s w)
+
+pub distinct : (version harts : ℕ) → AreDistinct version harts
+distinct version harts s t held out h k e =
     let f = h.fit in
     let g = k.fit in
     let ws = h.well_formed in
@@ -494,16 +628,18 @@ distinct harts s t held out h k e =
     let t10 = queue_bytes out ++ [] in
     let s9 = queue_bytes s.input ++ s10 in
     let t9 = queue_bytes t.input ++ t10 in
-    let s8 = counted one_byte rwlock_bytes s.rwlocks ++ s9 in
-    let t8 = counted one_byte rwlock_bytes t.rwlocks ++ t9 in
+    let sk = keys_bytes version s.threads.keys ++ s9 in
+    let tk = keys_bytes version t.threads.keys ++ t9 in
+    let s8 = counted one_byte rwlock_bytes s.rwlocks ++ sk in
+    let t8 = counted one_byte rwlock_bytes t.rwlocks ++ tk in
     let s7 = counted one_byte barrier_bytes s.barriers ++ s8 in
     let t7 = counted one_byte barrier_bytes t.barriers ++ t8 in
     let s6 = counted two_bytes mutex_bytes s.mutexes ++ s7 in
     let t6 = counted two_bytes mutex_bytes t.mutexes ++ t7 in
     let s5 = counted one_byte wait_bytes s.threads.waits ++ s6 in
     let t5 = counted one_byte wait_bytes t.threads.waits ++ t6 in
-    let s4 = counted one_byte thread_bytes (thread_rows s.threads) ++ s5 in
-    let t4 = counted one_byte thread_bytes (thread_rows t.threads) ++ t5 in
+    let s4 = counted one_byte (thread_bytes version) (thread_rows s.threads) ++ s5 in
+    let t4 = counted one_byte (thread_bytes version) (thread_rows t.threads) ++ t5 in
     let s3 = flat_map hart_bytes s.threads.harts ++ s4 in
     let t3 = flat_map hart_bytes t.threads.harts ++ t4 in
     let s2 = status_bytes s.status ++ s3 in
@@ -512,14 +648,15 @@ distinct harts s t held out h k e =
     let r1 = byte_free (flag 1 s.closed) (flag 1 t.closed) s2 t2 r0.1 in
     let r2 = status_free s.status t.status s3 t3 f.status g.status r1.1 in
     let r3 = parts_free (if_there is_id) hart_bytes hart_free s.threads.harts t.threads.harts s4 t4 f.harts g.harts (ws.threads.harts ∙ sym wt.threads.harts) r2.1 in
-    let r4 = few_free (λ (r : ThreadRow). fits_thread r.thread) thread_bytes thread_free (thread_rows s.threads) (thread_rows t.threads) s5 t5 (rows_fit 0 s.threads.threads f.threads) (rows_fit 0 t.threads.threads g.threads) r3.1 in
+    let r4 = few_free (fits_in version) (thread_bytes version) (thread_free version) (thread_rows s.threads) (thread_rows t.threads) s5 t5 (rows_fit version 0 s.threads.threads f.threads (λ v. bare_threads s (h.said v))) (rows_fit version 0 t.threads.threads g.threads (λ v. bare_threads t (k.said v))) r3.1 in
     let r5 = few_free fits_wait wait_bytes wait_free s.threads.waits t.threads.waits s6 t6 f.waits g.waits r4.1 in
     let r6 = many_free fits_mutex mutex_bytes mutex_free s.mutexes t.mutexes s7 t7 f.mutexes g.mutexes (few s ws).mutexes (few t wt).mutexes r5.1 in
     let r7 = few_free fits_barrier barrier_bytes barrier_free s.barriers t.barriers s8 t8 f.barriers g.barriers r6.1 in
-    let r8 = few_free fits_rwlock rwlock_bytes rwlock_free s.rwlocks t.rwlocks s9 t9 f.rwlocks g.rwlocks r7.1 in
+    let r8 = few_free fits_rwlock rwlock_bytes rwlock_free s.rwlocks t.rwlocks sk tk f.rwlocks g.rwlocks r7.1 in
+    let rk = keys_free version s.threads.keys t.threads.keys s9 t9 (words_in s.threads.keys f.keys) (words_in t.threads.keys g.keys) (λ v. (keys_are_off s ws (h.said v), keys_are_off t wt (k.said v))) r8.1 in
     let si = ws.input in
     let ti = wt.input in
-    let r9 = queue_free s.input t.input s10 t10 (omega (arith, si)) (omega (arith, ti)) r8.1 in
+    let r9 = queue_free s.input t.input s10 t10 (omega (arith, si)) (omega (arith, ti)) rk.1 in
     let r10 = queue_free held out [] [] h.is_held k.is_held r9.1 in
-    let threads = known_by_rows s.threads t.threads ws.threads wt.threads (record { threads = r4.0; waits = r5.0; harts = r3.0; hart_count = h.hart_count ∙ sym k.hart_count }) in
+    let threads = known_by_rows s.threads t.threads ws.threads wt.threads (record { threads = r4.0; waits = r5.0; harts = r3.0; hart_count = h.hart_count ∙ sym k.hart_count; keys = rk.0 }) in
     (same_tables s t threads r6.0 r7.0 r8.0 r0.0 r9.0 (flag_free s.closed t.closed r1.0) r2.0, r10.0)

@@ -1,7 +1,7 @@
 -- A list of a fixed length that is filled from the front, the rest of it being all the same.
 use Rattle.std.proofs.Common.{◌≡◌, ℕ, zero, suc, ◌+◌, ◌-◌, ◌≤◌, ◌<◌, List, [], ◌∷◌, ◌++◌, length, get_or, take, replicate, Option, Some, None, slice_get, slice_set, refl, sym, ap, ◌∙◌, append_assoc, arith}
 use Rattle.std.specs.Option.{option_flatten}
-use Rattle.std.proofs.lemmas.List.{take_more}
+use Rattle.std.proofs.lemmas.List.{take_more, take_all, append-nil}
 
 module _ {X : Type 0} (d : X) where
   -- the first k of a list of n, and nothing else yet
@@ -32,6 +32,12 @@ module _ {X : Type 0} (d : X) where
     filled_same e =
         let m = n - (k + 1) in
         ap (λ j. take k xs ++ replicate j d) left ∙ ap (λ y. take k xs ++ y ∷ replicate m d) (sym e) ∙ one_more xs k m (omega (arith, lt, size))
+
+  -- all of them
+  pub filled_all : (n : ℕ) (xs : List X) (k : ℕ) → length xs ≡ n → n ≤ k → filled n k xs ≡ xs
+  filled_all n xs k size le =
+      let none : n - k ≡ 0 = omega (arith, le) in
+      ap (λ j. take k xs ++ replicate j d) none ∙ append-nil (take k xs) ∙ take_all k xs (omega (arith, size, le))
 
 -- LISTS OF WHAT MAY BE ABSENT
 

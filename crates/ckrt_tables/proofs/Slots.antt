@@ -6,7 +6,7 @@ use Rattle.std.proofs.lemmas.Grind.{flat_map-append}
 use Rattle.ckrt_thread.specs.declared.records.Thread.{Thread}
 use Rattle.ckrt_thread.specs.Contents.{rows_of, rows_from}
 use Rattle.ckrt_tables.specs.declared.reading_objects.Reader.{Reader}
-use Rattle.ckrt_tables.specs.Records.{reader_at, readers_from, reader_bytes, thread_bytes}
+use Rattle.ckrt_tables.specs.Records.{reader_at, readers_from, reader_bytes, word_at, words_from, key_word_bytes, thread_bytes}
 use Rattle.ckrt_tables.specs.Writing.{IsPut}
 use Rattle.ckrt_tables.proofs.Rows.{from_next}
 use Rattle.ckrt_tables.proofs.Puts.{put_place, room_place}
@@ -37,18 +37,37 @@ room_reader_next old at ns i now mid lt first room =
     room_place (λ k n. flat_map reader_bytes (reader_at k n)) (λ k l. flat_map reader_bytes (readers_from k l)) (λ k. refl) (λ k n l. flat_map-append reader_bytes (reader_at k n) (readers_from (suc k) l))
     old at [] ns i 0 now mid lt first room
 
+-- WORDS BY KEY
+
+pub put_word_next : (old : List ℕ) (at : ℕ) (head : List ℕ) (os : List (Option ℕ)) (i : ℕ) (now : List ℕ) (mid : ℕ) (new : List ℕ) (end : ℕ) → i < length os
+    → IsPut old at (head ++ flat_map key_word_bytes (words_from 0 (take i os))) now mid → IsPut now mid (flat_map key_word_bytes (word_at i (get_or os i None))) new end
+    → IsPut old at (head ++ flat_map key_word_bytes (words_from 0 (take (i + 1) os))) new end
+put_word_next old at head os i now mid new end lt first next =
+    put_place (λ k o. flat_map key_word_bytes (word_at k o)) (λ k l. flat_map key_word_bytes (words_from k l)) (λ k. refl) (λ k o l. flat_map-append key_word_bytes (word_at k o) (words_from (suc k) l))
+    old at head os i None now mid new end lt first next
+
+pub room_word_next : (old : List ℕ) (at : ℕ) (head : List ℕ) (os : List (Option ℕ)) (i : ℕ) (now : List ℕ) (mid : ℕ) → i < length os
+    → IsPut old at (head ++ flat_map key_word_bytes (words_from 0 (take i os))) now mid → at + length (head ++ flat_map key_word_bytes (words_from 0 os)) ≤ length old
+    → mid + length (flat_map key_word_bytes (word_at i (get_or os i None))) ≤ length old
+room_word_next old at head os i now mid lt first room =
+    room_place (λ k o. flat_map key_word_bytes (word_at k o)) (λ k l. flat_map key_word_bytes (words_from k l)) (λ k. refl) (λ k o l. flat_map-append key_word_bytes (word_at k o) (words_from (suc k) l))
+    old at head os i None now mid lt first room
+
+pub words_next : (os : List (Option ℕ)) (i : ℕ) → i < length os → words_from 0 (take (i + 1) os) ≡ words_from 0 (take i os) ++ word_at i (get_or os i None)
+words_next os i lt = from_next word_at words_from (λ k. refl) (λ k o l. refl) os i None lt
+
 -- THREADS
 
-pub put_thread_next : (old : List ℕ) (at : ℕ) (head : List ℕ) (ts : List (Option Thread)) (i : ℕ) (now : List ℕ) (mid : ℕ) (new : List ℕ) (end : ℕ) → i < length ts
-    → IsPut old at (head ++ flat_map thread_bytes (rows_from 0 (take i ts))) now mid → IsPut now mid (flat_map thread_bytes (rows_of i (get_or ts i None))) new end
-    → IsPut old at (head ++ flat_map thread_bytes (rows_from 0 (take (i + 1) ts))) new end
-put_thread_next old at head ts i now mid new end lt first next =
-    put_place (λ k t. flat_map thread_bytes (rows_of k t)) (λ k l. flat_map thread_bytes (rows_from k l)) (λ k. refl) (λ k t l. flat_map-append thread_bytes (rows_of k t) (rows_from (suc k) l))
+pub put_thread_next : (version : ℕ) (old : List ℕ) (at : ℕ) (head : List ℕ) (ts : List (Option Thread)) (i : ℕ) (now : List ℕ) (mid : ℕ) (new : List ℕ) (end : ℕ) → i < length ts
+    → IsPut old at (head ++ flat_map (thread_bytes version) (rows_from 0 (take i ts))) now mid → IsPut now mid (flat_map (thread_bytes version) (rows_of i (get_or ts i None))) new end
+    → IsPut old at (head ++ flat_map (thread_bytes version) (rows_from 0 (take (i + 1) ts))) new end
+put_thread_next version old at head ts i now mid new end lt first next =
+    put_place (λ k t. flat_map (thread_bytes version) (rows_of k t)) (λ k l. flat_map (thread_bytes version) (rows_from k l)) (λ k. refl) (λ k t l. flat_map-append (thread_bytes version) (rows_of k t) (rows_from (suc k) l))
     old at head ts i None now mid new end lt first next
 
-pub room_thread_next : (old : List ℕ) (at : ℕ) (head : List ℕ) (ts : List (Option Thread)) (i : ℕ) (now : List ℕ) (mid : ℕ) → i < length ts
-    → IsPut old at (head ++ flat_map thread_bytes (rows_from 0 (take i ts))) now mid → at + length (head ++ flat_map thread_bytes (rows_from 0 ts)) ≤ length old
-    → mid + length (flat_map thread_bytes (rows_of i (get_or ts i None))) ≤ length old
-room_thread_next old at head ts i now mid lt first room =
-    room_place (λ k t. flat_map thread_bytes (rows_of k t)) (λ k l. flat_map thread_bytes (rows_from k l)) (λ k. refl) (λ k t l. flat_map-append thread_bytes (rows_of k t) (rows_from (suc k) l))
+pub room_thread_next : (version : ℕ) (old : List ℕ) (at : ℕ) (head : List ℕ) (ts : List (Option Thread)) (i : ℕ) (now : List ℕ) (mid : ℕ) → i < length ts
+    → IsPut old at (head ++ flat_map (thread_bytes version) (rows_from 0 (take i ts))) now mid → at + length (head ++ flat_map (thread_bytes version) (rows_from 0 ts)) ≤ length old
+    → mid + length (flat_map (thread_bytes version) (rows_of i (get_or ts i None))) ≤ length old
+room_thread_next version old at head ts i now mid lt first room =
+    room_place (λ k t. flat_map (thread_bytes version) (rows_of k t)) (λ k l. flat_map (thread_bytes version) (rows_from k l)) (λ k. refl) (λ k t l. flat_map-append (thread_bytes version) (rows_of k t) (rows_from (suc k) l))
     old at head ts i None now mid lt first room

@@ -4,6 +4,7 @@ use Rattle.std.specs.Prelude.{◌≡◌, ◌≤◌, ℕ, Bool, true, Option, Som
 use Rattle.std.specs.List.{list_all}
 use Rattle.arrayvec.specs.ArrayVec.{ArrayVec}
 use Rattle.circular_buffer.specs.Buffer.{Buffer, buffer}
+use Rattle.ckrt_thread.specs.Keys.{all_keys}
 use Rattle.ckrt_thread.specs.Contents.{empty}
 use Rattle.ckrt_calls.specs.declared.table.Tables.{Tables}
 use Rattle.ckrt_tables.specs.Encoding.{encoding_of, HELD_LIMIT}
@@ -17,24 +18,24 @@ pub record Saved : Type 0 where
   -- the output that the program holds, first byte first
   pub held : List ℕ
 
--- for a program with so many harts the bytes are the encoding of a state that can be saved
-pub record IsEncodingOf (harts : ℕ) (bytes : List ℕ) (s : Saved) : Type 0 where
-  pub savable : CanBeSaved harts s.tables s.held
-  pub encoded : bytes ≡ encoding_of s.tables s.held
+-- for a program with so many harts the bytes are the encoding, in a version, of a state that can be saved
+pub record IsEncodingOf (version harts : ℕ) (bytes : List ℕ) (s : Saved) : Type 0 where
+  pub savable : CanBeSaved version harts s.tables s.held
+  pub encoded : bytes ≡ encoding_of version s.tables s.held
 
 -- what the bytes decode to: the state whose encoding they are, or nothing where they are the encoding of none
-abbrev pub DecodesTo : ℕ → List ℕ → Option Saved → Type 0
-DecodesTo harts bytes (Some s) = IsEncodingOf harts bytes s
-DecodesTo harts bytes None = (s : Saved) → IsEncodingOf harts bytes s → ⊥
+abbrev pub DecodesTo : ℕ → ℕ → List ℕ → Option Saved → Type 0
+DecodesTo version harts bytes (Some s) = IsEncodingOf version harts bytes s
+DecodesTo version harts bytes None = (s : Saved) → IsEncodingOf version harts bytes s → ⊥
 
 -- tables and the ring of held output, without the ring's shape
 abbrev pub saved : Option (Tables × Buffer ℕ) → Option Saved
 saved None = None
 saved (Some found) = Some (record { tables = found.0; held = found.1.items })
 
--- tables and a ring of output that have nothing yet
+-- tables and a ring of output that have nothing yet; each number is a key, without a destructor
 pub record IsBegun (harts : ℕ) (tables : Tables) (held : Buffer ℕ) : Type 0 where
-  pub threads : tables.threads ≡ empty harts
+  pub threads : tables.threads ≡ empty all_keys harts
   pub mutexes : tables.mutexes ≡ []
   pub barriers : tables.barriers ≡ []
   pub rwlocks : tables.rwlocks ≡ []

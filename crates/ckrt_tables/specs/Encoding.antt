@@ -1,4 +1,5 @@
--- The one encoding of the tables of a program and the output that it holds: part by part, nothing between.
+-- The one encoding, in a version, of the tables of a program and the output that it holds: part by part, nothing between.
+-- Version 2 has the keys of the program, and what threads have under them, and version 1 hasn't.
 use Rattle.std.specs.Prelude.{ℕ, ◌≤◌, ◌==◌, if◌then◌else◌, List, [], ◌∷◌, ◌++◌, length}
 use Rattle.std.specs.List.{concat, flat_map}
 use Rattle.byteorder.specs.Endian.{little_bytes}
@@ -6,7 +7,7 @@ use Rattle.ckrt_thread.specs.Contents.{thread_rows}
 use Rattle.ckrt_calls.specs.declared.table.Status.{Status}
 use Rattle.ckrt_calls.specs.declared.table.Status.TheVariants as status
 use Rattle.ckrt_calls.specs.declared.table.Tables.{Tables}
-use Rattle.ckrt_tables.specs.Records.{flag, cause_number, cause_from, counted, one_byte, two_bytes, hart_bytes, thread_bytes, wait_bytes, mutex_bytes, barrier_bytes, rwlock_bytes}
+use Rattle.ckrt_tables.specs.Records.{flag, cause_number, cause_from, counted, one_byte, two_bytes, hart_bytes, thread_bytes, wait_bytes, mutex_bytes, barrier_bytes, rwlock_bytes, keys_bytes}
 
 -- THE PROGRAM'S STATUS, 7 bytes: whether it runs (0), exited (1) or faulted (2); the thread and the cause of the fault; the
 -- exit status, or the pc of the fault
@@ -32,23 +33,24 @@ status_from kind thread cause word =
 abbrev pub queue_bytes : List ℕ → List ℕ
 queue_bytes bytes = little_bytes 2 (length bytes) ++ bytes
 
-abbrev pub parts_of : Tables → List ℕ → List (List ℕ)
-parts_of s held =
+abbrev pub parts_of : ℕ → Tables → List ℕ → List (List ℕ)
+parts_of version s held =
     little_bytes 8 s.clock
     ∷ (flag 1 s.closed ∷ [])
     ∷ status_bytes s.status
     ∷ flat_map hart_bytes s.threads.harts
-    ∷ counted one_byte thread_bytes (thread_rows s.threads)
+    ∷ counted one_byte (thread_bytes version) (thread_rows s.threads)
     ∷ counted one_byte wait_bytes s.threads.waits
     ∷ counted two_bytes mutex_bytes s.mutexes
     ∷ counted one_byte barrier_bytes s.barriers
     ∷ counted one_byte rwlock_bytes s.rwlocks
+    ∷ keys_bytes version s.threads.keys
     ∷ queue_bytes s.input
     ∷ queue_bytes held
     ∷ []
 
-abbrev pub encoding_of : Tables → List ℕ → List ℕ
-encoding_of s held = concat (parts_of s held)
+abbrev pub encoding_of : ℕ → Tables → List ℕ → List ℕ
+encoding_of version s held = concat (parts_of version s held)
 
 -- how many bytes of output a program holds at most
 abbrev pub HELD_LIMIT : ℕ

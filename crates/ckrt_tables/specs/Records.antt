@@ -1,6 +1,6 @@
--- The records of saved tables, byte by byte (this project's own format). Numbers have their lowest byte first, and what a
--- record doesn't use is 0.
-use Rattle.std.specs.Prelude.{ℕ, suc, ◌+◌, ◌%◌, ◌==◌, Bool, not, if◌then◌else◌, Option, is_some, unwrap_or, List, [], ◌∷◌, ◌++◌, length, replicate}
+-- The records of saved tables, byte by byte (this project's own format, of which there are two versions). Numbers have their
+-- lowest byte first, and what a record doesn't use is 0.
+use Rattle.std.specs.Prelude.{ℕ, suc, ◌+◌, ◌%◌, ◌==◌, Bool, not, if◌then◌else◌, Option, Some, None, is_some, unwrap_or, List, [], ◌∷◌, ◌++◌, length, map, replicate}
 use Rattle.std.specs.List.{flat_map, range_with_len}
 use Rattle.byteorder.specs.Endian.{little_bytes}
 use Rattle.ckrt_rv32i.specs.Registers.{Registers, get}
@@ -14,6 +14,8 @@ use Rattle.ckrt_thread.specs.declared.records.Reason.{Reason}
 use Rattle.ckrt_thread.specs.declared.records.Reason.TheVariants as reason
 use Rattle.ckrt_thread.specs.declared.records.RetakeResult.{RetakeResult}
 use Rattle.ckrt_thread.specs.declared.records.RetakeResult.TheVariants as retake
+use Rattle.ckrt_thread.specs.declared.keys.SpecificData.{SpecificData}
+use Rattle.ckrt_thread.specs.Keys.{KeyTable, no_data}
 use Rattle.ckrt_thread.specs.Contents.{ThreadRow}
 use Rattle.ckrt_objects.specs.declared.address_map.Entry.{Entry}
 use Rattle.ckrt_mutex.specs.declared.records.Kind.{Kind}
@@ -22,6 +24,7 @@ use Rattle.ckrt_mutex.specs.declared.records.Mutex.{Mutex}
 use Rattle.ckrt_barrier.specs.declared.barrier.Barrier.{Barrier}
 use Rattle.ckrt_rwlock.specs.declared.records.RwLock.{RwLock}
 use Rattle.ckrt_tables.specs.declared.reading_objects.Reader.{Reader}
+use Rattle.ckrt_tables.specs.declared.reading_keys.KeyWord.{KeyWord}
 
 -- NUMBERS
 
@@ -72,8 +75,40 @@ counted number each xs = number (length xs) ++ flat_map each xs
 abbrev pub hart_bytes : Option ℕ → List ℕ
 hart_bytes h = id_or_0 h ∷ []
 
+-- WORDS BY KEY, 8 bytes: the key, and the word
+
+abbrev pub word_at : ℕ → Option ℕ → List KeyWord
+word_at k None = []
+word_at k (Some w) = (record { key = k; word = w }) ∷ []
+
+-- the words among some of which the first is that of a key
+abbrev pub words_from : ℕ → List (Option ℕ) → List KeyWord
+words_from k [] = []
+words_from k (o ∷ os) = word_at k o ++ words_from (suc k) os
+
+abbrev pub key_word_bytes : KeyWord → List ℕ
+key_word_bytes w = little_bytes 4 w.key ++ little_bytes 4 w.word
+
+-- WHAT A THREAD HAS UNDER KEYS, from version 2 on, 4 bytes and 8 a value that isn't 0: the round of destructors, the key with
+-- which it goes on, how many such values there are, 0, and the values by rising key
+
+abbrev pub if_not_0 : ℕ → Option ℕ
+if_not_0 v = if v == 0 then None else Some v
+
+abbrev pub word_or_0 : Option ℕ → ℕ
+word_or_0 o = unwrap_or o 0
+
+abbrev pub value_words : SpecificData → List KeyWord
+value_words d = words_from 0 (map if_not_0 d.values)
+
+abbrev pub data_bytes : ℕ → SpecificData → List ℕ
+data_bytes version d =
+    if version == 1 then []
+    else d.round ∷ d.next_key ∷ length (value_words d) ∷ 0 ∷ flat_map key_word_bytes (value_words d)
+
 -- A THREAD, 136 bytes and 8 a handler: its id, its flags, how many handlers it has, 0, the value that it unwinds or ended with,
--- the pc, x1 to x31, and the handlers, oldest first. One that has ended has id, flags and value alone.
+-- the pc, x1 to x31, and the handlers, oldest first; from version 2 on, what it has under keys. One that has ended has id,
+-- flags and value alone.
 
 abbrev pub flag : ℕ → Bool → ℕ
 flag n b = if b then n else 0
@@ -100,6 +135,10 @@ abbrev pub handlers_of : Thread → List Handler
 handlers_of (thread.Ended v) = []
 handlers_of (thread.Live l) = l.handlers.items
 
+abbrev pub specific_of : Thread → SpecificData
+specific_of (thread.Ended v) = no_data
+specific_of (thread.Live l) = l.specific
+
 -- x0 is always 0 and isn't there
 abbrev pub register_bytes : Registers → ℕ → List ℕ
 register_bytes r k = little_bytes 4 (get r k)
@@ -110,10 +149,11 @@ registers_bytes r = little_bytes 4 r.pc ++ flat_map (register_bytes r) (range_wi
 abbrev pub handler_bytes : Handler → List ℕ
 handler_bytes h = little_bytes 4 h.routine ++ little_bytes 4 h.argument
 
-abbrev pub thread_bytes : ThreadRow → List ℕ
-thread_bytes r =
+abbrev pub thread_bytes : ℕ → ThreadRow → List ℕ
+thread_bytes version r =
     r.id ∷ flags_of r.thread ∷ length (handlers_of r.thread) ∷ 0 ∷ (little_bytes 4 (value_of r.thread)
-    ++ (registers_bytes (registers_of r.thread) ++ flat_map handler_bytes (handlers_of r.thread)))
+    ++ (registers_bytes (registers_of r.thread)
+    ++ (flat_map handler_bytes (handlers_of r.thread) ++ data_bytes version (specific_of r.thread))))
 
 -- A WAIT, 20 bytes: who waits, the kind of its reason, the result of a retake, whether there is a deadline, what the reason
 -- names, and the deadline
@@ -215,3 +255,11 @@ counts_bytes ns = counted one_byte reader_bytes (readers_from 0 ns)
 
 abbrev pub rwlock_bytes : Entry RwLock → List ℕ
 rwlock_bytes e = little_bytes 4 e.address ++ (id_or_0 e.value.writer ∷ counts_bytes e.value.readers)
+
+-- THE KEYS OF THE PROGRAM, from version 2 on: whether it may have any (1), how many there are, and each with its destructor (0
+-- for none), by rising key
+
+abbrev pub keys_bytes : ℕ → KeyTable → List ℕ
+keys_bytes version keys =
+    if version == 1 then []
+    else flag 1 keys.is_on ∷ counted one_byte key_word_bytes (words_from 0 keys.destructors)

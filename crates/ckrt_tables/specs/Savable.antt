@@ -1,5 +1,6 @@
--- Which tables can be saved: those of a well-formed program, whose numbers fit the types that the code has for them.
-use Rattle.std.specs.Prelude.{◌≡◌, ◌^◌, ◌==◌, ℕ, nat_lt, nat_le, Bool, true, ◌&&◌, Option, Some, None, List, length, slice_index}
+-- Which tables can be saved: those of a well-formed program, whose numbers fit the types that the code has for them; in
+-- version 1 those of a program whose keys are off.
+use Rattle.std.specs.Prelude.{◌≡◌, ◌^◌, ◌==◌, ℕ, nat_lt, nat_le, Bool, true, ◌&&◌, not, Option, Some, None, List, length, slice_index}
 use Rattle.std.specs.List.{list_all}
 use Rattle.ckrt_rv32i.specs.Registers.{Registers}
 use Rattle.ckrt_thread.specs.declared.records.Handler.{Handler}
@@ -8,6 +9,9 @@ use Rattle.ckrt_thread.specs.declared.records.Thread.TheVariants as thread
 use Rattle.ckrt_thread.specs.declared.records.Wait.{Wait}
 use Rattle.ckrt_thread.specs.declared.records.Reason.{Reason}
 use Rattle.ckrt_thread.specs.declared.records.Reason.TheVariants as reason
+use Rattle.ckrt_thread.specs.declared.keys.SpecificData.{SpecificData}
+use Rattle.ckrt_thread.specs.Keys.{KeyTable, data_of}
+use Rattle.ckrt_thread.specs.State.{State}
 use Rattle.ckrt_objects.specs.declared.address_map.Entry.{Entry}
 use Rattle.ckrt_mutex.specs.declared.records.Mutex.{Mutex}
 use Rattle.ckrt_barrier.specs.declared.barrier.Barrier.{Barrier}
@@ -46,12 +50,19 @@ fit_registers r = is_word r.pc && (length r.x == 32 && (slice_index r.x 0 == 0 &
 abbrev pub fits_handler : Handler → Bool
 fits_handler h = is_word h.routine && is_word h.argument
 
+-- a word for each of 32 keys
+abbrev pub fits_data : SpecificData → Bool
+fits_data d = is_byte d.round && (is_byte d.next_key && (length d.values == 32 && list_all is_word d.values))
+
+abbrev pub fit_keys : KeyTable → Bool
+fit_keys keys = length keys.destructors == 32 && list_all (if_there is_word) keys.destructors
+
 abbrev pub fits_thread : Thread → Bool
 fits_thread (thread.Ended v) = is_word v
 fits_thread (thread.Live l) =
     fit_registers l.regs
     && (if_there is_word l.cancellation.unwinding
-    && (nat_le (length l.handlers.items) 16 && list_all fits_handler l.handlers.items))
+    && (nat_le (length l.handlers.items) 16 && (list_all fits_handler l.handlers.items && fits_data l.specific)))
 
 abbrev pub fits_slot : Option Thread → Bool
 fits_slot None = true
@@ -92,6 +103,19 @@ fits_status status.Running = true
 fits_status (status.Exited code) = is_word code
 fits_status (status.Faulted t pc c) = is_byte t && is_word pc
 
+-- WHAT VERSION 1 CAN SAY
+
+-- no value, and no round of destructors
+abbrev pub is_bare : SpecificData → Bool
+is_bare d = d.round == 0 && (d.next_key == 0 && list_all (λ v. v == 0) d.values)
+
+abbrev pub is_bare_slot : Option Thread → Bool
+is_bare_slot o = is_bare (data_of o)
+
+-- keys are off, and no thread has anything under one
+abbrev pub is_without_keys : State → Bool
+is_without_keys s = not s.keys.is_on && list_all is_bare_slot s.threads
+
 -- TABLES
 
 -- the numbers fit their types
@@ -101,17 +125,20 @@ pub record Fit (s : Tables) : Type 0 where
   pub harts : list_all (if_there is_id) s.threads.harts ≡ true
   pub threads : list_all fits_slot s.threads.threads ≡ true
   pub waits : list_all fits_wait s.threads.waits ≡ true
+  pub keys : fit_keys s.threads.keys ≡ true
   pub mutexes : list_all fits_mutex s.mutexes ≡ true
   pub barriers : list_all fits_barrier s.barriers ≡ true
   pub rwlocks : list_all fits_rwlock s.rwlocks ≡ true
   pub input : list_all is_byte s.input ≡ true
 
--- well-formed tables with so many harts, and the output that the program holds
-pub record CanBeSaved (harts : ℕ) (s : Tables) (held : List ℕ) : Type 0 where
+-- well-formed tables with so many harts, and the output that the program holds, in a version
+pub record CanBeSaved (version harts : ℕ) (s : Tables) (held : List ℕ) : Type 0 where
   -- the rules of tables hold
   pub well_formed : IsWellFormed s
   -- each number is one that its field can have
   pub fit : Fit s
+  -- version 1 has no keys
+  pub said : version ≡ 1 → is_without_keys s.threads ≡ true
   -- there are so many harts
   pub hart_count : s.threads.hart_count ≡ harts
   -- it is no more output than a program holds
@@ -120,6 +147,6 @@ pub record CanBeSaved (harts : ℕ) (s : Tables) (held : List ℕ) : Type 0 wher
   pub held_bytes : list_all is_byte held ≡ true
 
 -- no two states that can be saved have one encoding
-abbrev pub AreDistinct : ℕ → Type 0
-AreDistinct harts = (s t : Tables) (held out : List ℕ) → CanBeSaved harts s held → CanBeSaved harts t out
-    → encoding_of s held ≡ encoding_of t out → (s ≡ t) × (held ≡ out)
+abbrev pub AreDistinct : ℕ → ℕ → Type 0
+AreDistinct version harts = (s t : Tables) (held out : List ℕ) → CanBeSaved version harts s held → CanBeSaved version harts t out
+    → encoding_of version s held ≡ encoding_of version t out → (s ≡ t) × (held ≡ out)

@@ -1,5 +1,5 @@
 //! Bytes as tables and held output.
-ghost use Rattle.std.specs.Prelude.{◌≡◌, ◌≤◌, ◌∷◌, [], ◌↔◌, IsTrue, IfOk, IfSome, length, true};
+ghost use Rattle.std.specs.Prelude.{◌⊎◌, ◌≡◌, ◌≤◌, ◌∷◌, [], ◌↔◌, IsTrue, IfOk, IfSome, length, true};
 ghost use Rattle.ckrt_calls.specs.WellFormed.{IsWellFormed};
 ghost use Rattle.ckrt_tables.specs.Decoding.{DecodesTo, Finds, IsBegun, IsEncodingOf, Saved, saved};
 ghost use Rattle.ckrt_tables.specs.Encoding.{encoding_of, status_bytes, status_from, IsHeld};
@@ -8,7 +8,9 @@ ghost use Rattle.ckrt_tables.specs.Savable.{fits_status};
 
 use crate::cursor::Cursor;
 use crate::encoding::{HELD_LIMIT, Held, most_bytes, put_tables};
-use crate::fitting::known_savable;
+use crate::fitting::{is_without_keys, known_savable};
+use crate::reading::read_mark;
+use crate::reading_keys::read_keys;
 use crate::reading_objects::{read_barriers, read_mutexes, read_rwlocks};
 use crate::reading_queues::{read_held, read_input};
 use crate::reading_threads::read_threads;
@@ -17,7 +19,7 @@ use ckrt_calls::{InputQueue, Status, Tables};
 use ckrt_mutex::Mutexes;
 use ckrt_rv32i::Cause;
 use ckrt_rwlock::RwLocks;
-use ckrt_thread::Threads;
+use ckrt_thread::{Keys, Threads};
 use std::alloc::{AllocError, Global};
 
 /// The cause that a number of 1 to 9 stands for.
@@ -35,13 +37,6 @@ fn cause_from(number: u8) -> Cause
         8 => Cause::Breakpoint,
         _ => Cause::Gate,
     }
-}
-
-/// Whether no more input comes.
-fn read_closed(cursor: &mut Cursor<'_>) -> bool
-    ensures { Finds (λ b. true) (λ b. flag 1 b ∷ []) cursor.old result cursor.new }
-{
-    cursor.byte() == 1
 }
 
 /// The status of this kind, 0 to 2, with the thread and the cause of a fault, and the exit status or the pc of the fault.
@@ -66,23 +61,26 @@ fn read_status(cursor: &mut Cursor<'_>) -> Status
     status_from(kind, thread, cause, word)
 }
 
-/// Reads tables and held output part by part, each where it stays. Where the bytes are the encoding of a state for so many
-/// harts, it is that state; other bytes may give any.
-fn read_tables(bytes: &[u8], tables: &mut Tables, held: &mut Held)
+/// Reads tables and held output part by part, each where it stays. Where the bytes are the encoding, in a version, of a state
+/// for so many harts, it is that state; other bytes may give any.
+fn read_tables(bytes: &[u8], version: u32, tables: &mut Tables, held: &mut Held)
+    requires version { (version ≡ 1) ⊎ (version ≡ 2) }
     requires begun { IsBegun tables.old.threads.hart_count tables.old held.old }
-    ensures found { (s : Saved) → IsEncodingOf tables.old.threads.hart_count bytes.now s
+    ensures found { (s : Saved) → IsEncodingOf version tables.old.threads.hart_count bytes.now s
         → (tables.new ≡ s.tables) × (held.new.items ≡ s.held) }
     ensures room { held.new.capacity ≡ HELD_LIMIT }
     ensures held { IsHeld held.new.items }
 {
     let mut cursor = Cursor::new(bytes);
     tables.clock = cursor.long();
-    tables.closed = read_closed(&mut cursor);
+    tables.closed = read_mark(&mut cursor);
     tables.status = read_status(&mut cursor);
-    read_threads(&mut cursor, &mut tables.threads);
+    read_threads(&mut cursor, &mut tables.threads, version);
     read_mutexes(&mut cursor, &mut tables.mutexes);
     read_barriers(&mut cursor, &mut tables.barriers);
     read_rwlocks(&mut cursor, &mut tables.rwlocks);
+    let keys = read_keys(&mut cursor, version);
+    tables.threads.set_keys(keys);
     read_input(&mut cursor, &mut tables.input);
     read_held(&mut cursor, held);
 }
@@ -96,30 +94,32 @@ fn zeros(alloc: Global, size: usize) -> Result<Vec<u8>, AllocError>
 }
 
 /// Whether the bytes are the encoding of the tables and the held output, which is written into `room`.
-fn is_encoding(tables: &Tables, held: &Held, room: &mut [u8], bytes: &[u8]) -> bool
+fn is_encoding(tables: &Tables, held: &Held, version: u32, room: &mut [u8], bytes: &[u8]) -> bool
     requires well_formed { IsWellFormed tables.now }
     requires held { IsHeld held.now.items }
-    requires room { length (encoding_of tables.now held.now.items) ≤ length room.old }
-    ensures { IsTrue result ↔ (bytes.now ≡ encoding_of tables.now held.now.items) }
+    requires room { length (encoding_of version tables.now held.now.items) ≤ length room.old }
+    ensures { IsTrue result ↔ (bytes.now ≡ encoding_of version tables.now held.now.items) }
 {
-    let size = put_tables(room, tables, held);
+    let size = put_tables(room, tables, held, version);
     let (front, _) = room.split_at(size);
     bytes == front
 }
 
-/// The tables and the held output that the bytes encode, for a program with so many harts (at most 8); `None` where the bytes
-/// are the encoding of no state that can be saved. The ring of output has room for [`HELD_LIMIT`] bytes. All memory that
+/// The tables and the held output that the bytes encode in a version, 1 or 2, for a program with so many harts (at most 8);
+/// `None` where the bytes are the encoding of no state that can be saved. Version 1 is of a program whose keys are off. The ring of output has room for [`HELD_LIMIT`] bytes. All memory that
 /// tables and ring need is taken here; the only error is that it is refused.
 pub fn decode_tables(
     alloc: Global,
+    version: u32,
     bytes: &[u8],
     harts: usize,
 ) -> Result<Option<(Tables, Held)>, AllocError>
+    requires version { (version ≡ 1) ⊎ (version ≡ 2) }
     requires harts { harts ≤ 8 }
-    ensures exact { IfOk result (λ found. DecodesTo harts bytes.now (saved found)) }
+    ensures exact { IfOk result (λ found. DecodesTo version harts bytes.now (saved found)) }
     ensures room { IfOk result (λ found. IfSome found (λ parts. parts.1.capacity ≡ HELD_LIMIT)) }
 {
-    let threads = Threads::empty(alloc, harts)?;
+    let threads = Threads::empty(alloc, harts, Keys::all())?;
     let input = InputQueue::new(alloc)?;
     let mut held = Held::with_capacity(alloc, HELD_LIMIT)?;
     let mut tables = Tables {
@@ -132,13 +132,16 @@ pub fn decode_tables(
         closed: false,
         status: Status::Running,
     };
-    read_tables(bytes, &mut tables, &mut held);
+    read_tables(bytes, version, &mut tables, &mut held);
     if !tables.is_well_formed() || tables.threads.hart_count() != harts {
         return Ok(None);
     }
-    known_savable(&tables, &held);
+    if version == 1 && !is_without_keys(&tables.threads) {
+        return Ok(None);
+    }
+    known_savable(&tables, &held, version);
     let mut room = zeros(alloc, most_bytes(&tables, &held))?;
-    if !is_encoding(&tables, &held, room.as_mut_slice(), bytes) {
+    if !is_encoding(&tables, &held, version, room.as_mut_slice(), bytes) {
         return Ok(None);
     }
     Ok(Some((tables, held)))

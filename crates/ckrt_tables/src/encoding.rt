@@ -1,5 +1,5 @@
 //! Tables and held output as bytes.
-ghost use Rattle.std.specs.Prelude.{◌≡◌, ◌≤◌, ◌+◌, ◌∷◌, ◌++◌, [], length, take, drop, Some};
+ghost use Rattle.std.specs.Prelude.{◌≡◌, ◌≤◌, ℕ, ◌+◌, ◌∷◌, ◌++◌, [], length, take, drop, Some};
 ghost use Rattle.byteorder.specs.Endian.{little_bytes};
 ghost use Rattle.ckrt_calls.specs.WellFormed.{IsWellFormed};
 ghost use Rattle.ckrt_tables.specs.Decoding.{DecodesTo};
@@ -8,6 +8,7 @@ ghost use Rattle.ckrt_tables.specs.Records.{flag};
 ghost use Rattle.ckrt_tables.specs.Writing.{HasRoom, IsPut, IsFew};
 
 use crate::fitting::known_savable;
+use crate::keys::put_keys;
 use crate::numbers::{cause_number, flag};
 use crate::objects::{put_barriers, put_mutexes, put_rwlocks};
 use crate::threads::{put_harts, put_threads, put_waits};
@@ -15,6 +16,7 @@ use crate::writing::put;
 use byteorder::{ByteOrder, LittleEndian};
 use circular_buffer::HeapCircularBuffer;
 use ckrt_calls::{InputQueue, Status, Tables};
+use ckrt_thread::MAX_KEYS;
 
 /// The output that a program holds, first byte first: at most [`HELD_LIMIT`] bytes.
 pub type Held = HeapCircularBuffer<u8>;
@@ -25,10 +27,13 @@ pub const HELD_LIMIT: usize = 16_384;
 /// The room that saved tables have, in bytes.
 pub const TABLES_ROOM: usize = 98_304;
 
+/// The version in which tables are saved. In version 1 there are no keys.
+pub const VERSION: u32 = 2;
+
 /// How many bytes the longest saved tables have: 16 for clock, input and status, 8 for harts, and the counts and records of
-/// 64 threads with 16 handlers each, 64 waits, 256 mutexes, 64 barriers, 64 read-write locks with 64 readers each, 4,096
-/// bytes of input and 16,384 of output.
-pub const LONGEST_TABLES: usize = 53_922;
+/// 64 threads with 16 handlers and 32 values each, 64 waits, 256 mutexes, 64 barriers, 64 read-write locks with 64 readers
+/// each, 32 keys, 4,096 bytes of input and 16,384 of output.
+pub const LONGEST_TABLES: usize = 70_820;
 
 /// What a status and its parts are saved as.
 fn framed(kind: u8, thread: u8, cause: u8, word: u32) -> [u8; 7]
@@ -106,67 +111,69 @@ fn put_held(out: &mut [u8], at: usize, held: &Held) -> usize
 }
 
 /// All parts, one behind another.
-fn put_parts(out: &mut [u8], tables: &Tables, held: &Held) -> usize
+fn put_parts(out: &mut [u8], tables: &Tables, held: &Held, version: u32) -> usize
     requires few { IsFew tables.now }
     requires held { IsHeld held.now.items }
-    requires room { length (encoding_of tables.now held.now.items) ≤ length out.old }
-    ensures { IsPut out.old 0 (encoding_of tables.now held.now.items) out.new result }
+    requires room { length (encoding_of version tables.now held.now.items) ≤ length out.old }
+    ensures { IsPut out.old 0 (encoding_of version tables.now held.now.items) out.new result }
 {
     let clock = put_clock(out, 0, tables.clock);
     let closed = put_closed(out, clock, tables.closed);
     let status = put_status(out, closed, tables.status);
     let harts = put_harts(out, status, &tables.threads);
-    let threads = put_threads(out, harts, &tables.threads);
+    let threads = put_threads(out, harts, &tables.threads, version);
     let waits = put_waits(out, threads, &tables.threads);
     let mutexes = put_mutexes(out, waits, &tables.mutexes);
     let barriers = put_barriers(out, mutexes, &tables.barriers);
     let rwlocks = put_rwlocks(out, barriers, &tables.rwlocks);
-    let input = put_input(out, rwlocks, &tables.input);
+    let keys = put_keys(out, rwlocks, tables.threads.keys(), version);
+    let input = put_input(out, keys, &tables.input);
     put_held(out, input, held)
 }
 
-/// How many bytes are in the parts of each encoding that aren't records, input or output: clock, input's end, status, harts
-/// and counts.
-const FIXED_BYTES: usize = 34;
+/// How many bytes are in the parts of each encoding that aren't records, input or output: clock, input's end, status, harts,
+/// counts, and the mark of keys.
+const FIXED_BYTES: usize = 36;
 
-/// How many bytes the encoding has at most, by how many records there are: a thread's has 264 at most, a wait's 20, a mutex's
-/// and a barrier's 8, and a read-write lock's 198 at most.
+/// How many bytes the encoding has at most, by how many records there are: a thread's has 524 at most, a wait's 20, a mutex's
+/// and a barrier's 8, a read-write lock's 198 at most, and a key's 8.
 #[tactic(auto, using(crate::proofs::Few::few))]
 pub(crate) fn most_bytes(tables: &Tables, held: &Held) -> usize
     requires well_formed { IsWellFormed tables.now }
     requires held { IsHeld held.now.items }
-    ensures { length (encoding_of tables.now held.now.items) ≤ result }
+    ensures { (version : ℕ) → length (encoding_of version tables.now held.now.items) ≤ result }
 {
-    let threads = 264 * tables.threads.thread_count() + 20 * tables.threads.wait_count();
+    let threads = 524 * tables.threads.thread_count() + 20 * tables.threads.wait_count();
     let mutexes = 8 * tables.mutexes.count();
     let others = 8 * tables.barriers.count() + 198 * tables.rwlocks.count();
-    FIXED_BYTES + threads + mutexes + others + tables.input.len() + held.len()
+    let keys = 8 * MAX_KEYS;
+    FIXED_BYTES + threads + mutexes + others + keys + tables.input.len() + held.len()
 }
 
-/// As [`encode_tables`], where there is room for the encoding.
-pub(crate) fn put_tables(out: &mut [u8], tables: &Tables, held: &Held) -> usize
+/// As [`encode_tables`], in a version, where there is room for the encoding.
+pub(crate) fn put_tables(out: &mut [u8], tables: &Tables, held: &Held, version: u32) -> usize
     requires well_formed { IsWellFormed tables.now }
     requires held { IsHeld held.now.items }
-    requires room { length (encoding_of tables.now held.now.items) ≤ length out.old }
-    ensures { IsPut out.old 0 (encoding_of tables.now held.now.items) out.new result }
+    requires room { length (encoding_of version tables.now held.now.items) ≤ length out.old }
+    ensures { IsPut out.old 0 (encoding_of version tables.now held.now.items) out.new result }
 {
-    put_parts(out, tables, held)
+    put_parts(out, tables, held, version)
 }
 
-/// Writes the encoding of tables and held output at the front of `out`, and answers how many bytes it has; what is behind
+/// Writes the encoding of tables and held output, in [`VERSION`], at the front of `out`, and answers how many bytes it has; what is behind
 /// it stays. They decode to these tables and this output. `out` must have room for [`TABLES_ROOM`] bytes.
 #[tactic(auto, using(crate::proofs::Bounds::encoding_bound))]
 pub fn encode_tables(tables: &Tables, held: &Held, out: &mut [u8]) -> usize
     requires well_formed { IsWellFormed tables.now }
     requires held { IsHeld held.now.items }
     requires room { TABLES_ROOM ≤ length out.old }
-    ensures length { result ≡ length (encoding_of tables.now held.now.items) }
+    ensures length { result ≡ length (encoding_of VERSION tables.now held.now.items) }
     ensures longest { result ≤ LONGEST_TABLES }
-    ensures front { take result out.new ≡ encoding_of tables.now held.now.items }
+    ensures front { take result out.new ≡ encoding_of VERSION tables.now held.now.items }
     ensures back { drop result out.new ≡ drop result out.old }
-    ensures decodes { DecodesTo tables.now.threads.hart_count (take result out.new)
+    ensures decodes { DecodesTo VERSION tables.now.threads.hart_count (take result out.new)
         (Some (record { tables = tables.now; held = held.now.items })) }
 {
-    known_savable(tables, held);
-    put_tables(out, tables, held)
+    known_savable(tables, held, VERSION);
+    put_tables(out, tables, held, VERSION)
 }

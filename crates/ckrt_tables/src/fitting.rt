@@ -1,11 +1,11 @@
 //! The numbers of a program fit the types that the code has for them, and so the fields of saved tables: whatever
 //! well-formed tables and output are at hand, they can be saved. Nothing here does anything when it runs.
-ghost use Rattle.std.specs.Prelude.{◌≡◌, Bool, true};
+ghost use Rattle.std.specs.Prelude.{◌≡◌, ◌==◌, Bool, true, length};
 ghost use Rattle.std.specs.List.{list_all};
 ghost use Rattle.ckrt_thread.specs.State.{is_proper_live};
 ghost use Rattle.ckrt_calls.specs.WellFormed.{IsWellFormed};
 ghost use Rattle.ckrt_tables.specs.Encoding.{IsHeld};
-ghost use Rattle.ckrt_tables.specs.Savable.{CanBeSaved, if_there, is_byte, is_half, is_word, is_long, fit_registers, fits_thread, fits_wait, fits_status};
+ghost use Rattle.ckrt_tables.specs.Savable.{CanBeSaved, if_there, is_byte, is_half, is_word, is_long, fit_registers, fits_data, fit_keys, fits_thread, fits_wait, fits_status, is_bare, is_bare_slot, is_without_keys};
 ghost use Rattle.ckrt_thread.specs.declared.records.Thread.TheVariants as thread;
 
 use crate::encoding::Held;
@@ -15,7 +15,7 @@ use ckrt_mutex::Mutex;
 use ckrt_objects::Entry;
 use ckrt_rv32i::Regs;
 use ckrt_rwlock::RwLock;
-use ckrt_thread::{Handler, Live, Thread, Wait};
+use ckrt_thread::{Handler, Keys, Live, SpecificData, Thread, Threads, Wait};
 
 /// What has numbers that fit the fields in which they are saved.
 trait Fitting {
@@ -73,6 +73,75 @@ impl Fitting for Handler {
     }
 }
 
+fn known_words(words: &[u32])
+    ensures { list_all is_word words.now ≡ true }
+{}
+
+fn known_data(specific: &SpecificData)
+    ensures { fits_data specific.now ≡ true }
+{
+    let _round = specific.round;
+    let _next_key = specific.next_key;
+    known_words(specific.values.as_slice());
+}
+
+impl Fitting for Option<u32> {
+    ghost use Rattle.std.specs.Prelude.{true};
+    ghost use Rattle.ckrt_tables.specs.Savable.{if_there, is_word};
+
+    ghost is_proper = { λ o. true };
+
+    ghost fits = { if_there is_word };
+
+    fn known_fit(&self) {
+        known_word_if(*self);
+    }
+}
+
+fn known_keys(keys: &Keys)
+    ensures { fit_keys keys.now ≡ true }
+{
+    known_all(keys.destructors());
+}
+
+/// Whether the thread has nothing under a key, and is in no round of destructors.
+fn is_bare(specific: &SpecificData) -> bool
+    ensures { result ≡ is_bare specific.now }
+{
+    specific.round == 0 && specific.next_key == 0 && are_zeros(specific.values.as_slice())
+}
+
+/// Whether all of these are 0.
+fn are_zeros(values: &[u32]) -> bool
+    ensures { result ≡ list_all (λ v. v == 0) values.now }
+{
+    values.iter().all(|value| *value == 0)
+}
+
+/// Whether what stands for a number has nothing under a key, and is in no round of destructors.
+fn is_bare_slot(slot: &Option<Thread>) -> bool
+    ensures { result ≡ is_bare_slot slot.now }
+{
+    match slot {
+        Some(Thread::Live(live)) => is_bare(&live.specific),
+        _ => true,
+    }
+}
+
+/// Whether all of these are so.
+fn are_bare(slots: &[Option<Thread>]) -> bool
+    ensures { result ≡ list_all is_bare_slot slots.now }
+{
+    slots.iter().all(|slot| is_bare_slot(slot))
+}
+
+/// Whether the program has no keys, and no thread has anything under one.
+pub fn is_without_keys(threads: &Threads) -> bool
+    ensures { result ≡ is_without_keys threads.now }
+{
+    !threads.keys().is_on() && are_bare(threads.slots())
+}
+
 fn known_live(live: &Live)
     requires { is_proper_live live.now ≡ true }
     ensures { fits_thread (thread.Live live.now) ≡ true }
@@ -80,6 +149,7 @@ fn known_live(live: &Live)
     known_registers(&live.regs);
     known_word_if(live.cancellation.unwinding);
     known_all(live.handlers.as_slice());
+    known_data(&live.specific);
 }
 
 impl Fitting for Option<Thread> {
@@ -161,13 +231,15 @@ fn known_status(status: Status)
 {}
 
 /// Whatever well-formed tables and output are at hand, they can be saved, for a proof.
-pub fn known_savable(tables: &Tables, held: &Held)
+pub fn known_savable(tables: &Tables, held: &Held, version: u32)
     requires well_formed { IsWellFormed tables.now }
     requires held { IsHeld held.now.items }
-    ensures { CanBeSaved tables.now.threads.hart_count tables.now held.now.items }
+    requires said { version ≡ 1 → is_without_keys tables.now.threads ≡ true }
+    ensures { CanBeSaved version tables.now.threads.hart_count tables.now held.now.items }
 {
     known_all(tables.threads.slots());
     known_all(tables.threads.waits().as_slice());
+    known_keys(tables.threads.keys());
     known_all(tables.mutexes.rows().as_slice());
     known_all(tables.barriers.rows());
     known_all(tables.rwlocks.rows());

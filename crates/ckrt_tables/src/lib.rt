@@ -5,10 +5,12 @@ mod cursor;
 mod decoding;
 mod encoding;
 mod fitting;
+mod keys;
 mod laws;
 mod numbers;
 mod objects;
 mod reading;
+mod reading_keys;
 mod reading_objects;
 mod reading_queues;
 mod reading_threads;
@@ -16,7 +18,7 @@ mod threads;
 mod writing;
 
 pub use decoding::decode_tables;
-pub use encoding::{HELD_LIMIT, Held, LONGEST_TABLES, TABLES_ROOM, encode_tables};
+pub use encoding::{HELD_LIMIT, Held, LONGEST_TABLES, TABLES_ROOM, VERSION, encode_tables};
 pub use laws::{
     decodes_to_one, encodings_are_distinct, fresh_encoding, fresh_is_savable, longest_encoding,
 };

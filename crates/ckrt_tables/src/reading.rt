@@ -1,8 +1,8 @@
 //! Reading rows, one behind another.
-ghost use Rattle.std.specs.Prelude.{◌≡◌, ◌<◌, ◌^◌, ℕ, List, [], ◌∷◌, Bool};
+ghost use Rattle.std.specs.Prelude.{◌≡◌, ◌<◌, ◌^◌, ℕ, List, [], ◌∷◌, Bool, true};
 ghost use Rattle.std.specs.List.{flat_map};
 ghost use Rattle.ckrt_tables.specs.Decoding.{Finds, GoesOn, Reaches};
-ghost use Rattle.ckrt_tables.specs.Records.{counted, one_byte, two_bytes};
+ghost use Rattle.ckrt_tables.specs.Records.{counted, flag, one_byte, two_bytes};
 
 use crate::cursor::Cursor;
 
@@ -52,4 +52,11 @@ pub fn read_many<R: Row>(cursor: &mut Cursor<'_>, table: &mut R::Table)
 {
     let count = cursor.half();
     read_rows::<R>(cursor, table, usize::from(count));
+}
+
+/// A mark: 1 where it is set, 0 where it is not.
+pub fn read_mark(cursor: &mut Cursor<'_>) -> bool
+    ensures { Finds (λ b. true) (λ b. flag 1 b ∷ []) cursor.old result cursor.new }
+{
+    cursor.byte() == 1
 }

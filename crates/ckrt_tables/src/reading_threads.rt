@@ -1,23 +1,25 @@
 //! Reading harts, threads and waits, and a table of threads that is built of them.
-ghost use Rattle.std.specs.Prelude.{◌≡◌, ◌<◌, ◌+◌, ◌*◌, ◌∷◌, ℕ, List, Bool, Option, true, is_some, unwrap_or};
+ghost use Rattle.std.specs.Prelude.{◌⊎◌, ◌≡◌, ◌<◌, ◌+◌, ◌*◌, ◌∷◌, ℕ, List, Bool, Option, true, is_some, unwrap_or};
 ghost use Rattle.ckrt_thread.specs.declared.records.Live.{Live};
 ghost use Rattle.ckrt_thread.specs.declared.records.Thread.{Thread};
 ghost use Rattle.ckrt_thread.specs.declared.records.Thread.TheVariants as thread;
 ghost use Rattle.ckrt_thread.specs.State.{State};
 ghost use Rattle.ckrt_thread.specs.Contents.{who_is_on};
-ghost use Rattle.ckrt_tables.specs.Decoding.{Finds, FillsUp, GoesOn};
-ghost use Rattle.ckrt_tables.specs.DecodingThreads.{AreThreadBytes, BuildsThreads, HartsLeadTo, PutsOnHarts};
-ghost use Rattle.ckrt_tables.specs.Records.{flag, flags_of, reason_from, registers_bytes, retake_from};
+ghost use Rattle.ckrt_tables.specs.Decoding.{Finds, FillsUp, GoesOn, Reaches};
+ghost use Rattle.ckrt_tables.specs.DecodingThreads.{AreThreadBytes, BuildsThreads, HartsLeadTo, PutsOnHarts, ThreadsLeadTo, fits_row};
+ghost use Rattle.ckrt_tables.specs.Records.{counted, flag, flags_of, one_byte, reason_from, registers_bytes, retake_from, thread_bytes};
 ghost use Rattle.ckrt_tables.specs.Savable.{fit_registers};
 
 use crate::cursor::Cursor;
+use crate::encoding::VERSION;
 use crate::reading::{Row, read_few, read_rows};
+use crate::reading_keys::read_data;
 use crate::reading_objects::read_id;
 use arrayvec::ArrayVec;
 use ckrt_rv32i::Regs;
 use ckrt_thread::{
-    Cancellation, Handler, Live, MAX_HANDLERS, MAX_HARTS, Reason, RetakeResult, Thread, ThreadId,
-    Threads, Wait,
+    Cancellation, Handler, Live, MAX_HANDLERS, MAX_HARTS, Reason, RetakeResult, SpecificData,
+    Thread, ThreadId, Threads, Wait,
 };
 use std::marker::Model;
 
@@ -93,9 +95,9 @@ fn number_if(is_there: bool, number: u32) -> Option<u32>
     if is_there { Some(number) } else { None }
 }
 
-/// A thread that has not ended, with these flags, the value that it unwinds with, registers and handlers.
-fn live_of(flags: u8, value: u32, regs: Regs, handlers: Handlers) -> Live
-    ensures { (l : Live) → AreThreadBytes flags value regs handlers.items (thread.Live l) → result ≡ l }
+/// A thread that has not ended, with these flags, the value that it unwinds with, registers, handlers and data.
+fn live_of(flags: u8, value: u32, regs: Regs, handlers: Handlers, specific: SpecificData) -> Live
+    ensures { (l : Live) → AreThreadBytes flags value regs handlers.items specific (thread.Live l) → result ≡ l }
 {
     let mut flags = flags;
     let initial = next_mark(&mut flags);
@@ -115,20 +117,27 @@ fn live_of(flags: u8, value: u32, regs: Regs, handlers: Handlers) -> Live
             unwinding: number_if(is_unwinding, value),
         },
         handlers,
+        specific,
     }
 }
 
 /// The flag of a thread that has ended.
 const ENDED: u8 = 64;
 
-/// A thread with these flags, value, registers and handlers.
-fn thread_of(flags: u8, value: u32, regs: Regs, handlers: Handlers) -> Thread
-    ensures { (t : Thread) → AreThreadBytes flags value regs handlers.items t → result ≡ t }
+/// A thread with these flags, value, registers, handlers and data.
+fn thread_of(
+    flags: u8,
+    value: u32,
+    regs: Regs,
+    handlers: Handlers,
+    specific: SpecificData,
+) -> Thread
+    ensures { (t : Thread) → AreThreadBytes flags value regs handlers.items specific t → result ≡ t }
 {
     if flags == ENDED {
         Thread::Ended(value)
     } else {
-        Thread::Live(live_of(flags, value, regs, handlers))
+        Thread::Live(live_of(flags, value, regs, handlers, specific))
     }
 }
 
@@ -167,29 +176,76 @@ impl Row for Handler {
     }
 }
 
+/// A thread in a version.
+fn read_thread(cursor: &mut Cursor<'_>, version: u32) -> (ThreadId, Thread)
+    ensures { Finds (fits_row version) (thread_bytes version) cursor.old (record { id = result.0; thread = result.1 }) cursor.new }
+{
+    let id = cursor.byte();
+    let flags = cursor.byte();
+    let count = cursor.byte();
+    cursor.byte();
+    let value = cursor.word();
+    let regs = read_registers(cursor);
+    let mut handlers = ArrayVec::new();
+    read_rows::<Handler>(cursor, &mut handlers, usize::from(count));
+    let specific = read_data(cursor, version);
+    let thread = thread_of(flags, value, regs, handlers, specific);
+    (id, thread)
+}
+
 impl Row for ThreadRecord {
     type Table = Threads;
 
     ghost use Rattle.ckrt_tables.specs.Records.{thread_bytes};
     ghost use Rattle.ckrt_tables.specs.DecodingThreads.{fits_row, ThreadsLeadTo};
 
-    ghost encoding = { thread_bytes };
+    ghost encoding = { thread_bytes 2 };
 
-    ghost fits = { fits_row };
+    ghost fits = { fits_row 2 };
 
     ghost LeadsTo = { ThreadsLeadTo };
 
     fn read(cursor: &mut Cursor<'_>) -> Self {
-        let id = cursor.byte();
-        let flags = cursor.byte();
-        let count = cursor.byte();
-        cursor.byte();
-        let value = cursor.word();
-        let regs = read_registers(cursor);
-        let mut handlers = ArrayVec::new();
-        read_rows::<Handler>(cursor, &mut handlers, usize::from(count));
-        let thread = thread_of(flags, value, regs, handlers);
+        let (id, thread) = read_thread(cursor, VERSION);
         ThreadRecord { id, thread }
+    }
+
+    fn append(self, table: &mut Threads) {
+        table.known();
+        table.append_thread(self.id, self.thread);
+    }
+}
+
+/// A thread as version 1 has it.
+#[derive(Drop)]
+pub struct FirstRecord {
+    id: ThreadId,
+    thread: Thread,
+}
+
+impl Model for FirstRecord {
+    ghost use Rattle.ckrt_thread.specs.Contents.{ThreadRow};
+
+    ghost Value = { ThreadRow };
+
+    ghost view = { λ r. record { id = r.id; thread = r.thread } };
+}
+
+impl Row for FirstRecord {
+    type Table = Threads;
+
+    ghost use Rattle.ckrt_tables.specs.Records.{thread_bytes};
+    ghost use Rattle.ckrt_tables.specs.DecodingThreads.{fits_row, ThreadsLeadTo};
+
+    ghost encoding = { thread_bytes 1 };
+
+    ghost fits = { fits_row 1 };
+
+    ghost LeadsTo = { ThreadsLeadTo };
+
+    fn read(cursor: &mut Cursor<'_>) -> Self {
+        let (id, thread) = read_thread(cursor, 1);
+        FirstRecord { id, thread }
     }
 
     fn append(self, table: &mut Threads) {
@@ -292,13 +348,26 @@ fn place_all(threads: &mut Threads, harts: &[Option<ThreadId>])
     threads.known();
 }
 
-/// Who is on each hart, the threads and the waits, which go onto a new table.
-pub fn read_threads(cursor: &mut Cursor<'_>, threads: &mut Threads)
-    ensures { BuildsThreads threads.old cursor.old threads.new cursor.new }
+/// How many threads there are, and the threads in a version, which go onto the table.
+fn read_thread_rows(cursor: &mut Cursor<'_>, threads: &mut Threads, version: u32)
+    requires { (version ≡ 1) ⊎ (version ≡ 2) }
+    ensures { Reaches ThreadsLeadTo (fits_row version) (counted one_byte (thread_bytes version)) (λ n. n < 256) cursor.old threads.old threads.new cursor.new }
+{
+    if version == 1 {
+        read_few::<FirstRecord>(cursor, threads);
+    } else {
+        read_few::<ThreadRecord>(cursor, threads);
+    }
+}
+
+/// Who is on each hart, the threads and the waits, in a version, which go onto a new table.
+pub fn read_threads(cursor: &mut Cursor<'_>, threads: &mut Threads, version: u32)
+    requires { (version ≡ 1) ⊎ (version ≡ 2) }
+    ensures { BuildsThreads version threads.old cursor.old threads.new cursor.new }
 {
     let mut harts = ArrayVec::new();
     read_rows::<Option<ThreadId>>(cursor, &mut harts, MAX_HARTS);
-    read_few::<ThreadRecord>(cursor, threads);
+    read_thread_rows(cursor, threads, version);
     read_few::<Wait>(cursor, threads);
     place_all(threads, harts.as_slice());
 }

@@ -8,11 +8,14 @@ ghost use Rattle.ckrt_thread.specs.declared.records.Thread.TheVariants as thread
 ghost use Rattle.ckrt_tables.specs.Records.{counted, one_byte, hart_bytes, registers_bytes, handler_bytes, thread_bytes, wait_bytes};
 ghost use Rattle.ckrt_tables.specs.Writing.{HasRoom, IsPut};
 
+use crate::keys::put_data;
 use crate::numbers::{first_name, flag, flags_of, id_or_0, kind_of, result_of, second_name};
 use crate::writing::{Record, put, put_all};
 use byteorder::{ByteOrder, LittleEndian};
 use ckrt_rv32i::Regs;
-use ckrt_thread::{Handler, Live, MAX_HARTS, MAX_THREADS, Thread, ThreadId, Threads, Wait};
+use ckrt_thread::{
+    Handler, Live, MAX_HARTS, MAX_THREADS, SpecificData, Thread, ThreadId, Threads, Wait,
+};
 
 /// Who is on each hart.
 pub fn put_harts(out: &mut [u8], at: usize, threads: &Threads) -> usize
@@ -69,48 +72,50 @@ fn thread_head(id: ThreadId, flags: u8, handlers: u8, value: u32) -> [u8; 8]
 }
 
 /// A thread that has not ended.
-fn put_live(out: &mut [u8], at: usize, id: ThreadId, live: &Live) -> usize
-    requires { HasRoom out.old at (thread_bytes (record { id = id; thread = thread.Live live.now })) }
-    ensures { IsPut out.old at (thread_bytes (record { id = id; thread = thread.Live live.now })) out.new result }
+fn put_live(out: &mut [u8], at: usize, id: ThreadId, live: &Live, version: u32) -> usize
+    requires { HasRoom out.old at (thread_bytes version (record { id = id; thread = thread.Live live.now })) }
+    ensures { IsPut out.old at (thread_bytes version (record { id = id; thread = thread.Live live.now })) out.new result }
 {
     let handlers = live.handlers.as_slice();
     let value = live.cancellation.unwinding.unwrap_or(0);
     let head = thread_head(id, flags_of(live), handlers.len() as u8, value);
     let end = put(out, at, &head);
     let end = put_registers(out, end, &live.regs);
-    put_all(out, end, handlers)
+    let end = put_all(out, end, handlers);
+    put_data(out, end, &live.specific, version)
 }
 
 /// A thread that has ended with a value.
-fn put_ended(out: &mut [u8], at: usize, id: ThreadId, value: u32) -> usize
-    requires { HasRoom out.old at (thread_bytes (record { id = id; thread = thread.Ended value })) }
-    ensures { IsPut out.old at (thread_bytes (record { id = id; thread = thread.Ended value })) out.new result }
+fn put_ended(out: &mut [u8], at: usize, id: ThreadId, value: u32, version: u32) -> usize
+    requires { HasRoom out.old at (thread_bytes version (record { id = id; thread = thread.Ended value })) }
+    ensures { IsPut out.old at (thread_bytes version (record { id = id; thread = thread.Ended value })) out.new result }
 {
     let end = put(out, at, &thread_head(id, 64, 0, value));
-    put_registers(out, end, &Regs::new(0))
+    let end = put_registers(out, end, &Regs::new(0));
+    put_data(out, end, &SpecificData::new(), version)
 }
 
 /// What stands for an id: a thread, or nothing.
-fn put_slot(out: &mut [u8], at: usize, threads: &Threads, id: ThreadId) -> usize
-    requires { HasRoom out.old at (flat_map thread_bytes (rows_of id (thread_of threads.now id))) }
-    ensures { IsPut out.old at (flat_map thread_bytes (rows_of id (thread_of threads.now id))) out.new result }
+fn put_slot(out: &mut [u8], at: usize, threads: &Threads, id: ThreadId, version: u32) -> usize
+    requires { HasRoom out.old at (flat_map (thread_bytes version) (rows_of id (thread_of threads.now id))) }
+    ensures { IsPut out.old at (flat_map (thread_bytes version) (rows_of id (thread_of threads.now id))) out.new result }
 {
     match threads.thread(u32::from(id)) {
-        Some(Thread::Live(live)) => put_live(out, at, id, live),
-        Some(Thread::Ended(value)) => put_ended(out, at, id, *value),
+        Some(Thread::Live(live)) => put_live(out, at, id, live, version),
+        Some(Thread::Ended(value)) => put_ended(out, at, id, *value, version),
         None => at,
     }
 }
 
 /// The threads by rising id. There is a place for each id of 1 to 64, and place 0, which stays empty.
-pub fn put_threads(out: &mut [u8], at: usize, threads: &Threads) -> usize
-    requires { HasRoom out.old at (counted one_byte thread_bytes (thread_rows threads.now)) }
-    ensures { IsPut out.old at (counted one_byte thread_bytes (thread_rows threads.now)) out.new result }
+pub fn put_threads(out: &mut [u8], at: usize, threads: &Threads, version: u32) -> usize
+    requires { HasRoom out.old at (counted one_byte (thread_bytes version) (thread_rows threads.now)) }
+    ensures { IsPut out.old at (counted one_byte (thread_bytes version) (thread_rows threads.now)) out.new result }
 {
     threads.known();
     let mut end = put(out, at, &[threads.thread_count() as u8]);
     for id in 0..65u8 {
-        end = put_slot(out, end, threads, id);
+        end = put_slot(out, end, threads, id, version);
     }
     end
 }

@@ -9,6 +9,7 @@ use Rattle.ckrt_thread.specs.declared.records.Thread.{Thread}
 use Rattle.ckrt_thread.specs.declared.records.Wait.{Wait}
 use Rattle.ckrt_thread.specs.declared.records.Object.TheVariants as object
 use Rattle.ckrt_thread.specs.Waits.{is_of, is_for, has_proper_deadline, joins_another, is_unwind_of}
+use Rattle.ckrt_thread.specs.Keys.{KeyTable, HasValuesOf}
 use Rattle.ckrt_thread.specs.State.{State, IsWellFormed, thread_of, is_initial, is_proper_slot, holds, count_of}
 use Rattle.ckrt_thread.specs.Contents.{ThreadRow, rows_from, thread_rows, who_is_on, GoesOnWithThread, GoesOnWithWait, GoesOnWithHart, HasNextThread, HasNextWait, HasNextOnHart, NextGoesOn}
 use Rattle.ckrt_thread.proofs.Counting.{count_of-append}
@@ -89,7 +90,7 @@ kept_initial (Some x) p k i = ap is_initial (k x refl) ∙ i
 
 pub next_thread : NextGoesOn HasNextThread GoesOnWithThread
 next_thread r begun s h k n =
-    let g = begins 0 begun.threads s.threads r n.0 (h.size ∙ sym k.size) n.1 in
+    let g = begins 0 begun.threads s.threads r n.threads.0 (h.size ∙ sym k.size) n.threads.1 in
     let i = g.id in
     let same : g.place ≡ r.id = omega (arith, i) in
     let there : thread_of s r.id ≡ Some r.thread = subst (λ (j : ℕ). at s.threads j ≡ Some r.thread) same g.there in
@@ -97,6 +98,7 @@ next_thread r begun s h k n =
     goes_on r begun h range.0 range.1 (λ t l. g.free t (omega (arith, same, l)))
     (λ q a b. k.one_initial r.id q (ap is_initial there ∙ a) (kept_initial (thread_of begun q) (thread_of s q) (g.kept q) b))
     (sym (ap is_proper_slot there) ∙ k.proper r.id)
+    (subst (λ (ks : KeyTable). HasValuesOf ks (Some r.thread)) n.keys (subst (HasValuesOf s.keys) there (k.values r.id)))
 
 -- WAITS AND HARTS
 
@@ -110,8 +112,8 @@ record IsPart (s : State) (waits : List Wait) (harts : List (Option ℕ)) (count
   idle : (h : ℕ) → count ≤ h → option_flatten (slice_get harts h) ≡ None
 
 -- with a part of the waits and of the harts a state is well-formed, too
-well_formed_part : (s : State) (waits : List Wait) (harts : List (Option ℕ)) (count : ℕ) → IsWellFormed s → IsPart s waits harts count → IsWellFormed (record { threads = s.threads; waits = waits; harts = harts; hart_count = count })
-well_formed_part s waits harts count h p = record {
+well_formed_part : (s : State) (waits : List Wait) (harts : List (Option ℕ)) (count : ℕ) (keys : KeyTable) → s.keys ≡ keys → IsWellFormed s → IsPart s waits harts count → IsWellFormed (record { threads = s.threads; waits = waits; harts = harts; hart_count = count; keys = keys })
+well_formed_part s waits harts count keys e h p = subst (λ (ks : KeyTable). IsWellFormed (record { threads = s.threads; waits = waits; harts = harts; hart_count = count; keys = ks })) e (record {
   size = h.size;
   zero = h.zero;
   harts = p.size;
@@ -124,7 +126,9 @@ well_formed_part s waits harts count h p = record {
   joined_by_another = p.all_waits joins_another h.joined_by_another;
   deadlines = p.all_waits has_proper_deadline h.deadlines;
   unwinding_waits = λ t. omega (arith, h.unwinding_waits t, p.fewer_waits (is_unwind_of t));
-}
+  proper_keys = h.proper_keys;
+  values = h.values;
+})
 
 -- the beginning of a list
 
@@ -153,13 +157,13 @@ fewer_on (Some u ∷ xs) (Some v ∷ ys) t n k =
 
 -- the threads of one state in another with the same rows
 with_threads : (begun s : State) → IsWellFormed begun → IsWellFormed s → thread_rows s ≡ thread_rows begun → IsWellFormed (record s { threads = begun.threads })
-with_threads begun s h k e = subst (λ ts. IsWellFormed (record { threads = ts; waits = s.waits; harts = s.harts; hart_count = s.hart_count })) (same_threads s begun k h e) k
+with_threads begun s h k e = subst (λ ts. IsWellFormed (record { threads = ts; waits = s.waits; harts = s.harts; hart_count = s.hart_count; keys = s.keys })) (same_threads s begun k h e) k
 
 pub next_wait : NextGoesOn HasNextWait GoesOnWithWait
 next_wait w begun s h k n =
     let waits : List Wait = begun.waits ++ w ∷ [] in
     let split : s.waits ≡ waits ++ n.waits.0 = n.waits.1 ∙ sym (append_assoc begun.waits (w ∷ []) n.waits.0) in
-    well_formed_part (record s { threads = begun.threads }) waits begun.harts begun.hart_count (with_threads begun s h k n.threads)
+    well_formed_part (record s { threads = begun.threads }) waits begun.harts begun.hart_count begun.keys n.keys (with_threads begun s h k n.threads)
     (record {
       fewer_waits = λ p. fewer_before p waits n.waits.0 s.waits split;
       all_waits = λ p. all_before p waits n.waits.0 s.waits split;
@@ -200,7 +204,7 @@ next_on_hart i t begun s h k n =
       within = within;
       idle = n.idle;
       well_formed =
-          well_formed_part (record s { threads = begun.threads }) begun.waits harts begun.hart_count (with_threads begun s h k n.threads)
+          well_formed_part (record s { threads = begun.threads }) begun.waits harts begun.hart_count begun.keys n.keys (with_threads begun s h k n.threads)
           (record {
             fewer_waits = λ p. (let e = ap (count_of p) n.waits in omega (arith, e));
             all_waits = λ p a. sym (ap (list_all p) n.waits) ∙ a;

@@ -23,6 +23,8 @@ use Rattle.ckrt_thread.specs.State.{State, IsWellFormed, first_waiter, thread_of
 use Rattle.ckrt_thread.specs.declared.records.Object.{Object}
 use Rattle.ckrt_thread.specs.WaitList.{without_wait, without_first}
 use Rattle.ckrt_thread.specs.Contents.{empty}
+use Rattle.ckrt_thread.specs.Keys.{KeyTable, no_keys, are_proper_keys, value_under, HasValuesOf}
+use Rattle.ckrt_thread.proofs.KeyLemmas.{no_value}
 use Rattle.ckrt_thread.proofs.Counting.{count_of-append, count_of_none}
 use Rattle.ckrt_thread.proofs.WaitLemmas.{count_of-without, list_all-without, unwind_of, no_unwind}
 use Rattle.ckrt_thread.proofs.SlotLemmas.{changed_at, kept_at, slot_at, empty_slot, live_change}
@@ -94,6 +96,8 @@ well_formed_blocked s t r d h l w a =
       joined_by_another = all_more joins_another s.waits (record { thread = t; reason = r; deadline = d }) h.joined_by_another (another t r d s (allowed_join t r d s a));
       deadlines = all_more has_proper_deadline s.waits (record { thread = t; reason = r; deadline = d }) h.deadlines (allowed_deadline t r d s a);
       unwinding_waits = λ q. unwind_more t q r d s (allowed_unwind t r d s a) w (h.unwinding_waits q);
+      proper_keys = h.proper_keys;
+      values = h.values;
     }
 
 -- A WAIT ENDS
@@ -112,6 +116,8 @@ well_formed_without s t h = record {
   joined_by_another = list_all-without joins_another t s.waits h.joined_by_another;
   deadlines = list_all-without has_proper_deadline t s.waits h.deadlines;
   unwinding_waits = λ q. omega (arith, h.unwinding_waits q, count_of-without (is_unwind_of q) t s.waits);
+  proper_keys = h.proper_keys;
+  values = h.values;
 }
 
 pub well_formed_without_wait : (s : State) (f : Option Wait) → IsWellFormed s → IsWellFormed (record s { waits = without_wait f s.waits })
@@ -123,24 +129,25 @@ well_formed_without_first s o h = well_formed_without_wait s (first_waiter o s) 
 
 -- A THREAD CHANGES
 
--- a change that leaves each thread proper that was, and unwinding that unwound
+-- a change that leaves each thread proper that was, and unwinding that unwound, and gives no value under another key
 pub record IsChange (f : Live → Live) : Type 0 where
   pub initial : (l : Live) → (f l).initial ≡ l.initial
   pub detached : (l : Live) → (f l).detached ≡ l.detached
   pub proper : (l : Live) → is_proper_live l ≡ true → is_proper_live (f l) ≡ true
   pub unwinding : (l : Live) → is_some l.cancellation.unwinding ≡ true → is_some (f l).cancellation.unwinding ≡ true
+  pub values : (keys : KeyTable) (l : Live) → HasValuesOf keys (Some (thread.Live l)) → HasValuesOf keys (Some (thread.Live (f l)))
 
-proper_change : (f : Live → Live) → IsChange f → (o : Option Thread) → is_proper_slot o ≡ true → is_proper_slot (change_live f o) ≡ true
+pub proper_change : (f : Live → Live) → IsChange f → (o : Option Thread) → is_proper_slot o ≡ true → is_proper_slot (change_live f o) ≡ true
 proper_change f k None a = refl
 proper_change f k (Some (thread.Ended v)) a = refl
 proper_change f k (Some (thread.Live l)) a = k.proper l a
 
-initial_change : (f : Live → Live) → ((l : Live) → (f l).initial ≡ l.initial) → (o : Option Thread) → is_initial (change_live f o) ≡ is_initial o
+pub initial_change : (f : Live → Live) → ((l : Live) → (f l).initial ≡ l.initial) → (o : Option Thread) → is_initial (change_live f o) ≡ is_initial o
 initial_change f k None = refl
 initial_change f k (Some (thread.Ended v)) = refl
 initial_change f k (Some (thread.Live l)) = k l
 
-joinable_change : (f : Live → Live) → ((l : Live) → (f l).detached ≡ l.detached) → (o : Option Thread) → is_joinable (change_live f o) ≡ is_joinable o
+pub joinable_change : (f : Live → Live) → ((l : Live) → (f l).detached ≡ l.detached) → (o : Option Thread) → is_joinable (change_live f o) ≡ is_joinable o
 joinable_change f k None = refl
 joinable_change f k (Some (thread.Ended v)) = refl
 joinable_change f k (Some (thread.Live l)) = ap (λ b. true && not b) (k l)
@@ -150,17 +157,22 @@ unwinding_change f k None u = absurd (cc)
 unwinding_change f k (Some (thread.Ended v)) u = absurd (cc)
 unwinding_change f k (Some (thread.Live l)) u = k.unwinding l u
 
+pub values_change : (keys : KeyTable) (f : Live → Live) → IsChange f → (o : Option Thread) → HasValuesOf keys o → HasValuesOf keys (change_live f o)
+values_change keys f k None v = v
+values_change keys f k (Some (thread.Ended x)) v = v
+values_change keys f k (Some (thread.Live l)) v = k.values keys l v
+
 either : (P : Option Thread → Type 0) (b : Bool) (x y : Option Thread) → P x → P y → P (cond b x y)
 either P true x y p q = p
 either P false x y p q = q
 
 -- as many as there may be, where there may be no fewer
-still_at_most : (n : ℕ) (b c : Bool) → (b ≡ true → c ≡ true) → n ≤ (if b then 1 else 0) → n ≤ (if c then 1 else 0)
+pub still_at_most : (n : ℕ) (b c : Bool) → (b ≡ true → c ≡ true) → n ≤ (if b then 1 else 0) → n ≤ (if c then 1 else 0)
 still_at_most n true c k h = subst (λ (x : Bool). n ≤ (if x then 1 else 0)) (sym (k refl)) h
 still_at_most n false true k h = omega (arith, h)
 still_at_most n false false k h = h
 
-unwinds_on : (s : State) (f : Live → Live) (k : IsChange f) (q : ℕ) → IsWellFormed s → unwind_waits s q ≤ (if is_unwinding (change_live f (thread_of s q)) then 1 else 0)
+pub unwinds_on : (s : State) (f : Live → Live) (k : IsChange f) (q : ℕ) → IsWellFormed s → unwind_waits s q ≤ (if is_unwinding (change_live f (thread_of s q)) then 1 else 0)
 unwinds_on s f k q h = still_at_most (unwind_waits s q) (is_unwinding (thread_of s q)) (is_unwinding (change_live f (thread_of s q))) (unwinding_change f k (thread_of s q)) (h.unwinding_waits q)
 
 pub well_formed_change : (s : State) (f : Live → Live) (t : ℕ) → IsChange f → IsWellFormed s → IsWellFormed (record s { threads = change_thread f t s.threads })
@@ -179,10 +191,12 @@ well_formed_change s f t k h =
       joined_by_another = h.joined_by_another;
       deadlines = h.deadlines;
       unwinding_waits = λ q. rw (changed_at f s.threads t q) (either (λ o. unwind_waits s q ≤ (if is_unwinding o then 1 else 0)) (eqb t q) (change_live f (thread_of s q)) (thread_of s q) (unwinds_on s f k q h) (h.unwinding_waits q));
+      proper_keys = h.proper_keys;
+      values = λ q. subst (HasValuesOf s.keys) (sym (changed_at f s.threads t q)) (either (HasValuesOf s.keys) (eqb t q) (change_live f (thread_of s q)) (thread_of s q) (values_change s.keys f k (thread_of s q) (h.values q)) (h.values q));
     }
 
 pub changes_word : (k v : ℕ) → IsChange (with_word k v)
-changes_word k v = record { initial = λ l. refl; detached = λ l. refl; proper = λ l a. a; unwinding = λ l u. u }
+changes_word k v = record { initial = λ l. refl; detached = λ l. refl; proper = λ l a. a; unwinding = λ l u. u; values = λ keys l v. v }
 
 pub well_formed_word : (s : State) (t k v : ℕ) → IsWellFormed s → IsWellFormed (record s { threads = change_thread (with_word k v) t s.threads })
 well_formed_word s t k v h = well_formed_change s (with_word k v) t (changes_word k v) h
@@ -191,7 +205,7 @@ proper_regs : (r : Registers) (l : Live) → is_aligned r ≡ true → is_proper
 proper_regs r l a h = grind (arith, nat_tests, a, h)
 
 pub changes_regs : (r : Registers) → is_aligned r ≡ true → IsChange (with_regs r)
-changes_regs r a = record { initial = λ l. refl; detached = λ l. refl; proper = λ l h. proper_regs r l a h; unwinding = λ l u. u }
+changes_regs r a = record { initial = λ l. refl; detached = λ l. refl; proper = λ l h. proper_regs r l a h; unwinding = λ l u. u; values = λ keys l v. v }
 
 -- AN ID STANDS FOR ANOTHER THREAD, OR FOR NONE
 
@@ -210,6 +224,7 @@ pub record MayStand (s : State) (t : ℕ) (y : Option Thread) : Type 0 where
   pub unwinding : unwind_waits s t ≤ (if is_unwinding y then 1 else 0)
   pub initial : (q : ℕ) → is_initial y ≡ true → is_initial (thread_of s q) ≡ true → t ≡ q
   pub proper : is_proper_slot y ≡ true
+  pub values : HasValuesOf s.keys y
 
 -- at most one thread is the initial one, where that is so of the others and of what is written
 sole : (s : State) (t : ℕ) (y : Option Thread) → IsWellFormed s → MayStand s t y → (p q : ℕ) → is_initial (cond (eqb t p) y (thread_of s p)) ≡ true → is_initial (cond (eqb t q) y (thread_of s q)) ≡ true → p ≡ q
@@ -235,6 +250,8 @@ well_formed_slot s t y h n l m =
       joined_by_another = h.joined_by_another;
       deadlines = h.deadlines;
       unwinding_waits = λ q. rw (at q) (written (λ o p. unwind_waits s p ≤ (if is_unwinding o then 1 else 0)) t q y (thread_of s q) (λ e. subst (λ p. unwind_waits s p ≤ (if is_unwinding y then 1 else 0)) e m.unwinding) (h.unwinding_waits q));
+      proper_keys = h.proper_keys;
+      values = λ q. subst (HasValuesOf s.keys) (sym (at q)) (written (λ o p. HasValuesOf s.keys o) t q y (thread_of s q) (λ e. m.values) (h.values q));
     }
 
 -- what is nothing is at most anything
@@ -245,13 +262,14 @@ no_unwind_waits : (s : State) (t : ℕ) → places s t ≡ 0 → unwind_waits s 
 no_unwind_waits s t e = (let l = unwind_of t s.waits in omega (arith, l, e))
 
 -- anything proper may stand for an id at which nobody waits or is on a hart, and which nobody joins
-pub may_stand_free : (s : State) (t : ℕ) (y : Option Thread) → places s t ≡ 0 → joiners s t ≡ 0 → ((q : ℕ) → is_initial y ≡ true → is_initial (thread_of s q) ≡ true → t ≡ q) → is_proper_slot y ≡ true → MayStand s t y
-may_stand_free s t y f j i p = record {
+pub may_stand_free : (s : State) (t : ℕ) (y : Option Thread) → places s t ≡ 0 → joiners s t ≡ 0 → ((q : ℕ) → is_initial y ≡ true → is_initial (thread_of s q) ≡ true → t ≡ q) → is_proper_slot y ≡ true → HasValuesOf s.keys y → MayStand s t y
+may_stand_free s t y f j i p v = record {
   placed = none_at_most (places s t) (if is_live_thread y then 1 else 0) f;
   joined = none_at_most (joiners s t) (if is_joinable y then 1 else 0) j;
   unwinding = none_at_most (unwind_waits s t) (if is_unwinding y then 1 else 0) (no_unwind_waits s t f);
   initial = i;
   proper = p;
+  values = v;
 }
 
 -- A THREAD THAT HAS NOT ENDED changes
@@ -261,7 +279,7 @@ pub well_formed_live : (s : State) (t : ℕ) (f : Live → Live) → IsWellForme
 well_formed_live s t f h l m = (let r = live_range s t h l in well_formed_slot s t (change_live f (thread_of s t)) h r.0 r.1 m)
 
 module _ (s : State) (t : ℕ) (f : Live → Live) (h : IsWellFormed s) (i : (l : Live) → (f l).initial ≡ l.initial) (p : is_proper_slot (change_live f (thread_of s t)) ≡ true)
-    (u : is_unwinding (thread_of s t) ≡ true → is_unwinding (change_live f (thread_of s t)) ≡ true) where
+    (u : is_unwinding (thread_of s t) ≡ true → is_unwinding (change_live f (thread_of s t)) ≡ true) (v : HasValuesOf s.keys (change_live f (thread_of s t))) where
   may_stand_changed : joiners s t ≤ (if is_joinable (change_live f (thread_of s t)) then 1 else 0) → MayStand s t (change_live f (thread_of s t))
   may_stand_changed j = record {
     placed = subst (λ (b : Bool). places s t ≤ (if b then 1 else 0)) (sym (live_change f (thread_of s t))) (h.placed t);
@@ -269,16 +287,22 @@ module _ (s : State) (t : ℕ) (f : Live → Live) (h : IsWellFormed s) (i : (l 
     unwinding = still_at_most (unwind_waits s t) (is_unwinding (thread_of s t)) (is_unwinding (change_live f (thread_of s t))) u (h.unwinding_waits t);
     initial = λ q x. h.one_initial t q (sym (initial_change f i (thread_of s t)) ∙ x);
     proper = p;
+    values = v;
   }
 
-  may_stand_joinable : ((l : Live) → (f l).detached ≡ l.detached) → MayStand s t (change_live f (thread_of s t))
+  pub may_stand_joinable : ((l : Live) → (f l).detached ≡ l.detached) → MayStand s t (change_live f (thread_of s t))
   may_stand_joinable d = may_stand_changed (subst (λ (b : Bool). joiners s t ≤ (if b then 1 else 0)) (sym (joinable_change f d (thread_of s t))) (h.joined_target t))
 
 -- a change that has no part in this: of how a thread is cancelled, of its handlers, or of whether it is detached
-same_unwinding : (f : Live → Live) → ((l : Live) → (f l).cancellation ≡ l.cancellation) → (o : Option Thread) → is_unwinding o ≡ true → is_unwinding (change_live f o) ≡ true
+pub same_unwinding : (f : Live → Live) → ((l : Live) → (f l).cancellation ≡ l.cancellation) → (o : Option Thread) → is_unwinding o ≡ true → is_unwinding (change_live f o) ≡ true
 same_unwinding f k None u = absurd (cc)
 same_unwinding f k (Some (thread.Ended v)) u = absurd (cc)
 same_unwinding f k (Some (thread.Live l)) u = ap (λ c. is_some c.unwinding) (k l) ∙ u
+
+pub same_values : (keys : KeyTable) (f : Live → Live) → ((l : Live) → (f l).specific ≡ l.specific) → (o : Option Thread) → HasValuesOf keys o → HasValuesOf keys (change_live f o)
+same_values keys f k None v = v
+same_values keys f k (Some (thread.Ended x)) v = v
+same_values keys f k (Some (thread.Live l)) v = λ i e. ap (value_under i) (k l) ∙ v i e
 
 -- a thread that nobody joins is detached
 proper_detached : (o : Option Thread) → is_proper_slot o ≡ true → is_proper_slot (change_live detached o) ≡ true
@@ -290,13 +314,14 @@ pub well_formed_detached : (s : State) (t : ℕ) → IsWellFormed s → is_live 
 well_formed_detached s t h l n =
     well_formed_live s t detached h l
     (may_stand_changed s t detached h (λ x. refl) (proper_detached (thread_of s t) (h.proper t)) (same_unwinding detached (λ x. refl) (thread_of s t))
+    (same_values s.keys detached (λ x. refl) (thread_of s t) (h.values t))
     (none_at_most (joiners s t) (if is_joinable (change_live detached (thread_of s t)) then 1 else 0) n))
 
 -- a thread can be cancelled otherwise
-proper_cancellation : (c : Cancellation) (o : Option Thread) → is_consistent c ≡ true → is_proper_slot o ≡ true → is_proper_slot (change_live (with_cancellation c) o) ≡ true
-proper_cancellation c None k a = refl
-proper_cancellation c (Some (thread.Ended v)) k a = refl
-proper_cancellation c (Some (thread.Live l)) k a = grind (arith, nat_tests, k, a)
+proper_cancellation : (c : Cancellation) (o : Option Thread) → is_consistent c ≡ true → (is_unwinding o ≡ true → is_some c.unwinding ≡ true) → is_proper_slot o ≡ true → is_proper_slot (change_live (with_cancellation c) o) ≡ true
+proper_cancellation c None k u a = refl
+proper_cancellation c (Some (thread.Ended v)) k u a = refl
+proper_cancellation c (Some (thread.Live l)) k u a = grind (arith, nat_tests, k, u, a)
 
 unwinding_cancellation : (c : Cancellation) (o : Option Thread) → (is_unwinding o ≡ true → is_some c.unwinding ≡ true) → is_unwinding o ≡ true → is_unwinding (change_live (with_cancellation c) o) ≡ true
 unwinding_cancellation c None k u = absurd (cc)
@@ -306,7 +331,8 @@ unwinding_cancellation c (Some (thread.Live l)) k u = k u
 pub well_formed_cancellation : (s : State) (t : ℕ) (c : Cancellation) → IsWellFormed s → is_live s t ≡ true → is_consistent c ≡ true → (is_unwinding (thread_of s t) ≡ true → is_some c.unwinding ≡ true) → IsWellFormed (with_cancellation_of t c s)
 well_formed_cancellation s t c h l k u =
     well_formed_live s t (with_cancellation c) h l
-    (may_stand_joinable s t (with_cancellation c) h (λ x. refl) (proper_cancellation c (thread_of s t) k (h.proper t)) (unwinding_cancellation c (thread_of s t) u) (λ x. refl))
+    (may_stand_joinable s t (with_cancellation c) h (λ x. refl) (proper_cancellation c (thread_of s t) k u (h.proper t)) (unwinding_cancellation c (thread_of s t) u)
+    (same_values s.keys (with_cancellation c) (λ x. refl) (thread_of s t) (h.values t)) (λ x. refl))
 
 -- HANDLERS
 
@@ -321,7 +347,8 @@ proper_pushed n (Some (thread.Live l)) a r h =
 pub well_formed_pushed : (s : State) (t : ℕ) (n : Handler) → IsWellFormed s → is_live s t ≡ true → is_aligned_handler n ≡ true → length (handlers_of (thread_of s t)) < 16 → IsWellFormed (pushed n t s)
 well_formed_pushed s t n h l a r =
     well_formed_live s t (pushing n) h l
-    (may_stand_joinable s t (pushing n) h (λ x. refl) (proper_pushed n (thread_of s t) a r (h.proper t)) (same_unwinding (pushing n) (λ x. refl) (thread_of s t)) (λ x. refl))
+    (may_stand_joinable s t (pushing n) h (λ x. refl) (proper_pushed n (thread_of s t) a r (h.proper t)) (same_unwinding (pushing n) (λ x. refl) (thread_of s t))
+    (same_values s.keys (pushing n) (λ x. refl) (thread_of s t) (h.values t)) (λ x. refl))
 
 all_take : {X : Type 0} (p : X → Bool) (n : ℕ) (xs : List X) → list_all p xs ≡ true → list_all p (take n xs) ≡ true
 all_take p zero xs h = refl
@@ -341,14 +368,14 @@ proper_popped l h =
 
 -- a thread has its newest handler no more
 pub changes_popping : IsChange popping
-changes_popping = record { initial = λ l. refl; detached = λ l. refl; proper = proper_popped; unwinding = λ l u. u }
+changes_popping = record { initial = λ l. refl; detached = λ l. refl; proper = proper_popped; unwinding = λ l u. u; values = λ keys l v. v }
 
 proper_entered : (back : ℕ) (n : Handler) (l : Live) → is_aligned_handler n ≡ true → is_proper_live l ≡ true → is_proper_live (entering back n l) ≡ true
 proper_entered back n l a h = grind (arith, nat_tests, a, h)
 
 -- a thread goes to the routine of a handler
 pub changes_entering : (back : ℕ) (n : Handler) → is_aligned_handler n ≡ true → IsChange (entering back n)
-changes_entering back n a = record { initial = λ l. refl; detached = λ l. refl; proper = λ l h. proper_entered back n l a h; unwinding = λ l u. u }
+changes_entering back n a = record { initial = λ l. refl; detached = λ l. refl; proper = λ l h. proper_entered back n l a h; unwinding = λ l u. u; values = λ keys l v. v }
 
 -- the newest handler's routine is a multiple of 4
 aligned_at : (p : Handler → Bool) (hs : List Handler) (i : ℕ) → list_all p hs ≡ true → IfSome (slice_get hs i) (λ n. p n ≡ true)
@@ -375,6 +402,8 @@ well_formed_off s t h = record {
   joined_by_another = h.joined_by_another;
   deadlines = h.deadlines;
   unwinding_waits = h.unwinding_waits;
+  proper_keys = h.proper_keys;
+  values = h.values;
 }
 
 placed_count : (s : State) (t q : ℕ) (hs : List (Option ℕ)) → is_live s t ≡ true → places s t ≡ 0 → places s q ≤ (if is_live s q then 1 else 0) → count_of (holds q) hs ≤ cond (eqb t q) 1 0 + count_of (holds q) s.harts → count_of (is_of q) s.waits + count_of (holds q) hs ≤ (if is_live s q then 1 else 0)
@@ -399,12 +428,14 @@ well_formed_placed s h t k l r =
       joined_by_another = k.joined_by_another;
       deadlines = k.deadlines;
       unwinding_waits = k.unwinding_waits;
+      proper_keys = k.proper_keys;
+      values = k.values;
     }
 
 -- A PROGRAM BEGINS
 
-pub well_formed_empty : (harts : ℕ) → harts ≤ 8 → IsWellFormed (empty harts)
-well_formed_empty harts l = record {
+pub well_formed_empty : (keys : KeyTable) (harts : ℕ) → are_proper_keys keys ≡ true → harts ≤ 8 → IsWellFormed (empty keys harts)
+well_formed_empty keys harts p l = record {
   size = refl;
   zero = refl;
   harts = refl;
@@ -417,11 +448,13 @@ well_formed_empty harts l = record {
   joined_by_another = refl;
   deadlines = refl;
   unwinding_waits = λ t. omega arith;
+  proper_keys = p;
+  values = λ t. subst (HasValuesOf keys) (sym (empty_slot {X = Thread} 65 t)) (λ k _. no_value k);
 }
 
 -- an empty table has no initial thread
-pub initial_in_empty : (s : State) (harts t : ℕ) → s ≡ empty harts → is_initial (thread_of s t) ≡ true → 1 ≡ t
-initial_in_empty s harts t e i =
+pub initial_in_empty : (s : State) (keys : KeyTable) (harts t : ℕ) → s ≡ empty keys harts → is_initial (thread_of s t) ≡ true → 1 ≡ t
+initial_in_empty s keys harts t e i =
     let none : is_initial (thread_of s t) ≡ false = ap (λ z. is_initial (thread_of z t)) e ∙ ap is_initial (empty_slot {X = Thread} 65 t) in
     absurd (cc)
 
@@ -429,5 +462,5 @@ pub well_formed_fresh : (stack harts : ℕ) → harts ≤ 8 → IsWellFormed (fr
 well_formed_fresh stack harts l =
     let first : Option Thread = Some (first_of_program stack) in
     let none = none_held 8 1 in
-    well_formed_slot (empty harts) 1 first (well_formed_empty harts l) (omega arith) (omega arith)
-    (may_stand_free (empty harts) 1 first (omega (arith, none)) refl (λ q i j. initial_in_empty (empty harts) harts q refl j) refl)
+    well_formed_slot (empty no_keys harts) 1 first (well_formed_empty no_keys harts refl l) (omega arith) (omega arith)
+    (may_stand_free (empty no_keys harts) 1 first (omega (arith, none)) refl (λ q i j. initial_in_empty (empty no_keys harts) no_keys harts q refl j) refl (λ k _. no_value k))

@@ -8,11 +8,13 @@ pub mod Marks
 pub mod Kept
 pub mod SlotLemmas
 pub mod HartLemmas
+pub mod KeyLemmas
 pub mod Known
 pub mod Changes
 pub mod Grants
 pub mod Waking
 pub mod DueWaits
+pub mod KeysKept
 pub mod Unwound
 pub mod RowsKept
 pub mod ThreadRows

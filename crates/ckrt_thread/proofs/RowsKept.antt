@@ -8,6 +8,7 @@ use Rattle.ckrt_thread.specs.declared.records.Reason.TheVariants as reason
 use Rattle.ckrt_thread.specs.Abi.{A1}
 use Rattle.ckrt_thread.specs.State.{State, IsWellFormed, thread_of, is_live, is_waiting, is_joined, free_place, is_proper_slot, with_slot, may_join}
 use Rattle.ckrt_thread.specs.Rows.{After, new_thread, create_at, create_row, join_at, join_row, detach_at, detach_row}
+use Rattle.ckrt_thread.proofs.KeyLemmas.{no_value}
 use Rattle.ckrt_thread.proofs.Changes.{well_formed_blocked, well_formed_word, well_formed_slot, may_stand_free, well_formed_detached}
 use Rattle.ckrt_thread.proofs.Known.{thread_range, absent_places, absent_joiners, ended_live, not_joined, free_places, free_joiners}
 use Rattle.ckrt_thread.proofs.SlotLemmas.{free_slot_none}
@@ -41,7 +42,7 @@ module _ (by : ℕ) (s : State) (h : IsWellFormed s) where
       let f = rw e at (free_places s h) in
       let j = rw e at (free_joiners s h) in
       well_formed_word (with_slot (i + 1) y s) by A1 (i + 1)
-      (well_formed_slot s (i + 1) y h (omega arith) (omega (arith, b, n)) (may_stand_free s (i + 1) y f j (λ q x _. absurd (cc)) (new_proper start arg sp d a)))
+      (well_formed_slot s (i + 1) y h (omega arith) (omega (arith, b, n)) (may_stand_free s (i + 1) y f j (λ q x _. absurd (cc)) (new_proper start arg sp d a) (λ k _. no_value k)))
 
   or_false_left : (b c : Bool) → (b || c) ≡ false → b ≡ false
   or_false_left true c e = absurd (cc)
@@ -57,7 +58,7 @@ module _ (by : ℕ) (s : State) (h : IsWellFormed s) where
   freed id v e =
       let r = thread_range s id (thread.Ended v) h e in
       let l = ended_live s id v e in
-      well_formed_slot s id None h r.0 r.1 (may_stand_free s id None (absent_places s id h l) (absent_joiners s id h l) (λ q x _. absurd (cc)) refl)
+      well_formed_slot s id None h r.0 r.1 (may_stand_free s id None (absent_places s id h l) (absent_joiners s id h l) (λ q x _. absurd (cc)) refl (λ k _. no_value k))
 
   -- JOIN
 

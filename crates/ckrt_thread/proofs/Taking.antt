@@ -1,5 +1,5 @@
 -- The tests of a row are exact: they hold exactly where the state with the row behind the others is well-formed.
-use Rattle.std.proofs.Common.{◌≡◌, ℕ, zero, suc, ◌+◌, ◌≤◌, ◌<◌, Bool, true, false, eqb, eqb-true, cond, ◌↔◌, List, [], ◌∷◌, ◌++◌, length, map, drop, Option, Some, None, is_some, is_none, refl, sym, ap, subst, ◌∙◌, arith, slice_get, slice_set}
+use Rattle.std.proofs.Common.{◌≡◌, ℕ, zero, suc, ◌+◌, ◌≤◌, ◌<◌, Bool, true, false, ◌&&◌, eqb, eqb-true, cond, ◌↔◌, List, [], ◌∷◌, ◌++◌, length, map, drop, Option, Some, None, is_some, is_none, refl, sym, ap, subst, ◌∙◌, arith, slice_get, slice_set}
 use Rattle.std.specs.List.{list_any, list_all, find}
 use Rattle.std.specs.Option.{option_flatten}
 use Rattle.std.proofs.lemmas.Bool.Decides.{nat_tests}
@@ -10,8 +10,10 @@ use Rattle.ckrt_thread.specs.declared.records.Reason.{Reason}
 use Rattle.ckrt_thread.specs.declared.records.Reason.TheVariants as reason
 use Rattle.ckrt_thread.specs.declared.records.Object.TheVariants as object
 use Rattle.ckrt_thread.specs.Waits.{is_of, is_for, is_reason_for, is_deadline_of, has_proper_deadline, joins_another, is_unwind_of}
+use Rattle.ckrt_thread.specs.Keys.{data_of, HasValuesOf, are_of_keys}
+use Rattle.ckrt_thread.proofs.KeyLemmas.{both, values_of_keys, of_keys}
 use Rattle.ckrt_thread.specs.State.{State, IsWellFormed, thread_of, is_live, is_live_thread, is_initial, is_ready, is_joined, is_proper_slot, holds, off, count_of, places, joiners, may_join, may_unwind, blocked}
-use Rattle.ckrt_thread.specs.Contents.{ThreadRow, GoesOnWithThread, GoesOnWithWait, GoesOnWithHart, who_is_on, thread_appended, wait_appended, is_sole_initial, takes_thread, takes_wait, takes_on_hart}
+use Rattle.ckrt_thread.specs.Contents.{ThreadRow, GoesOnWithThread, GoesOnWithWait, GoesOnWithHart, who_is_on, thread_appended, wait_appended, is_next_id, is_sole_initial, takes_thread, takes_wait, takes_on_hart}
 use Rattle.ckrt_thread.proofs.Counting.{count_of-append, none_of_count}
 use Rattle.ckrt_thread.proofs.SlotLemmas.{slot_at}
 use Rattle.ckrt_thread.proofs.Known.{absent_places, absent_joiners}
@@ -54,23 +56,41 @@ no_initial (x ∷ slots) f = (let z = f 0 in let n = no_initial slots (λ t. f (
 
 module _ (r : ThreadRow) (s : State) (h : IsWellFormed s) where
   -- the thread may stand for its id, where nothing stood from that on
-  pub goes_on : 0 < r.id → r.id ≤ 64 → ((t : ℕ) → r.id ≤ t → thread_of s t ≡ None) → ((q : ℕ) → is_initial (Some r.thread) ≡ true → is_initial (thread_of s q) ≡ true → r.id ≡ q) → is_proper_slot (Some r.thread) ≡ true → GoesOnWithThread r s
-  goes_on p w a i proper =
+  pub goes_on : 0 < r.id → r.id ≤ 64 → ((t : ℕ) → r.id ≤ t → thread_of s t ≡ None) → ((q : ℕ) → is_initial (Some r.thread) ≡ true → is_initial (thread_of s q) ≡ true → r.id ≡ q) → is_proper_slot (Some r.thread) ≡ true → HasValuesOf s.keys (Some r.thread) → GoesOnWithThread r s
+  goes_on p w a i proper v =
       let absent : is_live s r.id ≡ false = ap is_live_thread (a r.id (omega arith)) in
       record {
         above = a;
         within = w;
-        well_formed = well_formed_slot s r.id (Some r.thread) h p w (may_stand_free s r.id (Some r.thread) (absent_places s r.id h absent) (absent_joiners s r.id h absent) i proper);
+        well_formed = well_formed_slot s r.id (Some r.thread) h p w (may_stand_free s r.id (Some r.thread) (absent_places s r.id h absent) (absent_joiners s r.id h absent) i proper v);
       }
 
   sole_initial : is_sole_initial (Some r.thread) s.threads ≡ true → (q : ℕ) → is_initial (Some r.thread) ≡ true → is_initial (thread_of s q) ≡ true → r.id ≡ q
   sole_initial t q i j = absurd (let n = none_initial s.threads q (grind (arith, nat_tests, t, i)) in cc)
 
+  -- the tests of a thread, one by one
+
+  module _ (t : takes_thread r s ≡ true) where
+    first_two : (is_next_id r.id s.threads && is_proper_slot (Some r.thread)) ≡ true
+    first_two = (both _ (is_sole_initial (Some r.thread) s.threads) (both _ (are_of_keys s.keys (data_of (Some r.thread))) t).0).0
+
+    taken_next : is_next_id r.id s.threads ≡ true
+    taken_next = (both _ (is_proper_slot (Some r.thread)) first_two).0
+
+    pub taken_proper : is_proper_slot (Some r.thread) ≡ true
+    taken_proper = (both _ (is_proper_slot (Some r.thread)) first_two).1
+
+    taken_sole : is_sole_initial (Some r.thread) s.threads ≡ true
+    taken_sole = (both _ (is_sole_initial (Some r.thread) s.threads) (both _ (are_of_keys s.keys (data_of (Some r.thread))) t).0).1
+
+    pub taken_values : HasValuesOf s.keys (Some r.thread)
+    taken_values = values_of_keys s.keys (Some r.thread) taken_proper (both _ (are_of_keys s.keys (data_of (Some r.thread))) t).1
+
   thread_taken : takes_thread r s ≡ true → GoesOnWithThread r s
   thread_taken t =
-      let all : list_all is_none (drop r.id s.threads) ≡ true = grind (arith, nat_tests, t) in
-      let sole : is_sole_initial (Some r.thread) s.threads ≡ true = grind (arith, nat_tests, t) in
-      goes_on (grind (arith, nat_tests, t)) (grind (arith, nat_tests, t)) (λ q l. free_from s.threads r.id q all l) (sole_initial sole) (grind (arith, nat_tests, t))
+      let next = taken_next t in
+      let all : list_all is_none (drop r.id s.threads) ≡ true = grind (arith, nat_tests, next) in
+      goes_on (grind (arith, nat_tests, next)) (grind (arith, nat_tests, next)) (λ q l. free_from s.threads r.id q all l) (sole_initial (taken_sole t)) (taken_proper t) (taken_values t)
 
   module _ (g : GoesOnWithThread r s) where
     standing : (q : ℕ) → thread_of (thread_appended r s) q ≡ cond (eqb r.id q) (Some r.thread) (thread_of s q)
@@ -112,7 +132,8 @@ module _ (r : ThreadRow) (s : State) (h : IsWellFormed s) where
     goes_on_taken =
         let all = all_free s.threads r.id g.above in
         let proper : is_proper_slot (Some r.thread) ≡ true = sym (ap is_proper_slot here) ∙ g.well_formed.proper r.id in
-        grind (arith, nat_tests, all, proper, positive, g.within, sole)
+        let values = of_keys s.keys (Some r.thread) (subst (HasValuesOf s.keys) here (g.well_formed.values r.id)) in
+        grind (arith, nat_tests, all, proper, positive, g.within, sole, values)
 
   -- nothing is asked of the id of a thread that is taken
 
@@ -126,7 +147,7 @@ module _ (r : ThreadRow) (s : State) (h : IsWellFormed s) where
   taken_joiners t = absent_joiners s r.id h (absent t)
 
   pub taken_initial : takes_thread r s ≡ true → (q : ℕ) → is_initial (Some r.thread) ≡ true → is_initial (thread_of s q) ≡ true → r.id ≡ q
-  taken_initial t q i j = sole_initial (grind (arith, nat_tests, t)) q i j
+  taken_initial t q i j = sole_initial (taken_sole t) q i j
 
   pub thread_exact : (takes_thread r s ≡ true) ↔ GoesOnWithThread r s
   thread_exact = (thread_taken, goes_on_taken)
@@ -145,7 +166,7 @@ off_none t (Some u ∷ hs) n =
 
 -- a thread that is on no hart waits, and that is all
 pub blocked_ready : (s : State) (w : Wait) → is_ready s w.thread ≡ true → blocked w.thread w.reason w.deadline s ≡ wait_appended w s
-blocked_ready s w r = ap (λ hs. record { threads = s.threads; waits = s.waits ++ w ∷ []; harts = hs; hart_count = s.hart_count }) (off_none w.thread s.harts (grind (arith, nat_tests, r)))
+blocked_ready s w r = ap (λ hs. record { threads = s.threads; waits = s.waits ++ w ∷ []; harts = hs; hart_count = s.hart_count; keys = s.keys }) (off_none w.thread s.harts (grind (arith, nat_tests, r)))
 
 pub blocked_taken : (s : State) (w : Wait) → takes_wait w s ≡ true → blocked w.thread w.reason w.deadline s ≡ wait_appended w s
 blocked_taken s w t = blocked_ready s w (grind (arith, nat_tests, t))

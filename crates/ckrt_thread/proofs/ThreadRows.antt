@@ -103,7 +103,7 @@ same_threads r s h k e = known_slots 0 r.threads s.threads (h.size ∙ sym k.siz
 
 pub known_by_rows : (r s : State) → IsWellFormed r → IsWellFormed s → HaveSameRows r s → r ≡ s
 known_by_rows r s h k e =
-    let fields : record { threads = r.threads; waits = r.waits; harts = r.harts; hart_count = r.hart_count } ≡ s = rw (same_threads r s h k e.threads, e.waits, e.harts, e.hart_count) refl in
+    let fields : record { threads = r.threads; waits = r.waits; harts = r.harts; hart_count = r.hart_count; keys = r.keys } ≡ s = rw (same_threads r s h k e.threads, e.waits, e.harts, e.hart_count, e.keys) refl in
     fields
 
 -- A THREAD BEHIND THE OTHERS

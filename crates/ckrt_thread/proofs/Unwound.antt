@@ -11,9 +11,14 @@ use Rattle.ckrt_thread.specs.Waits.{without}
 use Rattle.ckrt_thread.specs.Cancellation.{is_aligned_handler, unwinding_value, popping, entering, handlers_of, newest}
 use Rattle.ckrt_thread.specs.State.{State, IsWellFormed, thread_of, is_live, is_live_thread, is_waiting, is_detached, is_initial, is_proper_slot, first_waiter, change_thread, with_slot, with_word, set_word, off_hart, unwaited, woken}
 use Rattle.ckrt_thread.specs.Rows.{end_with, finished}
-use Rattle.ckrt_thread.specs.Unwinding.{newest_handler, handled_by, next_handler, popped}
+use Rattle.ckrt_thread.specs.declared.keys.Turn.{Turn}
+use Rattle.ckrt_thread.specs.Keys.{KeyTable, HasValuesOf}
+use Rattle.ckrt_thread.specs.Destructors.{destroying}
+use Rattle.ckrt_thread.specs.Unwinding.{newest_handler, turn_of, destroyed_by, next_destructor, handled_by, next_handler, popped}
 use Rattle.ckrt_thread.specs.Granting.{answered, obtained, wait_result}
 use Rattle.ckrt_thread.proofs.Changes.{well_formed_off, well_formed_without, well_formed_word, well_formed_change, well_formed_slot, may_stand_free, changes_popping, changes_entering, aligned_newest}
+use Rattle.ckrt_thread.proofs.KeyLemmas.{no_value}
+use Rattle.ckrt_thread.proofs.KeysKept.{well_formed_destroyed}
 use Rattle.ckrt_thread.proofs.Known.{live_range, waiting_live, waits_at_most_once, off_places, off_woken_places, unjoined, woken_joiner}
 use Rattle.ckrt_thread.proofs.SlotLemmas.{kept_at, live_change, slot_elsewhere}
 use Rattle.ckrt_thread.proofs.WaitLemmas.{gone}
@@ -33,8 +38,12 @@ waits_finished f t v s a b = end_waits f (first_waiter (object.End t) s) t v (of
 -- WHAT EACH CHANGE OF A THREAD AND ITS END KEEP, its next handler keeps
 
 module _ (P : State → Type 0) (t : ℕ) where
+  destroyed_ways : (o : Option Turn) (s : State) → ((f : Live → Live) (z : State) → P z → P (record z { threads = change_thread f t z.threads })) → ((v : ℕ) → P s → P (finished t v s)) → P s → P (destroyed_by o t s)
+  destroyed_ways None s c e h = e (unwinding_value (thread_of s t)) h
+  destroyed_ways (Some turn) s c e h = c (destroying s.keys turn) s h
+
   handled_ways : (o : Option Handler) (s : State) → ((f : Live → Live) (z : State) → P z → P (record z { threads = change_thread f t z.threads })) → ((v : ℕ) → P s → P (finished t v s)) → P s → P (handled_by o t s)
-  handled_ways None s c e h = e (unwinding_value (thread_of s t)) h
+  handled_ways None s c e h = destroyed_ways (turn_of t s) s c e h
   handled_ways (Some n) s c e h = c (entering UNWIND_GATE n) (popped (Some n) t s) (c popping s h)
 
   pub next_ways : (s : State) → ((f : Live → Live) (z : State) → P z → P (record z { threads = change_thread f t z.threads })) → ((v : ℕ) → P s → P (finished t v s)) → P s → P (next_handler t s)
@@ -75,11 +84,17 @@ live_next q t s n h = live_answered q None t s n h
 
 -- WELL-FORMED STATES
 
+-- who has ended has no value
+ended_values : (keys : KeyTable) (y : Option Thread) → is_live_thread y ≡ false → HasValuesOf keys y
+ended_values keys None d = λ k _. no_value k
+ended_values keys (Some (thread.Ended v)) d = λ k _. no_value k
+ended_values keys (Some (thread.Live l)) d = absurd (cc)
+
 module _ (t v : ℕ) (s : State) (h : IsWellFormed s) (l : is_live s t ≡ true) (n : is_waiting s t ≡ false) where
   -- an id at which nothing is left becomes free, or has a value
   end_free : (y : Option Thread) → first_waiter (object.End t) s ≡ None → is_live_thread y ≡ false → is_proper_slot y ≡ true → (is_initial y ≡ true → is_initial (thread_of s t) ≡ true) → IsWellFormed (with_slot t y (off_hart t s))
   end_free y e d p i = (let r = live_range s t h l in
-      well_formed_slot (off_hart t s) t y (well_formed_off s t h) r.0 r.1 (may_stand_free (off_hart t s) t y (off_places s t n) (unjoined (off_hart t s) t e) (λ q x z. h.one_initial t q (i x) z) p))
+      well_formed_slot (off_hart t s) t y (well_formed_off s t h) r.0 r.1 (may_stand_free (off_hart t s) t y (off_places s t n) (unjoined (off_hart t s) t e) (λ q x z. h.one_initial t q (i x) z) p (ended_values s.keys y d)))
 
   end_joined : (w : Wait) → first_waiter (object.End t) s ≡ Some w → IsWellFormed (with_slot t None (set_word w.thread A1 v (woken w.thread 0 (off_hart t s))))
   end_joined w e =
@@ -89,7 +104,7 @@ module _ (t v : ℕ) (s : State) (h : IsWellFormed s) (l : is_live s t ≡ true)
       let woke = well_formed_word (unwaited w.thread z) w.thread A0 0 (well_formed_without z w.thread kz) in
       let told = well_formed_word (woken w.thread 0 z) w.thread A1 v woke in
       well_formed_slot (set_word w.thread A1 v (woken w.thread 0 z)) t None told r.0 r.1
-      (may_stand_free (set_word w.thread A1 v (woken w.thread 0 z)) t None (off_woken_places s t w.thread 0 A1 v n) (woken_joiner z t 0 A1 v w kz e) (λ q x _. absurd (cc)) refl)
+      (may_stand_free (set_word w.thread A1 v (woken w.thread 0 z)) t None (off_woken_places s t w.thread 0 A1 v n) (woken_joiner z t 0 A1 v w kz e) (λ q x _. absurd (cc)) refl (λ k _. no_value k))
 
   well_formed_end : (o : Option Wait) → first_waiter (object.End t) s ≡ o → IsWellFormed (end_with o t v (off_hart t s))
   well_formed_end None e = elim (is_detached (thread_of (off_hart t s) t)) as (λ (c : Bool). IsWellFormed (cond c (with_slot t None (off_hart t s)) (with_slot t (Some (thread.Ended v)) (off_hart t s)))) [
@@ -107,8 +122,15 @@ proper_handlers (Some (thread.Ended v)) p = tt
 proper_handlers (Some (thread.Live l)) p = aligned_newest l p
 
 module _ (t : ℕ) (s : State) (h : IsWellFormed s) (l : is_live s t ≡ true) (n : is_waiting s t ≡ false) where
+  well_formed_destroyer : (o : Option Turn) → turn_of t s ≡ o → IsWellFormed (destroyed_by o t s)
+  well_formed_destroyer None e = well_formed_finished t (unwinding_value (thread_of s t)) s h l n
+  well_formed_destroyer (Some turn) e = well_formed_destroyed s t turn h l e
+
+  pub well_formed_destructor : IsWellFormed (next_destructor t s)
+  well_formed_destructor = well_formed_destroyer (turn_of t s) refl
+
   well_formed_handled : (o : Option Handler) → newest_handler t s ≡ o → IfSome o (λ n. is_aligned_handler n ≡ true) → IsWellFormed (handled_by o t s)
-  well_formed_handled None e a = well_formed_finished t (unwinding_value (thread_of s t)) s h l n
+  well_formed_handled None e a = well_formed_destroyer (turn_of t s) refl
   well_formed_handled (Some x) e a =
       well_formed_change (popped (Some x) t s) (entering UNWIND_GATE x) t (changes_entering UNWIND_GATE x a) (well_formed_change s popping t changes_popping h)
 

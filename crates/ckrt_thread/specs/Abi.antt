@@ -25,6 +25,6 @@ PROGRAM_START = 0x1000
 abbrev pub RETURN_GATE : ℕ
 RETURN_GATE = 0xFFFF_FFF0
 
--- where a cancellation handler returns to
+-- where a clean-up handler or a destructor returns to
 abbrev pub UNWIND_GATE : ℕ
 UNWIND_GATE = 0xFFFF_FFF4

@@ -1,10 +1,12 @@
 -- What the table of threads holds, row by row: threads by rising id, waits in order of the start of waiting, and who is on
--- which hart. A table is built again so, each row behind those that are there (this project's choice).
+-- which hart. A table is built again so, each row behind those that are there, from the keys of the program on (this
+-- project's choice).
 use Rattle.std.specs.Prelude.{◌≡◌, ℕ, suc, ◌≤◌, ◌<◌, nat_lt, nat_le, Bool, not, ◌&&◌, List, [], ◌∷◌, ◌++◌, drop, replicate, Option, Some, None, is_none, slice_get}
 use Rattle.std.specs.List.{list_any, list_all}
 use Rattle.std.specs.Option.{option_flatten}
 use Rattle.ckrt_thread.specs.declared.records.Thread.{Thread}
 use Rattle.ckrt_thread.specs.declared.records.Wait.{Wait}
+use Rattle.ckrt_thread.specs.Keys.{KeyTable, data_of, are_of_keys}
 use Rattle.ckrt_thread.specs.State.{State, IsWellFormed, thread_of, is_initial, is_proper_slot, is_ready, may_wait, with_slot, placed_on}
 
 -- ROWS
@@ -37,9 +39,9 @@ row id t = record { id = id; thread = t }
 abbrev pub who_is_on : State → ℕ → Option ℕ
 who_is_on s h = option_flatten (slice_get s.harts h)
 
--- no thread, no wait, and so many harts, all idle
-abbrev pub empty : ℕ → State
-empty harts = record { threads = replicate 65 None; waits = []; harts = replicate 8 None; hart_count = harts }
+-- these keys, no thread, no wait, and so many harts, all idle
+abbrev pub empty : KeyTable → ℕ → State
+empty keys harts = record { threads = replicate 65 None; waits = []; harts = replicate 8 None; hart_count = harts; keys = keys }
 
 -- ONE ROW MORE
 
@@ -69,6 +71,19 @@ pub record GoesOnWithHart (h t : ℕ) (s : State) : Type 0 where
   pub idle : who_is_on s h ≡ None
   pub well_formed : IsWellFormed (hart_appended h t s)
 
+-- KEYS
+
+-- the keys of the program become these
+abbrev pub with_keys : KeyTable → State → State
+with_keys keys s = record s { keys = keys }
+
+-- each thread has values only under these keys
+abbrev pub has_values_of : KeyTable → Option Thread → Bool
+has_values_of keys o = are_of_keys keys (data_of o)
+
+abbrev pub are_all_of_keys : KeyTable → State → Bool
+are_all_of_keys keys s = list_all (has_values_of keys) s.threads
+
 -- ROWS OF TWO STATES
 
 -- two states have the same rows
@@ -77,19 +92,23 @@ pub record HaveSameRows (r s : State) : Type 0 where
   pub waits : r.waits ≡ s.waits
   pub harts : r.harts ≡ s.harts
   pub hart_count : r.hart_count ≡ s.hart_count
+  pub keys : r.keys ≡ s.keys
 
--- s has this thread behind those of `begun`
-abbrev pub HasNextThread : ThreadRow → State → State → Type 0
-HasNextThread r begun s = (more : List ThreadRow) × (thread_rows s ≡ thread_rows begun ++ r ∷ more)
+-- s has the keys of `begun`, and this thread behind its threads
+pub record HasNextThread (r : ThreadRow) (begun s : State) : Type 0 where
+  pub keys : s.keys ≡ begun.keys
+  pub threads : (more : List ThreadRow) × (thread_rows s ≡ thread_rows begun ++ r ∷ more)
 
--- s has the threads of `begun` and this wait behind its waits, and nobody is on a hart in `begun` yet
+-- s has the keys and threads of `begun` and this wait behind its waits, and nobody is on a hart in `begun` yet
 pub record HasNextWait (w : Wait) (begun s : State) : Type 0 where
+  pub keys : s.keys ≡ begun.keys
   pub threads : thread_rows s ≡ thread_rows begun
   pub waits : (more : List Wait) × (s.waits ≡ begun.waits ++ w ∷ more)
   pub idle : (h : ℕ) → who_is_on begun h ≡ None
 
--- s has the threads and the waits of `begun`, this thread on a hart that is idle there, and who is on a hart there
+-- s has the keys, threads and waits of `begun`, this thread on a hart that is idle there, and who is on a hart there
 pub record HasNextOnHart (h t : ℕ) (begun s : State) : Type 0 where
+  pub keys : s.keys ≡ begun.keys
   pub threads : thread_rows s ≡ thread_rows begun
   pub waits : s.waits ≡ begun.waits
   pub hart_count : s.hart_count ≡ begun.hart_count
@@ -112,7 +131,11 @@ abbrev pub is_sole_initial : Option Thread → List (Option Thread) → Bool
 is_sole_initial slot slots = not (is_initial slot && list_any is_initial slots)
 
 abbrev pub takes_thread : ThreadRow → State → Bool
-takes_thread r s = is_next_id r.id s.threads && is_proper_slot (Some r.thread) && is_sole_initial (Some r.thread) s.threads
+takes_thread r s =
+    is_next_id r.id s.threads
+    && is_proper_slot (Some r.thread)
+    && is_sole_initial (Some r.thread) s.threads
+    && are_of_keys s.keys (data_of (Some r.thread))
 
 abbrev pub takes_wait : Wait → State → Bool
 takes_wait w s = is_ready s w.thread && may_wait w.thread w.reason w.deadline s

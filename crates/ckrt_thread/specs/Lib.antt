@@ -1,12 +1,15 @@
 pub mod Abi
 pub mod Errors
 pub mod Cancellation
+pub mod Keys
+pub mod Destructors
 pub mod Waits
 pub mod Deadlines
 pub mod Links
 pub mod Queues
 pub mod WaitList
 pub mod State
+pub mod ThreadKeys
 pub mod Rows
 pub mod Unwinding
 pub mod Granting

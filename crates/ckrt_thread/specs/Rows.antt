@@ -12,6 +12,7 @@ use Rattle.ckrt_thread.specs.declared.records.Object.TheVariants as object
 use Rattle.ckrt_thread.specs.declared.records.CallResult.{CallResult}
 use Rattle.ckrt_thread.specs.declared.records.CallResult.TheVariants.{Done, Blocked}
 use Rattle.ckrt_thread.specs.Cancellation.{at_the_start}
+use Rattle.ckrt_thread.specs.Keys.{no_data}
 use Rattle.ckrt_thread.specs.State.{State, thread_of, is_detached, is_joined, free_place, first_waiter, set_word, with_slot, change_thread, off_hart, blocked, woken}
 
 -- what a call answers and leaves
@@ -34,6 +35,7 @@ new_thread start arg sp detached = thread.Live (record {
   detached = detached;
   cancellation = at_the_start;
   handlers = record { items = [] };
+  specific = no_data;
 })
 
 abbrev pub create_at : Option ℕ → ℕ → ℕ → ℕ → ℕ → Bool → State → After

@@ -15,15 +15,17 @@ use Rattle.ckrt_thread.specs.declared.records.Object.{Object}
 use Rattle.ckrt_thread.specs.declared.records.Object.TheVariants as object
 use Rattle.ckrt_thread.specs.Abi.{RA, SP, A0, PROGRAM_START, RETURN_GATE}
 use Rattle.ckrt_thread.specs.Cancellation.{at_the_start, is_consistent, are_proper_handlers, is_unwinding}
+use Rattle.ckrt_thread.specs.Keys.{KeyTable, no_keys, are_proper_keys, no_data, is_proper_data, HasValuesOf}
 use Rattle.ckrt_thread.specs.Waits.{is_for, is_of, without, is_deadline_of, has_proper_deadline, joins_another, is_to_unwind, is_unwind_of}
 
 -- The threads by id, with nothing at 0; the waits in order of the start of waiting; who is on each of 8 harts,
--- and how many of these there are.
+-- and how many of these there are; and the keys of the program.
 pub record State : Type 0 where
   pub threads : List (Option Thread)
   pub waits : List Wait
   pub harts : List (Option ℕ)
   pub hart_count : ℕ
+  pub keys : KeyTable
 
 -- QUESTIONS
 
@@ -107,10 +109,14 @@ joiners s t = count_of (is_for (object.End t)) s.waits
 abbrev pub is_aligned : Registers → Bool
 is_aligned r = r.pc % 4 == 0
 
--- The pc and each handler's routine are multiples of 4, there are at most 16 handlers, and who unwinds is disabled and
--- deferred.
+-- The pc and each handler's routine are multiples of 4, there are at most 16 handlers, who unwinds is disabled and
+-- deferred, and what the thread has under keys is proper.
 abbrev pub is_proper_live : Live → Bool
-is_proper_live l = is_aligned l.regs && are_proper_handlers l.handlers.items && is_consistent l.cancellation
+is_proper_live l =
+    is_aligned l.regs
+    && are_proper_handlers l.handlers.items
+    && is_consistent l.cancellation
+    && is_proper_data (is_some l.cancellation.unwinding) l.specific
 
 abbrev pub is_proper_slot : Option Thread → Bool
 is_proper_slot None = true
@@ -129,7 +135,8 @@ pub record IsWellFormed (s : State) : Type 0 where
   pub hart_count : s.hart_count ≤ 8
   -- harts from hart_count on are idle
   pub idle : (h : ℕ) → s.hart_count ≤ h → option_flatten (slice_get s.harts h) ≡ None
-  -- each pc and each handler's routine is a multiple of 4, and who unwinds is disabled and deferred
+  -- each pc and each handler's routine is a multiple of 4, who unwinds is disabled and deferred, and who is in a round of
+  -- destructors, of at most 4, unwinds (who has ended is in none, and has no value)
   pub proper : (t : ℕ) → is_proper_slot (thread_of s t) ≡ true
   -- at most one thread has the mark initial
   pub one_initial : (t q : ℕ) → is_initial (thread_of s t) ≡ true → is_initial (thread_of s q) ≡ true → t ≡ q
@@ -143,6 +150,10 @@ pub record IsWellFormed (s : State) : Type 0 where
   pub deadlines : list_all has_proper_deadline s.waits ≡ true
   -- who waits to retake a mutex, and to unwind then, unwinds
   pub unwinding_waits : (t : ℕ) → unwind_waits s t ≤ (if is_unwinding (thread_of s t) then 1 else 0)
+  -- each destructor is a multiple of 4, and there is no key where keys are off
+  pub proper_keys : are_proper_keys s.keys ≡ true
+  -- threads have values only under keys that there are
+  pub values : (t : ℕ) → HasValuesOf s.keys (thread_of s t)
 
 -- SMALL CHANGES
 
@@ -154,15 +165,17 @@ first_of_program stack = thread.Live (record {
   detached = false;
   cancellation = at_the_start;
   handlers = record { items = [] };
+  specific = no_data;
 })
 
--- a program begins with thread 1, ready, and idle harts
+-- a program begins with thread 1, ready, idle harts, and no key
 abbrev pub fresh : ℕ → ℕ → State
 fresh stack harts = record {
   threads = slice_set (replicate 65 None) 1 (Some (first_of_program stack));
   waits = [];
   harts = replicate 8 None;
   hart_count = harts;
+  keys = no_keys;
 }
 
 -- one register of a thread that has not ended
@@ -222,6 +235,7 @@ blocked t r d s = record {
   waits = s.waits ++ (record { thread = t; reason = r; deadline = d }) ∷ [];
   harts = map (off t) s.harts;
   hart_count = s.hart_count;
+  keys = s.keys;
 }
 
 -- the thread's wait is taken away
@@ -250,6 +264,7 @@ woken t v s = record {
   waits = without t s.waits;
   harts = s.harts;
   hart_count = s.hart_count;
+  keys = s.keys;
 }
 
 -- these waits end one after another, each with this result

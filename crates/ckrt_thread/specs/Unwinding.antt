@@ -1,8 +1,11 @@
--- Unwinding: the clean-up handlers of a thread that ends, newest first, and then its end (POSIX.1-2017, pthread_exit and
--- pthread_cleanup_push).
-use Rattle.std.specs.Prelude.{ℕ, Option, Some, None}
+-- Unwinding: the clean-up handlers of a thread that ends, newest first, the destructors of its values, and then its end
+-- (POSIX.1-2017, pthread_exit, pthread_cleanup_push and pthread_key_create).
+use Rattle.std.specs.Prelude.{ℕ, if◌then◌else◌, Option, Some, None}
 use Rattle.ckrt_thread.specs.Abi.{UNWIND_GATE}
-use Rattle.ckrt_thread.specs.Cancellation.{handlers_of, unwinding_value, newest, with_cancellation, pushing, popping, entering}
+use Rattle.ckrt_thread.specs.Cancellation.{handlers_of, is_unwinding, unwinding_value, newest, with_cancellation, pushing, popping, entering}
+use Rattle.ckrt_thread.specs.Keys.{data_of}
+use Rattle.ckrt_thread.specs.Destructors.{next_turn, destroying}
+use Rattle.ckrt_thread.specs.declared.keys.Turn.{Turn}
 use Rattle.ckrt_thread.specs.declared.records.Cancellation.{Cancellation}
 use Rattle.ckrt_thread.specs.declared.records.Handler.{Handler}
 use Rattle.ckrt_thread.specs.State.{State, thread_of, change_thread}
@@ -25,10 +28,22 @@ popped (Some h) t s = record s { threads = change_thread popping t s.threads }
 abbrev pub entered : ℕ → Handler → ℕ → State → State
 entered back h t s = record s { threads = change_thread (entering back h) t s.threads }
 
--- The thread goes to its newest handler, which it has no more. With none left it ends with the value that it unwinds with.
--- Only a thread that unwinds is brought here.
+-- whose destructor a thread runs that unwinds and has no handler left
+abbrev pub turn_of : ℕ → State → Option Turn
+turn_of t s = if is_unwinding (thread_of s t) then next_turn s.keys (data_of (thread_of s t)) else None
+
+-- the thread goes to this destructor; with none left it ends with the value that it unwinds with, and its values are gone
+abbrev pub destroyed_by : Option Turn → ℕ → State → State
+destroyed_by None t s = finished t (unwinding_value (thread_of s t)) s
+destroyed_by (Some turn) t s = record s { threads = change_thread (destroying s.keys turn) t s.threads }
+
+abbrev pub next_destructor : ℕ → State → State
+next_destructor t s = destroyed_by (turn_of t s) t s
+
+-- The thread goes to its newest handler, which it has no more. With none left it goes to its next destructor. Only a thread
+-- that unwinds is brought here.
 abbrev pub handled_by : Option Handler → ℕ → State → State
-handled_by None t s = finished t (unwinding_value (thread_of s t)) s
+handled_by None t s = next_destructor t s
 handled_by (Some h) t s = entered UNWIND_GATE h t (popped (Some h) t s)
 
 abbrev pub next_handler : ℕ → State → State

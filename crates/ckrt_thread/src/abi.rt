@@ -18,5 +18,5 @@ pub const PROGRAM_START: u32 = 0x1000;
 /// The address to which a thread returns when its first function is done (this project's choice).
 pub const RETURN_GATE: u32 = 0xFFFF_FFF0;
 
-/// The address to which a cancellation handler returns (this project's choice).
+/// The address to which a clean-up handler or a destructor returns (this project's choice).
 pub const UNWIND_GATE: u32 = 0xFFFF_FFF4;

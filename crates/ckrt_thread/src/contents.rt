@@ -10,6 +10,7 @@ use crate::records::{
     Handler, Live, MAX_THREADS, MOMENT_END, Reason, RetakeResult, Thread, ThreadId, Wait,
 };
 use crate::table::Threads;
+use crate::values::are_of_keys;
 
 // Rows.
 
@@ -61,7 +62,8 @@ impl Threads {
 
     /// A thread goes behind those that there are. False, and nothing changes, where no well-formed table goes on so: its
     /// number is to be 1 to 64 and above theirs, its pc and its handlers' routines multiples of 4, it is disabled and
-    /// deferred where it unwinds, and at most one thread is the initial one.
+    /// deferred where it unwinds, in a round of destructors only there (of at most 4, which goes on with a key or is over),
+    /// with values only under keys that there are, and at most one thread is the initial one.
     pub fn append_thread(&mut self, id: ThreadId, thread: Thread) -> bool
         ensures exact { (result ≡ true) ↔ GoesOnWithThread (row id thread) self.old }
         ensures appended { result ≡ true → self.new ≡ thread_appended (row id thread) self.old }
@@ -115,7 +117,10 @@ impl Threads {
         ensures { result ≡ takes_thread (row id thread.now) self.now }
     {
         let slots = self.slots();
-        is_next_id(slots, id) && is_proper(thread) && is_sole_initial(thread, slots)
+        is_next_id(slots, id)
+            && is_proper(thread)
+            && is_sole_initial(thread, slots)
+            && are_of_keys(self.keys(), thread)
     }
 
     /// Whether a well-formed table goes on with this wait.
@@ -197,6 +202,9 @@ fn is_proper_live(live: &Live) -> bool
     live.regs.pc() % 4 == 0
         && are_aligned(live.handlers.as_slice())
         && live.cancellation.is_consistent()
+        && live
+            .specific
+            .is_proper(live.cancellation.unwinding.is_some())
 }
 
 /// Whether a thread is as each is.

@@ -7,16 +7,19 @@ mod contents;
 mod deadlines;
 mod errors;
 mod harts;
+mod keys;
 mod laws;
 mod links;
 mod queues;
 mod records;
 mod slots;
 mod table;
+mod values;
 mod wait_list;
 
 pub use abi::{PROGRAM_START, RETURN_GATE, UNWIND_GATE};
 pub use errors::{EAGAIN, EBUSY, EDEADLK, EINVAL, ENOSYS, EPERM, ESRCH, ETIMEDOUT};
+pub use keys::{DESTRUCTOR_ROUNDS, Key, Keys, MAX_KEYS, SpecificData, Turn};
 pub use laws::{
     first_of_queue, grants_every_admissible, known_by_rows, next_on_hart, next_thread, next_wait,
     thread_behind,

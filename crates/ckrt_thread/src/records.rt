@@ -1,6 +1,7 @@
 //! What the tables hold.
 
 use crate::errors::ETIMEDOUT;
+use crate::keys::SpecificData;
 use arrayvec::ArrayVec;
 use ckrt_rv32i::Regs;
 
@@ -117,6 +118,8 @@ pub struct Live {
     pub cancellation: Cancellation,
     /// Its clean-up handlers, oldest first.
     pub handlers: ArrayVec<Handler, MAX_HANDLERS>,
+    /// What it has under the keys of the program.
+    pub specific: SpecificData,
 }
 
 /// What a number of the table stands for.

@@ -1,12 +1,15 @@
 //! The slots of the table, and the threads that begin in them.
-ghost use Rattle.std.specs.Prelude.{◌≡◌, ◌<◌, ◌≤◌, length, drop, is_none, slice_get, slice_set, replicate, vec_capacity, None, IfOk};
+ghost use Rattle.std.specs.Prelude.{◌≡◌, ◌<◌, ◌≤◌, length, map, drop, is_none, slice_get, slice_set, replicate, vec_capacity, None, IfOk};
 ghost use Rattle.std.specs.Option.{option_flatten, option_copied};
 ghost use Rattle.std.specs.List.{position, list_any};
 ghost use Rattle.ckrt_thread.specs.Cancellation.{handlers_of, with_cancellation, pushing, popping, entering};
 ghost use Rattle.ckrt_thread.specs.State.{is_live_thread, change_live, change_thread, with_word, with_regs, first_of_program};
 ghost use Rattle.ckrt_thread.specs.Rows.{new_thread, detached};
+ghost use Rattle.ckrt_thread.specs.Keys.{setting};
+ghost use Rattle.ckrt_thread.specs.Destructors.{destroying};
 
-use crate::abi::{A0, PROGRAM_START, RA, RETURN_GATE, SP};
+use crate::abi::{A0, PROGRAM_START, RA, RETURN_GATE, SP, UNWIND_GATE};
+use crate::keys::{Key, Keys, MAX_KEYS, SpecificData, Turn};
 use crate::records::{Cancellation, Handler, Live, MAX_HANDLERS, MAX_THREADS, Thread, ThreadId};
 use arrayvec::ArrayVec;
 use ckrt_rv32i::Regs;
@@ -171,6 +174,76 @@ impl Slots {
             live.regs.put(A0, handler.argument);
         }
     }
+
+    /// A thread that has not ended has this value under a key.
+    #[tactic(auto, using(crate::proofs::SlotLemmas::slot_read))]
+    pub fn set_value(&mut self, thread: ThreadId, key: Key, value: u32)
+        requires within { thread < length self.old }
+        requires key { key < MAX_KEYS }
+        ensures { self.new ≡ change_thread (setting key value) thread self.old }
+    {
+        let slot = &mut self.slots[thread as usize];
+        if let Some(Thread::Live(live)) = slot {
+            live.specific.values[key as usize] = value;
+        }
+    }
+
+    /// No thread has a value under this key.
+    pub fn clear_key(&mut self, key: Key)
+        requires { key < MAX_KEYS }
+        ensures { self.new ≡ map (change_live (setting key 0)) self.old }
+    {
+        clear_values(self.slots.as_mut_slice(), key);
+    }
+
+    /// A thread that has not ended goes to the destructor whose turn it is.
+    #[tactic(auto, using(crate::proofs::SlotLemmas::slot_read))]
+    pub fn destroy(&mut self, thread: ThreadId, keys: &Keys, turn: Turn)
+        requires within { thread < length self.old }
+        requires key { turn.key < MAX_KEYS }
+        ensures { self.new ≡ change_thread (destroying keys.now turn) thread self.old }
+    {
+        let slot = &mut self.slots[thread as usize];
+        if let Some(Thread::Live(live)) = slot {
+            destroy_value(live, keys, turn);
+        }
+    }
+}
+
+/// No thread has a value under this key.
+#[tactic(auto, using(std::proofs::lemmas::List::Edits::map_over_more))]
+fn clear_values(slots: &mut [Option<Thread>], key: Key)
+    requires { key < MAX_KEYS }
+    ensures { slots.new ≡ map (change_live (setting key 0)) slots.old }
+{
+    for slot in slots.iter_mut() {
+        clear_value(slot, key);
+    }
+}
+
+/// A thread has no value under this key.
+fn clear_value(slot: &mut Option<Thread>, key: Key)
+    requires { key < MAX_KEYS }
+    ensures { slot.new ≡ change_live (setting key 0) slot.old }
+{
+    if let Some(Thread::Live(live)) = slot {
+        live.specific.values[key as usize] = 0;
+    }
+}
+
+/// The thread goes to the destructor whose turn it is, with its value, which it has no more.
+fn destroy_value(live: &mut Live, keys: &Keys, turn: Turn)
+    requires { turn.key < MAX_KEYS }
+    ensures { live.new ≡ destroying keys.now turn live.old }
+{
+    let value = live.specific.value(turn.key);
+    live.specific.values[turn.key as usize] = 0;
+    live.specific.round = turn.round;
+    live.specific.next_key = turn.key + 1;
+    live.regs
+        .set_pc(keys.destructor(u32::from(turn.key)).unwrap_or(0));
+    live.regs.put(RA, UNWIND_GATE);
+    live.regs.put(A0, value);
 }
 
 /// The thread that a program begins with.
@@ -186,6 +259,7 @@ pub fn first_thread(stack: u32) -> Thread
         detached: false,
         cancellation: Cancellation::new(),
         handlers: ArrayVec::new(),
+        specific: SpecificData::new(),
     })
 }
 
@@ -203,6 +277,7 @@ pub fn new_thread(start: u32, arg: u32, stack: u32, detached: bool) -> Thread
         detached,
         cancellation: Cancellation::new(),
         handlers: ArrayVec::new(),
+        specific: SpecificData::new(),
     })
 }
 

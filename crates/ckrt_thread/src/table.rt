@@ -11,6 +11,7 @@ ghost use Rattle.ckrt_thread.specs.Granting.{queue_of, answered, obtained};
 ghost use Rattle.ckrt_thread.specs.Waits.{is_of};
 ghost use Rattle.ckrt_thread.specs.Queues.{named_at_most};
 ghost use Rattle.ckrt_thread.specs.Contents.{empty};
+ghost use Rattle.ckrt_thread.specs.Keys.{HasValuesOf};
 ghost use Rattle.ckrt_thread.specs.declared.records.Thread.TheVariants as slots;
 ghost use Rattle.ckrt_thread.specs.Rows.{create_row, join_row, detach_row, detached, finished};
 
@@ -18,6 +19,7 @@ use crate::abi::{A0, A1, UNWIND_GATE};
 use crate::deadlines::earliest_due;
 use crate::errors::{EAGAIN, EDEADLK, EINVAL, ESRCH};
 use crate::harts::{harts_any, take_off};
+use crate::keys::Keys;
 use crate::records::{
     CallResult, Cancellation, Handler, Live, MAX_HANDLERS, MAX_HARTS, MAX_THREADS, Object, Reason,
     Thread, ThreadId, Wait, Waiter,
@@ -33,10 +35,11 @@ use std::marker::Model;
 /// Only `new` takes memory.
 #[derive(Drop)]
 pub struct Threads {
-    slots: Slots,
+    pub(crate) slots: Slots,
     waits: WaitList,
     harts: [Option<ThreadId>; MAX_HARTS],
     hart_count: usize,
+    pub(crate) keys: Keys,
 }
 
 impl Model for Threads {
@@ -44,34 +47,36 @@ impl Model for Threads {
 
     ghost Value = { State };
 
-    ghost view = { λ a. record { threads = a.slots; waits = a.waits; harts = a.harts; hart_count = a.hart_count } };
+    ghost view = { λ a. record { threads = a.slots; waits = a.waits; harts = a.harts; hart_count = a.hart_count; keys = a.keys } };
 
-    ghost invariant = { λ a. IsWellFormed (record { threads = a.slots; waits = a.waits; harts = a.harts; hart_count = a.hart_count }) };
+    ghost invariant = { λ a. IsWellFormed (record { threads = a.slots; waits = a.waits; harts = a.harts; hart_count = a.hart_count; keys = a.keys }) };
 }
 
 impl Threads {
     /// The threads of a program that begins: thread 1 alone, ready, with its stack pointer at `stack`, on `harts` idle
-    /// harts, at most 8.
+    /// harts, at most 8. It may have keys, and has none yet.
     pub fn new(alloc: Global, stack: u32, harts: usize) -> Result<Self, AllocError>
         requires { harts ≤ 8 }
         ensures { IfOk result (λ threads. threads ≡ fresh stack harts) }
     {
-        let mut threads = Threads::empty(alloc, harts)?;
+        let mut threads = Threads::empty(alloc, harts, Keys::new())?;
         threads.set_slot(1, Some(first_thread(stack)));
         Ok(threads)
     }
 
-    /// No thread, no wait, and `harts` idle harts, at most 8: what `append_thread`, `append_wait` and `append_on_hart`
-    /// build on.
-    pub fn empty(alloc: Global, harts: usize) -> Result<Self, AllocError>
+    /// These keys, no thread, no wait, and `harts` idle harts, at most 8: what `append_thread`, `append_wait` and
+    /// `append_on_hart` build on.
+    pub fn empty(alloc: Global, harts: usize, keys: Keys) -> Result<Self, AllocError>
         requires { harts ≤ 8 }
-        ensures { IfOk result (λ threads. threads ≡ empty harts) }
+        ensures { IfOk result (λ threads. threads ≡ empty keys harts) }
     {
+        keys.known();
         Ok(Threads {
             slots: Slots::new(alloc)?,
             waits: WaitList::new(),
             harts: [None; MAX_HARTS],
             hart_count: harts,
+            keys,
         })
     }
 
@@ -422,6 +427,7 @@ impl Threads {
         requires unjoined { joiners self.old id ≡ 0 }
         requires initial { (t : ℕ) → is_initial slot ≡ true → is_initial (thread_of self.old t) ≡ true → id ≡ t }
         requires proper { is_proper_slot slot ≡ true }
+        requires values { HasValuesOf self.old.keys slot }
         ensures { self.new ≡ with_slot id slot self.old }
     {
         self.slots.set(id, slot);
@@ -492,8 +498,8 @@ impl Threads {
         self.slots.enter(thread, handler, back);
     }
 
-    /// A thread, which does not wait, goes to its newest clean-up handler, which it has no more. With none left it
-    /// ends with the value that it unwinds with.
+    /// A thread that unwinds, and does not wait, goes to its newest clean-up handler, which it has no more. With none
+    /// left it goes to the destructors of its values, and then it ends with the value that it unwinds with.
     pub fn next_handler(&mut self, thread: ThreadId)
         requires live { is_live self.old thread ≡ true }
         requires free { is_waiting self.old thread ≡ false }
@@ -501,10 +507,7 @@ impl Threads {
     {
         match self.pop_handler(thread) {
             Some(handler) => self.enter(thread, handler, UNWIND_GATE),
-            None => {
-                let value = self.cancellation(thread).unwinding.unwrap_or(0);
-                self.finish(thread, value);
-            }
+            None => self.next_destructor(thread),
         }
     }
 

@@ -105,9 +105,9 @@ fn compare_words(rt: &HostRuntime) -> Result<u64> {
     count_words(words.as_str())
 }
 
-fn compare_tables(rt: &HostRuntime) -> Result<u64> {
-    let tables = fs::read_to_string(rt, "tables.txt")?;
-    count_tables(rt.alloc(), tables.as_str())
+fn compare_tables(rt: &HostRuntime, version: u32, path: &str) -> Result<u64> {
+    let tables = fs::read_to_string(rt, path)?;
+    count_tables(rt.alloc(), version, tables.as_str())
 }
 
 fn main(rt: HostRuntime) -> Result<()> {
@@ -115,7 +115,9 @@ fn main(rt: HostRuntime) -> Result<()> {
     println!(rt; "{count} programs agree")?;
     let count = compare_words(&rt)?;
     println!(rt; "{count} words and texts agree")?;
-    let count = compare_tables(&rt)?;
-    println!(rt; "{count} saved tables agree")?;
+    let count = compare_tables(&rt, 1, "tables_1.txt")?;
+    println!(rt; "{count} saved tables of version 1 agree")?;
+    let count = compare_tables(&rt, 2, "tables_2.txt")?;
+    println!(rt; "{count} saved tables of version 2 agree")?;
     Ok(())
 }

@@ -29,7 +29,7 @@ pub returns-in_err-write_part-3-clause-within : goal.returns-in_err-write_part-3
 returns-in_err-write_part-3-clause-within g c =
     let d = g.D.Disk in let config = c.args.config.now in let s₀ = c.args.disk.now in let s₁ = c.write_part.new.disk in
     let s₂ = c.write_part-2.new.disk in let fields : length c.as_slice.result.now ≡ 32 = ap length (c.as_slice.ensures.value ∙ c.header_fields-header.ensures) in
-    let s₃ = c.write_part-3.new.disk in let tables : length c.as_slice-2.result.now ≡ 170 = ap length (c.as_slice-2.ensures.value ∙ c.fresh_tables-tables.ensures) in
+    let s₃ = c.write_part-3.new.disk in let tables : length c.as_slice-2.result.now ≡ 176 = ap length (c.as_slice-2.ensures.value ∙ c.fresh_tables-tables.ensures) in
     failed_within d (FormatsBehindGate config) 3 4 s₀ s₃ (is_err c.from_residual-in_err-write_part-3.result) c.from_residual-in_err-write_part-3.ensures.0
     (next_part d config 2 c.tables_at.result (length c.as_slice-2.result.now) s₀ s₂ s₃ true (omega (arith, c.tables_at.ensures)) (omega (arith, c.tables_at.ensures, tables))
     (next_part d config 1 (c.area_at-2.result + 8) (length c.as_slice.result.now) s₀ s₁ s₂ false (omega (arith, c.area_at-2.ensures)) (omega (arith, c.area_at-2.ensures, fields))
@@ -41,7 +41,7 @@ pub returns-clause-within : goal.returns-clause-within
 returns-clause-within g c =
     let d = g.D.Disk in let config = c.args.config.now in let s₀ = c.args.disk.now in let s₁ = c.write_part.new.disk in
     let s₂ = c.write_part-2.new.disk in let fields : length c.as_slice.result.now ≡ 32 = ap length (c.as_slice.ensures.value ∙ c.header_fields-header.ensures) in
-    let s₃ = c.write_part-3.new.disk in let tables : length c.as_slice-2.result.now ≡ 170 = ap length (c.as_slice-2.ensures.value ∙ c.fresh_tables-tables.ensures) in
+    let s₃ = c.write_part-3.new.disk in let tables : length c.as_slice-2.result.now ≡ 176 = ap length (c.as_slice-2.ensures.value ∙ c.fresh_tables-tables.ensures) in
     let s₄ = c.write_part-4.new.disk in
     next_part d config 3 c.memory_at.result (length c.args.memory.now) s₀ s₃ s₄ (is_err c.write_part-4.result) (omega (arith, c.memory_at.ensures)) (omega (arith, c.memory_at.ensures, c.requires.memory))
     (next_part d config 2 c.tables_at.result (length c.as_slice-2.result.now) s₀ s₂ s₃ false (omega (arith, c.tables_at.ensures)) (omega (arith, c.tables_at.ensures, tables))

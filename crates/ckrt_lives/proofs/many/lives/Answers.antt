@@ -1,7 +1,7 @@
 use Rattle.std.proofs.Common.{◌≡◌, ◌<◌, ◌+◌, ◌++◌, ◌∷◌, [], List, length, take, arith, sym, subst, ap, ◌∙◌}
 use Rattle.std.proofs.lemmas.List.{take_more, take_all}
 use Rattle.std.proofs.lemmas.List.Elements.{All-get_or}
-use Rattle.ckrt_image.specs.Programs.{Program}
+use Rattle.ckrt_image.specs.Programs.{Program, formatted_program}
 use Rattle.ckrt_lives.specs.declared.life.Life.{Life}
 use Rattle.ckrt_lives.specs.Lives.{IsInRangeLife}
 use Rattle.ckrt_lives.specs.Pieces.{LivedSoFar}
@@ -10,11 +10,11 @@ use Rattle.ckrt_lives.proofs.ByteLemmas.{same_bytes}
 use Rattle.ckrt_lives.proofs.many.lives.Goals as goal
 
 pub loop-life-init : goal.loop-life-init
-loop-life-init c = (c.in_ok-left.left.items, c.in_ok-left.ensures.formatted, rw c.new-reports.ensures.items (so_far_start (record { config = c.args.config; image = c.args.image.now }) c.in_ok-left.left.items c.in_ok-left.ensures.formatted))
+loop-life-init c = (c.in_ok-left.left.items, c.in_ok-left.ensures.formatted, rw c.new-reports.ensures.items (so_far_start (formatted_program c.args.config c.args.image.now) c.in_ok-left.left.items c.in_ok-left.ensures.formatted))
 
 pub loop-life-preserved : goal.loop-life-preserved
 loop-life-preserved c =
-    let p : Program = record { config = c.args.config; image = c.args.image.now } in
+    let p : Program = formatted_program c.args.config c.args.image.now in
     let i = c.loop-life.life-index in
     let x = c.life-item.result in
     let xs = c.args.list.now in
@@ -39,9 +39,9 @@ pub returns-clause-lived : goal.returns-clause-lived
 returns-clause-lived c =
     let h = c.loop-life.invariant in
     let all = take_all c.loop-life.life-index c.args.list.now (omega (arith, c.loop-life-test.false)) in
-    all_lived (record { config = c.args.config; image = c.args.image.now }) h.0 (take c.loop-life.life-index c.args.list.now) c.args.list.now c.loop-life.reports.items _ all h.1 h.2
+    all_lived (formatted_program c.args.config c.args.image.now) h.0 (take c.loop-life.life-index c.args.list.now) c.args.list.now c.loop-life.reports.items _ all h.1 h.2
 
 pub returns-clause-same_bytes : goal.returns-clause-same_bytes
 returns-clause-same_bytes c =
     let h = c.loop-life.invariant in
-    same_bytes (record { config = c.args.config; image = c.args.image.now }) h.0 (take c.loop-life.life-index c.args.list.now) c.loop-life.reports.items h.2.lists h.1 h.2.each
+    same_bytes (formatted_program c.args.config c.args.image.now) h.0 (take c.loop-life.life-index c.args.list.now) c.loop-life.reports.items h.2.lists h.1 h.2.each

@@ -13,8 +13,8 @@ put_slot-end-requires c =
     let ts = c.args.threads.now.threads in
     let head = length (thread_rows c.args.threads.now) ∷ [] in
     let within : c.loop-id.id < length ts = omega (arith, c.known.ensures.size, c.loop-id-test.true) in
-    let room = room_thread_next c.args.out.now c.args.at head ts c.loop-id.id c.loop-id.out c.loop-id.end within c.loop-id.invariant c.requires in
-    let same = ap (λ t. length (flat_map thread_bytes (rows_of c.loop-id.id t))) (at_place ts c.loop-id.id within) in
+    let room = room_thread_next c.args.version c.args.out.now c.args.at head ts c.loop-id.id c.loop-id.out c.loop-id.end within c.loop-id.invariant c.requires in
+    let same = ap (λ t. length (flat_map (thread_bytes c.args.version) (rows_of c.loop-id.id t))) (at_place ts c.loop-id.id within) in
     omega (arith, room, same, c.loop-id.auto.out)
 
 pub loop-id-preserved : goal.loop-id-preserved
@@ -22,11 +22,11 @@ loop-id-preserved c =
     let ts = c.args.threads.now.threads in
     let head = length (thread_rows c.args.threads.now) ∷ [] in
     let within : c.loop-id.id < length ts = omega (arith, c.known.ensures.size, c.loop-id-test.true) in
-    put_thread_next c.args.out.now c.args.at head ts c.loop-id.id c.loop-id.out c.loop-id.end c.put_slot-end.new.out c.put_slot-end.result within c.loop-id.invariant
-    (subst (λ t. IsPut c.loop-id.out c.loop-id.end (flat_map thread_bytes (rows_of c.loop-id.id t)) c.put_slot-end.new.out c.put_slot-end.result) (at_place ts c.loop-id.id within) c.put_slot-end.ensures)
+    put_thread_next c.args.version c.args.out.now c.args.at head ts c.loop-id.id c.loop-id.out c.loop-id.end c.put_slot-end.new.out c.put_slot-end.result within c.loop-id.invariant
+    (subst (λ t. IsPut c.loop-id.out c.loop-id.end (flat_map (thread_bytes c.args.version) (rows_of c.loop-id.id t)) c.put_slot-end.new.out c.put_slot-end.result) (at_place ts c.loop-id.id within) c.put_slot-end.ensures)
 
 pub returns : goal.returns
 returns c =
     let head = length (thread_rows c.args.threads.now) ∷ [] in
     let whole = take_all c.loop-id.id c.args.threads.now.threads (omega (arith, c.known.ensures.size, c.loop-id-test.false)) in
-    subst (λ l. IsPut c.args.out.now c.args.at (head ++ flat_map thread_bytes (rows_from 0 l)) c.loop-id.out c.loop-id.end) whole c.loop-id.invariant
+    subst (λ l. IsPut c.args.out.now c.args.at (head ++ flat_map (thread_bytes c.args.version) (rows_from 0 l)) c.loop-id.out c.loop-id.end) whole c.loop-id.invariant

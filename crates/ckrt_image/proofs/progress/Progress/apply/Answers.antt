@@ -1,6 +1,6 @@
 use Rattle.std.proofs.Common.{◌∙◌, ap}
 use Rattle.ckrt_machine.specs.Events.{After}
-use Rattle.ckrt_machine.proofs.SameHarts.{same_harts}
+use Rattle.ckrt_machine.proofs.Fixed.{same_harts}
 use Rattle.ckrt_image.proofs.progress.Progress.apply.Goals as goal
 
 pub invariant_of-self-clause-harts : goal.invariant_of-self-clause-harts

@@ -19,10 +19,10 @@ returns-clause-any_moment g c = λ r behind durable honest.
     let n = c.encode_tables-n.result in
     let bytes : List ℕ = take n c.encode_tables-n.new.out in
     let tables : c.tables.result.now ≡ p.machine.state.tables = c.tables.ensures.tables in
-    let front : bytes ≡ encoding_of p.machine.state.tables p.held.items = c.encode_tables-n.ensures.front ∙ ap (λ (t : Tables). encoding_of t p.held.items) tables in
-    let own : IsEncodingOf c.tables.result.now.threads.hart_count bytes (record { tables = c.tables.result.now; held = p.held.items }) = c.encode_tables-n.ensures.decodes in
-    let savable : CanBeSaved p.config.harts p.machine.state.tables p.held.items =
-    subst (λ h. CanBeSaved h p.machine.state.tables p.held.items) p.harts (subst (λ (t : Tables). CanBeSaved t.threads.hart_count t p.held.items) tables own.savable) in
+    let front : bytes ≡ encoding_of 2 p.machine.state.tables p.held.items = c.encode_tables-n.ensures.front ∙ ap (λ (t : Tables). encoding_of 2 t p.held.items) tables in
+    let own : IsEncodingOf 2 c.tables.result.now.threads.hart_count bytes (record { tables = c.tables.result.now; held = p.held.items }) = c.encode_tables-n.ensures.decodes in
+    let savable : CanBeSaved 2 p.config.harts p.machine.state.tables p.held.items =
+    subst (λ h. CanBeSaved 2 h p.machine.state.tables p.held.items) p.harts (subst (λ (t : Tables). CanBeSaved 2 t.threads.hart_count t p.held.items) tables own.savable) in
     let few : length bytes ≤ 98304 = omega (arith, ap length c.encode_tables-n.ensures.front, c.encode_tables-n.ensures.length, c.encode_tables-n.ensures.longest) in
     let last : p.generation + 1 < 2 ^ 64 = c.requires.generation in
     weaker d.moment d.left_since c.args.disk.now c.write_area.new.disk _ (RecoversToOldOrNew p r) (c.write_area.ensures.any_moment durable honest) (λ image left.
@@ -37,10 +37,10 @@ returns-clause-saved g c = on_ok_weaker c.write_area.result (λ has honest r beh
     let n = c.encode_tables-n.result in
     let bytes : List ℕ = take n c.encode_tables-n.new.out in
     let tables : c.tables.result.now ≡ p.machine.state.tables = c.tables.ensures.tables in
-    let front : bytes ≡ encoding_of p.machine.state.tables p.held.items = c.encode_tables-n.ensures.front ∙ ap (λ (t : Tables). encoding_of t p.held.items) tables in
-    let own : IsEncodingOf c.tables.result.now.threads.hart_count bytes (record { tables = c.tables.result.now; held = p.held.items }) = c.encode_tables-n.ensures.decodes in
-    let savable : CanBeSaved p.config.harts p.machine.state.tables p.held.items =
-    subst (λ h. CanBeSaved h p.machine.state.tables p.held.items) p.harts (subst (λ (t : Tables). CanBeSaved t.threads.hart_count t p.held.items) tables own.savable) in
+    let front : bytes ≡ encoding_of 2 p.machine.state.tables p.held.items = c.encode_tables-n.ensures.front ∙ ap (λ (t : Tables). encoding_of 2 t p.held.items) tables in
+    let own : IsEncodingOf 2 c.tables.result.now.threads.hart_count bytes (record { tables = c.tables.result.now; held = p.held.items }) = c.encode_tables-n.ensures.decodes in
+    let savable : CanBeSaved 2 p.config.harts p.machine.state.tables p.held.items =
+    subst (λ h. CanBeSaved 2 h p.machine.state.tables p.held.items) p.harts (subst (λ (t : Tables). CanBeSaved 2 t.threads.hart_count t p.held.items) tables own.savable) in
     let few : length bytes ≤ 98304 = omega (arith, ap length c.encode_tables-n.ensures.front, c.encode_tables-n.ensures.length, c.encode_tables-n.ensures.longest) in
     let last : p.generation + 1 < 2 ^ 64 = c.requires.generation in
     saved_recovers p bytes (d.content c.args.disk.now) (d.content c.write_area.new.disk) r behind savable front few last

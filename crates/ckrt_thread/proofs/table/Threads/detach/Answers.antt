@@ -1,5 +1,6 @@
 use Rattle.std.proofs.Common.{Some, sym, ap, ◌∙◌}
 use Rattle.ckrt_thread.proofs.Known.{absent_places, ended_live, not_joined}
+use Rattle.ckrt_thread.proofs.KeyLemmas.{no_value}
 use Rattle.ckrt_thread.proofs.table.Threads.detach.Goals as goal
 
 pub set_slot-requires-clause-free : goal.set_slot-requires-clause-free
@@ -8,3 +9,6 @@ set_slot-requires-clause-free c =
 
 pub set_detached-requires-clause-unjoined : goal.set_detached-requires-clause-unjoined
 set_detached-requires-clause-unjoined c = not_joined c.args.self.now c.args.id (sym c.is_joined.ensures ∙ c.if-is_joined.false)
+
+pub set_slot-requires-clause-values : goal.set_slot-requires-clause-values
+set_slot-requires-clause-values c = λ k _. no_value k

@@ -2,7 +2,7 @@ use Rattle.std.proofs.Common.{ap, ◌∙◌, eqb}
 use Rattle.ckrt_tables.specs.Records.{flag}
 use Rattle.ckrt_tables.proofs.StatusRead.{closed_found}
 use Rattle.ckrt_tables.proofs.ThreadsRead.{flag_fits}
-use Rattle.ckrt_tables.proofs.decoding.read_closed.Goals as goal
+use Rattle.ckrt_tables.proofs.reading.read_mark.Goals as goal
 
 pub returns : goal.returns
 returns c = λ b rest f e.
