@@ -14,6 +14,7 @@ pub mod KeptCancellation
 pub mod KeptKeys
 pub mod KeptInput
 pub mod Kept
+pub mod Beginnings
 pub mod Readers
 pub mod Ticks
 pub mod Test

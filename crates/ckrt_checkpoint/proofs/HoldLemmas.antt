@@ -9,7 +9,7 @@ use Rattle.ckrt_checkpoint.specs.declared.config.Config.{Config}
 use Rattle.ckrt_checkpoint.specs.declared.header.Header.{Header}
 use Rattle.ckrt_checkpoint.specs.Fields.{HasBytes, header_fields}
 use Rattle.ckrt_checkpoint.specs.Holds.{HasNoBatch, HoldsArea, slot}
-use Rattle.ckrt_checkpoint.specs.Layout.{area_at, header_in, header_of, is_gate_open, is_open, journal_of, memory_at, memory_of, memory_size, number_at, tables_of}
+use Rattle.ckrt_checkpoint.specs.Layout.{area_at, header_in, header_of, is_gate_open, is_open, journal_at, journal_of, memory_at, memory_of, memory_size, number_at, tables_of}
 use Rattle.ckrt_checkpoint.proofs.ByteLemmas.{byte_is, number_is}
 
 -- GATES
@@ -19,8 +19,8 @@ pub header_gate : (c : Config) (area : ℕ) (image : List ℕ) → (header_of c 
 header_gate c area image = ap (λ x. nat_eq x 165) (get_or-take 40 (drop (area_at c area) image) 0 0 (omega arith))
 
 -- a journal without a batch has a first gate that isn't open
-pub closed_journal : (c : Config) (area : ℕ) (image : List ℕ) → 1 ≤ c.journal → HasNoBatch c area image → is_open (journal_bytes (journal_of c area) image) ≡ false
-closed_journal c area image some has = ap (λ x. nat_eq x 165) (byte_is image (journal_of c area).at c.journal 0 some has)
+pub closed_journal : (c : Config) (area version : ℕ) (image : List ℕ) → 1 ≤ c.journal → HasNoBatch c area image → is_open (journal_bytes (journal_of c area version) image) ≡ false
+closed_journal c area version image some has = ap (λ x. nat_eq x 165) (byte_is image (journal_at c area) c.journal 0 some has)
 
 -- THE HEADER
 

@@ -16,7 +16,7 @@ use Rattle.ckrt_checkpoint.specs.declared.header.Header.{Header}
 use Rattle.ckrt_checkpoint.specs.Answers.{is_device}
 use Rattle.ckrt_checkpoint.specs.Fields.{HasBytes, header_fields}
 use Rattle.ckrt_checkpoint.specs.Holds.{CleanPagesStand, HasNoBatch, HoldsArea, slot_at}
-use Rattle.ckrt_checkpoint.specs.Layout.{area_at, is_gate_open, journal_of, tables_at}
+use Rattle.ckrt_checkpoint.specs.Layout.{area_at, is_gate_open, journal_at, tables_at}
 use Rattle.ckrt_checkpoint.specs.Write.{FillsAt, GateAt, HasSaved, IsAreaWrite, IsClosing, IsDurable, IsFilled, IsFilling, WritesAt, calls_of, calls_of_closing, dirty_pages}
 use Rattle.ckrt_checkpoint.proofs.WriteLemmas.{area_within, clean_stand}
 
@@ -60,7 +60,7 @@ module _ (c : Config) (area : ℕ) (h : Header) (tables memory content image : L
   }
 
   pub has_no_batch : HasNoBatch c area image
-  has_no_batch = part 1 (journal_of c area).at (omega (arith, area_within c area low)) ∙ filled.no_batch
+  has_no_batch = part 1 (journal_at c area) (omega (arith, area_within c area low)) ∙ filled.no_batch
 
 -- MOMENTS
 

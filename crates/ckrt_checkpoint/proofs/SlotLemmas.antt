@@ -9,7 +9,7 @@ use Rattle.ckrt_memory.specs.Marks.{Follows, IsAllDirty, IsCleaned, Memory}
 use Rattle.ckrt_memory.specs.Pages.{page_of}
 use Rattle.ckrt_checkpoint.specs.declared.config.Config.{Config}
 use Rattle.ckrt_checkpoint.specs.Holds.{AllPagesStand, BothStand, CleanPagesStand, slot_at}
-use Rattle.ckrt_checkpoint.specs.Layout.{journal_of, memory_at, memory_of, memory_size}
+use Rattle.ckrt_checkpoint.specs.Layout.{journal_at, memory_at, memory_of, memory_size}
 use Rattle.ckrt_checkpoint.specs.Write.{WritesAt}
 use Rattle.ckrt_checkpoint.proofs.WriteLemmas.{area_within}
 
@@ -72,11 +72,11 @@ written_stand c area m content image low same stand p some below clean =
     part_same 4096 (slot_at c area p) image content same.size (λ i w. same.same i (slot_apart c area p i low below w)) ∙ stand p some below clean
 
 -- a slot lies before the journals
-journal_apart : (c : Config) (area index p i : ℕ) → area ≤ 1 → p < c.pages → IsWithin (slot_at c area p) 4096 i → ¬ ((journal_of c index).at ≤ i)
+journal_apart : (c : Config) (area index p i : ℕ) → area ≤ 1 → p < c.pages → IsWithin (slot_at c area p) 4096 i → ¬ (journal_at c index ≤ i)
 journal_apart c area index p i low below w behind = let end = area_within c area low in omega (arith, w.1, behind, below, end)
 
 -- what is written in a journal leaves the pages that stand
-pub journal_stand : (c : Config) (area index : ℕ) (m : Memory) (region : ℕ → Type 0) (content image : List ℕ) → area ≤ 1 → ((i : ℕ) → region i → (journal_of c index).at ≤ i) → IsSameOutside region content image
+pub journal_stand : (c : Config) (area index : ℕ) (m : Memory) (region : ℕ → Type 0) (content image : List ℕ) → area ≤ 1 → ((i : ℕ) → region i → journal_at c index ≤ i) → IsSameOutside region content image
     → CleanPagesStand c area m content → CleanPagesStand c area m image
 journal_stand c area index m region content image low behind same stand p some below clean =
     part_same 4096 (slot_at c area p) image content same.size (λ i w. same.same i (λ r. journal_apart c area index p i low below w (behind i r))) ∙ stand p some below clean

@@ -15,7 +15,7 @@ use Rattle.ckrt_checkpoint.specs.declared.header.Header.{Header}
 use Rattle.ckrt_checkpoint.specs.Fields.{HasBytes, header_fields}
 use Rattle.ckrt_checkpoint.specs.Holds.{CleanPagesStand, HasNoBatch, slot, slot_at}
 use Rattle.ckrt_checkpoint.proofs.PickLemmas.{area_end}
-use Rattle.ckrt_checkpoint.specs.Layout.{is_valid, area_at, area_size, journal_of, size_needed, tables_at}
+use Rattle.ckrt_checkpoint.specs.Layout.{is_valid, area_at, area_size, journal_at, size_needed, tables_at}
 use Rattle.ckrt_checkpoint.specs.Write.{FillsAt, IsFilled, PagesAt, dirty_count}
 
 -- what holds where the last call answered Ok, from what it says of that
@@ -40,10 +40,10 @@ area_within c area low = elim (cases_lt area 1) [
 pub some_pages : (c : Config) → is_valid c ≡ true → (1 ≤ c.pages) × (1 ≤ c.journal)
 some_pages c valid = (grind (arith, nat_tests, valid), grind (arith, nat_tests, valid))
 
-pub journal_inside : (c : Config) (area size : ℕ) → area ≤ 1 → 1 ≤ c.journal → size_needed c ≤ size → (journal_of c area).at + 1 ≤ size
+pub journal_inside : (c : Config) (area size : ℕ) → area ≤ 1 → 1 ≤ c.journal → size_needed c ≤ size → journal_at c area + 1 ≤ size
 journal_inside c area size low some room = elim (cases_lt area 1) [
-  | inl lt ↦ subst (λ i. (journal_of c i).at + 1 ≤ size) (let e : 0 ≡ area = omega (arith, lt) in e) (omega (arith, some, room))
-  | inr le ↦ subst (λ i. (journal_of c i).at + 1 ≤ size) (let e : 1 ≡ area = omega (arith, le, low) in e) (omega (arith, some, room))
+  | inl lt ↦ subst (λ i. journal_at c i + 1 ≤ size) (let e : 0 ≡ area = omega (arith, lt) in e) (omega (arith, some, room))
+  | inr le ↦ subst (λ i. journal_at c i + 1 ≤ size) (let e : 1 ≡ area = omega (arith, le, low) in e) (omega (arith, some, room))
 ]
 
 -- the pages below n, and those that are clean, stand in their slots
@@ -124,7 +124,7 @@ module _ {D : Type 0} (d : Ghosts D) where
   -- BEHIND THE GATE
 
   -- the journal's first gate was written
-  pub first_gate : (c : Config) (area at : ℕ) (old new : D) (failed : Bool) → at ≡ (journal_of c area).at → WritesWithin d (IsWithin at 1) 1 old new failed → WritesWithin d (FillsAt c area) 1 old new failed
+  pub first_gate : (c : Config) (area at : ℕ) (old new : D) (failed : Bool) → at ≡ journal_at c area → WritesWithin d (IsWithin at 1) 1 old new failed → WritesWithin d (FillsAt c area) 1 old new failed
   first_gate c area at old new failed there = wider d (IsWithin at 1) (FillsAt c area) 1 old new failed (λ i w. inr (omega (arith, w.0, there), omega (arith, w.1, there)))
 
   -- and then a part of the area
@@ -135,7 +135,7 @@ module _ {D : Type 0} (d : Ghosts D) where
   -- what stands behind the gate then
   module _ (c : Config) (area : ℕ) (h : Header) (tables : List ℕ) (m : Memory) (k gate_at at fields_at : ℕ) (fields : List ℕ) (s₀ s₁ s₂ s₃ s₄ : D)
       (low : area ≤ 1) (some : 1 ≤ c.pages) (some_journal : 1 ≤ c.journal) (few : length tables ≤ 98304)
-      (gate_there : gate_at ≡ (journal_of c area).at) (there : at ≡ tables_at c area) (fields_there : fields_at ≡ area_at c area + 8) (is_fields : fields ≡ header_fields h) (long : length fields ≡ 32)
+      (gate_there : gate_at ≡ journal_at c area) (there : at ≡ tables_at c area) (fields_there : fields_at ≡ area_at c area + 8) (is_fields : fields ≡ header_fields h) (long : length fields ≡ 32)
       (room : d.is_honest s₀ → size_needed c ≤ length (d.content s₀)) (honest : d.is_honest s₄)
       (w₁ : WritesWithin d (IsWithin gate_at 1) 1 s₀ s₁ false) (o₁ : d.is_honest s₁ → IsOverwritten (d.content s₀) gate_at (0 ∷ []) (d.content s₁))
       (w₂ : WritesWithin d (IsWithin at (length tables)) 1 s₁ s₂ false) (o₂ : d.is_honest s₂ → IsOverwritten (d.content s₁) at tables (d.content s₂))
@@ -191,9 +191,9 @@ module _ {D : Type 0} (d : Ghosts D) where
 
     has_gate : HasNoBatch c area (d.content s₄)
     has_gate =
-        behind_fields (journal_of c area).at 1 (omega (arith, end))
-        ∙ part_kept (PagesAt c area) k s₂ s₃ honest₃ w₃ (journal_of c area).at 1 (λ i w v. omega (arith, w.0, v.1, end, some))
-        ∙ part_kept (IsWithin at (length tables)) 1 s₁ s₂ honest₂ w₂ (journal_of c area).at 1 (λ i w v. omega (arith, w.0, v.1, end, there, few))
+        behind_fields (journal_at c area) 1 (omega (arith, end))
+        ∙ part_kept (PagesAt c area) k s₂ s₃ honest₃ w₃ (journal_at c area) 1 (λ i w v. omega (arith, w.0, v.1, end, some))
+        ∙ part_kept (IsWithin at (length tables)) 1 s₁ s₂ honest₂ w₂ (journal_at c area) 1 (λ i w v. omega (arith, w.0, v.1, end, there, few))
         ∙ subst (λ n. HasBytes (d.content s₁) n (0 ∷ [])) gate_there (written_there (d.content s₀) gate_at (0 ∷ []) (d.content s₁) (o₁ honest₁) gate_inside)
 
     -- the first two writes leave the slots

@@ -6,7 +6,7 @@ use Rattle.ckrt_checkpoint.specs.declared.config.Config.{Config}
 use Rattle.ckrt_checkpoint.specs.declared.header.Header.{Header}
 use Rattle.ckrt_checkpoint.specs.declared.layout.TheConstants.{CLOSED, OPEN}
 use Rattle.ckrt_checkpoint.specs.Fields.{HasBytes, header_fields}
-use Rattle.ckrt_checkpoint.specs.Layout.{area_at, tables_at, journal_of}
+use Rattle.ckrt_checkpoint.specs.Layout.{area_at, tables_at, journal_at}
 
 -- the place of page p in an area, from 1 on
 abbrev pub slot_at : Config → ℕ → ℕ → ℕ
@@ -45,4 +45,4 @@ pub record HoldsArea (c : Config) (area : ℕ) (h : Header) (tables memory image
 
 -- the first gate of an area's journal is closed: there is no batch in it
 abbrev pub HasNoBatch : Config → ℕ → List ℕ → Type 0
-HasNoBatch c area image = HasBytes image (journal_of c area).at (CLOSED ∷ [])
+HasNoBatch c area image = HasBytes image (journal_at c area) (CLOSED ∷ [])

@@ -41,9 +41,13 @@ tables_at c area = area_at c area + 4096
 abbrev pub memory_at : Config → ℕ → ℕ
 memory_at c area = area_at c area + 106496
 
--- journal 0 or 1, at its first gate
-abbrev pub journal_of : Config → ℕ → Journal
-journal_of c area = record { at = 4096 + 2 * area_size c + area * c.journal; size = c.journal; next_gate = 0 }
+-- the journal of an area
+abbrev pub journal_at : Config → ℕ → ℕ
+journal_at c area = 4096 + 2 * area_size c + area * c.journal
+
+-- the same at its first gate, where the area is of a version, which is the journal's too
+abbrev pub journal_of : Config → (area version : ℕ) → Journal
+journal_of c area version = record { at = journal_at c area; size = c.journal; next_gate = 0; version = version }
 
 -- FIELDS
 

@@ -12,7 +12,7 @@ use Rattle.ckrt_checkpoint.specs.declared.header.Header.{Header}
 use Rattle.ckrt_checkpoint.specs.declared.save_point.SavePoint.{SavePoint}
 use Rattle.ckrt_checkpoint.specs.Answers.{is_device}
 use Rattle.ckrt_checkpoint.specs.Holds.{HasState, HoldsArea, HasNoBatch}
-use Rattle.ckrt_checkpoint.specs.Layout.{area_at, area_size, is_gate_open, journal_of, memory_at, memory_size}
+use Rattle.ckrt_checkpoint.specs.Layout.{area_at, area_size, is_gate_open, journal_at, memory_at, memory_size}
 
 -- THE STATE THAT IS WRITTEN
 
@@ -38,7 +38,7 @@ GateAt c area = IsWithin (area_at c area) 1
 
 -- all but the gate
 abbrev pub FillsAt : Config → ℕ → ℕ → Type 0
-FillsAt c area i = IsWithin (area_at c area + 1) (area_size c - 1) i ⊎ IsWithin (journal_of c area).at 1 i
+FillsAt c area i = IsWithin (area_at c area + 1) (area_size c - 1) i ⊎ IsWithin (journal_at c area) 1 i
 
 abbrev pub WritesAt : Config → ℕ → ℕ → Type 0
 WritesAt c area i = GateAt c area i ⊎ FillsAt c area i

@@ -1,7 +1,7 @@
 // Where things lie on a disk.
 ghost use Rattle.std.specs.Prelude.{◌≡◌, ◌≤◌, ◌+◌, true};
 ghost use Rattle.ckrt_checkpoint.specs.Holds.{slot_at};
-ghost use Rattle.ckrt_checkpoint.specs.Layout.{is_valid, memory_size, area_size, size_needed, area_at, tables_at, memory_at, journal_of};
+ghost use Rattle.ckrt_checkpoint.specs.Layout.{is_valid, memory_size, area_size, size_needed, area_at, tables_at, memory_at, journal_at, journal_of};
 
 use crate::config::Config;
 use ckrt_journal::Journal;
@@ -88,13 +88,21 @@ impl Config {
         self.area_at(area) + BLOCK_SIZE + TABLES_ROOM + PAGE_SIZE * page as usize
     }
 
-    /// The journal of an area, 0 or 1, at its first gate.
-    pub fn journal_of(&self, area: usize) -> Journal
+    /// The offset of an area's journal.
+    pub fn journal_at(&self, area: usize) -> usize
         requires valid { is_valid self.now ≡ true }
         requires area { area ≤ 1 }
-        ensures { result ≡ journal_of self.now area }
+        ensures { result ≡ journal_at self.now area }
     {
-        let size = self.journal as usize;
-        Journal::start(BLOCK_SIZE + 2 * self.area_size() + area * size, size)
+        BLOCK_SIZE + 2 * self.area_size() + area * self.journal as usize
+    }
+
+    /// The journal of an area, 0 or 1, at its first gate. It has the version of the area.
+    pub fn journal_of(&self, area: usize, version: u32) -> Journal
+        requires valid { is_valid self.now ≡ true }
+        requires area { area ≤ 1 }
+        ensures { result ≡ journal_of self.now area version }
+    {
+        Journal::start(self.journal_at(area), self.journal as usize, version)
     }
 }

@@ -105,7 +105,7 @@ fn fill<D: Disk>(
     ensures filled { OnOk result (D.is_honest disk.new → CleanPagesStand config.now area memory.now (D.content disk.old) → IsFilled config.now area header.now tables.now memory.now.bytes (D.content disk.new)) }
     ensures durable { OnOk result (D.is_honest disk.new → IsDurable D.Disk disk.new) }
 {
-    write_part(disk, config.journal_of(area).at, &[CLOSED])?;
+    write_part(disk, config.journal_at(area), &[CLOSED])?;
     write_part(disk, config.tables_at(area), tables)?;
     write_pages(disk, config, area, memory)?;
     let fields = header_fields(header);

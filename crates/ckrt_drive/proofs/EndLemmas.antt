@@ -112,9 +112,9 @@ at_turn : (h : Option ℕ) (n : ℕ) (s : Tables) (ending : Ending) → turn_of 
 at_turn (Some h) n s ending e = absurd (cc)
 at_turn None n s ending e = e
 
-at_running : (placed : Option ℕ) (o : Options) (c : Cursor) (s : Tables) (ending : Ending) → next_turn placed o c s ≡ End ending → round_end (next_busy 0 s) s ≡ End ending
-at_running (Some h) o c s ending e = absurd (cc)
-at_running None o c s ending e = at_turn (hart_by c.lot c.turn s) (steps_by c.lot o.turn) s ending e
+at_running : (placed : Option ℕ) (most : ℕ) (c : Cursor) (s : Tables) (ending : Ending) → next_turn placed most c s ≡ End ending → round_end (next_busy 0 s) s ≡ End ending
+at_running (Some h) most c s ending e = absurd (cc)
+at_running None most c s ending e = at_turn (hart_by c.lot c.turn s) (steps_by c.lot most) s ending e
 
 -- STUCK
 
@@ -150,19 +150,19 @@ end_idle c s ending running e =
     let idle = at_idle (earliest_deadline s.threads.waits) s ending round.1 in
     waits_or_not (is_some (threads.first_waiter Input s.threads)) c s ending (stuck s running round.0 idle.0) refl idle.1
 
-end_running : (b : Bool) (o : Options) (c : Cursor) (s : Tables) (ending : Ending) → (c.events_left == 0) ≡ b → is_running s.status ≡ true → (if b then End Enough else next_running o c s) ≡ End ending → IsEnd ending c s
-end_running true o c s ending none running e =
+end_running : (b : Bool) (most : ℕ) (c : Cursor) (s : Tables) (ending : Ending) → (c.events_left == 0) ≡ b → is_running s.status ≡ true → (if b then End Enough else next_running most c s) ≡ End ending → IsEnd ending c s
+end_running true most c s ending none running e =
     let is : Enough ≡ ending = cc in
     subst (λ x. IsEnd x c s) is (running, grind (arith, nat_tests))
-end_running false o c s ending none running e =
-    end_idle c s ending running (at_running c.placed o c s ending e)
+end_running false most c s ending none running e =
+    end_idle c s ending running (at_running c.placed most c s ending e)
 
-end_by : (b : Bool) (o : Options) (c : Cursor) (s : Tables) (ending : Ending) → is_running s.status ≡ b → (if b then (if c.events_left == 0 then End Enough else next_running o c s) else End Ended) ≡ End ending → IsEnd ending c s
-end_by true o c s ending running e = end_running (c.events_left == 0) o c s ending refl running e
-end_by false o c s ending running e =
+end_by : (b : Bool) (most : ℕ) (c : Cursor) (s : Tables) (ending : Ending) → is_running s.status ≡ b → (if b then (if c.events_left == 0 then End Enough else next_running most c s) else End Ended) ≡ End ending → IsEnd ending c s
+end_by true most c s ending running e = end_running (c.events_left == 0) most c s ending refl running e
+end_by false most c s ending running e =
     let is : Ended ≡ ending = cc in
     subst (λ x. IsEnd x c s) is running
 
 -- an end that is next is what it says
-pub end_of : (o : Options) (c : Cursor) (s : Tables) (ending : Ending) → next o c s ≡ End ending → IsEnd ending c s
-end_of o c s ending e = end_by (is_running s.status) o c s ending refl e
+pub end_of : (most : ℕ) (c : Cursor) (s : Tables) (ending : Ending) → next most c s ≡ End ending → IsEnd ending c s
+end_of most c s ending e = end_by (is_running s.status) most c s ending refl e

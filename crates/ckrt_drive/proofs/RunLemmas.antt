@@ -7,12 +7,12 @@ use Rattle.ckrt_disk.specs.declared.disk.Disk.{Ghosts}
 use Rattle.ckrt_disk.proofs.Moments.{weaker, goes_on}
 use Rattle.ckrt_events.specs.declared.event.Event.{Event}
 use Rattle.ckrt_machine.specs.declared.event.Answer.{Answer}
-use Rattle.ckrt_events.specs.declared.event.Event.TheVariants.{Place, Run, Tick, Input, Eof}
+use Rattle.ckrt_events.specs.declared.event.Event.TheVariants.{Place, Run, Tick, Input, Eof, RunLong}
 use Rattle.ckrt_image.specs.Recovery.{room_of}
 use Rattle.ckrt_machine.specs.Runs.{is_running}
 use Rattle.ckrt_recovery.specs.declared.fault.SubmitFault.{SubmitFault}
 use Rattle.ckrt_recovery.specs.declared.session.Session.{Session}
-use Rattle.ckrt_recovery.specs.View.{View, view_of, refusal_of}
+use Rattle.ckrt_recovery.specs.View.{View, view_of, refusal_of, version_of}
 use Rattle.ckrt_main.specs.Service.{Accepts}
 use Rattle.ckrt_main.proofs.AcceptLemmas.{accepts_kept, accepts_more, since_start}
 use Rattle.ckrt_drive.specs.declared.cursor.Cursor.{Cursor}
@@ -26,7 +26,7 @@ use Rattle.ckrt_drive.specs.declared.progress.Ending.{Ending}
 use Rattle.ckrt_drive.specs.declared.progress.Ending.TheVariants.{Ended, Enough}
 use Rattle.ckrt_drive.specs.declared.progress.Progress.{Progress}
 use Rattle.ckrt_drive.specs.declared.progress.Progress.TheVariants.{Submitted, Committed, Checkpointed, Released, Stopped}
-use Rattle.ckrt_drive.specs.Plan.{after_event, behind_turn, cursor_after, is_shortage, next, next_running, offered, plan, plan_for, save}
+use Rattle.ckrt_drive.specs.Plan.{after_event, behind_turn, cursor_after, is_shortage, next, next_running, offered, plan, plan_for, save, turn_in}
 use Rattle.ckrt_drive.specs.Output.{HasOutput, HoldsOutput, Writes, acknowledged_output}
 use Rattle.ckrt_drive.specs.Runs.{FollowsPlan, GoesByPlan, IsAtEnd, IsFault, IsOnward, Runs, Stand, StopsRightly, events_in, stand, stand_after, stand_of}
 use Rattle.ckrt_drive.specs.Steps.{IsSound, IsWhyStep, Steps, accepted_by, view_after}
@@ -72,10 +72,10 @@ reached n m e le = grind (arith, nat_tests)
 -- an end is planned only where all is saved, and it is what it says
 pub at_end : (o : Options) (c : Cursor) (v : View) (ending : Ending) → v.recovered.confirmed ≤ v.released → IsSound c v → plan o c v ≡ Ok (Stopped ending) → IsAtEnd c v ending
 at_end o c v ending le sound is =
-    let kept = kept_by (nat_lt v.recovered.confirmed v.released) (next o c v.recovered.state.tables) c v ending is in
+    let kept = kept_by (nat_lt v.recovered.confirmed v.released) (next (turn_in (version_of v) o.turn) c v.recovered.state.tables) c v ending is in
     record {
       saved = record { acknowledged = sound.saved kept.1; confirmed = reached v.recovered.confirmed v.released kept.0 le };
-      is = end_of o c v.recovered.state.tables ending kept.2;
+      is = end_of (turn_in (version_of v) o.turn) c v.recovered.state.tables ending kept.2;
     }
 
 -- EVENTS
@@ -111,7 +111,7 @@ left_by false b c n is never = absurd (never Ended refl)
 some_left : (o : Options) (x : Stand) (e : Event) (answer : Answer) → plan o x.cursor x.view ≡ Ok (Submitted e answer) → 0 < x.cursor.events_left
 some_left o x e answer is =
     let s = x.view.recovered.state.tables in
-    left_by (is_running s.status) (x.cursor.events_left == 0) x.cursor (next_running o x.cursor s) refl (submits_by (nat_lt x.view.recovered.confirmed x.view.released) (next o x.cursor s) x.cursor x.view e answer is)
+    left_by (is_running s.status) (x.cursor.events_left == 0) x.cursor (next_running (turn_in (version_of x.view) o.turn) x.cursor s) refl (submits_by (nat_lt x.view.recovered.confirmed x.view.released) (next (turn_in (version_of x.view) o.turn) x.cursor s) x.cursor x.view e answer is)
 
 turn_keeps : (lot : Option Lot) (h : ℕ) (c : Cursor) → (behind_turn lot h c).events_left ≡ c.events_left
 turn_keeps None h c = refl
@@ -120,6 +120,7 @@ turn_keeps (Some lot) h c = refl
 one_less : (e : Event) (c : Cursor) → (after_event e c).events_left ≡ c.events_left - 1
 one_less (Place h t) c = refl
 one_less (Run h n) c = turn_keeps c.lot h (record c { events_left = c.events_left - 1; is_saved = false })
+one_less (RunLong h n) c = turn_keeps c.lot h (record c { events_left = c.events_left - 1; is_saved = false })
 one_less (Tick k) c = refl
 one_less (Input bytes) c = refl
 one_less Eof c = refl

@@ -1,12 +1,12 @@
 -- What a drive does next (this project's choice): a function of its options, of where it stands, and of what the session shows.
-use Rattle.std.specs.Prelude.{ℕ, zero, suc, ◌+◌, ◌-◌, ◌*◌, ◌/◌, ◌%◌, ◌==◌, ◌||◌, nat_lt, min, max, Bool, true, false, if◌then◌else◌, Option, Some, None, is_some, option_map, List, [], ◌∷◌, Result, Ok, Err}
+use Rattle.std.specs.Prelude.{ℕ, zero, suc, ◌+◌, ◌-◌, ◌*◌, ◌/◌, ◌%◌, ◌==◌, ◌||◌, nat_lt, min, max, Bool, true, false, if◌then◌else◌, Option, Some, None, is_some, option_map, List, [], ◌∷◌, Result, Ok, Err, nat_le}
 use Rattle.ckrt_thread.specs.declared.records.Wait.{Wait}
 use Rattle.ckrt_thread.specs.declared.records.Object.TheVariants.{Input}
 use Rattle.ckrt_thread.specs.State.{first_waiter}
 use Rattle.ckrt_calls.specs.declared.table.Tables.{Tables}
 use Rattle.ckrt_events.specs.Bytes.{IsInRange}
 use Rattle.ckrt_events.specs.declared.event.Event.{Event}
-use Rattle.ckrt_events.specs.declared.event.Event.TheVariants.{Place, Run, Tick}
+use Rattle.ckrt_events.specs.declared.event.Event.TheVariants.{Place, Run, Tick, RunLong}
 use Rattle.ckrt_events.specs.declared.event.Event.TheVariants as event
 use Rattle.ckrt_machine.specs.declared.event.Refusal.TheVariants.{OutputFull}
 use Rattle.ckrt_machine.specs.Events.{step}
@@ -16,7 +16,7 @@ use Rattle.ckrt_machine.specs.Plans.{or_else, planned}
 use Rattle.ckrt_image.specs.Recovery.{room_of}
 use Rattle.ckrt_recovery.specs.declared.fault.SubmitFault.{SubmitFault}
 use Rattle.ckrt_recovery.specs.declared.fault.SubmitFault.TheVariants as fault
-use Rattle.ckrt_recovery.specs.View.{View, refusal_of}
+use Rattle.ckrt_recovery.specs.View.{View, refusal_of, version_of}
 use Rattle.ckrt_drive.specs.Lots.{lots_of, next_lot, number_of}
 use Rattle.ckrt_drive.specs.declared.lot.Lot.{Lot}
 use Rattle.ckrt_drive.specs.declared.cursor.Cursor.{Cursor}
@@ -70,10 +70,14 @@ abbrev pub round_end : Option ℕ → Tables → Next
 round_end (Some h) s = Submit (Tick 1)
 round_end None s = idle_until (earliest_deadline s.threads.waits) s
 
+-- a run of n steps at most, by the shortest event that has as many
+abbrev pub run_by : ℕ → ℕ → Event
+run_by h n = if nat_le n 65535 then Run h n else RunLong h n
+
 -- who is planned goes onto the hart, and else the hart's thread runs on
 abbrev pub on_turn : Option ℕ → ℕ → ℕ → Event
 on_turn (Some t) h n = Place h t
-on_turn None h n = Run h n
+on_turn None h n = run_by h n
 
 -- the turn of a busy hart
 abbrev pub turn_of : Option ℕ → ℕ → Tables → Next
@@ -95,16 +99,20 @@ steps_by None most = most
 steps_by (Some lot) most = number_of lot / 8 % most + 1
 
 -- while the program runs; who was placed in this turn runs
-abbrev pub next_turn : Option ℕ → Options → Cursor → Tables → Next
-next_turn (Some h) o c s = Submit (Run h (steps_by c.lot o.turn))
-next_turn None o c s = turn_of (hart_by c.lot c.turn s) (steps_by c.lot o.turn) s
+abbrev pub next_turn : Option ℕ → ℕ → Cursor → Tables → Next
+next_turn (Some h) most c s = Submit (run_by h (steps_by c.lot most))
+next_turn None most c s = turn_of (hart_by c.lot c.turn s) (steps_by c.lot most) s
 
-abbrev pub next_running : Options → Cursor → Tables → Next
-next_running o c s = next_turn c.placed o c s
+abbrev pub next_running : ℕ → Cursor → Tables → Next
+next_running most c s = next_turn c.placed most c s
 
--- the event that is next, or why there is none
-abbrev pub next : Options → Cursor → Tables → Next
-next o c s = if is_running s.status then (if c.events_left == 0 then End Enough else next_running o c s) else End Ended
+-- the event that is next, or why there is none, with so many steps of a turn at most
+abbrev pub next : ℕ → Cursor → Tables → Next
+next most c s = if is_running s.status then (if c.events_left == 0 then End Enough else next_running most c s) else End Ended
+
+-- the most steps of a turn where the session's area is of a version: journals of version 1 have no long runs
+abbrev pub turn_in : (version most : ℕ) → ℕ
+turn_in version most = if nat_le 2 version then most else min most 65535
 
 -- THE PLAN
 
@@ -115,6 +123,7 @@ save v = if nat_lt (room_of v.recovered.journal) (2 * 4099) then Checkpointed el
 -- a commit or a checkpoint makes room for the event
 abbrev pub is_shortage : SubmitFault → Bool
 is_shortage fault.Failed = false
+is_shortage fault.NeedsCheckpoint = false
 is_shortage (fault.Refused OutputFull) = true
 is_shortage (fault.Refused _) = false
 is_shortage fault.BatchFull = true
@@ -133,7 +142,7 @@ plan_for (End ending) c v = if c.is_saved then Ok (Stopped ending) else Ok (save
 
 -- released output goes out first
 abbrev pub plan : Options → Cursor → View → Result Progress DriveFault
-plan o c v = if nat_lt v.recovered.confirmed v.released then Ok Released else plan_for (next o c v.recovered.state.tables) c v
+plan o c v = if nat_lt v.recovered.confirmed v.released then Ok Released else plan_for (next (turn_in (version_of v) o.turn) c v.recovered.state.tables) c v
 
 -- the event's fields are in their ranges
 abbrev pub IsInRangeProgress : Progress → Type 0
@@ -161,6 +170,7 @@ behind_turn (Some lot) h c = record c { turn = min (c.turn + 1) 8; placed = None
 abbrev pub turned : Event → Cursor → Cursor
 turned (Place h t) c = record c { placed = Some h }
 turned (Run h n) c = behind_turn c.lot h c
+turned (RunLong h n) c = behind_turn c.lot h c
 turned (Tick k) c = record c { turn = 0; placed = None; rounds_left = c.rounds_left - 1 }
 turned (event.Input bytes) c = c
 turned event.Eof c = c

@@ -72,7 +72,7 @@ impl Cursor {
             Event::Place(hart, _) => {
                 next.placed = Some(*hart);
             }
-            Event::Run(hart, _) => {
+            Event::Run(hart, _) | Event::RunLong(hart, _) => {
                 next = next.behind_turn(*hart);
             }
             Event::Tick(_) => {

@@ -1,23 +1,32 @@
 //! How a drive goes.
 ghost use Rattle.std.specs.Prelude.{◌≡◌, ◌≤◌, None, Some};
+ghost use Rattle.ckrt_events.specs.declared.event.TheConstants.{LONG_RUN_LIMIT};
+
+use ckrt_events::LONG_RUN_LIMIT;
+
+/// The most steps of a turn where a journal has no long runs.
+const SHORT_TURN: u32 = 65_535;
 
 /// How a drive goes.
 #[derive(Clone, Copy, Debug, PartialEq, Eq)]
 pub struct Options {
-    pub(crate) turn: u16,
+    pub(crate) turn: u32,
     pub(crate) rounds: u32,
     pub(crate) events: u64,
     pub(crate) seed: Option<u64>,
     ghost some_steps: { 1 ≤ turn },
-    ghost few_steps: { turn ≤ 65535 },
+    ghost few_steps: { turn ≤ LONG_RUN_LIMIT },
     ghost some_rounds: { 1 ≤ rounds },
 }
 
 impl Options {
-    /// In each round each hart in turn runs `turn` steps at most; there is a commit after `rounds` rounds; the drive ends
+    ghost use Rattle.ckrt_drive.specs.Plan.{turn_in};
+
+    /// In each round each hart in turn runs `turn` steps at most, 65,535 while the session's area is of version 1; there is a commit after `rounds` rounds; the drive ends
     /// after `events` events.
-    pub fn new(turn: u16, rounds: u32, events: u64) -> Options
+    pub fn new(turn: u32, rounds: u32, events: u64) -> Options
         requires turn { 1 ≤ turn }
+        requires few { turn ≤ LONG_RUN_LIMIT }
         requires rounds { 1 ≤ rounds }
         ensures turn { result.turn ≡ turn }
         ensures rounds { result.rounds ≡ rounds }
@@ -42,6 +51,19 @@ impl Options {
             rounds: self.rounds,
             events: self.events,
             seed: Some(seed),
+        }
+    }
+
+    /// How many steps a turn has at most in a session whose area is of this version.
+    pub(crate) fn turn_in(&self, version: u32) -> u32
+        ensures turn { result ≡ turn_in version self.now.turn }
+        ensures some { 1 ≤ result }
+        ensures few { result ≤ LONG_RUN_LIMIT }
+    {
+        if 2 <= version {
+            self.turn
+        } else {
+            self.turn.min(SHORT_TURN)
         }
     }
 }

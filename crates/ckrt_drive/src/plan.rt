@@ -1,16 +1,17 @@
 //! Which event is next.
 ghost use Rattle.std.specs.Prelude.{◌≡◌, ◌≤◌, ℕ, IfSome, Some};
+ghost use Rattle.ckrt_events.specs.Bytes.{IsInRange};
+ghost use Rattle.ckrt_events.specs.declared.event.TheConstants.{LONG_RUN_LIMIT};
 ghost use Rattle.ckrt_thread.specs.declared.records.Object.TheVariants.{Input};
 ghost use Rattle.ckrt_machine.specs.Plans.{planned};
 ghost use Rattle.ckrt_machine.specs.Runs.{is_running};
-ghost use Rattle.ckrt_drive.specs.Plan.{IsInRangeNext, is_busy, next_busy, sooner, earliest_deadline, ticks_to, idle_until, round_end, turn_of, drawn_hart, hart_by, steps_by, next_running, next};
+ghost use Rattle.ckrt_drive.specs.Plan.{IsInRangeNext, run_by, is_busy, next_busy, sooner, earliest_deadline, ticks_to, idle_until, round_end, turn_of, drawn_hart, hart_by, steps_by, next_running, next};
 
 use crate::cursor::Cursor;
 use crate::lot::Lot;
-use crate::options::Options;
 use crate::progress::Ending;
 use ckrt_calls::{Status, Tables};
-use ckrt_events::Event;
+use ckrt_events::{Event, LONG_RUN_LIMIT};
 use ckrt_machine::Machine;
 use ckrt_thread::{Object, Wait};
 
@@ -133,21 +134,39 @@ fn hart_by(machine: &Machine, cursor: &Cursor) -> Option<u8>
     }
 }
 
-/// How many steps a turn has.
-fn steps_by(options: &Options, cursor: &Cursor) -> u16
-    ensures steps { result ≡ steps_by cursor.now.lot options.now.turn }
-    ensures range { (1 ≤ result) × (result ≤ 65535) }
+/// How many steps a turn has, so many at most.
+fn steps_by(most: u32, cursor: &Cursor) -> u32
+    requires { 1 ≤ most }
+    ensures steps { result ≡ steps_by cursor.now.lot most }
+    ensures range { (1 ≤ result) × (result ≤ most) }
 {
     match cursor.lot {
-        None => options.turn,
-        Some(lot) => (lot.number() / 8 % u32::from(options.turn)) as u16 + 1,
+        None => most,
+        Some(lot) => lot.number() / 8 % most + 1,
     }
 }
 
-/// What is next from a turn on.
-fn turn(machine: &Machine, options: &Options, cursor: &Cursor) -> Next
-    requires { cursor.now.turn ≤ 8 }
-    ensures next { result ≡ turn_of (hart_by cursor.now.lot cursor.now.turn machine.now.state.tables) (steps_by cursor.now.lot options.now.turn) machine.now.state.tables }
+/// A run of so many steps at most, by the shortest event that has as many.
+fn run_by(hart: u8, steps: u32) -> Event
+    requires hart { hart ≤ 7 }
+    requires some { 1 ≤ steps }
+    requires few { steps ≤ LONG_RUN_LIMIT }
+    ensures event { result ≡ run_by hart steps }
+    ensures in_range { IsInRange result }
+{
+    if steps <= 65_535 {
+        Event::Run(hart, steps as u16)
+    } else {
+        Event::RunLong(hart, steps)
+    }
+}
+
+/// What is next from a turn on, with so many steps of a turn at most.
+fn turn(machine: &Machine, most: u32, cursor: &Cursor) -> Next
+    requires turn { cursor.now.turn ≤ 8 }
+    requires some { 1 ≤ most }
+    requires few { most ≤ LONG_RUN_LIMIT }
+    ensures next { result ≡ turn_of (hart_by cursor.now.lot cursor.now.turn machine.now.state.tables) (steps_by cursor.now.lot most) machine.now.state.tables }
     ensures in_range { IsInRangeNext result }
 {
     let Some(hart) = hart_by(machine, cursor) else {
@@ -155,15 +174,17 @@ fn turn(machine: &Machine, options: &Options, cursor: &Cursor) -> Next
     };
     match machine.planned(hart) {
         Some(thread) => Next::Submit(Event::Place(hart, thread)),
-        None => Next::Submit(Event::Run(hart, steps_by(options, cursor))),
+        None => Next::Submit(run_by(hart, steps_by(most, cursor))),
     }
 }
 
-/// What is next: an event, or why there is none.
-pub(crate) fn next_event(machine: &Machine, options: &Options, cursor: &Cursor) -> Next
+/// What is next, with so many steps of a turn at most: an event, or why there is none.
+pub(crate) fn next_event(machine: &Machine, most: u32, cursor: &Cursor) -> Next
+    requires some { 1 ≤ most }
+    requires few { most ≤ LONG_RUN_LIMIT }
     requires turn { cursor.now.turn ≤ 8 }
     requires placed { (hart : ℕ) → cursor.now.placed ≡ Some hart → hart ≤ 7 }
-    ensures next { result ≡ next options.now cursor.now machine.now.state.tables }
+    ensures next { result ≡ next most cursor.now machine.now.state.tables }
     ensures in_range { IsInRangeNext result }
 {
     if !matches!(machine.status(), Status::Running) {
@@ -173,7 +194,7 @@ pub(crate) fn next_event(machine: &Machine, options: &Options, cursor: &Cursor) 
         return Next::End(Ending::Enough);
     }
     match cursor.placed {
-        Some(hart) => Next::Submit(Event::Run(hart, steps_by(options, cursor))),
-        None => turn(machine, options, cursor),
+        Some(hart) => Next::Submit(run_by(hart, steps_by(most, cursor))),
+        None => turn(machine, most, cursor),
     }
 }

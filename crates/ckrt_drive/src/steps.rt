@@ -4,7 +4,7 @@ ghost use Rattle.ckrt_events.specs.Bytes.{IsInRange};
 ghost use Rattle.ckrt_recovery.specs.declared.fault.SubmitFault.{SubmitFault};
 ghost use Rattle.ckrt_recovery.specs.View.{view_of, refusal_of};
 ghost use Rattle.ckrt_drive.specs.declared.progress.Progress.TheVariants.{Committed, Checkpointed, Released};
-ghost use Rattle.ckrt_drive.specs.Plan.{IsInRangeProgress, save, is_shortage, offered, next, plan_for, plan, cursor_after};
+ghost use Rattle.ckrt_drive.specs.Plan.{IsInRangeProgress, save, is_shortage, offered, next, plan_for, plan, cursor_after, turn_in};
 ghost use Rattle.ckrt_drive.specs.Steps.{Advances, IsSound, Steps};
 
 use crate::cursor::Cursor;
@@ -108,10 +108,11 @@ fn go_on<D: Disk>(
     cursor: &Cursor,
 ) -> Result<Progress, DriveFault>
     requires { IsSound cursor.now (view_of session.old) }
-    ensures advances { Advances (plan_for (next options.now cursor.now session.old.progress.machine.state.tables) cursor.now (view_of session.old)) session.old session.new result }
+    ensures advances { Advances (plan_for (next (turn_in session.old.progress.journal.version options.now.turn) cursor.now session.old.progress.machine.state.tables) cursor.now (view_of session.old)) session.old session.new result }
     ensures in_range { IfOk result IsInRangeProgress }
 {
-    match next_event(session.machine(), options, cursor) {
+    let most = options.turn_in(session.version());
+    match next_event(session.machine(), most, cursor) {
         Next::Submit(event) => {
             if cursor.rounds_left == 0 {
                 return save(session);

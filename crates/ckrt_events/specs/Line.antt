@@ -5,7 +5,7 @@ use Rattle.hex.specs.Hex.{decode_of}
 use Rattle.hex.specs.declared.error.FromHexError.{FromHexError}
 use Rattle.ckrt_events.specs.Bytes.{IsInRange}
 use Rattle.ckrt_events.specs.Words.{words_of, number_in}
-use Rattle.ckrt_events.specs.declared.event.Event.TheVariants.{Place, Run, Input, Eof, Tick}
+use Rattle.ckrt_events.specs.declared.event.Event.TheVariants.{Place, Run, Input, Eof, Tick, RunLong}
 use Rattle.ckrt_events.specs.declared.command.Command.{Command}
 use Rattle.ckrt_events.specs.declared.command.Command.TheVariants.{Submit, Auto, Commit, Checkpoint, Quit, Blank}
 use Rattle.ckrt_events.specs.declared.command.LineFault.{LineFault}
@@ -60,24 +60,30 @@ place_of args = do
   t ← number_in 1 64 w.1
   Ok (Submit (Place h t))
 
--- the arguments `h n`
-abbrev pub hart_and_steps_of : List (List ℕ) → Result (ℕ × ℕ) LineFault
-hart_and_steps_of args = do
+-- the arguments `h n`, with so many steps at most
+abbrev pub hart_and_steps_of : ℕ → List (List ℕ) → Result (ℕ × ℕ) LineFault
+hart_and_steps_of most args = do
   w ← two_of args
   h ← number_in 0 7 w.0
-  n ← number_in 1 65535 w.1
+  n ← number_in 1 most w.1
   Ok (h, n)
 
 -- `run h n`
 abbrev pub run_of : List (List ℕ) → Result Command LineFault
 run_of args = do
-  s ← hart_and_steps_of args
+  s ← hart_and_steps_of 65535 args
   Ok (Submit (Run s.0 s.1))
+
+-- `runlong h n`
+abbrev pub run_long_of : List (List ℕ) → Result Command LineFault
+run_long_of args = do
+  s ← hart_and_steps_of 1000000 args
+  Ok (Submit (RunLong s.0 s.1))
 
 -- `auto h n`
 abbrev pub auto_of : List (List ℕ) → Result Command LineFault
 auto_of args = do
-  s ← hart_and_steps_of args
+  s ← hart_and_steps_of 65535 args
   Ok (Auto s.0 s.1)
 
 -- `tick k`
@@ -104,6 +110,7 @@ abbrev pub named_command : List ℕ → List (List ℕ) → Result Command LineF
 named_command name args =
     if bytes_eq name (codes "place") then place_of args
     else if bytes_eq name (codes "run") then run_of args
+    else if bytes_eq name (codes "runlong") then run_long_of args
     else if bytes_eq name (codes "in") then input_of args
     else if bytes_eq name (codes "eof") then bare_of (Submit Eof) args
     else if bytes_eq name (codes "tick") then tick_of args

@@ -1,9 +1,9 @@
 ghost use Rattle.std.specs.Prelude.{◌≡◌, ◌≤◌, length, IfOk, MatchResult, Ok, Err};
 ghost use Rattle.ckrt_events.specs.Words.{words_of};
-ghost use Rattle.ckrt_events.specs.Line.{IsInRangeCommand, command_of, named_command, bare_of, one_of, two_of, hart_and_steps_of, place_of, run_of, tick_of, auto_of, input_of};
+ghost use Rattle.ckrt_events.specs.Line.{IsInRangeCommand, command_of, named_command, bare_of, one_of, two_of, hart_and_steps_of, place_of, run_of, run_long_of, tick_of, auto_of, input_of};
 
 use crate::command::{Command, LineFault};
-use crate::event::Event;
+use crate::event::{Event, LONG_RUN_LIMIT};
 use crate::words::{next_word, number};
 use arrayvec::ArrayVec;
 
@@ -34,6 +34,8 @@ fn command_named(name: &[u8], args: &[u8]) -> Result<Command, LineFault>
         place(args)
     } else if name == b"run".as_slice() {
         run(args)
+    } else if name == b"runlong".as_slice() {
+        run_long(args)
     } else if name == b"in".as_slice() {
         input(args)
     } else if name == b"eof".as_slice() {
@@ -86,14 +88,14 @@ fn two_words(args: &[u8]) -> Result<(&[u8], &[u8]), LineFault>
     Ok((first, only_word(rest)?))
 }
 
-/// The arguments `h n`: a hart and a number of steps.
-fn hart_and_steps(args: &[u8]) -> Result<(u8, u16), LineFault>
-    ensures value { result ≡ hart_and_steps_of (words_of args.now) }
-    ensures in_range { IfOk result (λ s. (s.0 ≤ 7) × (1 ≤ s.1) × (s.1 ≤ 65535)) }
+/// The arguments `h n`: a hart and a number of steps, so many at most.
+fn hart_and_steps(args: &[u8], most: u32) -> Result<(u8, u32), LineFault>
+    ensures value { result ≡ hart_and_steps_of most (words_of args.now) }
+    ensures in_range { IfOk result (λ s. (s.0 ≤ 7) × (1 ≤ s.1) × (s.1 ≤ most)) }
 {
     let (hart, steps) = two_words(args)?;
     let hart = number(hart, 0, 7)? as u8;
-    let steps = number(steps, 1, 65_535)? as u16;
+    let steps = number(steps, 1, most)?;
     Ok((hart, steps))
 }
 
@@ -111,16 +113,24 @@ fn run(args: &[u8]) -> Result<Command, LineFault>
     ensures value { result ≡ run_of (words_of args.now) }
     ensures in_range { IfOk result IsInRangeCommand }
 {
-    let (hart, steps) = hart_and_steps(args)?;
-    Ok(Command::Submit(Event::Run(hart, steps)))
+    let (hart, steps) = hart_and_steps(args, 65_535)?;
+    Ok(Command::Submit(Event::Run(hart, steps as u16)))
+}
+
+fn run_long(args: &[u8]) -> Result<Command, LineFault>
+    ensures value { result ≡ run_long_of (words_of args.now) }
+    ensures in_range { IfOk result IsInRangeCommand }
+{
+    let (hart, steps) = hart_and_steps(args, LONG_RUN_LIMIT)?;
+    Ok(Command::Submit(Event::RunLong(hart, steps)))
 }
 
 fn auto(args: &[u8]) -> Result<Command, LineFault>
     ensures value { result ≡ auto_of (words_of args.now) }
     ensures in_range { IfOk result IsInRangeCommand }
 {
-    let (hart, steps) = hart_and_steps(args)?;
-    Ok(Command::Auto(hart, steps))
+    let (hart, steps) = hart_and_steps(args, 65_535)?;
+    Ok(Command::Auto(hart, steps as u16))
 }
 
 fn tick(args: &[u8]) -> Result<Command, LineFault>

@@ -14,7 +14,7 @@ use Rattle.ckrt_tables.specs.Fresh.{fresh_bytes, IsFreshEncoding}
 use Rattle.ckrt_tables.proofs.AllFit.{fresh_savable}
 use Rattle.ckrt_checkpoint.specs.declared.config.Config.{Config}
 use Rattle.ckrt_checkpoint.specs.Fields.{HasBytes, header_fields}
-use Rattle.ckrt_checkpoint.specs.Layout.{is_valid, is_open, memory_size, size_needed, area_at, tables_at, memory_at, journal_of, number_at}
+use Rattle.ckrt_checkpoint.specs.Layout.{is_valid, is_open, memory_size, size_needed, area_at, tables_at, memory_at, journal_at, number_at}
 use Rattle.ckrt_checkpoint.proofs.ByteLemmas.{stays, number_is, byte_is}
 use Rattle.ckrt_checkpoint.proofs.HoldLemmas.{header_gate, header_stands}
 use Rattle.ckrt_image.specs.declared.fault.RecoverFault.TheVariants.{NotFormatted, Damaged}
@@ -68,22 +68,22 @@ area_stays c memory old at bytes new pages size holds room apart has = record {
     away place n from within = elim apart [ inl below ↦ inr (omega arith) | inr above ↦ inl (omega arith) ]
 
 pub is_fresh : (c : Config) (memory c₀ c₁ c₂ c₃ : List ℕ) → 1 ≤ c.pages → 1 ≤ c.journal → size_needed c ≤ length c₀ → length memory ≡ memory_size c
-    → IsOverwritten c₀ (journal_of c 0).at (0 ∷ []) c₁ → IsOverwritten c₁ (area_at c 1) (0 ∷ []) c₂ → IsOverwritten c₂ 8 (superblock_fields c) c₃
+    → IsOverwritten c₀ (journal_at c 0) (0 ∷ []) c₁ → IsOverwritten c₁ (area_at c 1) (0 ∷ []) c₂ → IsOverwritten c₂ 8 (superblock_fields c) c₃
     → HasFreshArea c memory c₀ → IsFresh c memory c₃
 is_fresh c memory c₀ c₁ c₂ c₃ pages journal room size w₁ w₂ w₃ has =
     let fields : length (superblock_fields c) ≡ 24 = refl in
-    let r₁ : (journal_of c 0).at + 1 ≤ length c₀ = omega arith in
-    let l₁ : length c₁ ≡ length c₀ = written_size c₀ (journal_of c 0).at (0 ∷ []) c₁ w₁ r₁ in
+    let r₁ : journal_at c 0 + 1 ≤ length c₀ = omega arith in
+    let l₁ : length c₁ ≡ length c₀ = written_size c₀ (journal_at c 0) (0 ∷ []) c₁ w₁ r₁ in
     let r₂ : area_at c 1 + 1 ≤ length c₁ = omega arith in
     let l₂ : length c₂ ≡ length c₁ = written_size c₁ (area_at c 1) (0 ∷ []) c₂ w₂ r₂ in
     let r₃ : 8 + 24 ≤ length c₂ = omega arith in
     record {
       area = area_stays c memory c₂ 8 (superblock_fields c) c₃ pages size w₃ r₃ (inl (omega arith))
           (area_stays c memory c₁ (area_at c 1) (0 ∷ []) c₂ pages size w₂ r₂ (inr (omega arith))
-          (area_stays c memory c₀ (journal_of c 0).at (0 ∷ []) c₁ pages size w₁ r₁ (inr (omega arith)) has));
-      journal = stays c₂ 8 (superblock_fields c) c₃ w₃ r₃ (journal_of c 0).at (0 ∷ []) (inr (omega arith))
-          (stays c₁ (area_at c 1) (0 ∷ []) c₂ w₂ r₂ (journal_of c 0).at (0 ∷ []) (inr (omega arith))
-          (written_there c₀ (journal_of c 0).at (0 ∷ []) c₁ w₁ r₁));
+          (area_stays c memory c₀ (journal_at c 0) (0 ∷ []) c₁ pages size w₁ r₁ (inr (omega arith)) has));
+      journal = stays c₂ 8 (superblock_fields c) c₃ w₃ r₃ (journal_at c 0) (0 ∷ []) (inr (omega arith))
+          (stays c₁ (area_at c 1) (0 ∷ []) c₂ w₂ r₂ (journal_at c 0) (0 ∷ []) (inr (omega arith))
+          (written_there c₀ (journal_at c 0) (0 ∷ []) c₁ w₁ r₁));
       other_area = stays c₂ 8 (superblock_fields c) c₃ w₃ r₃ (area_at c 1) (0 ∷ []) (inr (omega arith))
           (written_there c₁ (area_at c 1) (0 ∷ []) c₂ w₂ r₂);
       superblock = written_there c₂ 8 (superblock_fields c) c₃ w₃ r₃;
@@ -163,7 +163,7 @@ module _ (c : Config) (guest image : List ℕ) (valid : is_valid c ≡ true) (gu
         savable = fresh_savable c.pages c.harts (few c valid).0 (few c valid).1;
         tables = fresh.area.tables ∙ sym (encoded c.pages c.harts);
         pages = ap (λ n. take n (drop (memory_at c 0) image)) (sym size) ∙ fresh.area.pages;
-        no_batch = ap (λ x. nat_eq x 165) (byte_is image (journal_of c 0).at c.journal 0 (some_pages c valid).1 fresh.journal);
+        no_batch = ap (λ x. nat_eq x 165) (byte_is image (journal_at c 0) c.journal 0 (some_pages c valid).1 fresh.journal);
       }
 
   pub fresh_recovers : IsFormatted c guest image
@@ -181,7 +181,7 @@ fresh_moves c memory content image size same fresh = record {
     tables = moves (tables_at c 0) (fresh_bytes c.pages) (omega arith) fresh.area.tables;
     pages = moves (memory_at c 0) memory (omega arith) fresh.area.pages;
   };
-  journal = moves (journal_of c 0).at (0 ∷ []) (omega arith) fresh.journal;
+  journal = moves (journal_at c 0) (0 ∷ []) (omega arith) fresh.journal;
   other_area = moves (area_at c 1) (0 ∷ []) (omega arith) fresh.other_area;
   superblock = moves 8 (superblock_fields c) (omega arith) fresh.superblock;
 }
@@ -217,15 +217,15 @@ module _ (c : Config) (guest content : List ℕ) (valid : is_valid c ≡ true) (
 -- WHERE IT WRITES
 
 module _ {D : Type 0} (d : Ghosts D) (c : Config) where
-  lies_behind : (at n : ℕ) → 1 ≤ at → at + n ≤ (journal_of c 1).at → (i : ℕ) → IsWithin at n i → FormatsBehindGate c i
+  lies_behind : (at n : ℕ) → 1 ≤ at → at + n ≤ journal_at c 1 → (i : ℕ) → IsWithin at n i → FormatsBehindGate c i
   lies_behind at n behind below i w = (omega (arith, w.0), (omega (arith, w.1), λ v. omega (arith, w.1, v.0)))
 
   -- the first of some writes
-  pub first_part : (at n : ℕ) (old new : D) (failed : Bool) → 1 ≤ at → at + n ≤ (journal_of c 1).at → WritesWithin d (IsWithin at n) 1 old new failed → WritesWithin d (FormatsBehindGate c) 1 old new failed
+  pub first_part : (at n : ℕ) (old new : D) (failed : Bool) → 1 ≤ at → at + n ≤ journal_at c 1 → WritesWithin d (IsWithin at n) 1 old new failed → WritesWithin d (FormatsBehindGate c) 1 old new failed
   first_part at n old new failed behind below = wider d (IsWithin at n) (FormatsBehindGate c) 1 old new failed (lies_behind at n behind below)
 
   -- one more
-  pub next_part : (m at n : ℕ) (old mid new : D) (failed : Bool) → 1 ≤ at → at + n ≤ (journal_of c 1).at → WritesWithin d (FormatsBehindGate c) m old mid false → WritesWithin d (IsWithin at n) 1 mid new failed → WritesWithin d (FormatsBehindGate c) (m + 1) old new failed
+  pub next_part : (m at n : ℕ) (old mid new : D) (failed : Bool) → 1 ≤ at → at + n ≤ journal_at c 1 → WritesWithin d (FormatsBehindGate c) m old mid false → WritesWithin d (IsWithin at n) 1 mid new failed → WritesWithin d (FormatsBehindGate c) (m + 1) old new failed
   next_part m at n old mid new failed behind below = writes_on_within d (FormatsBehindGate c) (IsWithin at n) m 1 old mid new failed (lies_behind at n behind below)
 
   -- the look at the first gate, and then the writes behind it

@@ -159,7 +159,7 @@ module _ (p : Progress) (tables content image : List ℕ) (r : Recovered) (was :
           savable = savable;
           tables = holds_tables p.config (1 - p.area) h tables p.machine.state.bytes image has.holds area refl refl ∙ encoded;
           pages = holds_memory p.config (1 - p.area) h tables p.machine.state.bytes image has.holds some_pages p.memory;
-          no_batch = closed_journal p.config (1 - p.area) image some_journal has.no_batch;
+          no_batch = closed_journal p.config (1 - p.area) 2 image some_journal has.no_batch;
         }
 
     pub saved_recovers : Recovers image (Ok (in_other_area (recovered_of p)))

@@ -15,8 +15,8 @@ use Rattle.ckrt_image.proofs.ReplayLemmas.{replayed-none}
 -- THE NEWEST AREA
 
 -- a gate that isn't open ends the chain
-no_batch : (rest : List ℕ) → is_open rest ≡ false → batches_of rest ≡ Ok []
-no_batch rest shut = chain_more rest ∙ ap (λ r. found_then r (λ batch. batches_of (drop (3 + length batch) rest))) (ap (λ b. cond b (batch_of_length (little_number 2 (take 2 (drop 1 rest))) rest) (Ok None)) shut)
+no_batch : (version : ℕ) (rest : List ℕ) → is_open rest ≡ false → batches_of version rest ≡ Ok []
+no_batch version rest shut = chain_more version rest ∙ ap (λ r. found_then r (λ batch. batches_of version (drop (3 + length batch) rest))) (ap (λ b. cond b (batch_of_length version (little_number 2 (take 2 (drop 1 rest))) rest) (Ok None)) shut)
 
 pub index_is : (n : ℕ) → n ≤ 1 → (n ≡ 0) ⊎ (n ≡ 1)
 index_is n le = elim (cases_lt n 1) [ inl lt ↦ inl (omega arith) | inr past ↦ inr (omega arith) ]
@@ -25,5 +25,5 @@ pub switched : IsSwitched
 switched c area memory s image superblock holds newest =
     let is = used_by c area image superblock (picked_newest c image area (index_is area.index holds.index) holds.header holds.opened newest holds.checked) in
     let begun : Recovered = unreplayed c area (memory_of c area.index image) s in
-    let no_events : replayed_journal image begun ≡ ok begun = ap (λ t. replayed_batches begun t) (no_batch (journal_bytes (journal_of c area.index) image) holds.no_batch) ∙ replayed-none begun holds.savable.is_held in
+    let no_events : replayed_journal image begun ≡ ok begun = ap (λ t. replayed_batches begun t) (no_batch area.header.version (journal_bytes (journal_of c area.index area.header.version) image) holds.no_batch) ∙ replayed-none begun holds.savable.is_held in
     subst (Recovers image) (no_events ∙ ap (λ (m : List ℕ). ok (unreplayed c area m s)) holds.pages) (from_state image c area s is (record { savable = holds.savable; encoded = holds.tables }) holds.end)

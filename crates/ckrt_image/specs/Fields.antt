@@ -6,7 +6,7 @@ use Rattle.ckrt_checkpoint.specs.declared.config.Config.{Config}
 use Rattle.ckrt_checkpoint.specs.declared.header.Header.{Header}
 use Rattle.ckrt_checkpoint.specs.declared.layout.TheConstants.{CLOSED, OPEN}
 use Rattle.ckrt_checkpoint.specs.Fields.{HasBytes, header_fields}
-use Rattle.ckrt_checkpoint.specs.Layout.{memory_size, area_at, tables_at, memory_at, journal_of}
+use Rattle.ckrt_checkpoint.specs.Layout.{memory_size, area_at, tables_at, memory_at, journal_at}
 use Rattle.ckrt_image.specs.declared.fresh.TheConstants.{FRESH_TABLES_SIZE}
 use Rattle.ckrt_image.specs.Superblock.{superblock_fields}
 
@@ -28,7 +28,7 @@ pub record HasFreshArea (c : Config) (memory content : List ℕ) : Type 0 where
 -- all that a freshly formatted disk has beside its first gate
 pub record IsFresh (c : Config) (memory content : List ℕ) : Type 0 where
   pub area : HasFreshArea c memory content
-  pub journal : HasBytes content (journal_of c 0).at (CLOSED ∷ [])
+  pub journal : HasBytes content (journal_at c 0) (CLOSED ∷ [])
   pub other_area : HasBytes content (area_at c 1) (CLOSED ∷ [])
   pub superblock : HasBytes content 8 (superblock_fields c)
 

@@ -7,7 +7,7 @@ use Rattle.ckrt_checkpoint.specs.declared.config.Config.{Config}
 use Rattle.ckrt_image.specs.declared.fault.FormatFault.{FormatFault}
 use Rattle.ckrt_image.specs.declared.fault.FormatFault.TheVariants.{AlreadyFormatted, TooSmall, BadConfig, ImageTooLong, Device, OutOfMemory}
 use Rattle.ckrt_image.specs.declared.fault.RecoverFault.TheVariants.{NotFormatted}
-use Rattle.ckrt_checkpoint.specs.Layout.{is_valid, memory_size, size_needed, journal_of, is_open}
+use Rattle.ckrt_checkpoint.specs.Layout.{is_valid, memory_size, size_needed, journal_at, is_open}
 use Rattle.ckrt_image.specs.Recovery.{Recovers}
 use Rattle.ckrt_image.specs.Programs.{RecoversToStart, formatted_program}
 
@@ -38,7 +38,7 @@ IsFormatting c guest d disk image = MayBeLeft d disk image ⊎ Recovers image (E
 
 -- where formatting writes: neither in journal 1 nor behind the size that the configuration needs
 abbrev pub FormatsAt : Config → ℕ → Type 0
-FormatsAt c i = (i < size_needed c) × ¬ IsWithin (journal_of c 1).at (journal_of c 1).size i
+FormatsAt c i = (i < size_needed c) × ¬ IsWithin (journal_at c 1) c.journal i
 
 -- and behind the first gate
 abbrev pub FormatsBehindGate : Config → ℕ → Type 0

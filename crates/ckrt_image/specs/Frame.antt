@@ -3,19 +3,20 @@ use Rattle.std.specs.Prelude.{◌≡◌, ◌≤◌, ◌<◌, ◌+◌, ◌-◌, �
 use Rattle.ckrt_disk.specs.Disk.{IsWithin}
 use Rattle.ckrt_disk.specs.Frame.{IsSameOutside}
 use Rattle.ckrt_journal.specs.Chain.{journal_bytes}
+use Rattle.ckrt_tables.specs.declared.encoding.TheConstants.{VERSION}
 use Rattle.ckrt_tables.specs.Decoding.{Saved}
 use Rattle.ckrt_tables.specs.Encoding.{encoding_of}
 use Rattle.ckrt_tables.specs.Savable.{CanBeSaved}
 use Rattle.ckrt_checkpoint.specs.declared.area.Area.{Area}
 use Rattle.ckrt_checkpoint.specs.declared.config.Config.{Config}
 use Rattle.ckrt_checkpoint.specs.Areas.{checked_area}
-use Rattle.ckrt_checkpoint.specs.Layout.{area_at, area_size, header_of, is_open, journal_of, memory_of, tables_of}
+use Rattle.ckrt_checkpoint.specs.Layout.{area_at, area_size, header_of, is_open, journal_at, journal_of, memory_of, tables_of}
 use Rattle.ckrt_image.specs.Superblock.{superblock_of}
 use Rattle.ckrt_image.specs.Recovery.{Recovered, Recovers, is_end_in_range, unreplayed}
 
 -- the bytes of an area and of its journal
 abbrev pub BelongsTo : Config → ℕ → ℕ → Type 0
-BelongsTo c area i = IsWithin (area_at c area) (area_size c) i ⊎ IsWithin (journal_of c area).at (journal_of c area).size i
+BelongsTo c area i = IsWithin (area_at c area) (area_size c) i ⊎ IsWithin (journal_at c area) c.journal i
 
 -- Frame: the bytes of the area that isn't in use, and of its journal, don't matter where its gate isn't open.
 abbrev pub IsFramed : Type 0
@@ -36,7 +37,7 @@ pub record HoldsState (c : Config) (area : Area) (memory : List ℕ) (s : Saved)
   -- its pages are the memory
   pub pages : memory_of c area.index image ≡ memory
   -- the first gate of its journal isn't open
-  pub no_batch : is_open (journal_bytes (journal_of c area.index) image) ≡ false
+  pub no_batch : is_open (journal_bytes (journal_of c area.index area.header.version) image) ≡ false
 
 -- the other area isn't open, or it is of a lower generation
 abbrev pub IsNewest : Config → Area → List ℕ → Type 0
@@ -49,6 +50,6 @@ IsSwitched = (c : Config) (area : Area) (memory : List ℕ) (s : Saved) (image :
 
 -- CHECKPOINTS
 
--- what was recovered, in the other area, of one generation more, and no event is journaled behind it
+-- what was recovered, in the other area, of one generation more and the latest version, and no event is journaled behind it
 abbrev pub in_other_area : Recovered → Recovered
-in_other_area r = record r { area = 1 - r.area; generation = r.generation + 1; journal = journal_of r.config (1 - r.area) }
+in_other_area r = record r { area = 1 - r.area; generation = r.generation + 1; journal = journal_of r.config (1 - r.area) VERSION }

@@ -121,7 +121,7 @@ fn write_blocks<D: Disk>(disk: &mut D, config: &Config) -> Result<(), DeviceFaul
     ensures written { OnOk result (D.is_honest disk.new → BecomesFresh config.now (D.content disk.old) (D.content disk.new)) }
 {
     let superblock = superblock_fields(config);
-    write_part(disk, config.journal_of(0).at, &[CLOSED])?;
+    write_part(disk, config.journal_at(0), &[CLOSED])?;
     write_part(disk, config.area_at(1), &[CLOSED])?;
     write_part(disk, FIELDS_AT, superblock.as_slice())
 }

@@ -43,9 +43,9 @@ is_target None from = true
 is_target (Some path) None = true
 is_target (Some path) (Some from) = false
 
--- a turn has 1 to 65,535 steps, and there is a round or more between two commits
+-- a turn has 1 to 1,000,000 steps, and there is a round or more between two commits
 abbrev pub is_in_range : Driving → Bool
-is_in_range j = nat_lt 0 j.turn && (nat_le j.turn 65535 && (nat_lt 0 j.rounds && (is_interval j.progress && is_target j.output j.from)))
+is_in_range j = nat_lt 0 j.turn && (nat_le j.turn 1000000 && (nat_lt 0 j.rounds && (is_interval j.progress && is_target j.output j.from)))
 
 -- below which offset output is left out
 abbrev pub offset_of : Option ℕ → ℕ

@@ -129,7 +129,7 @@ advice_of (job.Format f) = advice_of_format f
 advice_of (job.Recover f) = advice_of_recover f
 advice_of (job.Serve f) = advice_of_serve f
 advice_of (job.Inspect f) = advice_of_look f
-advice_of job.Range = codes "--turn is 1 to 65535, --rounds-per-commit and --progress 1 or more, and --from goes without --output"
+advice_of job.Range = codes "--turn is 1 to 1000000, --rounds-per-commit and --progress 1 or more, and --from goes without --output"
 advice_of (job.Drive f) = advice_of_drive f
 
 -- the path of an output, or what stands for it where it is printed

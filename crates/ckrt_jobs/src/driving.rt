@@ -12,13 +12,11 @@ use crate::sources::Sources;
 use ckrt_calls::Status;
 use ckrt_disk::Disk;
 use ckrt_drive::{Drive, DriveFault, Ending, Options, StreamOutput};
+use ckrt_events::LONG_RUN_LIMIT;
 use ckrt_recovery::{Session, recover};
 use ckrt_words::DriveJob;
 use std::alloc::Global;
 use std::io::{Read, Write};
-
-/// The longest turn, in steps.
-const LONGEST_TURN: u32 = 65_535;
 
 /// A session and its output behind a drive, and what it came to.
 #[derive(Drop)]
@@ -40,7 +38,7 @@ fn is_in_range(job: &DriveJob<'_>) -> bool
     ensures { result ≡ is_in_range (driving_of job.now) }
 {
     job.turn > 0
-        && job.turn <= LONGEST_TURN
+        && job.turn <= LONG_RUN_LIMIT
         && job.rounds > 0
         && job.progress != Some(0)
         && is_target(job.output, job.from)
@@ -51,7 +49,7 @@ fn options_of(job: &DriveJob<'_>) -> Options
     requires { is_in_range (driving_of job.now) ≡ true }
     ensures { IsAsked (driving_of job.now) result }
 {
-    let options = Options::new(job.turn as u16, job.rounds, job.events.unwrap_or(u64::MAX));
+    let options = Options::new(job.turn, job.rounds, job.events.unwrap_or(u64::MAX));
     match job.seed {
         Some(seed) => options.with_seed(seed),
         None => options,

@@ -143,7 +143,7 @@ fn drive_name(fault: DriveFault) -> &'static str
 
 /// What is said of numbers of a drive that are out of their ranges.
 const RANGE_ADVICE: &str =
-    "--turn is 1 to 65535, --rounds-per-commit and --progress 1 or more, and --from goes without --output";
+    "--turn is 1 to 1000000, --rounds-per-commit and --progress 1 or more, and --from goes without --output";
 
 /// The file that a fault of a drive is of.
 fn drive_file(fault: DriveFault) -> JobFile

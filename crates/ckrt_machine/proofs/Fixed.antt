@@ -62,7 +62,7 @@ use Rattle.ckrt_calls.specs.declared.number.KeyCall.TheVariants as key_call
 use Rattle.ckrt_calls.specs.declared.table.Tables.{Tables}
 use Rattle.ckrt_calls.specs.Table as calls
 use Rattle.ckrt_events.specs.declared.event.Event.{Event}
-use Rattle.ckrt_events.specs.declared.event.Event.TheVariants.{Place, Run, Input, Eof, Tick}
+use Rattle.ckrt_events.specs.declared.event.Event.TheVariants.{Place, Run, Input, Eof, Tick, RunLong}
 use Rattle.ckrt_machine.specs.declared.event.How.{How}
 use Rattle.ckrt_machine.specs.Events.{fold, step}
 use Rattle.ckrt_machine.specs.Runs.{Ran, run_on, stopped}
@@ -496,6 +496,7 @@ same_all_timed_out (w ∷ ws) s = same_all_timed_out ws _ ∙ same_timed_out w.r
 same_fixed : (e : Event) (s : State) → fixed (step e s).state.tables.threads ≡ fixed s.tables.threads
 same_fixed (Place h t) s = refl
 same_fixed (Run h n) s = same_run n h s []
+same_fixed (RunLong h n) s = same_run n h s []
 same_fixed (Input bytes) s = same_feed (s.tables.input ++ bytes.items) s.tables.threads
 same_fixed Eof s = same_all_woken calls.END_OF_INPUT (queue_of object.Input s.tables.threads) s.tables.threads
 same_fixed (Tick k) s = same_all_timed_out (due_waits (s.tables.clock + k) s.tables.threads.waits) s.tables

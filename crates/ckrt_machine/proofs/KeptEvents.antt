@@ -1,5 +1,5 @@
 -- Each event that is accepted keeps the tables well-formed, and so does each list of them.
-use Rattle.std.proofs.Common.{◌≡◌, ℕ, ◌+◌, ◌*◌, ◌^◌, ◌<◌, ◌≤◌, nat_le, nat_lt, not, cond, List, [], ◌∷◌, length, Bool, true, false, is_none, Option, Some, None, arith, refl}
+use Rattle.std.proofs.Common.{◌≡◌, ℕ, ◌+◌, ◌^◌, ◌<◌, ◌≤◌, nat_le, nat_lt, not, cond, List, [], ◌∷◌, length, Bool, true, false, is_none, Option, Some, None, arith, refl}
 use Rattle.std.proofs.lemmas.Bool.Decides.{nat_tests}
 use Rattle.ckrt_thread.specs.State as threads
 use Rattle.ckrt_thread.specs.Granting.{has_admissible_waiter}
@@ -11,19 +11,19 @@ use Rattle.ckrt_rwlock.specs.Rows.{rwlock_rule}
 use Rattle.ckrt_barrier.proofs.WellFormed as barriers
 use Rattle.ckrt_rwlock.proofs.WellFormed as locks
 use Rattle.ckrt_calls.specs.declared.table.Tables.{Tables}
-use Rattle.ckrt_calls.specs.Table as calls
 use Rattle.ckrt_calls.specs.WellFormed.{IsWellFormed}
+use Rattle.ckrt_calls.proofs.Beginnings.{well_formed_fresh, well_formed_keys_off}
 use Rattle.ckrt_calls.proofs.MutexRows.{wait_rule, condition_rule}
 use Rattle.ckrt_calls.proofs.Readers.{well_formed_input, well_formed_closed}
 use Rattle.ckrt_calls.proofs.Ticks.{well_formed_ticked}
 use Rattle.ckrt_events.specs.declared.event.Event.{Event}
-use Rattle.ckrt_events.specs.declared.event.Event.TheVariants.{Place, Run, Input, Eof, Tick}
+use Rattle.ckrt_events.specs.declared.event.Event.TheVariants.{Place, Run, Input, Eof, Tick, RunLong}
 use Rattle.ckrt_machine.specs.declared.event.Refusal.{Refusal}
 use Rattle.ckrt_machine.specs.declared.event.Refusal.TheVariants.{Ended, NoSuchHart, NoSuchThread, NotReady, InputClosed, InputFull, ClockEnd}
 use Rattle.ckrt_machine.specs.Steps.{State}
 use Rattle.ckrt_machine.specs.Runs.{is_running}
 use Rattle.ckrt_machine.specs.Refusals.{running_refusal, refusal_in, refusal_of}
-use Rattle.ckrt_machine.specs.Events.{fresh, step, fold, reached, AllAccepted}
+use Rattle.ckrt_machine.specs.Events.{fresh, with_keys_off, step, fold, reached, AllAccepted}
 use Rattle.ckrt_machine.proofs.KeptSteps.{running_is, well_formed_run}
 use Rattle.ckrt_machine.proofs.WellFormedImplies.{no_admissible_waiter}
 
@@ -83,6 +83,7 @@ kept_place h t s l r w =
 kept_event : (e : Event) (s : State) → is_running s.tables.status ≡ true → running_refusal 0 e s.tables ≡ None → IsWellFormed s.tables → IsWellFormed (step e s).state.tables
 kept_event (Place h t) s r a w = (let m = may_place h t s.tables a in kept_place h t s.tables m.0 m.1 w)
 kept_event (Run h n) s r a w = well_formed_run n h s [] (running_is s.tables.status r) w
+kept_event (RunLong h n) s r a w = well_formed_run n h s [] (running_is s.tables.status r) w
 kept_event (Input bytes) s r a w = well_formed_input bytes.items s.tables (has_room (length bytes.items) s.tables a) w
 kept_event Eof s r a w = well_formed_closed s.tables w
 kept_event (Tick k) s r a w = well_formed_ticked k s.tables (has_time k s.tables a) w
@@ -90,44 +91,37 @@ kept_event (Tick k) s r a w = well_formed_ticked k s.tables (has_time k s.tables
 pub well_formed_step : (e : Event) (s : State) → refusal_of 0 e s ≡ None → IsWellFormed s.tables → IsWellFormed (step e s).state.tables
 well_formed_step e s a w = (let b = runs e s.tables a in kept_event e s b.0 b.1 w)
 
-pub well_formed_fold : (es : List Event) (s : State) → AllAccepted es s → IsWellFormed s.tables → IsWellFormed (fold es s).state.tables
-well_formed_fold [] s a w = w
-well_formed_fold (e ∷ es) s a w = well_formed_fold es (step e s).state a.1 (well_formed_step e s a.0.accepted w)
+-- EVERY LIST OF EVENTS, FROM ANY START
 
--- THE BEGINNING
+pub well_formed_fold : (es : List Event) (s : State) → IsWellFormed s.tables → AllAccepted es s → IsWellFormed (fold es s).state.tables
+well_formed_fold [] s w a = w
+well_formed_fold (e ∷ es) s w a = well_formed_fold es (step e s).state (well_formed_step e s a.0.accepted w) a.1
 
-well_formed_fresh : (pages harts : ℕ) → harts ≤ 8 → IsWellFormed (calls.fresh pages harts)
-well_formed_fresh pages harts l = record {
-  threads = changes.well_formed_fresh (4096 * pages) harts l;
-  mutexes = record {
-    table = record { rising = refl; canonical = refl; proper = refl };
-    at_most_256_in_use = omega arith;
-    nobody_waits_at_a_free_mutex = refl;
-    only_a_normal_mutex_waits_for_its_owner = refl;
-    nobody_retakes_its_own_mutex = refl;
-    condition_waiters_can_retake = refl;
-  };
-  conditions = record { one_mutex = λ c a b d e. absurd (cc) };
-  barriers = barriers.well_formed_empty (threads.fresh (4096 * pages) harts) refl;
-  rwlocks = locks.well_formed_unheld (threads.fresh (4096 * pages) harts) refl;
-  running = λ e. refl;
-  deadlines = λ e. refl;
-  readers = refl;
-  clock = omega arith;
-  input = omega arith;
-  fault = λ t pc c e. absurd (cc);
-  fault_pc = λ t pc c e. absurd (cc);
-}
+pub no_mutex_waiter_after : (es : List Event) (s : State) (a : ℕ) → IsWellFormed s.tables → AllAccepted es s
+    → has_admissible_waiter (mutex_rule a) (mutex_at a (fold es s).state.tables.mutexes, (fold es s).state.tables.threads) ≡ false
+no_mutex_waiter_after es s a w x = no_admissible_waiter (fold es s).state.tables a (well_formed_fold es s w x)
 
--- EVERY LIST OF EVENTS
+pub no_lock_waiter_after : (es : List Event) (s : State) (a : ℕ) → IsWellFormed s.tables → AllAccepted es s
+    → has_admissible_waiter (rwlock_rule a) (lock_at a (fold es s).state.tables.rwlocks, (fold es s).state.tables.threads) ≡ false
+no_lock_waiter_after es s a w x = (let after = well_formed_fold es s w x in after.rwlocks.no_first_waiter_is_admissible a)
+
+-- EVERY PROGRAM'S START
+
+pub starts : (pages harts : ℕ) (image : List ℕ) → harts ≤ 8 → IsWellFormed (fresh pages harts image).tables
+starts pages harts image l = well_formed_fresh pages harts l
+
+pub starts_keys_off : (pages harts : ℕ) (image : List ℕ) → harts ≤ 8 → IsWellFormed (with_keys_off (fresh pages harts image)).tables
+starts_keys_off pages harts image l = well_formed_keys_off pages harts l
+
+-- EVERY LIST OF EVENTS, FROM A START WHERE KEYS ARE ON
 
 pub well_formed_reached : (pages harts : ℕ) (image : List ℕ) (es : List Event) → harts ≤ 8 → AllAccepted es (fresh pages harts image) → IsWellFormed (reached pages harts image es).tables
-well_formed_reached pages harts image es l a = well_formed_fold es (fresh pages harts image) a (well_formed_fresh pages harts l)
+well_formed_reached pages harts image es l a = well_formed_fold es (fresh pages harts image) (well_formed_fresh pages harts l) a
 
 pub no_mutex_waiter : (pages harts : ℕ) (image : List ℕ) (es : List Event) (a : ℕ) → harts ≤ 8 → AllAccepted es (fresh pages harts image)
     → has_admissible_waiter (mutex_rule a) (mutex_at a (reached pages harts image es).tables.mutexes, (reached pages harts image es).tables.threads) ≡ false
-no_mutex_waiter pages harts image es a l x = no_admissible_waiter (reached pages harts image es).tables a (well_formed_reached pages harts image es l x)
+no_mutex_waiter pages harts image es a l x = no_mutex_waiter_after es (fresh pages harts image) a (well_formed_fresh pages harts l) x
 
 pub no_lock_waiter : (pages harts : ℕ) (image : List ℕ) (es : List Event) (a : ℕ) → harts ≤ 8 → AllAccepted es (fresh pages harts image)
     → has_admissible_waiter (rwlock_rule a) (lock_at a (reached pages harts image es).tables.rwlocks, (reached pages harts image es).tables.threads) ≡ false
-no_lock_waiter pages harts image es a l x = (let w = well_formed_reached pages harts image es l x in w.rwlocks.no_first_waiter_is_admissible a)
+no_lock_waiter pages harts image es a l x = no_lock_waiter_after es (fresh pages harts image) a (well_formed_fresh pages harts l) x

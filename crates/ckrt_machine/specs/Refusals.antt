@@ -3,7 +3,7 @@ use Rattle.std.specs.Prelude.{ℕ, ◌+◌, ◌^◌, nat_le, nat_lt, if◌then�
 use Rattle.ckrt_thread.specs.State as threads
 use Rattle.ckrt_calls.specs.declared.table.Tables.{Tables}
 use Rattle.ckrt_events.specs.declared.event.Event.{Event}
-use Rattle.ckrt_events.specs.declared.event.Event.TheVariants.{Place, Run, Input, Eof, Tick}
+use Rattle.ckrt_events.specs.declared.event.Event.TheVariants.{Place, Run, Input, Eof, Tick, RunLong}
 use Rattle.ckrt_machine.specs.declared.event.Refusal.{Refusal}
 use Rattle.ckrt_machine.specs.declared.event.Refusal.TheVariants.{Ended, NoSuchHart, NoSuchThread, NotReady, HartIdle, InputClosed, InputFull, ClockEnd, OutputFull}
 use Rattle.ckrt_machine.specs.Steps.{State, hart_of}
@@ -21,6 +21,14 @@ code_of InputFull = 7
 code_of ClockEnd = 8
 code_of OutputFull = 9
 
+-- a run, of whatever number of steps
+abbrev pub run_refusal : ℕ → ℕ → Tables → Option Refusal
+run_refusal held h s =
+    if nat_le s.threads.hart_count h then Some NoSuchHart
+    else if is_none (hart_of s h) then Some HartIdle
+    else if nat_lt 16384 (held + 1024) then Some OutputFull
+    else None
+
 -- while the program runs and so many bytes of output are held
 abbrev pub running_refusal : ℕ → Event → Tables → Option Refusal
 running_refusal held (Place h t) s =
@@ -28,11 +36,8 @@ running_refusal held (Place h t) s =
     else if is_none (threads.thread_of s.threads t) then Some NoSuchThread
     else if not (threads.is_ready s.threads t) then Some NotReady
     else None
-running_refusal held (Run h n) s =
-    if nat_le s.threads.hart_count h then Some NoSuchHart
-    else if is_none (hart_of s h) then Some HartIdle
-    else if nat_lt 16384 (held + 1024) then Some OutputFull
-    else None
+running_refusal held (Run h n) s = run_refusal held h s
+running_refusal held (RunLong h n) s = run_refusal held h s
 running_refusal held (Input bytes) s =
     if s.closed then Some InputClosed
     else if nat_lt 4096 (length s.input + length bytes.items) then Some InputFull

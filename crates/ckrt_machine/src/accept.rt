@@ -1,7 +1,7 @@
 //! Which events are refused.
 ghost use Rattle.std.specs.Prelude.{◌≡◌, ℕ};
-ghost use Rattle.ckrt_events.specs.declared.event.Event.TheVariants.{Place, Run, Input, Eof, Tick};
-ghost use Rattle.ckrt_machine.specs.Refusals.{refusal_in, running_refusal};
+ghost use Rattle.ckrt_events.specs.declared.event.Event.TheVariants.{Place, Input, Eof, Tick};
+ghost use Rattle.ckrt_machine.specs.Refusals.{refusal_in, run_refusal, running_refusal};
 
 use crate::event::Refusal;
 use crate::hart::{RUN_OUTPUT, is_running};
@@ -31,7 +31,7 @@ fn running_refusal(tables: &Tables, held: usize, event: &Event) -> Option<Refusa
 {
     match event {
         Event::Place(hart, thread) => place_refusal(tables, *hart, *thread),
-        Event::Run(hart, _) => run_refusal(tables, held, *hart),
+        Event::Run(hart, _) | Event::RunLong(hart, _) => run_refusal(tables, held, *hart),
         Event::Input(bytes) => input_refusal(tables, bytes),
         Event::Eof => eof_refusal(tables),
         Event::Tick(ticks) => tick_refusal(tables, *ticks),
@@ -54,7 +54,7 @@ fn place_refusal(tables: &Tables, hart: u8, thread: u8) -> Option<Refusal>
 }
 
 fn run_refusal(tables: &Tables, held: usize, hart: u8) -> Option<Refusal>
-    ensures { (limit : ℕ) → result ≡ running_refusal held (Run hart limit) tables.now }
+    ensures { result ≡ run_refusal held hart tables.now }
 {
     if usize::from(hart) >= tables.threads.hart_count() {
         return Some(Refusal::NoSuchHart);

@@ -1,13 +1,14 @@
 //! Harts: threads go onto them, and they run.
-ghost use Rattle.std.specs.Prelude.{◌≡◌, ◌<◌, ◌≤◌, ◌-◌, ◌%◌, ℕ, List, length, true, false, Some, None, IsSome, IsNone, IfSome};
+ghost use Rattle.std.specs.Prelude.{◌≡◌, ◌<◌, ◌≤◌, ◌-◌, ◌%◌, ℕ, List, [], length, true, false, Some, None, IsSome, IsNone, IfSome};
 ghost use Rattle.ckrt_thread.specs.State.{is_live, is_ready, is_waiting, placed_on, thread_of};
 ghost use Rattle.ckrt_thread.specs.Cancellation.{cancellation_of, is_immediate};
 ghost use Rattle.ckrt_calls.specs.WellFormed.{IsWellFormed};
 ghost use Rattle.ckrt_machine.specs.Steps.{hart_of, with_regs};
 ghost use Rattle.ckrt_machine.specs.Runs.{is_running, stop_of, stopped, run_on, with_byte};
+ghost use Rattle.ckrt_machine.specs.Events.{run_of};
 
 use crate::ending::end_burst;
-use crate::event::How;
+use crate::event::{Answer, How};
 use arrayvec::ArrayVec;
 use ckrt_calls::{Status, Tables, act_on_request};
 use ckrt_memory::Memory;
@@ -155,4 +156,23 @@ pub fn run(
         left = rest;
     }
     (0, How::On)
+}
+
+/// The same from no output on, as an event's answer.
+pub fn answer_run(
+    memory: &mut Memory,
+    tables: &mut Tables,
+    output: &mut ArrayVec<u8, 1024>,
+    hart: u8,
+    limit: u32,
+) -> Answer
+    requires going { stop_of hart tables.old output.old.items ≡ None }
+    requires empty { output.old.items ≡ [] }
+    requires well_formed { IsWellFormed tables.old }
+    ensures well_formed { IsWellFormed tables.new }
+    ensures follows { ⟦<Memory as Bus>⟧.Follows memory.old memory.new }
+    ensures run { record { state = record { bytes = memory.new.bytes; tables = tables.new }; answer = result; output = output.new.items } ≡ run_of hart limit (record { bytes = memory.old.bytes; tables = tables.old }) }
+{
+    let (left, how) = run(memory, tables, output, usize::from(hart), limit);
+    Answer::Ran(limit - left, how)
 }

@@ -17,7 +17,7 @@ ghost use Rattle.ckrt_machine.specs.Steps.{State, hart_of};
 ghost use Rattle.ckrt_machine.specs.Runs.{run_on, HasMade};
 ghost use Rattle.ckrt_machine.specs.Plans.{planned};
 ghost use Rattle.ckrt_machine.specs.Refusals.{refusal_of};
-ghost use Rattle.ckrt_machine.specs.Events.{AllAccepted, IsAccepted, fold, fresh, output_of, reached, step};
+ghost use Rattle.ckrt_machine.specs.Events.{AllAccepted, IsAccepted, fold, fresh, output_of, reached, step, with_keys_off};
 
 /// One more event is applied behind the others: its effect is that of a step on what they left, its
 /// bytes follow theirs, and where they are accepted and it is, all are.
@@ -65,9 +65,22 @@ pub fn run_is_its_steps()
     ensures steps { (n h : ℕ) (s : State) (out : List ℕ) → (m : ℕ) × HasMade n m h s out (run_on n h s out) }
 {}
 
-/// Whatever program begins, on at most 8 harts, and whatever events are accepted one after another: the state that they
-/// lead to is well-formed. So the first who waits for a mutex or a read-write lock could not be granted it, and nobody
-/// is left waiting at a free lock.
+/// Whatever well-formed state stands at the start, and whatever events are accepted one after another: the state that they
+/// lead to is well-formed, the first who waits for a mutex or a read-write lock could not be granted it, and nobody is left
+/// waiting at a free lock. Such a state every program starts with, on at most 8 harts: one whose keys are on, and one whose
+/// keys are off, as on a disk that was formatted in version 1. So this speaks of every program.
+pub fn accepted_events_keep_well_formed()
+    ensures well_formed { (es : List Event) (s : State) → IsWellFormed s.tables → AllAccepted es s → IsWellFormed (fold es s).state.tables }
+    ensures mutexes { (es : List Event) (s : State) (a : ℕ) → IsWellFormed s.tables → AllAccepted es s → has_admissible_waiter (mutex_rule a) (mutex_at a (fold es s).state.tables.mutexes, (fold es s).state.tables.threads) ≡ false }
+    ensures rwlocks { (es : List Event) (s : State) (a : ℕ) → IsWellFormed s.tables → AllAccepted es s → has_admissible_waiter (rwlock_rule a) (lock_at a (fold es s).state.tables.rwlocks, (fold es s).state.tables.threads) ≡ false }
+    ensures starts { (pages harts : ℕ) (image : List ℕ) → harts ≤ 8 → IsWellFormed (fresh pages harts image).tables }
+    ensures starts_keys_off { (pages harts : ℕ) (image : List ℕ) → harts ≤ 8 → IsWellFormed (with_keys_off (fresh pages harts image)).tables }
+{}
+
+/// Whatever program begins whose keys are on, on at most 8 harts, and whatever events are accepted one after another: the
+/// state that they lead to is well-formed. So the first who waits for a mutex or a read-write lock could not be granted it,
+/// and nobody is left waiting at a free lock. Where keys are off, and of any start, [`accepted_events_keep_well_formed`] says
+/// the same.
 pub fn reached_is_well_formed()
     ensures well_formed { (pages harts : ℕ) (image : List ℕ) (es : List Event) → harts ≤ 8 → AllAccepted es (fresh pages harts image) → IsWellFormed (reached pages harts image es).tables }
     ensures mutexes { (pages harts : ℕ) (image : List ℕ) (es : List Event) (a : ℕ) → harts ≤ 8 → AllAccepted es (fresh pages harts image) → has_admissible_waiter (mutex_rule a) (mutex_at a (reached pages harts image es).tables.mutexes, (reached pages harts image es).tables.threads) ≡ false }

@@ -8,7 +8,7 @@ ghost use Rattle.ckrt_machine.specs.Events.{fresh, memory_in, step, refusal_of, 
 
 use crate::accept::refusal;
 use crate::event::{Answer, Refusal};
-use crate::hart::{place, run};
+use crate::hart::{answer_run, place};
 use crate::plan::plan;
 use arrayvec::ArrayVec;
 use ckrt_calls::{Status, Tables, close_input, take_input, tick};
@@ -149,17 +149,20 @@ impl Machine {
                 place(&mut self.tables, *hart, *thread);
                 Answer::Placed
             }
-            Event::Run(hart, limit) => {
-                let limit = u32::from(*limit);
-                let (left, how) = run(
-                    &mut self.memory,
-                    &mut self.tables,
-                    &mut self.output,
-                    usize::from(*hart),
-                    limit,
-                );
-                Answer::Ran(limit - left, how)
-            }
+            Event::Run(hart, limit) => answer_run(
+                &mut self.memory,
+                &mut self.tables,
+                &mut self.output,
+                *hart,
+                u32::from(*limit),
+            ),
+            Event::RunLong(hart, limit) => answer_run(
+                &mut self.memory,
+                &mut self.tables,
+                &mut self.output,
+                *hart,
+                *limit,
+            ),
             Event::Input(bytes) => {
                 take_input(&mut self.tables, bytes.as_slice());
                 Answer::Taken(bytes.len() as u32)

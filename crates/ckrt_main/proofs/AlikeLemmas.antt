@@ -5,9 +5,9 @@ use Rattle.std.specs.List.{AllByRecursion}
 use Rattle.std.specs.Str.Lines.{lines}
 use Rattle.ckrt_calls.specs.declared.table.Tables.{Tables}
 use Rattle.ckrt_thread.specs.State as threads
-use Rattle.ckrt_events.specs.Bytes.{encoding_of}
+use Rattle.ckrt_events.specs.Bytes.{encoding_of, is_known_in}
 use Rattle.ckrt_events.specs.declared.event.Event.{Event}
-use Rattle.ckrt_events.specs.declared.event.Event.TheVariants.{Place, Run, Input, Eof, Tick}
+use Rattle.ckrt_events.specs.declared.event.Event.TheVariants.{Place, Run, Input, Eof, Tick, RunLong}
 use Rattle.ckrt_events.specs.declared.command.Command.{Command}
 use Rattle.ckrt_events.specs.declared.command.Command.TheVariants.{Submit, Auto, Commit, Checkpoint, Quit, Blank}
 use Rattle.ckrt_events.specs.declared.command.LineFault.{LineFault}
@@ -15,7 +15,7 @@ use Rattle.ckrt_events.specs.Line.{command_of}
 use Rattle.ckrt_machine.specs.declared.event.Refusal.{Refusal}
 use Rattle.ckrt_machine.specs.declared.event.Refusal.TheVariants.{NoSuchHart, HartIdle, OutputFull, Ended}
 use Rattle.ckrt_machine.specs.Events as machine
-use Rattle.ckrt_machine.specs.Refusals.{running_refusal, refusal_in}
+use Rattle.ckrt_machine.specs.Refusals.{run_refusal, running_refusal, refusal_in}
 use Rattle.ckrt_machine.specs.Runs.{is_running}
 use Rattle.ckrt_machine.specs.Steps.{hart_of}
 use Rattle.ckrt_recovery.specs.declared.fault.CommitFault.{CommitFault}
@@ -24,7 +24,7 @@ use Rattle.ckrt_recovery.specs.declared.fault.SubmitFault.TheVariants as submit_
 use Rattle.ckrt_recovery.specs.Calls.{checkpoint_refusal}
 use Rattle.ckrt_recovery.specs.Replies.{Reply, Accepted, Acknowledged, NotAccepted, NotSaved, NotUnderstood, Output, outputs, outputs_by}
 use Rattle.ckrt_image.specs.Recovery.{room_of, are_counters_used}
-use Rattle.ckrt_recovery.specs.View.{View, output_end, refusal_of, refusal_when_running, first_refusal, shortage_of, after_event, committed, checkpointed, confirmed_to, released_output}
+use Rattle.ckrt_recovery.specs.View.{View, output_end, refusal_of, refusal_when_known, refusal_when_running, version_of, first_refusal, shortage_of, after_event, committed, checkpointed, confirmed_to, released_output}
 use Rattle.ckrt_recovery.specs.Transcript.{Fate, Transcript, preceded_by, unless_quit, followed_by, written, submitted, submit, unless_refused, run_planned, output, acknowledged, commit_by, by_fate, saved, respond, respond_all, transcript}
 use Rattle.ckrt_main.specs.Alike.{IsAlike, is_output_full, is_own, is_local, NoneIsLocal, answers_of, AnswerAlike}
 use Rattle.ckrt_main.proofs.ReplyLemmas.{all_front}
@@ -86,12 +86,16 @@ run_reason true b o p h = inl refl
 run_reason false true o p h = inl refl
 run_reason false false o p h = h
 
+run_held_reason : (n m h : ℕ) (s : Tables) → SameReason (run_refusal n h s) (run_refusal m h s)
+run_held_reason n m h s = run_reason (nat_le s.threads.hart_count h) (is_none (hart_of s h)) (if nat_lt 16384 (n + 1024) then Some OutputFull else None) (if nat_lt 16384 (m + 1024) then Some OutputFull else None) (held_reason (nat_lt 16384 (n + 1024)) (nat_lt 16384 (m + 1024)))
+
 running_reason : (n m : ℕ) (e : Event) (s : Tables) → SameReason (running_refusal n e s) (running_refusal m e s)
 running_reason n m (Place h t) s = inl refl
-running_reason n m (Run h k) s = run_reason (nat_le s.threads.hart_count h) (is_none (hart_of s h)) (if nat_lt 16384 (n + 1024) then Some OutputFull else None) (if nat_lt 16384 (m + 1024) then Some OutputFull else None) (held_reason (nat_lt 16384 (n + 1024)) (nat_lt 16384 (m + 1024)))
+running_reason n m (Run h k) s = run_held_reason n m h s
 running_reason n m (Input bytes) s = inl refl
 running_reason n m Eof s = inl refl
 running_reason n m (Tick k) s = inl refl
+running_reason n m (RunLong h k) s = run_held_reason n m h s
 
 in_reason : (b : Bool) (o p : Option Refusal) → SameReason o p → SameReason (if b then o else Some Ended) (if b then p else Some Ended)
 in_reason true o p h = h
@@ -120,12 +124,17 @@ unfailed_reason : (b : Bool) (o : Option SubmitFault) → IsShared (if b then So
 unfailed_reason true o h = let no : true ≡ false = h in absurd (cc)
 unfailed_reason false o h = (refl, h)
 
+known_reason : (b : Bool) (o : Option SubmitFault) → IsShared (if b then o else Some submit_fault.NeedsCheckpoint) → ((if b then o else Some submit_fault.NeedsCheckpoint) ≡ o) × IsShared o
+known_reason true o h = (refl, h)
+known_reason false o h = let no : true ≡ false = h in absurd (cc)
+
 -- why a session refuses an event, where the reason is shared: the machine's reason alone
 session_reason : (v : View) (e : Event) → IsShared (refusal_of v e) → (refusal_of v e ≡ first_refusal (machine.refusal_of (length v.recovered.held) e v.recovered.state) None) × ((machine.refusal_of (length v.recovered.held) e v.recovered.state ≡ Some OutputFull) → ⊥)
 session_reason v e h =
     let u = unfailed_reason v.failed (refusal_when_running v e) h in
-    let k = shared_reason (machine.refusal_of (length v.recovered.held) e v.recovered.state) (shortage_of v (length (encoding_of e))) u.1 (λ why is. short_own (nat_lt 4096 (length v.pending + length (encoding_of e))) (nat_lt (room_of v.recovered.journal) (3 + length v.pending + length (encoding_of e))) (are_counters_used v.recovered.count (output_end v.recovered)) why is) in
-    (u.0 ∙ k.0, k.1)
+    let n = known_reason (is_known_in (version_of v) e) (refusal_when_known v e) u.1 in
+    let k = shared_reason (machine.refusal_of (length v.recovered.held) e v.recovered.state) (shortage_of v (length (encoding_of e))) n.1 (λ why is. short_own (nat_lt 4096 (length v.pending + length (encoding_of e))) (nat_lt (room_of v.recovered.journal) (3 + length v.pending + length (encoding_of e))) (are_counters_used v.recovered.count (output_end v.recovered)) why is) in
+    (u.0 ∙ n.0 ∙ k.0, k.1)
 
 one_reason : (o p : Option Refusal) → SameReason o p → ((o ≡ Some OutputFull) → ⊥) → ((p ≡ Some OutputFull) → ⊥) → o ≡ p
 one_reason o p h a b = ⊎_elim (λ (same : _). same) (λ (own : _). ⊎_elim (λ (is : _). absurd (a is)) (λ (is : _). absurd (b is)) own) h

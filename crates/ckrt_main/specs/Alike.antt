@@ -4,7 +4,7 @@ use Rattle.std.specs.List.{AllByRecursion}
 use Rattle.ckrt_machine.specs.declared.event.Refusal.{Refusal}
 use Rattle.ckrt_machine.specs.declared.event.Refusal.TheVariants.{Ended, NoSuchHart, NoSuchThread, NotReady, HartIdle, InputClosed, InputFull, ClockEnd, OutputFull}
 use Rattle.ckrt_recovery.specs.declared.fault.SubmitFault.{SubmitFault}
-use Rattle.ckrt_recovery.specs.declared.fault.SubmitFault.TheVariants.{Failed, Refused, BatchFull, JournalFull, CountersUsed}
+use Rattle.ckrt_recovery.specs.declared.fault.SubmitFault.TheVariants.{Failed, NeedsCheckpoint, Refused, BatchFull, JournalFull, CountersUsed}
 use Rattle.ckrt_recovery.specs.Replies.{Reply, Accepted, Acknowledged, NotAccepted, NotSaved, NotUnderstood, Output}
 use Rattle.ckrt_recovery.specs.Transcript.{Transcript}
 use Rattle.ckrt_recovery.specs.View.{View}
@@ -26,9 +26,10 @@ is_output_full InputFull = false
 is_output_full ClockEnd = false
 is_output_full OutputFull = true
 
--- or on the batch, the journal's room, the ends of the counts or the device
+-- or on the journal's version, the batch, the journal's room, the ends of the counts or the device
 abbrev pub is_own : SubmitFault → Bool
 is_own Failed = true
+is_own NeedsCheckpoint = true
 is_own (Refused why) = is_output_full why
 is_own BatchFull = true
 is_own JournalFull = true

@@ -131,6 +131,7 @@ pub fn refused_event(fault: SubmitFault) -> Reply
 {
     let text = match fault {
         SubmitFault::Failed => b"21 Failed".as_slice(),
+        SubmitFault::NeedsCheckpoint => b"27 NeedsCheckpoint".as_slice(),
         SubmitFault::Refused(refusal) => refusal_text(refusal),
         SubmitFault::BatchFull => b"22 BatchFull".as_slice(),
         SubmitFault::JournalFull => b"23 JournalFull".as_slice(),

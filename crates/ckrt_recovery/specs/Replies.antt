@@ -49,6 +49,7 @@ refusal_text OutputFull = codes "9 OutputFull"
 
 abbrev pub submit_fault_text : SubmitFault → List ℕ
 submit_fault_text submit.Failed = codes "21 Failed"
+submit_fault_text submit.NeedsCheckpoint = codes "27 NeedsCheckpoint"
 submit_fault_text (submit.Refused refusal) = refusal_text refusal
 submit_fault_text submit.BatchFull = codes "22 BatchFull"
 submit_fault_text submit.JournalFull = codes "23 JournalFull"

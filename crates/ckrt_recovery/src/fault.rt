@@ -7,6 +7,9 @@ pub enum SubmitFault {
     /// The disk failed a commit or a checkpoint before: the session has to be recovered.
     #[error("Failed")]
     Failed,
+    /// It is a long run, and the area in use is of version 1: the first checkpoint writes one of version 2.
+    #[error("NeedsCheckpoint")]
+    NeedsCheckpoint,
     /// The machine refuses it.
     #[error("Refused")]
     Refused(Refusal),

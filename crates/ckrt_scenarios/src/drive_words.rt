@@ -180,7 +180,7 @@ fn output_without_a_file_is_printed(rt: HostRuntime) {
 }
 
 const OUT_OF_RANGE: &str =
-    "--turn is 1 to 65535, --rounds-per-commit and --progress 1 or more, and --from goes without --output\nckrt: Range\n";
+    "--turn is 1 to 1000000, --rounds-per-commit and --progress 1 or more, and --from goes without --output\nckrt: Range\n";
 
 const ABSENT: &str = "the disk drive_none.disk: there is no such file\nckrt: File\n";
 
@@ -202,7 +202,7 @@ fn expect_drive_faults<R: Abort + Files<File = File> + AllocGlobal>(rt: &R) {
     );
     expect_fault(
         rt,
-        "drive drive_none.disk --output . --turn 65536",
+        "drive drive_none.disk --output . --turn 1000001",
         OUT_OF_RANGE,
     );
     expect_fault(

@@ -3,6 +3,8 @@
 use crate::barriers::ROUNDS;
 use crate::contention::COUNTERS;
 use crate::expect::{expect_bytes, expect_eq, expect_eq_at, filled, memory_disk, stopping_disk};
+use crate::long_runs::LOOPS;
+use crate::old_disks::old_disk;
 use crate::rwlocks::PAIR;
 use crate::service::image_of;
 use crate::sessions::submitted;
@@ -169,6 +171,31 @@ fn an_onlooker_is_told_each_step(rt: HostRuntime) {
     let mut drive = Drive::new(session, output, usual(u64::MAX));
     expect_eq(&rt, drive.run(100, &mut listener), Ok(Some(Ending::Ended)));
     expect_eq(&rt, (listener.told, listener.first_difference), (5, None));
+}
+
+/// While the area is of version 1 a turn has 65,535 steps at most.
+#[test]
+fn long_turns_come_with_version_2(rt: HostRuntime) {
+    let session = recovered_in_memory(&rt, old_disk(&rt, &LOOPS));
+    let output = memory_disk(&rt, filled(&rt, 0, 64));
+    let awaited = [
+        Progress::Submitted(Event::Place(0, 1), Answer::Placed),
+        Progress::Submitted(Event::Run(0, 65_535), Answer::Ran(65_535, How::On)),
+        Progress::Submitted(Event::Tick(1), Answer::Ticked(0)),
+        Progress::Checkpointed,
+        Progress::Submitted(Event::RunLong(0, 100_000), Answer::Ran(100_000, How::On)),
+        Progress::Submitted(Event::Tick(1), Answer::Ticked(0)),
+        Progress::Checkpointed,
+        Progress::Stopped(Ending::Enough),
+    ];
+    let mut listener = Listener {
+        awaited: &awaited,
+        told: 0,
+        first_difference: None,
+    };
+    let mut drive = Drive::new(session, output, Options::new(100_000, 1, 5));
+    expect_eq(&rt, drive.run(100, &mut listener), Ok(Some(Ending::Enough)));
+    expect_eq(&rt, (listener.told, listener.first_difference), (8, None));
 }
 
 #[test]

@@ -25,9 +25,9 @@ fn expect_length<R: Abort>(rt: &R, event: &Event, length: usize) {
     expect_eq(rt, encoded_len(event), length);
 }
 
-/// The bytes encode Place(0, 1) and Run(0, 2).
-fn expect_two_events<R: Abort>(rt: &R, bytes: &[u8]) {
-    let mut events = decode_events(bytes).expect(rt, "events");
+/// The bytes encode Place(0, 1) and Run(0, 2), in each version.
+fn expect_two_events<R: Abort>(rt: &R, version: u32, bytes: &[u8]) {
+    let mut events = decode_events(version, bytes).expect(rt, "events");
     expect_next(rt, &mut events, Some(Event::Place(0, 1)));
     expect_next(rt, &mut events, Some(Event::Run(0, 2)));
     expect_next(rt, &mut events, None);
@@ -43,10 +43,39 @@ fn events_have_the_bytes_of_the_format(rt: HostRuntime) {
     push_event(&rt, &mut bytes, &Event::Place(0, 1));
     push_event(&rt, &mut bytes, &Event::Run(0, 2));
     expect_bytes(&rt, bytes.as_slice(), &[1, 0, 1, 2, 0, 2, 0]);
-    expect_two_events(&rt, bytes.as_slice());
+    expect_two_events(&rt, 1, bytes.as_slice());
+    expect_two_events(&rt, 2, bytes.as_slice());
     expect_length(&rt, &Event::Place(0, 1), 3);
     expect_length(&rt, &Event::Run(0, 2), 4);
     encodings_are_prefix_free();
+}
+
+/// In this version the bytes encode a single event, or none.
+fn expect_only<R: Abort>(rt: &R, version: u32, bytes: &[u8], want: Option<Event>) {
+    let event = match decode_events(version, bytes) {
+        Some(mut events) => events.next(),
+        None => None,
+    };
+    expect_eq(rt, event, want);
+}
+
+#[test]
+fn long_runs_come_with_version_2(rt: HostRuntime) {
+    let event = Event::RunLong(0, 1_000_000);
+    let mut bytes = ArrayVec::new();
+    push_event(&rt, &mut bytes, &event);
+    expect_bytes(&rt, bytes.as_slice(), &[6, 0, 0x40, 0x42, 0x0f, 0]);
+    expect_length(&rt, &event, 6);
+    expect_eq(
+        &rt,
+        (event.is_known_in(1), event.is_known_in(2)),
+        (false, true),
+    );
+    expect_only(&rt, 2, bytes.as_slice(), Some(event));
+    expect_only(&rt, 1, bytes.as_slice(), None);
+    expect_only(&rt, 2, &[6, 0, 0x41, 0x42, 0x0f, 0], None);
+    expect_only(&rt, 2, &[6, 8, 1, 0, 0, 0], None);
+    expect_only(&rt, 2, &[6, 0, 0, 0, 0, 0], None);
 }
 
 /// The line says the command, which is in range.
@@ -60,7 +89,7 @@ fn expect_input<R: Abort>(rt: &R, line: &[u8], bytes: &[u8]) {
     expect_command(rt, line, Command::Submit(input(rt, bytes)));
 }
 
-const COMMANDS: [(&[u8], Command); 11] = [
+const COMMANDS: [(&[u8], Command); 12] = [
     (b"", Command::Blank),
     (b" \t", Command::Blank),
     (b"place 0 1", Command::Submit(Event::Place(0, 1))),
@@ -69,6 +98,10 @@ const COMMANDS: [(&[u8], Command); 11] = [
         Command::Submit(Event::Place(7, 64)),
     ),
     (b"run 7 65535", Command::Submit(Event::Run(7, 65_535))),
+    (
+        b"runlong 7 1000000",
+        Command::Submit(Event::RunLong(7, 1_000_000)),
+    ),
     (b"eof", Command::Submit(Event::Eof)),
     (
         b"tick 4294967295",
@@ -104,6 +137,10 @@ const FAULTS: &[(&[u8], LineFault)] = &[
     (b"run 8 x", LineFault::Range),
     (b"in 4", LineFault::Hex),
     (b"run 0 0", LineFault::Range),
+    (b"runlong 0", LineFault::Unknown),
+    (b"runlong 8 x", LineFault::Range),
+    (b"runlong 0 0", LineFault::Range),
+    (b"runlong 0 1000001", LineFault::Range),
     (b"tick 4294967296", LineFault::Range),
     (&[b'a'; 161], LineFault::TooLong),
     (&[b' '; 161], LineFault::TooLong),

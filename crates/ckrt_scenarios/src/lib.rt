@@ -62,6 +62,8 @@ mod linked_waits;
 #[cfg(test)]
 mod lives;
 #[cfg(test)]
+mod long_runs;
+#[cfg(test)]
 mod marks;
 #[cfg(test)]
 mod mutexes;

@@ -24,17 +24,17 @@ const HEADER: [u8; 32] = [
 ];
 
 /// Where areas 0 and 1 begin. Tables stand 4,096 bytes behind, and page 1 of the memory 106,496.
-const AREAS: [usize; 2] = [4_096, 172_032];
+pub const AREAS: [usize; 2] = [4_096, 172_032];
 
 /// Bytes in the place of others.
-fn lay<R: Abort>(rt: &R, image: &mut Vec<u8>, at: usize, bytes: &[u8]) {
+pub fn lay<R: Abort>(rt: &R, image: &mut Vec<u8>, at: usize, bytes: &[u8]) {
     let end = at.saturating_add(bytes.len());
     assert!(rt; end <= image.len());
     image.as_mut_slice()[at..end].copy_from_slice(bytes);
 }
 
 /// A disk of version 1 with this guest, which hasn't begun.
-fn old_disk<R: Abort + AllocGlobal>(rt: &R, words: &[u32]) -> Vec<u8> {
+pub fn old_disk<R: Abort + AllocGlobal>(rt: &R, words: &[u32]) -> Vec<u8> {
     let mut disk = filled(rt, 0, SIZE);
     lay(rt, &mut disk, 0, &[0xa5]);
     lay(rt, &mut disk, 8, &SUPERBLOCK);
@@ -56,7 +56,7 @@ fn old_disk<R: Abort + AllocGlobal>(rt: &R, words: &[u32]) -> Vec<u8> {
 }
 
 /// What these lines get of the program on this disk, and the disk afterwards.
-fn lived<R: Abort + AllocGlobal>(rt: &R, disk: Vec<u8>, lines: &[u8], want: &[u8]) -> Vec<u8> {
+pub fn lived<R: Abort + AllocGlobal>(rt: &R, disk: Vec<u8>, lines: &[u8], want: &[u8]) -> Vec<u8> {
     let mut session = recovered_in_memory(rt, disk);
     expect_served(rt, &mut session, lines, want);
     session.into_disk().into_image()

@@ -11,9 +11,8 @@ use Rattle.ckrt_thread.specs.Abi.{RA, SP, PROGRAM_START, RETURN_GATE}
 use Rattle.ckrt_thread.specs.State.{State, IsWellFormed, holds, is_live, is_on_hart, is_proper_slot, first_of_program}
 use Rattle.ckrt_thread.proofs.Counting.{count_of_some}
 use Rattle.ckrt_thread.proofs.Known.{live_range}
-use Rattle.ckrt_thread.proofs.Changes.{well_formed_fresh}
-use Rattle.ckrt_calls.specs.Table.{fresh}
-use Rattle.ckrt_calls.specs.WellFormed as tables
+use Rattle.ckrt_calls.specs.Table.{fresh, with_keys_off}
+use Rattle.ckrt_calls.proofs.Beginnings.{well_formed_fresh, well_formed_keys_off}
 use Rattle.ckrt_tables.specs.Savable.{if_there, is_id, is_word, fit_registers, fits_slot, Fit, CanBeSaved}
 
 -- LISTS
@@ -106,43 +105,37 @@ fresh_fits pages harts few =
       input = refl;
     }
 
-fresh_well_formed : (pages harts : ℕ) → harts ≤ 8 → tables.IsWellFormed (fresh pages harts)
-fresh_well_formed pages harts few = record {
-  threads = well_formed_fresh (4096 * pages) harts few;
-  mutexes = record {
-    table = record { rising = refl; canonical = refl; proper = refl };
-    at_most_256_in_use = omega arith;
-    nobody_waits_at_a_free_mutex = refl;
-    only_a_normal_mutex_waits_for_its_owner = refl;
-    nobody_retakes_its_own_mutex = refl;
-    condition_waiters_can_retake = refl;
-  };
-  conditions = record { one_mutex = λ c a b e f. absurd (cc) };
-  barriers = record {
-    table = record { rising = refl; at_most_64 = omega arith; counts = refl };
-    fewer_wait_than_the_count = λ b barrier e. absurd (cc);
-    nobody_waits_where_no_barrier_is = λ b e. refl;
-  };
-  rwlocks = record {
-    table = record { rising = refl; canonical = refl; proper = refl; no_reader_beside_a_writer = refl };
-    at_most_64_in_use = omega arith;
-    no_waiter_holds = λ a t e. absurd (cc);
-    no_first_waiter_is_admissible = λ a. refl;
-  };
-  running = λ e. refl;
-  deadlines = λ e. refl;
-  readers = refl;
-  clock = omega arith;
-  input = omega arith;
-  fault = λ t pc cause e. absurd (cc);
-  fault_pc = λ t pc cause e. absurd (cc);
-}
-
 pub fresh_savable : (pages harts : ℕ) → pages ≤ 1024 → harts ≤ 8 → CanBeSaved 2 harts (fresh pages harts) []
 fresh_savable pages harts few_pages few_harts = record {
-  well_formed = fresh_well_formed pages harts few_harts;
+  well_formed = well_formed_fresh pages harts few_harts;
   fit = fresh_fits pages harts few_pages;
   said = λ e. absurd (cc);
+  hart_count = refl;
+  is_held = omega arith;
+  held_bytes = refl;
+}
+
+fresh_fits_1 : (pages harts : ℕ) → pages ≤ 1024 → Fit (with_keys_off (fresh pages harts))
+fresh_fits_1 pages harts few =
+    let on = fresh_fits pages harts few in
+    record {
+      clock = on.clock;
+      status = on.status;
+      harts = on.harts;
+      threads = on.threads;
+      waits = on.waits;
+      keys = refl;
+      mutexes = on.mutexes;
+      barriers = on.barriers;
+      rwlocks = on.rwlocks;
+      input = on.input;
+    }
+
+pub fresh_savable_1 : (pages harts : ℕ) → pages ≤ 1024 → harts ≤ 8 → CanBeSaved 1 harts (with_keys_off (fresh pages harts)) []
+fresh_savable_1 pages harts few_pages few_harts = record {
+  well_formed = well_formed_keys_off pages harts few_harts;
+  fit = fresh_fits_1 pages harts few_pages;
+  said = λ e. refl;
   hart_count = refl;
   is_held = omega arith;
   held_bytes = refl;

@@ -38,6 +38,10 @@ length_each each n one (x ∷ xs) =
 words_length : (os : List (Option ℕ)) → length os ≡ 32 → length (flat_map key_word_bytes (words_from 0 os)) ≤ 256
 words_length os n = (let each = length_each key_word_bytes 8 (λ w. refl) (words_from 0 os) in let few = words_fewer 0 os in omega (arith, each, few, n))
 
+-- what a thread has under keys, by itself
+abbrev under_keys : ℕ → ThreadRow → List ℕ
+under_keys version r = data_bytes version (specific_of r.thread)
+
 data_bound : (version : ℕ) (d : SpecificData) → length d.values ≡ 32 → length (data_bytes version d) ≤ 260
 data_bound version d n =
     let words = words_length (map if_not_0 d.values) (length-map d.values if_not_0 ∙ n) in
@@ -71,8 +75,9 @@ few_handlers : (t : Thread) → is_proper_slot (Some t) ≡ true → length (han
 few_handlers (thread.Ended v) is = omega arith
 few_handlers (thread.Live l) is = grind (arith, nat_tests, is)
 
+-- all but what they have under keys
 threads_bound : (version k : ℕ) (slots : List (Option Thread)) → ((i : ℕ) → is_proper_slot (option_flatten (slice_get slots i)) ≡ true)
-    → length (flat_map (thread_bytes version) (rows_from k slots)) ≤ 524 * length (rows_from k slots)
+    → length (flat_map (thread_bytes version) (rows_from k slots)) ≤ 264 * length (rows_from k slots) + length (flat_map (under_keys version) (rows_from k slots))
 threads_bound version k [] is = omega arith
 threads_bound version k (None ∷ slots) is = threads_bound version (suc k) slots (λ i. is (suc i))
 threads_bound version k (Some t ∷ slots) is =
@@ -80,8 +85,26 @@ threads_bound version k (Some t ∷ slots) is =
     let more = threads_bound version (suc k) slots (λ i. is (suc i)) in
     let e : length (thread_bytes version r ++ flat_map (thread_bytes version) (rows_from (suc k) slots)) ≡ length (thread_bytes version r) + length (flat_map (thread_bytes version) (rows_from (suc k) slots)) =
     length-append (thread_bytes version r) (flat_map (thread_bytes version) (rows_from (suc k) slots)) in
-    let bound = data_bound version (specific_of t) (specific_size t (is 0)) in
-    omega (arith, e, thread_length version r, handlers_length (handlers_of t), few_handlers t (is 0), bound, more)
+    let d : length (under_keys version r ++ flat_map (under_keys version) (rows_from (suc k) slots)) ≡ length (under_keys version r) + length (flat_map (under_keys version) (rows_from (suc k) slots)) =
+    length-append (under_keys version r) (flat_map (under_keys version) (rows_from (suc k) slots)) in
+    omega (arith, e, d, thread_length version r, handlers_length (handlers_of t), few_handlers t (is 0), more)
+
+under_keys_bound : (version k : ℕ) (slots : List (Option Thread)) → ((i : ℕ) → is_proper_slot (option_flatten (slice_get slots i)) ≡ true)
+    → length (flat_map (under_keys version) (rows_from k slots)) ≤ 260 * length (rows_from k slots)
+under_keys_bound version k [] is = omega arith
+under_keys_bound version k (None ∷ slots) is = under_keys_bound version (suc k) slots (λ i. is (suc i))
+under_keys_bound version k (Some t ∷ slots) is =
+    let r : ThreadRow = record { id = k; thread = t } in
+    let more = under_keys_bound version (suc k) slots (λ i. is (suc i)) in
+    let d : length (under_keys version r ++ flat_map (under_keys version) (rows_from (suc k) slots)) ≡ length (under_keys version r) + length (flat_map (under_keys version) (rows_from (suc k) slots)) =
+    length-append (under_keys version r) (flat_map (under_keys version) (rows_from (suc k) slots)) in
+    let bound : length (under_keys version r) ≤ 260 = data_bound version (specific_of t) (specific_size t (is 0)) in
+    omega (arith, d, bound, more)
+
+-- in version 1 it isn't there
+under_keys_1 : (rs : List ThreadRow) → length (flat_map (under_keys 1) rs) ≡ 0
+under_keys_1 [] = refl
+under_keys_1 (r ∷ rs) = under_keys_1 rs
 
 -- READ-WRITE LOCKS
 
@@ -107,10 +130,11 @@ rwlocks_bound (l ∷ ls) is =
 
 -- ALL
 
--- by the number of records
-pub encoding_size : (version : ℕ) (s : Tables) (held : List ℕ) → IsWellFormed s → length (encoding_of version s held) ≤
-    36 + (524 * length (thread_rows s.threads) + 20 * length s.threads.waits) + 8 * length s.mutexes + (8 * length s.barriers + 198 * length s.rwlocks) + 256 + length s.input + length held
-encoding_size version s held is =
+-- by the number of records, and what stands there of keys
+size_beside_keys : (version : ℕ) (s : Tables) (held : List ℕ) → IsWellFormed s → length (encoding_of version s held) ≤
+    34 + (264 * length (thread_rows s.threads) + 20 * length s.threads.waits) + 8 * length s.mutexes + (8 * length s.barriers + 198 * length s.rwlocks) + length s.input + length held
+    + (length (flat_map (under_keys version) (thread_rows s.threads)) + length (keys_bytes version s.threads.keys))
+size_beside_keys version s held is =
     omega (
       arith,
       encoding_length version s held,
@@ -118,14 +142,30 @@ encoding_size version s held is =
       length_each hart_bytes 1 (λ h. refl) s.threads.harts,
       is.threads.harts,
       threads_bound version 0 s.threads.threads is.threads.proper,
-      keys_bound version s.threads.keys is.threads.proper_keys,
       length_each wait_bytes 20 (λ w. refl) s.threads.waits,
       length_each mutex_bytes 8 (λ m. refl) s.mutexes,
       length_each barrier_bytes 8 (λ b. refl) s.barriers,
       rwlocks_bound s.rwlocks is.rwlocks.table.proper,
     )
 
+-- by the number of records, in whichever version
+pub encoding_size : (version : ℕ) (s : Tables) (held : List ℕ) → IsWellFormed s → length (encoding_of version s held) ≤
+    36 + (524 * length (thread_rows s.threads) + 20 * length s.threads.waits) + 8 * length s.mutexes + (8 * length s.barriers + 198 * length s.rwlocks) + 256 + length s.input + length held
+encoding_size version s held is =
+    omega (
+      arith,
+      size_beside_keys version s held is,
+      under_keys_bound version 0 s.threads.threads is.threads.proper,
+      keys_bound version s.threads.keys is.threads.proper_keys,
+    )
+
 pub encoding_bound : (version : ℕ) (s : Tables) (held : List ℕ) → IsWellFormed s → IsHeld held → length (encoding_of version s held) ≤ 70820
 encoding_bound version s held is is_held =
     let at_most = few s is in
     omega (arith, encoding_size version s held is, few_threads s.threads is.threads, at_most.waits, at_most.mutexes, at_most.barriers, at_most.rwlocks, at_most.input, is_held)
+
+pub encoding_bound_1 : (s : Tables) (held : List ℕ) → IsWellFormed s → IsHeld held → length (encoding_of 1 s held) ≤ 53922
+encoding_bound_1 s held is is_held =
+    let at_most = few s is in
+    let keys : length (keys_bytes 1 s.threads.keys) ≡ 0 = refl in
+    omega (arith, size_beside_keys 1 s held is, under_keys_1 (thread_rows s.threads), keys, few_threads s.threads is.threads, at_most.waits, at_most.mutexes, at_most.barriers, at_most.rwlocks, at_most.input, is_held)

@@ -169,7 +169,7 @@ fn drive_arguments<'a>(alloc: Global) -> Result<Vec<Arg<'a>>, AllocError>
             alloc,
             "turn",
             "65535",
-            "Steps of a thread's turn on a hart, 1 to 65535"
+            "Steps of a thread's turn on a hart, 1 to 1000000"
         ),
         number(
             alloc,

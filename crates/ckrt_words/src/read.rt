@@ -29,7 +29,7 @@ const INSPECT_USAGE: &str = "Usage: ckrt inspect <DISK> [--at NUMBER OF EVENTS] 
 
 /// What follows a number of `drive` that isn't one.
 const DRIVE_USAGE: &str =
-    "Usage: ckrt drive <DISK> [--output <FILE>] [--turn 1 to 65535] [--rounds-per-commit NUMBER OF ROUNDS] [--events NUMBER OF EVENTS] [--seed NUMBER] [--progress SECONDS] [--from OFFSET]";
+    "Usage: ckrt drive <DISK> [--output <FILE>] [--turn 1 to 1000000] [--rounds-per-commit NUMBER OF ROUNDS] [--events NUMBER OF EVENTS] [--seed NUMBER] [--progress SECONDS] [--from OFFSET]";
 
 /// What follows a number that isn't one, by the command.
 fn number_usage(words: &[&str]) -> &'static str {

@@ -11,4 +11,4 @@ returns-in-Some-planned-clause-in_range c =
     (c.in-Some.ensures.small, bounds.0, bounds.1)
 
 pub returns-in-None-clause-in_range : goal.returns-in-None-clause-in_range
-returns-in-None-clause-in_range c = (c.in-Some.ensures.small, c.steps_by.ensures.range.0, c.steps_by.ensures.range.1)
+returns-in-None-clause-in_range c = c.run_by.ensures.in_range

@@ -3,9 +3,6 @@ use Rattle.ckrt_machine.proofs.accept.running_refusal.Goals as goal
 pub returns-in-Place : goal.returns-in-Place
 returns-in-Place c = rw c.in-Place.is (c.place_refusal.ensures c.args.held)
 
-pub returns-in-Run : goal.returns-in-Run
-returns-in-Run c = rw c.in-Run.is (c.run_refusal.ensures c.in-Run.field-1)
-
 pub returns-in-Input : goal.returns-in-Input
 returns-in-Input c = rw c.in-Input.is (c.input_refusal.ensures c.args.held)
 
