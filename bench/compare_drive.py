@@ -82,7 +82,7 @@ class Bench:
     def count(self, words):
         """The host instructions of a process."""
         callgrind = ["valgrind", "--tool=callgrind", "--callgrind-out-file=/dev/null", *words]
-        said = subprocess.run(callgrind, check=True, capture_output=True, text=True).stderr
+        said = subprocess.run(callgrind, check=True, capture_output=True).stderr.decode(errors="replace")
         return int(re.search(r"Collected : (\d+)", said)[1])
 
     def instructions(self):
