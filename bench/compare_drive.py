@@ -3,7 +3,7 @@
 Words: `ckrt`, `ckrt_probe`, the folder of the guests, the folder of the disks, and jobs (all, if none is named).
 
 steps: guests driven to their ends with the defaults of a drive, commits and checkpoints and an output file included, on a disk of 64
-pages, beside the machine alone with Runs of as many steps; whole processes, by the clock and by processor time. A drive sleeps while the
+pages, beside the machine alone with Runs of 65,535 steps; whole processes, by the clock and by processor time. A drive sleeps while the
 disk syncs, the machine alone never does: where other programs want the processors, the clock tells how soon a sleeper gets one again, so the
 processor time is what compares. instructions: what a step more costs each of them in host instructions, which callgrind counts: a guest of
 two lengths, so that what a process does once drops out. waits: a guest that sleeps 100 times for a year of ticks, the whole process, for each wait.
@@ -21,7 +21,7 @@ from results import note
 GUESTS = ("nqueens-big", "pi-big", "primes-big", "sha256-big")
 ROUNDS, WAIT_ROUNDS, WAITS = 9, 31, 100
 YEAR = 365 * 86_400 * 1_000
-# Bytes that a guest puts, and rounds of two steps before each: some 4 and 8 million steps, with 4 and 8 commits.
+# Bytes that a guest puts, and rounds of two steps before each: some 4 and 8 million steps.
 PUT, BETWEEN = 20, (100_000, 200_000)
 JOURNAL = 1_048_576
 

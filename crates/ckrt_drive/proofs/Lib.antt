@@ -1,6 +1,9 @@
 pub mod PlanLemmas
 pub mod SaveLemmas
+pub mod PutLemmas
 pub mod WriteLemmas
 pub mod StepLemmas
 pub mod EndLemmas
 pub mod RunLemmas
+pub mod StreamLemmas
+pub mod NeedLemmas

@@ -26,11 +26,13 @@ use Rattle.ckrt_drive.specs.declared.progress.Ending.{Ending}
 use Rattle.ckrt_drive.specs.declared.progress.Ending.TheVariants.{Ended, Enough}
 use Rattle.ckrt_drive.specs.declared.progress.Progress.{Progress}
 use Rattle.ckrt_drive.specs.declared.progress.Progress.TheVariants.{Submitted, Committed, Checkpointed, Released, Stopped}
-use Rattle.ckrt_drive.specs.Plan.{after_event, behind_turn, cursor_after, is_shortage, next, next_running, offered, plan, plan_for, save, turn_in}
+use Rattle.ckrt_drive.specs.Plan.{after_event, behind_turn, cursor_after, is_shortage, next, next_running, offered, plan, plan_for, save, most_steps}
 use Rattle.ckrt_drive.specs.Output.{HasOutput, HoldsOutput, Writes, acknowledged_output}
 use Rattle.ckrt_drive.specs.Runs.{FollowsPlan, GoesByPlan, IsAtEnd, IsFault, IsOnward, Runs, Stand, StopsRightly, events_in, stand, stand_after, stand_of}
+use Rattle.ckrt_drive.specs.PutOut.{PutsOutput, output_failed, is_output_fault}
 use Rattle.ckrt_drive.specs.Steps.{IsSound, IsWhyStep, Steps, accepted_by, view_after}
 use Rattle.ckrt_drive.proofs.EndLemmas.{end_of}
+use Rattle.ckrt_drive.proofs.PutLemmas.{puts_nothing, puts_output_more}
 use Rattle.ckrt_drive.proofs.WriteLemmas.{same_output, writes_kept}
 
 -- ENDS
@@ -72,10 +74,10 @@ reached n m e le = grind (arith, nat_tests)
 -- an end is planned only where all is saved, and it is what it says
 pub at_end : (o : Options) (c : Cursor) (v : View) (ending : Ending) → v.recovered.confirmed ≤ v.released → IsSound c v → plan o c v ≡ Ok (Stopped ending) → IsAtEnd c v ending
 at_end o c v ending le sound is =
-    let kept = kept_by (nat_lt v.recovered.confirmed v.released) (next (turn_in (version_of v) o.turn) c v.recovered.state.tables) c v ending is in
+    let kept = kept_by (nat_lt v.recovered.confirmed v.released) (next (most_steps (version_of v) o.turn) c v.recovered.state.tables) c v ending is in
     record {
       saved = record { acknowledged = sound.saved kept.1; confirmed = reached v.recovered.confirmed v.released kept.0 le };
-      is = end_of (turn_in (version_of v) o.turn) c v.recovered.state.tables ending kept.2;
+      is = end_of (most_steps (version_of v) o.turn) c v.recovered.state.tables ending kept.2;
     }
 
 -- EVENTS
@@ -111,7 +113,7 @@ left_by false b c n is never = absurd (never Ended refl)
 some_left : (o : Options) (x : Stand) (e : Event) (answer : Answer) → plan o x.cursor x.view ≡ Ok (Submitted e answer) → 0 < x.cursor.events_left
 some_left o x e answer is =
     let s = x.view.recovered.state.tables in
-    left_by (is_running s.status) (x.cursor.events_left == 0) x.cursor (next_running (turn_in (version_of x.view) o.turn) x.cursor s) refl (submits_by (nat_lt x.view.recovered.confirmed x.view.released) (next (turn_in (version_of x.view) o.turn) x.cursor s) x.cursor x.view e answer is)
+    left_by (is_running s.status) (x.cursor.events_left == 0) x.cursor (next_running (most_steps (version_of x.view) o.turn) x.cursor s) refl (submits_by (nat_lt x.view.recovered.confirmed x.view.released) (next (most_steps (version_of x.view) o.turn) x.cursor s) x.cursor x.view e answer is)
 
 turn_keeps : (lot : Option Lot) (h : ℕ) (c : Cursor) → (behind_turn lot h c).events_left ≡ c.events_left
 turn_keeps None h c = refl
@@ -162,6 +164,9 @@ enough_by o did x y ending h at result gives is =
     let none = subst (λ e. IsAtEnd y.cursor y.view e) same at in
     omega (arith, counted o did x y h, none.is.1)
 
+no_room : (fault : DriveFault) (result : Result (Option Ending) DriveFault) → result ≡ Err fault → result ≡ Err OutputFull → fault ≡ OutputFull
+no_room fault result is full = cc
+
 module _ {D O : Type 0} {g : Ghosts D} (o : Ghosts O) where
   pub stops_rightly : (options : Options) (c c' : Cursor) (s t : Session D g) (a b : O) (r : Result Progress DriveFault) → IsSound c (view_of s) → Steps o (plan options c (view_of s)) s t a b r
       → IfOk r (λ did. c' ≡ cursor_after options did c) → IfOk r (StopsRightly c' (view_of t))
@@ -179,6 +184,13 @@ module _ {D O : Type 0} {g : Ghosts D} (o : Ghosts O) where
   fault_stands options c c' s t a b OutputFull same h = (h.0, same_stand c' c (view_of t) (view_of s) same (ap view_of h.2))
   fault_stands options c c' s t a b GenerationsUsed same h = (h.0, same_stand c' c (view_of t) (view_of s) same (ap view_of h.1))
   fault_stands options c c' s t a b (Refused why) same h = (h.0, same_stand c' c (view_of t) (view_of s) same (ap view_of h.1))
+
+  -- where the output has no room it had none at first
+  full_by : (options : Options) (c : Cursor) (s t : Session D g) (x a b : O) (fault : DriveFault) → o.size x ≡ o.size a → IsWhyStep o (plan options c (view_of s)) s t a b fault → fault ≡ OutputFull → o.size x < t.released
+  full_by options c s t x a b fault same h is =
+      let why = subst (λ f. IsWhyStep o (plan options c (view_of s)) s t a b f) is h in
+      let released = ap (λ (v : Session D g). v.released) why.2 in
+      omega (arith, same, why.1, released)
 
   -- ONE AFTER ANOTHER
 
@@ -209,10 +221,11 @@ module _ {D O : Type 0} {g : Ghosts D} (o : Ghosts O) where
     pub count : length did ≡ made
     pub accepts : Accepts (events_in did) s t
     pub writes : Writes o (events_in did) s t a b
+    pub puts : PutsOutput o (events_in did) s t a b false
     pub well : o.failures b ≡ o.failures a
 
   pub so_far_nothing : (options : Options) (c : Cursor) (s : Session D g) (a : O) → SoFar options 0 c c s s a a
-  so_far_nothing options c s a = let accepts = accepts_kept s s refl refl in record { did = []; follows = refl; count = refl; accepts = accepts; writes = writes_kept o [] s s a accepts refl; well = refl }
+  so_far_nothing options c s a = let accepts = accepts_kept s s refl refl in record { did = []; follows = refl; count = refl; accepts = accepts; writes = writes_kept o [] s s a accepts refl; puts = puts_nothing o [] s s a refl; well = refl }
 
   pub so_far_more : (options : Options) (made : ℕ) (c d e : Cursor) (did : Progress) (s m u : Session D g) (x y z : O) → SoFar options made c d s m x y → IsOnward did → Steps o (plan options d (view_of m)) m u y z (Ok did)
       → e ≡ cursor_after options did d → o.failures z ≡ o.failures y → SoFar options (made + 1) c e s u x z
@@ -223,19 +236,22 @@ module _ {D O : Type 0} {g : Ghosts D} (o : Ghosts O) where
     count = length-append h.did (did ∷ []) ∙ ap (λ n. n + 1) h.count;
     accepts = subst (λ (l : List Event). Accepts l s u) (sym (events_more h.did did)) (accepts_more (events_in h.did) (accepted_by did) s m u h.accepts k.accepts);
     writes = subst (λ (l : List Event). Writes o l s u x z) (sym (events_more h.did did)) (writes_more (events_in h.did) (accepted_by did) s m u x y z h.accepts k.accepts h.writes k.writes);
+    puts = subst (λ (l : List Event). PutsOutput o l s u x z false) (sym (events_more h.did did)) (puts_output_more o (events_in h.did) (accepted_by did) s m u x y z false h.accepts k.accepts h.puts k.puts);
     well = well ∙ h.well;
   }
 
   module _ (law : (disk : D) (image : List ℕ) → g.is_honest disk → g.left_since disk (g.moment disk) image → IsImage (g.content disk) (g.pending disk) image)
       (output_law : (disk : O) (image : List ℕ) → o.is_honest disk → o.left_since disk (o.moment disk) image → IsImage (o.content disk) (o.pending disk) image)
       (options : Options) (steps : ℕ) where
-    runs_by : (accepted : List Event) (c e : Cursor) (s u : Session D g) (x z : O) (result : Result (Option Ending) DriveFault) → Accepts accepted s u → Writes o accepted s u x z
-        → GoesByPlan options steps accepted (stand_of c s) (stand_of e u) result → Runs o options steps c e s u x z result
-    runs_by accepted c e s u x z result accepts writes goes = record {
+    runs_by : (accepted : List Event) (c e : Cursor) (s u : Session D g) (x z : O) (result : Result (Option Ending) DriveFault) → Accepts accepted s u → Writes o accepted s u x z → PutsOutput o accepted s u x z (is_output_fault result)
+        → (result ≡ Err OutputFull → o.size x < u.released) → GoesByPlan options steps accepted (stand_of c s) (stand_of e u) result → Runs o options steps c e s u x z result
+    runs_by accepted c e s u x z result accepts writes puts full goes = record {
       accepted = accepted;
       accepts = accepts;
       goes = goes;
       writes = writes;
+      puts = puts;
+      full = full;
       since_start = λ honest p events reps image left. since_start law accepted s u accepts honest p events reps image left;
       output_since_start = λ honest whole p events from reps h image left. ⊎_elim
           (λ (past : _). λ i le lt. (output_law x image (writes.honest whole) past).same i (h.durable i le lt) ∙ h.has i le lt)
@@ -245,7 +261,7 @@ module _ {D O : Type 0} {g : Ghosts D} (o : Ghosts O) where
 
     -- all the steps were made
     pub runs_all : (c d : Cursor) (s m : Session D g) (x y : O) → SoFar options steps c d s m x y → Runs o options steps c d s m x y (Ok None)
-    runs_all c d s m x y h = runs_by (events_in h.did) c d s m x y (Ok None) h.accepts h.writes (record {
+    runs_all c d s m x y h = runs_by (events_in h.did) c d s m x y (Ok None) h.accepts h.writes h.puts (λ no. absurd (cc)) (record {
       did = h.did;
       last = stand_of d m;
       follows = h.follows;
@@ -264,6 +280,8 @@ module _ {D O : Type 0} {g : Ghosts D} (o : Ghosts O) where
         runs_by (events_in h.did) c e s u x z (Ok (Some ending))
         (subst (λ (l : List Event). Accepts l s u) none (accepts_more (events_in h.did) [] s m u h.accepts k.accepts))
         (subst (λ (l : List Event). Writes o l s u x z) none (writes_more (events_in h.did) [] s m u x y z h.accepts k.accepts h.writes k.writes))
+        (subst (λ (l : List Event). PutsOutput o l s u x z false) none (puts_output_more o (events_in h.did) [] s m u x y z false h.accepts k.accepts h.puts k.puts))
+        (λ no. absurd (cc))
         (record {
           did = h.did;
           last = stand_of d m;
@@ -283,6 +301,8 @@ module _ {D O : Type 0} {g : Ghosts D} (o : Ghosts O) where
         runs_by (events_in h.did) c e s u x z (Err fault)
         (subst (λ (l : List Event). Accepts l s u) none (accepts_more (events_in h.did) [] s m u h.accepts k.accepts))
         (subst (λ (l : List Event). Writes o l s u x z) none (writes_more (events_in h.did) [] s m u x y z h.accepts k.accepts h.writes k.writes))
+        (subst (λ (l : List Event). PutsOutput o l s u x z (output_failed fault)) none (puts_output_more o (events_in h.did) [] s m u x y z (output_failed fault) h.accepts k.accepts h.puts k.puts))
+        (λ is. full_by options d m u x y z fault (sym h.writes.size) k.why (no_room fault (Err fault) refl is))
         (record {
           did = h.did;
           last = stand_of d m;

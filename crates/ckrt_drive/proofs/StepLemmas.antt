@@ -16,7 +16,7 @@ use Rattle.ckrt_drive.specs.declared.fault.DriveFault.{DriveFault}
 use Rattle.ckrt_drive.specs.declared.fault.DriveFault.TheVariants.{Device, Output, OutputFull, GenerationsUsed, Refused}
 use Rattle.ckrt_drive.specs.declared.progress.Progress.{Progress}
 use Rattle.ckrt_drive.specs.declared.progress.Progress.TheVariants.{Submitted, Committed, Checkpointed, Released, Stopped}
-use Rattle.ckrt_drive.specs.Plan.{IsInRangeProgress, save, is_shortage, offered, plan_for, plan, next, turn_in}
+use Rattle.ckrt_drive.specs.Plan.{IsInRangeProgress, save, is_shortage, offered, plan_for, plan, next, most_steps}
 use Rattle.ckrt_drive.specs.Steps.{Advances, Steps}
 use Rattle.ckrt_drive.proofs.WriteLemmas.{steps_still}
 
@@ -79,9 +79,9 @@ module _ {D : Type 0} {g : Ghosts D} where
 
   -- no output is released that isn't confirmed, so the session goes on
   pub steps_on : {O : Type 0} (o : Ghosts O) (options : Options) (c : Cursor) (s t : Session D g) (a : O) (r : Result Progress DriveFault) → nat_lt s.progress.confirmed s.released ≡ false
-      → Advances (plan_for (next (turn_in s.progress.journal.version options.turn) c s.progress.machine.state.tables) c (view_of s)) s t r → Steps o (plan options c (view_of s)) s t a a r
+      → Advances (plan_for (next (most_steps s.progress.journal.version options.turn) c s.progress.machine.state.tables) c (view_of s)) s t r → Steps o (plan options c (view_of s)) s t a a r
   steps_on o options c s t a r none h =
-      let n = next (turn_in s.progress.journal.version options.turn) c s.progress.machine.state.tables in
+      let n = next (most_steps s.progress.journal.version options.turn) c s.progress.machine.state.tables in
       let planned : plan options c (view_of s) ≡ plan_for n c (view_of s) = ap (λ b. if b then Ok Released else plan_for n c (view_of s)) none in
       let never = no_release n c (view_of s) in
       subst (λ (q : Result Progress DriveFault). Steps o q s t a a r) (sym planned) (steps_still o (plan_for n c (view_of s)) s t a r never h (confirmed_kept (plan_for n c (view_of s)) s t r never h))

@@ -13,7 +13,7 @@ use Rattle.ckrt_image.specs.Programs.{Program}
 use Rattle.ckrt_recovery.specs.declared.session.Session.{Session}
 use Rattle.ckrt_recovery.specs.Between.{IsBeginningOf}
 use Rattle.ckrt_recovery.specs.Represents.{Represents, acknowledged_of}
-use Rattle.ckrt_recovery.specs.View.{View, view_of, confirmed_to}
+use Rattle.ckrt_recovery.specs.View.{View, view_of, confirmed_to, released_output}
 use Rattle.ckrt_main.specs.Service.{Accepts}
 use Rattle.ckrt_main.proofs.AcceptLemmas.{accepts_kept, taken_begins}
 use Rattle.ckrt_main.proofs.PieceLemmas.{output_begins}
@@ -23,6 +23,8 @@ use Rattle.ckrt_drive.specs.declared.progress.Progress.{Progress}
 use Rattle.ckrt_drive.specs.declared.progress.Progress.TheVariants.{Released}
 use Rattle.ckrt_drive.specs.Steps.{Advances, IsWhy, IsWhyStep, Steps, accepted_in}
 use Rattle.ckrt_drive.specs.Output.{HasOutput, HoldsOutput, Writes, acknowledged_output}
+use Rattle.ckrt_drive.specs.PutOut.{PutsOrFails, PutsOutput, is_output_fault}
+use Rattle.ckrt_drive.proofs.PutLemmas.{puts_nothing, puts_released, puts_torn}
 
 -- a list and what goes on behind it
 front_same : (few all : List ℕ) (i : ℕ) → IsBeginningOf few all → i < length few → slice_index all i ≡ slice_index few i
@@ -114,14 +116,15 @@ module _ {D O : Type 0} {g : Ghosts D} (o : Ghosts O) where
 
     -- A RELEASE
 
-    pub steps_torn : (t : Session D g) → view_of t ≡ view_of s → t.disk ≡ s.disk → failed ≡ true → Steps o (Ok Released) s t a b (Err Output)
-    steps_torn t view same is =
+    pub steps_torn : (bytes : List ℕ) (t : Session D g) → view_of t ≡ view_of s → t.disk ≡ s.disk → bytes ≡ released_output (view_of s) → failed ≡ true → PutsOrFails o s.progress.confirmed bytes a b failed → Steps o (Ok Released) s t a b (Err Output)
+    steps_torn bytes t view same are is put =
         let accepts = accepts_kept s t view same in
         record {
           done = tt;
           why = (refl, disk.fault is, view);
           accepts = accepts;
           writes = writes_torn t accepts (ap (λ (v : View). v.recovered.confirmed) view);
+          puts = puts_torn o s t a b bytes failed view are is put;
           well = λ no. absurd (cc);
           output_kept = λ no. absurd (no refl);
           disk_kept = λ _. same;
@@ -132,16 +135,32 @@ module _ {D O : Type 0} {g : Ghosts D} (o : Ghosts O) where
         → (o.is_honest b → IsOverwritten (o.content a) s.progress.confirmed bytes (o.content b))
         → (o.is_honest b → (i : ℕ) → ¬ o.pending b i)
         → ((p : Program) (events : List Event) → Represents p events s → bytes ≡ drop s.progress.confirmed (acknowledged_output p events s))
-        → failed ≡ false → Steps o (Ok Released) s t a b (Ok Released)
-    steps_released bytes t count accepts view same end room size written settled output well = record {
+        → failed ≡ false → PutsOrFails o s.progress.confirmed bytes a b failed → Steps o (Ok Released) s t a b (Ok Released)
+    steps_released bytes t count accepts view same end room size written settled output well put = record {
       done = (refl, view);
       why = tt;
       accepts = accepts;
       writes = writes_released bytes t count accepts (ap (λ (v : View). v.recovered.confirmed) view) end room size written settled output;
+      puts = puts_released o s t a b bytes failed (ap (λ (v : View). v.recovered.confirmed) view) (ap (λ (v : View). v.acknowledged) view) end output well put;
       well = λ _. disk.well well;
       output_kept = λ no. absurd (no refl);
       disk_kept = λ _. same;
     }
+
+  -- the output has no room for the released bytes, and isn't called
+  pub steps_full : (s : Session D g) (a : O) → o.size a < s.released → Steps o (Ok Released) s s a a (Err OutputFull)
+  steps_full s a lt =
+      let accepts = accepts_kept s s refl refl in
+      record {
+        done = tt;
+        why = (refl, lt, refl, refl);
+        accepts = accepts;
+        writes = writes_kept [] s s a accepts refl;
+        puts = puts_nothing o [] s s a refl;
+        well = λ _. refl;
+        output_kept = λ _. refl;
+        disk_kept = λ _. refl;
+      }
 
   -- A step of the session alone
 
@@ -151,6 +170,7 @@ module _ {D O : Type 0} {g : Ghosts D} (o : Ghosts O) where
     why = still result h.why;
     accepts = h.accepts;
     writes = writes_kept (accepted_in result) s t a h.accepts same;
+    puts = quiet result h.why;
     well = λ _. refl;
     output_kept = λ _. refl;
     disk_kept = λ is. absurd (other is);
@@ -163,3 +183,14 @@ module _ {D O : Type 0} {g : Ghosts D} (o : Ghosts O) where
       still (Err OutputFull) h = absurd h
       still (Err GenerationsUsed) h = h
       still (Err (Refused why)) h = h
+
+      nothing : PutsOutput o (accepted_in result) s t a a false
+      nothing = puts_nothing o (accepted_in result) s t a same
+
+      quiet : (r : Result Progress DriveFault) → IfErr r (IsWhy planned s t) → PutsOutput o (accepted_in result) s t a a (is_output_fault r)
+      quiet (Ok did) h = nothing
+      quiet (Err Device) h = nothing
+      quiet (Err Output) h = absurd h
+      quiet (Err OutputFull) h = nothing
+      quiet (Err GenerationsUsed) h = nothing
+      quiet (Err (Refused why)) h = nothing

@@ -21,6 +21,7 @@ use Rattle.ckrt_drive.specs.Lots.{lots_of, next_lot, number_of}
 use Rattle.ckrt_drive.specs.declared.lot.Lot.{Lot}
 use Rattle.ckrt_drive.specs.declared.cursor.Cursor.{Cursor}
 use Rattle.ckrt_drive.specs.declared.options.Options.{Options}
+use Rattle.ckrt_drive.specs.declared.options.TheConstants.{RUN_LIMIT}
 use Rattle.ckrt_drive.specs.declared.fault.DriveFault.{DriveFault}
 use Rattle.ckrt_drive.specs.declared.fault.DriveFault.TheVariants.{Refused}
 use Rattle.ckrt_drive.specs.declared.progress.Ending.TheVariants.{Ended, WaitsForInput, Deadlock, Enough}
@@ -72,7 +73,7 @@ round_end None s = idle_until (earliest_deadline s.threads.waits) s
 
 -- a run of n steps at most, by the shortest event that has as many
 abbrev pub run_by : ℕ → ℕ → Event
-run_by h n = if nat_le n 65535 then Run h n else RunLong h n
+run_by h n = if nat_le n RUN_LIMIT then Run h n else RunLong h n
 
 -- who is planned goes onto the hart, and else the hart's thread runs on
 abbrev pub on_turn : Option ℕ → ℕ → ℕ → Event
@@ -111,8 +112,8 @@ abbrev pub next : ℕ → Cursor → Tables → Next
 next most c s = if is_running s.status then (if c.events_left == 0 then End Enough else next_running most c s) else End Ended
 
 -- the most steps of a turn where the session's area is of a version: journals of version 1 have no long runs
-abbrev pub turn_in : (version most : ℕ) → ℕ
-turn_in version most = if nat_le 2 version then most else min most 65535
+abbrev pub most_steps : (version most : ℕ) → ℕ
+most_steps version most = if nat_le 2 version then most else min most RUN_LIMIT
 
 -- THE PLAN
 
@@ -142,7 +143,7 @@ plan_for (End ending) c v = if c.is_saved then Ok (Stopped ending) else Ok (save
 
 -- released output goes out first
 abbrev pub plan : Options → Cursor → View → Result Progress DriveFault
-plan o c v = if nat_lt v.recovered.confirmed v.released then Ok Released else plan_for (next (turn_in (version_of v) o.turn) c v.recovered.state.tables) c v
+plan o c v = if nat_lt v.recovered.confirmed v.released then Ok Released else plan_for (next (most_steps (version_of v) o.turn) c v.recovered.state.tables) c v
 
 -- the event's fields are in their ranges
 abbrev pub IsInRangeProgress : Progress → Type 0

@@ -19,6 +19,7 @@ use Rattle.ckrt_drive.specs.declared.progress.Progress.TheVariants.{Submitted, C
 use Rattle.ckrt_drive.specs.Ends.{IsEnd}
 use Rattle.ckrt_drive.specs.Output.{HasOutput, HoldsOutput, Writes, acknowledged_output}
 use Rattle.ckrt_drive.specs.Plan.{cursor_after, plan}
+use Rattle.ckrt_drive.specs.PutOut.{PutsOutput, is_output_fault}
 use Rattle.ckrt_drive.specs.Steps.{accepted_by, view_after}
 
 -- ENDS
@@ -110,6 +111,10 @@ pub record Runs {D O : Type 0} {g : Ghosts D} (o : Ghosts O) (options : Options)
   pub accepts : Accepts accepted s t
   pub goes : GoesByPlan options steps accepted (stand_of c s) (stand_of c' t) result
   pub writes : Writes o accepted s t a b
+  -- what the output was given
+  pub puts : PutsOutput o accepted s t a b (is_output_fault result)
+  -- it has no room for the released bytes where that is the fault
+  pub full : result ≡ Err OutputFull → o.size a < t.released
   -- every image that a stop left of the disk since the start
   pub since_start : g.is_honest t.disk → (p : Program) (events : List Event) → Represents p events s
       → (image : List ℕ) → g.left_since t.disk (g.moment s.disk) image → RecoversBetween p (acknowledged_of events s) (events ++ accepted) t.progress.confirmed image

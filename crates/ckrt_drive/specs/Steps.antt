@@ -1,5 +1,5 @@
 -- What a step of a drive makes of the session, of its disk, and of the output.
-use Rattle.std.specs.Prelude.{◌≡◌, ◌≤◌, ◌<◌, ◌-◌, ◌^◌, ℕ, Bool, true, false, List, [], ◌∷◌, Result, Ok, Err, Some, IfOk, IfErr}
+use Rattle.std.specs.Prelude.{◌≡◌, ◌≤◌, ◌<◌, ◌-◌, ◌^◌, ℕ, true, false, List, [], ◌∷◌, Result, Ok, Err, Some, IfOk, IfErr}
 use Rattle.ckrt_disk.specs.Disk.{HasFailed}
 use Rattle.ckrt_disk.specs.declared.disk.Disk.{Ghosts}
 use Rattle.ckrt_events.specs.declared.event.Event.{Event}
@@ -12,6 +12,7 @@ use Rattle.ckrt_drive.specs.declared.fault.DriveFault.TheVariants.{Device, Outpu
 use Rattle.ckrt_drive.specs.declared.progress.Progress.{Progress}
 use Rattle.ckrt_drive.specs.declared.progress.Progress.TheVariants.{Submitted, Committed, Checkpointed, Released, Stopped}
 use Rattle.ckrt_drive.specs.Output.{Writes}
+use Rattle.ckrt_drive.specs.PutOut.{PutsOutput, is_output_fault}
 
 -- the session behind what the drive did
 abbrev pub view_after : Progress → View → View
@@ -32,14 +33,6 @@ accepted_by (Stopped ending) = []
 abbrev pub accepted_in : Result Progress DriveFault → List Event
 accepted_in (Ok done) = accepted_by done
 accepted_in (Err fault) = []
-
-abbrev pub is_output_fault : Result Progress DriveFault → Bool
-is_output_fault (Ok done) = false
-is_output_fault (Err Device) = false
-is_output_fault (Err Output) = true
-is_output_fault (Err OutputFull) = false
-is_output_fault (Err GenerationsUsed) = false
-is_output_fault (Err (Refused why)) = false
 
 -- THE CURSOR
 
@@ -85,6 +78,8 @@ pub record Steps {D O : Type 0} {g : Ghosts D} (o : Ghosts O) (planned : Result 
   pub accepts : Accepts (accepted_in result) s t
   -- what every stop leaves of the output
   pub writes : Writes o (accepted_in result) s t a b
+  -- what the output was given
+  pub puts : PutsOutput o (accepted_in result) s t a b (is_output_fault result)
   -- the output counts no failure but for its fault
   pub well : is_output_fault result ≡ false → o.failures b ≡ o.failures a
   -- the output is called for released bytes alone, and then the disk isn't

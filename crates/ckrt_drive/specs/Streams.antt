@@ -1,8 +1,16 @@
 -- What an output hands on that keeps nothing. The ghost `contents` of a kind of writer says what a writer holds, where that is known.
-use Rattle.std.specs.Prelude.{◌≡◌, ◌<◌, ◌+◌, ◌-◌, ℕ, max, Bool, true, false, List, length, drop, Option}
+use Rattle.std.specs.Prelude.{◌≡◌, ◌<◌, ◌+◌, ◌-◌, ℕ, max, Bool, true, false, List, ◌++◌, length, drop, Option}
 use Rattle.std.specs.Io.KnownBytes.{Appends}
-use Rattle.ckrt_drive.specs.declared.stream.StreamOutput.{StreamOutput}
+use Rattle.ckrt_disk.specs.declared.disk.Disk.{Ghosts}
+use Rattle.ckrt_events.specs.declared.event.Event.{Event}
+use Rattle.ckrt_image.specs.Programs.{Program}
+use Rattle.ckrt_recovery.specs.declared.session.Session.{Session}
+use Rattle.ckrt_recovery.specs.Between.{IsBeginningOf}
+use Rattle.ckrt_recovery.specs.Represents.{Represents}
 use Rattle.ckrt_main.specs.Service.{AppendsPart}
+use Rattle.ckrt_drive.specs.declared.stream.StreamOutput.{StreamOutput}
+use Rattle.ckrt_drive.specs.Output.{acknowledged_output}
+use Rattle.ckrt_drive.specs.PutOut.{between}
 
 abbrev pub writer_of : {W : Type 0} → StreamOutput W → W
 writer_of stream = stream.writer
@@ -33,6 +41,30 @@ pub record HandsOn {W : Type 0} (contents : W → Option (List ℕ)) (old : Stre
   pub broken : HasBroken old → (ok ≡ false) × (writer_of new ≡ writer_of old) × (got_to new ≡ got_to old)
 
 -- a read or a sync, which hands nothing on
-pub record HandsNothingOn {W : Type 0} (old new : StreamOutput W) : Type 0 where
+pub record HandsNothingOn {W : Type 0} (old : StreamOutput W) (ok : Bool) (new : StreamOutput W) : Type 0 where
   pub writer : writer_of new ≡ writer_of old
   pub next : got_to new ≡ got_to old
+  -- one that fails breaks it
+  pub breaks : ok ≡ false → HasBroken new
+
+-- A WHOLE RUN OF A DRIVE
+
+-- From a to b a stream handed on these bytes, from an offset up to another, but for those below the offset that it had got to; and where it
+-- failed a call, also a beginning of what is behind.
+abbrev pub HandsBetween : {W : Type 0} → (contents : W → Option (List ℕ)) → (from to : ℕ) → (out : List ℕ) → (a b : StreamOutput W) → (failed : Bool) → Type 0
+HandsBetween contents from to out a b false = Appends (contents (writer_of a)) (contents (writer_of b)) (between (max (got_to a) from) to out)
+HandsBetween contents from to out a b true =
+    (front : List ℕ) × IsBeginningOf front (drop (max (got_to a) to) out) × Appends (contents (writer_of a)) (contents (writer_of b)) (between (max (got_to a) from) to out ++ front)
+
+-- From s to t a session took these events, and its stream went from a to b, whether it failed a call or not.
+pub record StreamsOutput {D W : Type 0} {g : Ghosts D} (contents : W → Option (List ℕ)) (accepted : List Event) (s t : Session D g) (a b : StreamOutput W) (failed : Bool) : Type 0 where
+  -- what it handed on is the plain fold's output of acknowledged events, from the offset that it had got to, or that was confirmed in s if
+  -- that is higher, up to the one that is confirmed in t
+  pub hands : g.is_honest t.disk → (p : Program) (events : List Event) → Represents p events s
+      → HandsBetween contents s.progress.confirmed t.progress.confirmed (acknowledged_output p (events ++ accepted) t) a b failed
+  -- it leaves out as much of what is behind as before
+  pub left_out : failed ≡ false → max (got_to b) t.progress.confirmed ≡ max (got_to a) t.progress.confirmed
+  -- it has broken where it failed a call
+  pub breaks : failed ≡ true → HasBroken b
+  -- and hands nothing on where it had broken before
+  pub broken : HasBroken a → writer_of b ≡ writer_of a

@@ -5,6 +5,7 @@
 mod cursor;
 mod drive;
 mod fault;
+mod laws;
 mod lot;
 mod onlooker;
 mod options;
@@ -16,6 +17,7 @@ mod stream;
 pub use cursor::Cursor;
 pub use drive::Drive;
 pub use fault::DriveFault;
+pub use laws::{plans_suit_the_version, stream_gets_the_output};
 pub use lot::Lot;
 pub use onlooker::{Nobody, Onlooker};
 pub use options::Options;

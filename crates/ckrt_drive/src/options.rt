@@ -4,8 +4,8 @@ ghost use Rattle.ckrt_events.specs.declared.event.TheConstants.{LONG_RUN_LIMIT};
 
 use ckrt_events::LONG_RUN_LIMIT;
 
-/// The most steps of a turn where a journal has no long runs.
-const SHORT_TURN: u32 = 65_535;
+/// The most steps of a [`Run`](ckrt_events::Event::Run).
+pub(crate) const RUN_LIMIT: u32 = 65_535;
 
 /// How a drive goes.
 #[derive(Clone, Copy, Debug, PartialEq, Eq)]
@@ -20,10 +20,10 @@ pub struct Options {
 }
 
 impl Options {
-    ghost use Rattle.ckrt_drive.specs.Plan.{turn_in};
+    ghost use Rattle.ckrt_drive.specs.Plan.{most_steps};
 
-    /// In each round each hart in turn runs `turn` steps at most, 65,535 while the session's area is of version 1; there is a commit after `rounds` rounds; the drive ends
-    /// after `events` events.
+    /// In each round each hart in turn runs `turn` steps at most, and 65,535 at most while the session's area is of version 1.
+    /// There is a commit after `rounds` rounds, and the drive ends after `events` events.
     pub fn new(turn: u32, rounds: u32, events: u64) -> Options
         requires turn { 1 ≤ turn }
         requires few { turn ≤ LONG_RUN_LIMIT }
@@ -55,15 +55,15 @@ impl Options {
     }
 
     /// How many steps a turn has at most in a session whose area is of this version.
-    pub(crate) fn turn_in(&self, version: u32) -> u32
-        ensures turn { result ≡ turn_in version self.now.turn }
+    pub(crate) fn most_steps(&self, version: u32) -> u32
+        ensures turn { result ≡ most_steps version self.now.turn }
         ensures some { 1 ≤ result }
         ensures few { result ≤ LONG_RUN_LIMIT }
     {
         if 2 <= version {
             self.turn
         } else {
-            self.turn.min(SHORT_TURN)
+            self.turn.min(RUN_LIMIT)
         }
     }
 }

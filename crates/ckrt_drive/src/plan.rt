@@ -9,6 +9,7 @@ ghost use Rattle.ckrt_drive.specs.Plan.{IsInRangeNext, run_by, is_busy, next_bus
 
 use crate::cursor::Cursor;
 use crate::lot::Lot;
+use crate::options::RUN_LIMIT;
 use crate::progress::Ending;
 use ckrt_calls::{Status, Tables};
 use ckrt_events::{Event, LONG_RUN_LIMIT};
@@ -154,7 +155,7 @@ fn run_by(hart: u8, steps: u32) -> Event
     ensures event { result ≡ run_by hart steps }
     ensures in_range { IsInRange result }
 {
-    if steps <= 65_535 {
+    if steps <= RUN_LIMIT {
         Event::Run(hart, steps as u16)
     } else {
         Event::RunLong(hart, steps)

@@ -1,10 +1,13 @@
 //! Steps of a drive.
-ghost use Rattle.std.specs.Prelude.{◌≡◌, ◌≤◌, true, Ok, OnErr, IfOk};
+ghost use Rattle.std.specs.Prelude.{◌≡◌, ◌≤◌, ◌+◌, ℕ, length, is_err, true, Ok, OnErr, OnOk, IfOk};
+ghost use Rattle.ckrt_disk.specs.Disk.{IsOverwritten, IsWithin};
+ghost use Rattle.ckrt_disk.specs.Frame.{WritesWithin};
 ghost use Rattle.ckrt_events.specs.Bytes.{IsInRange};
 ghost use Rattle.ckrt_recovery.specs.declared.fault.SubmitFault.{SubmitFault};
 ghost use Rattle.ckrt_recovery.specs.View.{view_of, refusal_of};
 ghost use Rattle.ckrt_drive.specs.declared.progress.Progress.TheVariants.{Committed, Checkpointed, Released};
-ghost use Rattle.ckrt_drive.specs.Plan.{IsInRangeProgress, save, is_shortage, offered, next, plan_for, plan, cursor_after, turn_in};
+ghost use Rattle.ckrt_drive.specs.Plan.{IsInRangeProgress, save, is_shortage, offered, next, plan_for, plan, cursor_after, most_steps};
+ghost use Rattle.ckrt_drive.specs.PutOut.{PutsOrFails};
 ghost use Rattle.ckrt_drive.specs.Steps.{Advances, IsSound, Steps};
 
 use crate::cursor::Cursor;
@@ -12,7 +15,7 @@ use crate::fault::DriveFault;
 use crate::options::Options;
 use crate::plan::{Next, next_event};
 use crate::progress::Progress;
-use ckrt_disk::{Disk, write_synced};
+use ckrt_disk::{DeviceFault, Disk};
 use ckrt_events::Event;
 use ckrt_machine::Refusal;
 use ckrt_recovery::{CommitFault, Session, SubmitFault};
@@ -81,6 +84,18 @@ fn offer<D: Disk>(session: &mut Session<D>, event: Event) -> Result<Progress, Dr
     }
 }
 
+/// Writes the bytes from the offset `at` on, and syncs the output.
+fn put_out<O: Disk>(output: &mut O, at: usize, bytes: &[u8]) -> Result<(), DeviceFault>
+    requires { at + length bytes.now ≤ O.size output.old }
+    ensures within { WritesWithin O.Disk (IsWithin at (length bytes.now)) 2 output.old output.new (is_err result) }
+    ensures written { OnOk result (O.is_honest output.new → IsOverwritten (O.content output.old) at bytes.now (O.content output.new)) }
+    ensures nothing_pending { OnOk result (O.is_honest output.new → (i : ℕ) → ¬ O.pending output.new i) }
+    ensures puts { PutsOrFails O.Disk at bytes.now output.old output.new (is_err result) }
+{
+    output.write(at, bytes)?;
+    output.sync()
+}
+
 /// Writes the released bytes at their offset, syncs the output, and then confirms them.
 fn release<D: Disk, O: Disk>(
     session: &mut Session<D>,
@@ -93,7 +108,7 @@ fn release<D: Disk, O: Disk>(
         return Err(DriveFault::OutputFull);
     }
     let (offset, bytes) = session.take_output();
-    if write_synced(output, offset as usize, bytes).is_err() {
+    if put_out(output, offset as usize, bytes).is_err() {
         return Err(DriveFault::Output);
     }
     session.confirm(released);
@@ -108,10 +123,10 @@ fn go_on<D: Disk>(
     cursor: &Cursor,
 ) -> Result<Progress, DriveFault>
     requires { IsSound cursor.now (view_of session.old) }
-    ensures advances { Advances (plan_for (next (turn_in session.old.progress.journal.version options.now.turn) cursor.now session.old.progress.machine.state.tables) cursor.now (view_of session.old)) session.old session.new result }
+    ensures advances { Advances (plan_for (next (most_steps session.old.progress.journal.version options.now.turn) cursor.now session.old.progress.machine.state.tables) cursor.now (view_of session.old)) session.old session.new result }
     ensures in_range { IfOk result IsInRangeProgress }
 {
-    let most = options.turn_in(session.version());
+    let most = options.most_steps(session.version());
     match next_event(session.machine(), most, cursor) {
         Next::Submit(event) => {
             if cursor.rounds_left == 0 {

@@ -58,7 +58,7 @@ impl<W: Write> StreamOutput<W> {
         ensures failed { IsErr result }
         ensures failures { self.new.failures ≡ min (self.old.failures + 1) (2 ^ 64 - 1) }
         ensures past { self.new.past ≡ self.old.past }
-        ensures kept { HandsNothingOn self.old self.new }
+        ensures kept { HandsNothingOn self.old false self.new }
     {
         self.failures = self.failures.saturating_add(1);
         Err(DeviceFault)
@@ -86,11 +86,11 @@ impl<W: Write> Disk for StreamOutput<W> {
 
     ghost is_honest = { λ _. ⊥ };
 
-    ghost read_gives = { λ old at buf buf' ok new. (ok ≡ false) × HandsNothingOn old new };
+    ghost read_gives = { λ old at buf buf' ok new. (ok ≡ false) × HandsNothingOn old ok new };
 
     ghost write_gives = { HandsOn W.contents };
 
-    ghost sync_gives = { λ old ok new. HandsNothingOn old new };
+    ghost sync_gives = { HandsNothingOn };
 
     fn size(&self) -> usize {
         STREAM_SIZE

@@ -33,9 +33,9 @@
 //!
 //! Proved of [`run_words_with`]: its outcome is the one that the words ask for, and the status is that outcome's: for
 //! `format` that of making the disk of DISK with the image of IMAGE, and then the line `formatted SIZE`; for `run` that of
-//! running the disk of DISK; for `inspect` that of showing it; for `drive` that of driving it with its output in FILE or on a stream, and
-//! then the line of what it came to; for no words that of serving the stored program, of which a
-//! service that ends early has written a beginning; for `--version` the line of version and kit. Where a line can't be
+//! running the disk of DISK; for `inspect` that of showing it; for `drive` that of driving it with its output in FILE or on
+//! a stream, and then the line of what it came to; for no words that of serving the stored program, of which a service that
+//! ends early has written a beginning; for `--version` the line of version and kit. Where a line can't be
 //! written, what was written is a beginning of it. The files that were asked for last are those of DISK and IMAGE, and none
 //! where the words name none; the disk is closed as its job left it. A disk that can't be opened is a fault of File with
 //! what its sources said of that path. For each fault the line in plain words, with the path of the file, and the line with
@@ -49,8 +49,9 @@
 //! A law: a byte that was printed at an offset is never another, over any number of runs of a disk
 //! ([`printed_bytes_stay`]).
 //!
-//! Only tested: that the stream of a drive is the writer, and what a whole drive hands on, the lines on how far a drive is, what a path opens, that a file is filled and locked and its folder synced, that what is printed is flushed,
-//! that faults on standard error reach it.
+//! What a drive hands on to its stream is the output of acknowledged events: `stream_gets_the_output` of `ckrt_drive`. Only
+//! tested: that this stream is made over the writer, the lines on how far a drive is, what a path opens, that a file is filled
+//! and locked and its folder synced, that what is printed is flushed, that faults on standard error reach it.
 #![tactic(auto)]
 
 mod driven;

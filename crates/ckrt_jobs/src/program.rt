@@ -179,10 +179,11 @@ fn perform<'a, I: Read + Drop, D: Disk + Drop, S: Sources<'a, I, D>, R: Read, W:
 
 /// Does what the words after the program's name ask for, with images and disks of any sources: `format DISK IMAGE` prints
 /// `formatted SIZE`, `run DISK` answers the lines of the reader, `inspect DISK` shows what the disk holds, `drive DISK`
-/// runs its program to its end, with its output in a file or printed, and reports what it came to in a line, `--version` prints the version and its kit, no
-/// words serve the stored program in memory. Of a fault two lines are reported: what is wrong in plain words, with the path
-/// of the file that it is of, and `ckrt: NAME`. Of words that name no job a text is. A drive is looked on by the meter. The answer is the program's status: 0
-/// where all was done, 1 for a fault, 2 for words that name no job, 3 for a program that waits for input, 4 for a deadlock.
+/// runs its program to its end, with its output in a file or printed, and reports what it came to in a line, `--version`
+/// prints the version and its kit, no words serve the stored program in memory. Of a fault two lines are reported: what is
+/// wrong in plain words, with the path of the file that it is of, and `ckrt: NAME`. Of words that name no job a text is. A
+/// drive is looked on by the meter. The answer is the program's status: 0 where all was done, 1 for a fault, 2 for words that
+/// name no job, 3 for a program that waits for input, 4 for a deadlock.
 pub fn run_words_with<
     'a,
     I: Read + Drop,

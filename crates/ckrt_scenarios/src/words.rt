@@ -90,7 +90,7 @@ fn a_format_with_every_option(rt: HostRuntime) {
 const DRIVE: DriveJob<'static> = DriveJob {
     disk: "d",
     output: Some("o"),
-    turn: 65_535,
+    turn: 1_000_000,
     rounds: 16,
     events: None,
     seed: None,

@@ -59,7 +59,7 @@ drive_app =
     with_rule (with_rule (with_rule (with_rule (with_rule (with_rule (with_rule (with_rule (new_app (codes "drive"))
     (needed_rule (codes "disk")))
     (option_rule (codes "output")))
-    (number_rule (codes "turn") (codes "65535")))
+    (number_rule (codes "turn") (codes "1000000")))
     (number_rule (codes "rounds-per-commit") (codes "16")))
     (place_rule (codes "events")))
     (place_rule (codes "seed")))

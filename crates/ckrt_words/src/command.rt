@@ -168,7 +168,7 @@ fn drive_arguments<'a>(alloc: Global) -> Result<Vec<Arg<'a>>, AllocError>
         number(
             alloc,
             "turn",
-            "65535",
+            "1000000",
             "Steps of a thread's turn on a hart, 1 to 1000000"
         ),
         number(

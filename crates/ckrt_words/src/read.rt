@@ -74,7 +74,7 @@ fn is_version(words: &[&str]) -> bool
 /// The job that the words after the program's name ask for: [`Job::Stored`] where there are none, [`Job::Version`] where
 /// they are `--version` alone, else what `clap` makes of them. An option of `format` that isn't given has 64 pages, 1 hart
 /// and a journal of 65,536 bytes; one that is given has to be a number below 2^32. `inspect` shows the disk after the last
-/// event where `--at` isn't given, which has to be a number below 2^64. `drive` has turns of 65,535 steps, 16 rounds between
+/// event where `--at` isn't given, which has to be a number below 2^64. `drive` has turns of 1,000,000 steps, 16 rounds between
 /// two commits, no file of its output, no limit of events, no seed, no line of progress and no offset where these aren't given;
 /// the numbers that are have to be below 2^32 and, of events, a seed, seconds and an offset, 2^64.
 ///

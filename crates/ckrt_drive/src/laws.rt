@@ -1,0 +1,37 @@
+//! Laws of drives. Each is the contract of a function with an empty body.
+ghost use Rattle.std.specs.Prelude.{◌≡◌, ℕ, Option, Result, Err};
+ghost use Rattle.ckrt_drive.specs.declared.cursor.Cursor.{Cursor};
+ghost use Rattle.ckrt_drive.specs.declared.fault.DriveFault.{DriveFault};
+ghost use Rattle.ckrt_drive.specs.declared.fault.DriveFault.TheVariants.{Refused};
+ghost use Rattle.ckrt_drive.specs.declared.options.Options.{Options};
+ghost use Rattle.ckrt_drive.specs.declared.progress.Ending.{Ending};
+ghost use Rattle.ckrt_drive.specs.Plan.{plan};
+ghost use Rattle.ckrt_drive.specs.PutOut.{is_output_fault};
+ghost use Rattle.ckrt_drive.specs.Runs.{Runs};
+ghost use Rattle.ckrt_drive.specs.Streams.{StreamsOutput};
+ghost use Rattle.ckrt_recovery.specs.View.{View};
+ghost use Rattle.ckrt_recovery.specs.declared.fault.SubmitFault.TheVariants.{NeedsCheckpoint};
+
+use crate::options::Options;
+use crate::stream::StreamOutput;
+use ckrt_disk::Disk;
+use ckrt_recovery::Session;
+use std::io::Write;
+
+/// What a run of a drive hands on to a stream is the plain fold's output of acknowledged events, whatever the run answered: each
+/// byte once and in order, from the offset that the stream had got to, or that the session had confirmed if that is higher, up to
+/// the one that is confirmed at its end; and where a call of the stream failed, also a beginning of what is behind. That is said
+/// where the session's disk is honest, and the bytes that the writer holds are known.
+pub fn stream_gets_the_output<D: Disk, W: Write>(
+    before: &Session<D>,
+    after: &Session<D>,
+    stream: &StreamOutput<W>,
+    end: &StreamOutput<W>,
+)
+    ensures { (options : Options) (steps : ℕ) (first last : Cursor) (result : Result (Option Ending) DriveFault) (runs : Runs ⟦<StreamOutput<W> as Disk>⟧ options steps first last before.now after.now stream.now end.now result) → StreamsOutput W.contents runs.accepted before.now after.now stream.now end.now (is_output_fault result) }
+{}
+
+/// A drive hands in no event that its session refuses as `NeedsCheckpoint`: while the area is of version 1 it plans no long run.
+pub fn plans_suit_the_version(options: &Options)
+    ensures { (c : Cursor) (v : View) → plan options.now c v ≡ Err (Refused NeedsCheckpoint) → ⊥ }
+{}
