@@ -11,10 +11,8 @@ use Rattle.ckrt_machine.specs.Plans.{ready_from, least_ready, next_ready, or_els
 use Rattle.ckrt_machine.specs.Runs.{is_running}
 use Rattle.ckrt_machine.specs.Steps.{hart_of}
 use Rattle.ckrt_drive.specs.declared.cursor.Cursor.{Cursor}
-use Rattle.ckrt_drive.specs.declared.options.Options.{Options}
 use Rattle.ckrt_drive.specs.declared.progress.Ending.{Ending}
 use Rattle.ckrt_drive.specs.declared.progress.Ending.TheVariants.{Ended, WaitsForInput, Deadlock, Enough}
-use Rattle.ckrt_drive.specs.declared.plan.Next.{Next}
 use Rattle.ckrt_drive.specs.declared.plan.Next.TheVariants.{End}
 use Rattle.ckrt_drive.specs.Ends.{IsStuck, IsRead, IsUnread, IsEnd}
 use Rattle.ckrt_drive.specs.Plan.{is_busy, busy_from, next_busy, sooner, earliest_deadline, idle_until, round_end, turn_of, hart_by, steps_by, next_turn, next_running, next}

@@ -1,6 +1,6 @@
 -- What is planned is never refused for the version of the session's journal.
-use Rattle.std.proofs.Common.{◌≡◌, ◌+◌, ◌-◌, ◌*◌, ◌/◌, ◌%◌, ◌<◌, ◌≤◌, ℕ, nat_lt, nat_le, min, Bool, true, false, if◌then◌else◌, Option, Some, None, Result, Ok, Err, length, refl, sym, ◌∙◌, ap, subst, arith}
-use Rattle.std.specs.Prelude.{◌==◌, ◌||◌, not}
+use Rattle.std.proofs.Common.{◌≡◌, ◌+◌, ◌/◌, ◌≤◌, ℕ, nat_lt, nat_le, min, Bool, true, false, if◌then◌else◌, Option, Some, None, Result, Ok, Err, length, refl, arith}
+use Rattle.std.specs.Prelude.{◌==◌}
 use Rattle.std.proofs.lemmas.Bool.Decides.{nat_tests}
 use Rattle.std.proofs.Math.Nat.{mod-lt}
 use Rattle.ckrt_calls.specs.declared.table.Tables.{Tables}

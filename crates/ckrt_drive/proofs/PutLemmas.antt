@@ -1,5 +1,5 @@
 -- What steps of a drive give to its output, one after another.
-use Rattle.std.proofs.Common.{◌≡◌, ◌⊎◌, inl, inr, ◌+◌, ◌-◌, ◌≤◌, ℕ, Bool, true, false, List, [], ◌∷◌, ◌++◌, length, take, drop, Result, Ok, Err, refl, sym, ◌∙◌, ap, subst, arith, append_assoc, append-nil, length-append}
+use Rattle.std.proofs.Common.{◌≡◌, inr, ◌+◌, ◌-◌, ◌≤◌, ℕ, Bool, true, false, List, [], ◌∷◌, ◌++◌, length, take, drop, Result, Ok, Err, refl, sym, ◌∙◌, ap, subst, arith, append_assoc, append-nil, length-append}
 use Rattle.std.specs.Prelude.{is_ok, is_err}
 use Rattle.std.specs.List.{concat}
 use Rattle.std.proofs.lemmas.List.{take_all, drop_all, take-append-le, drop-append-le, drop-take, length-take, length-take-le}
@@ -16,7 +16,7 @@ use Rattle.ckrt_main.specs.Service.{Accepts}
 use Rattle.ckrt_main.proofs.AcceptLemmas.{taken_begins}
 use Rattle.ckrt_main.proofs.PieceLemmas.{output_begins}
 use Rattle.ckrt_drive.specs.Output.{acknowledged_output}
-use Rattle.ckrt_drive.specs.PutOut.{FailsToPutOut, EndsOrFails, PutsAllOut, PutsOrFails, PutsOut, PutsOutput, between}
+use Rattle.ckrt_drive.specs.PutOut.{FailsToPutOut, PutsAllOut, PutsOrFails, PutsOutput, between}
 
 -- BYTES BETWEEN OFFSETS
 

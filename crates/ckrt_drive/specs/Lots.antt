@@ -1,7 +1,7 @@
 -- Lots, which a generator of pseudorandom numbers draws: PCG32 (O'Neill, "PCG: a family of simple fast space-efficient statistically good
 -- algorithms for random number generation").
 use Rattle.std.specs.Prelude.{ℕ}
-use Rattle.rand_pcg.specs.Lcg.{Lcg, increment_of, next, started}
+use Rattle.rand_pcg.specs.Lcg.{increment_of, next, started}
 use Rattle.rand_pcg.specs.Pcg.{multiplier_64, output_xsh_rr}
 use Rattle.ckrt_drive.specs.declared.lot.Lot.{Lot}
 
