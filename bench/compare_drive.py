@@ -19,7 +19,7 @@ from processes import timed
 from results import note
 
 GUESTS = ("nqueens-big", "pi-big", "primes-big", "sha256-big")
-ROUNDS, WAIT_ROUNDS, WAITS = 9, 31, 100
+ROUNDS, WAIT_ROUNDS, WAITS = 25, 31, 100
 YEAR = 365 * 86_400 * 1_000
 # Bytes that a guest puts, and rounds of two steps before each: some 4 and 8 million steps.
 PUT, BETWEEN = 20, (100_000, 200_000)
