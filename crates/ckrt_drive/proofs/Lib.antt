@@ -1,3 +1,4 @@
+pub mod Choices
 pub mod PlanLemmas
 pub mod SaveLemmas
 pub mod PutLemmas

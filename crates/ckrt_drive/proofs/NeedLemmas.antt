@@ -27,7 +27,8 @@ use Rattle.ckrt_drive.specs.declared.progress.Ending.TheVariants.{Ended, Enough}
 use Rattle.ckrt_drive.specs.declared.progress.Progress.{Progress}
 use Rattle.ckrt_drive.specs.declared.progress.Progress.TheVariants.{Released, Stopped}
 use Rattle.ckrt_drive.specs.Lots.{number_of}
-use Rattle.ckrt_drive.specs.Plan.{earliest_deadline, hart_by, idle_until, is_shortage, most_steps, next, next_busy, next_running, next_turn, offered, on_turn, plan, plan_for, round_end, run_by, save, steps_by, turn_of}
+use Rattle.ckrt_drive.specs.Plan.{earliest_deadline, hart_by, idle_until, is_shortage, most_steps, next, next_busy, next_running, next_turn, offered, on_turn, plan, plan_for, plan_onward, round_end, run_by, save, steps_by, turn_of}
+use Rattle.ckrt_drive.proofs.Choices.{either}
 
 -- A SESSION'S REFUSAL
 
@@ -116,20 +117,16 @@ module _ (version most : ℕ) (some : 1 ≤ most_steps version most) where
 abbrev pub IsWell : Result Progress DriveFault → Type 0
 IsWell planned = planned ≡ Err (Refused submit.NeedsCheckpoint) → ⊥
 
-either : (b : Bool) (x y : Result Progress DriveFault) → IsWell x → IsWell y → IsWell (if b then x else y)
-either true x y h k = h
-either false x y h k = k
-
 same_fault : (why : SubmitFault) (planned : Result Progress DriveFault) → planned ≡ Err (Refused why) → planned ≡ Err (Refused submit.NeedsCheckpoint) → Some why ≡ Some submit.NeedsCheckpoint
 same_fault why planned is need = cc
 
 well_offered : (v : View) (e : Event) (o : Option SubmitFault) → IsOther o → IsWell (offered v e o)
 well_offered v e None h = λ is. absurd (cc)
-well_offered v e (Some why) h = either (is_shortage why) (Ok (save v)) (Err (Refused why)) (λ is. absurd (cc)) (λ is. h (same_fault why (Err (Refused why)) refl is))
+well_offered v e (Some why) h = either IsWell (is_shortage why) (Ok (save v)) (Err (Refused why)) (λ is. absurd (cc)) (λ is. h (same_fault why (Err (Refused why)) refl is))
 
 well_for : (n : Next) (c : Cursor) (v : View) → IsKnownNext (version_of v) n → IsWell (plan_for n c v)
-well_for (Submit e) c v known = either (c.rounds_left == 0) (Ok (save v)) (offered v e (refusal_of v e)) (λ is. absurd (cc)) (well_offered v e (refusal_of v e) (other v e known))
-well_for (End ending) c v known = either c.is_saved (Ok (Stopped ending)) (Ok (save v)) (λ is. absurd (cc)) (λ is. absurd (cc))
+well_for (Submit e) c v known = either IsWell (c.rounds_left == 0) (Ok (save v)) (offered v e (refusal_of v e)) (λ is. absurd (cc)) (well_offered v e (refusal_of v e) (other v e known))
+well_for (End ending) c v known = either IsWell c.is_saved (Ok (Stopped ending)) (Ok (save v)) (λ is. absurd (cc)) (λ is. absurd (cc))
 
 some_by : (b : Bool) (most : ℕ) → 1 ≤ most → 1 ≤ (if b then most else min most RUN_LIMIT)
 some_by true most some = some
@@ -140,4 +137,4 @@ no_need o c v =
     let version = version_of v in
     let s = v.recovered.state.tables in
     let known = known_next version o.turn (some_by (nat_le 2 version) o.turn o.some_steps) (is_running s.status) (c.events_left == 0) c s in
-    either (nat_lt v.recovered.confirmed v.released) (Ok Released) (plan_for (next (most_steps version o.turn) c s) c v) (λ is. absurd (cc)) (well_for (next (most_steps version o.turn) c s) c v known)
+    either IsWell (nat_lt v.recovered.confirmed v.released) (Ok Released) (plan_onward o c v) (λ is. absurd (cc)) (well_for (next (most_steps version o.turn) c s) c v known)

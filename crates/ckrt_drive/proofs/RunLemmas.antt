@@ -26,11 +26,12 @@ use Rattle.ckrt_drive.specs.declared.progress.Ending.{Ending}
 use Rattle.ckrt_drive.specs.declared.progress.Ending.TheVariants.{Ended, Enough}
 use Rattle.ckrt_drive.specs.declared.progress.Progress.{Progress}
 use Rattle.ckrt_drive.specs.declared.progress.Progress.TheVariants.{Submitted, Committed, Checkpointed, Released, Stopped}
-use Rattle.ckrt_drive.specs.Plan.{after_event, behind_turn, cursor_after, is_shortage, next, next_running, offered, plan, plan_for, save, most_steps}
+use Rattle.ckrt_drive.specs.Plan.{LONGEST_BATCH, after_event, behind_turn, cursor_after, is_shortage, next, next_running, offered, plan, plan_for, save, most_steps}
 use Rattle.ckrt_drive.specs.Output.{HasOutput, HoldsOutput, Writes, acknowledged_output}
 use Rattle.ckrt_drive.specs.Runs.{FollowsPlan, GoesByPlan, IsAtEnd, IsFault, IsOnward, Runs, Stand, StopsRightly, events_in, stand, stand_after, stand_of}
 use Rattle.ckrt_drive.specs.PutOut.{PutsOutput, output_failed, is_output_fault}
 use Rattle.ckrt_drive.specs.Steps.{IsSound, IsWhyStep, Steps, accepted_by, view_after}
+use Rattle.ckrt_drive.proofs.Choices.{either}
 use Rattle.ckrt_drive.proofs.EndLemmas.{end_of}
 use Rattle.ckrt_drive.proofs.PutLemmas.{puts_nothing, puts_output_more}
 use Rattle.ckrt_drive.proofs.WriteLemmas.{same_output, writes_kept}
@@ -41,27 +42,20 @@ use Rattle.ckrt_drive.proofs.WriteLemmas.{same_output, writes_kept}
 abbrev pub IsNoStop : Result Progress DriveFault → Type 0
 IsNoStop planned = (ending : Ending) → planned ≡ Ok (Stopped ending) → ⊥
 
-not_saved : (b : Bool) → IsNoStop (Ok (if b then Checkpointed else Committed))
-not_saved true = λ ending is. absurd (cc)
-not_saved false = λ ending is. absurd (cc)
-
 no_stop_saved : (v : View) → IsNoStop (Ok (save v))
-no_stop_saved v = not_saved (nat_lt (room_of v.recovered.journal) (2 * 4099))
-
-one_of : (b : Bool) (x y : Result Progress DriveFault) → IsNoStop x → IsNoStop y → IsNoStop (if b then x else y)
-one_of true x y h k = h
-one_of false x y h k = k
+no_stop_saved v =
+    either (λ did. IsNoStop (Ok did)) (nat_lt (room_of v.recovered.journal) (2 * LONGEST_BATCH)) Checkpointed Committed (λ ending is. absurd (cc)) (λ ending is. absurd (cc))
 
 no_stop_offered : (v : View) (e : Event) (o : Option SubmitFault) → IsNoStop (offered v e o)
 no_stop_offered v e None = λ ending is. absurd (cc)
-no_stop_offered v e (Some why) = one_of (is_shortage why) (Ok (save v)) (Err (Refused why)) (no_stop_saved v) (λ ending is. absurd (cc))
+no_stop_offered v e (Some why) = either IsNoStop (is_shortage why) (Ok (save v)) (Err (Refused why)) (no_stop_saved v) (λ ending is. absurd (cc))
 
 saved_by : (b : Bool) (why ending : Ending) (v : View) (planned : Result Progress DriveFault) → planned ≡ (if b then Ok (Stopped why) else Ok (save v)) → planned ≡ Ok (Stopped ending) → (b ≡ true) × (why ≡ ending)
 saved_by true why ending v planned is e = (refl, cc)
 saved_by false why ending v planned is e = absurd (no_stop_saved v ending (sym is ∙ e))
 
 saved_for : (n : Next) (c : Cursor) (v : View) (ending : Ending) → plan_for n c v ≡ Ok (Stopped ending) → (c.is_saved ≡ true) × (n ≡ End ending)
-saved_for (Submit e) c v ending is = absurd (one_of (c.rounds_left == 0) (Ok (save v)) (offered v e (refusal_of v e)) (no_stop_saved v) (no_stop_offered v e (refusal_of v e)) ending is)
+saved_for (Submit e) c v ending is = absurd (either IsNoStop (c.rounds_left == 0) (Ok (save v)) (offered v e (refusal_of v e)) (no_stop_saved v) (no_stop_offered v e (refusal_of v e)) ending is)
 saved_for (End why) c v ending is = let h = saved_by c.is_saved why ending v (plan_for (End why) c v) refl is in (h.0, ap End h.1)
 
 kept_by : (b : Bool) (n : Next) (c : Cursor) (v : View) (ending : Ending) → (if b then Ok Released else plan_for n c v) ≡ Ok (Stopped ending) → (b ≡ false) × (c.is_saved ≡ true) × (n ≡ End ending)
@@ -86,20 +80,13 @@ at_end o c v ending le sound is =
 abbrev pub IsNoEvent : Result Progress DriveFault → Type 0
 IsNoEvent planned = (e : Event) (answer : Answer) → planned ≡ Ok (Submitted e answer) → ⊥
 
-no_event_by : (b : Bool) → IsNoEvent (Ok (if b then Checkpointed else Committed))
-no_event_by true = λ e answer is. absurd (cc)
-no_event_by false = λ e answer is. absurd (cc)
-
 no_event_saved : (v : View) → IsNoEvent (Ok (save v))
-no_event_saved v = no_event_by (nat_lt (room_of v.recovered.journal) (2 * 4099))
-
-no_event_of : (b : Bool) (x y : Result Progress DriveFault) → IsNoEvent x → IsNoEvent y → IsNoEvent (if b then x else y)
-no_event_of true x y h k = h
-no_event_of false x y h k = k
+no_event_saved v =
+    either (λ did. IsNoEvent (Ok did)) (nat_lt (room_of v.recovered.journal) (2 * LONGEST_BATCH)) Checkpointed Committed (λ e answer is. absurd (cc)) (λ e answer is. absurd (cc))
 
 submits_for : (n : Next) (c : Cursor) (v : View) (e : Event) (answer : Answer) → plan_for n c v ≡ Ok (Submitted e answer) → (ending : Ending) → n ≡ End ending → ⊥
 submits_for (Submit x) c v e answer is = λ ending no. absurd (cc)
-submits_for (End why) c v e answer is = λ ending no. no_event_of c.is_saved (Ok (Stopped why)) (Ok (save v)) (λ x a are. absurd (cc)) (no_event_saved v) e answer is
+submits_for (End why) c v e answer is = λ ending no. either IsNoEvent c.is_saved (Ok (Stopped why)) (Ok (save v)) (λ x a are. absurd (cc)) (no_event_saved v) e answer is
 
 submits_by : (b : Bool) (n : Next) (c : Cursor) (v : View) (e : Event) (answer : Answer) → (if b then Ok Released else plan_for n c v) ≡ Ok (Submitted e answer) → (ending : Ending) → n ≡ End ending → ⊥
 submits_by true n c v e answer is = absurd (cc)

@@ -16,8 +16,9 @@ use Rattle.ckrt_drive.specs.declared.fault.DriveFault.{DriveFault}
 use Rattle.ckrt_drive.specs.declared.fault.DriveFault.TheVariants.{Device, Output, OutputFull, GenerationsUsed, Refused}
 use Rattle.ckrt_drive.specs.declared.progress.Progress.{Progress}
 use Rattle.ckrt_drive.specs.declared.progress.Progress.TheVariants.{Submitted, Committed, Checkpointed, Released, Stopped}
-use Rattle.ckrt_drive.specs.Plan.{IsInRangeProgress, save, is_shortage, offered, plan_for, plan, next, most_steps}
+use Rattle.ckrt_drive.specs.Plan.{IsInRangeProgress, LONGEST_BATCH, save, is_shortage, offered, plan_for, plan, plan_onward, next, most_steps}
 use Rattle.ckrt_drive.specs.Steps.{Advances, Steps}
+use Rattle.ckrt_drive.proofs.Choices.{either}
 use Rattle.ckrt_drive.proofs.WriteLemmas.{steps_still}
 
 -- WHAT IS PLANNED
@@ -26,37 +27,25 @@ use Rattle.ckrt_drive.proofs.WriteLemmas.{steps_still}
 abbrev pub IsNoRelease : Result Progress DriveFault → Type 0
 IsNoRelease planned = planned ≡ Ok Released → ⊥
 
-one_of : (b : Bool) (x y : Result Progress DriveFault) → IsNoRelease x → IsNoRelease y → IsNoRelease (if b then x else y)
-one_of true x y h k = h
-one_of false x y h k = k
-
-not_saved : (b : Bool) → IsNoRelease (Ok (if b then Checkpointed else Committed))
-not_saved true = λ no. absurd (cc)
-not_saved false = λ no. absurd (cc)
-
 no_release_saved : (v : View) → IsNoRelease (Ok (save v))
-no_release_saved v = not_saved (nat_lt (room_of v.recovered.journal) (2 * 4099))
+no_release_saved v =
+    either (λ did. IsNoRelease (Ok did)) (nat_lt (room_of v.recovered.journal) (2 * LONGEST_BATCH)) Checkpointed Committed (λ no. absurd (cc)) (λ no. absurd (cc))
 
 no_release_offered : (v : View) (e : Event) (o : Option SubmitFault) → IsNoRelease (offered v e o)
 no_release_offered v e None = λ no. absurd (cc)
-no_release_offered v e (Some why) = one_of (is_shortage why) (Ok (save v)) (Err (Refused why)) (no_release_saved v) (λ no. absurd (cc))
+no_release_offered v e (Some why) = either IsNoRelease (is_shortage why) (Ok (save v)) (Err (Refused why)) (no_release_saved v) (λ no. absurd (cc))
 
 -- the session is asked for something else
 pub no_release : (n : Next) (c : Cursor) (v : View) → IsNoRelease (plan_for n c v)
-no_release (Submit e) c v = one_of (c.rounds_left == 0) (Ok (save v)) (offered v e (refusal_of v e)) (no_release_saved v) (no_release_offered v e (refusal_of v e))
-no_release (End ending) c v = one_of c.is_saved (Ok (Stopped ending)) (Ok (save v)) (λ no. absurd (cc)) (no_release_saved v)
+no_release (Submit e) c v = either IsNoRelease (c.rounds_left == 0) (Ok (save v)) (offered v e (refusal_of v e)) (no_release_saved v) (no_release_offered v e (refusal_of v e))
+no_release (End ending) c v = either IsNoRelease c.is_saved (Ok (Stopped ending)) (Ok (save v)) (λ no. absurd (cc)) (no_release_saved v)
 
-in_range_saved : (b : Bool) → IfOk {E = DriveFault} (Ok (if b then Checkpointed else Committed)) IsInRangeProgress
-in_range_saved true = tt
-in_range_saved false = tt
-
-in_range_choice : (b : Bool) (x y : Result Progress DriveFault) → IfOk x IsInRangeProgress → IfOk y IsInRangeProgress → IfOk (if b then x else y) IsInRangeProgress
-in_range_choice true x y h k = h
-in_range_choice false x y h k = k
+in_range_saved : (v : View) → IsInRangeProgress (save v)
+in_range_saved v = either IsInRangeProgress (nat_lt (room_of v.recovered.journal) (2 * LONGEST_BATCH)) Checkpointed Committed tt tt
 
 pub in_range_offered : (v : View) (e : Event) (o : Option SubmitFault) → IsInRange e → IfOk (offered v e o) IsInRangeProgress
 in_range_offered v e None h = h
-in_range_offered v e (Some why) h = in_range_choice (is_shortage why) (Ok (save v)) (Err (Refused why)) (in_range_saved (nat_lt (room_of v.recovered.journal) (2 * 4099))) tt
+in_range_offered v e (Some why) h = either (λ r. IfOk r IsInRangeProgress) (is_shortage why) (Ok (save v)) (Err (Refused why)) (in_range_saved v) tt
 
 module _ {D : Type 0} {g : Ghosts D} where
   -- what was done is in range
@@ -79,7 +68,7 @@ module _ {D : Type 0} {g : Ghosts D} where
 
   -- no output is released that isn't confirmed, so the session goes on
   pub steps_on : {O : Type 0} (o : Ghosts O) (options : Options) (c : Cursor) (s t : Session D g) (a : O) (r : Result Progress DriveFault) → nat_lt s.progress.confirmed s.released ≡ false
-      → Advances (plan_for (next (most_steps s.progress.journal.version options.turn) c s.progress.machine.state.tables) c (view_of s)) s t r → Steps o (plan options c (view_of s)) s t a a r
+      → Advances (plan_onward options c (view_of s)) s t r → Steps o (plan options c (view_of s)) s t a a r
   steps_on o options c s t a r none h =
       let n = next (most_steps s.progress.journal.version options.turn) c s.progress.machine.state.tables in
       let planned : plan options c (view_of s) ≡ plan_for n c (view_of s) = ap (λ b. if b then Ok Released else plan_for n c (view_of s)) none in

@@ -117,9 +117,13 @@ most_steps version most = if nat_le 2 version then most else min most RUN_LIMIT
 
 -- THE PLAN
 
--- A commit, or a checkpoint where the journal might have no room for a full batch behind this one: a batch takes 4,099 bytes of it at most.
+-- the most bytes that a batch takes of a journal behind its gate: two of length, 4,096 of events, and the next gate
+abbrev pub LONGEST_BATCH : ℕ
+LONGEST_BATCH = 4099
+
+-- a commit, or a checkpoint where the journal might have no room for a full batch behind this one
 abbrev pub save : View → Progress
-save v = if nat_lt (room_of v.recovered.journal) (2 * 4099) then Checkpointed else Committed
+save v = if nat_lt (room_of v.recovered.journal) (2 * LONGEST_BATCH) then Checkpointed else Committed
 
 -- a commit or a checkpoint makes room for the event
 abbrev pub is_shortage : SubmitFault → Bool
@@ -141,9 +145,13 @@ abbrev pub plan_for : Next → Cursor → View → Result Progress DriveFault
 plan_for (Submit e) c v = if c.rounds_left == 0 then Ok (save v) else offered v e (refusal_of v e)
 plan_for (End ending) c v = if c.is_saved then Ok (Stopped ending) else Ok (save v)
 
+-- what is planned where all released output is confirmed
+abbrev pub plan_onward : Options → Cursor → View → Result Progress DriveFault
+plan_onward o c v = plan_for (next (most_steps (version_of v) o.turn) c v.recovered.state.tables) c v
+
 -- released output goes out first
 abbrev pub plan : Options → Cursor → View → Result Progress DriveFault
-plan o c v = if nat_lt v.recovered.confirmed v.released then Ok Released else plan_for (next (most_steps (version_of v) o.turn) c v.recovered.state.tables) c v
+plan o c v = if nat_lt v.recovered.confirmed v.released then Ok Released else plan_onward o c v
 
 -- the event's fields are in their ranges
 abbrev pub IsInRangeProgress : Progress → Type 0

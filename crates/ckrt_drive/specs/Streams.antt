@@ -1,5 +1,5 @@
 -- What an output hands on that keeps nothing. The ghost `contents` of a kind of writer says what a writer holds, where that is known.
-use Rattle.std.specs.Prelude.{◌≡◌, ◌<◌, ◌+◌, ◌-◌, ℕ, max, Bool, true, false, List, ◌++◌, length, drop, Option}
+use Rattle.std.specs.Prelude.{◌≡◌, ◌<◌, ◌+◌, ◌-◌, ℕ, max, Bool, true, false, List, ◌++◌, length, drop, Option, Result}
 use Rattle.std.specs.Io.KnownBytes.{Appends}
 use Rattle.ckrt_disk.specs.declared.disk.Disk.{Ghosts}
 use Rattle.ckrt_events.specs.declared.event.Event.{Event}
@@ -8,9 +8,14 @@ use Rattle.ckrt_recovery.specs.declared.session.Session.{Session}
 use Rattle.ckrt_recovery.specs.Between.{IsBeginningOf}
 use Rattle.ckrt_recovery.specs.Represents.{Represents}
 use Rattle.ckrt_main.specs.Service.{AppendsPart}
+use Rattle.ckrt_drive.specs.declared.cursor.Cursor.{Cursor}
+use Rattle.ckrt_drive.specs.declared.fault.DriveFault.{DriveFault}
+use Rattle.ckrt_drive.specs.declared.options.Options.{Options}
+use Rattle.ckrt_drive.specs.declared.progress.Ending.{Ending}
 use Rattle.ckrt_drive.specs.declared.stream.StreamOutput.{StreamOutput}
 use Rattle.ckrt_drive.specs.Output.{acknowledged_output}
-use Rattle.ckrt_drive.specs.PutOut.{between}
+use Rattle.ckrt_drive.specs.PutOut.{between, is_output_fault}
+use Rattle.ckrt_drive.specs.Runs.{Runs}
 
 abbrev pub writer_of : {W : Type 0} → StreamOutput W → W
 writer_of stream = stream.writer
@@ -68,3 +73,8 @@ pub record StreamsOutput {D W : Type 0} {g : Ghosts D} (contents : W → Option 
   pub breaks : failed ≡ true → HasBroken b
   -- and hands nothing on where it had broken before
   pub broken : HasBroken a → writer_of b ≡ writer_of a
+
+-- whatever run of a drive led from s to t, and its stream from a to b
+abbrev pub GetsTheOutput : {D W : Type 0} {g : Ghosts D} → Ghosts (StreamOutput W) → (contents : W → Option (List ℕ)) → (s t : Session D g) → (a b : StreamOutput W) → Type 0
+GetsTheOutput o contents s t a b = (options : Options) (steps : ℕ) (first last : Cursor) (result : Result (Option Ending) DriveFault)
+    → (runs : Runs o options steps first last s t a b result) → StreamsOutput contents runs.accepted s t a b (is_output_fault result)

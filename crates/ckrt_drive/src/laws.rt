@@ -1,14 +1,9 @@
 //! Laws of drives. Each is the contract of a function with an empty body.
-ghost use Rattle.std.specs.Prelude.{◌≡◌, ℕ, Option, Result, Err};
+ghost use Rattle.std.specs.Prelude.{◌≡◌, Err};
 ghost use Rattle.ckrt_drive.specs.declared.cursor.Cursor.{Cursor};
-ghost use Rattle.ckrt_drive.specs.declared.fault.DriveFault.{DriveFault};
 ghost use Rattle.ckrt_drive.specs.declared.fault.DriveFault.TheVariants.{Refused};
-ghost use Rattle.ckrt_drive.specs.declared.options.Options.{Options};
-ghost use Rattle.ckrt_drive.specs.declared.progress.Ending.{Ending};
 ghost use Rattle.ckrt_drive.specs.Plan.{plan};
-ghost use Rattle.ckrt_drive.specs.PutOut.{is_output_fault};
-ghost use Rattle.ckrt_drive.specs.Runs.{Runs};
-ghost use Rattle.ckrt_drive.specs.Streams.{StreamsOutput};
+ghost use Rattle.ckrt_drive.specs.Streams.{GetsTheOutput};
 ghost use Rattle.ckrt_recovery.specs.View.{View};
 ghost use Rattle.ckrt_recovery.specs.declared.fault.SubmitFault.TheVariants.{NeedsCheckpoint};
 
@@ -28,7 +23,7 @@ pub fn stream_gets_the_output<D: Disk, W: Write>(
     stream: &StreamOutput<W>,
     end: &StreamOutput<W>,
 )
-    ensures { (options : Options) (steps : ℕ) (first last : Cursor) (result : Result (Option Ending) DriveFault) (runs : Runs ⟦<StreamOutput<W> as Disk>⟧ options steps first last before.now after.now stream.now end.now result) → StreamsOutput W.contents runs.accepted before.now after.now stream.now end.now (is_output_fault result) }
+    ensures { GetsTheOutput ⟦<StreamOutput<W> as Disk>⟧ W.contents before.now after.now stream.now end.now }
 {}
 
 /// A drive hands in no event that its session refuses as `NeedsCheckpoint`: while the area is of version 1 it plans no long run.

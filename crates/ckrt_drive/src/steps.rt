@@ -6,7 +6,7 @@ ghost use Rattle.ckrt_events.specs.Bytes.{IsInRange};
 ghost use Rattle.ckrt_recovery.specs.declared.fault.SubmitFault.{SubmitFault};
 ghost use Rattle.ckrt_recovery.specs.View.{view_of, refusal_of};
 ghost use Rattle.ckrt_drive.specs.declared.progress.Progress.TheVariants.{Committed, Checkpointed, Released};
-ghost use Rattle.ckrt_drive.specs.Plan.{IsInRangeProgress, save, is_shortage, offered, next, plan_for, plan, cursor_after, most_steps};
+ghost use Rattle.ckrt_drive.specs.Plan.{IsInRangeProgress, save, is_shortage, offered, plan, plan_onward, cursor_after};
 ghost use Rattle.ckrt_drive.specs.PutOut.{PutsOrFails};
 ghost use Rattle.ckrt_drive.specs.Steps.{Advances, IsSound, Steps};
 
@@ -123,7 +123,7 @@ fn go_on<D: Disk>(
     cursor: &Cursor,
 ) -> Result<Progress, DriveFault>
     requires { IsSound cursor.now (view_of session.old) }
-    ensures advances { Advances (plan_for (next (most_steps session.old.progress.journal.version options.now.turn) cursor.now session.old.progress.machine.state.tables) cursor.now (view_of session.old)) session.old session.new result }
+    ensures advances { Advances (plan_onward options.now cursor.now (view_of session.old)) session.old session.new result }
     ensures in_range { IfOk result IsInRangeProgress }
 {
     let most = options.most_steps(session.version());
