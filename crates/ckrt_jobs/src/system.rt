@@ -89,18 +89,17 @@ fn make_locked<R: Files<File = File>>(rt: &R, path: &str) -> Result<File, FileFa
     }
 }
 
-/// The file of a path, which is made where there is none; its name is durable then.
+/// The file of a path, which is made where there is none. Its name is durable then, also where the file was there: who made
+/// it may have been killed before that.
 fn open_or_make<R: Files<File = File>>(rt: &R, path: &str) -> Result<File, FileFault>
     ensures { IfOk result IsBesideStreams }
 {
-    match open_locked(rt, path, false) {
-        Err(FileFault::NotFound) => {
-            let file = make_locked(rt, path)?;
-            sync_folder(rt, path)?;
-            Ok(file)
-        }
-        opened => opened,
-    }
+    let file = match open_locked(rt, path, false) {
+        Err(FileFault::NotFound) => make_locked(rt, path)?,
+        opened => opened?,
+    };
+    sync_folder(rt, path)?;
+    Ok(file)
 }
 
 /// The disk of an open file, with as many bytes as the file. A directory, which may be opened to be read, is none.
