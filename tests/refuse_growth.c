@@ -2,8 +2,9 @@
 //
 //   REFUSE_GROWTH=N   the N-th growth is refused, from 1 on; 0 or nothing: none
 //   REFUSE_ALL=1      and each growth behind it too
-//   COUNT_GROWTHS=F   at its end the program writes three numbers to the file F: its growths before it first read from
-//                     standard input, all of them, and 1 if it read, else 0
+//   COUNT_GROWTHS=F   at its end the program writes five numbers to the file F: its growths before it first read from
+//                     standard input, those before it first wrote to a file at an offset, and all of them; 1 if it read,
+//                     else 0, and 1 if it wrote, else 0
 #define _GNU_SOURCE
 #include <dlfcn.h>
 #include <errno.h>
@@ -19,8 +20,8 @@ extern void *__libc_calloc(size_t, size_t);
 extern void *__libc_realloc(void *, size_t);
 extern void *__libc_memalign(size_t, size_t);
 
-static bool is_set_up, refuses_all, has_read;
-static unsigned long growths, growths_before_reading, refused;
+static bool is_set_up, refuses_all, has_read, has_written;
+static unsigned long growths, growths_before_reading, growths_before_writing, refused;
 
 static unsigned long number_of(const char *name) {
     const char *text = getenv(name);
@@ -73,6 +74,20 @@ ssize_t read(int file, void *bytes, size_t count) {
     return next(file, bytes, count);
 }
 
+ssize_t pwrite64(int file, const void *bytes, size_t count, off64_t offset) {
+    static ssize_t (*next)(int, const void *, size_t, off64_t);
+    if (next == NULL) {
+        next = (ssize_t(*)(int, const void *, size_t, off64_t))dlsym(RTLD_NEXT, "pwrite64");
+    }
+    if (!has_written) {
+        has_written = true;
+        growths_before_writing = growths;
+    }
+    return next(file, bytes, count, offset);
+}
+
+ssize_t pwrite(int file, const void *bytes, size_t count, off_t offset) { return pwrite64(file, bytes, count, offset); }
+
 __attribute__((constructor)) static void set_up(void) {
     refused = number_of("REFUSE_GROWTH");
     refuses_all = number_of("REFUSE_ALL") != 0;
@@ -84,7 +99,8 @@ __attribute__((destructor)) static void note_counts(void) {
     is_set_up = false;
     int file = path ? open(path, O_WRONLY | O_CREAT | O_TRUNC, 0600) : -1;
     if (file >= 0) {
-        dprintf(file, "%lu %lu %d\n", has_read ? growths_before_reading : growths, growths, has_read);
+        dprintf(file, "%lu %lu %lu %d %d\n", has_read ? growths_before_reading : growths,
+                has_written ? growths_before_writing : growths, growths, has_read, has_written);
         close(file);
     }
 }
