@@ -1,5 +1,6 @@
 -- What an answer says of the disk, and of the value that its content gives.
-use Rattle.std.specs.Prelude.{◌≡◌, Bool, true, false, Result, Ok, Err}
+use Rattle.std.specs.Prelude.{◌≡◌, ℕ, Bool, true, false, List, Result, Ok, Err}
+use Rattle.ckrt_disk.specs.declared.disk.Disk.{Ghosts}
 use Rattle.ckrt_checkpoint.specs.declared.fault.AreaFault.{AreaFault}
 use Rattle.ckrt_checkpoint.specs.declared.fault.AreaFault.TheVariants.{Device, Damaged, GenerationsUsed, OutOfMemory, Version}
 
@@ -24,3 +25,7 @@ AgreesOnFault Version value = value ≡ Err Version
 abbrev pub Agrees : {X Y : Type 0} → (X → Y) → Result X AreaFault → Result Y AreaFault → Type 0
 Agrees view (Ok x) value = value ≡ Ok (view x)
 Agrees view (Err e) value = AgreesOnFault e value
+
+-- what a reading of an honest disk gives is what a function gives for its content, unless the device or the memory failed
+abbrev pub IsReadAs : {D X : Type 0} → Ghosts D → (old new : D) → Result X AreaFault → (List ℕ → Result X AreaFault) → Type 0
+IsReadAs d old new result given = d.is_honest new → Agrees (λ x. x) result (given (d.content old))

@@ -1,5 +1,6 @@
 -- What an area holds, page by page.
-use Rattle.std.specs.Prelude.{◌≡◌, ◌≤◌, ◌<◌, ◌+◌, ◌*◌, ℕ, false, List, [], ◌∷◌, take, drop}
+use Rattle.std.specs.Prelude.{◌≡◌, ◌≤◌, ◌<◌, ◌+◌, ◌*◌, ℕ, false, List, [], ◌∷◌, take, drop, Result, IfOk}
+use Rattle.ckrt_disk.specs.declared.disk.Disk.{Ghosts}
 use Rattle.ckrt_memory.specs.Marks.{Memory, is_dirty}
 use Rattle.ckrt_memory.specs.Pages.{page_of}
 use Rattle.ckrt_checkpoint.specs.declared.config.Config.{Config}
@@ -37,6 +38,14 @@ CleanPagesStand c area memory image = (p : ℕ) → 1 ≤ p → p < c.pages → 
 -- so for both areas
 abbrev pub BothStand : Config → Memory → (image : List ℕ) → Type 0
 BothStand c memory image = (area : ℕ) → area ≤ 1 → CleanPagesStand c area memory image
+
+-- each page of a memory that is clean for the area stands in its slot of a disk, if that is honest
+abbrev pub CleanPagesStandOn : {D : Type 0} → Ghosts D → Config → (area : ℕ) → Memory → D → Type 0
+CleanPagesStandOn d c area memory disk = d.is_honest disk → CleanPagesStand c area memory (d.content disk)
+
+-- a reading of an honest disk gave a memory of which each page that is clean for either area stands in its slot there
+abbrev pub GivesPagesThatStand : {D X E : Type 0} → Ghosts D → Config → (old new : D) → (X → Memory) → Result X E → Type 0
+GivesPagesThatStand d c old new memory result = d.is_honest new → IfOk result (λ x. BothStand c (memory x) (d.content old))
 
 -- An area holds a state whole: it stands behind its gate, and the gate is open.
 pub record HoldsArea (c : Config) (area : ℕ) (h : Header) (tables memory image : List ℕ) : Type 0 where

@@ -4,6 +4,7 @@ use Rattle.circular_buffer.specs.Buffer.{Buffer}
 use Rattle.ckrt_memory.specs.Marks.{Memory}
 use Rattle.ckrt_calls.specs.declared.table.Tables.{Tables}
 use Rattle.ckrt_tables.specs.Decoding.{DecodesTo}
+use Rattle.ckrt_tables.specs.Savable.{CanBeSaved}
 use Rattle.ckrt_checkpoint.specs.declared.area.Area.{Area}
 use Rattle.ckrt_checkpoint.specs.declared.config.Config.{Config}
 use Rattle.ckrt_checkpoint.specs.declared.fault.AreaFault.{AreaFault}
@@ -24,3 +25,7 @@ ReadsArea c area image (Err Device) = Unit {0}
 ReadsArea c area image (Err GenerationsUsed) = Unit {0}
 ReadsArea c area image (Err OutOfMemory) = Unit {0}
 ReadsArea c area image (Err Version) = Unit {0}
+
+-- these tables and this held output can be saved in the version of the area, for the configuration's harts
+abbrev pub CanBeSavedIn : Config → Area → Tables → List ℕ → Type 0
+CanBeSavedIn c area tables held = CanBeSaved area.header.version c.harts tables held

@@ -1,7 +1,7 @@
 -- What writing an area does: a checkpoint into the area that isn't in use.
 use Rattle.std.specs.Prelude.{◌≡◌, ◌⊎◌, ◌+◌, ◌-◌, ◌^◌, ℕ, zero, suc, Bool, true, false, if◌then◌else◌, List, length, Result, Ok, Err, OnOk, IfErr, ◌↔◌}
 use Rattle.ckrt_disk.specs.Disk.{IsWithin}
-use Rattle.ckrt_disk.specs.Frame.{IsSameOutside, WritesWithin}
+use Rattle.ckrt_disk.specs.Frame.{AtAnyMoment, IsSameOutside, WritesWithin}
 use Rattle.ckrt_disk.specs.declared.disk.Disk.{Ghosts}
 use Rattle.ckrt_memory.specs.Marks.{Memory, is_dirty}
 use Rattle.ckrt_tables.specs.declared.encoding.TheConstants.{VERSION}
@@ -61,6 +61,7 @@ pub record HasSaved (c : Config) (area : ℕ) (h : Header) (tables memory conten
   pub no_batch : HasNoBatch c area image
   pub outside : IsSameOutside (WritesAt c area) content image
 
+-- what a stop of a checkpoint may leave: one of the three
 abbrev pub IsSaving : Config → SavePoint → (tables memory content image : List ℕ) → Type 0
 IsSaving c point tables memory content image =
     IsClosing (area_at c (other_area point)) content image
@@ -70,6 +71,15 @@ IsSaving c point tables memory content image =
 -- nothing is pending on the disk
 abbrev pub IsDurable : {D : Type 0} → Ghosts D → D → Type 0
 IsDurable d disk = (i : ℕ) → ¬ d.pending disk i
+
+-- of an honest disk on which nothing was pending a stop at any moment since old leaves no more than one of the three
+abbrev pub LeavesSaving : {D : Type 0} → Ghosts D → Config → SavePoint → (tables : List ℕ) → Memory → (old new : D) → Type 0
+LeavesSaving d c point tables memory old new = IsDurable d old → AtAnyMoment d old new (IsSaving c point tables memory.bytes (d.content old))
+
+-- an honest disk has the state whole in the other area, no batch in that area's journal, and all else as before
+abbrev pub IsSavedOn : {D : Type 0} → Ghosts D → Config → SavePoint → (tables : List ℕ) → Memory → (old new : D) → Type 0
+IsSavedOn d c point tables memory old new =
+    d.is_honest new → HasSaved c (other_area point) (next_header point tables) tables memory.bytes (d.content old) (d.content new)
 
 -- ITS PARTS
 
@@ -116,6 +126,10 @@ pub record IsAreaWrite {D X : Type 0} (d : Ghosts D) (c : Config) (area : ℕ) (
   -- which is what it read as
   pub read : d.is_honest new → OnOk result (was_open ≡ is_gate_open (area_at c area) (d.content old))
   pub within : WritesWithin d (WritesAt c area) (calls_of (dirty_pages c area memory) was_open result) old new (is_device result)
+
+-- the same, into the area that isn't in use
+abbrev pub IsOtherAreaWrite : {D X : Type 0} → Ghosts D → Config → SavePoint → Memory → (old new : D) → Result X AreaFault → Type 0
+IsOtherAreaWrite d c point memory old new result = IsAreaWrite d c (other_area point) memory old new result
 
 -- the last generation was in use: that is the answer, before any call of the disk; else Device is the only error
 pub record IsRefusedExactly {D X : Type 0} (point : SavePoint) (old new : D) (result : Result X AreaFault) : Type 0 where

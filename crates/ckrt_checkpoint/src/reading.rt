@@ -2,14 +2,13 @@
 ghost use Rattle.std.specs.Prelude.{◌≡◌, ◌≢◌, ◌≤◌, ◌⊎◌, Err, IfOk, IfErr, length, true};
 ghost use Rattle.ckrt_disk.specs.Frame.{IsOnlyRead};
 ghost use Rattle.ckrt_tables.specs.declared.encoding.TheConstants.{HELD_LIMIT};
-ghost use Rattle.ckrt_tables.specs.Savable.{CanBeSaved};
 ghost use Rattle.ckrt_checkpoint.specs.declared.fault.AreaFault.TheVariants.{Damaged, Device, GenerationsUsed, OutOfMemory, Version};
 ghost use Rattle.ckrt_checkpoint.specs.Answers.{is_device};
 ghost use Rattle.ckrt_checkpoint.specs.Areas.{IsPicked};
 ghost use Rattle.ckrt_memory.specs.Marks.{IsAllClean};
-ghost use Rattle.ckrt_checkpoint.specs.Holds.{BothStand};
+ghost use Rattle.ckrt_checkpoint.specs.Holds.{BothStand, GivesPagesThatStand};
 ghost use Rattle.ckrt_checkpoint.specs.Layout.{is_valid, memory_of, memory_size, size_needed, tables_of};
-ghost use Rattle.ckrt_checkpoint.specs.Read.{ReadsArea};
+ghost use Rattle.ckrt_checkpoint.specs.Read.{CanBeSavedIn, ReadsArea};
 
 use crate::area::Area;
 use crate::config::Config;
@@ -78,13 +77,13 @@ pub fn read_area<D: Disk>(
     requires valid { is_valid config.now ≡ true }
     requires disk { size_needed config.now ≤ D.size disk.old }
     requires picked { IsPicked area.now }
+    ensures read { IsOnlyRead D.Disk disk.old disk.new (is_device result) }
     ensures exact { D.is_honest disk.new → ReadsArea config.now area.now (D.content disk.old) result }
-    ensures savable { IfOk result (λ r. CanBeSaved area.now.header.version config.now.harts r.1 r.2.items) }
+    ensures savable { IfOk result (λ r. CanBeSavedIn config.now area.now r.1 r.2.items) }
     ensures memory { IfOk result (λ r. length r.0.bytes ≡ memory_size config.now) }
-    ensures pages { D.is_honest disk.new → IfOk result (λ r. BothStand config.now r.0 (D.content disk.old)) }
+    ensures pages { GivesPagesThatStand D.Disk config.now disk.old disk.new (λ r. r.0) result }
     ensures clean { IfOk result (λ r. IsAllClean area.now.index r.0) }
     ensures held { IfOk result (λ r. r.2.capacity ≡ HELD_LIMIT) }
-    ensures read { IsOnlyRead D.Disk disk.old disk.new (is_device result) }
     ensures no_generations { result ≢ Err GenerationsUsed }
     ensures no_version { result ≢ Err Version }
 {

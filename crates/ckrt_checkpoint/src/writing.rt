@@ -4,9 +4,9 @@ ghost use Rattle.ckrt_disk.specs.Disk.{IsOverwritten, IsWithin};
 ghost use Rattle.ckrt_disk.specs.Frame.{AtAnyMoment, WritesWithin};
 ghost use Rattle.ckrt_memory.specs.Pages.{page_of};
 ghost use Rattle.ckrt_tables.specs.declared.encoding.TheConstants.{TABLES_ROOM};
-ghost use Rattle.ckrt_checkpoint.specs.Holds.{slot, slot_at, AllPagesStand, CleanPagesStand};
+ghost use Rattle.ckrt_checkpoint.specs.Holds.{slot, slot_at, AllPagesStand, CleanPagesStand, CleanPagesStandOn};
 ghost use Rattle.ckrt_checkpoint.specs.Layout.{is_valid, is_gate_open, memory_size, size_needed};
-ghost use Rattle.ckrt_checkpoint.specs.Write.{calls_of_closing, dirty_pages, next_header, other_area, FillsAt, HasSaved, IsAreaWrite, IsClosing, IsDurable, IsFilled, IsRefusedExactly, IsSaving, PagesAt};
+ghost use Rattle.ckrt_checkpoint.specs.Write.{calls_of_closing, dirty_pages, other_area, FillsAt, IsClosing, IsDurable, IsFilled, IsOtherAreaWrite, IsRefusedExactly, IsSavedOn, LeavesSaving, PagesAt};
 
 use crate::config::Config;
 use crate::fault::AreaFault;
@@ -142,11 +142,11 @@ pub fn write_area<D: Disk>(
     requires area { point.now.area ≤ 1 }
     requires tables { length tables.now ≤ TABLES_ROOM }
     requires memory { length memory.now.bytes ≡ memory_size config.now }
-    requires clean { D.is_honest disk.old → CleanPagesStand config.now (other_area point.now) memory.now (D.content disk.old) }
-    ensures any_moment { IsDurable D.Disk disk.old → AtAnyMoment D.Disk disk.old disk.new (IsSaving config.now point.now tables.now memory.now.bytes (D.content disk.old)) }
-    ensures write { IsAreaWrite D.Disk config.now (other_area point.now) memory.now disk.old disk.new result }
+    requires clean { CleanPagesStandOn D.Disk config.now (other_area point.now) memory.now disk.old }
+    ensures any_moment { LeavesSaving D.Disk config.now point.now tables.now memory.now disk.old disk.new }
+    ensures write { IsOtherAreaWrite D.Disk config.now point.now memory.now disk.old disk.new result }
     ensures refused { IsRefusedExactly point.now disk.old disk.new result }
-    ensures saved { OnOk result (D.is_honest disk.new → HasSaved config.now (other_area point.now) (next_header point.now tables.now) tables.now memory.now.bytes (D.content disk.old) (D.content disk.new)) }
+    ensures saved { OnOk result (IsSavedOn D.Disk config.now point.now tables.now memory.now disk.old disk.new) }
     ensures durable { OnOk result (D.is_honest disk.new → IsDurable D.Disk disk.new) }
 {
     if point.generation == u64::MAX {

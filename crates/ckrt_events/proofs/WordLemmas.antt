@@ -1,3 +1,4 @@
+-- The words of a line and the numbers in them, as the code finds them: byte by byte.
 use Rattle.std.proofs.Common.{◌≢◌, zero, ◌≡◌, ℕ, suc, ◌+◌, ◌-◌, ◌*◌, ◌<◌, ◌≤◌, ◌&&◌, Bool, true, false, not, filter, List, [], ◌∷◌, ◌++◌, length, take, drop, get_or, refl, sym, ◌∙◌, ap, arith}
 use Rattle.std.proofs.lemmas.List.{take-append-drop}
 use Rattle.ckrt_events.specs.Words.{is_blank, part_byte, parts_of, is_filled, words_of, ends_word, begins_word, is_digit, all_digits, value_from}

@@ -9,15 +9,7 @@ use Rattle.ckrt_events.specs.declared.event.Event.TheVariants.{Place, Run, Input
 use Rattle.ckrt_events.specs.declared.command.Command.{Command}
 use Rattle.ckrt_events.specs.declared.command.Command.TheVariants.{Submit, Auto, Commit, Checkpoint, Quit, Blank}
 use Rattle.ckrt_events.specs.declared.command.LineFault.{LineFault}
-use Rattle.ckrt_events.specs.declared.command.LineFault.TheVariants.{Unknown, Number, Hex, Range, TooLong}
-
--- the number by which a reply names a fault
-abbrev pub code_of : LineFault → ℕ
-code_of Unknown = 31
-code_of Number = 32
-code_of Hex = 33
-code_of Range = 34
-code_of TooLong = 35
+use Rattle.ckrt_events.specs.declared.command.LineFault.TheVariants.{Unknown, Hex, Range, TooLong}
 
 -- harts 0 to 7, 1 to 65,535 steps
 abbrev pub IsInRangeCommand : Command → Type 0

@@ -1,4 +1,4 @@
-ghost use Rattle.std.specs.Prelude.{IsTrue, ◌↔◌, ◌≡◌};
+ghost use Rattle.std.specs.Prelude.{IsTrue, ◌↔◌};
 
 use crate::event::Event;
 use thiserror::Error;
@@ -12,7 +12,7 @@ pub enum Command {
     Auto(u8, u16),
     /// What was accepted becomes durable, by the journal.
     Commit,
-    /// What was accepted becomes durable, by a copy of the whole machine. No line asks for it yet.
+    /// What was accepted becomes durable, by a copy of the whole machine.
     Checkpoint,
     /// The end of the service.
     Quit,
@@ -53,21 +53,4 @@ pub enum LineFault {
     /// The line has more bytes than [`crate::LINE_LIMIT`].
     #[error("TooLong")]
     TooLong,
-}
-
-impl LineFault {
-    ghost use Rattle.ckrt_events.specs.Line.{code_of};
-
-    /// The number by which a reply names the fault, 31 to 35.
-    pub fn code(self) -> u8
-        ensures { result ≡ code_of self }
-    {
-        match self {
-            LineFault::Unknown => 31,
-            LineFault::Number => 32,
-            LineFault::Hex => 33,
-            LineFault::Range => 34,
-            LineFault::TooLong => 35,
-        }
-    }
 }

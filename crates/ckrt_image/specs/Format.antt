@@ -1,7 +1,7 @@
 -- What formatting refuses, where it writes, and what a stop of it leaves.
 use Rattle.std.specs.Prelude.{◌≡◌, ◌+◌, ◌≤◌, ◌<◌, ◌⊎◌, not, ℕ, Bool, true, false, List, length, nat_lt, if◌then◌else◌, Option, Some, None, Result, Err, Ok, IfErr}
 use Rattle.ckrt_disk.specs.Disk.{IsWithin}
-use Rattle.ckrt_disk.specs.Frame.{AtAnyMoment, MayBeLeft}
+use Rattle.ckrt_disk.specs.Frame.{AtAnyMoment, MayBeLeft, WritesWithin}
 use Rattle.ckrt_disk.specs.declared.disk.Disk.{Ghosts}
 use Rattle.ckrt_checkpoint.specs.declared.config.Config.{Config}
 use Rattle.ckrt_image.specs.declared.fault.FormatFault.{FormatFault}
@@ -36,6 +36,10 @@ IsFormatted c guest image = RecoversToStart (formatted_program c guest) image
 abbrev pub IsFormatting : {D : Type 0} → Config → List ℕ → Ghosts D → D → List ℕ → Type 0
 IsFormatting c guest d disk image = MayBeLeft d disk image ⊎ Recovers image (Err NotFormatted) ⊎ IsFormatted c guest image
 
+-- of an honest disk a stop at any moment since old leaves no more than that
+abbrev pub LeavesFormatting : {D : Type 0} → Config → List ℕ → Ghosts D → (old new : D) → Type 0
+LeavesFormatting c guest d old new = AtAnyMoment d old new (IsFormatting c guest d old)
+
 -- where formatting writes: neither in journal 1 nor behind the size that the configuration needs
 abbrev pub FormatsAt : Config → ℕ → Type 0
 FormatsAt c i = (i < size_needed c) × ¬ IsWithin (journal_at c 1) c.journal i
@@ -64,6 +68,10 @@ calls_of (Err ImageTooLong) = 0
 calls_of (Err Device) = 0
 calls_of (Err OutOfMemory) = 0
 
+-- the calls of the disk: it is written only where formatting writes, by as many writes and syncs as the answer says
+abbrev pub IsFormatWrite : {D X : Type 0} → Ghosts D → Config → (old new : D) → Result X FormatFault → Type 0
+IsFormatWrite d c old new result = WritesWithin d (FormatsAt c) (calls_of result) old new (is_device result)
+
 -- where there is a refusal the answer is that one, and else none of them
 abbrev pub IsRefusedBy : {X : Type 0} → Option FormatFault → Result X FormatFault → Type 0
 IsRefusedBy (Some fault) result = result ≡ Err fault
@@ -80,12 +88,20 @@ pub record StaysFormatted {D : Type 0} (d : Ghosts D) (old new : D) : Type 0 whe
   -- the sync is the only call that is counted
   pub calls : d.calls new ≤ d.calls old + 1
 
+-- an honest disk whose first gate was open stays as it is
+abbrev pub StaysIfFormatted : {D : Type 0} → Ghosts D → (old new : D) → Type 0
+StaysIfFormatted d old new = d.is_honest new → is_open (d.content old) ≡ true → StaysFormatted d old new
+
 -- The disk had an open first gate already, and reads as before.
 pub record WasFormatted {D : Type 0} (d : Ghosts D) (old new : D) : Type 0 where
   -- its first gate
   pub gate : is_open (d.content old) ≡ true
   -- its bytes
   pub content : d.content new ≡ d.content old
+
+-- where the answer is AlreadyFormatted an honest disk had an open first gate, and reads as before
+abbrev pub TellsFormatted : {D X : Type 0} → Ghosts D → (old new : D) → Result X FormatFault → Type 0
+TellsFormatted d old new result = result ≡ Err AlreadyFormatted → d.is_honest new → WasFormatted d old new
 
 -- A disk was formatted with this configuration and this guest image.
 pub record IsMade {D : Type 0} (d : Ghosts D) (c : Config) (guest : List ℕ) (old new : D) : Type 0 where
@@ -95,3 +111,7 @@ pub record IsMade {D : Type 0} (d : Ghosts D) (c : Config) (guest : List ℕ) (o
   pub nothing_pending : (i : ℕ) → ¬ d.pending new i
   -- whatever a stop leaves of it recovers to the program before its first event
   pub formatted : (left : List ℕ) → MayBeLeft d new left → IsFormatted c guest left
+
+-- an honest disk was formatted with this configuration and this guest image
+abbrev pub FormatsDisk : {D : Type 0} → Ghosts D → Config → List ℕ → (old new : D) → Type 0
+FormatsDisk d c guest old new = d.is_honest new → IsMade d c guest old new

@@ -1,12 +1,12 @@
 // Formatting a disk. Its first byte is the superblock's gate, which is opened last: until then a stop leaves a disk that
 // isn't formatted.
-ghost use Rattle.std.specs.Prelude.{◌≡◌, ◌≤◌, ◌+◌, ℕ, true, Some, None, Err, length, is_err, IfOk, IfErr, OnOk};
+ghost use Rattle.std.specs.Prelude.{◌≡◌, ◌≤◌, ◌+◌, ℕ, true, Some, None, length, is_err, IfOk, IfErr, OnOk};
 ghost use Rattle.ckrt_disk.specs.Disk.{IsOverwritten, IsWithin};
-ghost use Rattle.ckrt_disk.specs.Frame.{AtAnyMoment, Nowhere, WritesWithin};
+ghost use Rattle.ckrt_disk.specs.Frame.{Nowhere, WritesWithin};
 ghost use Rattle.ckrt_image.specs.declared.fault.FormatFault.TheVariants.{AlreadyFormatted, Device, OutOfMemory};
 ghost use Rattle.ckrt_checkpoint.specs.Layout.{is_valid, is_open, memory_size, size_needed};
 ghost use Rattle.ckrt_image.specs.Fields.{BecomesFresh, HasFreshArea, IsFresh, fresh_memory};
-ghost use Rattle.ckrt_image.specs.Format.{format_refusal, calls_of, is_device, ComesBeforeCalls, FormatsAt, FormatsBehindGate, IsFormatting, IsMade, IsRefusedBy, StaysFormatted, WasFormatted};
+ghost use Rattle.ckrt_image.specs.Format.{format_refusal, ComesBeforeCalls, FormatsBehindGate, FormatsDisk, IsFormatWrite, IsRefusedBy, LeavesFormatting, StaysIfFormatted, TellsFormatted};
 
 use crate::blocks::superblock_fields;
 use crate::fault::FormatFault;
@@ -157,13 +157,13 @@ pub fn format<D: Disk>(
     config: Config,
     image: &[u8],
 ) -> Result<(), FormatFault>
-    ensures any_moment { AtAnyMoment D.Disk disk.old disk.new (IsFormatting config image.now D.Disk disk.old) }
-    ensures within { WritesWithin D.Disk (FormatsAt config) (calls_of result) disk.old disk.new (is_device result) }
+    ensures any_moment { LeavesFormatting config image.now D.Disk disk.old disk.new }
+    ensures within { IsFormatWrite D.Disk config disk.old disk.new result }
     ensures refused { IsRefusedBy (format_refusal (D.size disk.old) config image.now) result }
     ensures unchanged { IfErr result (λ fault. ComesBeforeCalls fault → disk.new ≡ disk.old) }
-    ensures already_formatted { result ≡ Err AlreadyFormatted → D.is_honest disk.new → WasFormatted D.Disk disk.old disk.new }
-    ensures stays { D.is_honest disk.new → is_open (D.content disk.old) ≡ true → StaysFormatted D.Disk disk.old disk.new }
-    ensures made { OnOk result (D.is_honest disk.new → IsMade D.Disk config image.now disk.old disk.new) }
+    ensures already_formatted { TellsFormatted D.Disk disk.old disk.new result }
+    ensures stays { StaysIfFormatted D.Disk disk.old disk.new }
+    ensures made { OnOk result (FormatsDisk D.Disk config image.now disk.old disk.new) }
 {
     check(disk.size(), &config, image)?;
     let memory = guest_memory(alloc, &config, image)?;

@@ -72,8 +72,8 @@ pub fn inspect_with<D: Disk, W: Write>(
     shown: Shown,
     writer: &mut W,
 ) -> Result<(), InspectFault>
-    ensures tells { D.is_honest disk.new → Tells shown (D.content disk.old) (W.contents writer.old) (W.contents writer.new) result }
     ensures read { IsOnlyRead D.Disk disk.old disk.new (is_device result) }
+    ensures tells { D.is_honest disk.new → Tells shown (D.content disk.old) (W.contents writer.old) (W.contents writer.new) result }
     ensures unwritten { IfErr result (λ e. e ≢ Writing → writer.new ≡ writer.old) }
     ensures range { shown.at ≡ None → IfErr result (λ e. e ≢ Range) }
 {

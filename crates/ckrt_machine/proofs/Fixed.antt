@@ -63,7 +63,7 @@ use Rattle.ckrt_calls.specs.declared.table.Tables.{Tables}
 use Rattle.ckrt_calls.specs.Table as calls
 use Rattle.ckrt_events.specs.declared.event.Event.{Event}
 use Rattle.ckrt_events.specs.declared.event.Event.TheVariants.{Place, Run, Input, Eof, Tick, RunLong}
-use Rattle.ckrt_machine.specs.declared.event.How.{How}
+use Rattle.ckrt_machine.specs.declared.event.RunEnd.{RunEnd}
 use Rattle.ckrt_machine.specs.Events.{fold, step}
 use Rattle.ckrt_machine.specs.Runs.{Ran, run_on, stopped}
 use Rattle.ckrt_machine.specs.Steps.{State, Stepped, acted, hart_of, hart_step, handled, performed, returned, slot_step, step_of, thread_step, with_regs, with_result}
@@ -456,7 +456,7 @@ same_step_of None s = refl
 same_step_of (Some t) s = same_slot_step (threads.thread_of s.tables.threads t) t s
 
 same_stopped : (more : ℕ → State → List ℕ → Ran) → ((h : ℕ) (s : State) (out : List ℕ) → fixed (more h s out).state.tables.threads ≡ fixed s.tables.threads)
-    → (w : Option How) (n h : ℕ) (s : State) (out : List ℕ) → fixed (stopped more w n h s out).state.tables.threads ≡ fixed s.tables.threads
+    → (w : Option RunEnd) (n h : ℕ) (s : State) (out : List ℕ) → fixed (stopped more w n h s out).state.tables.threads ≡ fixed s.tables.threads
 same_stopped more same None n h s out = same h s out
 same_stopped more same (Some w) n h s out = refl
 

@@ -24,8 +24,8 @@ use Rattle.ckrt_calls.specs.declared.table.Tables.{Tables}
 use Rattle.ckrt_calls.specs.Table as calls
 use Rattle.ckrt_calls.specs.WellFormed.{IsWellFormed}
 use Rattle.ckrt_calls.proofs.Kept.{MayCall, well_formed_change, well_formed_fault, well_formed_exited, well_formed_called, well_formed_acted, well_formed_unwound, well_formed_begun}
-use Rattle.ckrt_machine.specs.declared.event.How.{How}
-use Rattle.ckrt_machine.specs.declared.event.How.TheVariants.{On, Off, End}
+use Rattle.ckrt_machine.specs.declared.event.RunEnd.{RunEnd}
+use Rattle.ckrt_machine.specs.declared.event.RunEnd.TheVariants.{On, Off, End}
 use Rattle.ckrt_machine.specs.Steps.{State, Stepped, hart_of, with_regs, with_result, called, performed, returned, handled, thread_step, slot_step, step_of, hart_step}
 use Rattle.ckrt_machine.specs.Runs.{Ran, is_running, stop_of, stopped, run_on, with_byte}
 use Rattle.ckrt_machine.proofs.EffectLaws.{aligned_step}
@@ -124,7 +124,7 @@ going_runs h s out e =
 abbrev KeptRun : Ran → Type 0
 KeptRun r = IsWellFormed r.state.tables
 
-kept_stopped : (more : ℕ → State → List ℕ → Ran) (o : Option How) (n h : ℕ) (s : State) (out : List ℕ) → stop_of h s.tables out ≡ o → IsWellFormed s.tables → ((z : State) (q : List ℕ) → z.tables.status ≡ Running → IsWellFormed z.tables → KeptRun (more h z q)) → KeptRun (stopped more o n h s out)
+kept_stopped : (more : ℕ → State → List ℕ → Ran) (o : Option RunEnd) (n h : ℕ) (s : State) (out : List ℕ) → stop_of h s.tables out ≡ o → IsWellFormed s.tables → ((z : State) (q : List ℕ) → z.tables.status ≡ Running → IsWellFormed z.tables → KeptRun (more h z q)) → KeptRun (stopped more o n h s out)
 kept_stopped more None n h s out e w k = k s out (going_runs h s.tables out e) w
 kept_stopped more (Some x) n h s out e w k = w
 

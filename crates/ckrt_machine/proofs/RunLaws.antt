@@ -12,7 +12,7 @@ use Rattle.ckrt_thread.specs.Cancellation.{is_immediate}
 use Rattle.ckrt_thread.specs.State as threads
 use Rattle.ckrt_calls.specs.declared.table.Tables.{Tables}
 use Rattle.ckrt_calls.specs.Table as calls
-use Rattle.ckrt_machine.specs.declared.event.How.TheVariants.{On}
+use Rattle.ckrt_machine.specs.declared.event.RunEnd.TheVariants.{On}
 use Rattle.ckrt_rv32i.specs.Bursts.{burst, is_next, Burst}
 use Rattle.ckrt_machine.specs.Bursts.{fault_ending, ending}
 use Rattle.ckrt_machine.specs.Steps.{State, quiet, hart_of, with_regs, acted, called, performed, thread_step, slot_step, step_of, hart_step}

@@ -1,8 +1,8 @@
 -- A run is its steps, up to the first that ends it.
 use Rattle.std.proofs.Common.{◌≡◌, ◌⊎◌, ℕ, zero, suc, ◌+◌, ◌<◌, ◌≤◌, List, Option, Some, None, refl, arith}
 use mathlib.Core.Logic.{inl, inr}
-use Rattle.ckrt_machine.specs.declared.event.How.{How}
-use Rattle.ckrt_machine.specs.declared.event.How.TheVariants.{On}
+use Rattle.ckrt_machine.specs.declared.event.RunEnd.{RunEnd}
+use Rattle.ckrt_machine.specs.declared.event.RunEnd.TheVariants.{On}
 use Rattle.ckrt_machine.specs.Steps.{State, hart_step}
 use Rattle.ckrt_machine.specs.Runs.{stopped, run_on, with_byte, stop_after, HasMade}
 
@@ -24,13 +24,13 @@ all_made : (m h : ℕ) (s : State) (out : List ℕ) → stop_after 1 h s out ≡
 all_made zero h s out first more = first
 all_made (suc m) h s out first more = more (omega arith)
 
-ended : (n m h : ℕ) (s : State) (out : List ℕ) (how : How) → stop_after 1 h s out ≡ None
+ended : (n m h : ℕ) (s : State) (out : List ℕ) (how : RunEnd) → stop_after 1 h s out ≡ None
     → ((1 ≤ m) × (stop_after m h (next_state h s) (next_output h s out) ≡ Some how)) ⊎ ((m ≡ n) × (how ≡ On) × (1 ≤ m → stop_after m h (next_state h s) (next_output h s out) ≡ None))
     → ((1 ≤ suc m) × (stop_after (suc m) h s out ≡ Some how)) ⊎ ((suc m ≡ suc n) × (how ≡ On) × (1 ≤ suc m → stop_after (suc m) h s out ≡ None))
 ended n m h s out how first (inl last) = inl (omega arith, last.1)
 ended n m h s out how first (inr all) = let same : m ≡ n = all.0 in inr (omega arith, all.1, λ l. all_made m h s out first all.2)
 
-by_stop : (o : Option How) (n h : ℕ) (s : State) (out : List ℕ) → stop_after 1 h s out ≡ o → (m : ℕ) × HasMade n m h (next_state h s) (next_output h s out) (run_on n h (next_state h s) (next_output h s out))
+by_stop : (o : Option RunEnd) (n h : ℕ) (s : State) (out : List ℕ) → stop_after 1 h s out ≡ o → (m : ℕ) × HasMade n m h (next_state h s) (next_output h s out) (run_on n h (next_state h s) (next_output h s out))
     → (m : ℕ) × HasMade (suc n) m h s out (stopped (run_on n) o n h (next_state h s) (next_output h s out))
 by_stop (Some how) n h s out is rest = (
   1,

@@ -1,4 +1,4 @@
--- Why an event is refused. The reasons are tested in the order of their codes, and the first that applies is given.
+-- Why an event is refused. The reasons are tested in the order in which `Refusal` has them, and the first that applies is given.
 use Rattle.std.specs.Prelude.{ℕ, ◌+◌, ◌^◌, nat_le, nat_lt, if◌then◌else◌, Option, Some, None, is_none, not, length}
 use Rattle.ckrt_thread.specs.State as threads
 use Rattle.ckrt_calls.specs.declared.table.Tables.{Tables}
@@ -8,18 +8,6 @@ use Rattle.ckrt_machine.specs.declared.event.Refusal.{Refusal}
 use Rattle.ckrt_machine.specs.declared.event.Refusal.TheVariants.{Ended, NoSuchHart, NoSuchThread, NotReady, HartIdle, InputClosed, InputFull, ClockEnd, OutputFull}
 use Rattle.ckrt_machine.specs.Steps.{State, hart_of}
 use Rattle.ckrt_machine.specs.Runs.{is_running}
-
--- the number of a reason in a reply
-abbrev pub code_of : Refusal → ℕ
-code_of Ended = 1
-code_of NoSuchHart = 2
-code_of NoSuchThread = 3
-code_of NotReady = 4
-code_of HartIdle = 5
-code_of InputClosed = 6
-code_of InputFull = 7
-code_of ClockEnd = 8
-code_of OutputFull = 9
 
 -- a run, of whatever number of steps
 abbrev pub run_refusal : ℕ → ℕ → Tables → Option Refusal

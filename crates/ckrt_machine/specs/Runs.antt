@@ -3,8 +3,8 @@ use Rattle.std.specs.Prelude.{◌≡◌, ◌⊎◌, ◌≤◌, ◌<◌, ◌+◌,
 use Rattle.ckrt_calls.specs.declared.table.Status.{Status}
 use Rattle.ckrt_calls.specs.declared.table.Status.TheVariants.{Running, Exited, Faulted}
 use Rattle.ckrt_calls.specs.declared.table.Tables.{Tables}
-use Rattle.ckrt_machine.specs.declared.event.How.{How}
-use Rattle.ckrt_machine.specs.declared.event.How.TheVariants.{On, Off, End}
+use Rattle.ckrt_machine.specs.declared.event.RunEnd.{RunEnd}
+use Rattle.ckrt_machine.specs.declared.event.RunEnd.TheVariants.{On, Off, End}
 use Rattle.ckrt_machine.specs.Steps.{State, Stepped, hart_of, hart_step}
 
 abbrev pub is_running : Status → Bool
@@ -15,7 +15,7 @@ is_running (Faulted t p c) = false
 -- what a run leaves: how many of its steps it didn't make, how it ended, the state, and the bytes put
 pub record Ran : Type 0 where
   pub left : ℕ
-  pub how : How
+  pub how : RunEnd
   pub state : State
   pub output : List ℕ
 
@@ -24,7 +24,7 @@ with_byte None out = out
 with_byte (Some b) out = out ++ b ∷ []
 
 -- whether a run ends after a step, and how: the program ended, the thread left the hart, or the 1,024th byte was put
-abbrev pub stop_of : ℕ → Tables → List ℕ → Option How
+abbrev pub stop_of : ℕ → Tables → List ℕ → Option RunEnd
 stop_of h s out =
     if is_running s.status then
     (if is_none (hart_of s h) then Some Off
@@ -32,7 +32,7 @@ stop_of h s out =
     else None)
     else Some End
 
-abbrev pub stopped : (ℕ → State → List ℕ → Ran) → Option How → ℕ → ℕ → State → List ℕ → Ran
+abbrev pub stopped : (ℕ → State → List ℕ → Ran) → Option RunEnd → ℕ → ℕ → State → List ℕ → Ran
 stopped more None n h s out = more h s out
 stopped more (Some w) n h s out = record { left = n; how = w; state = s; output = out }
 
@@ -58,7 +58,7 @@ after_steps zero h s out = record { state = s; output = out }
 after_steps (suc k) h s out = after_steps k h (hart_step h s).state (with_byte (hart_step h s).put out)
 
 -- whether a run ends after k steps, and how
-abbrev pub stop_after : ℕ → ℕ → State → List ℕ → Option How
+abbrev pub stop_after : ℕ → ℕ → State → List ℕ → Option RunEnd
 stop_after k h s out = stop_of h (after_steps k h s out).state.tables (after_steps k h s out).output
 
 -- a run of at most n steps of the thread on hart h made m of them

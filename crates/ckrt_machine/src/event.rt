@@ -1,12 +1,10 @@
 //! What a machine answers to an event, and why it refuses one.
-ghost use Rattle.std.specs.Prelude.{◌≡◌};
-ghost use Rattle.ckrt_machine.specs.Refusals.{code_of};
 
 use thiserror::Error;
 
 /// How a run ended.
 #[derive(Clone, Copy, Debug, PartialEq, Eq)]
-pub enum How {
+pub enum RunEnd {
     /// The thread is still on the hart.
     On,
     /// The thread left the hart, as it waits or ended.
@@ -22,7 +20,7 @@ pub enum Answer {
     Placed,
     /// How many steps were made, one that faulted or ended the program included, and how the run
     /// ended.
-    Ran(u32, How),
+    Ran(u32, RunEnd),
     /// How many bytes of input were taken.
     Taken(u32),
     /// The input is closed.
@@ -31,7 +29,7 @@ pub enum Answer {
     Ticked(u32),
 }
 
-/// Why an event is refused. A refused event changes nothing.
+/// Why an event is refused, in the order in which the reasons are tested. A refused event changes nothing.
 #[derive(Clone, Copy, Debug, PartialEq, Eq, Error)]
 pub enum Refusal {
     /// The program has ended.
@@ -61,23 +59,4 @@ pub enum Refusal {
     /// Too much output is held for a run, which may put 1,024 bytes more.
     #[error("OutputFull")]
     OutputFull,
-}
-
-impl Refusal {
-    /// The number of the reason in a reply, 1 to 9, in the order of the tests.
-    pub fn code(self) -> u8
-        ensures { result ≡ code_of self }
-    {
-        match self {
-            Refusal::Ended => 1,
-            Refusal::NoSuchHart => 2,
-            Refusal::NoSuchThread => 3,
-            Refusal::NotReady => 4,
-            Refusal::HartIdle => 5,
-            Refusal::InputClosed => 6,
-            Refusal::InputFull => 7,
-            Refusal::ClockEnd => 8,
-            Refusal::OutputFull => 9,
-        }
-    }
 }

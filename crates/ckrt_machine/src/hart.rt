@@ -8,7 +8,7 @@ ghost use Rattle.ckrt_machine.specs.Runs.{is_running, stop_of, stopped, run_on, 
 ghost use Rattle.ckrt_machine.specs.Events.{run_of};
 
 use crate::ending::end_burst;
-use crate::event::{Answer, How};
+use crate::event::{Answer, RunEnd};
 use arrayvec::ArrayVec;
 use ckrt_calls::{Status, Tables, act_on_request};
 use ckrt_memory::Memory;
@@ -37,17 +37,17 @@ pub fn is_running(tables: &Tables) -> bool
 }
 
 /// Whether a run ends after a step, and how.
-fn stop(tables: &Tables, hart: usize, output: &ArrayVec<u8, 1024>) -> Option<How>
+fn stop(tables: &Tables, hart: usize, output: &ArrayVec<u8, 1024>) -> Option<RunEnd>
     ensures { result ≡ stop_of hart tables.now output.now.items }
 {
     if !is_running(tables) {
-        return Some(How::End);
+        return Some(RunEnd::End);
     }
     if tables.threads.on_hart(hart).is_none() {
-        return Some(How::Off);
+        return Some(RunEnd::Off);
     }
     if output.len() >= RUN_OUTPUT {
-        return Some(How::On);
+        return Some(RunEnd::On);
     }
     None
 }
@@ -101,7 +101,7 @@ fn turn(
     output: &mut ArrayVec<u8, 1024>,
     hart: usize,
     limit: u32,
-) -> (u32, Option<How>)
+) -> (u32, Option<RunEnd>)
     requires limit { 0 < limit }
     requires going { stop_of hart tables.old output.old.items ≡ None }
     requires well_formed { IsWellFormed tables.old }
@@ -124,7 +124,7 @@ fn turn(
     let (left, outcome) = memory.burst(&mut regs, limit);
     put_back(tables, thread, &regs);
     if left == 0 {
-        return (0, Some(How::On));
+        return (0, Some(RunEnd::On));
     }
     let put = end_burst(tables, outcome, thread);
     put_byte(output, put);
@@ -139,7 +139,7 @@ pub fn run(
     output: &mut ArrayVec<u8, 1024>,
     hart: usize,
     limit: u32,
-) -> (u32, How)
+) -> (u32, RunEnd)
     requires going { stop_of hart tables.old output.old.items ≡ None }
     requires well_formed { IsWellFormed tables.old }
     ensures well_formed { IsWellFormed tables.new }
@@ -155,7 +155,7 @@ pub fn run(
         }
         left = rest;
     }
-    (0, How::On)
+    (0, RunEnd::On)
 }
 
 /// The same from no output on, as an event's answer.

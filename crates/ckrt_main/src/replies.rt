@@ -2,11 +2,11 @@
 ghost use Rattle.std.specs.Prelude.{◌≡◌, ◌≤◌, ◌+◌, ◌*◌, ◌++◌, [], length, decimal, codes};
 ghost use Rattle.arrayvec.specs.ArrayVec.{array_vec_len};
 ghost use Rattle.hex.specs.Hex.{encode_lower};
-ghost use Rattle.ckrt_recovery.specs.Replies.{ok_line, ack_line, no_line, out_line, refusal_text, submit_fault_text, commit_fault_text, line_fault_text, answer_text, how_text};
+ghost use Rattle.ckrt_recovery.specs.Replies.{ok_line, ack_line, no_line, out_line, refusal_text, submit_fault_text, commit_fault_text, line_fault_text, answer_text, run_end_text};
 
 use arrayvec::ArrayVec;
 use ckrt_events::LineFault;
-use ckrt_machine::{Answer, How, Refusal};
+use ckrt_machine::{Answer, Refusal, RunEnd};
 use ckrt_recovery::{CommitFault, SubmitFault};
 
 /// The longest line is one of output: `out `, an offset of at most 20 digits, a space, 128 digits and a line feed.
@@ -51,14 +51,14 @@ fn push_hex(reply: &mut Reply, bytes: &[u8])
     }
 }
 
-fn how_text(how: How) -> &'static [u8]
-    ensures text { result.now ≡ how_text how }
+fn run_end_text(how: RunEnd) -> &'static [u8]
+    ensures text { result.now ≡ run_end_text how }
     ensures short { length result.now ≤ 3 }
 {
     match how {
-        How::On => b"on".as_slice(),
-        How::Off => b"off".as_slice(),
-        How::End => b"end".as_slice(),
+        RunEnd::On => b"on".as_slice(),
+        RunEnd::Off => b"off".as_slice(),
+        RunEnd::End => b"end".as_slice(),
     }
 }
 
@@ -73,7 +73,7 @@ fn push_answer(reply: &mut Reply, answer: Answer)
             push(reply, b"ran ");
             push_number(reply, u64::from(steps));
             push(reply, b" ");
-            push(reply, how_text(how));
+            push(reply, run_end_text(how));
         }
         Answer::Taken(count) => {
             push(reply, b"taken ");

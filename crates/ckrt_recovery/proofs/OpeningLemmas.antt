@@ -1,12 +1,12 @@
 -- What recovery makes of a disk: a sync, and then reads.
-use Rattle.std.proofs.Common.{◌≡◌, ◌+◌, ◌-◌, ◌^◌, ◌⊎◌, ◌↔◌, inl, inr, ⊎_elim, ℕ, Bool, true, false, List, Option, Some, Result, Ok, Err, OnOk, OnErr, is_err, refl, sym, ◌∙◌, ap, subst, arith}
+use Rattle.std.proofs.Common.{◌≡◌, ◌+◌, ◌-◌, ◌^◌, ◌↔◌, inl, inr, ℕ, Bool, true, false, Result, Ok, Err, OnOk, OnErr, is_err, refl, ◌∙◌, ap, subst, arith}
 use Rattle.std.proofs.lemmas.Bool.{cases_lt}
-use Rattle.ckrt_disk.specs.Disk.{IsImage, LeavesOnly, Elapses, CountsFault, HasFailed, IsStopped, StopsAt}
+use Rattle.ckrt_disk.specs.Disk.{IsImage, Elapses, CountsFault, HasFailed, IsStopped, StopsAt}
 use Rattle.ckrt_disk.specs.Frame.{IsSameDisk, IsOnlyRead}
 use Rattle.ckrt_disk.specs.declared.disk.Disk.{Ghosts}
 use Rattle.ckrt_disk.proofs.FrameLemmas.{same_on}
 use Rattle.ckrt_disk.proofs.Moments.{over_call, goes_on, weaker}
-use Rattle.ckrt_recovery.specs.Opening.{IsSettled, IsTorn, IsSyncedAndRead}
+use Rattle.ckrt_recovery.specs.Opening.{IsSettled, IsSyncedAndRead}
 
 -- the failures grew
 a_failure : {T E : Type 0} (before now : ℕ) (e : E) (result : Result T E) → result ≡ Err e → CountsFault before now result → HasFailed before now

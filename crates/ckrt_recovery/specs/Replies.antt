@@ -5,8 +5,8 @@ use Rattle.ckrt_events.specs.declared.command.LineFault.{LineFault}
 use Rattle.ckrt_events.specs.declared.command.LineFault.TheVariants.{Unknown, Number, Hex, Range, TooLong}
 use Rattle.ckrt_machine.specs.declared.event.Answer.{Answer}
 use Rattle.ckrt_machine.specs.declared.event.Answer.TheVariants.{Placed, Ran, Taken, Closed, Ticked}
-use Rattle.ckrt_machine.specs.declared.event.How.{How}
-use Rattle.ckrt_machine.specs.declared.event.How.TheVariants.{On, Off, End}
+use Rattle.ckrt_machine.specs.declared.event.RunEnd.{RunEnd}
+use Rattle.ckrt_machine.specs.declared.event.RunEnd.TheVariants.{On, Off, End}
 use Rattle.ckrt_machine.specs.declared.event.Refusal.{Refusal}
 use Rattle.ckrt_machine.specs.declared.event.Refusal.TheVariants.{Ended, NoSuchHart, NoSuchThread, NotReady, HartIdle, InputClosed, InputFull, ClockEnd, OutputFull}
 use Rattle.ckrt_recovery.specs.declared.fault.SubmitFault.{SubmitFault}
@@ -15,14 +15,14 @@ use Rattle.ckrt_recovery.specs.declared.fault.CommitFault.{CommitFault}
 use Rattle.ckrt_recovery.specs.declared.fault.CommitFault.TheVariants as commit
 
 -- how a run ended
-abbrev pub how_text : How → List ℕ
-how_text On = codes "on"
-how_text Off = codes "off"
-how_text End = codes "end"
+abbrev pub run_end_text : RunEnd → List ℕ
+run_end_text On = codes "on"
+run_end_text Off = codes "off"
+run_end_text End = codes "end"
 
 abbrev pub answer_text : Answer → List ℕ
 answer_text Placed = codes "placed"
-answer_text (Ran m how) = codes "ran " ++ decimal m ++ codes " " ++ how_text how
+answer_text (Ran m how) = codes "ran " ++ decimal m ++ codes " " ++ run_end_text how
 answer_text (Taken n) = codes "taken " ++ decimal n
 answer_text Closed = codes "closed"
 answer_text (Ticked n) = codes "ticked " ++ decimal n

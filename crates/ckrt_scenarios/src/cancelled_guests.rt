@@ -6,7 +6,7 @@ use crate::schedules::{NOTHING_ELSE, Schedule, expect_console};
 use crate::service::{expect_replies, image_of};
 use ckrt_calls::Status;
 use ckrt_events::Event;
-use ckrt_machine::{Answer, How, Machine};
+use ckrt_machine::{Answer, Machine, RunEnd};
 use std::process::Abort;
 
 /// Becomes asynchronous, cancels itself, and would loop for ever.
@@ -261,15 +261,15 @@ fn expect_run<R: Abort>(rt: &R, machine: &mut Machine, steps: u16, answer: Answe
 #[test]
 fn last_thread_that_is_cancelled_exits_with_0(rt: HostRuntime) {
     let mut machine = placed(&rt, &CANCELS_ITSELF);
-    let end = Answer::Ran(7, How::End);
+    let end = Answer::Ran(7, RunEnd::End);
     expect_run(&rt, &mut machine, 99, end, Status::Exited(0));
 }
 
 #[test]
 fn each_run_looks_for_the_request(rt: HostRuntime) {
     let mut machine = placed(&rt, &CANCELS_ITSELF);
-    let on = Answer::Ran(6, How::On);
+    let on = Answer::Ran(6, RunEnd::On);
     expect_run(&rt, &mut machine, 6, on, Status::Running);
-    let end = Answer::Ran(1, How::End);
+    let end = Answer::Ran(1, RunEnd::End);
     expect_run(&rt, &mut machine, 1, end, Status::Exited(0));
 }

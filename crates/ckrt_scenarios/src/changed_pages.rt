@@ -5,7 +5,7 @@ use crate::sessions::{expect_answer, expect_checkpoint, expect_commit, is_saved}
 use crate::small_disk::{formatted, recovered, recovered_in_memory};
 use ckrt_disk::{Disk, StoppingDisk};
 use ckrt_events::Event;
-use ckrt_machine::{Answer, How};
+use ckrt_machine::{Answer, RunEnd};
 use ckrt_memory::Memory;
 use ckrt_recovery::Session;
 use std::process::Abort;
@@ -29,7 +29,7 @@ fn store<R: Abort, D: Disk>(rt: &R, session: &mut Session<D>) {
     expect_answer(rt, session, &Event::Place(0, 1), 1, Answer::Placed);
     expect_commit(rt, session, Ok(1));
     expect_checkpoint(rt, session, Ok(1));
-    let ran = Answer::Ran(2, How::On);
+    let ran = Answer::Ran(2, RunEnd::On);
     expect_answer(rt, session, &Event::Run(0, 2), 2, ran);
     expect_commit(rt, session, Ok(2));
 }

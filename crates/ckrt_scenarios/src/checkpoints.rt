@@ -6,7 +6,7 @@ use crate::small_disk::{IMAGE, formatted, recovered, recovered_in_memory};
 use arrayvec::ArrayVec;
 use ckrt_disk::{Disk, MemoryDisk, StoppingDisk};
 use ckrt_events::Event;
-use ckrt_machine::{Answer, How};
+use ckrt_machine::{Answer, RunEnd};
 use ckrt_main::serve;
 use ckrt_recovery::{CommitFault, Session, SubmitFault};
 use std::process::Abort;
@@ -81,7 +81,7 @@ fn confirm<R: Abort, D: Disk>(rt: &R, session: &mut Session<D>, offset: u64) {
 /// The program is placed and runs to its end.
 fn run_to_the_end<R: Abort, D: Disk>(rt: &R, session: &mut Session<D>) {
     expect_submit(rt, session, &Event::Place(0, 1), Ok((1, Answer::Placed)));
-    let ended = Answer::Ran(6, How::End);
+    let ended = Answer::Ran(6, RunEnd::End);
     expect_submit(rt, session, &Event::Run(0, 6), Ok((2, ended)));
 }
 
@@ -103,7 +103,7 @@ fn run_to_the_second<R: Abort, D: Disk>(rt: &R, session: &mut Session<D>) {
     expect_submit(rt, session, &Event::Place(0, 1), Ok((1, Answer::Placed)));
     expect_commit(rt, session, Ok(1));
     expect_checkpoint(rt, session, Ok(1));
-    let ran = Answer::Ran(2, How::On);
+    let ran = Answer::Ran(2, RunEnd::On);
     expect_submit(rt, session, &Event::Run(0, 2), Ok((2, ran)));
     expect_commit(rt, session, Ok(2));
 }
@@ -139,7 +139,7 @@ fn a_checkpoint_makes_its_calls(rt: HostRuntime) {
         Ok((1, Answer::Placed)),
     );
     expect_committed(&rt, &mut session, 1, 5, 26);
-    let ran = Answer::Ran(2, How::On);
+    let ran = Answer::Ran(2, RunEnd::On);
     expect_submit(&rt, &mut session, &Event::Run(0, 2), Ok((2, ran)));
     // The gate of area 0 is open: 2 calls more.
     expect_committed(&rt, &mut session, 2, CALLS_BEFORE, CALLS);
@@ -172,7 +172,7 @@ fn expect_left<R: Abort + AllocGlobal>(
     let mut session = recovered_in_memory(rt, stopped(rt, image, at_call, fill));
     expect_eq_at(rt, at_call, session.acknowledged(), 2);
     expect_eq_at(rt, at_call, session.generation(), generation);
-    let ended = Answer::Ran(4, How::End);
+    let ended = Answer::Ran(4, RunEnd::End);
     expect_submit(rt, &mut session, &Event::Run(0, 9), Ok((3, ended)));
     expect_commit(rt, &mut session, Ok(3));
     expect_output(rt, &mut session, 0, &[0x41]);

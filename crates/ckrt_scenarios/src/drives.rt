@@ -14,7 +14,7 @@ use arrayvec::ArrayVec;
 use ckrt_disk::{Disk, MemoryDisk};
 use ckrt_drive::{Drive, DriveFault, Ending, Nobody, Onlooker, Options, Progress, StreamOutput};
 use ckrt_events::Event;
-use ckrt_machine::{Answer, How};
+use ckrt_machine::{Answer, RunEnd};
 use ckrt_recovery::{Config, Session};
 use std::io::{self, ErrorKind, Write};
 use std::process::Abort;
@@ -158,7 +158,7 @@ fn an_onlooker_is_told_each_step(rt: HostRuntime) {
     let output = memory_disk(&rt, filled(&rt, 0, 64));
     let awaited = [
         Progress::Submitted(Event::Place(0, 1), Answer::Placed),
-        Progress::Submitted(Event::Run(0, 65_535), Answer::Ran(6, How::End)),
+        Progress::Submitted(Event::Run(0, 65_535), Answer::Ran(6, RunEnd::End)),
         Progress::Checkpointed,
         Progress::Released,
         Progress::Stopped(Ending::Ended),
@@ -180,10 +180,10 @@ fn long_turns_come_with_version_2(rt: HostRuntime) {
     let output = memory_disk(&rt, filled(&rt, 0, 64));
     let awaited = [
         Progress::Submitted(Event::Place(0, 1), Answer::Placed),
-        Progress::Submitted(Event::Run(0, 65_535), Answer::Ran(65_535, How::On)),
+        Progress::Submitted(Event::Run(0, 65_535), Answer::Ran(65_535, RunEnd::On)),
         Progress::Submitted(Event::Tick(1), Answer::Ticked(0)),
         Progress::Checkpointed,
-        Progress::Submitted(Event::RunLong(0, 100_000), Answer::Ran(100_000, How::On)),
+        Progress::Submitted(Event::RunLong(0, 100_000), Answer::Ran(100_000, RunEnd::On)),
         Progress::Submitted(Event::Tick(1), Answer::Ticked(0)),
         Progress::Checkpointed,
         Progress::Stopped(Ending::Enough),

@@ -163,17 +163,11 @@ fn input_has_64_bytes_at_most(rt: HostRuntime) {
     expect_fault(&rt, &line, LineFault::Hex);
 }
 
-/// The fault has this code and this name.
-fn expect_name<R: Abort + AllocGlobal>(rt: &R, fault: LineFault, code: u8, name: &str) {
-    expect_eq(rt, fault.code(), code);
-    expect_text(rt, fault, name);
-}
-
 #[test]
-fn faults_have_names_and_codes(rt: HostRuntime) {
-    expect_name(&rt, LineFault::Unknown, 31, "Unknown");
-    expect_name(&rt, LineFault::Number, 32, "Number");
-    expect_name(&rt, LineFault::Hex, 33, "Hex");
-    expect_name(&rt, LineFault::Range, 34, "Range");
-    expect_name(&rt, LineFault::TooLong, 35, "TooLong");
+fn faults_have_names(rt: HostRuntime) {
+    expect_text(&rt, LineFault::Unknown, "Unknown");
+    expect_text(&rt, LineFault::Number, "Number");
+    expect_text(&rt, LineFault::Hex, "Hex");
+    expect_text(&rt, LineFault::Range, "Range");
+    expect_text(&rt, LineFault::TooLong, "TooLong");
 }

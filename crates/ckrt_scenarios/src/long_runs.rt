@@ -8,7 +8,7 @@ use crate::sessions::{
 use crate::small_disk::{IMAGE, formatted, recovered, recovered_in_memory, recovery_outcome};
 use ckrt_disk::{Disk, StoppingDisk};
 use ckrt_events::Event;
-use ckrt_machine::{Answer, How, Refusal};
+use ckrt_machine::{Answer, Refusal, RunEnd};
 use ckrt_recovery::{RecoverFault, Session, SubmitFault};
 use std::process::Abort;
 
@@ -114,7 +114,7 @@ fn migrated<R: Abort + AllocGlobal>(rt: &R) -> Vec<u8> {
     expect_stand(rt, &session, 1, 1, 1);
     expect_checkpoint(rt, &mut session, Ok(1));
     expect_stand(rt, &session, 1, 2, 2);
-    let ended = Answer::Ran(6, How::End);
+    let ended = Answer::Ran(6, RunEnd::End);
     expect_answer(rt, &mut session, &SIX_STEPS, 2, ended);
     expect_commit(rt, &mut session, Ok(2));
     expect_stand(rt, &session, 2, 2, 2);
@@ -164,7 +164,7 @@ fn expect_goes_on<R: Abort + AllocGlobal>(rt: &R, at_call: u64, left: Vec<u8>) {
         expect_answer(rt, &mut session, &Event::Place(0, 1), 1, Answer::Placed);
         expect_checkpoint(rt, &mut session, Ok(1));
     }
-    let ended = Answer::Ran(6, How::End);
+    let ended = Answer::Ran(6, RunEnd::End);
     expect_answer(rt, &mut session, &SIX_STEPS, 2, ended);
     expect_commit(rt, &mut session, Ok(2));
     expect_output(rt, &mut session, 0, &[0x41]);

@@ -11,7 +11,7 @@ use crate::small_disk::{
 use arrayvec::ArrayVec;
 use ckrt_disk::{Disk, FailingDisk};
 use ckrt_events::Event;
-use ckrt_machine::{Answer, How, Machine};
+use ckrt_machine::{Answer, Machine, RunEnd};
 use ckrt_recovery::{CommitFault, FormatFault, RecoverFault, Session, SubmitFault};
 use std::process::Abort;
 
@@ -75,7 +75,7 @@ fn stopped_commit<R: Abort + AllocGlobal>(
         &mut session,
         &Event::Run(0, 2),
         2,
-        Answer::Ran(2, How::On),
+        Answer::Ran(2, RunEnd::On),
     );
     expect_commit(rt, &mut session, Err(CommitFault::Device));
     expect_refusal(rt, &mut session, &Event::Run(0, 1), SubmitFault::Failed);
@@ -281,7 +281,7 @@ fn output_is_taken_until_it_is_confirmed(rt: HostRuntime) {
         &mut session,
         &Event::Run(0, 9),
         2,
-        Answer::Ran(6, How::End),
+        Answer::Ran(6, RunEnd::End),
     );
     expect_eq(&rt, session.released(), 0);
     expect_commit(&rt, &mut session, Ok(2));

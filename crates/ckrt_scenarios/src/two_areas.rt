@@ -10,7 +10,7 @@ use crate::sessions::{expect_answer, expect_checkpoint, expect_commit};
 use crate::small_disk::{IMAGE, formatted, recovered_in_memory, recovery_outcome};
 use ckrt_disk::{Disk, MemoryDisk};
 use ckrt_events::Event;
-use ckrt_machine::{Answer, How};
+use ckrt_machine::{Answer, RunEnd};
 use ckrt_recovery::{RecoverFault, Session};
 use std::process::Abort;
 
@@ -39,7 +39,7 @@ const PAGES: usize = 20;
 
 /// A run of the program, where it doesn't end.
 fn run<R: Abort, D: Disk>(rt: &R, session: &mut Session<D>, count: u64, steps: u16) {
-    let ran = Answer::Ran(u32::from(steps), How::On);
+    let ran = Answer::Ran(u32::from(steps), RunEnd::On);
     expect_answer(rt, session, &Event::Run(0, steps), count, ran);
 }
 
@@ -180,7 +180,7 @@ fn changed<R: Abort + AllocGlobal>(rt: &R, disk: &[u8], changes: &[Change]) -> V
 
 /// The program goes on behind so many events: it ends with its sixth step.
 fn expect_end<R: Abort, D: Disk>(rt: &R, session: &mut Session<D>, count: u64, steps: u32) {
-    let ended = Answer::Ran(steps, How::End);
+    let ended = Answer::Ran(steps, RunEnd::End);
     expect_answer(rt, session, &Event::Run(0, 9), count, ended);
 }
 

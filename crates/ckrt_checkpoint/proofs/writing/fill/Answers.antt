@@ -1,7 +1,7 @@
 use Rattle.std.proofs.Common.{◌≡◌, ◌+◌, true, false, length, is_err, ◌∙◌, ap, subst, arith}
 use Rattle.ckrt_disk.specs.Frame.{WritesWithin}
 use Rattle.ckrt_disk.proofs.FrameLemmas.{failed_within}
-use Rattle.ckrt_checkpoint.specs.Layout.{journal_at, memory_at, memory_size}
+use Rattle.ckrt_checkpoint.specs.Layout.{memory_at, memory_size}
 use Rattle.ckrt_checkpoint.specs.Write.{FillsAt, dirty_pages}
 use Rattle.ckrt_checkpoint.proofs.WriteLemmas.{first_gate, is_filled, on_ok_with, part_on, some_pages}
 use Rattle.ckrt_checkpoint.proofs.writing.fill.Goals as goal

@@ -2,7 +2,7 @@ use Rattle.std.proofs.Common.{◌≡◌, ◌≤◌, ℕ, true, false, List, [], 
 use Rattle.std.proofs.lemmas.Result.{on_ok_weaker}
 use Rattle.ckrt_disk.specs.Disk.{IsOverwritten}
 use Rattle.ckrt_disk.proofs.FrameLemmas.{failed_within}
-use Rattle.ckrt_checkpoint.specs.Layout.{size_needed, journal_at}
+use Rattle.ckrt_checkpoint.specs.Layout.{size_needed}
 use Rattle.ckrt_image.specs.Format.{FormatsBehindGate}
 use Rattle.ckrt_image.proofs.FormatLemmas.{is_fresh, some_pages, first_part, next_part}
 use Rattle.ckrt_image.proofs.formatting.write_blocks.Goals as goal
