@@ -25,7 +25,7 @@ formatted_line size = codes "formatted " ++ (decimal size ++ 10 ∷ [])
 
 -- the line on standard output for the version, with the kit's line
 abbrev pub version_line : List ℕ
-version_line = codes "ckrt " ++ (codes "0.1.0, proved with rattle-kit-13f logic dac8208d650f15bf" ++ 10 ∷ [])
+version_line = codes "ckrt " ++ (codes "0.1.0, source proved with rattle-kit-13f logic dac8208d650f15bf" ++ 10 ∷ [])
 
 -- the program's status for a job: 0 where it is done; of a drive, its end's
 abbrev pub status_of : Result (Option Driven) JobFault → ℕ

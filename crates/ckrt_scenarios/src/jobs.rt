@@ -373,7 +373,7 @@ fn the_version_names_the_kit(rt: HostRuntime) {
         &rt,
         "--version",
         "",
-        "ckrt 0.1.0, proved with rattle-kit-13f logic dac8208d650f15bf\n",
+        "ckrt 0.1.0, source proved with rattle-kit-13f logic dac8208d650f15bf\n",
     );
 }
 
