@@ -1,8 +1,8 @@
 -- The calls on cancellation and clean-up handlers keep the rules of the tables.
 use Rattle.std.proofs.Common.{◌≡◌, ℕ, Bool, true, None, refl, ap}
 use Rattle.std.specs.List.{filter}
-use Rattle.ckrt_rv32i.specs.Registers.{Registers}
-use Rattle.ckrt_rv32i.specs.Registers.{get}
+use Rattle.ckrt_registers.specs.Registers.{Registers}
+use Rattle.ckrt_registers.specs.Registers.{get}
 use Rattle.ckrt_thread.specs.State as threads
 use Rattle.ckrt_thread.specs.declared.records.Wait.{Wait}
 use Rattle.ckrt_thread.specs.declared.records.Reason.TheVariants as reason

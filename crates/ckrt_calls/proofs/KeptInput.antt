@@ -2,8 +2,8 @@
 use Rattle.std.proofs.Common.{◌≡◌, ◌/◌, ◌^◌, ℕ, nat_le, not, Bool, true, false, Option, Some, None, List, [], ◌∷◌, refl, arith}
 use Rattle.std.specs.List.{list_all}
 use Rattle.std.proofs.lemmas.Bool.Decides.{nat_tests}
-use Rattle.ckrt_rv32i.specs.Registers.{Registers}
-use Rattle.ckrt_rv32i.specs.Registers.{get}
+use Rattle.ckrt_registers.specs.Registers.{Registers}
+use Rattle.ckrt_registers.specs.Registers.{get}
 use Rattle.ckrt_thread.specs.State as threads
 use Rattle.ckrt_thread.specs.declared.records.Wait.{Wait}
 use Rattle.ckrt_thread.specs.declared.records.Reason.{Reason}

@@ -1,7 +1,7 @@
 -- The calls on thread-specific data keep the rules of the tables.
 use Rattle.std.proofs.Common.{ℕ}
-use Rattle.ckrt_rv32i.specs.Registers.{Registers}
-use Rattle.ckrt_rv32i.specs.Registers.{get}
+use Rattle.ckrt_registers.specs.Registers.{Registers}
+use Rattle.ckrt_registers.specs.Registers.{get}
 use Rattle.ckrt_cancel.specs.KeyRows.{key_create_row, key_delete_row, setspecific_row, getspecific_row}
 use Rattle.ckrt_cancel.proofs.KeysKept.{threads_key_create, threads_key_delete, threads_setspecific, threads_getspecific, waits_key_create, waits_key_delete, waits_setspecific, waits_getspecific, live_key_create, live_key_delete, live_setspecific, live_getspecific}
 use Rattle.ckrt_calls.specs.declared.number.KeyCall.{KeyCall}

@@ -1,7 +1,7 @@
 -- The calls on mutexes keep the rules of the tables.
 use Rattle.std.proofs.Common.{ℕ, Some, None, refl}
-use Rattle.ckrt_rv32i.specs.Registers.{Registers}
-use Rattle.ckrt_rv32i.specs.Registers.{get}
+use Rattle.ckrt_registers.specs.Registers.{Registers}
+use Rattle.ckrt_registers.specs.Registers.{get}
 use Rattle.ckrt_thread.specs.declared.records.Reason.TheVariants as reason
 use Rattle.ckrt_mutex.specs.Rows.{init_row, destroy_row, lock_row, timedlock_row, trylock_row, unlock_row}
 use Rattle.ckrt_mutex.proofs.Rows.{well_formed_init, well_formed_destroy, well_formed_lock, well_formed_timedlock, well_formed_trylock, well_formed_unlock}

@@ -1,7 +1,7 @@
 -- The calls on read-write locks keep the rules of the tables.
 use Rattle.std.proofs.Common.{◌≡◌, ℕ, true, None, List, refl}
-use Rattle.ckrt_rv32i.specs.Registers.{Registers}
-use Rattle.ckrt_rv32i.specs.Registers.{get}
+use Rattle.ckrt_registers.specs.Registers.{Registers}
+use Rattle.ckrt_registers.specs.Registers.{get}
 use Rattle.ckrt_thread.specs.State as threads
 use Rattle.ckrt_thread.specs.declared.records.Reason.TheVariants as reason
 use Rattle.ckrt_thread.specs.State.{unwaited}

@@ -1,7 +1,7 @@
 -- The calls on threads keep the rules of the tables.
 use Rattle.std.proofs.Common.{ℕ}
-use Rattle.ckrt_rv32i.specs.Registers.{Registers}
-use Rattle.ckrt_rv32i.specs.Registers.{get}
+use Rattle.ckrt_registers.specs.Registers.{Registers}
+use Rattle.ckrt_registers.specs.Registers.{get}
 use Rattle.ckrt_thread.specs.Rows.{create_row, join_row, detach_row}
 use Rattle.ckrt_thread.proofs.RowsKept.{well_formed_create, well_formed_join, well_formed_detach}
 use Rattle.ckrt_calls.specs.declared.number.ThreadCall.{ThreadCall}

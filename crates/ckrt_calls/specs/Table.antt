@@ -1,7 +1,7 @@
 -- The table of calls, and what input and time do to the tables.
 use Rattle.std.specs.Prelude.{ℕ, ◌+◌, ◌*◌, ◌/◌, ◌%◌, ◌^◌, ◌==◌, nat_le, not, ◌&&◌, Bool, true, false, if◌then◌else◌, Option, Some, None, List, [], ◌∷◌, ◌++◌, length}
-use Rattle.ckrt_rv32i.specs.Registers.{Registers}
-use Rattle.ckrt_rv32i.specs.Registers.{get}
+use Rattle.ckrt_registers.specs.Registers.{Registers}
+use Rattle.ckrt_registers.specs.Registers.{get}
 use Rattle.ckrt_thread.specs.declared.records.CallResult.{CallResult}
 use Rattle.ckrt_thread.specs.declared.records.CallResult.TheVariants.{Done, Blocked, Moved}
 use Rattle.ckrt_thread.specs.declared.records.Wait.{Wait}

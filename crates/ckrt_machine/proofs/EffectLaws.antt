@@ -2,10 +2,10 @@
 use Rattle.std.proofs.Common.{◌≡◌, ℕ, ◌%◌, ◌<◌, ◌≤◌, ◌==◌, not, List, length, Bool, true, false, Option, Some, None, ap, refl, arith, cond}
 use Rattle.std.proofs.lemmas.Bool.Decides.{nat_tests}
 use Rattle.ckrt_memory.specs.Pages.{IsMemorySize}
-use Rattle.ckrt_rv32i.specs.Registers.{Registers, get, following}
+use Rattle.ckrt_registers.specs.Registers.{Registers, get}
 use Rattle.ckrt_rv32i.specs.Memory.{is_valid, is_aligned, loaded, stored}
 use Rattle.ckrt_rv32i.specs.Decoding.{instruction_of}
-use Rattle.ckrt_rv32i.specs.Effect.{Effect, instruction_step, performed, effect, fault, jump, load_effect, store_effect, load_size, holds}
+use Rattle.ckrt_rv32i.specs.Effect.{Effect, instruction_step, performed, effect, fault, jump, load_effect, store_effect, load_size, holds, following}
 use Rattle.ckrt_rv32i.specs.declared.instruction.Instr.{Instr}
 use Rattle.ckrt_rv32i.specs.declared.instruction.Instr.TheVariants.{Lui, Auipc, Jal, Jalr, Branch, Load, Store, AluImm, Shift, Alu, Fence, Ecall, Ebreak}
 use Rattle.ckrt_rv32i.specs.declared.instruction.LoadKind.{LoadKind}

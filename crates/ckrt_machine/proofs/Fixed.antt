@@ -1,6 +1,6 @@
 -- No event changes how many harts there are, nor whether the program may have keys.
 use Rattle.std.proofs.Common.{◌≡◌, ◌==◌, ◌-◌, ◌+◌, ◌%◌, ℕ, zero, suc, Bool, true, false, not, ◌||◌, cond, List, [], ◌∷◌, ◌++◌, take, Option, Some, None, is_some, refl, ap, ◌∙◌}
-use Rattle.ckrt_rv32i.specs.Registers.{Registers, get}
+use Rattle.ckrt_registers.specs.Registers.{Registers, get}
 use Rattle.ckrt_rv32i.specs.Effect.{instruction_step}
 use Rattle.ckrt_rv32i.specs.declared.execution.Outcome.{Outcome}
 use Rattle.ckrt_rv32i.specs.declared.execution.Outcome.TheVariants as outcome

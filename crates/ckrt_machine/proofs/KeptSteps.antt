@@ -1,8 +1,8 @@
 -- Each step of a hart keeps the tables well-formed.
 use Rattle.std.proofs.Common.{◌≡◌, ℕ, zero, suc, ◌%◌, ◌==◌, nat_le, cond, List, length, Bool, true, false, is_some, is_none, Option, Some, None, IfSome, sym, ap, arith, refl, ◌∙◌}
 use Rattle.std.proofs.lemmas.Bool.Decides.{nat_tests}
-use Rattle.ckrt_rv32i.specs.Registers.{Registers}
-use Rattle.ckrt_rv32i.specs.Registers.{get}
+use Rattle.ckrt_registers.specs.Registers.{Registers}
+use Rattle.ckrt_registers.specs.Registers.{get}
 use Rattle.ckrt_rv32i.specs.Effect.{instruction_step}
 use Rattle.ckrt_rv32i.specs.declared.execution.Outcome.{Outcome}
 use Rattle.ckrt_rv32i.specs.declared.execution.Outcome.TheVariants.{Next, Call, Fault}

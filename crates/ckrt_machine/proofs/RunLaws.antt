@@ -1,7 +1,7 @@
 -- A burst is as many steps of the hart, one at a time.
 use Rattle.std.proofs.Common.{◌≡◌, ℕ, zero, suc, ◌<◌, ◌≤◌, ◌==◌, cond, List, length, true, false, Option, Some, None, sym, ap, arith, refl, ◌∙◌}
 use Rattle.std.proofs.lemmas.Bool.Decides.{nat_tests}
-use Rattle.ckrt_rv32i.specs.Registers.{Registers}
+use Rattle.ckrt_registers.specs.Registers.{Registers}
 use Rattle.ckrt_rv32i.specs.Effect.{Effect, instruction_step}
 use Rattle.ckrt_rv32i.specs.declared.execution.Outcome.{Outcome}
 use Rattle.ckrt_rv32i.specs.declared.execution.Outcome.TheVariants.{Next, Call, Fault}

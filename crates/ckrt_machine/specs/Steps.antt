@@ -1,9 +1,9 @@
 -- The whole state of a machine, and one step of a hart.
 use Rattle.std.specs.Prelude.{ℕ, ◌==◌, Bool, true, false, if◌then◌else◌, Option, Some, None, is_some, List, slice_get}
 use Rattle.std.specs.Option.{option_flatten}
-use Rattle.ckrt_rv32i.specs.Registers.{Registers}
+use Rattle.ckrt_registers.specs.Registers.{Registers}
 use Rattle.ckrt_rv32i.specs.Effect.{instruction_step}
-use Rattle.ckrt_rv32i.specs.Registers.{get}
+use Rattle.ckrt_registers.specs.Registers.{get}
 use Rattle.ckrt_rv32i.specs.declared.execution.Outcome.{Outcome}
 use Rattle.ckrt_rv32i.specs.declared.execution.Outcome.TheVariants.{Next, Call, Fault}
 use Rattle.ckrt_rv32i.specs.declared.execution.Cause.{Cause}

@@ -12,7 +12,8 @@ use crate::event::{Answer, RunEnd};
 use arrayvec::ArrayVec;
 use ckrt_calls::{Status, Tables, act_on_request};
 use ckrt_memory::Memory;
-use ckrt_rv32i::{Bus, Regs};
+use ckrt_registers::Regs;
+use ckrt_rv32i::Bus;
 
 /// How many bytes a run puts at most.
 pub const RUN_OUTPUT: usize = 1_024;

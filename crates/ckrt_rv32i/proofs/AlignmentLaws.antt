@@ -1,10 +1,10 @@
 -- The pc stays a multiple of 4.
 use Rattle.std.proofs.Common.{◌≡◌, ℕ, ◌*◌, ◌/◌, ◌%◌, not, List, Bool, true, false, cond, arith}
 use Rattle.std.proofs.lemmas.Bool.Decides.{nat_tests}
+use Rattle.ckrt_registers.specs.Registers.{Registers, get, put}
 use Rattle.ckrt_rv32i.specs.Words.{word_add_signed}
-use Rattle.ckrt_rv32i.specs.Registers.{Registers, get, put, following}
 use Rattle.ckrt_rv32i.specs.Memory.{is_valid, is_aligned}
-use Rattle.ckrt_rv32i.specs.Effect.{Effect, effect, jump, holds, load_size}
+use Rattle.ckrt_rv32i.specs.Effect.{Effect, effect, jump, holds, load_size, following}
 use Rattle.ckrt_rv32i.specs.declared.instruction.Instr.{Instr}
 use Rattle.ckrt_rv32i.specs.declared.instruction.Instr.TheVariants.{Lui, Auipc, Jal, Jalr, Branch, Load, Store, AluImm, Shift, Alu, Fence, Ecall, Ebreak}
 

@@ -1,15 +1,15 @@
 //! One step of a hart: fetch, decode, effect.
 ghost use Rattle.std.specs.Prelude.{◌≡◌, ◌*◌, ◌/◌, ◌%◌, ◌<◌, ℕ, []};
+ghost use Rattle.ckrt_registers.specs.Registers.{get, put};
 ghost use Rattle.ckrt_rv32i.specs.Words.{word_add_signed};
-ghost use Rattle.ckrt_rv32i.specs.Registers.{get, put, following};
 ghost use Rattle.ckrt_rv32i.specs.Table.{IsInRange};
 ghost use Rattle.ckrt_rv32i.specs.Decoding.{instruction_of};
-ghost use Rattle.ckrt_rv32i.specs.Effect.{jump, load_effect, store_effect, effect, instruction_step};
+ghost use Rattle.ckrt_rv32i.specs.Effect.{jump, load_effect, store_effect, effect, instruction_step, following};
 
 use crate::decoding::decode;
 use crate::instruction::{Instr, LoadKind};
 use crate::memory_bus::{Bus, Size};
-use crate::registers::Regs;
+use ckrt_registers::Regs;
 use std::fmt;
 
 /// Why a step faults. A fault changes no register, no byte and not the pc.

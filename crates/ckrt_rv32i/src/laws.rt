@@ -1,11 +1,11 @@
 //! Laws of the table and of a step, which no call needs and each reader may rely on.
 ghost use Rattle.std.specs.Prelude.{◌≡◌, ◌^◌, ◌<◌, ℕ, List, length};
+ghost use Rattle.ckrt_registers.specs.Registers.{Registers};
 ghost use Rattle.ckrt_rv32i.specs.declared.execution.Cause.{Cause};
 ghost use Rattle.ckrt_rv32i.specs.declared.execution.Outcome.TheVariants.{Fault};
 ghost use Rattle.ckrt_rv32i.specs.declared.instruction.Instr.{Instr};
 ghost use Rattle.ckrt_rv32i.specs.Table.{Encodes, IsInRange};
 ghost use Rattle.ckrt_rv32i.specs.Text.{text_of};
-ghost use Rattle.ckrt_rv32i.specs.Registers.{Registers};
 ghost use Rattle.ckrt_rv32i.specs.Effect.{instruction_step, fault};
 
 /// No word encodes two instructions.

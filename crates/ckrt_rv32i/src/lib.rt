@@ -13,9 +13,9 @@ mod laws;
 mod memory_bus;
 mod operations;
 mod parsing;
-mod registers;
 mod text;
 
+pub use ckrt_registers::Regs;
 pub use decoding::decode;
 pub use encoding::encode;
 pub use execution::{Cause, Outcome, execute};
@@ -26,5 +26,4 @@ pub use laws::{
 };
 pub use memory_bus::{Bus, Size};
 pub use parsing::parse_instr;
-pub use registers::Regs;
 pub use text::instr_text;

@@ -5,7 +5,7 @@ use Rattle.std.proofs.lemmas.Grind.{flat_map-append}
 use Rattle.std.specs.List.{flat_map}
 use Rattle.std.specs.List.{range_with_len}
 use Rattle.ckrt_tables.proofs.Rows.{range_more, from_next, from_le}
-use Rattle.ckrt_rv32i.specs.Registers.{Registers}
+use Rattle.ckrt_registers.specs.Registers.{Registers}
 use Rattle.ckrt_tables.specs.Records.{register_bytes}
 use Rattle.ckrt_tables.specs.Writing.{IsPut}
 

@@ -5,7 +5,7 @@ use Rattle.std.proofs.lemmas.Bool.Decides.{nat_tests}
 use Rattle.std.proofs.lemmas.List.{append-nil, take_all, drop_all}
 use Rattle.std.specs.List.{flat_map}
 use Rattle.byteorder.specs.Endian.{little_bytes}
-use Rattle.ckrt_rv32i.specs.Registers.{Registers, put}
+use Rattle.ckrt_registers.specs.Registers.{Registers, put}
 use Rattle.ckrt_tables.specs.Decoding.{Finds}
 use Rattle.ckrt_tables.specs.Records.{registers_bytes}
 use Rattle.ckrt_tables.specs.Savable.{is_word, fit_registers}

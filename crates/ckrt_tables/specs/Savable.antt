@@ -2,7 +2,7 @@
 -- version 1 those of a program whose keys are off.
 use Rattle.std.specs.Prelude.{◌≡◌, ◌^◌, ◌==◌, ℕ, nat_lt, nat_le, Bool, true, ◌&&◌, not, Option, Some, None, List, length, slice_index}
 use Rattle.std.specs.List.{list_all}
-use Rattle.ckrt_rv32i.specs.Registers.{Registers}
+use Rattle.ckrt_registers.specs.Registers.{Registers}
 use Rattle.ckrt_thread.specs.declared.records.Handler.{Handler}
 use Rattle.ckrt_thread.specs.declared.records.Thread.{Thread}
 use Rattle.ckrt_thread.specs.declared.records.Thread.TheVariants as thread

@@ -13,7 +13,7 @@ use ckrt_barrier::Barrier;
 use ckrt_calls::{Status, Tables};
 use ckrt_mutex::Mutex;
 use ckrt_objects::Entry;
-use ckrt_rv32i::Regs;
+use ckrt_registers::Regs;
 use ckrt_rwlock::RwLock;
 use ckrt_thread::{Handler, Keys, Live, SpecificData, Thread, Threads, Wait};
 

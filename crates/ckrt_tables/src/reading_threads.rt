@@ -16,7 +16,7 @@ use crate::reading::{Row, read_few, read_rows};
 use crate::reading_keys::read_data;
 use crate::reading_objects::read_id;
 use arrayvec::ArrayVec;
-use ckrt_rv32i::Regs;
+use ckrt_registers::Regs;
 use ckrt_thread::{
     Cancellation, Handler, Live, MAX_HANDLERS, MAX_HARTS, Reason, RetakeResult, SpecificData,
     Thread, ThreadId, Threads, Wait,

@@ -12,7 +12,7 @@ use crate::keys::put_data;
 use crate::numbers::{first_name, flag, flags_of, id_or_0, kind_of, result_of, second_name};
 use crate::writing::{Record, put, put_all};
 use byteorder::{ByteOrder, LittleEndian};
-use ckrt_rv32i::Regs;
+use ckrt_registers::Regs;
 use ckrt_thread::{
     Handler, Live, MAX_HARTS, MAX_THREADS, SpecificData, Thread, ThreadId, Threads, Wait,
 };

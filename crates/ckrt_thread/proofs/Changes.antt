@@ -12,7 +12,7 @@ use Rattle.ckrt_thread.specs.declared.records.Wait.{Wait}
 use Rattle.ckrt_thread.specs.declared.records.Reason.{Reason}
 use Rattle.ckrt_thread.specs.declared.records.Reason.TheVariants as reason
 use Rattle.ckrt_thread.specs.declared.records.Object.TheVariants as object
-use Rattle.ckrt_rv32i.specs.Registers.{Registers}
+use Rattle.ckrt_registers.specs.Registers.{Registers}
 use Rattle.ckrt_thread.specs.declared.records.Cancellation.{Cancellation}
 use Rattle.ckrt_thread.specs.declared.records.Handler.{Handler}
 use Rattle.ckrt_thread.specs.Cancellation.{is_unwinding, is_consistent, is_aligned_handler, handlers_of, newest, with_cancellation, pushing, popping, entering}

@@ -1,8 +1,8 @@
 -- Cancellation of a thread, and its clean-up handlers (POSIX.1-2017, 2.9.5 Thread Cancellation, and pthread_cleanup_push).
 use Rattle.std.specs.Prelude.{ℕ, ◌-◌, ◌%◌, ◌==◌, nat_le, Bool, false, true, not, ◌&&◌, if◌then◌else◌, Option, Some, None, is_some, unwrap_or, List, [], ◌∷◌, ◌++◌, length, take, slice_get}
 use Rattle.std.specs.List.{list_all}
-use Rattle.ckrt_rv32i.specs.Registers.{Registers}
-use Rattle.ckrt_rv32i.specs.Registers.{put}
+use Rattle.ckrt_registers.specs.Registers.{Registers}
+use Rattle.ckrt_registers.specs.Registers.{put}
 use Rattle.ckrt_thread.specs.Abi.{RA, A0}
 use Rattle.ckrt_thread.specs.declared.records.TheConstants.{CANCELED, MAX_HANDLERS}
 use Rattle.ckrt_thread.specs.declared.records.Cancellation.{Cancellation}

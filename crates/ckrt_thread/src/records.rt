@@ -3,7 +3,7 @@
 use crate::errors::ETIMEDOUT;
 use crate::keys::SpecificData;
 use arrayvec::ArrayVec;
-use ckrt_rv32i::Regs;
+use ckrt_registers::Regs;
 
 /// The number of a thread, 1 to 64.
 pub type ThreadId = u8;

@@ -12,7 +12,7 @@ use crate::abi::{A0, PROGRAM_START, RA, RETURN_GATE, SP, UNWIND_GATE};
 use crate::keys::{Key, Keys, MAX_KEYS, SpecificData, Turn};
 use crate::records::{Cancellation, Handler, Live, MAX_HANDLERS, MAX_THREADS, Thread, ThreadId};
 use arrayvec::ArrayVec;
-use ckrt_rv32i::Regs;
+use ckrt_registers::Regs;
 use std::alloc::{AllocError, Global};
 use std::marker::Model;
 

@@ -27,7 +27,7 @@ use crate::records::{
 use crate::slots::{Slots, any_live, first_thread, free_slot, new_thread};
 use crate::wait_list::WaitList;
 use arrayvec::ArrayVec;
-use ckrt_rv32i::Regs;
+use ckrt_registers::Regs;
 use std::alloc::{AllocError, Global};
 use std::marker::Model;
 

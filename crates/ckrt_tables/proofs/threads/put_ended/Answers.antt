@@ -1,6 +1,6 @@
 use Rattle.std.proofs.Common.{◌∷◌, ◌++◌, replicate, subst}
 use Rattle.byteorder.specs.Endian.{little_bytes}
-use Rattle.ckrt_rv32i.specs.Registers.{Registers}
+use Rattle.ckrt_registers.specs.Registers.{Registers}
 use Rattle.ckrt_thread.specs.Keys.{no_data}
 use Rattle.ckrt_tables.specs.Records.{registers_bytes, data_bytes}
 use Rattle.ckrt_tables.specs.Writing.{IsPut}

@@ -1,5 +1,5 @@
 use Rattle.std.proofs.Common.{◌≡◌, length, take}
-use Rattle.ckrt_rv32i.proofs.registers.Regs.file.Given as goal
+use Rattle.ckrt_registers.proofs.Regs.file.Given as goal
 
 abbrev pub invariant-loop-register : goal.invariant-loop-register
 invariant-loop-register l = record {

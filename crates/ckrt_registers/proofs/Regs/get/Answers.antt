@@ -1,5 +1,5 @@
 use Rattle.std.proofs.Common.{rules}
-use Rattle.ckrt_rv32i.proofs.registers.Regs.get.Goals as goal
+use Rattle.ckrt_registers.proofs.Regs.get.Goals as goal
 
 pub returns : goal.returns
 returns c = search rules

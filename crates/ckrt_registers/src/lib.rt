@@ -1,6 +1,8 @@
-//! The registers of a hart.
+//! The registers of a hart: the pc, and x0 to x31.
+#![tactic(auto)]
+
 ghost use Rattle.std.specs.Prelude.{◌≡◌, ◌<◌, ◌^◌, ℕ, length, slice_index, replicate};
-ghost use Rattle.ckrt_rv32i.specs.Registers.{Registers, get, put, registers_of};
+ghost use Rattle.ckrt_registers.specs.Registers.{Registers, get, put, registers_of};
 
 use std::marker::Model;
 
@@ -13,7 +15,7 @@ pub struct Regs {
 
 impl Model for Regs {
     ghost use Rattle.std.specs.Prelude.{slice_index, ◌≡◌};
-    ghost use Rattle.ckrt_rv32i.specs.Registers.{Registers};
+    ghost use Rattle.ckrt_registers.specs.Registers.{Registers};
 
     ghost Value = { Registers };
 
