@@ -1,0 +1,441 @@
+//! Guests that a drive runs to their ends.
+
+use arrayvec::ArrayVec;
+use ckrt_disk::{Disk, MemoryDisk};
+use ckrt_drive::{Drive, DriveFault, Ending, Nobody, Onlooker, Options, Progress, StreamOutput};
+use ckrt_events::Event;
+use ckrt_machine::{Answer, RunEnd};
+use ckrt_recovery::{Config, Session};
+use ckrt_test_sessions::{SMALL, format_outcome, recovered_in_memory, recovery_outcome, submitted};
+use ckrt_test_support::{
+    BOUNDED, COUNTERS, LOOPS, PAIR, READERS, ROUNDS, SIZE, SLEEPERS, expect_bytes, expect_eq,
+    expect_eq_at, filled, image_of, memory_disk, old_disk, stopping_disk,
+};
+use std::io::{self, ErrorKind, Write};
+use std::process::Abort;
+
+/// Sleeps until the moment 7 · 2^32 + 5, puts a Y and exits.
+const SLEEPS_LONG: [u32; 10] = [
+    0x00500513, // addi x10, x0, 5
+    0x00700593, // addi x11, x0, 7
+    0x00500893, // addi x17, x0, 5
+    0x00000073, // ecall
+    0x05900513, // addi x10, x0, 0x59
+    0x00200893, // addi x17, x0, 2
+    0x00000073, // ecall
+    0x00000513, // addi x10, x0, 0
+    0x00100893, // addi x17, x0, 1
+    0x00000073, // ecall
+];
+
+/// Thread 1 locks 0x5000, sleeps until 100 and locks 0x6000; thread 2 locks 0x6000 and then 0x5000.
+const DEADLOCK: [u32; 23] = [
+    0x00005537, // lui x10, 5
+    0x01600893, // addi x17, x0, 22
+    0x00000073, // ecall
+    0x00001537, // lui x10, 1
+    0x04450513, // addi x10, x10, other
+    0x00000593, // addi x11, x0, 0
+    0x00000613, // addi x12, x0, 0
+    0x00000693, // addi x13, x0, 0
+    0x00a00893, // addi x17, x0, 10
+    0x00000073, // ecall
+    0x06400513, // addi x10, x0, 100
+    0x00000593, // addi x11, x0, 0
+    0x00500893, // addi x17, x0, 5
+    0x00000073, // ecall
+    0x00006537, // lui x10, 6
+    0x01600893, // addi x17, x0, 22
+    0x00000073, // ecall
+    // other:
+    0x00006537, // lui x10, 6
+    0x01600893, // addi x17, x0, 22
+    0x00000073, // ecall
+    0x00005537, // lui x10, 5
+    0x01600893, // addi x17, x0, 22
+    0x00000073, // ecall
+];
+
+/// Puts an A and exits.
+const PUTS_ONCE: [u32; 6] = [
+    0x04100513, // addi x10, x0, 0x41
+    0x00200893, // addi x17, x0, 2
+    0x00000073, // ecall
+    0x00000513, // addi x10, x0, 0
+    0x00100893, // addi x17, x0, 1
+    0x00000073, // ecall
+];
+
+/// Puts its argument for ever.
+const PUTS_FOR_EVER: [u32; 3] = [0x00200893, 0x00000073, 0xffdff06f];
+
+/// Turns of the most steps, and a commit after 16 rounds.
+fn usual(events: u64) -> Options {
+    Options::new(65_535, 16, events)
+}
+
+/// A disk of zeros with an image formatted onto it, for so many harts.
+fn formatted_for<R: Abort + AllocGlobal>(rt: &R, words: &[u32], harts: u32) -> Vec<u8> {
+    let image = image_of(rt, words);
+    let mut disk = memory_disk(rt, filled(rt, 0, SIZE));
+    let config = Config { harts, ..SMALL };
+    expect_eq(
+        rt,
+        format_outcome(rt, &mut disk, config, image.as_slice()),
+        Ok(()),
+    );
+    disk.into_image()
+}
+
+/// The session and the output, once a drive has come to this end.
+fn ended<R: Abort, D: Disk, O: Disk>(
+    rt: &R,
+    session: Session<D>,
+    output: O,
+    options: Options,
+    ending: Ending,
+) -> (Session<D>, O) {
+    let mut drive = Drive::new(session, output, options);
+    expect_eq(rt, drive.run(1_000_000, &mut Nobody), Ok(Some(ending)));
+    drive.into_parts()
+}
+
+/// The output holds these bytes from its beginning on, and zeros behind them.
+fn expect_held<R: Abort + AllocGlobal>(rt: &R, output: MemoryDisk, want: &[u8]) {
+    let image = output.into_image();
+    let count = want.len();
+    assert!(rt; count <= image.len());
+    let (front, back) = image.as_slice().split_at(count);
+    expect_bytes(rt, front, want);
+    expect_eq(rt, back.iter().all(|byte| *byte == 0), true);
+}
+
+/// The guest comes to this end on 1, 3 and 8 harts, and puts these bytes.
+fn expect_driven<R: Abort + AllocGlobal>(rt: &R, words: &[u32], ending: Ending, want: &[u8]) {
+    for harts in [1, 3, 8] {
+        let session = recovered_in_memory(rt, formatted_for(rt, words, harts));
+        let output = memory_disk(rt, filled(rt, 0, 64));
+        let (session, output) = ended(rt, session, output, usual(u64::MAX), ending);
+        expect_eq_at(rt, harts, session.confirmed(), want.len() as u64);
+        expect_held(rt, output, want);
+    }
+}
+
+#[test]
+fn guests_are_driven_to_their_ends(rt: HostRuntime) {
+    expect_driven(&rt, &BOUNDED, Ending::Ended, &[0x6e]);
+    expect_driven(&rt, &ROUNDS, Ending::Ended, &[0x06, 0x0c, 0x12, 0x18, 0x00]);
+    expect_driven(&rt, &PAIR, Ending::Ended, &[0x14]);
+    expect_driven(&rt, &COUNTERS, Ending::Ended, &[0x50]);
+}
+
+/// Compares what it is told with a list.
+#[derive(Drop)]
+struct Listener<'a> {
+    awaited: &'a [Progress],
+    told: usize,
+    first_difference: Option<usize>,
+}
+
+impl Onlooker for Listener<'_> {
+    fn look<D: Disk>(&mut self, did: &Progress, _session: &Session<D>) {
+        if self.first_difference.is_none() && self.awaited.get(self.told) != Some(did) {
+            self.first_difference = Some(self.told);
+        }
+        self.told = self.told.saturating_add(1);
+    }
+}
+
+/// A journal of 4,096 bytes has never room for a full batch behind another one, so each commit is a checkpoint.
+#[test]
+fn an_onlooker_is_told_each_step(rt: HostRuntime) {
+    let session = recovered_in_memory(&rt, formatted_for(&rt, &PUTS_ONCE, 1));
+    let output = memory_disk(&rt, filled(&rt, 0, 64));
+    let awaited = [
+        Progress::Submitted(Event::Place(0, 1), Answer::Placed),
+        Progress::Submitted(Event::Run(0, 65_535), Answer::Ran(6, RunEnd::End)),
+        Progress::Checkpointed,
+        Progress::Released,
+        Progress::Stopped(Ending::Ended),
+    ];
+    let mut listener = Listener {
+        awaited: &awaited,
+        told: 0,
+        first_difference: None,
+    };
+    let mut drive = Drive::new(session, output, usual(u64::MAX));
+    expect_eq(&rt, drive.run(100, &mut listener), Ok(Some(Ending::Ended)));
+    expect_eq(&rt, (listener.told, listener.first_difference), (5, None));
+}
+
+/// While the area is of version 1 a turn has 65,535 steps at most.
+#[test]
+fn long_turns_come_with_version_2(rt: HostRuntime) {
+    let session = recovered_in_memory(&rt, old_disk(&rt, &LOOPS));
+    let output = memory_disk(&rt, filled(&rt, 0, 64));
+    let awaited = [
+        Progress::Submitted(Event::Place(0, 1), Answer::Placed),
+        Progress::Submitted(Event::Run(0, 65_535), Answer::Ran(65_535, RunEnd::On)),
+        Progress::Submitted(Event::Tick(1), Answer::Ticked(0)),
+        Progress::Checkpointed,
+        Progress::Submitted(Event::RunLong(0, 100_000), Answer::Ran(100_000, RunEnd::On)),
+        Progress::Submitted(Event::Tick(1), Answer::Ticked(0)),
+        Progress::Checkpointed,
+        Progress::Stopped(Ending::Enough),
+    ];
+    let mut listener = Listener {
+        awaited: &awaited,
+        told: 0,
+        first_difference: None,
+    };
+    let mut drive = Drive::new(session, output, Options::new(100_000, 1, 5));
+    expect_eq(&rt, drive.run(100, &mut listener), Ok(Some(Ending::Enough)));
+    expect_eq(&rt, (listener.told, listener.first_difference), (8, None));
+}
+
+#[test]
+fn guests_are_driven_by_lot(rt: HostRuntime) {
+    for seed in 0..8 {
+        for harts in [1, 3, 8] {
+            let session = recovered_in_memory(&rt, formatted_for(&rt, &COUNTERS, harts));
+            let output = memory_disk(&rt, filled(&rt, 0, 64));
+            let options = Options::new(7, 16, u64::MAX).with_seed(seed);
+            let (_, output) = ended(&rt, session, output, options, Ending::Ended);
+            expect_held(&rt, output, &[0x50]);
+        }
+    }
+}
+
+#[test]
+fn idle_time_passes_at_once(rt: HostRuntime) {
+    expect_driven(&rt, &SLEEPERS, Ending::Ended, &[0x14, 0x28, 0x3c]);
+    expect_driven(&rt, &SLEEPS_LONG, Ending::Ended, b"Y");
+}
+
+#[test]
+fn nobody_can_ever_go_on(rt: HostRuntime) {
+    expect_driven(&rt, &DEADLOCK, Ending::Deadlock, b"");
+}
+
+/// Twenty times the bytes 1 and 3, and the end of input.
+fn feed<R: Abort, D: Disk>(rt: &R, session: &mut Session<D>) {
+    let mut bytes = ArrayVec::new();
+    bytes.push(1);
+    bytes.push(3);
+    let event = Event::Input(bytes);
+    for _ in 0..20 {
+        assert!(rt; submitted(rt, session, &event).is_ok());
+    }
+    assert!(rt; submitted(rt, session, &Event::Eof).is_ok());
+}
+
+#[test]
+fn waits_for_input_and_goes_on(rt: HostRuntime) {
+    let session = recovered_in_memory(&rt, formatted_for(&rt, &READERS, 3));
+    let output = memory_disk(&rt, filled(&rt, 0, 64));
+    let (mut session, output) = ended(&rt, session, output, usual(u64::MAX), Ending::WaitsForInput);
+    feed(&rt, &mut session);
+    let (_, output) = ended(&rt, session, output, usual(u64::MAX), Ending::Ended);
+    expect_held(&rt, output, &[0x50]);
+}
+
+#[test]
+fn output_goes_on_over_many_checkpoints(rt: HostRuntime) {
+    let session = recovered_in_memory(&rt, formatted_for(&rt, &PUTS_FOR_EVER, 1));
+    let output = memory_disk(&rt, filled(&rt, 0xff, 200_000));
+    let (session, output) = ended(&rt, session, output, usual(200), Ending::Enough);
+    let end = session.confirmed() as usize;
+    let image = output.into_image();
+    assert!(rt; end <= image.len());
+    let (front, back) = image.as_slice().split_at(end);
+    expect_eq(&rt, session.acknowledged(), 200);
+    expect_eq(&rt, end > 100_000, true);
+    expect_eq(&rt, front.iter().all(|byte| *byte == 0), true);
+    expect_eq(&rt, back.iter().all(|byte| *byte == 0xff), true);
+}
+
+#[test]
+fn output_without_room(rt: HostRuntime) {
+    let session = recovered_in_memory(&rt, formatted_for(&rt, &PUTS_FOR_EVER, 1));
+    let output = memory_disk(&rt, filled(&rt, 0, 100));
+    let mut drive = Drive::new(session, output, usual(200));
+    expect_eq(
+        &rt,
+        drive.run(1_000, &mut Nobody),
+        Err(DriveFault::OutputFull),
+    );
+    let (session, output) = drive.into_parts();
+    expect_eq(&rt, session.confirmed(), 0);
+    expect_held(&rt, output, b"");
+}
+
+#[test]
+fn output_that_fails(rt: HostRuntime) {
+    let session = recovered_in_memory(&rt, formatted_for(&rt, &PAIR, 3));
+    let output = stopping_disk(&rt, filled(&rt, 0, 64), 2, &[0xee]);
+    let mut drive = Drive::new(session, output, usual(u64::MAX));
+    expect_eq(
+        &rt,
+        drive.run(1_000_000, &mut Nobody),
+        Err(DriveFault::Output),
+    );
+    let (session, output) = drive.into_parts();
+    expect_eq(&rt, session.confirmed(), 0);
+    let (_, output) = ended(
+        &rt,
+        session,
+        memory_disk(&rt, output.into_image()),
+        usual(u64::MAX),
+        Ending::Ended,
+    );
+    expect_held(&rt, output, &[0x14]);
+}
+
+/// A drive of small turns with a commit after each round, over a disk that stops at a call, and then one to the end over
+/// what is left: the output holds each byte once.
+fn expect_whole_after_stop<R: Abort + AllocGlobal>(rt: &R, formatted: &[u8], at_call: u64) {
+    let bytes = formatted.to_vec(rt.alloc()).expect(rt, "memory for bytes");
+    let disk = stopping_disk(rt, bytes, at_call, &[0xa5]);
+    let output = memory_disk(rt, filled(rt, 0, 64));
+    let (image, output) = match recovery_outcome(rt, disk) {
+        Ok(session) => {
+            let mut drive = Drive::new(session, output, Options::new(40, 1, u64::MAX));
+            expect_eq_at(
+                rt,
+                at_call,
+                drive.run(1_000_000, &mut Nobody),
+                Err(DriveFault::Device),
+            );
+            let again = drive.run(1_000_000, &mut Nobody);
+            expect_eq_at(rt, at_call, again.is_err(), true);
+            let (session, output) = drive.into_parts();
+            (session.into_disk().into_image(), output)
+        }
+        Err(unrecovered) => (unrecovered.disk.into_image(), output),
+    };
+    let session = recovered_in_memory(rt, image);
+    let (_, output) = ended(rt, session, output, usual(u64::MAX), Ending::Ended);
+    expect_held(rt, output, &[0x14, 0x28, 0x3c]);
+}
+
+#[test]
+fn each_byte_once_after_a_stop_at_each_call(rt: HostRuntime) {
+    let formatted = formatted_for(&rt, &SLEEPERS, 3);
+    // recovery's sync, a checkpoint of all 15 pages by 21 calls, and four of none by 8 each: the guest stores nothing
+    for at_call in 1..55 {
+        expect_whole_after_stop(&rt, formatted.as_slice(), at_call);
+    }
+}
+
+/// Takes so many bytes, and no more.
+#[derive(Drop)]
+struct Narrow {
+    bytes: Vec<u8>,
+    takes: usize,
+}
+
+impl Write for Narrow {
+    fn write(&mut self, buf: &[u8]) -> io::Result<usize> {
+        let left = self.takes.saturating_sub(self.bytes.len());
+        let size = buf.len().min(left);
+        if size == 0 && !buf.is_empty() {
+            return Err(io::Error::from(ErrorKind::BrokenPipe));
+        }
+        self.bytes.write_all(&buf[..size])?;
+        Ok(size)
+    }
+
+    fn flush(&mut self) -> io::Result<()> {
+        Ok(())
+    }
+}
+
+/// A stream onto a writer that takes so many bytes.
+fn stream<R: AllocGlobal>(rt: &R, from: u64, takes: usize) -> StreamOutput<Narrow> {
+    let bytes = Vec::new(rt.alloc());
+    StreamOutput::new(Narrow { bytes, takes }, from)
+}
+
+/// The bytes that a stream has handed on.
+fn handed_on(stream: StreamOutput<Narrow>) -> Vec<u8> {
+    let writer: Narrow = stream.into_writer();
+    writer.bytes
+}
+
+/// The session is driven to its end, and hands these bytes on, which lie at or behind an offset.
+fn expect_streamed<R: Abort + AllocGlobal, D: Disk + Drop>(
+    rt: &R,
+    session: Session<D>,
+    from: u64,
+    want: &[u8],
+) {
+    let output = stream(rt, from, 64);
+    let (_, output) = ended(rt, session, output, usual(u64::MAX), Ending::Ended);
+    expect_bytes(rt, handed_on(output).as_slice(), want);
+}
+
+#[test]
+fn a_stream_leaves_out_the_bytes_below_its_offset(rt: HostRuntime) {
+    let formatted = formatted_for(&rt, &ROUNDS, 3);
+    let wanted = [0x06, 0x0c, 0x12, 0x18, 0x00];
+    for from in [0, 1, 4, 5] {
+        let bytes = formatted.to_vec(rt.alloc()).expect(&rt, "memory for bytes");
+        let session = recovered_in_memory(&rt, bytes);
+        expect_streamed(&rt, session, from as u64, &wanted[from..]);
+    }
+}
+
+/// The writer takes two bytes of five, and then no more; another one gets those behind them.
+#[test]
+fn a_stream_that_breaks(rt: HostRuntime) {
+    let session = recovered_in_memory(&rt, formatted_for(&rt, &ROUNDS, 3));
+    let mut drive = Drive::new(session, stream(&rt, 0, 2), usual(u64::MAX));
+    for _ in 0..2 {
+        expect_eq(
+            &rt,
+            drive.run(1_000_000, &mut Nobody),
+            Err(DriveFault::Output),
+        );
+    }
+    let (session, output) = drive.into_parts();
+    expect_eq(&rt, session.confirmed(), 0);
+    expect_bytes(&rt, handed_on(output).as_slice(), &[0x06, 0x0c]);
+    expect_streamed(&rt, session, 2, &[0x12, 0x18, 0x00]);
+}
+
+/// A drive of small turns with a commit after each round onto a stream, over a disk that stops at a call, and then one to
+/// the end over what is left, onto a stream that begins behind what the first one handed on: each byte is handed on once.
+fn expect_streamed_once<R: Abort + AllocGlobal>(rt: &R, formatted: &[u8], at_call: u64) {
+    let bytes = formatted.to_vec(rt.alloc()).expect(rt, "memory for bytes");
+    let disk = stopping_disk(rt, bytes, at_call, &[0xa5]);
+    let output = stream(rt, 0, 64);
+    let (image, output) = match recovery_outcome(rt, disk) {
+        Ok(session) => {
+            let mut drive = Drive::new(session, output, Options::new(40, 1, u64::MAX));
+            expect_eq_at(
+                rt,
+                at_call,
+                drive.run(1_000_000, &mut Nobody),
+                Err(DriveFault::Device),
+            );
+            let (session, output) = drive.into_parts();
+            (session.into_disk().into_image(), output)
+        }
+        Err(unrecovered) => (unrecovered.disk.into_image(), output),
+    };
+    let got = handed_on(output);
+    let wanted = [0x14, 0x28, 0x3c];
+    assert!(rt; got.len() <= wanted.len());
+    let (front, back) = wanted.split_at(got.len());
+    expect_bytes(rt, got.as_slice(), front);
+    let session = recovered_in_memory(rt, image);
+    expect_streamed(rt, session, got.len() as u64, back);
+}
+
+#[test]
+fn each_byte_is_handed_on_once_after_a_stop_at_each_call(rt: HostRuntime) {
+    let formatted = formatted_for(&rt, &SLEEPERS, 3);
+    for at_call in 1..55 {
+        expect_streamed_once(&rt, formatted.as_slice(), at_call);
+    }
+}

@@ -1,0 +1,13 @@
+//! Tests of the drive, the words, and the jobs of the program. Nothing else stands here.
+#![tactic(auto)]
+
+#[cfg(test)]
+mod drive_words;
+#[cfg(test)]
+mod drives;
+#[cfg(test)]
+mod jobs;
+#[cfg(test)]
+mod second_format;
+#[cfg(test)]
+mod words;
