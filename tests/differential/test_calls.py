@@ -1,4 +1,4 @@
-"""The worked rows of guest calls and of a few instructions, on the model."""
+"""The worked examples of guest calls and of a few instructions, on the model."""
 import unittest
 
 from abi import ALL_ONES, RETURN_GATE, UNWIND_GATE, Call, Error

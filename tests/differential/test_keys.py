@@ -1,4 +1,4 @@
-"""Thread-specific keys: worked rows, calls, destructors, saved tables of both versions, and the random cases with them."""
+"""Thread-specific keys: worked examples, calls, destructors, saved tables of both versions, and the random cases with them."""
 import struct
 import unittest
 from collections import Counter

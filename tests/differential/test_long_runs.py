@@ -1,4 +1,4 @@
-"""Long runs: worked rows, bytes, the way from version 1, and the random cases with them."""
+"""Long runs: worked examples, bytes, the way from version 1, and the random cases with them."""
 import struct
 import unittest
 from collections import Counter

@@ -1,4 +1,4 @@
-"""The worked rows of disks, checkpoints, listings and lines, on the model."""
+"""The worked examples of disks, checkpoints, listings and lines, on the model."""
 import struct
 import unittest
 
