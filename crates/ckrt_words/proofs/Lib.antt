@@ -2,4 +2,5 @@ mod AddLemmas
 mod MatchLemmas
 mod NumberLemmas
 mod ParseLemmas
+mod SettingLemmas
 mod TakenLemmas

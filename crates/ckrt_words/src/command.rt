@@ -1,7 +1,7 @@
 //! The program's command line, for `clap`.
 ghost use Rattle.std.specs.Prelude.{◌≡◌, IfOk, codes, false, fold, map, not, true};
 ghost use Rattle.std.specs.List.{list_all};
-ghost use Rattle.clap.specs.Words.{app_of, new_app, rule_of, with_rule};
+ghost use Rattle.clap.specs.Words.{App, app_of, new_app, rule_of, with_rule, with_subcommand};
 ghost use Rattle.clap.specs.declared.builder.command.Command.TheViews.{out-Command};
 ghost use Rattle.ckrt_words.specs.Commands.{bare_app, ckrt_app, drive_app, flag_rule, format_app, inspect_app, needed_rule, number_rule, option_rule, place_rule, run_app};
 
@@ -215,17 +215,37 @@ fn bare_command<'a>(alloc: Global) -> Result<Command<'a>, AllocError>
         .bin_name("ckrt")
 }
 
+/// A command with one more below it, where that one could be made.
+fn with_command<'a>(
+    whole: Command<'a>,
+    made: Result<Command<'a>, AllocError>,
+) -> Result<Command<'a>, AllocError>
+    requires local { IfOk made (λ c. (out-Command c).has_globals ≡ false) }
+    ensures { IfOk result (λ r. (app : App) → IfOk made.entry (λ c. app_of c ≡ app) → app_of r ≡ with_subcommand (app_of whole.entry) app.top) }
+{
+    match made {
+        Ok(command) => whole.subcommand(command),
+        Err(fault) => {
+            drop(whole);
+            Err(fault)
+        }
+    }
+}
+
+/// The program with the commands that begin a disk and serve it, `format` and `run`.
+fn command_on_disks<'a>(alloc: Global) -> Result<Command<'a>, AllocError>
+    ensures { IfOk result (λ c. app_of c ≡ with_subcommand (with_subcommand bare_app format_app.top) run_app.top) }
+{
+    let bare = bare_command(alloc)?;
+    let with_format = with_command(bare, format_command(alloc))?;
+    with_command(with_format, run_command(alloc))
+}
+
 /// The program's command line.
 pub(crate) fn command<'a>(alloc: Global) -> Result<Command<'a>, AllocError>
     ensures { IfOk result (λ c. app_of c ≡ ckrt_app) }
 {
-    let bare = bare_command(alloc)?;
-    let format = format_command(alloc)?;
-    let with_format = bare.subcommand(format)?;
-    let run = run_command(alloc)?;
-    let with_run = with_format.subcommand(run)?;
-    let inspect = inspect_command(alloc)?;
-    let with_inspect = with_run.subcommand(inspect)?;
-    let drive = drive_command(alloc)?;
-    with_inspect.subcommand(drive)
+    let with_run = command_on_disks(alloc)?;
+    let with_inspect = with_command(with_run, inspect_command(alloc))?;
+    with_command(with_inspect, drive_command(alloc))
 }

@@ -1,7 +1,7 @@
 //! What the matches of a command line name.
-ghost use Rattle.std.specs.Prelude.{◌≡◌, option_and_then, option_map};
+ghost use Rattle.std.specs.Prelude.{◌≡◌, codes, option_and_then, option_map};
 ghost use Rattle.clap.specs.Words.{first_of, found_of, rows_of, subcommand_rows_of};
-ghost use Rattle.ckrt_words.specs.Jobs.{driving_in, driving_of, flag_in, formatting_in, formatting_of, inspection_in, inspection_of, number_in, place_in, request_in, request_of};
+ghost use Rattle.ckrt_words.specs.Jobs.{drive, driving_in, driving_of, flag_in, format, formatting_in, formatting_of, inspect, inspection_in, inspection_of, number_in, place_in, request_in, request_of, run};
 
 use crate::job::{DriveJob, FormatJob, InspectJob, Job};
 use clap::ArgMatches;
@@ -84,22 +84,57 @@ fn command_named<'m, 'a>(matches: &'m ArgMatches<'a>) -> Option<(&'a str, &'m Ar
     matches.subcommand()
 }
 
+/// The job of `format` with these matches.
+fn format_named<'a>(given: &ArgMatches<'a>) -> Option<Job<'a>>
+    ensures { option_map request_of result ≡ option_map format (formatting_in (rows_of (found_of given.now))) }
+{
+    Some(Job::Format(formatting(given)?))
+}
+
+/// The job of `run` with these matches.
+fn run_named<'a>(given: &ArgMatches<'a>) -> Option<Job<'a>>
+    ensures { option_map request_of result ≡ option_map run (first_of (codes "disk") (rows_of (found_of given.now))) }
+{
+    Some(Job::Run(text(given, "disk")?))
+}
+
+/// The job of `inspect` with these matches.
+fn inspect_named<'a>(given: &ArgMatches<'a>) -> Option<Job<'a>>
+    ensures { option_map request_of result ≡ option_map inspect (inspection_in (rows_of (found_of given.now))) }
+{
+    Some(Job::Inspect(inspection(given)?))
+}
+
+/// The job of `drive` with these matches.
+fn drive_named<'a>(given: &ArgMatches<'a>) -> Option<Job<'a>>
+    ensures { option_map request_of result ≡ option_map drive (driving_in (rows_of (found_of given.now))) }
+{
+    Some(Job::Drive(driving(given)?))
+}
+
+/// The job of the command of this name with these matches.
+fn job_of<'a>(name: &str, given: &ArgMatches<'a>) -> Option<Job<'a>>
+    ensures { option_map request_of result ≡ request_in (name.now, rows_of (found_of given.now)) }
+{
+    if name == "format" {
+        return format_named(given);
+    }
+    if name == "run" {
+        return run_named(given);
+    }
+    if name == "inspect" {
+        return inspect_named(given);
+    }
+    if name == "drive" {
+        return drive_named(given);
+    }
+    None
+}
+
 /// The job that the matches name.
 pub(crate) fn job_named<'a>(matches: &ArgMatches<'a>) -> Option<Job<'a>>
     ensures { option_map request_of result ≡ option_and_then request_in (subcommand_rows_of matches.now) }
 {
     let (name, given) = command_named(matches)?;
-    if name == "format" {
-        return Some(Job::Format(formatting(given)?));
-    }
-    if name == "run" {
-        return Some(Job::Run(text(given, "disk")?));
-    }
-    if name == "inspect" {
-        return Some(Job::Inspect(inspection(given)?));
-    }
-    if name == "drive" {
-        return Some(Job::Drive(driving(given)?));
-    }
-    None
+    job_of(name, given)
 }

@@ -1,8 +1,8 @@
 //! From words to a job.
-ghost use Rattle.std.specs.Prelude.{◌≡◌, ◌≢◌, [], IfOk, IfErr, IsErrOf, Some, false, map, true};
+ghost use Rattle.std.specs.Prelude.{◌≡◌, ◌≢◌, [], IfOk, IfErr, IsErrOf, Some, false, map, option_and_then, option_map, true};
 ghost use Rattle.clap.specs.Words.{fault_of, kind_of, subcommand_of, subcommand_rows_of, takes};
 ghost use Rattle.ckrt_words.specs.Commands.{ckrt_app};
-ghost use Rattle.ckrt_words.specs.Jobs.{asks_version, request_of, request_of_words};
+ghost use Rattle.ckrt_words.specs.Jobs.{asks_version, request_in, request_of, request_of_words};
 
 use crate::job::{Job, WordsFault};
 use crate::{command, matches};
@@ -61,7 +61,30 @@ fn fault(alloc: Global, words: &[&str], error: &Error) -> WordsFault
 
 /// The text on how the program is used.
 fn usage(alloc: Global) -> Result<String, AllocError> {
-    command::command(alloc)?.render_usage()
+    let mut command = command::command(alloc)?;
+    let text = command.render_usage();
+    drop(command);
+    text
+}
+
+/// What is wrong with words that `clap` takes and that name no job: the text is how the program is used.
+fn no_job(alloc: Global) -> WordsFault {
+    match usage(alloc) {
+        Ok(text) => WordsFault::Usage(text),
+        Err(_) => WordsFault::OutOfMemory,
+    }
+}
+
+/// The job that `clap` makes of the words, if they name one.
+fn job_of<'a>(alloc: Global, words: &'a [&'a str]) -> Result<Option<Job<'a>>, WordsFault>
+    ensures named { IfOk result (λ job. option_map request_of job ≡ option_and_then request_in (subcommand_of ckrt_app (map (λ s. s.now) words.entry.now))) }
+    ensures faultless { IfOk result (λ _. fault_of ckrt_app (map (λ s. s.now) words.entry.now) ≡ []) }
+    ensures taken { IfErr result (λ e. takes ckrt_app (map (λ s. s.now) words.entry.now) ≡ true → e ≡ WordsFault.OutOfMemory) }
+{
+    match matches_of(alloc, words) {
+        Ok(matches) => Ok(matches::job_named(&matches)),
+        Err(error) => Err(fault(alloc, words, &error)),
+    }
 }
 
 /// Whether there is one word, `--version`.
@@ -94,15 +117,8 @@ pub fn read_words<'a>(alloc: Global, words: &'a [&'a str]) -> Result<Job<'a>, Wo
     if is_version(words) {
         return Ok(Job::Version);
     }
-    let matches = match matches_of(alloc, words) {
-        Ok(matches) => matches,
-        Err(error) => return Err(fault(alloc, words, &error)),
-    };
-    match matches::job_named(&matches) {
+    match job_of(alloc, words)? {
         Some(job) => Ok(job),
-        None => match usage(alloc) {
-            Ok(text) => Err(WordsFault::Usage(text)),
-            Err(_) => Err(WordsFault::OutOfMemory),
-        },
+        None => Err(no_job(alloc)),
     }
 }

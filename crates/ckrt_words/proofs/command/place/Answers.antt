@@ -4,10 +4,8 @@ use Rattle.clap.specs.Words.{Rule, rule_of}
 use Rattle.clap.specs.declared.builder.arg.Arg.{Arg}
 use Rattle.clap.specs.declared.builder.value_parser.ValueParser.{ValueParser}
 use Rattle.clap.specs.declared.builder.value_parser.ValueParser.TheVariants.{Unsigned}
+use Rattle.ckrt_words.proofs.SettingLemmas.{helped, long, named, read_by}
 use Rattle.ckrt_words.proofs.command.place.Goals as goal
-
-abbrev with_parser : Option ValueParser → Rule → Rule
-with_parser o r = record r { parser = o }
 
 abbrev parser : Option ValueParser
 parser = Some (Unsigned 0 18446744073709551615)
@@ -15,12 +13,12 @@ parser = Some (Unsigned 0 18446744073709551615)
 -- setting by setting
 pub returns-clause-rule : goal.returns-clause-rule
 returns-clause-rule c =
-    ap rule_of c.help.ensures
-    ∙ ap rule_of c.value_parser-2.ensures.others
-    ∙ ap (λ (o : Option ValueParser). with_parser o (rule_of c.value_name.result)) (c.value_parser-2.ensures.given.1 ∙ ap Some (c.value_parser-2.ensures.given.2 ∙ c.value_parser.ensures))
-    ∙ ap (λ (a : Arg). with_parser parser (rule_of a)) c.value_name.ensures
-    ∙ ap (λ (a : Arg). with_parser parser (record (rule_of a) { value_names = 1 })) c.long.ensures
-    ∙ ap (λ (r : Rule). with_parser parser (record r { long = Some c.args.id.now; value_names = 1 })) c.new.ensures.rule
+    helped c.value_parser-2.result _ _ c.help.ensures
+    ∙ read_by c.value_name.result _ _ c.value_parser-2.ensures.others
+    ∙ ap (λ (o : Option ValueParser). record (rule_of c.value_name.result) { parser = o }) (c.value_parser-2.ensures.given.1 ∙ ap Some (c.value_parser-2.ensures.given.2 ∙ c.value_parser.ensures))
+    ∙ ap (λ (r : Rule). record r { parser = parser }) (named c.long.result _ _ c.value_name.ensures)
+    ∙ ap (λ (r : Rule). record r { parser = parser; value_names = 1 }) (long c.new.result _ _ c.long.ensures)
+    ∙ ap (λ (r : Rule). record r { parser = parser; long = Some c.args.id.now; value_names = 1 }) c.new.ensures.rule
 
 pub returns-clause-local : goal.returns-clause-local
 returns-clause-local c =
