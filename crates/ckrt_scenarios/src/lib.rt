@@ -76,6 +76,8 @@ mod program;
 #[cfg(test)]
 mod recovery;
 #[cfg(test)]
+mod routines;
+#[cfg(test)]
 mod rwlocks;
 #[cfg(test)]
 mod saved_disks;
