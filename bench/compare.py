@@ -15,6 +15,8 @@ ROUNDS = 7
 THREADED = {"locks-4": 4, "locks-crowded": 4, "matmul-big": 4, "plain-4": 4}
 # Guests whose ratio isn't one of plain computation: it stands apart from the mean.
 STORING = ("own-page-stores", "scattered-stores")
+# Guests that multiply and divide, whose steps are in the compiler's library: the mean of their ratios stands apart.
+NUMERIC = ("doubles-big", "gcd-big", "matrix-big")
 # This one never ends: it is for checkpoints alone.
 ENDLESS = ("stores-4",)
 # Two calls in a round, eight rounds' worth of steps beside them: see make_guests.py.
@@ -70,12 +72,18 @@ def calls(machine, guests):
         print(f"a call in {name}: {cost * 1e9:.0f} ns, {cost * steps / plain:.0f} plain instructions")
 
 
+def mean(what, ratios):
+    """Tells the geometric mean of these ratios, if there are any."""
+    if ratios:
+        print(f"geometric mean of the ratios{what}: {statistics.geometric_mean(ratios):.2f}")
+
+
 def main():
     plain, machine, guests = sys.argv[1:4]
     stored = sorted(name[:-4] for name in os.listdir(guests) if name.endswith(".bin"))
     names = sys.argv[4:] or [name for name in stored if name not in ENDLESS]
     print(f"{'guest':16} {'plain Msteps/s':>15} {'machine Msteps/s':>17} {'ratio':>6}")
-    ratios = []
+    ratios, numeric = [], []
     for name in names:
         path = os.path.join(guests, name + ".bin")
         if name in THREADED:
@@ -83,12 +91,14 @@ def main():
             print(f"{name:16} {'-':>15} {rate / 1e6:17.0f} {'-':>6}")
             continue
         base, ours = compare(plain, machine, path)
-        if name not in STORING:
+        if name in NUMERIC:
+            numeric.append(ours / base)
+        elif name not in STORING:
             ratios.append(ours / base)
         note("run", name, "steps/s", ours, base, ("", ours / base, ""))
         print(f"{name:16} {base / 1e6:15.0f} {ours / 1e6:17.0f} {ours / base:6.2f}")
-    if ratios:
-        print(f"geometric mean of the ratios: {statistics.geometric_mean(ratios):.2f}")
+    mean("", ratios)
+    mean(" of guests that multiply and divide", numeric)
     if not sys.argv[4:]:
         calls(machine, guests)
 

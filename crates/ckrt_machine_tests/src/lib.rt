@@ -26,6 +26,8 @@ mod rwlocks;
 #[cfg(test)]
 mod seats;
 #[cfg(test)]
+mod routines;
+#[cfg(test)]
 mod self_modifying;
 #[cfg(test)]
 mod steps;
