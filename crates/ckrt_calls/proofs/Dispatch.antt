@@ -3,8 +3,8 @@ use Rattle.std.proofs.Common.{◌≡◌, ℕ, Option, Some, sym, ap, ◌∙◌}
 use Rattle.ckrt_registers.specs.Registers.{Registers}
 use Rattle.ckrt_registers.specs.Registers.{get}
 use Rattle.ckrt_thread.specs.State.{thread_of, regs_of}
+use Rattle.ckrt_state.specs.declared.table.Tables.{Tables}
 use Rattle.ckrt_calls.specs.declared.number.Call.{Call}
-use Rattle.ckrt_calls.specs.declared.table.Tables.{Tables}
 use Rattle.ckrt_calls.specs.Table.{row_or_point, row_or_unknown, called_with, called, call_of}
 
 pub called_as : (t : ℕ) (s : Tables) (o : Option Registers) (r : Registers) (n : ℕ) (c : Option Call) (k : Call) → o ≡ regs_of (thread_of s.threads t) → o ≡ Some r → n ≡ get r 17 → c ≡ call_of n → c ≡ Some k → row_or_point k t r s ≡ called t s

@@ -3,11 +3,11 @@ use Rattle.std.proofs.Common.{ℕ, Option, Some, None}
 use Rattle.ckrt_registers.specs.Registers.{Registers}
 use Rattle.ckrt_registers.specs.Registers.{get}
 use Rattle.ckrt_thread.specs.State as threads
+use Rattle.ckrt_state.specs.declared.table.Tables.{Tables}
+use Rattle.ckrt_state.specs.WellFormed.{IsWellFormed}
 use Rattle.ckrt_calls.specs.declared.number.Call.{Call}
 use Rattle.ckrt_calls.specs.declared.number.Call.TheVariants as call
-use Rattle.ckrt_calls.specs.declared.table.Tables.{Tables}
 use Rattle.ckrt_calls.specs.Table.{After, row, acts_at, row_or_unknown, called_with, called, call_of}
-use Rattle.ckrt_calls.specs.WellFormed.{IsWellFormed}
 use Rattle.ckrt_calls.proofs.Choices.{choice}
 use Rattle.ckrt_calls.proofs.KeptThreads.{kept_thread}
 use Rattle.ckrt_calls.proofs.KeptMutexes.{kept_mutex}
@@ -17,7 +17,7 @@ use Rattle.ckrt_calls.proofs.KeptRwLocks.{kept_rwlock}
 use Rattle.ckrt_calls.proofs.KeptCancellation.{kept_cancellation}
 use Rattle.ckrt_calls.proofs.KeptKeys.{kept_key}
 use Rattle.ckrt_calls.proofs.KeptInput.{kept_process}
-pub use Rattle.ckrt_calls.specs.WellFormed.{MayCall}
+pub use Rattle.ckrt_calls.specs.Calling.{MayCall}
 pub use Rattle.ckrt_calls.proofs.KeptEnds.{well_formed_change, well_formed_fault, well_formed_exited, well_formed_acted, well_formed_unwound, well_formed_begun}
 
 kept_row : (c : Call) (t : ℕ) (r : Registers) (s : Tables) → MayCall t s → IsWellFormed (row c t r s).tables

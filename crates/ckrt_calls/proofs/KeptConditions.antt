@@ -23,11 +23,12 @@ use Rattle.ckrt_cond.proofs.Waits.{conditions_unwaited}
 use Rattle.ckrt_cond.proofs.Kept as kept_conditions
 use Rattle.ckrt_cond.proofs.Kept.{well_formed_wait, well_formed_timedwait, well_formed_signal, well_formed_broadcast}
 use Rattle.ckrt_cond.proofs.ThreadsKept as condition_threads
+use Rattle.ckrt_state.specs.declared.table.Tables.{Tables}
+use Rattle.ckrt_state.specs.WellFormed.{IsWellFormed}
 use Rattle.ckrt_calls.specs.declared.number.ConditionCall.{ConditionCall}
 use Rattle.ckrt_calls.specs.declared.number.ConditionCall.TheVariants as condition_call
-use Rattle.ckrt_calls.specs.declared.table.Tables.{Tables}
 use Rattle.ckrt_calls.specs.Table.{condition_row, moment_of}
-use Rattle.ckrt_calls.specs.WellFormed.{IsWellFormed, MayCall}
+use Rattle.ckrt_calls.specs.Calling.{MayCall}
 use Rattle.ckrt_calls.proofs.ThreadRows as rows
 use Rattle.ckrt_calls.proofs.ThreadRows.{IsWaitRule, AllWaits, all_blocked, any_live_change}
 use Rattle.ckrt_calls.proofs.Queues as queues

@@ -18,11 +18,12 @@ use Rattle.ckrt_rwlock.specs.Rows as lock_rows
 use Rattle.ckrt_rwlock.proofs.Rows as lock_rules
 use Rattle.ckrt_rwlock.proofs.Kept as kept_locks
 use Rattle.ckrt_rwlock.proofs.ThreadsKept as lock_threads
+use Rattle.ckrt_state.specs.declared.table.Tables.{Tables}
+use Rattle.ckrt_state.specs.WellFormed.{IsWellFormed}
 use Rattle.ckrt_calls.specs.declared.number.RwLockCall.{RwLockCall}
 use Rattle.ckrt_calls.specs.declared.number.RwLockCall.TheVariants as rwlock_call
-use Rattle.ckrt_calls.specs.declared.table.Tables.{Tables}
 use Rattle.ckrt_calls.specs.Table.{rwlock_row}
-use Rattle.ckrt_calls.specs.WellFormed.{IsWellFormed, MayCall}
+use Rattle.ckrt_calls.specs.Calling.{MayCall}
 use Rattle.ckrt_calls.proofs.ThreadRows as rows
 use Rattle.ckrt_calls.proofs.ThreadRows.{IsWaitRule, AllWaits, all_blocked}
 use Rattle.ckrt_calls.proofs.MutexRows.{wait_rule, condition_rule}

@@ -14,7 +14,5 @@ pub mod KeptCancellation
 pub mod KeptKeys
 pub mod KeptInput
 pub mod Kept
-pub mod Beginnings
 pub mod Readers
 pub mod Ticks
-pub mod Test

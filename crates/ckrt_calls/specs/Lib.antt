@@ -1,2 +1,2 @@
+pub mod Calling
 pub mod Table
-pub mod WellFormed

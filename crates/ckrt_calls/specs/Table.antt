@@ -14,8 +14,6 @@ use Rattle.ckrt_thread.specs.Errors.{EINVAL, ENOSYS, ETIMEDOUT}
 use Rattle.ckrt_thread.specs.Waits.{is_moment}
 use Rattle.ckrt_thread.specs.Deadlines.{due_waits}
 use Rattle.ckrt_thread.specs.Granting.{queue_of}
-use Rattle.ckrt_thread.specs.Keys.{keys_off}
-use Rattle.ckrt_thread.specs.Contents.{with_keys}
 use Rattle.ckrt_thread.specs.State as thread
 use Rattle.ckrt_thread.specs.Rows as rows
 use Rattle.ckrt_thread.specs.Unwinding as unwinding
@@ -25,6 +23,9 @@ use Rattle.ckrt_barrier.specs.Rows as barrier
 use Rattle.ckrt_rwlock.specs.Rows as rwlock
 use Rattle.ckrt_cancel.specs.Rows as cancel
 use Rattle.ckrt_cancel.specs.KeyRows as keys
+use Rattle.ckrt_state.specs.declared.table.Status.{Status}
+use Rattle.ckrt_state.specs.declared.table.Status.TheVariants.{Exited}
+use Rattle.ckrt_state.specs.declared.table.Tables.{Tables}
 use Rattle.ckrt_calls.specs.declared.number.Call.{Call}
 use Rattle.ckrt_calls.specs.declared.number.Call.TheVariants as call
 use Rattle.ckrt_calls.specs.declared.number.ProcessCall.{ProcessCall}
@@ -43,17 +44,6 @@ use Rattle.ckrt_calls.specs.declared.number.CancellationCall.{CancellationCall}
 use Rattle.ckrt_calls.specs.declared.number.CancellationCall.TheVariants as cancellation_call
 use Rattle.ckrt_calls.specs.declared.number.KeyCall.{KeyCall}
 use Rattle.ckrt_calls.specs.declared.number.KeyCall.TheVariants as key_call
-use Rattle.ckrt_calls.specs.declared.table.Status.{Status}
-use Rattle.ckrt_calls.specs.declared.table.Status.TheVariants.{Running, Exited}
-use Rattle.ckrt_calls.specs.declared.table.Tables.{Tables}
-
--- the tables that a program begins with
-abbrev pub fresh : ℕ → ℕ → Tables
-fresh pages harts = record { threads = thread.fresh (4096 * pages) harts; mutexes = []; barriers = []; rwlocks = []; clock = 0; input = []; closed = false; status = Running }
-
--- the same tables, but keys are off
-abbrev pub with_keys_off : Tables → Tables
-with_keys_off s = record s { threads = with_keys keys_off s.threads }
 
 -- INPUT (this project's choice)
 

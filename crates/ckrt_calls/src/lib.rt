@@ -1,24 +1,20 @@
-//! The calls of a guest in one table, and the tables that they work on.
+//! The calls of a guest in one table, and what they, input and time do to the tables of a program.
 #![tactic(auto)]
 
 mod calls;
 mod console;
 mod due;
 mod events;
-mod input;
 mod number;
-mod table;
 mod time;
 mod unwinding;
-mod well_formed;
 
 pub use calls::call;
+pub use ckrt_state::{INPUT_LIMIT, InputQueue, Status, Tables};
 pub use console::END_OF_INPUT;
 pub use events::{close_input, take_input, tick};
-pub use input::{INPUT_LIMIT, InputQueue};
 pub use number::{
     BarrierCall, Call, CancellationCall, ConditionCall, KeyCall, MutexCall, ProcessCall,
     RwLockCall, ThreadCall,
 };
-pub use table::{Status, Tables};
 pub use unwinding::{act_on_request, begin_unwind, next_handler};

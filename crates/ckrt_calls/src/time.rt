@@ -3,7 +3,7 @@ ghost use Rattle.std.specs.Prelude.{◌≡◌, ◌<◌, ◌^◌, true, false};
 ghost use Rattle.ckrt_thread.specs.State.{is_live, is_waiting};
 ghost use Rattle.ckrt_calls.specs.Table.{clock_row, moment_of, sleep_row};
 
-use crate::table::Tables;
+use ckrt_state::Tables;
 use ckrt_thread::{CallResult, EINVAL, MOMENT_END, Reason, ThreadId};
 
 /// The moment in ticks that two words give.

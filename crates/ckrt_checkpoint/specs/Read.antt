@@ -2,7 +2,7 @@
 use Rattle.std.specs.Prelude.{◌≡◌, ℕ, List, Some, None, Result, Ok, Err}
 use Rattle.circular_buffer.specs.Buffer.{Buffer}
 use Rattle.ckrt_memory.specs.Marks.{Memory}
-use Rattle.ckrt_calls.specs.declared.table.Tables.{Tables}
+use Rattle.ckrt_state.specs.declared.table.Tables.{Tables}
 use Rattle.ckrt_tables.specs.Decoding.{DecodesTo}
 use Rattle.ckrt_tables.specs.Savable.{CanBeSaved}
 use Rattle.ckrt_checkpoint.specs.declared.area.Area.{Area}

@@ -13,9 +13,9 @@ ghost use Rattle.ckrt_checkpoint.specs.Read.{CanBeSavedIn, ReadsArea};
 use crate::area::Area;
 use crate::config::Config;
 use crate::fault::AreaFault;
-use ckrt_calls::Tables;
 use ckrt_disk::Disk;
 use ckrt_memory::Memory;
+use ckrt_state::Tables;
 use ckrt_tables::{Held, decode_tables};
 use std::alloc::Global;
 

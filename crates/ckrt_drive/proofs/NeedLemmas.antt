@@ -3,7 +3,7 @@ use Rattle.std.proofs.Common.{◌≡◌, ◌+◌, ◌/◌, ◌≤◌, ℕ, nat_l
 use Rattle.std.specs.Prelude.{◌==◌}
 use Rattle.std.proofs.lemmas.Bool.Decides.{nat_tests}
 use Rattle.std.proofs.Math.Nat.{mod-lt}
-use Rattle.ckrt_calls.specs.declared.table.Tables.{Tables}
+use Rattle.ckrt_state.specs.declared.table.Tables.{Tables}
 use Rattle.ckrt_events.specs.Bytes.{encoding_of, is_known_in}
 use Rattle.ckrt_events.specs.declared.event.Event.{Event}
 use Rattle.ckrt_events.specs.declared.event.Event.TheVariants.{Run, RunLong}

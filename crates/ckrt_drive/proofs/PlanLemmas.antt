@@ -2,7 +2,7 @@
 use Rattle.std.proofs.Common.{◌≡◌, ℕ, zero, suc, ◌+◌, ◌-◌, ◌<◌, ◌≤◌, Bool, true, false, Option, Some, None, List, [], ◌∷◌, length, drop, get_or, ap, sym, arith, cond, refl}
 use Rattle.std.proofs.lemmas.Bool.Decides.{nat_tests}
 use Rattle.ckrt_thread.specs.declared.records.Wait.{Wait}
-use Rattle.ckrt_calls.specs.declared.table.Tables.{Tables}
+use Rattle.ckrt_state.specs.declared.table.Tables.{Tables}
 use Rattle.ckrt_drive.specs.Plan.{is_busy, busy_from, next_busy, sooner, earliest_deadline}
 
 -- HARTS

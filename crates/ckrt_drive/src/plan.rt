@@ -11,9 +11,9 @@ use crate::cursor::Cursor;
 use crate::lot::Lot;
 use crate::options::RUN_LIMIT;
 use crate::progress::Ending;
-use ckrt_calls::{Status, Tables};
 use ckrt_events::{Event, LONG_RUN_LIMIT};
 use ckrt_machine::Machine;
+use ckrt_state::{Status, Tables};
 use ckrt_thread::{Object, Wait};
 
 /// The event that is next, or why there is none.

@@ -9,7 +9,7 @@ use Rattle.ckrt_disk.specs.declared.disk.Disk.{Ghosts}
 use Rattle.ckrt_disk.proofs.FrameLemmas.{wider, writes_on_within, byte_left}
 use Rattle.ckrt_disk.proofs.Moments.{weaker, goes_on}
 use Rattle.ckrt_disk.proofs.Images.{part_same, wider_image, written_size, written_there, written_image}
-use Rattle.ckrt_calls.specs.Table as calls
+use Rattle.ckrt_state.specs.Beginnings as beginnings
 use Rattle.ckrt_tables.specs.Fresh.{fresh_bytes, IsFreshEncoding}
 use Rattle.ckrt_tables.proofs.AllFit.{fresh_savable}
 use Rattle.ckrt_checkpoint.specs.declared.config.Config.{Config}
@@ -150,7 +150,7 @@ module _ (c : Config) (guest image : List ℕ) (valid : is_valid c ≡ true) (gu
       (number_is 4 28 32 c.journal image 8 20 (superblock_fields c) refl (omega arith) (omega arith) fresh.superblock refl small.2)
       ∙ within c (length image) valid room
 
-  holds : HoldsState c (record { index = 0; header = fresh_header }) (fresh_memory c guest) (record { tables = calls.fresh c.pages c.harts; held = [] }) image
+  holds : HoldsState c (record { index = 0; header = fresh_header }) (fresh_memory c guest) (record { tables = beginnings.fresh c.pages c.harts; held = [] }) image
   holds =
       let size : length (fresh_memory c guest) ≡ memory_size c = grind (arith, common_steps, guest_fits) in
       record {
@@ -167,7 +167,7 @@ module _ (c : Config) (guest image : List ℕ) (valid : is_valid c ≡ true) (gu
       }
 
   pub fresh_recovers : IsFormatted c guest image
-  fresh_recovers = switched c (record { index = 0; header = fresh_header }) (fresh_memory c guest) (record { tables = calls.fresh c.pages c.harts; held = [] }) image superblock holds
+  fresh_recovers = switched c (record { index = 0; header = fresh_header }) (fresh_memory c guest) (record { tables = beginnings.fresh c.pages c.harts; held = [] }) image superblock holds
       (λ is. let no : true ≡ false = sym is ∙ ap (λ x. nat_eq x 165) (byte_is image (area_at c 1) 40 0 (omega arith) fresh.other_area) in absurd (cc))
 
 -- THE LAST WRITE

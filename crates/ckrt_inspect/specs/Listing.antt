@@ -17,8 +17,8 @@ use Rattle.ckrt_tables.specs.declared.reading_objects.Reader.{Reader}
 use Rattle.ckrt_thread.specs.Keys.{KeyTable}
 use Rattle.ckrt_tables.specs.declared.reading_keys.KeyWord.{KeyWord}
 use Rattle.ckrt_tables.specs.Records.{id_or_0, readers_of, words_from, value_words, specific_of}
-use Rattle.ckrt_calls.specs.declared.table.Status.{Status}
-use Rattle.ckrt_calls.specs.declared.table.Tables.{Tables}
+use Rattle.ckrt_state.specs.declared.table.Status.{Status}
+use Rattle.ckrt_state.specs.declared.table.Tables.{Tables}
 use Rattle.ckrt_machine.specs.Steps.{State}
 use Rattle.ckrt_inspect.specs.Texts.{flag_text, hex_text, kind_text, reason_text, status_text}
 use Rattle.ckrt_inspect.specs.Code.{code_lines}

@@ -9,8 +9,8 @@ use crate::keys::push_all_keys;
 use crate::objects::push_objects;
 use crate::texts::{push, push_number, push_status};
 use crate::threads::push_all_threads;
-use ckrt_calls::{Status, Tables};
 use ckrt_machine::Machine;
+use ckrt_state::{Status, Tables};
 use std::alloc::{AllocError, Global};
 use std::io::Write;
 

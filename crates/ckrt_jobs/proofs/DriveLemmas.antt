@@ -1,6 +1,6 @@
 -- The drive of a disk, where less is known of the outputs.
 use Rattle.std.proofs.Common.{◌≡◌, ℕ, true, sym, subst, List, Option, Some, None, Result, Ok, Err, IfErr, inl, inr}
-use Rattle.ckrt_calls.specs.declared.table.Status.{Status}
+use Rattle.ckrt_state.specs.declared.table.Status.{Status}
 use Rattle.ckrt_disk.specs.declared.disk.Disk.{Ghosts}
 use Rattle.ckrt_drive.specs.declared.fault.DriveFault.{DriveFault}
 use Rattle.ckrt_drive.specs.declared.options.Options.{Options}

@@ -13,7 +13,7 @@ use Rattle.ckrt_recovery.specs.Opening.{IsSyncedAndRead}
 use Rattle.ckrt_recovery.specs.Represents.{Represents}
 use Rattle.ckrt_recovery.specs.View.{opened as opened_view, view_of}
 use Rattle.ckrt_recovery.specs.declared.session.Session.{Session}
-use Rattle.ckrt_calls.specs.declared.table.Status.{Status}
+use Rattle.ckrt_state.specs.declared.table.Status.{Status}
 use Rattle.ckrt_drive.specs.Plan.{cursor_at_start}
 use Rattle.ckrt_drive.specs.Runs.{Runs}
 use Rattle.ckrt_drive.specs.Streams.{got_to}

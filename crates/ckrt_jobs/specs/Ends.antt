@@ -1,6 +1,6 @@
 -- How the program tells what a drive came to: a line on standard error, and its status.
 use Rattle.std.specs.Prelude.{ℕ, List, [], ◌∷◌, ◌++◌, codes, Option, Some, None}
-use Rattle.ckrt_calls.specs.declared.table.Status.{Status}
+use Rattle.ckrt_state.specs.declared.table.Status.{Status}
 use Rattle.ckrt_inspect.specs.Texts.{status_text}
 use Rattle.ckrt_drive.specs.declared.progress.Ending.{Ending}
 use Rattle.ckrt_drive.specs.declared.progress.Ending.TheVariants.{Ended, WaitsForInput, Deadlock, Enough}

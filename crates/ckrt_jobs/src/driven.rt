@@ -2,8 +2,8 @@
 ghost use Rattle.std.specs.Prelude.{◌≡◌};
 ghost use Rattle.ckrt_jobs.specs.Ends.{end_status};
 
-use ckrt_calls::Status;
 use ckrt_drive::Ending;
+use ckrt_state::Status;
 
 /// What a drive came to.
 #[derive(Clone, Copy, Debug, PartialEq, Eq)]

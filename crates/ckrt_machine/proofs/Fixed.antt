@@ -41,6 +41,7 @@ use Rattle.ckrt_objects.specs.AddressMap.{lookup, removed, stored}
 use Rattle.ckrt_cond.specs.Rows as condition
 use Rattle.ckrt_cancel.specs.Rows as cancel
 use Rattle.ckrt_cancel.specs.KeyRows as keys
+use Rattle.ckrt_state.specs.declared.table.Tables.{Tables}
 use Rattle.ckrt_calls.specs.declared.number.Call.{Call}
 use Rattle.ckrt_calls.specs.declared.number.Call.TheVariants as call
 use Rattle.ckrt_calls.specs.declared.number.ProcessCall.{ProcessCall}
@@ -59,7 +60,6 @@ use Rattle.ckrt_calls.specs.declared.number.CancellationCall.{CancellationCall}
 use Rattle.ckrt_calls.specs.declared.number.CancellationCall.TheVariants as cancellation_call
 use Rattle.ckrt_calls.specs.declared.number.KeyCall.{KeyCall}
 use Rattle.ckrt_calls.specs.declared.number.KeyCall.TheVariants as key_call
-use Rattle.ckrt_calls.specs.declared.table.Tables.{Tables}
 use Rattle.ckrt_calls.specs.Table as calls
 use Rattle.ckrt_events.specs.declared.event.Event.{Event}
 use Rattle.ckrt_events.specs.declared.event.Event.TheVariants.{Place, Run, Input, Eof, Tick, RunLong}

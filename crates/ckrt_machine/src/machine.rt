@@ -2,7 +2,7 @@
 ghost use Rattle.std.specs.Prelude.{◌≡◌, ◌<◌, ◌≤◌, ◌*◌, ◌-◌, ◌↔◌, [], length, None, Some, IfOk, IsErrOf, MatchResult};
 ghost use Rattle.ckrt_memory.specs.Marks.{Follows, IsAllDirty, IsCleaned};
 ghost use Rattle.ckrt_memory.specs.declared.MemoryError.TheVariants.{ImageTooLong};
-ghost use Rattle.ckrt_calls.specs.WellFormed.{IsWellFormed};
+ghost use Rattle.ckrt_state.specs.WellFormed.{IsWellFormed};
 ghost use Rattle.ckrt_events.specs.Bytes.{IsInRange};
 ghost use Rattle.ckrt_machine.specs.Events.{fresh, memory_in, step, refusal_of, planned};
 
@@ -28,7 +28,7 @@ pub struct Machine {
 }
 
 impl Model for Machine {
-    ghost use Rattle.ckrt_calls.specs.WellFormed.{IsWellFormed};
+    ghost use Rattle.ckrt_state.specs.WellFormed.{IsWellFormed};
     ghost use Rattle.ckrt_machine.specs.Events.{Machine};
 
     ghost Value = { Machine };

@@ -3,7 +3,7 @@ use Rattle.std.proofs.Common.{◌≡◌, ◌⊎◌, ⊎_elim, inl, inr, ℕ, zer
 use Rattle.std.specs.Prelude.{◌==◌, ◌^◌, ◌-◌, nat_lt, nat_le, is_none, not, IfSome, ⊤}
 use Rattle.std.specs.List.{AllByRecursion}
 use Rattle.std.specs.Str.Lines.{lines}
-use Rattle.ckrt_calls.specs.declared.table.Tables.{Tables}
+use Rattle.ckrt_state.specs.declared.table.Tables.{Tables}
 use Rattle.ckrt_thread.specs.State as threads
 use Rattle.ckrt_events.specs.Bytes.{encoding_of, is_known_in}
 use Rattle.ckrt_events.specs.declared.event.Event.{Event}

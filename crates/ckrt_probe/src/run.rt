@@ -3,10 +3,10 @@
 ghost use Rattle.std.specs.Prelude.{◌≤◌};
 
 use anyhow::{Result, bail, ensure};
-use ckrt_calls::Status;
 use ckrt_events::Event;
 use ckrt_machine::{Answer, Machine};
 use ckrt_memory::MemoryError;
+use ckrt_state::Status;
 use std::io::Write;
 use std::time::CpuClock;
 use std::{fs, io};

@@ -1,7 +1,7 @@
 //! Measures saved tables: how long they take to decode and to encode.
 
 use anyhow::{Context, Result, ensure};
-use ckrt_calls::Tables;
+use ckrt_state::Tables;
 use ckrt_tables::{HELD_LIMIT, Held, TABLES_ROOM, VERSION, decode_tables, encode_tables};
 use std::fs;
 use std::time::Instant;

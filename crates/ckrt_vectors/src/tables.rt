@@ -1,7 +1,7 @@
 //! Saved tables as a second reading of the format has them.
 
 use anyhow::{Context, Result, ensure};
-use ckrt_calls::Tables;
+use ckrt_state::Tables;
 use ckrt_tables::{HELD_LIMIT, Held, TABLES_ROOM, VERSION, decode_tables, encode_tables};
 use ckrt_thread::MAX_HARTS;
 use std::alloc::Global;

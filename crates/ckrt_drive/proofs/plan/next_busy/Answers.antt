@@ -1,5 +1,5 @@
 use Rattle.std.proofs.Common.{◌<◌, ◌∙◌, sym, ap, arith}
-use Rattle.ckrt_calls.specs.declared.table.Tables.{Tables}
+use Rattle.ckrt_state.specs.declared.table.Tables.{Tables}
 use Rattle.ckrt_drive.proofs.PlanLemmas.{found, passed}
 use Rattle.ckrt_drive.proofs.plan.next_busy.Goals as goal
 

@@ -1,7 +1,7 @@
 use Rattle.std.proofs.Common.{◌≡◌, ◌≤◌, ◌<◌, ◌+◌, ◌-◌, ◌^◌, ℕ, List, length, take, ◌∙◌, ap, subst, arith}
 use Rattle.std.proofs.lemmas.Result.{on_ok_weaker}
 use Rattle.ckrt_disk.proofs.Moments.{weaker}
-use Rattle.ckrt_calls.specs.declared.table.Tables.{Tables}
+use Rattle.ckrt_state.specs.declared.table.Tables.{Tables}
 use Rattle.ckrt_tables.specs.Decoding.{IsEncodingOf}
 use Rattle.ckrt_tables.specs.Encoding.{encoding_of}
 use Rattle.ckrt_tables.specs.Savable.{CanBeSaved}

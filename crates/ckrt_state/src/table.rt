@@ -1,7 +1,7 @@
 //! The tables of a program.
 ghost use Rattle.std.specs.Prelude.{◌≡◌, ◌≤◌, ◌*◌, IfOk};
-ghost use Rattle.ckrt_calls.specs.Table.{fresh};
-ghost use Rattle.ckrt_calls.specs.WellFormed.{IsWellFormed};
+ghost use Rattle.ckrt_state.specs.Beginnings.{fresh};
+ghost use Rattle.ckrt_state.specs.WellFormed.{IsWellFormed};
 
 use crate::input::InputQueue;
 use ckrt_barrier::Barriers;

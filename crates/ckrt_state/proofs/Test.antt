@@ -7,9 +7,9 @@ use Rattle.ckrt_thread.specs.declared.records.Wait.{Wait}
 use Rattle.ckrt_thread.specs.declared.records.Object.TheVariants as object
 use Rattle.ckrt_thread.specs.Waits.{is_for}
 use Rattle.ckrt_thread.specs.State.{State, is_any_live, is_live}
-use Rattle.ckrt_calls.specs.WellFormed.{may_be_read, lacks_input, lies_ahead, may_be_its_status}
-use Rattle.ckrt_calls.specs.declared.table.Status.{Status}
-use Rattle.ckrt_calls.specs.declared.table.Status.TheVariants.{Running, Exited, Faulted}
+use Rattle.ckrt_state.specs.WellFormed.{may_be_read, lacks_input, lies_ahead, may_be_its_status}
+use Rattle.ckrt_state.specs.declared.table.Status.{Status}
+use Rattle.ckrt_state.specs.declared.table.Status.TheVariants.{Running, Exited, Faulted}
 
 -- INPUT
 

@@ -17,7 +17,7 @@ pub struct InputQueue {
 
 impl Model for InputQueue {
     ghost use Rattle.std.specs.Prelude.{ℕ, List, length, ◌≡◌, ◌≤◌};
-    ghost use Rattle.ckrt_calls.specs.declared.input.TheConstants.{INPUT_LIMIT};
+    ghost use Rattle.ckrt_state.specs.declared.input.TheConstants.{INPUT_LIMIT};
 
     ghost Value = { List ℕ };
 

@@ -2,7 +2,7 @@
 ghost use Rattle.std.specs.Prelude.{◌≡◌, ◌↔◌, true};
 ghost use Rattle.std.specs.List.{list_all};
 ghost use Rattle.ckrt_thread.specs.State.{is_live};
-ghost use Rattle.ckrt_calls.specs.WellFormed.{IsWellFormed, lies_ahead, lacks_input, may_be_read, may_be_its_status};
+ghost use Rattle.ckrt_state.specs.WellFormed.{IsWellFormed, lies_ahead, lacks_input, may_be_read, may_be_its_status};
 
 use crate::input::InputQueue;
 use crate::table::{Status, Tables};

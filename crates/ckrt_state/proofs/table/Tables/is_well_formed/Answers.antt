@@ -1,7 +1,7 @@
 use Rattle.std.proofs.Common.{◌≡◌, true, arith, sym, ◌∙◌}
-use Rattle.ckrt_calls.specs.WellFormed.{may_be_its_status}
-use Rattle.ckrt_calls.proofs.Test.{some_live, none_due, live_at_fault, aligned_at_fault, status_met}
-use Rattle.ckrt_calls.proofs.table.Tables.is_well_formed.Goals as goal
+use Rattle.ckrt_state.specs.WellFormed.{may_be_its_status}
+use Rattle.ckrt_state.proofs.Test.{some_live, none_due, live_at_fault, aligned_at_fault, status_met}
+use Rattle.ckrt_state.proofs.table.Tables.is_well_formed.Goals as goal
 
 pub returns : goal.returns
 returns c =

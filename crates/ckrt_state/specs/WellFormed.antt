@@ -1,5 +1,5 @@
 -- Which tables a program may have: the rules of its parts, and those that join the parts. Where no page is named they are this project's choice.
-use Rattle.std.specs.Prelude.{◌≡◌, ◌==◌, ◌%◌, ◌<◌, ◌≤◌, ◌^◌, ℕ, Bool, true, false, not, ◌&&◌, if◌then◌else◌, List, [], ◌∷◌, length}
+use Rattle.std.specs.Prelude.{◌≡◌, ◌==◌, ◌%◌, ◌<◌, ◌≤◌, ◌^◌, ℕ, Bool, true, not, ◌&&◌, if◌then◌else◌, List, [], ◌∷◌, length}
 use Rattle.std.specs.List.{list_all}
 use Rattle.ckrt_rv32i.specs.declared.execution.Cause.{Cause}
 use Rattle.ckrt_thread.specs.declared.records.Wait.{Wait}
@@ -11,10 +11,10 @@ use Rattle.ckrt_mutex.specs.WellFormed as mutex
 use Rattle.ckrt_cond.specs.WellFormed as condition
 use Rattle.ckrt_barrier.specs.WellFormed as barrier
 use Rattle.ckrt_rwlock.specs.WellFormed as rwlock
-use Rattle.ckrt_calls.specs.declared.input.TheConstants.{INPUT_LIMIT}
-use Rattle.ckrt_calls.specs.declared.table.Status.{Status}
-use Rattle.ckrt_calls.specs.declared.table.Status.TheVariants.{Running, Exited, Faulted}
-use Rattle.ckrt_calls.specs.declared.table.Tables.{Tables}
+use Rattle.ckrt_state.specs.declared.input.TheConstants.{INPUT_LIMIT}
+use Rattle.ckrt_state.specs.declared.table.Status.{Status}
+use Rattle.ckrt_state.specs.declared.table.Status.TheVariants.{Running, Exited, Faulted}
+use Rattle.ckrt_state.specs.declared.table.Tables.{Tables}
 
 -- a byte, or the end of the input, is there to be read
 abbrev pub may_be_read : List ℕ → Bool → Bool
@@ -52,15 +52,6 @@ pub record IsWellFormed (s : Tables) : Type 0 where
   -- a thread that faulted has not ended, and the pc of its fault is a multiple of 4
   pub fault : (t pc : ℕ) (cause : Cause) → s.status ≡ Faulted t pc cause → thread.is_live s.threads t ≡ true
   pub fault_pc : (t pc : ℕ) (cause : Cause) → s.status ≡ Faulted t pc cause → pc % 4 ≡ 0
-
--- what a call counts on: the thread t is on a hart, and the program runs
-pub record MayCall (t : ℕ) (s : Tables) : Type 0 where
-  -- it has not ended
-  pub live : thread.is_live s.threads t ≡ true
-  -- it does not wait
-  pub free : thread.is_waiting s.threads t ≡ false
-  pub running : s.status ≡ Running
-  pub well_formed : IsWellFormed s
 
 -- THE SAME AS A TEST of the status: who must not have ended, and which deadlines may not have come.
 abbrev pub may_be_its_status : Status → ℕ → thread.State → Bool

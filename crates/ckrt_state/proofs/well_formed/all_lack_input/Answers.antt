@@ -1,9 +1,9 @@
 use Rattle.std.proofs.Common.{◌≡◌, true, false, not, ap, sym, ◌∙◌, is_some}
 use Rattle.ckrt_thread.specs.declared.records.Object.TheVariants.{Input}
 use Rattle.ckrt_thread.specs.State.{first_waiter}
-use Rattle.ckrt_calls.specs.WellFormed.{may_be_read}
-use Rattle.ckrt_calls.proofs.Test.{not_not, all_lack_input, nobody_reads}
-use Rattle.ckrt_calls.proofs.well_formed.all_lack_input.Goals as goal
+use Rattle.ckrt_state.specs.WellFormed.{may_be_read}
+use Rattle.ckrt_state.proofs.Test.{not_not, all_lack_input, nobody_reads}
+use Rattle.ckrt_state.proofs.well_formed.all_lack_input.Goals as goal
 
 pub returns-then-not-may_be_read : goal.returns-then-not-may_be_read
 returns-then-not-may_be_read c =

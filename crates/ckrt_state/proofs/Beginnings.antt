@@ -7,8 +7,8 @@ use Rattle.ckrt_thread.proofs.Changes as changes
 use Rattle.ckrt_thread.proofs.KeysKept.{well_formed_keys}
 use Rattle.ckrt_barrier.proofs.WellFormed as barriers
 use Rattle.ckrt_rwlock.proofs.WellFormed as locks
-use Rattle.ckrt_calls.specs.Table.{fresh, with_keys_off}
-use Rattle.ckrt_calls.specs.WellFormed.{IsWellFormed}
+use Rattle.ckrt_state.specs.Beginnings.{fresh, with_keys_off}
+use Rattle.ckrt_state.specs.WellFormed.{IsWellFormed}
 
 -- no other rule speaks of the keys
 begun : (pages harts : ℕ) (keys : KeyTable) → threads.IsWellFormed (with_keys keys (threads.fresh (4096 * pages) harts))
