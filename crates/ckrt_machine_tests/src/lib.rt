@@ -10,6 +10,8 @@ mod cancellation;
 #[cfg(test)]
 mod conditions;
 #[cfg(test)]
+mod expect;
+#[cfg(test)]
 mod instructions;
 #[cfg(test)]
 mod keys;
