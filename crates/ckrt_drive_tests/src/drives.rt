@@ -1,16 +1,17 @@
 //! Guests that a drive runs to their ends.
 
+use crate::expect::{
+    expect_bytes, expect_eq, expect_eq_at, filled, image_of, memory_disk, old_disk, stopping_disk,
+};
+use crate::sessions::submitted;
+use crate::small_disk::{SMALL, format_outcome, recovered_in_memory, recovery_outcome};
 use arrayvec::ArrayVec;
 use ckrt_disk::{Disk, MemoryDisk};
 use ckrt_drive::{Drive, DriveFault, Ending, Nobody, Onlooker, Options, Progress, StreamOutput};
 use ckrt_events::Event;
 use ckrt_machine::{Answer, RunEnd};
 use ckrt_recovery::{Config, Session};
-use ckrt_test_sessions::{SMALL, format_outcome, recovered_in_memory, recovery_outcome, submitted};
-use ckrt_test_support::{
-    BOUNDED, COUNTERS, LOOPS, PAIR, READERS, ROUNDS, SIZE, SLEEPERS, expect_bytes, expect_eq,
-    expect_eq_at, filled, image_of, memory_disk, old_disk, stopping_disk,
-};
+use ckrt_test_data::{BOUNDED, COUNTERS, LOOPS, PAIR, READERS, ROUNDS, SIZE, SLEEPERS};
 use std::io::{self, ErrorKind, Write};
 use std::process::Abort;
 

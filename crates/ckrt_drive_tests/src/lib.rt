@@ -6,8 +6,16 @@ mod drive_words;
 #[cfg(test)]
 mod drives;
 #[cfg(test)]
+mod expect;
+#[cfg(test)]
 mod jobs;
 #[cfg(test)]
+mod program;
+#[cfg(test)]
 mod second_format;
+#[cfg(test)]
+mod sessions;
+#[cfg(test)]
+mod small_disk;
 #[cfg(test)]
 mod words;

@@ -1,8 +1,10 @@
 //! A disk that is formatted a second time: it keeps its program, byte for byte.
 
-use crate::jobs::{expect_fault, expect_output};
-use ckrt_test_support::{IMAGE, SIZE, expect_eq, remove_file, write_file};
-use std::fs::{self, File, Files};
+use crate::expect::expect_eq;
+use crate::program::Step::{self, Fails, Prints, Remove, Write};
+use crate::program::{bytes_in, play};
+use ckrt_test_data::{IMAGE, SIZE};
+use std::fs::{File, Files};
 use std::process::Abort;
 
 const FIRST: &str = "format second_a.disk second_a.img --pages 16 --journal 4096";
@@ -16,59 +18,51 @@ const RUN: &str = "run second_a.disk";
 const HOLDS_A_PROGRAM: &str =
     "the disk second_a.disk: it holds a program already, and is unchanged; `ckrt run` goes on with it\nckrt: AlreadyFormatted\n";
 
-/// The bytes of the disk.
-fn disk<R: Abort + Files<File = File> + AllocGlobal>(rt: &R) -> Vec<u8> {
-    fs::read(rt, "second_a.disk").expect(rt, "the file is read")
-}
-
 /// A disk with a program that has run.
-fn make<R: Abort + Files<File = File> + AllocGlobal>(rt: &R) {
-    write_file(rt, "second_a.img", &IMAGE);
-    write_file(rt, "second_b.img", &[0; 8]);
-    expect_output(rt, FIRST, "", "formatted 348160\n");
-    let lines = "place 0 1\nrun 0 3\ncommit\n";
-    let replies = "ok 1 placed\nok 2 ran 3 on\nack 2\nout 0 41\n";
-    expect_output(rt, RUN, lines, replies);
-}
-
-/// Another image in the same configuration changes nothing of the file.
-fn expect_kept<R: Abort + Files<File = File> + AllocGlobal>(rt: &R) {
-    let before = disk(rt);
-    expect_fault(rt, SAME_SIZE, HOLDS_A_PROGRAM);
-    let after = disk(rt);
-    expect_eq(rt, before.len(), SIZE);
-    assert!(rt; before.as_slice() == after.as_slice());
-}
-
-/// A configuration that needs a longer file adds zeros to it, and changes nothing of what was there.
-fn expect_only_longer<R: Abort + Files<File = File> + AllocGlobal>(rt: &R) {
-    let before = disk(rt);
-    expect_fault(rt, LARGER, HOLDS_A_PROGRAM);
-    let after = disk(rt);
-    expect_eq(rt, after.len(), 864_256);
-    assert!(rt; after.starts_with(before.as_slice()));
-    assert!(rt; after.iter().skip(SIZE).all(|byte| *byte == 0));
-}
+const MADE: &[Step] = &[
+    Write("second_a.img", &IMAGE),
+    Write("second_b.img", &[0; 8]),
+    Prints(FIRST, "", "formatted 348160\n"),
+    Prints(
+        RUN,
+        "place 0 1\nrun 0 3\ncommit\n",
+        "ok 1 placed\nok 2 ran 3 on\nack 2\nout 0 41\n",
+    ),
+];
 
 /// The program goes on, with its own image and configuration.
-fn expect_goes_on<R: Abort + Files<File = File> + AllocGlobal>(rt: &R) {
-    let lines = "run 0 9\ncheckpoint\n";
-    let replies = "out 0 41\nok 3 ran 3 end\nack 3\n";
-    expect_output(rt, RUN, lines, replies);
+const GOES_ON: &[Step] = &[
+    Prints(
+        RUN,
+        "run 0 9\ncheckpoint\n",
+        "out 0 41\nok 3 ran 3 end\nack 3\n",
+    ),
+    Remove("second_a.disk"),
+    Remove("second_a.img"),
+    Remove("second_b.img"),
+];
+
+/// A second format is refused, and adds zeros alone, up to this size.
+fn expect_kept<R: Abort + Files<File = File> + AllocGlobal>(
+    rt: &R,
+    words: &'static str,
+    size: usize,
+) {
+    let before = bytes_in(rt, "second_a.disk");
+    play(rt, &[Fails(words, HOLDS_A_PROGRAM)]);
+    let after = bytes_in(rt, "second_a.disk");
+    expect_eq(rt, before.len(), SIZE);
+    expect_eq(rt, after.len(), size);
+    expect_eq(rt, after.starts_with(before.as_slice()), true);
+    expect_eq(rt, after.iter().skip(SIZE).all(|byte| *byte == 0), true);
 }
 
-/// The files go.
-fn remove<R: Abort + Files<File = File>>(rt: &R) {
-    remove_file(rt, "second_a.disk");
-    remove_file(rt, "second_a.img");
-    remove_file(rt, "second_b.img");
-}
-
+// Another image in the same configuration changes nothing of the file. A configuration that needs a longer one adds zeros to
+// it, and changes nothing of what was there.
 #[test]
 fn a_disk_that_is_formatted_twice_keeps_its_program(rt: HostRuntime) {
-    make(&rt);
-    expect_kept(&rt);
-    expect_only_longer(&rt);
-    expect_goes_on(&rt);
-    remove(&rt);
+    play(&rt, MADE);
+    expect_kept(&rt, SAME_SIZE, SIZE);
+    expect_kept(&rt, LARGER, 864_256);
+    play(&rt, GOES_ON);
 }

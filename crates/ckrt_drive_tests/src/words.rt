@@ -1,12 +1,24 @@
-use ckrt_test_support::expect_eq_at;
+//! Words of the program, and the jobs that they name.
+
+use crate::expect::{expect_eq, expect_eq_at};
 use ckrt_words::{DriveJob, FormatJob, Job, WordsFault, read_words};
 use std::process::Abort;
 
+/// Words, and the job that they name.
+type Named = (&'static [&'static str], Job<'static>);
+
 /// Words that name a job.
-fn expect_job<'a, R: Abort + AllocGlobal>(rt: &R, words: &'a [&'a str], job: Job<'a>) {
+fn expect_job<R: Abort + AllocGlobal>(rt: &R, words: &'static [&'static str], want: Job<'static>) {
     match read_words(rt.alloc(), words) {
-        Ok(read) => assert!(rt; read == job),
-        Err(_) => assert!(rt; false, "a fault"),
+        Ok(job) => expect_eq(rt, job, want),
+        Err(_) => panic!(rt; "a fault"),
+    }
+}
+
+/// Each of them.
+fn expect_jobs<R: Abort + AllocGlobal>(rt: &R, rows: &[Named]) {
+    for (words, job) in rows {
+        expect_job(rt, words, *job);
     }
 }
 
@@ -15,13 +27,23 @@ fn is_usage(text: &str, part: &str) -> bool {
     text.contains(part) && (text.contains("--help") || text.contains("Usage: "))
 }
 
-/// Words that name no job, and what the text on them has in it, besides how the program is used.
-fn expect_usage<'a, R: Abort + AllocGlobal>(rt: &R, words: &'a [&'a str], part: &str) {
+/// Words, and what the text on them has in it, besides how the program is used.
+type Unnamed = (&'static [&'static str], &'static str);
+
+/// Words that name no job.
+fn expect_usage<R: Abort + AllocGlobal>(rt: &R, words: &'static [&'static str], part: &str) {
     match read_words(rt.alloc(), words) {
         Err(WordsFault::Usage(text)) => {
             expect_eq_at(rt, text.as_str(), is_usage(text.as_str(), part), true)
         }
         _ => expect_eq_at(rt, part, false, true),
+    }
+}
+
+/// Each of them.
+fn expect_usages<R: Abort + AllocGlobal>(rt: &R, rows: &[Unnamed]) {
+    for (words, part) in rows {
+        expect_usage(rt, words, part);
     }
 }
 
@@ -32,60 +54,6 @@ const DEFAULTS: FormatJob<'static> = FormatJob {
     harts: 1,
     journal: 65_536,
 };
-
-#[test]
-fn no_words(rt: HostRuntime) {
-    expect_job(&rt, &[], Job::Stored);
-}
-
-#[test]
-fn a_run(rt: HostRuntime) {
-    expect_job(&rt, &["run", "disk file"], Job::Run("disk file"));
-    expect_job(&rt, &["run", "--", "-d"], Job::Run("-d"));
-}
-
-#[test]
-fn a_format_with_its_defaults(rt: HostRuntime) {
-    expect_job(&rt, &["format", "d", "i"], Job::Format(DEFAULTS));
-}
-
-#[test]
-fn a_format_with_every_option(rt: HostRuntime) {
-    let all = FormatJob {
-        disk: "d",
-        image: "i",
-        pages: 16,
-        harts: 8,
-        journal: 4_096,
-    };
-    expect_job(
-        &rt,
-        &[
-            "format",
-            "d",
-            "i",
-            "--pages",
-            "16",
-            "--harts",
-            "8",
-            "--journal",
-            "4096",
-        ],
-        Job::Format(all),
-    );
-    expect_job(
-        &rt,
-        &[
-            "format",
-            "--journal=4096",
-            "--harts=8",
-            "d",
-            "--pages=16",
-            "i",
-        ],
-        Job::Format(all),
-    );
-}
 
 const DRIVE: DriveJob<'static> = DriveJob {
     disk: "d",
@@ -98,104 +66,190 @@ const DRIVE: DriveJob<'static> = DriveJob {
     from: None,
 };
 
+const STORED: &[Named] = &[(&[], Job::Stored)];
+
+#[test]
+fn no_words(rt: HostRuntime) {
+    expect_jobs(&rt, STORED);
+}
+
+const RUNS: &[Named] = &[
+    (&["run", "disk file"], Job::Run("disk file")),
+    (&["run", "--", "-d"], Job::Run("-d")),
+];
+
+#[test]
+fn a_run(rt: HostRuntime) {
+    expect_jobs(&rt, RUNS);
+}
+
+const FORMAT: &[Named] = &[(&["format", "d", "i"], Job::Format(DEFAULTS))];
+
+#[test]
+fn a_format_with_its_defaults(rt: HostRuntime) {
+    expect_jobs(&rt, FORMAT);
+}
+
+const EVERY_FORMAT_OPTION: FormatJob<'static> = FormatJob {
+    disk: "d",
+    image: "i",
+    pages: 16,
+    harts: 8,
+    journal: 4_096,
+};
+
+const FULL_FORMATS: &[Named] = &[
+    (
+        &[
+            "format",
+            "d",
+            "i",
+            "--pages",
+            "16",
+            "--harts",
+            "8",
+            "--journal",
+            "4096",
+        ],
+        Job::Format(EVERY_FORMAT_OPTION),
+    ),
+    (
+        &[
+            "format",
+            "--journal=4096",
+            "--harts=8",
+            "d",
+            "--pages=16",
+            "i",
+        ],
+        Job::Format(EVERY_FORMAT_OPTION),
+    ),
+];
+
+#[test]
+fn a_format_with_every_option(rt: HostRuntime) {
+    expect_jobs(&rt, FULL_FORMATS);
+}
+
+const WITHOUT_OUTPUT: DriveJob<'static> = DriveJob {
+    output: None,
+    ..DRIVE
+};
+
+const DRIVES: &[Named] = &[
+    (&["drive", "d", "--output", "o"], Job::Drive(DRIVE)),
+    (&["drive", "d"], Job::Drive(WITHOUT_OUTPUT)),
+];
+
+const NO_DISK: &[Unnamed] = &[(&["drive", "--output", "o"], "<DISK>")];
+
 #[test]
 fn a_drive_with_its_defaults(rt: HostRuntime) {
-    expect_job(&rt, &["drive", "d", "--output", "o"], Job::Drive(DRIVE));
-    let printed = DriveJob {
-        output: None,
-        ..DRIVE
-    };
-    expect_job(&rt, &["drive", "d"], Job::Drive(printed));
-    expect_usage(&rt, &["drive", "--output", "o"], "<DISK>");
+    expect_jobs(&rt, DRIVES);
+    expect_usages(&rt, NO_DISK);
 }
+
+const EVERY_DRIVE_OPTION: DriveJob<'static> = DriveJob {
+    turn: 0,
+    rounds: 4_294_967_295,
+    events: Some(18_446_744_073_709_551_615),
+    seed: Some(7),
+    progress: Some(10),
+    from: Some(18_446_744_073_709_551_615),
+    ..DRIVE
+};
+
+const FULL_DRIVES: &[Named] = &[(
+    &[
+        "drive",
+        "d",
+        "--output=o",
+        "--turn=0",
+        "--rounds-per-commit",
+        "4294967295",
+        "--events",
+        "18446744073709551615",
+        "--seed=7",
+        "--progress",
+        "10",
+        "--from=18446744073709551615",
+    ],
+    Job::Drive(EVERY_DRIVE_OPTION),
+)];
+
+const NO_DRIVE_NUMBERS: &[Unnamed] = &[
+    (&["drive", "d", "--from", "x"], "[--from OFFSET]"),
+    (
+        &["drive", "d", "--output", "o", "--turn", "x"],
+        "[--rounds-per-commit NUMBER OF ROUNDS]",
+    ),
+];
 
 #[test]
 fn a_drive_with_every_option(rt: HostRuntime) {
-    let all = DriveJob {
-        turn: 0,
-        rounds: 4_294_967_295,
-        events: Some(18_446_744_073_709_551_615),
-        seed: Some(7),
-        progress: Some(10),
-        from: Some(18_446_744_073_709_551_615),
-        ..DRIVE
-    };
-    expect_job(
-        &rt,
-        &[
-            "drive",
-            "d",
-            "--output=o",
-            "--turn=0",
-            "--rounds-per-commit",
-            "4294967295",
-            "--events",
-            "18446744073709551615",
-            "--seed=7",
-            "--progress",
-            "10",
-            "--from=18446744073709551615",
-        ],
-        Job::Drive(all),
-    );
-    expect_usage(&rt, &["drive", "d", "--from", "x"], "[--from OFFSET]");
-    expect_usage(
-        &rt,
-        &["drive", "d", "--output", "o", "--turn", "x"],
-        "[--rounds-per-commit NUMBER OF ROUNDS]",
-    );
+    expect_jobs(&rt, FULL_DRIVES);
+    expect_usages(&rt, NO_DRIVE_NUMBERS);
 }
+
+const OUT_OF_RANGE: FormatJob<'static> = FormatJob {
+    pages: 4_294_967_295,
+    harts: 0,
+    ..DEFAULTS
+};
+
+const LARGE: &[Named] = &[(
+    &["format", "d", "i", "--pages", "4294967295", "--harts", "00"],
+    Job::Format(OUT_OF_RANGE),
+)];
 
 #[test]
 fn a_number_out_of_a_disks_range_is_a_number(rt: HostRuntime) {
-    let large = FormatJob {
-        pages: 4_294_967_295,
-        harts: 0,
-        ..DEFAULTS
-    };
-    expect_job(
-        &rt,
-        &["format", "d", "i", "--pages", "4294967295", "--harts", "00"],
-        Job::Format(large),
-    );
+    expect_jobs(&rt, LARGE);
 }
+
+const NO_NUMBERS: &[Unnamed] = &[
+    (&["format", "d", "i", "--pages", "many"], "many"),
+    (&["format", "d", "i", "--pages", "4294967296"], "4294967296"),
+    (&["format", "d", "i", "--harts=-1"], "-1"),
+    (&["format", "d", "i", "--harts", "-1"], "-1"),
+    (&["format", "d", "i", "--journal", ""], "--journal"),
+    (&["format", "d", "i", "--journal"], "--journal"),
+];
 
 #[test]
 fn options_that_are_no_number(rt: HostRuntime) {
-    expect_usage(&rt, &["format", "d", "i", "--pages", "many"], "many");
-    expect_usage(
-        &rt,
-        &["format", "d", "i", "--pages", "4294967296"],
-        "4294967296",
-    );
-    expect_usage(&rt, &["format", "d", "i", "--harts=-1"], "-1");
-    expect_usage(&rt, &["format", "d", "i", "--harts", "-1"], "-1");
-    expect_usage(&rt, &["format", "d", "i", "--journal", ""], "--journal");
-    expect_usage(&rt, &["format", "d", "i", "--journal"], "--journal");
+    expect_usages(&rt, NO_NUMBERS);
 }
+
+const WRONG: &[Unnamed] = &[
+    (&["frobnicate"], "frobnicate"),
+    (&["--page"], "--page"),
+    (&["--"], "Usage: "),
+    (&["run"], "Usage: ckrt run <DISK>"),
+    (&["run", "d", "e"], "'e'"),
+    (&["run", "d", "--pages", "16"], "--pages"),
+    (&["format", "d"], "<IMAGE>"),
+    (&["format", "d", "i", "j"], "'j'"),
+    (
+        &["format", "d", "i", "--pages", "16", "--pages", "17"],
+        "--pages",
+    ),
+    (&["help"], "help"),
+];
 
 #[test]
 fn wrong_words(rt: HostRuntime) {
-    expect_usage(&rt, &["frobnicate"], "frobnicate");
-    expect_usage(&rt, &["--page"], "--page");
-    expect_usage(&rt, &["--"], "Usage: ");
-    expect_usage(&rt, &["run"], "Usage: ckrt run <DISK>");
-    expect_usage(&rt, &["run", "d", "e"], "'e'");
-    expect_usage(&rt, &["run", "d", "--pages", "16"], "--pages");
-    expect_usage(&rt, &["format", "d"], "<IMAGE>");
-    expect_usage(&rt, &["format", "d", "i", "j"], "'j'");
-    expect_usage(
-        &rt,
-        &["format", "d", "i", "--pages", "16", "--pages", "17"],
-        "--pages",
-    );
-    expect_usage(&rt, &["help"], "help");
+    expect_usages(&rt, WRONG);
 }
+
+const HELP: &[Unnamed] = &[
+    (&["--help"], "format"),
+    (&["-h"], "run"),
+    (&["format", "--help"], "[default: 65536]"),
+    (&["run", "-h"], "<DISK>"),
+];
 
 #[test]
 fn help(rt: HostRuntime) {
-    expect_usage(&rt, &["--help"], "format");
-    expect_usage(&rt, &["-h"], "run");
-    expect_usage(&rt, &["format", "--help"], "[default: 65536]");
-    expect_usage(&rt, &["run", "-h"], "<DISK>");
+    expect_usages(&rt, HELP);
 }

@@ -1,12 +1,12 @@
 //! Guests whose threads are cancelled.
 ghost use Rattle.ckrt_events.specs.Bytes.{IsInRange};
 
+use crate::expect::{expect_eq, image_of};
 use crate::schedules::{NOTHING_ELSE, Schedule, expect_console};
 use crate::service::expect_replies;
-use ckrt_calls::Status;
 use ckrt_events::Event;
 use ckrt_machine::{Answer, Machine, RunEnd};
-use ckrt_test_support::{expect_eq, image_of};
+use ckrt_state::Status;
 use std::process::Abort;
 
 /// Becomes asynchronous, cancels itself, and would loop for ever.

@@ -1,10 +1,11 @@
 //! One guest thread, from lines to replies.
 
+use crate::expect::{copied, expect_eq, expect_eq_at, filled, image_of, push};
 use crate::service::{expect_replies, push_reply};
+use crate::small_disk::SMALL;
 use ckrt_main::{Config, ServeFault, serve_image};
 use ckrt_memory::{Memory, MemoryError};
-use ckrt_test_sessions::SMALL;
-use ckrt_test_support::{SIX_WORDS, copied, expect_eq, expect_eq_at, filled, image_of, push};
+use ckrt_test_data::SIX_WORDS;
 use std::process::Abort;
 
 /// Puts its argument for ever.

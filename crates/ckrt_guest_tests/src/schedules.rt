@@ -1,8 +1,8 @@
 //! A guest under several schedules, from lines to what it puts to the console.
 
+use crate::expect::{expect_eq_at, push, put_by};
 use crate::service::replies;
 use ckrt_main::Config;
-use ckrt_test_support::{expect_eq_at, push, put_by};
 use std::process::Abort;
 
 /// Harts, steps in a row, and rounds.

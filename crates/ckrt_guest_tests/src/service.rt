@@ -1,8 +1,8 @@
 //! A service from lines to replies, for the other tests.
 
+use crate::expect::{expect_bytes, expect_eq, push};
+use crate::small_disk::SMALL;
 use ckrt_main::{Config, serve_image};
-use ckrt_test_sessions::SMALL;
-use ckrt_test_support::{expect_bytes, expect_eq, push};
 use std::process::Abort;
 
 /// An image of these words, little-endian.

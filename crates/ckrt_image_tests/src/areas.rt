@@ -6,16 +6,17 @@ ghost use Rattle.std.specs.Prelude.{IsTrue, ◌≡◌, ◌≤◌, true};
 ghost use Rattle.ckrt_memory.specs.Marks.{IsAllDirty};
 ghost use Rattle.ckrt_checkpoint.specs.Layout.{is_valid, size_needed};
 
+use crate::expect::{
+    copied, expect_bytes, expect_eq, expect_eq_at, expect_text, filled, lay, memory_disk,
+    stopping_disk,
+};
 use crate::small_disk::{SMALL, formatted};
-use ckrt_calls::Tables;
 use ckrt_checkpoint::{Area, AreaFault, SavePoint, pick_area, read_area, write_area};
 use ckrt_disk::Disk;
 use ckrt_memory::Memory;
+use ckrt_state::Tables;
 use ckrt_tables::{HELD_LIMIT, Held, TABLES_ROOM, encode_tables};
-use ckrt_test_support::{
-    FILLS, IMAGE, SIZE, copied, expect_bytes, expect_eq, expect_eq_at, expect_text, filled, lay,
-    memory_disk, stopping_disk,
-};
+use ckrt_test_data::{FILLS, IMAGE, SIZE};
 use std::process::Abort;
 
 /// Where area 1 begins, and its journal.

@@ -1,12 +1,13 @@
 //! A listing with a line of every kind, written down from the format.
 
-use ckrt_calls::{Status, Tables};
+use crate::expect::{bytes_of, expect_bytes, expect_eq};
 use ckrt_inspect::{write_listing, write_listing_with_code};
 use ckrt_machine::Machine;
 use ckrt_memory::Memory;
 use ckrt_rv32i::Cause;
+use ckrt_state::{Status, Tables};
 use ckrt_tables::decode_tables;
-use ckrt_test_support::{EVERYTHING, bytes_of, expect_bytes, expect_eq};
+use ckrt_test_data::EVERYTHING;
 use std::process::Abort;
 
 /// A memory of zeros but for one instruction, at 0x1004.

@@ -1,11 +1,10 @@
 // Worked values of a freshly formatted disk, and what is refused.
 
+use crate::expect::{expect_eq, expect_eq_at, expect_part, filled, memory_disk, stopping_disk};
 use crate::small_disk::{SMALL, expect_format, format_outcome};
 use ckrt_disk::{Disk, FailingDisk};
 use ckrt_image::{Config, FormatFault};
-use ckrt_test_support::{
-    IMAGE, SIZE, expect_eq, expect_eq_at, expect_part, filled, memory_disk, stopping_disk,
-};
+use ckrt_test_data::{IMAGE, SIZE};
 use std::process::Abort;
 
 /// Offsets, and the bytes from there on.

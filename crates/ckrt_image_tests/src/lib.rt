@@ -6,6 +6,8 @@ mod areas;
 #[cfg(test)]
 mod every_listing;
 #[cfg(test)]
+mod expect;
+#[cfg(test)]
 mod formatting;
 #[cfg(test)]
 mod inspecting;

@@ -1,7 +1,7 @@
 //! Words from outside, with their texts and the instructions that they encode.
 
+use crate::expect::{expect_bytes, expect_eq};
 use ckrt_rv32i::{AluOp, Condition, ImmOp, Instr, Size, decode, encode, instr_text, parse_instr};
-use ckrt_test_support::{expect_bytes, expect_eq};
 use std::process::Abort;
 
 const WORDS: &[(u32, &str, Instr)] = &[

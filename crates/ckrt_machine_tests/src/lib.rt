@@ -10,6 +10,8 @@ mod cancellation;
 #[cfg(test)]
 mod conditions;
 #[cfg(test)]
+mod expect;
+#[cfg(test)]
 mod instructions;
 #[cfg(test)]
 mod keys;
@@ -22,11 +24,11 @@ mod mutexes;
 #[cfg(test)]
 mod program;
 #[cfg(test)]
+mod routines;
+#[cfg(test)]
 mod rwlocks;
 #[cfg(test)]
 mod seats;
-#[cfg(test)]
-mod routines;
 #[cfg(test)]
 mod self_modifying;
 #[cfg(test)]

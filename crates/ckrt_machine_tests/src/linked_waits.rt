@@ -1,5 +1,6 @@
 //! The table of waits beside a plain list, and how often a hand-over reaches an entry of the table.
 
+use crate::expect::expect_eq;
 use arrayvec::ArrayVec;
 use ckrt_rv32i::Regs;
 use ckrt_thread::{
@@ -65,7 +66,7 @@ fn all_threads<R: Abort + AllocGlobal>(rt: &R) -> Threads {
         "memory for the threads",
     );
     for id in 1..=64u8 {
-        assert!(rt; threads.append_thread(id, live(id == 1)));
+        expect_eq(rt, threads.append_thread(id, live(id == 1)), true);
     }
     threads
 }
@@ -108,7 +109,7 @@ type Plain = Vec<Wait>;
 /// A thread begins to wait, where it doesn't wait yet.
 fn begin<R: Abort>(rt: &R, threads: &mut Threads, plain: &mut Plain, wait: Wait) {
     let waits = plain.iter().any(|other| other.thread == wait.thread);
-    assert!(rt; threads.append_wait(wait) == !waits);
+    expect_eq(rt, threads.append_wait(wait), !waits);
     if !waits {
         plain.push(wait).expect(rt, "memory for a wait");
     }
@@ -140,7 +141,7 @@ fn wake<R: Abort>(rt: &R, threads: &mut Threads, plain: &mut Plain, object: Obje
                 reason: waiter.reason,
                 deadline: wait.deadline,
             };
-            assert_eq!(rt; row_of(&got), row_of(&wait));
+            expect_eq(rt, row_of(&got), row_of(&wait));
             assert!(rt; waiter.reached <= MOST_REACHED);
             plain.retain(|other| other.thread != wait.thread);
         }
@@ -152,16 +153,16 @@ fn wake<R: Abort>(rt: &R, threads: &mut Threads, plain: &mut Plain, object: Obje
 /// The table has the waits of the plain list, in its order, and each object the queue that the list has for it.
 fn expect_same<R: Abort>(rt: &R, threads: &Threads, plain: &[Wait]) {
     let waits = threads.waits();
-    assert_eq!(rt; waits.len(), plain.len());
+    expect_eq(rt, waits.len(), plain.len());
     for (wait, want) in waits.as_slice().iter().zip(plain) {
-        assert_eq!(rt; row_of(wait), row_of(want));
+        expect_eq(rt, row_of(wait), row_of(want));
     }
     for number in 0..32 {
         let object = object_of(number);
         let got = threads.first_waiter(object).map(|wait| row_of(&wait));
-        assert_eq!(rt; got, first_in(plain, object).map(|wait| row_of(&wait)));
+        expect_eq(rt, got, first_in(plain, object).map(|wait| row_of(&wait)));
         let count = plain.iter().filter(|wait| is_for(wait, object)).count();
-        assert_eq!(rt; threads.waiter_count(object), count);
+        expect_eq(rt, threads.waiter_count(object), count);
     }
 }
 
@@ -203,14 +204,14 @@ fn lock<R: Abort>(rt: &R, threads: &mut Threads, thread: ThreadId, mutex: u32) {
         reason: Reason::Lock(mutex),
         deadline: None,
     };
-    assert!(rt; threads.append_wait(wait));
+    expect_eq(rt, threads.append_wait(wait), true);
 }
 
 /// The first waiter of a mutex is this thread, and few entries are reached until it is taken out.
 fn expect_few<R: Abort>(rt: &R, threads: &mut Threads, mutex: u32, thread: ThreadId) {
     match threads.wake_first(Object::Mutex(mutex)) {
         Some(waiter) => {
-            assert_eq!(rt; waiter.thread, thread);
+            expect_eq(rt, waiter.thread, thread);
             assert!(rt; waiter.reached > 0 && waiter.reached <= MOST_REACHED);
         }
         None => panic!(rt; "nobody waits for {mutex}"),
@@ -228,13 +229,17 @@ fn few_entries_are_reached_among_63_waits(rt: HostRuntime) {
     for thread in 62..=64u8 {
         lock(&rt, &mut threads, thread, 0x3000);
     }
-    assert_eq!(&rt; threads.wait_count(), 63);
+    expect_eq(&rt, threads.wait_count(), 63);
     expect_few(&rt, &mut threads, 0x3000, 62);
     for thread in 2..=61u8 {
         expect_few(&rt, &mut threads, 0x2000, thread);
     }
     expect_few(&rt, &mut threads, 0x3000, 63);
     expect_few(&rt, &mut threads, 0x3000, 64);
-    assert!(&rt; threads.wake_first(Object::Mutex(0x2000)).is_none());
-    assert_eq!(&rt; threads.wait_count(), 0);
+    expect_eq(
+        &rt,
+        threads.wake_first(Object::Mutex(0x2000)).is_none(),
+        true,
+    );
+    expect_eq(&rt, threads.wait_count(), 0);
 }

@@ -1,8 +1,8 @@
 //! Marks of changed pages: which pages are dirty for which area, in a memory of 16 pages.
 
+use crate::expect::expect_eq_at;
 use ckrt_memory::Memory;
 use ckrt_rv32i::{Bus, Size};
-use ckrt_test_support::expect_eq_at;
 use std::process::Abort;
 
 /// A new memory of 16 pages.

@@ -2,9 +2,9 @@
 ghost use Rattle.ckrt_state.specs.WellFormed.{IsWellFormed};
 
 use crate::calls::{call_as, is_running, tables_with, tick_by};
+use crate::expect::expect_eq_at;
 use ckrt_calls::{INPUT_LIMIT, Tables, act_on_request, close_input, next_handler, take_input};
 use ckrt_rv32i::Regs;
-use ckrt_test_support::expect_eq_at;
 use ckrt_thread::{CallResult, Object, Thread, ThreadId};
 use std::marker::Model;
 use std::process::Abort;

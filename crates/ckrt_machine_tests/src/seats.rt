@@ -3,13 +3,13 @@
 ghost use Rattle.std.specs.Prelude.{nat_lt, ◌-◌, ◌≡◌, ◌≤◌, true, length};
 ghost use Rattle.ckrt_objects.specs.AddressMap.{is_rising};
 
+use crate::expect::{expect_eq, expect_eq_at};
 use arrayvec::ArrayVec;
 use ckrt_mutex::Mutex;
 use ckrt_objects::{
     Entry, Grant, Named, are_limit_in_use, are_too_few, get, grant_waiters, is_full, is_in_use,
     is_named_by_wait, remove, store,
 };
-use ckrt_test_support::{expect_eq, expect_eq_at};
 use ckrt_thread::{CallResult, Object, Reason, Threads, Wait};
 use std::process::Abort;
 

@@ -1,8 +1,8 @@
 //! Guests that write their own code, in bursts of any length.
 
+use crate::expect::{expect_bytes, expect_eq, expect_eq_at, image_of, push};
 use ckrt_memory::Memory;
 use ckrt_rv32i::{Outcome, Regs, execute};
-use ckrt_test_support::{expect_bytes, expect_eq, expect_eq_at, image_of, push};
 use std::process::Abort;
 
 /// A guest that makes a call: its words from address 4,096 on, the instructions up to the call, and what x10 has then.

@@ -1,15 +1,12 @@
 //! Checkpoints of changed pages: a guest that stores into one page, and which pages are written for it.
 
+use crate::expect::{copied, expect_eq, expect_eq_at, stopping_disk};
+use crate::sessions::{expect_checkpoint, is_saved};
+use crate::small_disk::{formatted, recovered, recovered_in_memory};
+use crate::two_areas::save_once;
 use ckrt_disk::{Disk, StoppingDisk};
-use ckrt_events::Event;
-use ckrt_machine::{Answer, RunEnd};
 use ckrt_memory::Memory;
 use ckrt_recovery::Session;
-use ckrt_test_sessions::{
-    expect_answer, expect_checkpoint, expect_commit, formatted, is_saved, recovered,
-    recovered_in_memory,
-};
-use ckrt_test_support::{copied, expect_eq, expect_eq_at, stopping_disk};
 use std::process::Abort;
 
 /// lui x5, 2; sw x5, 0(x5): the word 0x2000 goes to the address 0x2000, the first of page 2.
@@ -25,16 +22,6 @@ const CALLS_BEFORE: u64 = 30;
 /// Those behind each later checkpoint: of page 2 into area 0, of page 2 into area 1, and of no page. Each closes a gate by 2
 /// calls, and makes 6 beside its pages.
 const CALLS: [u64; 3] = [39, 48, 56];
-
-/// A commit and a checkpoint of one event, and a commit of the second, which stores.
-fn store<R: Abort, D: Disk>(rt: &R, session: &mut Session<D>) {
-    expect_answer(rt, session, &Event::Place(0, 1), 1, Answer::Placed);
-    expect_commit(rt, session, Ok(1));
-    expect_checkpoint(rt, session, Ok(1));
-    let ran = Answer::Ran(2, RunEnd::On);
-    expect_answer(rt, session, &Event::Run(0, 2), 2, ran);
-    expect_commit(rt, session, Ok(2));
-}
 
 /// A checkpoint, behind which so many writes and syncs were made.
 fn expect_saved<R: Abort>(rt: &R, session: &mut Session<StoppingDisk>, calls: u64) {
@@ -60,7 +47,7 @@ fn expect_stored<R: Abort + AllocGlobal>(rt: &R, image: Vec<u8>, at_call: u64) -
 fn a_checkpoint_writes_the_pages_that_changed(rt: HostRuntime) {
     let disk = stopping_disk(&rt, formatted(&rt, &STORING), 0, &[]);
     let mut session = recovered(&rt, disk);
-    store(&rt, &mut session);
+    save_once(&rt, &mut session);
     expect_eq(&rt, session.disk().calls(), CALLS_BEFORE);
     for calls in CALLS {
         expect_saved(&rt, &mut session, calls);
@@ -81,7 +68,7 @@ fn save_until_it_fails(session: &mut Session<StoppingDisk>) {
 /// The run is stopped at a call of the checkpoints behind the store.
 fn stop_at<R: Abort + AllocGlobal>(rt: &R, image: &[u8], at_call: u64, fill: &[u8]) {
     let mut session = recovered(rt, stopping_disk(rt, copied(rt, image), at_call, fill));
-    store(rt, &mut session);
+    save_once(rt, &mut session);
     save_until_it_fails(&mut session);
     expect_stored(rt, session.into_disk().into_image(), at_call);
 }

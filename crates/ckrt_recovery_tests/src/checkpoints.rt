@@ -1,14 +1,17 @@
 //! Whole checkpoints of a session: what they save and empty, what each stop of one leaves, and how the next life goes on.
 
-use arrayvec::ArrayVec;
+use crate::expect::{copied, expect_eq, expect_eq_at, stopping_disk};
+use crate::power_loss::{confirm, fill_batch};
+use crate::sessions::{
+    expect_answer, expect_checkpoint, expect_commit, expect_output, expect_refusal,
+};
+use crate::small_disk::{formatted, recovered, recovered_in_memory};
+use crate::two_areas::save_once;
 use ckrt_disk::{Disk, MemoryDisk, StoppingDisk};
 use ckrt_events::Event;
 use ckrt_machine::{Answer, RunEnd};
 use ckrt_recovery::{CommitFault, Session, SubmitFault};
-use ckrt_test_sessions::{
-    expect_checkpoint, expect_commit, expect_output, formatted, recovered, recovered_in_memory,
-};
-use ckrt_test_support::{FILLS, IMAGE, copied, expect_eq, expect_eq_at, stopping_disk};
+use ckrt_test_data::{FILLS, IMAGE};
 use std::process::Abort;
 
 /// The calls of the disk up to the second checkpoint: a sync of recovery, 4 of a commit, 21 of a checkpoint, 4 of a commit.
@@ -20,31 +23,10 @@ const CALLS_BEFORE_GATE: u64 = 36;
 
 const CALLS: u64 = 38;
 
-/// An event, and what the session answers.
-fn expect_submit<R: Abort, D: Disk>(
-    rt: &R,
-    session: &mut Session<D>,
-    event: &Event,
-    want: Result<(u64, Answer), SubmitFault>,
-) {
-    assert!(rt; event.in_range());
-    expect_eq(rt, session.submit(event), want);
-}
-
 /// The generation in use, and how many bytes the journal has left for batches.
 fn expect_journal<R: Abort, D: Disk>(rt: &R, session: &Session<D>, generation: u64, room: usize) {
     expect_eq(rt, session.generation(), generation);
     expect_eq(rt, session.room(), room);
-}
-
-/// 62 inputs of 64 bytes, after which the batch has 4,092 of its 4,096 bytes.
-fn fill_batch<R: Abort, D: Disk>(rt: &R, session: &mut Session<D>) {
-    let mut bytes = ArrayVec::new();
-    assert!(rt; bytes.try_extend_from_slice(&[7; 64]).is_ok());
-    let event = Event::Input(bytes);
-    for count in 1..63 {
-        expect_submit(rt, session, &event, Ok((count, Answer::Taken(64))));
-    }
 }
 
 #[test]
@@ -52,19 +34,14 @@ fn a_checkpoint_empties_the_journal(rt: HostRuntime) {
     let mut session = recovered_in_memory(&rt, formatted(&rt, &IMAGE));
     let tick = Event::Tick(1);
     fill_batch(&rt, &mut session);
-    expect_submit(&rt, &mut session, &tick, Err(SubmitFault::BatchFull));
-    expect_submit(
-        &rt,
-        &mut session,
-        &Event::Eof,
-        Err(SubmitFault::JournalFull),
-    );
+    expect_refusal(&rt, &mut session, &tick, SubmitFault::BatchFull);
+    expect_refusal(&rt, &mut session, &Event::Eof, SubmitFault::JournalFull);
     expect_commit(&rt, &mut session, Ok(62));
     expect_journal(&rt, &session, 1, 0);
-    expect_submit(&rt, &mut session, &tick, Err(SubmitFault::JournalFull));
+    expect_refusal(&rt, &mut session, &tick, SubmitFault::JournalFull);
     expect_checkpoint(&rt, &mut session, Ok(62));
     expect_journal(&rt, &session, 2, 4_095);
-    expect_submit(&rt, &mut session, &tick, Ok((63, Answer::Ticked(0))));
+    expect_answer(&rt, &mut session, &tick, 63, Answer::Ticked(0));
 }
 
 /// The session of the next life.
@@ -72,17 +49,11 @@ fn next_life<R: Abort + AllocGlobal>(rt: &R, session: Session<MemoryDisk>) -> Se
     recovered(rt, session.into_disk())
 }
 
-/// The output below an offset is confirmed.
-fn confirm<R: Abort, D: Disk>(rt: &R, session: &mut Session<D>, offset: u64) {
-    assert!(rt; session.confirmed() <= offset && offset <= session.released());
-    session.confirm(offset);
-}
-
 /// The program is placed and runs to its end.
 fn run_to_the_end<R: Abort, D: Disk>(rt: &R, session: &mut Session<D>) {
-    expect_submit(rt, session, &Event::Place(0, 1), Ok((1, Answer::Placed)));
+    expect_answer(rt, session, &Event::Place(0, 1), 1, Answer::Placed);
     let ended = Answer::Ran(6, RunEnd::End);
-    expect_submit(rt, session, &Event::Run(0, 6), Ok((2, ended)));
+    expect_answer(rt, session, &Event::Run(0, 6), 2, ended);
 }
 
 #[test]
@@ -96,16 +67,6 @@ fn output_is_held_over_a_checkpoint(rt: HostRuntime) {
     expect_output(&rt, &mut session, 1, &[]);
     let mut session = next_life(&rt, session);
     expect_output(&rt, &mut session, 0, &[0x41]);
-}
-
-/// A commit and a checkpoint of one event, and a commit of a second: all but the second checkpoint.
-fn run_to_the_second<R: Abort, D: Disk>(rt: &R, session: &mut Session<D>) {
-    expect_submit(rt, session, &Event::Place(0, 1), Ok((1, Answer::Placed)));
-    expect_commit(rt, session, Ok(1));
-    expect_checkpoint(rt, session, Ok(1));
-    let ran = Answer::Ran(2, RunEnd::On);
-    expect_submit(rt, session, &Event::Run(0, 2), Ok((2, ran)));
-    expect_commit(rt, session, Ok(2));
 }
 
 /// So many writes and syncs were made.
@@ -132,15 +93,10 @@ fn a_checkpoint_makes_its_calls(rt: HostRuntime) {
     let disk = stopping_disk(&rt, formatted(&rt, &IMAGE), 0, &[]);
     let mut session = recovered(&rt, disk);
     expect_calls(&rt, &session, 1);
-    expect_submit(
-        &rt,
-        &mut session,
-        &Event::Place(0, 1),
-        Ok((1, Answer::Placed)),
-    );
+    expect_answer(&rt, &mut session, &Event::Place(0, 1), 1, Answer::Placed);
     expect_committed(&rt, &mut session, 1, 5, 26);
     let ran = Answer::Ran(2, RunEnd::On);
-    expect_submit(&rt, &mut session, &Event::Run(0, 2), Ok((2, ran)));
+    expect_answer(&rt, &mut session, &Event::Run(0, 2), 2, ran);
     // The gate of area 0 is open: 2 calls more.
     expect_committed(&rt, &mut session, 2, CALLS_BEFORE, CALLS);
     expect_journal(&rt, &session, 3, 4_095);
@@ -149,14 +105,9 @@ fn a_checkpoint_makes_its_calls(rt: HostRuntime) {
 /// What a stop at a call of the second checkpoint leaves.
 fn stopped<R: Abort + AllocGlobal>(rt: &R, image: &[u8], at_call: u64, fill: &[u8]) -> Vec<u8> {
     let mut session = recovered(rt, stopping_disk(rt, copied(rt, image), at_call, fill));
-    run_to_the_second(rt, &mut session);
+    save_once(rt, &mut session);
     expect_checkpoint(rt, &mut session, Err(CommitFault::Device));
-    expect_submit(
-        rt,
-        &mut session,
-        &Event::Run(0, 1),
-        Err(SubmitFault::Failed),
-    );
+    expect_refusal(rt, &mut session, &Event::Run(0, 1), SubmitFault::Failed);
     expect_checkpoint(rt, &mut session, Err(CommitFault::Failed));
     session.into_disk().into_image()
 }
@@ -173,7 +124,7 @@ fn expect_left<R: Abort + AllocGlobal>(
     expect_eq_at(rt, at_call, session.acknowledged(), 2);
     expect_eq_at(rt, at_call, session.generation(), generation);
     let ended = Answer::Ran(4, RunEnd::End);
-    expect_submit(rt, &mut session, &Event::Run(0, 9), Ok((3, ended)));
+    expect_answer(rt, &mut session, &Event::Run(0, 9), 3, ended);
     expect_commit(rt, &mut session, Ok(3));
     expect_output(rt, &mut session, 0, &[0x41]);
 }

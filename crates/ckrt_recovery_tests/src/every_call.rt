@@ -1,16 +1,17 @@
 //! Every call of the disk: a format, a recovery, a commit and two checkpoints in a row, of which one call stops the disk or
 //! fails, and how the program goes on from what is left.
 
+use crate::expect::{expect_eq, expect_eq_at, filled, memory_disk, stopping_disk};
+use crate::sessions::{
+    expect_checkpoint, expect_commit, expect_output, expect_refusal, expect_same_step,
+    is_committed, is_saved, step_if_accepted, submitted,
+};
+use crate::small_disk::{SMALL, format_outcome, recovered, recovered_in_memory, recovery_outcome};
 use ckrt_disk::{Disk, FailingDisk, StoppingDisk};
 use ckrt_events::Event;
 use ckrt_machine::Machine;
 use ckrt_recovery::{CommitFault, FormatFault, RecoverFault, Session, SubmitFault};
-use ckrt_test_sessions::{
-    SMALL, expect_checkpoint, expect_commit, expect_output, expect_refusal, expect_same_step,
-    format_outcome, is_committed, is_saved, recovered, recovered_in_memory, recovery_outcome,
-    step_if_accepted, submitted,
-};
-use ckrt_test_support::{IMAGE, SIZE, expect_eq, expect_eq_at, filled, memory_disk, stopping_disk};
+use ckrt_test_data::{IMAGE, SIZE};
 use std::process::Abort;
 
 /// The events by number: the thread is placed, puts an `A` by its first three steps, and then takes one more at a time.

@@ -1,9 +1,10 @@
 //! Every bit of the superblock, of the header in use and of what stands at the beginning of the others, turned by itself:
 //! what the disk recovers to, field by field as the format lists them.
 
+use crate::expect::{copied, expect_eq_at, memory_disk};
+use crate::small_disk::{formatted, recovery_outcome};
 use ckrt_recovery::RecoverFault;
-use ckrt_test_sessions::{formatted, recovery_outcome};
-use ckrt_test_support::{IMAGE, copied, expect_eq_at, memory_disk};
+use ckrt_test_data::IMAGE;
 use std::process::Abort;
 
 /// The header of area 0, that of area 1, and the first batches of the two journals.

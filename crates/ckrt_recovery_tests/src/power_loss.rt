@@ -1,18 +1,19 @@
 //! Power loss: what a stop or a failure of the disk at each call leaves, and how the program goes on from it.
 
+use crate::expect::{copied, expect_eq, expect_eq_at, filled, memory_disk, stopping_disk};
+use crate::sessions::{
+    expect_answer, expect_commit, expect_output, expect_refusal, expect_same_step, is_committed,
+    step_if_accepted, submitted,
+};
+use crate::small_disk::{
+    SMALL, format_outcome, formatted, recovered, recovered_in_memory, recovery_outcome,
+};
 use arrayvec::ArrayVec;
 use ckrt_disk::{Disk, FailingDisk};
 use ckrt_events::Event;
 use ckrt_machine::{Answer, Machine, RunEnd};
 use ckrt_recovery::{CommitFault, FormatFault, RecoverFault, Session, SubmitFault};
-use ckrt_test_sessions::{
-    SMALL, expect_answer, expect_commit, expect_output, expect_refusal, expect_same_step,
-    format_outcome, formatted, is_committed, recovered, recovered_in_memory, recovery_outcome,
-    step_if_accepted, submitted,
-};
-use ckrt_test_support::{
-    FILLS, IMAGE, SIZE, copied, expect_eq, expect_eq_at, filled, memory_disk, stopping_disk,
-};
+use ckrt_test_data::{FILLS, IMAGE, SIZE};
 use std::process::Abort;
 
 /// The event is submitted and committed, where the disk doesn't fail.
@@ -245,7 +246,7 @@ fn long_input() -> Event {
 }
 
 /// 62 inputs of 64 bytes, after which the batch takes no more.
-fn fill_batch<R: Abort, D: Disk>(rt: &R, session: &mut Session<D>) {
+pub fn fill_batch<R: Abort, D: Disk>(rt: &R, session: &mut Session<D>) {
     let event = long_input();
     for count in 1..63 {
         expect_answer(rt, session, &event, count, Answer::Taken(64));
@@ -266,7 +267,7 @@ fn batch_and_journal_fill(rt: HostRuntime) {
 }
 
 /// The session's output up to an offset is confirmed.
-fn confirm<R: Abort, D: Disk>(rt: &R, session: &mut Session<D>, offset: u64) {
+pub fn confirm<R: Abort, D: Disk>(rt: &R, session: &mut Session<D>, offset: u64) {
     assert!(rt; session.confirmed() <= offset && offset <= session.released());
     session.confirm(offset);
     expect_eq(rt, session.confirmed(), offset);

@@ -1,9 +1,11 @@
-// Worked values of recovery: what a changed disk recovers to, and what a disk that fails leaves.
+//! Worked values of recovery: what a changed disk recovers to, and what a disk that fails leaves.
 
+use crate::changes::{DAMAGED, Row, UNKNOWN, expect_rows, outcome};
+use crate::expect::{expect_eq, expect_eq_at, lay, memory_disk, stopping_disk};
+use crate::small_disk::{formatted, recovered, recovered_in_memory, recovery_outcome};
 use ckrt_disk::{Disk, FailingDisk, MemoryDisk};
 use ckrt_recovery::RecoverFault;
-use ckrt_test_sessions::{formatted, recovered, recovered_in_memory, recovery_outcome};
-use ckrt_test_support::{SIZE, expect_eq, expect_eq_at, memory_disk, stopping_disk};
+use ckrt_test_data::SIZE;
 use std::process::Abort;
 
 const FIRST_AREA: usize = 4_096;
@@ -21,141 +23,63 @@ const COUNTS: [u8; 20] = [
     0x6f, 0xf0, 0x1f, 0xff,
 ];
 
-/// Lays bytes over those from an offset on.
-fn lay(bytes: &mut [u8], at: usize, part: &[u8]) {
-    if at <= bytes.len() && part.len() <= bytes.len() - at {
-        bytes[at..at + part.len()].copy_from_slice(part);
-    }
-}
+const NOT_FORMATTED: Result<(u64, u64), RecoverFault> = Err(RecoverFault::NotFormatted);
 
-/// The number of events and the generation that a disk of these bytes recovers to, or why it doesn't.
-fn answer<R: Abort + AllocGlobal>(rt: &R, bytes: Vec<u8>) -> Result<(u64, u64), RecoverFault> {
-    match recovery_outcome(rt, memory_disk(rt, bytes)) {
-        Ok(session) => Ok((session.acknowledged(), session.generation())),
-        Err(unrecovered) => Err(unrecovered.fault),
-    }
-}
-
-/// A freshly formatted disk on which bytes are laid at an offset.
-fn changed<R: Abort + AllocGlobal>(rt: &R, at: usize, part: &[u8]) -> Vec<u8> {
-    let mut bytes = formatted(rt, &[]);
-    lay(&mut bytes, at, part);
-    bytes
-}
-
-/// What a freshly formatted disk that is changed at one place recovers to.
-fn expect_changed<R: Abort + AllocGlobal>(
-    rt: &R,
-    at: usize,
-    part: &[u8],
-    want: Result<(u64, u64), RecoverFault>,
-) {
-    let bytes = changed(rt, at, part);
-    expect_eq_at(rt, at, answer(rt, bytes), want);
-}
-
-/// Why one that is changed at one place recovers to nothing.
-fn expect_fault<R: Abort + AllocGlobal>(rt: &R, at: usize, part: &[u8], fault: RecoverFault) {
-    expect_changed(rt, at, part, Err(fault));
-}
-
-/// The same of two places.
-fn expect_first_fault<R: Abort + AllocGlobal>(
-    rt: &R,
-    one: (usize, &[u8]),
-    other: (usize, &[u8]),
-    fault: RecoverFault,
-) {
-    let (at, part) = one;
-    let mut bytes = changed(rt, at, part);
-    let (at, part) = other;
-    lay(&mut bytes, at, part);
-    expect_eq_at(rt, at, answer(rt, bytes), Err(fault));
-}
-
-/// Changes of the superblock.
-fn change_superblock<R: Abort + AllocGlobal>(rt: &R) {
-    expect_fault(rt, 0, &[0], RecoverFault::NotFormatted);
-    expect_fault(rt, 8, &[0x44], RecoverFault::NotFormatted);
-    expect_first_fault(rt, (8, &[0x44]), (16, &[9]), RecoverFault::NotFormatted);
-    expect_fault(rt, 16, &[9], RecoverFault::Version);
-    expect_first_fault(rt, (16, &[9]), (20, &[15]), RecoverFault::Version);
-    expect_fault(rt, 20, &[15], RecoverFault::Damaged);
-    expect_fault(rt, 24, &[9], RecoverFault::Damaged);
-    expect_fault(rt, 28, &[1, 0x10], RecoverFault::Damaged);
-}
-
-/// Changes of area 0: closed, generation 0, versions 9, 3 and 0, version 1 of tables that aren't, tables of 177 and of 98,305
-/// bytes.
-fn change_first_area<R: Abort + AllocGlobal>(rt: &R) {
-    expect_fault(rt, FIRST_AREA, &[0], RecoverFault::Damaged);
-    expect_fault(rt, FIRST_AREA + 8, &[0], RecoverFault::Damaged);
-    expect_fault(rt, FIRST_AREA + 36, &[9], RecoverFault::Version);
-    expect_fault(rt, FIRST_AREA + 36, &[3], RecoverFault::Version);
-    expect_fault(rt, FIRST_AREA + 36, &[0], RecoverFault::Version);
-    expect_fault(rt, FIRST_AREA + 36, &[1], RecoverFault::Damaged);
-    let version = (FIRST_AREA + 36, [9].as_slice());
-    expect_first_fault(rt, (FIRST_AREA + 8, &[0]), version, RecoverFault::Damaged);
-    expect_fault(rt, FIRST_AREA + 32, &[0xb1], RecoverFault::Damaged);
-    expect_fault(rt, FIRST_AREA + 32, &[1, 0x80, 1], RecoverFault::Damaged);
-}
-
-/// Changes of area 1: open, with generation 0 and with area 0's.
-fn change_second_area<R: Abort + AllocGlobal>(rt: &R) {
-    expect_changed(rt, SECOND_AREA, &[0xa5], Ok((0, 1)));
-    let generation = (SECOND_AREA + 8, [1].as_slice());
-    expect_first_fault(
-        rt,
-        (SECOND_AREA, &[0xa5]),
-        generation,
-        RecoverFault::Damaged,
-    );
-}
-
-/// Batches in journal 0.
-fn change_journal<R: Abort + AllocGlobal>(rt: &R) {
-    expect_changed(rt, JOURNAL, &PLACED, Ok((1, 1)));
-    // a second gate is open, with no batch behind it
-    expect_fault(
-        rt,
-        JOURNAL,
-        &[0xa5, 3, 0, 1, 0, 1, 0xa5],
-        RecoverFault::Damaged,
-    );
-    // Run on an idle hart, Tick of 0, no room for a gate behind 4,093 bytes
-    expect_fault(
-        rt,
-        JOURNAL,
-        &[0xa5, 4, 0, 2, 0, 1, 0, 0],
-        RecoverFault::Damaged,
-    );
-    expect_fault(
-        rt,
-        JOURNAL,
-        &[0xa5, 5, 0, 5, 0, 0, 0, 0, 0],
-        RecoverFault::Damaged,
-    );
-    expect_fault(rt, JOURNAL, &[0xa5, 0xfd, 0x0f], RecoverFault::Damaged);
-    // 2^62 - 1 events before the first of the journal
-    let count = [0xff, 0xff, 0xff, 0xff, 0xff, 0xff, 0xff, 0x3f];
-    let counted = (FIRST_AREA + 16, count.as_slice());
-    expect_first_fault(rt, counted, (JOURNAL, &PLACED), RecoverFault::Damaged);
-}
+/// Changes of a disk that was just formatted.
+const CHANGES: [Row; 26] = [
+    (&[], Ok((0, 1))),
+    // The superblock.
+    (&[(0, &[0])], NOT_FORMATTED),
+    (&[(8, &[0x44])], NOT_FORMATTED),
+    (&[(8, &[0x44]), (16, &[9])], NOT_FORMATTED),
+    (&[(16, &[9])], UNKNOWN),
+    (&[(16, &[9]), (20, &[15])], UNKNOWN),
+    (&[(20, &[15])], DAMAGED),
+    (&[(24, &[9])], DAMAGED),
+    (&[(28, &[1, 0x10])], DAMAGED),
+    // Area 0: closed, generation 0, versions 9, 3 and 0, version 1 of tables that aren't, tables of 177 and of 98,305 bytes.
+    (&[(FIRST_AREA, &[0])], DAMAGED),
+    (&[(FIRST_AREA + 8, &[0])], DAMAGED),
+    (&[(FIRST_AREA + 36, &[9])], UNKNOWN),
+    (&[(FIRST_AREA + 36, &[3])], UNKNOWN),
+    (&[(FIRST_AREA + 36, &[0])], UNKNOWN),
+    (&[(FIRST_AREA + 36, &[1])], DAMAGED),
+    (&[(FIRST_AREA + 8, &[0]), (FIRST_AREA + 36, &[9])], DAMAGED),
+    (&[(FIRST_AREA + 32, &[0xb1])], DAMAGED),
+    (&[(FIRST_AREA + 32, &[1, 0x80, 1])], DAMAGED),
+    // Area 1: open, with generation 0 and with area 0's.
+    (&[(SECOND_AREA, &[0xa5])], Ok((0, 1))),
+    (&[(SECOND_AREA, &[0xa5]), (SECOND_AREA + 8, &[1])], DAMAGED),
+    // Batches in journal 0: one; a second gate that is open, with no batch behind it.
+    (&[(JOURNAL, &PLACED)], Ok((1, 1))),
+    (&[(JOURNAL, &[0xa5, 3, 0, 1, 0, 1, 0xa5])], DAMAGED),
+    // Run on an idle hart, Tick of 0, no room for a gate behind 4,093 bytes.
+    (&[(JOURNAL, &[0xa5, 4, 0, 2, 0, 1, 0, 0])], DAMAGED),
+    (&[(JOURNAL, &[0xa5, 5, 0, 5, 0, 0, 0, 0, 0])], DAMAGED),
+    (&[(JOURNAL, &[0xa5, 0xfd, 0x0f])], DAMAGED),
+    // 2^62 - 1 events before the first of the journal.
+    (
+        &[
+            (
+                FIRST_AREA + 16,
+                &[0xff, 0xff, 0xff, 0xff, 0xff, 0xff, 0xff, 0x3f],
+            ),
+            (JOURNAL, &PLACED),
+        ],
+        DAMAGED,
+    ),
+];
 
 #[test]
 fn each_change_has_its_answer(rt: HostRuntime) {
-    expect_eq(&rt, answer(&rt, formatted(&rt, &[])), Ok((0, 1)));
-    change_superblock(&rt);
-    change_first_area(&rt);
-    change_second_area(&rt);
-    change_journal(&rt);
+    expect_rows(&rt, formatted(&rt, &[]).as_slice(), &CHANGES);
 }
 
 /// A formatted disk of which only the first bytes are left.
 fn expect_cut<R: Abort + AllocGlobal>(rt: &R, size: usize, fault: RecoverFault) {
     let mut bytes = formatted(rt, &[]);
     bytes.truncate(size);
-    expect_eq_at(rt, size, answer(rt, bytes), Err(fault));
+    expect_eq_at(rt, size, outcome(rt, bytes), Err(fault));
 }
 
 #[test]
@@ -168,21 +92,19 @@ fn a_cut_disk_recovers_to_nothing(rt: HostRuntime) {
 }
 
 /// A batch that places a thread, runs it 17 times for 65,535 steps and once for 5.
-fn long_batch() -> [u8; 78] {
-    let mut batch = [0u8; 78];
-    lay(&mut batch, 0, &[0xa5, 75, 0, 1, 0, 1]);
-    for i in 0..17 {
-        lay(&mut batch, 6 + 4 * i, &[2, 0, 0xff, 0xff]);
+fn lay_long_batch<R: Abort>(rt: &R, bytes: &mut Vec<u8>) {
+    lay(rt, bytes, JOURNAL, &[0xa5, 75, 0, 1, 0, 1]);
+    for place in 0..17usize {
+        lay(rt, bytes, JOURNAL + 6 + 4 * place, &[2, 0, 0xff, 0xff]);
     }
-    lay(&mut batch, 74, &[2, 0, 5, 0]);
-    batch
+    lay(rt, bytes, JOURNAL + 74, &[2, 0, 5, 0]);
 }
 
 // 17 runs put 1,024 bytes each, and one more puts the next: of 17,409 bytes the first 1,025 are dropped.
 #[test]
 fn the_last_output_is_held(rt: HostRuntime) {
     let mut bytes = formatted(&rt, &COUNTS);
-    lay(&mut bytes, JOURNAL, &long_batch());
+    lay_long_batch(&rt, &mut bytes);
     let mut session = recovered_in_memory(&rt, bytes);
     expect_eq(&rt, session.acknowledged(), 19);
     expect_eq(&rt, session.confirmed(), 1_025);

@@ -5,15 +5,15 @@
 //! first event; area 1 is saved behind that event, and its journal has the second, of two steps. On the other disk area 0
 //! is saved once more, behind a third event of one step, and its journal has a fourth of one step.
 
+use crate::changes::{Change, DAMAGED, Row, UNKNOWN, changed, expect_rows, outcome};
+use crate::expect::{expect_eq, expect_eq_at};
+use crate::sessions::{expect_answer, expect_checkpoint, expect_commit};
+use crate::small_disk::{formatted, recovered_in_memory};
 use ckrt_disk::{Disk, MemoryDisk};
 use ckrt_events::Event;
 use ckrt_machine::{Answer, RunEnd};
-use ckrt_recovery::{RecoverFault, Session};
-use ckrt_test_sessions::{
-    expect_answer, expect_checkpoint, expect_commit, formatted, recovered_in_memory,
-    recovery_outcome,
-};
-use ckrt_test_support::{IMAGE, copied, expect_eq, expect_eq_at, memory_disk};
+use ckrt_recovery::Session;
+use ckrt_test_data::IMAGE;
 use std::process::Abort;
 
 /// Where the areas begin.
@@ -45,8 +45,8 @@ fn run<R: Abort, D: Disk>(rt: &R, session: &mut Session<D>, count: u64, steps: u
     expect_answer(rt, session, &Event::Run(0, steps), count, ran);
 }
 
-/// The first two events, with a checkpoint between them.
-fn save_once<R: Abort, D: Disk>(rt: &R, session: &mut Session<D>) {
+/// The first two events, with a checkpoint between them: of the second the program makes two steps.
+pub fn save_once<R: Abort, D: Disk>(rt: &R, session: &mut Session<D>) {
     expect_answer(rt, session, &Event::Place(0, 1), 1, Answer::Placed);
     expect_commit(rt, session, Ok(1));
     expect_checkpoint(rt, session, Ok(1));
@@ -81,16 +81,6 @@ fn saved_twice<R: Abort + AllocGlobal>(rt: &R) -> Vec<u8> {
     save_again(rt, &mut session);
     left(session)
 }
-
-/// A place from the beginning of the disk, and the bytes that are laid there.
-type Change = (usize, &'static [u8]);
-
-/// Changes of a disk, and what it recovers to: how many events, of which generation.
-type Row = (&'static [Change], Result<(u64, u64), RecoverFault>);
-
-const DAMAGED: Result<(u64, u64), RecoverFault> = Err(RecoverFault::Damaged);
-
-const UNKNOWN: Result<(u64, u64), RecoverFault> = Err(RecoverFault::Version);
 
 /// 2^62, lowest byte first.
 const TOO_MANY: [u8; 8] = [0, 0, 0, 0, 0, 0, 0, 0x40];
@@ -164,48 +154,10 @@ const OF_TWICE: [Row; 22] = [
     (&[(PAGES, &[1, 4])], DAMAGED),
 ];
 
-/// Bytes in the place of others.
-fn lay<R: Abort>(rt: &R, image: &mut Vec<u8>, at: usize, bytes: &[u8]) {
-    let end = at.saturating_add(bytes.len());
-    assert!(rt; end <= image.len());
-    image.as_mut_slice()[at..end].copy_from_slice(bytes);
-}
-
-/// A copy of a disk with changes.
-fn changed<R: Abort + AllocGlobal>(rt: &R, disk: &[u8], changes: &[Change]) -> Vec<u8> {
-    let mut image = copied(rt, disk);
-    for (at, bytes) in changes {
-        lay(rt, &mut image, *at, bytes);
-    }
-    image
-}
-
 /// The program goes on behind so many events: it ends with its sixth step.
 fn expect_end<R: Abort, D: Disk>(rt: &R, session: &mut Session<D>, count: u64, steps: u32) {
     let ended = Answer::Ran(steps, RunEnd::End);
     expect_answer(rt, session, &Event::Run(0, 9), count, ended);
-}
-
-/// What a disk recovers to.
-fn outcome<R: Abort + AllocGlobal>(rt: &R, disk: Vec<u8>) -> Result<(u64, u64), RecoverFault> {
-    match recovery_outcome(rt, memory_disk(rt, disk)) {
-        Ok(session) => Ok((session.acknowledged(), session.generation())),
-        Err(unrecovered) => Err(unrecovered.fault),
-    }
-}
-
-/// What a disk with the changes of a row recovers to. The number of the row says which one it is.
-fn expect_row<R: Abort + AllocGlobal>(rt: &R, disk: &[u8], number: usize, row: &Row) {
-    let (changes, want) = *row;
-    let got = outcome(rt, changed(rt, disk, changes));
-    expect_eq_at(rt, number, got, want);
-}
-
-/// The same of each row.
-fn expect_rows<R: Abort + AllocGlobal>(rt: &R, disk: &[u8], rows: &[Row]) {
-    for (number, row) in rows.iter().enumerate() {
-        expect_row(rt, disk, number, row);
-    }
 }
 
 #[test]

@@ -1,12 +1,13 @@
 //! Streams that break: each read, write and flush of a service failing in turn, and replies that have to be flushed before
 //! the next line is read.
 
+use crate::expect::{expect_bytes, expect_eq, expect_eq_at, push};
 use crate::service::expect_replies;
+use crate::small_disk::{formatted, recovered, recovered_in_memory};
 use ckrt_disk::MemoryDisk;
 use ckrt_main::{ServeFault, serve};
 use ckrt_recovery::Session;
-use ckrt_test_sessions::{formatted, recovered, recovered_in_memory};
-use ckrt_test_support::{IMAGE, expect_bytes, expect_eq, expect_eq_at, push};
+use ckrt_test_data::IMAGE;
 use std::cell::Cell;
 use std::io::{self, ErrorKind, Read, Write};
 use std::process::Abort;

@@ -1,10 +1,12 @@
 //! Checkpoints by lines.
 
+use crate::expect::{expect_eq, memory_disk, stopping_disk};
 use crate::service::expect_replies;
+use crate::sessions::expect_checkpoint;
+use crate::small_disk::{formatted, recovered, recovered_in_memory};
 use ckrt_disk::Disk;
 use ckrt_recovery::{CommitFault, Session};
-use ckrt_test_sessions::{expect_checkpoint, formatted, recovered, recovered_in_memory};
-use ckrt_test_support::{IMAGE, expect_eq, memory_disk, stopping_disk};
+use ckrt_test_data::IMAGE;
 use std::process::Abort;
 
 /// The generation in use, and how many bytes the journal has left for batches.

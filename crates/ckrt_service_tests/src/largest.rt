@@ -1,10 +1,11 @@
 //! The largest configuration, with plenty of memory: nothing is out of memory.
 
+use crate::expect::{copied, expect_bytes, expect_eq, filled, memory_disk};
 use crate::service::expect_replies;
+use crate::small_disk::{format_outcome, recovered};
 use ckrt_main::serve_image;
 use ckrt_recovery::Config;
-use ckrt_test_sessions::{format_outcome, recovered};
-use ckrt_test_support::{IMAGE, copied, expect_bytes, expect_eq, filled, memory_disk};
+use ckrt_test_data::IMAGE;
 use std::process::Abort;
 
 /// 1,024 pages, 8 harts, and a journal of 1,048,576 bytes.

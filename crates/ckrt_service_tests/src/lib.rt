@@ -6,6 +6,8 @@ mod broken_streams;
 #[cfg(test)]
 mod checkpoints;
 #[cfg(test)]
+mod expect;
+#[cfg(test)]
 mod largest;
 #[cfg(test)]
 mod long_runs;
@@ -19,3 +21,7 @@ mod saved_waits;
 mod service;
 #[cfg(test)]
 mod serving;
+#[cfg(test)]
+mod sessions;
+#[cfg(test)]
+mod small_disk;

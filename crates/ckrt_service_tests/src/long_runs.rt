@@ -1,18 +1,16 @@
 //! Long runs, and the way to them from disks of version 1.
 
+use crate::expect::{copied, expect_eq, expect_eq_at, lay, memory_disk, old_disk, stopping_disk};
 use crate::service::lived;
+use crate::sessions::{
+    expect_answer, expect_checkpoint, expect_commit, expect_output, expect_refusal, is_saved,
+};
+use crate::small_disk::{formatted, recovered, recovered_in_memory, recovery_outcome};
 use ckrt_disk::{Disk, StoppingDisk};
 use ckrt_events::Event;
 use ckrt_machine::{Answer, Refusal, RunEnd};
 use ckrt_recovery::{RecoverFault, Session, SubmitFault};
-use ckrt_test_sessions::{
-    expect_answer, expect_checkpoint, expect_commit, expect_output, expect_refusal, formatted,
-    is_saved, recovered, recovered_in_memory, recovery_outcome,
-};
-use ckrt_test_support::{
-    AREAS, FILLS, IMAGE, LOOPS, SIX_WORDS, copied, expect_eq, expect_eq_at, lay, memory_disk,
-    old_disk, stopping_disk,
-};
+use ckrt_test_data::{AREAS, FILLS, IMAGE, LOOPS, SIX_WORDS};
 use std::process::Abort;
 
 /// Where the journal of area 0 begins.

@@ -1,12 +1,12 @@
 //! Disks of version 1, built byte by byte: their programs have no keys, for good, also once they are saved in version 2.
 
-use crate::service::lived;
-use ckrt_inspect::inspect;
-use ckrt_test_sessions::formatted;
-use ckrt_test_support::{
-    AREAS, PUTS_ITS_VALUE, copied, expect_bytes, expect_eq, expect_part, image_of, memory_disk,
-    old_disk,
+use crate::expect::{
+    copied, expect_bytes, expect_eq, expect_part, image_of, memory_disk, old_disk,
 };
+use crate::service::lived;
+use crate::small_disk::formatted;
+use ckrt_inspect::inspect;
+use ckrt_test_data::{AREAS, PUTS_ITS_VALUE};
 use std::process::Abort;
 
 /// How the program on this disk is listed.

@@ -3,10 +3,10 @@
 //! The guest calls getc, and then putc with what it got. The tables are those that it has while it waits, written by hand
 //! from the format; that "xy" was put before is made up.
 
+use crate::expect::{expect_eq, lay, memory_disk, push, push_zeros};
 use crate::service::expect_replies;
+use crate::small_disk::{formatted, recovered_in_memory, recovery_outcome};
 use ckrt_recovery::RecoverFault;
-use ckrt_test_sessions::{formatted, recovered_in_memory, recovery_outcome};
-use ckrt_test_support::{expect_eq, lay, memory_disk, push, push_zeros};
 use std::process::Abort;
 
 /// addi x17, x0, 3; ecall; addi x17, x0, 2; ecall.

@@ -1,11 +1,11 @@
 //! A guest with threads in every kind of wait: saved, recovered and run on, it gets the same replies and puts the same bytes
 //! as one that is never saved.
 
+use crate::expect::{expect_bytes, expect_eq, image_of, put_by};
+use crate::small_disk::{formatted, recovered, recovered_in_memory};
 use ckrt_disk::MemoryDisk;
 use ckrt_main::serve;
 use ckrt_recovery::Session;
-use ckrt_test_sessions::{formatted, recovered, recovered_in_memory};
-use ckrt_test_support::{expect_bytes, expect_eq, image_of, put_by};
 use ckrt_thread::{Reason, ThreadId, Wait};
 use std::process::Abort;
 

@@ -1,10 +1,10 @@
 //! A service of a session, for the other tests.
 
+use crate::expect::{expect_bytes, expect_eq};
+use crate::small_disk::recovered_in_memory;
 use ckrt_disk::Disk;
 use ckrt_main::serve;
 use ckrt_recovery::Session;
-use ckrt_test_sessions::recovered_in_memory;
-use ckrt_test_support::{expect_bytes, expect_eq};
 use std::process::Abort;
 
 /// What a service of the session writes for these lines.

@@ -1,13 +1,12 @@
 //! Services over readers, writers and disks that fail, and over the next life.
 
+use crate::expect::{copied, expect_bytes, expect_eq, memory_disk, stopping_disk};
 use crate::service::{expect_replies, replies};
+use crate::small_disk::{SMALL, formatted, recovered, recovered_in_memory, recovery_outcome};
 use ckrt_disk::{Disk, FailingDisk, MemoryDisk};
 use ckrt_main::{ServeFault, serve, serve_image};
 use ckrt_recovery::Session;
-use ckrt_test_sessions::{SMALL, formatted, recovered, recovered_in_memory, recovery_outcome};
-use ckrt_test_support::{
-    FILLS, IMAGE, copied, expect_bytes, expect_eq, memory_disk, stopping_disk,
-};
+use ckrt_test_data::{FILLS, IMAGE};
 use std::io::{self, ErrorKind, Read, Write};
 use std::ops::RangeInclusive;
 use std::process::Abort;

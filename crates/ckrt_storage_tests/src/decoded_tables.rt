@@ -1,13 +1,11 @@
 //! Bytes that are decoded as saved tables. All were written down from the format, and none comes from the program.
 
+use crate::expect::{bytes_of, expect_eq, expect_eq_at, push, push_zeros};
 use crate::saved_tables::expect_encoding;
-use ckrt_calls::{Status, Tables};
 use ckrt_rv32i::Cause;
+use ckrt_state::{Status, Tables};
 use ckrt_tables::{Held, LONGEST_TABLES, decode_tables};
-use ckrt_test_support::{
-    BEHIND_THREAD, EVERYTHING, FRESH, INITIAL_THREAD, OLD_FRESH, bytes_of, expect_eq, expect_eq_at,
-    push, push_zeros,
-};
+use ckrt_test_data::{BEHIND_THREAD, EVERYTHING, FRESH, INITIAL_THREAD, OLD_FRESH};
 use std::process::Abort;
 
 /// What bytes of a version decode to.

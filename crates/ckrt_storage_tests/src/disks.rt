@@ -1,10 +1,10 @@
 // Worked values of the disks in memory, and real files.
 
-use ckrt_disk::{DeviceFault, Disk, FailingDisk, FileDisk, MemoryFile, SystemFile, write_synced};
-use ckrt_test_support::{
+use crate::expect::{
     copied, expect_bytes, expect_eq, expect_failed_read, expect_read, expect_sync, expect_text,
     expect_write, memory_disk, remove_file, stopping_disk, write_file,
 };
+use ckrt_disk::{DeviceFault, Disk, FailingDisk, FileDisk, MemoryFile, SystemFile, write_synced};
 use std::fs::{self, File, Files, OpenOptions};
 use std::marker::Brand;
 use std::process::Abort;

@@ -1,11 +1,11 @@
 //! Events as bytes and as lines of text.
 
+use crate::expect::{expect_bytes, expect_eq, expect_text};
 use arrayvec::ArrayVec;
 use ckrt_events::{
     BATCH_LIMIT, Command, Event, Events, LineFault, decode_events, encode_event, encoded_len,
     encodings_are_prefix_free, parse_command,
 };
-use ckrt_test_support::{expect_bytes, expect_eq, expect_text};
 use std::process::Abort;
 
 fn input<R: Abort>(rt: &R, bytes: &[u8]) -> Event {

@@ -8,6 +8,8 @@ mod disks;
 #[cfg(test)]
 mod events;
 #[cfg(test)]
+mod expect;
+#[cfg(test)]
 mod journal;
 #[cfg(test)]
 mod saved_tables;

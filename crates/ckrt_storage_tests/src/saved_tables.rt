@@ -1,15 +1,16 @@
 //! Saved tables, and their bytes as the format lists them.
 
+use crate::expect::{bytes_of, expect_bytes, expect_eq, expect_eq_at, filled};
 use arrayvec::ArrayVec;
 use circular_buffer::HeapCircularBuffer;
 use ckrt_barrier::{Barrier, Barriers};
-use ckrt_calls::{InputQueue, Status, Tables};
 use ckrt_mutex::{Kind, Mutex, Mutexes};
 use ckrt_objects::Entry;
 use ckrt_rv32i::Regs;
 use ckrt_rwlock::{RwLock, RwLocks};
+use ckrt_state::{InputQueue, Status, Tables};
 use ckrt_tables::{HELD_LIMIT, Held, TABLES_ROOM, encode_tables};
-use ckrt_test_support::{EVERYTHING, FRESH, bytes_of, expect_bytes, expect_eq, filled};
+use ckrt_test_data::{EVERYTHING, FRESH};
 use ckrt_thread::{
     Cancellation, Handler, Keys, Live, MAX_HANDLERS, MAX_KEYS, Reason, RetakeResult, SpecificData,
     Thread, ThreadId, Threads, Wait,
@@ -140,66 +141,61 @@ fn detached_thread(pc: u32) -> Thread {
     Thread::Live(thread)
 }
 
-/// Twelve threads: the first one, one that nothing is said of for each wait, one that is ready, and one that has ended.
-fn add_threads<R: Abort>(rt: &R, threads: &mut Threads) {
-    assert!(rt; threads.append_thread(1, first_thread()));
-    assert!(rt; threads.append_thread(2, Thread::Live(live(0x1008))));
-    assert!(rt; threads.append_thread(3, asynchronous_thread(0x100C)));
-    assert!(rt; threads.append_thread(4, Thread::Live(live(0x1010))));
-    assert!(rt; threads.append_thread(5, unwinding_thread(0x1014)));
-    assert!(rt; threads.append_thread(6, Thread::Live(live(0x1018))));
+/// The twelve threads: the first one, one that nothing is said of for each wait, one that is ready, and one that has ended.
+fn thread_of(id: ThreadId) -> Thread {
+    let pc = 0x1000 + 4 * u32::from(id);
+    match id {
+        1 => first_thread(),
+        3 => asynchronous_thread(pc),
+        5 => unwinding_thread(pc),
+        10 => detached_thread(pc),
+        12 => Thread::Ended(0x0102_0304),
+        _ => Thread::Live(live(pc)),
+    }
 }
 
-/// The other six of the twelve threads.
-fn add_more_threads<R: Abort>(rt: &R, threads: &mut Threads) {
-    assert!(rt; threads.append_thread(7, Thread::Live(live(0x101C))));
-    assert!(rt; threads.append_thread(8, Thread::Live(live(0x1020))));
-    assert!(rt; threads.append_thread(9, Thread::Live(live(0x1024))));
-    assert!(rt; threads.append_thread(10, detached_thread(0x1028)));
-    assert!(rt; threads.append_thread(11, Thread::Live(live(0x102C))));
-    assert!(rt; threads.append_thread(12, Thread::Ended(0x0102_0304)));
-}
-
-/// A wait behind those that there are.
-fn add_wait<R: Abort>(
+/// A thread behind those that there are is taken, or refused.
+fn expect_thread<R: Abort>(
     rt: &R,
     threads: &mut Threads,
-    thread: ThreadId,
-    reason: Reason,
-    deadline: Option<u64>,
+    id: ThreadId,
+    thread: Thread,
+    is_taken: bool,
 ) {
-    let wait = Wait {
-        thread,
-        reason,
-        deadline,
-    };
-    assert!(rt; threads.append_wait(wait));
+    expect_eq_at(rt, id, threads.append_thread(id, thread), is_taken);
 }
 
-/// A wait of each kind but that for input, and not in order of thread.
-fn add_waits<R: Abort>(rt: &R, threads: &mut Threads) {
-    add_wait(rt, threads, 11, Reason::Sleep, Some(9));
-    add_wait(rt, threads, 3, Reason::Lock(0x3000), Some(0x2_0000_0001));
-    add_wait(rt, threads, 2, Reason::Join(3), None);
-    add_wait(
-        rt,
-        threads,
-        4,
-        Reason::Retake(0x3000, RetakeResult::TimedOut),
-        None,
-    );
-    add_wait(
-        rt,
-        threads,
-        5,
-        Reason::Retake(0x3000, RetakeResult::Unwind),
-        None,
-    );
-    add_wait(rt, threads, 6, Reason::Condition(0x3010, 0x3000), None);
-    add_wait(rt, threads, 7, Reason::Barrier(0x3020), None);
-    add_wait(rt, threads, 8, Reason::Read(0x3030), None);
-    add_wait(rt, threads, 9, Reason::Write(0x3040), None);
+/// A wait behind those that there are is taken, or refused.
+fn expect_wait<R: Abort>(rt: &R, threads: &mut Threads, wait: Wait, is_taken: bool) {
+    expect_eq_at(rt, wait.thread, threads.append_wait(wait), is_taken);
 }
+
+/// A thread on a hart is taken, or refused.
+fn expect_on_hart<R: Abort>(
+    rt: &R,
+    threads: &mut Threads,
+    hart: usize,
+    thread: ThreadId,
+    is_taken: bool,
+) {
+    expect_eq_at(rt, hart, threads.append_on_hart(hart, thread), is_taken);
+}
+
+/// A thread, what it waits for, and until when.
+type Waiting = (ThreadId, Reason, Option<u64>);
+
+/// A wait of each kind but that for input, and not in order of thread.
+const WAITS: [Waiting; 9] = [
+    (11, Reason::Sleep, Some(9)),
+    (3, Reason::Lock(0x3000), Some(0x2_0000_0001)),
+    (2, Reason::Join(3), None),
+    (4, Reason::Retake(0x3000, RetakeResult::TimedOut), None),
+    (5, Reason::Retake(0x3000, RetakeResult::Unwind), None),
+    (6, Reason::Condition(0x3010, 0x3000), None),
+    (7, Reason::Barrier(0x3020), None),
+    (8, Reason::Read(0x3030), None),
+    (9, Reason::Write(0x3040), None),
+];
 
 /// Keys 0, without a destructor, 7 and 31.
 fn three_keys<R: Abort>(rt: &R) -> Keys {
@@ -214,68 +210,65 @@ fn three_keys<R: Abort>(rt: &R) -> Keys {
 fn threads_with_everything<R: Abort + AllocGlobal>(rt: &R) -> Threads {
     let keys = three_keys(rt);
     let mut threads = Threads::empty(rt.alloc(), 2, keys).expect(rt, "memory for threads");
-    add_threads(rt, &mut threads);
-    add_more_threads(rt, &mut threads);
-    add_waits(rt, &mut threads);
-    assert!(rt; threads.append_on_hart(1, 1));
+    for id in 1..13u8 {
+        expect_thread(rt, &mut threads, id, thread_of(id), true);
+    }
+    for (thread, reason, deadline) in WAITS {
+        let wait = Wait {
+            thread,
+            reason,
+            deadline,
+        };
+        expect_wait(rt, &mut threads, wait, true);
+    }
+    expect_on_hart(rt, &mut threads, 1, 1, true);
     threads
 }
 
 /// A recursive mutex that thread 1 locked thrice, a free one that checks for errors, and a normal one of thread 10.
 fn mutexes<R: Abort>(rt: &R) -> Mutexes {
     let mut mutexes = Mutexes::new();
-    assert!(rt;
-        mutexes.append(Entry {
-            address: 0x3000,
-            value: Mutex::owned(Kind::Recursive, 1, 3)
-        })
-    );
-    assert!(rt;
-        mutexes.append(Entry {
-            address: 0x3004,
-            value: Mutex::free(Kind::ErrorCheck)
-        })
-    );
-    assert!(rt;
-        mutexes.append(Entry {
-            address: 0x3008,
-            value: Mutex::owned(Kind::Normal, 10, 1)
-        })
-    );
+    let values = [
+        Mutex::owned(Kind::Recursive, 1, 3),
+        Mutex::free(Kind::ErrorCheck),
+        Mutex::owned(Kind::Normal, 10, 1),
+    ];
+    let mut address = 0x3000u32;
+    for value in values {
+        let entry = Entry { address, value };
+        expect_eq(rt, mutexes.append(entry), true);
+        address = address.wrapping_add(4);
+    }
     mutexes
 }
 
 /// A lock that thread 1 writes under, and one that threads 1 and 10 read under, the first twice.
 fn rwlocks<R: Abort>(rt: &R) -> RwLocks {
     let mut rwlocks = RwLocks::new();
-    let written = RwLock::unheld().with_writer(Some(1));
-    let read = RwLock::unheld()
-        .with_read_count(1, 2)
-        .with_read_count(10, 1);
-    assert!(rt;
-        rwlocks.append(Entry {
-            address: 0x3030,
-            value: written
-        })
-    );
-    assert!(rt;
-        rwlocks.append(Entry {
-            address: 0x3040,
-            value: read
-        })
-    );
+    let written = Entry {
+        address: 0x3030,
+        value: RwLock::unheld().with_writer(Some(1)),
+    };
+    let read = Entry {
+        address: 0x3040,
+        value: RwLock::unheld()
+            .with_read_count(1, 2)
+            .with_read_count(10, 1),
+    };
+    for entry in [written, read] {
+        expect_eq(rt, rwlocks.append(entry), true);
+    }
     rwlocks
 }
 
 /// One barrier, for three threads.
 fn barriers<R: Abort>(rt: &R) -> Barriers {
     let mut barriers = Barriers::new();
-    assert!(rt;
-        barriers.append(Entry {
-            address: 0x3020,
-            value: Barrier { count: 3 }
-        })
-    );
+    let entry = Entry {
+        address: 0x3020,
+        value: Barrier { count: 3 },
+    };
+    expect_eq(rt, barriers.append(entry), true);
     barriers
 }
 
@@ -308,32 +301,34 @@ fn tables_with_everything_have_their_bytes(rt: HostRuntime) {
     expect_encoding(&rt, &tables, &held, bytes_of(&rt, EVERYTHING).as_slice());
 }
 
+const OF_ENDED: Wait = Wait {
+    thread: 12,
+    reason: Reason::Input,
+    deadline: None,
+};
+
+const FOR_ITSELF: Wait = Wait {
+    thread: 10,
+    reason: Reason::Join(10),
+    deadline: None,
+};
+
 /// A row that no well-formed table goes on with is refused, and the table stays as it was.
 #[test]
 fn rows_that_fit_nowhere_are_refused(rt: HostRuntime) {
     let mut threads = threads_with_everything(&rt);
-    assert!(&rt; !threads.append_thread(12, Thread::Ended(0)));
-    assert!(&rt; !threads.append_thread(65, Thread::Ended(0)));
-    assert!(&rt; !threads.append_thread(13, first_thread()));
-    assert!(&rt; !threads.append_thread(13, Thread::Live(live(0x1002))));
-    assert!(&rt; !threads.append_thread(13, thread_with(1, 0, 0)));
-    assert!(&rt; !threads.append_thread(13, thread_with(0, 1, 0)));
-    assert!(&rt; !threads.append_thread(13, thread_with(0, 0, 1)));
-    let of_ended = Wait {
-        thread: 12,
-        reason: Reason::Input,
-        deadline: None,
-    };
-    assert!(&rt; !threads.append_wait(of_ended));
-    let for_itself = Wait {
-        thread: 10,
-        reason: Reason::Join(10),
-        deadline: None,
-    };
-    assert!(&rt; !threads.append_wait(for_itself));
-    assert!(&rt; !threads.append_on_hart(0, 1));
-    assert!(&rt; !threads.append_on_hart(2, 10));
+    expect_thread(&rt, &mut threads, 12, Thread::Ended(0), false);
+    expect_thread(&rt, &mut threads, 65, Thread::Ended(0), false);
+    expect_thread(&rt, &mut threads, 13, first_thread(), false);
+    expect_thread(&rt, &mut threads, 13, Thread::Live(live(0x1002)), false);
+    expect_thread(&rt, &mut threads, 13, thread_with(1, 0, 0), false);
+    expect_thread(&rt, &mut threads, 13, thread_with(0, 1, 0), false);
+    expect_thread(&rt, &mut threads, 13, thread_with(0, 0, 1), false);
+    expect_wait(&rt, &mut threads, OF_ENDED, false);
+    expect_wait(&rt, &mut threads, FOR_ITSELF, false);
+    expect_on_hart(&rt, &mut threads, 0, 1, false);
+    expect_on_hart(&rt, &mut threads, 2, 10, false);
     expect_eq(&rt, threads.thread_count(), 12);
     expect_eq(&rt, threads.wait_count(), 9);
-    assert!(&rt; threads.append_on_hart(0, 10));
+    expect_on_hart(&rt, &mut threads, 0, 10, true);
 }

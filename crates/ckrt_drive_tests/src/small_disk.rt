@@ -1,8 +1,8 @@
-//! The small disk of the other tests, the guest on it, and what recovers from it.
+//! The small disk of the other tests, and what recovers from it.
 
+use crate::expect::memory_disk;
 use ckrt_disk::{Disk, MemoryDisk};
 use ckrt_recovery::{Config, FormatFault, Session, Unrecovered, format, recover};
-use ckrt_test_support::{SIZE, expect_eq, filled, memory_disk};
 use std::process::Abort;
 
 /// 16 pages, 1 hart, and a journal of 4,096 bytes.
@@ -20,13 +20,6 @@ pub fn format_outcome<R: AllocGlobal, D: Disk>(
     image: &[u8],
 ) -> Result<(), FormatFault> {
     format(rt.alloc(), disk, config, image)
-}
-
-/// A disk of zeros with an image formatted onto it.
-pub fn formatted<R: Abort + AllocGlobal>(rt: &R, image: &[u8]) -> Vec<u8> {
-    let mut disk = memory_disk(rt, filled(rt, 0, SIZE));
-    expect_eq(rt, format_outcome(rt, &mut disk, SMALL, image), Ok(()));
-    disk.into_image()
 }
 
 /// Recovers a disk. It ensures nothing, so tests that call it are cheap to prove.

@@ -1,10 +1,10 @@
 //! Calls of a session, and what they answer. They ensure nothing, so tests that make them are cheap to prove.
 
+use crate::expect::{expect_bytes, expect_eq};
 use ckrt_disk::Disk;
 use ckrt_events::Event;
 use ckrt_machine::{Answer, Machine};
 use ckrt_recovery::{CommitFault, Session, SubmitFault};
-use ckrt_test_support::{expect_bytes, expect_eq};
 use std::process::Abort;
 
 /// What a session answers to an event in range.

@@ -3,8 +3,8 @@
 
 ghost use Rattle.std.specs.Prelude.{IsTrue, ◌+◌, ◌≤◌};
 
-use crate::bytes::copied;
 use ckrt_disk::{DeviceFault, Disk, MemoryDisk, StoppingDisk};
+use ckrt_test_data::Piece;
 use std::fmt::{Debug, Display};
 use std::fs::{self, File, Files};
 use std::process::Abort;
@@ -35,19 +35,10 @@ pub fn expect_bytes<R: Abort>(rt: &R, got: &[u8], want: &[u8]) {
     assert_eq!(rt; got, want);
 }
 
-/// The bytes from an offset on.
-pub fn expect_part<R: Abort>(rt: &R, bytes: &[u8], at: usize, part: &[u8]) {
-    let (_, rest) = bytes.split_at_checked(at).unwrap_or((&[], &[]));
-    expect_eq_at(rt, at, rest.starts_with(part), true);
-}
-
 /// A disk in memory with these bytes.
 pub fn memory_disk<R: Abort + AllocGlobal>(rt: &R, bytes: Vec<u8>) -> MemoryDisk {
     MemoryDisk::new(rt.alloc(), bytes).expect(rt, "memory for a disk")
 }
-
-/// What a stop may lay over the bytes that aren't synced.
-pub const FILLS: [&[u8]; 5] = [&[0xa5], &[0], &[0xff], &[0xa5, 0], &[]];
 
 /// A disk with these bytes that stops at a call and then lays a fill over its pending bytes.
 pub fn stopping_disk<R: Abort + AllocGlobal>(
@@ -109,4 +100,35 @@ pub fn write_file<R: Abort + Files<File = File>>(rt: &R, path: &str, bytes: &[u8
 /// A file goes.
 pub fn remove_file<R: Abort + Files<File = File>>(rt: &R, path: &str) {
     fs::remove_file(rt, path).expect(rt, "the file is removed");
+}
+
+/// A copy of bytes.
+pub fn copied<R: Abort + AllocGlobal>(rt: &R, bytes: &[u8]) -> Vec<u8> {
+    bytes.to_vec(rt.alloc()).expect(rt, "memory for bytes")
+}
+
+/// So many bytes of one value.
+pub fn filled<R: Abort + AllocGlobal>(rt: &R, byte: u8, size: usize) -> Vec<u8> {
+    vec![in rt.alloc(); byte; size].expect(rt, "memory for bytes")
+}
+
+/// Bytes behind others.
+pub fn push<R: Abort>(rt: &R, bytes: &mut Vec<u8>, more: &[u8]) {
+    bytes.extend_from_slice(more).expect(rt, "memory for bytes");
+}
+
+/// So many zeros behind the bytes that there are.
+pub fn push_zeros<R: Abort>(rt: &R, bytes: &mut Vec<u8>, count: usize) {
+    let size = bytes.len().saturating_add(count);
+    bytes.resize(size, 0).expect(rt, "memory for bytes");
+}
+
+/// Pieces, one behind the other.
+pub fn bytes_of<R: Abort + AllocGlobal>(rt: &R, pieces: &[Piece]) -> Vec<u8> {
+    let mut bytes = Vec::new(rt.alloc());
+    for (front, zeros) in pieces {
+        push(rt, &mut bytes, front);
+        push_zeros(rt, &mut bytes, *zeros);
+    }
+    bytes
 }

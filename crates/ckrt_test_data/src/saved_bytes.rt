@@ -2,7 +2,8 @@
 //!
 //! All numbers have their lowest byte first. No byte here comes from the program: each was written down from the format.
 
-use crate::bytes::Piece;
+/// Bytes, and so many zeros behind them.
+pub type Piece = (&'static [u8], usize);
 
 /// The count of threads, 1, and the front of the record of the one thread of a program that hasn't begun: its number, the flag
 /// of the initial thread, no handler, and that it doesn't unwind; it begins at 0x1000, returns to 0xFFFFFFF0, and has its

@@ -3,11 +3,12 @@
 ghost use Rattle.std.specs.Prelude.{IsTrue, All};
 ghost use Rattle.ckrt_lives.specs.Lives.{IsInRangeLife};
 
+use crate::expect::{copied, expect_bytes, expect_eq, expect_eq_at};
+use crate::small_disk::{SMALL, recovered_in_memory};
 use ckrt_events::{Command, Event};
 use ckrt_lives::{Life, LifeReport, LivesFault, lives};
 use ckrt_recovery::Config;
-use ckrt_test_sessions::{SMALL, recovered_in_memory};
-use ckrt_test_support::{IMAGE, copied, expect_bytes, expect_eq, expect_eq_at};
+use ckrt_test_data::IMAGE;
 use std::process::Abort;
 
 /// A life of these commands that is stopped at a call, or never.

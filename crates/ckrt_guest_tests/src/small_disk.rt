@@ -1,0 +1,34 @@
+//! The small disk of the other tests, and what recovers from it.
+
+use crate::expect::memory_disk;
+use ckrt_disk::{Disk, MemoryDisk};
+use ckrt_recovery::{Config, Session, Unrecovered, recover};
+use std::process::Abort;
+
+/// 16 pages, 1 hart, and a journal of 4,096 bytes.
+pub const SMALL: Config = Config {
+    pages: 16,
+    harts: 1,
+    journal: 4_096,
+};
+
+/// Recovers a disk. It ensures nothing, so tests that call it are cheap to prove.
+pub fn recovery_outcome<R: AllocGlobal, D: Disk>(
+    rt: &R,
+    disk: D,
+) -> Result<Session<D>, Unrecovered<D>> {
+    recover(rt.alloc(), disk)
+}
+
+/// The session that is recovered from a disk.
+pub fn recovered<R: Abort + AllocGlobal, D: Disk>(rt: &R, disk: D) -> Session<D> {
+    match recovery_outcome(rt, disk) {
+        Ok(session) => session,
+        Err(unrecovered) => panic!(rt; "{}", unrecovered.fault),
+    }
+}
+
+/// The session that is recovered from these bytes in memory.
+pub fn recovered_in_memory<R: Abort + AllocGlobal>(rt: &R, bytes: Vec<u8>) -> Session<MemoryDisk> {
+    recovered(rt, memory_disk(rt, bytes))
+}

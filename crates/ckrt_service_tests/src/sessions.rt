@@ -1,0 +1,77 @@
+//! Calls of a session, and what they answer. They ensure nothing, so tests that make them are cheap to prove.
+
+use crate::expect::{expect_bytes, expect_eq};
+use ckrt_disk::Disk;
+use ckrt_events::Event;
+use ckrt_machine::Answer;
+use ckrt_recovery::{CommitFault, Session, SubmitFault};
+use std::process::Abort;
+
+/// What a session answers to an event in range.
+pub fn submitted<R: Abort, D: Disk>(
+    rt: &R,
+    session: &mut Session<D>,
+    event: &Event,
+) -> Result<(u64, Answer), SubmitFault> {
+    assert!(rt; event.in_range());
+    session.submit(event)
+}
+
+/// An event that a session accepts.
+pub fn expect_answer<R: Abort, D: Disk>(
+    rt: &R,
+    session: &mut Session<D>,
+    event: &Event,
+    count: u64,
+    answer: Answer,
+) {
+    expect_eq(rt, submitted(rt, session, event), Ok((count, answer)));
+}
+
+/// An event that a session refuses.
+pub fn expect_refusal<R: Abort, D: Disk>(
+    rt: &R,
+    session: &mut Session<D>,
+    event: &Event,
+    fault: SubmitFault,
+) {
+    expect_eq(rt, submitted(rt, session, event), Err(fault));
+}
+
+/// A commit, and what it answers.
+pub fn expect_commit<R: Abort, D: Disk>(
+    rt: &R,
+    session: &mut Session<D>,
+    want: Result<u64, CommitFault>,
+) {
+    expect_eq(rt, session.commit(), want);
+}
+
+/// A checkpoint, and what it answers.
+pub fn expect_checkpoint<R: Abort, D: Disk>(
+    rt: &R,
+    session: &mut Session<D>,
+    want: Result<u64, CommitFault>,
+) {
+    expect_eq(rt, session.checkpoint(), want);
+}
+
+/// A checkpoint, where the disk doesn't fail.
+pub fn is_saved<D: Disk>(session: &mut Session<D>) -> bool {
+    match session.checkpoint() {
+        Ok(_) => true,
+        Err(_) => false,
+    }
+}
+
+/// The output that isn't confirmed.
+pub fn expect_output<R: Abort, D: Disk>(
+    rt: &R,
+    session: &mut Session<D>,
+    offset: u64,
+    bytes: &[u8],
+) {
+    let (at, output) = session.take_output();
+    expect_eq(rt, at, offset);
+    expect_bytes(rt, output, bytes);
+}
