@@ -105,6 +105,51 @@ fn is_encoding(tables: &Tables, held: &Held, version: u32, room: &mut [u8], byte
     bytes == front
 }
 
+/// Tables and a ring of output that have nothing yet. All memory that they need is taken here.
+fn begin(alloc: Global, harts: usize) -> Result<(Tables, Held), AllocError>
+    requires { harts ≤ 8 }
+    ensures { IfOk result (λ begun. IsBegun harts begun.0 begun.1) }
+{
+    let threads = Threads::empty(alloc, harts, Keys::all())?;
+    let input = InputQueue::new(alloc)?;
+    let held = Held::with_capacity(alloc, HELD_LIMIT)?;
+    let tables = Tables {
+        threads,
+        mutexes: Mutexes::new(),
+        barriers: Barriers::new(),
+        rwlocks: RwLocks::new(),
+        clock: 0,
+        input,
+        closed: false,
+        status: Status::Running,
+    };
+    Ok((tables, held))
+}
+
+/// Whether the bytes are the encoding, in a version, of these tables and this held output, as a state that can be saved and
+/// of so many harts.
+fn are_encoded(
+    alloc: Global,
+    version: u32,
+    bytes: &[u8],
+    harts: usize,
+    tables: &Tables,
+    held: &Held,
+) -> Result<bool, AllocError>
+    requires held { IsHeld held.now.items }
+    ensures { IfOk result (λ are. IsTrue are ↔ IsEncodingOf version harts bytes.now (record { tables = tables.now; held = held.now.items })) }
+{
+    if !tables.is_well_formed() || tables.threads.hart_count() != harts {
+        return Ok(false);
+    }
+    if version == 1 && !is_without_keys(&tables.threads) {
+        return Ok(false);
+    }
+    known_savable(tables, held, version);
+    let mut room = zeros(alloc, most_bytes(tables, held))?;
+    Ok(is_encoding(tables, held, version, room.as_mut_slice(), bytes))
+}
+
 /// The tables and the held output that the bytes encode in a version, 1 or 2, for a program with so many harts (at most 8);
 /// `None` where the bytes are the encoding of no state that can be saved. Version 1 is of a program whose keys are off. The ring of output has room for [`HELD_LIMIT`] bytes. All memory that
 /// tables and ring need is taken here; the only error is that it is refused.
@@ -119,29 +164,9 @@ pub fn decode_tables(
     ensures exact { IfOk result (λ found. DecodesTo version harts bytes.now (saved found)) }
     ensures room { IfOk result (λ found. IfSome found (λ parts. parts.1.capacity ≡ HELD_LIMIT)) }
 {
-    let threads = Threads::empty(alloc, harts, Keys::all())?;
-    let input = InputQueue::new(alloc)?;
-    let mut held = Held::with_capacity(alloc, HELD_LIMIT)?;
-    let mut tables = Tables {
-        threads,
-        mutexes: Mutexes::new(),
-        barriers: Barriers::new(),
-        rwlocks: RwLocks::new(),
-        clock: 0,
-        input,
-        closed: false,
-        status: Status::Running,
-    };
+    let (mut tables, mut held) = begin(alloc, harts)?;
     read_tables(bytes, version, &mut tables, &mut held);
-    if !tables.is_well_formed() || tables.threads.hart_count() != harts {
-        return Ok(None);
-    }
-    if version == 1 && !is_without_keys(&tables.threads) {
-        return Ok(None);
-    }
-    known_savable(&tables, &held, version);
-    let mut room = zeros(alloc, most_bytes(&tables, &held))?;
-    if !is_encoding(&tables, &held, version, room.as_mut_slice(), bytes) {
+    if !are_encoded(alloc, version, bytes, harts, &tables, &held)? {
         return Ok(None);
     }
     Ok(Some((tables, held)))
