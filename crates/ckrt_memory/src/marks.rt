@@ -20,7 +20,8 @@ pub fn has_bit(mark: u8, area: usize) -> bool
 /// The bits that some of these marks have.
 #[inline(always)]
 fn all_bits(marks: &[u8]) -> u8
-    ensures { (area p : ℕ) → p < length marks.now → has_bit area result ≡ false → has_bit area (slice_index marks.now p) ≡ false }
+    ensures { (area p : ℕ) → p < length marks.now → has_bit area result ≡ false
+        → has_bit area (slice_index marks.now p) ≡ false }
 {
     let mut bits = 0;
     for i in 0..marks.len() {
@@ -34,7 +35,8 @@ fn all_bits(marks: &[u8]) -> u8
 fn is_group_clean(marks: &[u8; 1024], area: usize, first: usize) -> bool
     requires area { area ≤ 1 }
     requires group { first + 32 ≤ 1024 }
-    ensures { result ≡ true → (p : ℕ) → first ≤ p → p < first + 32 → has_bit area (slice_index marks.now p) ≡ false }
+    ensures { result ≡ true → (p : ℕ) → first ≤ p → p < first + 32
+        → has_bit area (slice_index marks.now p) ≡ false }
 {
     !has_bit(all_bits(&marks[first..first + GROUP]), area)
 }
@@ -73,7 +75,8 @@ pub fn clean_marks(marks: &mut [u8; 1024], area: usize)
     requires { area ≤ 1 }
     ensures length { length marks.new ≡ length marks.old }
     ensures clean { (p : ℕ) → slice_index marks.new p / 2 ^ area % 2 ≡ 0 }
-    ensures others { (b p : ℕ) → b ≤ 1 → b ≢ area → slice_index marks.new p / 2 ^ b % 2 ≡ slice_index marks.old p / 2 ^ b % 2 }
+    ensures others { (b p : ℕ) → b ≤ 1 → b ≢ area
+        → slice_index marks.new p / 2 ^ b % 2 ≡ slice_index marks.old p / 2 ^ b % 2 }
 {
     for p in 0..PAGES_LIMIT {
         marks[p] = cleaned(marks[p], area);
