@@ -51,10 +51,19 @@ SECTIONS
 
     __guest_heap = ALIGN(16);
 
-    /* -Wl,--defsym=__guest_first_stack_size=BYTES sets another. */
-    PROVIDE(__guest_first_stack_size = 16384);
+    /* -Wl,--defsym=__guest_first_stack_size=BYTES sets another; 0 is a share of memory, see source/stack.h. */
+    PROVIDE(__guest_first_stack_size = 0);
+
+    /* What memory has to hold at least: the program, its variables, and the first thread's stack. */
+    __guest_pages_needed = MAX(16, (__guest_heap + MAX(__guest_first_stack_size, 16384) + 4095) / 4096);
+    ASSERT(__guest_pages_needed <= 1024, "the program needs more than the 1,024 pages that a guest can have")
+
+    /* For debuggers alone: no part of the image. */
+    .eh_frame 0 (INFO) : {
+        KEEP(*(.eh_frame .eh_frame.*))
+    }
 
     /DISCARD/ : {
-        *(.comment .note .note.* .eh_frame .eh_frame.* .riscv.attributes)
+        *(.comment .note .note.* .riscv.attributes)
     }
 }

@@ -1,2 +1,15 @@
-/* Stands before the header of the same name, so that a program learns at once what it has to do without. */
-#error "a guest has no say in its scheduling"
+/* Who runs is decided outside the guest: of <sched.h> there is one call, which does nothing. */
+#ifndef GUEST_SCHED_H
+#define GUEST_SCHED_H
+
+#ifdef __cplusplus
+extern "C" {
+#endif
+
+int sched_yield(void);
+
+#ifdef __cplusplus
+}
+#endif
+
+#endif

@@ -1,2 +1,10 @@
-/* Stands before the header of the same name, so that a program learns at once what it has to do without. */
-#error "a guest has no atomic instructions: use a mutex"
+/*
+ * Atomic operations of a guest: the compiler's <stdatomic.h>. Each is a call that takes one lock of the kit, but for a
+ * load of up to four bytes. Nothing is free of locks, so the macros ATOMIC_.._LOCK_FREE are 1, which says "sometimes".
+ */
+#ifndef GUEST_STDATOMIC_H
+#define GUEST_STDATOMIC_H
+
+#include_next <stdatomic.h>
+
+#endif

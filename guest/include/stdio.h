@@ -9,6 +9,11 @@
 #define GUEST_STDIO_H
 
 #include_next <stdio.h>
+#include <sys/types.h>
+
+#ifdef __cplusplus
+extern "C" {
+#endif
 
 void flockfile(FILE *stream);
 int ftrylockfile(FILE *stream);
@@ -19,6 +24,10 @@ void funlockfile(FILE *stream);
 #define putc_unlocked(byte, stream) putc(byte, stream)
 #define putchar_unlocked(byte) putchar(byte)
 
+/* Cancellation points. The line grows by realloc; -1 at the end of the input, or where there is no room (ENOMEM). */
+ssize_t getline(char **__restrict line, size_t *__restrict room, FILE *__restrict stream);
+ssize_t getdelim(char **__restrict line, size_t *__restrict room, int end, FILE *__restrict stream);
+
 #define GUEST_HAS_NO_FILES __attribute__((error("a guest has no files, only stdin, stdout and stderr")))
 
 FILE *fopen(const char *, const char *) GUEST_HAS_NO_FILES;
@@ -27,5 +36,9 @@ FILE *fdopen(int, const char *) GUEST_HAS_NO_FILES;
 FILE *tmpfile(void) GUEST_HAS_NO_FILES;
 int remove(const char *) GUEST_HAS_NO_FILES;
 int rename(const char *, const char *) GUEST_HAS_NO_FILES;
+
+#ifdef __cplusplus
+}
+#endif
 
 #endif

@@ -13,6 +13,21 @@
 #define CLOCK_MONOTONIC ((clockid_t)4)
 #endif
 
+#ifndef CLOCK_PROCESS_CPUTIME_ID
+#define CLOCK_PROCESS_CPUTIME_ID ((clockid_t)2)
+#endif
+#ifndef CLOCK_THREAD_CPUTIME_ID
+#define CLOCK_THREAD_CPUTIME_ID ((clockid_t)3)
+#endif
+
+/* As POSIX says; the C library counts milliseconds. */
+#undef CLOCKS_PER_SEC
+#define CLOCKS_PER_SEC ((clock_t)1000000)
+
+#ifdef __cplusplus
+extern "C" {
+#endif
+
 int clock_gettime(clockid_t clock, struct timespec *now);
 int clock_getres(clockid_t clock, struct timespec *resolution);
 
@@ -20,6 +35,11 @@ int clock_getres(clockid_t clock, struct timespec *resolution);
 int clock_nanosleep(clockid_t clock, int flags, const struct timespec *time, struct timespec *rest);
 int nanosleep(const struct timespec *time, struct timespec *rest);
 
-clock_t clock(void) __attribute__((error("a guest has no processor time: use clock_gettime")));
+/* There is no processor time: this is the one clock too, in microseconds. */
+clock_t clock(void);
+
+#ifdef __cplusplus
+}
+#endif
 
 #endif

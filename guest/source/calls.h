@@ -51,6 +51,7 @@
 
 #ifndef __ASSEMBLER__
 
+#include "stack.h"
 #include <errno.h>
 #include <stdint.h>
 
@@ -82,6 +83,7 @@ static inline int error_of(uint32_t result) {
 /* A call with one answer about an object, which is named by its address. */
 static inline int object_call(uint32_t number, const volatile void *object, uint32_t second, uint32_t third,
                               uint32_t fourth) {
+    glance_at_stack();
     return error_of(runtime(number, (uint32_t)object, second, third, fourth).result);
 }
 

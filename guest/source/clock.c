@@ -29,22 +29,29 @@ static struct timespec time_of(uint64_t ticks) {
 
 static bool is_clock(clockid_t clock) { return clock == CLOCK_REALTIME || clock == CLOCK_MONOTONIC; }
 
+/* Processor time can be asked for, and is the one clock's too. */
+static bool is_readable(clockid_t clock) {
+    return is_clock(clock) || clock == CLOCK_PROCESS_CPUTIME_ID || clock == CLOCK_THREAD_CPUTIME_ID;
+}
+
 static int failed(int error) {
     errno = error;
     return -1;
 }
 
 int clock_gettime(clockid_t clock, struct timespec *now) {
-    if (!is_clock(clock)) return failed(EINVAL);
+    if (!is_readable(clock)) return failed(EINVAL);
     *now = time_of(__guest_now());
     return 0;
 }
 
 int clock_getres(clockid_t clock, struct timespec *resolution) {
-    if (!is_clock(clock)) return failed(EINVAL);
+    if (!is_readable(clock)) return failed(EINVAL);
     if (resolution) *resolution = time_of(1);
     return 0;
 }
+
+clock_t clock(void) { return (clock_t)(__guest_now() * (CLOCKS_PER_SEC / TICKS_A_SECOND)); }
 
 int gettimeofday(struct timeval *restrict now, void *restrict zone) {
     (void)zone;

@@ -41,6 +41,12 @@ int pthread_cond_timedwait(pthread_cond_t *restrict condition, pthread_mutex_t *
     return object_call(CALL_COND_TIMEDWAIT, condition, (uint32_t)mutex, low_word(moment), high_word(moment));
 }
 
+int pthread_cond_clockwait(pthread_cond_t *restrict condition, pthread_mutex_t *restrict mutex, clockid_t clock,
+                           const struct timespec *restrict deadline) {
+    if (clock != CLOCK_REALTIME && clock != CLOCK_MONOTONIC) return EINVAL;
+    return pthread_cond_timedwait(condition, mutex, deadline);
+}
+
 int pthread_cond_signal(pthread_cond_t *condition) { return object_call(CALL_COND_SIGNAL, condition, 0, 0, 0); }
 
 int pthread_cond_broadcast(pthread_cond_t *condition) { return object_call(CALL_COND_BROADCAST, condition, 0, 0, 0); }

@@ -11,6 +11,8 @@
 #include <stdarg.h>
 #include <stdbool.h>
 #include <stdio.h>
+#include <stdlib.h>
+#include <string.h>
 
 #define END_OF_INPUT 0xFFFFFFFF
 
@@ -68,6 +70,24 @@ static void end_writing(FILE *stream, int state) {
     pthread_setcancelstate(state, NULL);
 }
 
+/* The library's formats have no long double. guest/cc refuses a program with such a text in it; of a format that is made
+   while the program runs this tells. */
+static void refuse_long_double(const char *format) {
+    for (const char *at = format; (at = strchr(at, '%')); at++) {
+        at += 1 + strspn(at + 1, "-+ #0123456789.*");
+        if (*at == 'L' && at[1] && strchr("aAeEfFgG", at[1])) {
+            __guest_say("a guest can't print or read a long double: convert it to double\n");
+            abort();
+        }
+        if (!*at) return;
+    }
+}
+
+static const char *checked(const char *format) {
+    if (strchr(format, 'L')) refuse_long_double(format);
+    return format;
+}
+
 /* A call __wrap_NAME that writes to `stream` by __real_NAME. */
 #define WRITING(type, name, stream, parameters, arguments) \
     type __real_##name parameters;                         \
@@ -83,7 +103,7 @@ WRITING(int, putc, to, (int byte, FILE *to), (byte, to))
 WRITING(int, fputs, to, (const char *text, FILE *to), (text, to))
 WRITING(int, puts, stdout, (const char *text), (text))
 WRITING(size_t, fwrite, to, (const void *from, size_t size, size_t count, FILE *to), (from, size, count, to))
-WRITING(int, vfprintf, to, (FILE *to, const char *format, va_list values), (to, format, values))
+WRITING(int, vfprintf, to, (FILE *to, const char *format, va_list values), (to, checked(format), values))
 
 /* --- Reading ------------------------------------------------------------------------------------------------------ */
 
@@ -106,4 +126,4 @@ READING(int, getc, from, (FILE *from), (from))
 READING(int, ungetc, from, (int byte, FILE *from), (byte, from))
 READING(char *, fgets, from, (char *to, int size, FILE *from), (to, size, from))
 READING(size_t, fread, from, (void *to, size_t size, size_t count, FILE *from), (to, size, count, from))
-READING(int, vfscanf, from, (FILE *from, const char *format, va_list places), (from, format, places))
+READING(int, vfscanf, from, (FILE *from, const char *format, va_list places), (from, checked(format), places))

@@ -4,14 +4,15 @@
 #include <stddef.h>
 #include <unistd.h>
 
-extern char __guest_heap[];
+static char *heap_begin, *heap_top, *heap_end;
 
-static char *heap_top = __guest_heap, *heap_end;
-
-void __guest_set_heap_end(char *end) { heap_end = end; }
+void __guest_set_heap(char *begin, char *end) {
+    heap_begin = heap_top = begin;
+    heap_end = end;
+}
 
 void *sbrk(ptrdiff_t bytes) {
-    if (bytes > heap_end - heap_top || bytes < __guest_heap - heap_top) {
+    if (bytes > heap_end - heap_top || bytes < heap_begin - heap_top) {
         errno = ENOMEM;
         return (void *)-1;
     }

@@ -1,7 +1,12 @@
-/* The heap lies between the program and the first thread's stack. */
+/* The heap lies between the program, with main's arguments behind it, and the first thread's stack. */
 #ifndef GUEST_HEAP_H
 #define GUEST_HEAP_H
 
-void __guest_set_heap_end(char *end);
+#include <stddef.h>
+
+void __guest_set_heap(char *begin, char *end);
+
+/* malloc, without the zeros that the C library's writes into each block. */
+void *__guest_take(size_t bytes);
 
 #endif

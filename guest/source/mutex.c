@@ -40,6 +40,12 @@ int pthread_mutex_timedlock(pthread_mutex_t *restrict mutex, const struct timesp
     return object_call(CALL_MUTEX_TIMEDLOCK, mutex, low_word(moment), high_word(moment), 0);
 }
 
+int pthread_mutex_clocklock(pthread_mutex_t *restrict mutex, clockid_t clock,
+                            const struct timespec *restrict deadline) {
+    if (clock != CLOCK_REALTIME && clock != CLOCK_MONOTONIC) return EINVAL;
+    return pthread_mutex_timedlock(mutex, deadline);
+}
+
 int pthread_mutex_unlock(pthread_mutex_t *mutex) { return object_call(CALL_MUTEX_UNLOCK, mutex, 0, 0, 0); }
 
 static void unlock(void *mutex) { pthread_mutex_unlock(mutex); }

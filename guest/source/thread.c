@@ -7,10 +7,11 @@
  */
 #include "thread.h"
 #include "calls.h"
+#include "heap.h"
 #include <stdlib.h>
 #include <string.h>
 
-enum { STACK_BYTES = 8192, STACK_ALIGNMENT = 16 };
+enum { LEAST_STACK = 8192 };
 
 pthread_mutex_t __guest_threads_lock;
 
@@ -19,7 +20,7 @@ static struct thread *threads[PTHREAD_THREADS_MAX + 1] = {[1] = &first_thread};
 static unsigned thread_count = 1;
 
 int pthread_attr_init(pthread_attr_t *attributes) {
-    *attributes = (pthread_attr_t){.detach_state = PTHREAD_CREATE_JOINABLE, .stack_size = STACK_BYTES};
+    *attributes = (pthread_attr_t){.detach_state = PTHREAD_CREATE_JOINABLE, .stack_size = __guest_usual_stack(LEAST_STACK)};
     return 0;
 }
 
@@ -50,34 +51,75 @@ int pthread_attr_getstacksize(const pthread_attr_t *attributes, size_t *bytes) {
     return 0;
 }
 
+int pthread_attr_getstack(const pthread_attr_t *attributes, void **stack, size_t *bytes) {
+    *stack = attributes->stack;
+    *bytes = attributes->stack_size;
+    return 0;
+}
+
+int pthread_attr_setguardsize(pthread_attr_t *attributes, size_t bytes) {
+    (void)attributes, (void)bytes;
+    return 0;
+}
+
+int pthread_attr_getguardsize(const pthread_attr_t *attributes, size_t *bytes) {
+    (void)attributes;
+    *bytes = GUARD_BYTES;
+    return 0;
+}
+
+int pthread_attr_setscope(pthread_attr_t *attributes, int scope) {
+    (void)attributes;
+    return scope == PTHREAD_SCOPE_SYSTEM ? 0 : scope == PTHREAD_SCOPE_PROCESS ? ENOTSUP : EINVAL;
+}
+
 /* The alignment is a power of two. */
 static uintptr_t round_down(uintptr_t address, uintptr_t alignment) { return address & -alignment; }
 
-/* The block's parts, from its end down: thread-local variables, the record, the stack. NULL: the heap has no room. */
+/* The block's parts, from its end down: thread-local variables, the record, the stack, its guard. NULL: the heap has no
+   room. */
 static struct thread *new_thread(size_t stack_bytes) {
     uintptr_t locals_bytes = (uintptr_t)__guest_locals_size, locals_align = (uintptr_t)__guest_locals_align;
-    size_t others = sizeof(struct thread) + STACK_ALIGNMENT + locals_bytes + locals_align;
+    size_t others = GUARD_BYTES + sizeof(struct thread) + STACK_ALIGNMENT + locals_bytes + locals_align;
     if (stack_bytes > SIZE_MAX - others) return NULL;
-    char *memory = malloc(stack_bytes + others);
+    char *memory = __guest_take(stack_bytes + others);
     if (!memory) return NULL;
 
     uintptr_t locals = round_down((uintptr_t)memory + stack_bytes + others - locals_bytes, locals_align);
     struct thread *thread = (struct thread *)round_down(locals - sizeof *thread, STACK_ALIGNMENT);
-    *thread = (struct thread){.memory = memory, .locals = (void *)locals};
+    *thread = (struct thread){
+        .memory = memory, .guard = (uint32_t *)memory, .stack_size = stack_bytes, .locals = (void *)locals};
+    __guest_write_guard(thread->guard);
     __guest_set_locals(thread->locals);
     return thread;
 }
 
-void __guest_enter_first_thread(void) {
+/* A thread for which nobody asked a size: where the heap has no room for the usual stack, half of it, and so on. */
+static struct thread *new_usual_thread(void) {
+    size_t bytes = __guest_usual_stack(LEAST_STACK);
+    struct thread *thread;
+    while (!(thread = new_thread(bytes)) && bytes > LEAST_STACK) {
+        bytes = bytes / 2 > LEAST_STACK ? bytes / 2 : LEAST_STACK;
+    }
+    return thread;
+}
+
+void __guest_enter_first_thread(uint32_t *guard, const char *stack_end) {
+    first_thread.guard = guard;
+    first_thread.stack_size = (size_t)(stack_end - (char *)guard - GUARD_BYTES);
     /* Of this type a mutex is in use for good, so that no lock of it finds all 256 in use by others. */
     pthread_mutexattr_t attributes = {.type = PTHREAD_MUTEX_RECURSIVE};
     pthread_mutex_init(&__guest_threads_lock, &attributes);
     __guest_cleanup_push(__guest_thread_end, &first_thread);
 }
 
+/* Not a part of `begin`, where the compiler may take x4 for what it was before. */
+__attribute__((noinline)) static void set_guard(const struct thread *thread) { __guest_guard = thread->guard; }
+
 /* Where a new thread begins, with nothing but its stack and its argument in registers. */
 static void begin(struct thread *thread) {
     __asm__ volatile("mv tp, %0" : : "r"(thread->locals) : "memory");
+    set_guard(thread);
     __guest_cleanup_push(__guest_thread_end, thread);
     /* Waits for who created it, so that its id is stored and its place in the table is filled. */
     pthread_mutex_lock(&__guest_threads_lock);
@@ -87,7 +129,7 @@ static void begin(struct thread *thread) {
 
 int pthread_create(pthread_t *restrict id, const pthread_attr_t *restrict attributes, void *(*start)(void *),
                    void *restrict argument) {
-    struct thread *thread = new_thread(attributes ? attributes->stack_size : STACK_BYTES);
+    struct thread *thread = attributes ? new_thread(attributes->stack_size) : new_usual_thread();
     if (!thread) return EAGAIN;
     thread->start = start;
     thread->argument = argument;
@@ -110,6 +152,52 @@ int pthread_create(pthread_t *restrict id, const pthread_attr_t *restrict attrib
 /* The record of a thread, by its id, under the lock; of no meaning where the runtime doesn't know the id. */
 static struct thread *thread_of(pthread_t id) { return id <= PTHREAD_THREADS_MAX ? threads[id] : NULL; }
 
+/* Does something with the record of a thread that the runtime knows and that hasn't left, under the lock. */
+static int with_record(pthread_t id, int (*act)(struct thread *thread, void *with), void *with) {
+    pthread_mutex_lock(&__guest_threads_lock);
+    struct thread *thread = thread_of(id);
+    int error = thread && !thread->has_left ? act(thread, with) : ESRCH;
+    pthread_mutex_unlock(&__guest_threads_lock);
+    return error;
+}
+
+static int set_name(struct thread *thread, void *name) {
+    strcpy(thread->name, name);
+    return 0;
+}
+
+static int get_name(struct thread *thread, void *name) {
+    strcpy(name, thread->name);
+    return 0;
+}
+
+int pthread_setname_np(pthread_t id, const char *name) {
+    return strlen(name) < THREAD_NAME_BYTES ? with_record(id, set_name, (void *)name) : ERANGE;
+}
+
+int pthread_getname_np(pthread_t id, char *name, size_t bytes) {
+    return bytes >= THREAD_NAME_BYTES ? with_record(id, get_name, name) : ERANGE;
+}
+
+static int get_attributes(struct thread *thread, void *to) {
+    pthread_attr_t *attributes = to;
+    attributes->detach_state = thread->is_detached ? PTHREAD_CREATE_DETACHED : PTHREAD_CREATE_JOINABLE;
+    attributes->stack_size = thread->stack_size;
+    attributes->stack = (char *)thread->guard + GUARD_BYTES;
+    return 0;
+}
+
+int pthread_getattr_np(pthread_t id, pthread_attr_t *attributes) {
+    return with_record(id, get_attributes, attributes);
+}
+
+/* Takes the record of a thread that was joined out of the table, where its id isn't a new thread's yet. */
+static void forget(pthread_t id, const struct thread *thread) {
+    pthread_mutex_lock(&__guest_threads_lock);
+    if (threads[id] == thread) threads[id] = NULL;
+    pthread_mutex_unlock(&__guest_threads_lock);
+}
+
 /* The record is looked up before the join, since afterwards the id may be a new thread's. */
 int pthread_join(pthread_t id, void **value) {
     pthread_mutex_lock(&__guest_threads_lock);
@@ -118,6 +206,7 @@ int pthread_join(pthread_t id, void **value) {
 
     struct answer joined = runtime(CALL_JOIN, id, 0, 0, 0);
     if (joined.result != 0) return error_of(joined.result);
+    forget(id, thread);
     free(thread->memory);
     if (value) *value = (void *)joined.value;
     return 0;
@@ -130,7 +219,10 @@ int pthread_detach(pthread_t id) {
     if (result == 0) {
         struct thread *thread = thread_of(id);
         thread->is_detached = true;
-        if (thread->has_left) left_memory = thread->memory;
+        if (thread->has_left) {
+            left_memory = thread->memory;
+            threads[id] = NULL;
+        }
     }
     pthread_mutex_unlock(&__guest_threads_lock);
     free(left_memory);
@@ -140,13 +232,16 @@ int pthread_detach(pthread_t id) {
 /* Called by a thread that ends, under the lock. Answers the memory that it is to free, if any. The last thread goes on
    to the routines of atexit, and is still counted: these may make threads, and join them. */
 void *__guest_thread_leave(struct thread *thread) {
+    __guest_check_stack();
     if (thread_count == 1) {
         pthread_mutex_unlock(&__guest_threads_lock);
         exit(0);
     }
     thread_count--;
     thread->has_left = true;
-    return thread->is_detached ? thread->memory : NULL;
+    if (!thread->is_detached) return NULL;
+    threads[pthread_self()] = NULL;
+    return thread->memory;
 }
 
 void pthread_exit(void *value) {

@@ -3,15 +3,20 @@
 #define GUEST_THREAD_H
 
 #define SPARE_STACK_BYTES 512
+#define THREAD_NAME_BYTES 16
 
 #ifndef __ASSEMBLER__
 
 #include <pthread.h>
 #include <stdbool.h>
+#include <stdint.h>
 
-/* A new thread's memory is one block of the heap: its stack, this record above it, and its thread-local variables. */
+/* A new thread's memory is one block of the heap: a guard, its stack, this record, and its thread-local variables. */
 struct thread {
     void *memory; /* the block; NULL for the first thread */
+    uint32_t *guard; /* below the stack */
+    size_t stack_size;
+    char name[THREAD_NAME_BYTES];
     void *(*start)(void *);
     void *argument;
     void *locals; /* x4 while the thread runs */
@@ -34,8 +39,9 @@ void __guest_thread_end(void *thread);
 /* Calls the destructors of a thread's values, in rounds. */
 void __guest_run_destructors(struct thread *thread);
 
-/* Makes the lock of the table of threads, and gives the first thread its last handler, as every other thread has it. */
-void __guest_enter_first_thread(void);
+/* Makes the lock of the table of threads, and gives the first thread its last handler, as every other thread has it.
+   Its stack lies between its guard and `stack_end`. */
+void __guest_enter_first_thread(uint32_t *guard, const char *stack_end);
 
 #endif
 #endif

@@ -4,6 +4,7 @@
 
     .section .text.__guest_thread_end, "ax", @progbits
     .globl __guest_thread_end
+    .type   __guest_thread_end, @function
 
 # The clean-up handler that runs last, with the thread's record in x10. The thread unwinds, so no request is acted on. First
 # come the destructors of its values.
@@ -21,7 +22,7 @@ __guest_thread_end:
     mv      a0, s0
     call    __guest_thread_leave
     beqz    a0, 1f
-    la      sp, spare_stack_end
+    la      sp, __guest_spare_stack_end
     la      tp, __guest_first_locals
     call    free
 1:  mv      a0, s1
@@ -29,14 +30,18 @@ __guest_thread_end:
     ecall
     li      t0, UNWINDING_GATE
     jr      t0
+    .size   __guest_thread_end, . - __guest_thread_end
 
     .section .bss.spare_stack, "aw", @nobits
+    .globl  __guest_spare_stack, __guest_spare_stack_end
     .balign 16
+__guest_spare_stack:
     .zero   SPARE_STACK_BYTES
-spare_stack_end:
+__guest_spare_stack_end:
 
     .section .text.__guest_cleanup_pop, "ax", @progbits
     .globl __guest_cleanup_pop
+    .type   __guest_cleanup_pop, @function
 
 # void __guest_cleanup_pop(int execute). The call may run the handler, which overwrites x1 and returns behind the ECALL.
 __guest_cleanup_pop:
@@ -47,3 +52,4 @@ __guest_cleanup_pop:
     lw      ra, 12(sp)
     addi    sp, sp, 16
     ret
+    .size   __guest_cleanup_pop, . - __guest_cleanup_pop

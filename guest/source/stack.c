@@ -1,0 +1,66 @@
+/*
+ * Guards of stacks. Memory has no pages that would catch an overflow, so each stack has known words below it. They are
+ * looked at in the kit's calls: a thread is stopped at the first call that it makes with a stack that has overflowed, or
+ * when it ends.
+ */
+#include "stack.h"
+#include "calls.h"
+#include <stdbool.h>
+
+enum { STACK_SHARE = 16, MOST_STACK = 65536, STATUS_OF_ABORT = 134 };
+
+_Thread_local const uint32_t *__guest_guard;
+
+static size_t memory_bytes;
+
+void __guest_set_memory(size_t bytes) { memory_bytes = bytes; }
+
+size_t __guest_usual_stack(size_t least) {
+    size_t share = memory_bytes / STACK_SHARE & -(size_t)STACK_ALIGNMENT;
+    return share < least ? least : share > MOST_STACK ? MOST_STACK : share;
+}
+
+void __guest_write_guard(uint32_t *guard) {
+    for (int i = 0; i < GUARD_WORDS; i++) guard[i] = GUARD_WORD;
+}
+
+void __guest_check_stack(void) {
+    const uint32_t *guard = __guest_guard;
+    glance_at_stack();
+    for (int i = 0; i < GUARD_WORDS; i++) {
+        if (guard[i] != GUARD_WORD) __guest_stack_overflowed();
+    }
+}
+
+void __guest_say(const char *text) {
+    for (; *text; text++) runtime(CALL_PUTC, (unsigned char)*text, 0, 0, 0);
+}
+
+void __guest_say_number(uint32_t number) {
+    char digits[11], *at = digits + sizeof digits - 1;
+    *at = 0;
+    do *--at = (char)('0' + number % 10);
+    while (number /= 10);
+    __guest_say(at);
+}
+
+void __guest_stop(int status) {
+    runtime(CALL_EXIT, (uint32_t)status, 0, 0, 0);
+    __builtin_unreachable();
+}
+
+/* A detached thread that frees its memory stands on the spare stack of thread_end.S, which has no guard. */
+static bool is_on_spare_stack(void) {
+    extern char __guest_spare_stack[], __guest_spare_stack_end[];
+    char *here = __builtin_frame_address(0);
+    return here > __guest_spare_stack && here <= __guest_spare_stack_end;
+}
+
+void __guest_stack_overflowed(void) {
+    if (is_on_spare_stack()) return;
+    runtime(CALL_SETCANCELSTATE, 1, 0, 0, 0);
+    __guest_say("stack of thread ");
+    __guest_say_number(runtime(CALL_SELF, 0, 0, 0, 0).result);
+    __guest_say(" overflowed\n");
+    __guest_stop(STATUS_OF_ABORT);
+}

@@ -1,0 +1,277 @@
+"""The checks of the guest kit that aren't a comparison of outputs: refusals and their texts, endings, tools, and words."""
+import random
+import re
+import subprocess
+from pathlib import Path
+
+TOP = Path(__file__).resolve().parent.parent.parent
+ENDINGS = TOP / "tests/programs/endings"
+BUILD, CC, IMAGE, WHERE, NAMES = (TOP / "guest" / name for name in ("build", "cc", "image", "where", "names"))
+TOOL = "riscv64-unknown-elf-"
+
+TEXT = b"""When the power may go at any moment, a program that is to come back has to know what it did.
+Each choice from outside stands in a journal: which thread ran, how long, what was typed, when the clock ticked.
+A journal that is complete can be read again, and the program does again what it did.
+What was printed stays printed; what wasn't acknowledged may be lost, and nothing else.
+
+The reader doesn't wait for the writer, and the writer waits for the reader only where the journal is full.
+""" * 3
+
+
+def call(*words):
+    """Runs a command that has to go well; what it printed."""
+    done = subprocess.run([str(word) for word in words], capture_output=True, text=True, check=False)
+    if done.returncode:
+        raise SystemExit(f"{' '.join(map(str, words))}\n{done.stdout}{done.stderr}")
+    return done.stdout
+
+
+def formula(variables, clauses, seed):
+    """A formula of clauses of three literals, in the DIMACS format."""
+    chance = random.Random(seed)
+    lines = [f"c of {seed}", f"p cnf {variables} {clauses}"]
+    for _ in range(clauses):
+        three = chance.sample(range(1, variables + 1), 3)
+        lines.append(" ".join(str(chance.choice([1, -1]) * literal) for literal in three) + " 0")
+    return "".join(line + "\n" for line in lines).encode()
+
+
+# --- Refusals ---------------------------------------------------------------------------------------------------------
+
+NO_FILES = "a guest has no files, only stdin, stdout and stderr"
+REFUSED_SOURCES = [
+    ("#include <signal.h>", "a guest has no signals"),
+    ("#include <threads.h>", "use <pthread.h>"),
+    ("#include <stdio.h>\nFILE *file(void) { return fopen(\"name\", \"r\"); }", NO_FILES),
+    ("#include <unistd.h>\nint two(void) { return fork(); }", "fork: a guest is one process"),
+    ("#include <fcntl.h>\nint file(void) { return open(\"name\", 0); }", f"open: {NO_FILES}"),
+    ("#include <stdlib.h>\nint run(void) { return system(\"ls\"); }", "a guest is one process"),
+    ("#include <pthread.h>\nint low(void) { return pthread_setschedprio(pthread_self(), 1); }", "pthread_setschedprio"),
+    ("#include <stdio.h>\nint show(long double of) { return printf(\"it is %-8.3Lf\\n\", of); }",
+     "the text \"it is %-8.3Lf\" has a long double"),
+    ("#include <stdio.h>\nint take(long double *to) { return scanf(\"%Lg\", to); }", "convert it to double"),
+    ("char many[5000000]; char *all(void) { return many; }", "more than the 1,024 pages"),
+]
+REFUSED_WORDS = [
+    ([BUILD, "{c}", "-o", "{folder}/none/program.bin"], "there is no folder"),
+    ([BUILD, "{c}", "-o", "{folder}"], "that is a folder"),
+    ([BUILD, "{c}", "-o"], "-o wants the name"),
+    ([BUILD, "{c}", "nonsense", "-o", "{folder}/p.bin"], "nonsense is neither an option nor a file"),
+    ([BUILD, "{folder}/none.c", "-o", "{folder}/p.bin"], "none.c is neither an option nor a file"),
+    ([BUILD, "-c", "{c}", "-o", "{folder}/p.bin"], "guest/cc takes it"),
+    ([BUILD, "{c}", "-o", "{folder}/p.bin", "--env", "GREETING"], "it has to be NAME=VALUE"),
+    ([BUILD], "usage: guest/build"),
+    ([CC, "-shared", "{c}"], "no shared libraries"),
+    ([CC, "-fsanitize=thread", "{c}"], "-fsanitize=thread: a guest has no library for it"),
+    ([CC, "{folder}/none.c"], "there is no such file"),
+    ([CC], "no source is named"),
+    ([IMAGE, "{folder}/none"], "No such file"),
+    ([IMAGE, "{folder}/empty"], "it is empty"),
+    ([IMAGE, "{c}"], "it is no ELF file"),
+    ([IMAGE, "{folder}/host"], "it is for "),
+    ([IMAGE, "{folder}/object.o"], "it is an object: link it first"),
+    ([IMAGE, "{folder}/stripped"], "the kit's symbols aren't there"),
+    ([WHERE, "{folder}/host"], "usage: guest/where"),
+    ([WHERE, "{folder}/none", "1000"], "there is no such file"),
+    ([WHERE, "{folder}/host", "main"], "hexadecimal digits"),
+    ([NAMES, "{folder}/none"], "there is no such file"),
+]
+
+
+def refused_sources(folder):
+    for number, (text, reason) in enumerate(REFUSED_SOURCES):
+        source, image = folder / "refused.c", folder / f"refused.{number}.bin"
+        source.write_text(f"{text}\nint main(void) {{ return 0; }}\n")
+        done = subprocess.run([BUILD, source, "-o", image, "-Wl,--no-gc-sections"], capture_output=True, text=True, check=False)
+        if done.returncode == 0 or image.exists():
+            yield f"guest/build takes: {text}"
+        elif reason not in done.stderr:
+            yield f"guest/build of: {text}\n  has no text {reason!r}, but {done.stderr!r}"
+
+
+def refused_words(folder):
+    places = {"folder": str(folder), "c": str(folder / "fine.c")}
+    (folder / "fine.c").write_text("int main(void) { return 0; }\n")
+    (folder / "empty").write_bytes(b"")
+    call("cc", folder / "fine.c", "-o", folder / "host")
+    call(CC, "-c", folder / "fine.c", "-o", folder / "object.o")
+    call(CC, folder / "fine.c", "-o", folder / "whole")
+    call(f"{TOOL}strip", folder / "whole", "-o", folder / "stripped")
+    for words, reason in REFUSED_WORDS:
+        given = [str(word).format(**places) for word in words]
+        done = subprocess.run(given, capture_output=True, text=True, check=False, cwd=folder)
+        if done.returncode == 0 or reason not in done.stderr:
+            yield f"{' '.join(given)}: status {done.returncode}, and no text {reason!r}, but {done.stderr!r}"
+
+
+# --- Endings ----------------------------------------------------------------------------------------------------------
+
+OVERFLOWED = "stack of thread {} overflowed\n"
+
+
+def overflow(way, place, *more):
+    return [f"-DWAY={way}", f"-DIN_MAIN={int(place == 'main')}", f"-DIN_MALLOC={int('malloc' in more)}", "-w"]
+
+
+ENDED = [  # a program, its options, pages, how it ends and what it prints
+    ("overflow.c", overflow("wide", "main"), 64, "exit 134", "begin\n" + OVERFLOWED.format(1)),
+    ("overflow.c", overflow("recursion", "main"), 64, "exit 134", "begin\n" + OVERFLOWED.format(1)),
+    ("overflow.c", overflow("wide_call", "main"), 64, "exit 134", "begin\n" + OVERFLOWED.format(1)),
+    ("overflow.c", overflow("wide", "thread"), 64, "exit 134", "begin\n" + OVERFLOWED.format(2)),
+    ("overflow.c", overflow("recursion", "thread"), 64, "exit 134", "begin\n" + OVERFLOWED.format(2)),
+    ("overflow.c", overflow("recursion", "thread", "malloc"), 64, "exit 134", "begin\n" + OVERFLOWED.format(2)),
+    ("overflow.c", overflow("wide_call", "thread"), 64, "exit 134", "begin\n" + OVERFLOWED.format(2)),
+    ("overflow.c", overflow("recursion", "thread"), 256, "exit 0", "begin\nnever printed\n"),  # 64 KiB are enough
+    ("no_stack.c", [], 64, "exit 3", "EAGAIN\n"),
+    ("long_double.c", [], 64, "exit 134", "begin\na guest can't print or read a long double: convert it to double\n"),
+    ("large.c", [], 64, "exit 126", "this guest needs {pages} pages at least: format its disk with --pages\n"),
+    ("large.c", [], 100, "exit 0", "1\n"),
+]
+
+
+def driven(ckrt, image, folder, *options, pages=64):
+    """Formats a disk and drives it to its end: the last line on standard error, and the output."""
+    disk, output = folder / "driven.disk", folder / "driven.txt"
+    for file in (disk, output):
+        file.unlink(missing_ok=True)
+    call(ckrt, "format", disk, image, "--pages", pages, "--journal", 65_536, "--harts", 2)
+    done = subprocess.run([ckrt, "drive", disk, "--output", output, *options], capture_output=True, text=True,
+                          check=False, timeout=100)
+    return done.stderr.strip().rsplit("\n", 1)[-1], output.read_text() if output.exists() else ""
+
+
+def endings(ckrt, folder):
+    for name, options, pages, ending, printed in ENDED:
+        image = folder / "ending.bin"
+        said = call(BUILD, ENDINGS / name, "-o", image, *options)
+        needed = re.search(r"(\d+) pages at least", said)[1]
+        found = driven(ckrt, image, folder, pages=pages)
+        wanted = (f"ended: {ending}", printed.format(pages=needed))
+        if found != wanted:
+            yield f"{name} {' '.join(options)} on {pages} pages: {found!r}, and not {wanted!r}"
+        if int(needed) > 64 and f"format its disk with --pages {needed}" not in said:
+            yield f"guest/build of {name} says nothing of more than 64 pages: {said!r}"
+
+
+# --- Tools ------------------------------------------------------------------------------------------------------------
+
+DEADLOCK = """#include <pthread.h>
+#include <stdlib.h>
+struct fork { int uses; pthread_mutex_t lock; };
+static struct fork forks[5];
+static pthread_mutex_t grid[2][3];
+static pthread_barrier_t both;
+static void take(pthread_mutex_t *first, pthread_mutex_t *second) {
+    pthread_mutex_lock(first);
+    pthread_barrier_wait(&both);
+    pthread_mutex_lock(second);
+}
+static void *one(void *unused) { take(&forks[1].lock, &grid[1][2]); return unused; }
+static void *two(void *unused) { take(&grid[1][2], &forks[1].lock); return unused; }
+static void *ends(void *unused) { volatile int zero = 0; *(volatile int *)zero = 1; return unused; }
+int main(int count, char **arguments) {
+    pthread_t threads[2];
+    (void)arguments;
+    pthread_barrier_init(&both, NULL, 2);
+    pthread_create(&threads[0], NULL, count > 1 ? ends : one, NULL);
+    pthread_create(&threads[1], NULL, two, NULL);
+    pthread_join(threads[0], NULL);
+    abort();
+}
+"""
+NAMED = [
+    r"^thread 1 .* # pthread_join at guest/source/thread\.c:\d+$",
+    r"^thread 2 .* # pthread_mutex_lock at guest/source/mutex\.c:\d+$",
+    r"^wait 2 mutex [0-9a-f]{8}    # grid\[1\]\[2\]$",
+    r"^wait 3 mutex [0-9a-f]{8}    # forks\[1\]\.lock$",
+    r"^mutex [0-9a-f]{8} normal 2 1    # forks\[1\]\.lock$",
+    r"^barrier [0-9a-f]{8} 2    # both$",
+]
+
+
+def tools(ckrt, folder):
+    (folder / "tools").mkdir()
+    source, image, program = (folder / "tools" / f"deadlock.{ending}" for ending in ("c", "bin", "elf"))
+    source.write_text(DEADLOCK)
+    call("sh", "-c", f"cd {source.parent} && {BUILD} deadlock.c -o deadlock.bin")
+    ending, _ = driven(ckrt, image, folder)
+    listing = subprocess.run([ckrt, "inspect", folder / "driven.disk"], capture_output=True, text=True, check=True).stdout
+    named = subprocess.run([NAMES, program], input=listing, capture_output=True, text=True, check=True).stdout
+    if ending != "deadlock":
+        yield f"the deadlock ends by {ending!r}"
+    yield from (f"guest/names has no line {line!r} in\n{named}" for line in NAMED if not re.search(line, named, re.MULTILINE))
+
+    call(IMAGE, program, "-o", image, "--", "fault")
+    ending, _ = driven(ckrt, image, folder)
+    fault = re.fullmatch(r"ended: fault 2 ([0-9a-f]{8}) StoreRange", ending)
+    place = call(WHERE, program, fault[1]) if fault else ""
+    if place != f"{fault[1] if fault else ''} ends at deadlock.c:14\n":
+        yield f"the fault {ending!r} is at {place!r}"
+    if foreign := re.findall(r"^.*DW_AT_(?:name|comp_dir).*: (/work.*|/tmp.*|/home.*)$",
+                             call(f"{TOOL}objdump", "--dwarf=info", program), re.MULTILINE):
+        yield f"file names that aren't relative: {foreign[:3]}"
+    frames = call(BUILD, source, "-o", image, "--stack")
+    if not re.search(r"^ +\d+  .*deadlock\.c:15 main$", frames, re.MULTILINE):
+        yield f"--stack doesn't list main: {frames!r}"
+    if ".eh_frame" not in call(f"{TOOL}objdump", "-h", program):
+        yield "the program has no .eh_frame"
+
+
+# --- Dependencies, and a project that is driven on ----------------------------------------------------------------------
+
+def projects(ckrt, folder):
+    """A project whose header changes is made anew, and its program goes on where a drive was stopped."""
+    place = folder / "project"
+    call("cp", "-r", TOP / "tests/programs/percolation", place)
+    make = ["make", "-C", place, f"CC={CC}"]
+    call(*make)
+    if "up to date" not in call(*make):
+        yield "make builds anew what is there"
+    (place / "grid.h").touch()
+    if "grid.o" not in call(*make) or "up to date" not in call(*make):
+        yield "make doesn't build anew what a changed header is in"
+    call(IMAGE, place / "percolation", "--", "6", "8")
+    ending, whole = driven(ckrt, place / "percolation.bin", folder)
+    ends = [driven(ckrt, place / "percolation.bin", folder, "--events", "5", "--turn", "20000")[0]]
+    while ends[-1] == "enough" and len(ends) < 10_000:
+        ends.append(subprocess.run([ckrt, "drive", folder / "driven.disk", "--output", folder / "driven.txt", "--events", "5",
+                                    "--turn", "20000"], capture_output=True, text=True, check=False).stderr.strip())
+    again = (folder / "driven.txt").read_text()
+    if (ending, ends[-1]) != ("ended: exit 0", "ended: exit 0") or len(ends) < 5 or again != whole or len(whole) < 100:
+        yield f"percolation: {ending}, {ends[-1]} after {len(ends)} drives, {whole!r}, {again!r}"
+
+
+# --- Words ------------------------------------------------------------------------------------------------------------
+
+# The routines of the compiler's library that a run loop may know by their words, as they are in the images of version 1.
+ROUTINES = {
+    "__mulsi3": "00050613 00000513 0015f693 00068463 00c50533 0015d593 00161613 fe0596e3 00008067",
+    "__udivsi3": "00058613 00050593 fff00513 02060c63 00100693 00b67a63 00c05863 00161613 00169693 feb66ae3 00000513 "
+                 "00c5e663 40c585b3 00d56533 0016d693 00165613 fe0696e3 00008067",
+}
+
+
+def words(folder):
+    """The routines are linked with the words that a run loop knows."""
+    program = folder / "words.elf"
+    call(CC, TOP / "guest/examples/pi.c", "-o", program)
+    symbols = {name: int(value, 16) for value, _, name in re.findall(r"^(\w+) (\w) (\S+)$", call(f"{TOOL}nm", program), re.MULTILINE)}
+    listing = call(f"{TOOL}objdump", "-d", program)
+    at = {int(place, 16): word for place, word in re.findall(r"^ +([0-9a-f]+):\t([0-9a-f]{8})", listing, re.MULTILINE)}
+    for name, wanted in ROUTINES.items():
+        begin = symbols[name if name in symbols else f"__hidden_{name}"]
+        found = " ".join(at[begin + 4 * number] for number in range(len(wanted.split())))
+        if found != wanted:
+            yield f"{name} has other words than a run loop knows: {found}"
+
+
+def failures(ckrt, folder):
+    """All that is wrong, as texts."""
+    checks = [refused_sources(folder), refused_words(folder), endings(ckrt, folder), tools(ckrt, folder),
+              projects(ckrt, folder), words(folder)]
+    found = []
+    for check in checks:
+        wrong = list(check)
+        print(f"{check.__name__.replace('_', ' '):16}{'as they should be' if not wrong else 'wrong'}", flush=True)
+        found += wrong
+    return found
