@@ -1,7 +1,7 @@
 /*
- * Guards of stacks. Memory has no pages that would catch an overflow, so each stack has known words below it. They are
- * looked at in the kit's calls: a thread is stopped at the first call that it makes with a stack that has overflowed, or
- * when it ends.
+ * Guards of stacks. Memory has no pages that would catch an overflow, so each stack has known words below it. They
+ * are looked at in the kit's calls: a thread is stopped at the first call that it makes with a stack that has
+ * overflowed, or when it ends.
  */
 #include "stack.h"
 #include "calls.h"

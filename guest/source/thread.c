@@ -20,7 +20,8 @@ static struct thread *threads[PTHREAD_THREADS_MAX + 1] = {[1] = &first_thread};
 static unsigned thread_count = 1;
 
 int pthread_attr_init(pthread_attr_t *attributes) {
-    *attributes = (pthread_attr_t){.detach_state = PTHREAD_CREATE_JOINABLE, .stack_size = __guest_usual_stack(LEAST_STACK)};
+    *attributes = (pthread_attr_t){
+        .detach_state = PTHREAD_CREATE_JOINABLE, .stack_size = __guest_usual_stack(LEAST_STACK)};
     return 0;
 }
 
