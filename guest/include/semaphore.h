@@ -7,6 +7,8 @@
 #ifndef GUEST_SEMAPHORE_H
 #define GUEST_SEMAPHORE_H
 
+#pragma GCC system_header
+
 #include <sys/types.h>
 #include <time.h>
 

@@ -6,7 +6,7 @@ from pathlib import Path
 
 TOP = Path(__file__).resolve().parent.parent.parent
 ENDINGS = TOP / "tests/programs/endings"
-BUILD, CC, IMAGE, WHERE, NAMES = (TOP / "guest" / name for name in ("build", "cc", "image", "where", "names"))
+BUILD, CC, CXX, IMAGE, WHERE, NAMES = (TOP / "guest" / name for name in ("build", "cc", "c++", "image", "where", "names"))
 TOOL = "riscv64-unknown-elf-"
 
 TEXT = b"""When the power may go at any moment, a program that is to come back has to know what it did.
@@ -219,6 +219,26 @@ def tools(ckrt, folder):
         yield "the program has no .eh_frame"
 
 
+# --- Headers ----------------------------------------------------------------------------------------------------------
+
+HEADERS = ["pthread", "semaphore", "sched", "stdatomic", "stdio", "stdlib", "time", "unistd"]
+STRICT = ["-pedantic", "-Wall", "-Wextra", "-Wstrict-prototypes", "-Werror", "-c"]
+
+
+def headers(folder):
+    """Our headers are taken by the strictest words of each language, each alone and all together."""
+    for name, compiler, standard, some in [("headers.c", CC, "c89", set(HEADERS) - {"stdatomic"}), ("headers.c", CC, "c11", HEADERS),
+                                           ("headers.cc", CXX, "c++11", set(HEADERS) - {"stdatomic"})]:
+        for chosen in [*([header] for header in sorted(some)), sorted(some)]:
+            source = folder / name
+            source.write_text("".join(f"#include <{header}.h>\n" for header in chosen) + "extern int nothing;\n")
+            options = [word for word in STRICT if standard != "c++11" or word != "-Wstrict-prototypes"]
+            done = subprocess.run([compiler, f"-std={standard}", *options, source, "-o", folder / "headers.o"],
+                                  capture_output=True, text=True, check=False)
+            if done.returncode:
+                yield f"{' '.join(chosen)} as {standard}: {done.stderr}"
+
+
 # --- Dependencies, and a project that is driven on ----------------------------------------------------------------------
 
 def projects(ckrt, folder):
@@ -269,7 +289,7 @@ def words(folder):
 
 def failures(ckrt, folder):
     """All that is wrong, as texts."""
-    checks = [refused_sources(folder), refused_words(folder), endings(ckrt, folder), tools(ckrt, folder),
+    checks = [refused_sources(folder), refused_words(folder), endings(ckrt, folder), tools(ckrt, folder), headers(folder),
               projects(ckrt, folder), words(folder)]
     found = []
     for check in checks:
