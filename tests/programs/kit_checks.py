@@ -124,7 +124,7 @@ ENDED = [  # a program, its options, pages, how it ends and what it prints
     ("overflow.c", overflow("recursion", "thread", "malloc"), 64, "exit 134", "begin\n" + OVERFLOWED.format(2)),
     ("overflow.c", overflow("wide_call", "thread"), 64, "exit 134", "begin\n" + OVERFLOWED.format(2)),
     ("overflow.c", overflow("recursion", "thread"), 256, "exit 0", "begin\nnever printed\n"),  # 64 KiB are enough
-    ("no_stack.c", [], 64, "exit 3", "EAGAIN\n"),
+    ("no_stack.c", [], 64, "exit 3", "{stack}\nEAGAIN\n"),
     ("long_double.c", [], 64, "exit 134", "begin\na guest can't print or read a long double: convert it to double\n"),
     ("large.c", [], 64, "exit 126", "this guest needs {pages} pages at least: format its disk with --pages\n"),
     ("large.c", [], 100, "exit 0", "1\n"),
@@ -146,9 +146,9 @@ def endings(ckrt, folder):
     for name, options, pages, ending, printed in ENDED:
         image = folder / "ending.bin"
         said = call(BUILD, ENDINGS / name, "-o", image, *options)
-        needed = re.search(r"(\d+) pages at least", said)[1]
+        needed, stack = (re.search(text, said)[1] for text in (r"(\d+) pages at least", r"a thread's stack takes (\d+)"))
         found = driven(ckrt, image, folder, pages=pages)
-        wanted = (f"ended: {ending}", printed.format(pages=needed))
+        wanted = (f"ended: {ending}", printed.format(pages=needed, stack=stack))
         if found != wanted:
             yield f"{name} {' '.join(options)} on {pages} pages: {found!r}, and not {wanted!r}"
         if int(needed) > 64 and f"format its disk with --pages {needed}" not in said:
