@@ -12,6 +12,8 @@
 #ifndef GUEST_PTHREAD_H
 #define GUEST_PTHREAD_H
 
+#pragma GCC system_header
+
 #include <sched.h>
 #include <stddef.h>
 #include <sys/types.h>

@@ -2,6 +2,8 @@
 #ifndef GUEST_SCHED_H
 #define GUEST_SCHED_H
 
+#pragma GCC system_header
+
 #ifdef __cplusplus
 extern "C" {
 #endif

@@ -1,11 +1,13 @@
 /*
  * Semaphores of a guest: those without a name, for threads of the one process.
  *
- * A semaphore's count is in its memory; threads wait at a condition under its address. Who waited longest is woken, but a
- * thread that comes by may be quicker. The calls answer 0, or -1 with `errno`.
+ * A semaphore's count is in its memory; threads wait at a condition under its address. Who waited longest is woken,
+ * but a thread that comes by may be quicker. The calls answer 0, or -1 with `errno`.
  */
 #ifndef GUEST_SEMAPHORE_H
 #define GUEST_SEMAPHORE_H
+
+#pragma GCC system_header
 
 #include <sys/types.h>
 #include <time.h>

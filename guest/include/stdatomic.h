@@ -5,6 +5,8 @@
 #ifndef GUEST_STDATOMIC_H
 #define GUEST_STDATOMIC_H
 
+#pragma GCC system_header
+
 #include_next <stdatomic.h>
 
 #endif

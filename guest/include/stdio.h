@@ -8,6 +8,8 @@
 #ifndef GUEST_STDIO_H
 #define GUEST_STDIO_H
 
+#pragma GCC system_header
+
 #include_next <stdio.h>
 #include <sys/types.h>
 

@@ -7,6 +7,8 @@
 #ifndef GUEST_TIME_H
 #define GUEST_TIME_H
 
+#pragma GCC system_header
+
 #include_next <time.h>
 
 #ifndef CLOCK_MONOTONIC

@@ -1,8 +1,8 @@
 /*
- * Atomic operations, by the calls that the compiler makes of <stdatomic.h>, __atomic_.. and __sync_... Plain RV32I has no
- * instruction that loads and stores in one step, so one lock of the kit lies around each. A load of up to four bytes is one
- * step of a sequentially consistent memory and needs none; a store does, as it mustn't come between another call's
- * load and store.
+ * Atomic operations, by the calls that the compiler makes of <stdatomic.h>, __atomic_.. and __sync_... Plain RV32I has
+ * no instruction that loads and stores in one step, so one lock of the kit lies around each. A load of up to four bytes
+ * is one step of a sequentially consistent memory and needs none; a store does, as it mustn't come between another
+ * call's load and store.
  */
 #include "locks.h"
 #include <stdbool.h>
@@ -103,7 +103,7 @@ OPERATIONS(2, uint16_t, PLAIN)
 OPERATIONS(4, uint32_t, PLAIN)
 OPERATIONS(8, uint64_t, UNDER_THE_LOCK)
 
-/* --- Objects of any size ------------------------------------------------------------------------------------------- */
+/* --- Objects of any size ------------------------------------------------------------------------------------------ */
 
 void load_any(size_t size, const void *place, void *to, int order) CALL(__atomic_load);
 void load_any(size_t size, const void *place, void *to, int order) {

@@ -72,6 +72,7 @@ static inline struct answer runtime(uint32_t number, uint32_t first, uint32_t se
 
 /* The runtime counts some errors otherwise than the C library's <errno.h>; the others are alike. */
 static inline int error_of(uint32_t result) {
+    if (result == 0) return 0;
     switch (result) {
     case 35: return EDEADLK;
     case 38: return ENOSYS;

@@ -70,8 +70,8 @@ static void end_writing(FILE *stream, int state) {
     pthread_setcancelstate(state, NULL);
 }
 
-/* The library's formats have no long double. guest/cc refuses a program with such a text in it; of a format that is made
-   while the program runs this tells. */
+/* The library's formats have no long double. guest/cc refuses a program with such a text in it; of a format that is
+   made while the program runs this tells. */
 static void refuse_long_double(const char *format) {
     for (const char *at = format; (at = strchr(at, '%')); at++) {
         at += 1 + strspn(at + 1, "-+ #0123456789.*");

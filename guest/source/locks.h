@@ -1,5 +1,6 @@
 /* The locks of the C library: one for its heap and its list of exit routines, two for the console, one for atomic
-   operations and one for semaphores. Of the recursive type they are in use for good, so none finds all others in use. */
+   operations and one for semaphores. Of the recursive type they are in use for good, so none is refused for want of
+   room. */
 #ifndef GUEST_LOCKS_H
 #define GUEST_LOCKS_H
 

@@ -30,7 +30,7 @@ int pthread_rwlock_trywrlock(pthread_rwlock_t *lock) { return object_call(CALL_R
 
 int pthread_rwlock_unlock(pthread_rwlock_t *lock) { return object_call(CALL_RWLOCK_UNLOCK, lock, 0, 0, 0); }
 
-/* The runtime has no deadline for these locks. So a thread with one tries again each tick: it isn't in the lock's queue. */
+/* The runtime has no deadline for these locks. So a thread with one tries again each tick: it isn't in the queue. */
 static int try_until(uint32_t call, pthread_rwlock_t *lock, const struct timespec *deadline) {
     int error, state;
     uint64_t moment = __guest_moment(deadline), now;

@@ -1,11 +1,10 @@
 /*
- * Guards of stacks. Memory has no pages that would catch an overflow, so each stack has known words below it. They are
- * looked at in the kit's calls: a thread is stopped at the first call that it makes with a stack that has overflowed, or
- * when it ends.
+ * Guards of stacks. Memory has no pages that would catch an overflow, so each stack has known words below it. They
+ * are looked at in the kit's calls: a thread is stopped at the first call that it makes with a stack that has
+ * overflowed, or when it ends.
  */
 #include "stack.h"
 #include "calls.h"
-#include <stdbool.h>
 
 enum { STACK_SHARE = 16, MOST_STACK = 65536, STATUS_OF_ABORT = 134 };
 
@@ -49,15 +48,7 @@ void __guest_stop(int status) {
     __builtin_unreachable();
 }
 
-/* A detached thread that frees its memory stands on the spare stack of thread_end.S, which has no guard. */
-static bool is_on_spare_stack(void) {
-    extern char __guest_spare_stack[], __guest_spare_stack_end[];
-    char *here = __builtin_frame_address(0);
-    return here > __guest_spare_stack && here <= __guest_spare_stack_end;
-}
-
 void __guest_stack_overflowed(void) {
-    if (is_on_spare_stack()) return;
     runtime(CALL_SETCANCELSTATE, 1, 0, 0, 0);
     __guest_say("stack of thread ");
     __guest_say_number(runtime(CALL_SELF, 0, 0, 0, 0).result);

@@ -2,12 +2,19 @@
 #ifndef GUEST_STACK_H
 #define GUEST_STACK_H
 
+#define GUARD_BYTES 64
+
+#ifndef __ASSEMBLER__
+
 #include <stddef.h>
 #include <stdint.h>
 
-enum { GUARD_WORDS = 16, GUARD_BYTES = 4 * GUARD_WORDS, STACK_ALIGNMENT = 16 };
+enum { GUARD_WORDS = GUARD_BYTES / 4, STACK_ALIGNMENT = 16 };
 
-#define GUARD_WORD UINT32_C(0x5AFE57AC)
+/* A word that one instruction makes. */
+#define GUARD_WORD UINT32_C(0x5AFE5000)
+
+register uintptr_t stack_pointer __asm__("sp");
 
 /* The calling thread's guard, which lies right below its stack. */
 extern _Thread_local const uint32_t *__guest_guard;
@@ -19,14 +26,15 @@ void __guest_write_guard(uint32_t *guard);
 void __guest_check_stack(void);
 
 /* Tells that the calling thread's stack has overflowed, and aborts the process. */
-void __guest_stack_overflowed(void);
+void __guest_stack_overflowed(void) __attribute__((noreturn, cold));
 
-/* The short look of each call on an object: at the word that is next to the stack, and at the stack pointer. */
+/* The short look of each call on an object: at the word that is next to the stack, and at the stack pointer. A jump and
+   no call, for which the compiler would make a frame in each of them. */
 static inline void glance_at_stack(void) {
     const uint32_t *guard = __guest_guard;
-    uintptr_t stack_pointer;
-    __asm__ volatile("mv %0, sp" : "=r"(stack_pointer));
-    if (guard[GUARD_WORDS - 1] != GUARD_WORD || stack_pointer < (uintptr_t)guard) __guest_stack_overflowed();
+    if (guard[GUARD_WORDS - 1] == GUARD_WORD && stack_pointer >= (uintptr_t)guard) return;
+    __asm__ volatile("tail __guest_stack_overflowed");
+    __builtin_unreachable();
 }
 
 /* How large a stack is where nobody says: a sixteenth of the memory behind the program, but at least `least` bytes and
@@ -43,4 +51,5 @@ void __guest_say_number(uint32_t number);
 /* Ends the process, and nothing runs before. */
 void __guest_stop(int status) __attribute__((noreturn));
 
+#endif
 #endif

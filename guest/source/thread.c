@@ -20,7 +20,8 @@ static struct thread *threads[PTHREAD_THREADS_MAX + 1] = {[1] = &first_thread};
 static unsigned thread_count = 1;
 
 int pthread_attr_init(pthread_attr_t *attributes) {
-    *attributes = (pthread_attr_t){.detach_state = PTHREAD_CREATE_JOINABLE, .stack_size = __guest_usual_stack(LEAST_STACK)};
+    *attributes = (pthread_attr_t){
+        .detach_state = PTHREAD_CREATE_JOINABLE, .stack_size = __guest_usual_stack(LEAST_STACK)};
     return 0;
 }
 
@@ -104,7 +105,18 @@ static struct thread *new_usual_thread(void) {
     return thread;
 }
 
+/* A detached thread that frees its memory stands on the spare stack of thread_end.S, which is guarded as any other. */
+static void make_spare_stack(void) {
+    extern uint32_t __guest_spare_guard[];
+    extern char __guest_first_locals[], __guest_spare_locals[];
+    size_t place = (size_t)((char *)&__guest_guard - __guest_first_locals);
+    __guest_set_locals(__guest_spare_locals);
+    *(const uint32_t **)(__guest_spare_locals + place) = __guest_spare_guard;
+    __guest_write_guard(__guest_spare_guard);
+}
+
 void __guest_enter_first_thread(uint32_t *guard, const char *stack_end) {
+    make_spare_stack();
     first_thread.guard = guard;
     first_thread.stack_size = (size_t)(stack_end - (char *)guard - GUARD_BYTES);
     /* Of this type a mutex is in use for good, so that no lock of it finds all 256 in use by others. */

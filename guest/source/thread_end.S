@@ -1,5 +1,6 @@
 # The end of a thread, and the end of a clean-up handler's turn: what can't be said in C.
 #include "calls.h"
+#include "stack.h"
 #include "thread.h"
 
     .section .text.__guest_thread_end, "ax", @progbits
@@ -9,9 +10,9 @@
 # The clean-up handler that runs last, with the thread's record in x10. The thread unwinds, so no request is acted on. First
 # come the destructors of its values.
 #
-# A detached thread frees the memory that it stands on. So it first goes over to the spare stack (and to the first
-# thread's thread-local variables, which are never freed). One thread at a time stands there, the one that holds the
-# lock; and from the unlock on it touches no memory: what is left is done in registers.
+# A detached thread frees the memory that it stands on. So it first goes over to the spare stack, and to thread-local
+# variables that belong to that. One thread at a time stands there, the one that holds the lock; and from the unlock on
+# it touches no memory: what is left is done in registers.
 __guest_thread_end:
     mv      s0, a0
     call    __guest_run_destructors
@@ -23,7 +24,7 @@ __guest_thread_end:
     call    __guest_thread_leave
     beqz    a0, 1f
     la      sp, __guest_spare_stack_end
-    la      tp, __guest_first_locals
+    la      tp, __guest_spare_locals
     call    free
 1:  mv      a0, s1
     li      a7, CALL_MUTEX_UNLOCK
@@ -33,9 +34,10 @@ __guest_thread_end:
     .size   __guest_thread_end, . - __guest_thread_end
 
     .section .bss.spare_stack, "aw", @nobits
-    .globl  __guest_spare_stack, __guest_spare_stack_end
+    .globl  __guest_spare_guard
     .balign 16
-__guest_spare_stack:
+__guest_spare_guard:
+    .zero   GUARD_BYTES
     .zero   SPARE_STACK_BYTES
 __guest_spare_stack_end:
 

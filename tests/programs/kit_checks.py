@@ -6,7 +6,7 @@ from pathlib import Path
 
 TOP = Path(__file__).resolve().parent.parent.parent
 ENDINGS = TOP / "tests/programs/endings"
-BUILD, CC, IMAGE, WHERE, NAMES = (TOP / "guest" / name for name in ("build", "cc", "image", "where", "names"))
+BUILD, CC, CXX, IMAGE, WHERE, NAMES = (TOP / "guest" / name for name in ("build", "cc", "c++", "image", "where", "names"))
 TOOL = "riscv64-unknown-elf-"
 
 TEXT = b"""When the power may go at any moment, a program that is to come back has to know what it did.
@@ -46,7 +46,9 @@ REFUSED_SOURCES = [
     ("#include <unistd.h>\nint two(void) { return fork(); }", "fork: a guest is one process"),
     ("#include <fcntl.h>\nint file(void) { return open(\"name\", 0); }", f"open: {NO_FILES}"),
     ("#include <stdlib.h>\nint run(void) { return system(\"ls\"); }", "a guest is one process"),
-    ("#include <pthread.h>\nint low(void) { return pthread_setschedprio(pthread_self(), 1); }", "pthread_setschedprio"),
+    ("#include <pthread.h>\nint low(void) { return pthread_setschedprio(pthread_self(), 1); }",
+     "pthread_setschedprio: who runs is decided outside"),
+    ("#include <unistd.h>\nint id(void) { return pthread_kill(1, 2); }", "pthread_kill: a guest has no signals"),
     ("#include <stdio.h>\nint show(long double of) { return printf(\"it is %-8.3Lf\\n\", of); }",
      "the text \"it is %-8.3Lf\" has a long double"),
     ("#include <stdio.h>\nint take(long double *to) { return scanf(\"%Lg\", to); }", "convert it to double"),
@@ -122,7 +124,7 @@ ENDED = [  # a program, its options, pages, how it ends and what it prints
     ("overflow.c", overflow("recursion", "thread", "malloc"), 64, "exit 134", "begin\n" + OVERFLOWED.format(2)),
     ("overflow.c", overflow("wide_call", "thread"), 64, "exit 134", "begin\n" + OVERFLOWED.format(2)),
     ("overflow.c", overflow("recursion", "thread"), 256, "exit 0", "begin\nnever printed\n"),  # 64 KiB are enough
-    ("no_stack.c", [], 64, "exit 3", "EAGAIN\n"),
+    ("no_stack.c", [], 64, "exit 3", "{stack}\nEAGAIN\n"),
     ("long_double.c", [], 64, "exit 134", "begin\na guest can't print or read a long double: convert it to double\n"),
     ("large.c", [], 64, "exit 126", "this guest needs {pages} pages at least: format its disk with --pages\n"),
     ("large.c", [], 100, "exit 0", "1\n"),
@@ -144,9 +146,9 @@ def endings(ckrt, folder):
     for name, options, pages, ending, printed in ENDED:
         image = folder / "ending.bin"
         said = call(BUILD, ENDINGS / name, "-o", image, *options)
-        needed = re.search(r"(\d+) pages at least", said)[1]
+        needed, stack = (re.search(text, said)[1] for text in (r"(\d+) pages at least", r"a thread's stack takes (\d+)"))
         found = driven(ckrt, image, folder, pages=pages)
-        wanted = (f"ended: {ending}", printed.format(pages=needed))
+        wanted = (f"ended: {ending}", printed.format(pages=needed, stack=stack))
         if found != wanted:
             yield f"{name} {' '.join(options)} on {pages} pages: {found!r}, and not {wanted!r}"
         if int(needed) > 64 and f"format its disk with --pages {needed}" not in said:
@@ -217,6 +219,26 @@ def tools(ckrt, folder):
         yield "the program has no .eh_frame"
 
 
+# --- Headers ----------------------------------------------------------------------------------------------------------
+
+HEADERS = ["pthread", "semaphore", "sched", "stdatomic", "stdio", "stdlib", "time", "unistd"]
+STRICT = ["-pedantic", "-Wall", "-Wextra", "-Wstrict-prototypes", "-Werror", "-c"]
+
+
+def headers(folder):
+    """Our headers are taken by the strictest words of each language, each alone and all together."""
+    for name, compiler, standard, some in [("headers.c", CC, "c89", set(HEADERS) - {"stdatomic"}), ("headers.c", CC, "c11", HEADERS),
+                                           ("headers.cc", CXX, "c++11", set(HEADERS) - {"stdatomic"})]:
+        for chosen in [*([header] for header in sorted(some)), sorted(some)]:
+            source = folder / name
+            source.write_text("".join(f"#include <{header}.h>\n" for header in chosen) + "extern int nothing;\n")
+            options = [word for word in STRICT if standard != "c++11" or word != "-Wstrict-prototypes"]
+            done = subprocess.run([compiler, f"-std={standard}", *options, source, "-o", folder / "headers.o"],
+                                  capture_output=True, text=True, check=False)
+            if done.returncode:
+                yield f"{' '.join(chosen)} as {standard}: {done.stderr}"
+
+
 # --- Dependencies, and a project that is driven on ----------------------------------------------------------------------
 
 def projects(ckrt, folder):
@@ -267,7 +289,7 @@ def words(folder):
 
 def failures(ckrt, folder):
     """All that is wrong, as texts."""
-    checks = [refused_sources(folder), refused_words(folder), endings(ckrt, folder), tools(ckrt, folder),
+    checks = [refused_sources(folder), refused_words(folder), endings(ckrt, folder), tools(ckrt, folder), headers(folder),
               projects(ckrt, folder), words(folder)]
     found = []
     for check in checks:
