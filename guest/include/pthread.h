@@ -41,9 +41,8 @@ enum { PTHREAD_CREATE_JOINABLE, PTHREAD_CREATE_DETACHED };
 
 #define PTHREAD_THREADS_MAX 64
 /*
- * Where attributes don't say otherwise a stack has a sixteenth of the memory behind the program, but at least 8,192 bytes
- * and at most 65,536; where the heap has no room for that without attributes, half of it, and so on down to 8,192. Below
- * it lies a guard of 64 bytes. A thread whose stack has overflowed is seen in its next call of the library, or when it
+ * Where attributes don't say otherwise a new stack has a sixteenth of the memory that is free then, but at least 8,192
+ * bytes and at most 65,536. Below it lies a guard of 64 bytes. A thread whose stack has overflowed is seen in its next call of the library, or when it
  * ends: `stack of thread T overflowed` is printed, and the process aborts.
  */
 #define PTHREAD_STACK_MIN 1024

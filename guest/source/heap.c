@@ -1,6 +1,7 @@
 /* What malloc takes its memory from. The C library calls it under its lock. */
 #include "heap.h"
 #include <errno.h>
+#include <malloc.h>
 #include <stddef.h>
 #include <unistd.h>
 
@@ -10,6 +11,8 @@ void __guest_set_heap(char *begin, char *end) {
     heap_begin = heap_top = begin;
     heap_end = end;
 }
+
+size_t __guest_free_bytes(void) { return mallinfo().fordblks + (size_t)(heap_end - heap_top); }
 
 void *sbrk(ptrdiff_t bytes) {
     if (bytes > heap_end - heap_top || bytes < heap_begin - heap_top) {

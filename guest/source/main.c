@@ -77,9 +77,9 @@ static void check_memory(const char *memory_end) {
 }
 
 /* The first thread's guard, between the heap and its stack. */
-static uint32_t *make_first_guard(char *memory_end) {
+static uint32_t *make_first_guard(char *memory_end, size_t free) {
     size_t stack_bytes = (size_t)__guest_first_stack_size;
-    if (stack_bytes == 0) stack_bytes = __guest_usual_stack(LEAST_FIRST_STACK);
+    if (stack_bytes == 0) stack_bytes = __guest_usual_stack(free, LEAST_FIRST_STACK);
     uint32_t *guard = (uint32_t *)((uintptr_t)(memory_end - stack_bytes) & -(uintptr_t)STACK_ALIGNMENT);
     __guest_write_guard(guard);
     return guard;
@@ -90,8 +90,7 @@ void __guest_main(char *memory_end) {
     move_words();
     struct lists lists = make_lists();
     __guest_set_locals(__guest_first_locals);
-    __guest_set_memory((size_t)(memory_end - lists.end));
-    uint32_t *guard = make_first_guard(memory_end);
+    uint32_t *guard = make_first_guard(memory_end, (size_t)(memory_end - lists.end));
     __guest_guard = guard;
     __guest_set_heap(lists.end, (char *)guard);
     __guest_make_locks();

@@ -10,12 +10,8 @@ enum { STACK_SHARE = 16, MOST_STACK = 65536, STATUS_OF_ABORT = 134 };
 
 _Thread_local const uint32_t *__guest_guard;
 
-static size_t memory_bytes;
-
-void __guest_set_memory(size_t bytes) { memory_bytes = bytes; }
-
-size_t __guest_usual_stack(size_t least) {
-    size_t share = memory_bytes / STACK_SHARE & -(size_t)STACK_ALIGNMENT;
+size_t __guest_usual_stack(size_t free, size_t least) {
+    size_t share = free / STACK_SHARE & -(size_t)STACK_ALIGNMENT;
     return share < least ? least : share > MOST_STACK ? MOST_STACK : share;
 }
 

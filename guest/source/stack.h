@@ -37,12 +37,9 @@ static inline void glance_at_stack(void) {
     __builtin_unreachable();
 }
 
-/* How large a stack is where nobody says: a sixteenth of the memory behind the program, but at least `least` bytes and
-   at most 64 KiB. */
-size_t __guest_usual_stack(size_t least);
-
-/* How much memory lies behind the program and its variables. To be said once, before the first thread is made. */
-void __guest_set_memory(size_t bytes);
+/* How large a stack is where nobody says: a sixteenth of the memory that is free, but at least `least` bytes and at
+   most 64 KiB. */
+size_t __guest_usual_stack(size_t free, size_t least);
 
 /* Puts a text on the console, without locks and with hardly any stack. */
 void __guest_say(const char *text);

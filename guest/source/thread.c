@@ -11,7 +11,9 @@
 #include <stdlib.h>
 #include <string.h>
 
-enum { LEAST_STACK = 8192 };
+enum { LEAST_STACK = 8192, USUAL_STACK = 0 };
+
+static size_t usual_stack(void) { return __guest_usual_stack(__guest_free_bytes(), LEAST_STACK); }
 
 pthread_mutex_t __guest_threads_lock;
 
@@ -20,8 +22,7 @@ static struct thread *threads[PTHREAD_THREADS_MAX + 1] = {[1] = &first_thread};
 static unsigned thread_count = 1;
 
 int pthread_attr_init(pthread_attr_t *attributes) {
-    *attributes = (pthread_attr_t){
-        .detach_state = PTHREAD_CREATE_JOINABLE, .stack_size = __guest_usual_stack(LEAST_STACK)};
+    *attributes = (pthread_attr_t){.detach_state = PTHREAD_CREATE_JOINABLE, .stack_size = USUAL_STACK};
     return 0;
 }
 
@@ -48,7 +49,7 @@ int pthread_attr_setstacksize(pthread_attr_t *attributes, size_t bytes) {
 }
 
 int pthread_attr_getstacksize(const pthread_attr_t *attributes, size_t *bytes) {
-    *bytes = attributes->stack_size;
+    *bytes = attributes->stack_size == USUAL_STACK ? usual_stack() : attributes->stack_size;
     return 0;
 }
 
@@ -95,9 +96,9 @@ static struct thread *new_thread(size_t stack_bytes) {
     return thread;
 }
 
-/* A thread for which nobody asked a size: where the heap has no room for the usual stack, half of it, and so on. */
+/* A thread for which nobody asked a size: where no piece of the heap has room for the usual stack, half of it, and so on. */
 static struct thread *new_usual_thread(void) {
-    size_t bytes = __guest_usual_stack(LEAST_STACK);
+    size_t bytes = usual_stack();
     struct thread *thread;
     while (!(thread = new_thread(bytes)) && bytes > LEAST_STACK) {
         bytes = bytes / 2 > LEAST_STACK ? bytes / 2 : LEAST_STACK;
@@ -141,7 +142,8 @@ static void begin(struct thread *thread) {
 
 int pthread_create(pthread_t *restrict id, const pthread_attr_t *restrict attributes, void *(*start)(void *),
                    void *restrict argument) {
-    struct thread *thread = attributes ? new_thread(attributes->stack_size) : new_usual_thread();
+    size_t bytes = attributes ? attributes->stack_size : USUAL_STACK;
+    struct thread *thread = bytes == USUAL_STACK ? new_usual_thread() : new_thread(bytes);
     if (!thread) return EAGAIN;
     thread->start = start;
     thread->argument = argument;

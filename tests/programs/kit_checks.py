@@ -146,7 +146,7 @@ def endings(ckrt, folder):
     for name, options, pages, ending, printed in ENDED:
         image = folder / "ending.bin"
         said = call(BUILD, ENDINGS / name, "-o", image, *options)
-        needed, stack = (re.search(text, said)[1] for text in (r"(\d+) pages at least", r"a thread's stack takes (\d+)"))
+        needed, stack = (re.search(text, said)[1] for text in (r"(\d+) pages at least", r"first thread's stack takes (\d+)"))
         found = driven(ckrt, image, folder, pages=pages)
         wanted = (f"ended: {ending}", printed.format(pages=needed, stack=stack))
         if found != wanted:
@@ -209,8 +209,8 @@ def tools(ckrt, folder):
     place = call(WHERE, program, fault[1]) if fault else ""
     if place != f"{fault[1] if fault else ''} ends at deadlock.c:14\n":
         yield f"the fault {ending!r} is at {place!r}"
-    if foreign := re.findall(r"^.*DW_AT_(?:name|comp_dir).*: (/work.*|/tmp.*|/home.*)$",
-                             call(f"{TOOL}objdump", "--dwarf=info", program), re.MULTILINE):
+    names = re.findall(r"DW_AT_(?:name|comp_dir).*: (.*)$", call(f"{TOOL}objdump", "--dwarf=info", program), re.MULTILINE)
+    if foreign := [name for name in names if name.startswith((str(TOP), str(folder)))]:
         yield f"file names that aren't relative: {foreign[:3]}"
     frames = call(BUILD, source, "-o", image, "--stack")
     if not re.search(r"^ +\d+  .*deadlock\.c:15 main$", frames, re.MULTILINE):
