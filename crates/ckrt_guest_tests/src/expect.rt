@@ -22,7 +22,7 @@ pub fn expect_eq_at<R: Abort, P: Debug + Drop, T: Debug + PartialEq + Drop>(
 
 /// Bytes.
 pub fn expect_bytes<R: Abort>(rt: &R, got: &[u8], want: &[u8]) {
-    assert_eq!(rt; got, want);
+    expect_eq(rt, got, want);
 }
 
 /// A disk in memory with these bytes.

@@ -32,6 +32,20 @@ pub fn is_running(tables: &Tables) -> bool
     matches!(tables.status, Status::Running)
 }
 
+/// The same registers with the number of a call and its arguments.
+fn armed(regs: &Regs, number: u32, arguments: [u32; 4]) -> Regs
+    requires aligned { regs.now.pc % 4 ≡ 0 }
+    ensures aligned { result.pc % 4 ≡ 0 }
+{
+    let mut armed = *regs;
+    armed.put(10, arguments[0]);
+    armed.put(11, arguments[1]);
+    armed.put(12, arguments[2]);
+    armed.put(13, arguments[3]);
+    armed.put(17, number);
+    armed
+}
+
 /// Makes the call of this number with these arguments as a thread that is ready.
 pub fn call_as<R: Abort>(
     rt: &R,
@@ -45,16 +59,11 @@ pub fn call_as<R: Abort>(
 {
     assert!(rt; tables.threads.is_ready(thread));
     assert!(rt; is_running(tables));
-    let mut regs = tables
+    let regs = tables
         .threads
         .regs(thread)
         .expect(rt, "the thread is ready");
-    regs.put(10, arguments[0]);
-    regs.put(11, arguments[1]);
-    regs.put(12, arguments[2]);
-    regs.put(13, arguments[3]);
-    regs.put(17, number);
-    arm(tables, thread, &regs);
+    arm(tables, thread, &armed(&regs, number, arguments));
     let (result, _) = call(tables, thread);
     result
 }

@@ -150,19 +150,29 @@ fn wake<R: Abort>(rt: &R, threads: &mut Threads, plain: &mut Plain, object: Obje
     }
 }
 
-/// The table has the waits of the plain list, in its order, and each object the queue that the list has for it.
-fn expect_same<R: Abort>(rt: &R, threads: &Threads, plain: &[Wait]) {
+/// The table has the waits of the plain list, in its order.
+fn expect_waits<R: Abort>(rt: &R, threads: &Threads, plain: &[Wait]) {
     let waits = threads.waits();
     expect_eq(rt, waits.len(), plain.len());
     for (wait, want) in waits.as_slice().iter().zip(plain) {
         expect_eq(rt, row_of(wait), row_of(want));
     }
+}
+
+/// The object has the queue that the plain list has for it.
+fn expect_queue<R: Abort>(rt: &R, threads: &Threads, plain: &[Wait], object: Object) {
+    let got = threads.first_waiter(object).map(|wait| row_of(&wait));
+    let want = first_in(plain, object).map(|wait| row_of(&wait));
+    expect_eq(rt, got, want);
+    let count = plain.iter().filter(|wait| is_for(wait, object)).count();
+    expect_eq(rt, threads.waiter_count(object), count);
+}
+
+/// The table has the waits of the plain list, and each object its queue.
+fn expect_same<R: Abort>(rt: &R, threads: &Threads, plain: &[Wait]) {
+    expect_waits(rt, threads, plain);
     for number in 0..32 {
-        let object = object_of(number);
-        let got = threads.first_waiter(object).map(|wait| row_of(&wait));
-        expect_eq(rt, got, first_in(plain, object).map(|wait| row_of(&wait)));
-        let count = plain.iter().filter(|wait| is_for(wait, object)).count();
-        expect_eq(rt, threads.waiter_count(object), count);
+        expect_queue(rt, threads, plain, object_of(number));
     }
 }
 

@@ -1,11 +1,11 @@
 //! Bytes that are decoded as saved tables. All were written down from the format, and none comes from the program.
 
 use crate::expect::{bytes_of, expect_eq, expect_eq_at, push, push_zeros};
-use crate::saved_tables::expect_encoding;
+use crate::saved_tables::{bytes_of_everything, expect_encoding};
 use ckrt_rv32i::Cause;
-use ckrt_state::{Status, Tables};
+use ckrt_state::{Status, Status, Tables, Tables};
 use ckrt_tables::{Held, LONGEST_TABLES, decode_tables};
-use ckrt_test_data::{BEHIND_THREAD, EVERYTHING, FRESH, INITIAL_THREAD, OLD_FRESH};
+use ckrt_test_data::{BEHIND_THREAD, FRESH, INITIAL_THREAD, OLD_FRESH};
 use std::process::Abort;
 
 /// What bytes of a version decode to.
@@ -65,7 +65,7 @@ fn change<R: Abort>(rt: &R, bytes: &mut Vec<u8>, place: usize, byte: u8) {
 fn what_was_saved_is_decoded(rt: HostRuntime) {
     expect_decoded(&rt, bytes_of(&rt, FRESH).as_slice(), 1);
     expect_decoded(&rt, bytes_of(&rt, FRESH).as_slice(), 8);
-    expect_decoded(&rt, bytes_of(&rt, EVERYTHING).as_slice(), 2);
+    expect_decoded(&rt, bytes_of_everything(&rt).as_slice(), 2);
 }
 
 /// The first bytes alone decode to nothing.
@@ -78,7 +78,7 @@ fn expect_nothing_of_front<R: Abort + AllocGlobal>(rt: &R, bytes: &[u8], size: u
 /// No byte may be missing, and none may stand behind.
 #[test]
 fn a_byte_more_or_fewer_is_nothing(rt: HostRuntime) {
-    let mut bytes = bytes_of(&rt, EVERYTHING);
+    let mut bytes = bytes_of_everything(&rt);
     expect_eq(&rt, bytes.len(), 2_015);
     for part in 0..21usize {
         expect_nothing_of_front(&rt, bytes.as_slice(), 100 * part);
@@ -91,15 +91,15 @@ fn a_byte_more_or_fewer_is_nothing(rt: HostRuntime) {
 /// Harts that the program doesn't have are idle.
 #[test]
 fn thread_on_a_missing_hart_is_nothing(rt: HostRuntime) {
-    expect_nothing(&rt, bytes_of(&rt, EVERYTHING).as_slice(), 1);
-    expect_decoded(&rt, bytes_of(&rt, EVERYTHING).as_slice(), 3);
+    expect_nothing(&rt, bytes_of_everything(&rt).as_slice(), 1);
+    expect_decoded(&rt, bytes_of_everything(&rt).as_slice(), 3);
 }
 
 /// 200 bytes of everything that tables can hold, one at a time with one bit turned: each time there is nothing, or what is
 /// saved as just these bytes.
 #[test]
 fn changed_bytes_are_nothing_or_exact(rt: HostRuntime) {
-    let mut bytes = bytes_of(&rt, EVERYTHING);
+    let mut bytes = bytes_of_everything(&rt);
     for number in 0..200usize {
         let place = number * 41 % 2_015;
         turn_a_bit(&rt, &mut bytes, place, number % 8);

@@ -32,7 +32,7 @@ pub fn expect_text<R: Abort + AllocGlobal, T: Display + Drop>(rt: &R, value: T, 
 
 /// Bytes.
 pub fn expect_bytes<R: Abort>(rt: &R, got: &[u8], want: &[u8]) {
-    assert_eq!(rt; got, want);
+    expect_eq(rt, got, want);
 }
 
 /// A disk in memory with these bytes.

@@ -293,12 +293,17 @@ fn tables_with_everything<R: Abort + AllocGlobal>(rt: &R) -> Tables {
     }
 }
 
+/// The same as bytes, with the output `out`. A long table costs where it is named: here alone.
+pub fn bytes_of_everything<R: Abort + AllocGlobal>(rt: &R) -> Vec<u8> {
+    bytes_of(rt, EVERYTHING)
+}
+
 /// Everything that tables can hold, but for a wait for input, has the bytes of the format.
 #[test]
 fn tables_with_everything_have_their_bytes(rt: HostRuntime) {
     let tables = tables_with_everything(&rt);
     let held = held(&rt, b"out");
-    expect_encoding(&rt, &tables, &held, bytes_of(&rt, EVERYTHING).as_slice());
+    expect_encoding(&rt, &tables, &held, bytes_of_everything(&rt).as_slice());
 }
 
 const OF_ENDED: Wait = Wait {
