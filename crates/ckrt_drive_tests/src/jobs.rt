@@ -114,6 +114,11 @@ const ABSENT_IMAGE: &str = "the image jobs_none.img: there is no such file\nckrt
 const LONG_IMAGE: &str =
     "the image jobs_d.img: it is longer than the guest's memory; choose more pages\nckrt: ImageTooLong\n";
 
+const ELF: &[u8] = b"\x7fELF\x01\x01\x01";
+
+const ELF_IMAGE: &str =
+    "the image jobs_d.elf: it is an ELF file: guest/image, or objcopy -O binary, makes an image of it\nckrt: File\n";
+
 const FOLDER: &str = "the disk .: it is a directory\nckrt: File\n";
 
 /// The image is tested before the disk is touched, and the configuration before the image.
@@ -127,6 +132,9 @@ const FAULTS: &[Step] = &[
     ),
     Fails("format . jobs_none.img --pages 16", ABSENT_IMAGE),
     Fails("format jobs_d.disk jobs_d.img --pages 16", LONG_IMAGE),
+    Write("jobs_d.elf", ELF),
+    Fails("format jobs_d.disk jobs_d.elf --pages 16", ELF_IMAGE),
+    Remove("jobs_d.elf"),
     Absent("jobs_d.disk"),
     Fails("format . jobs_d.img --pages 17", FOLDER),
     Remove("jobs_d.img"),

@@ -1,6 +1,7 @@
 -- The front of a list, read up to a limit.
 use Rattle.std.proofs.Common.{◌≡◌, ◌<◌, ◌≤◌, ◌+◌, ℕ, zero, suc, List, [], ◌∷◌, length, take, refl, ap, subst, arith, sym, ◌∙◌}
 use Rattle.std.proofs.lemmas.List.{take-take}
+use Rattle.ckrt_jobs.specs.Making.{is_elf}
 
 take_whole : (n : ℕ) (xs : List ℕ) → length (take n xs) < n → take n xs ≡ xs
 take_whole zero xs h = absurd (omega arith)
@@ -26,6 +27,12 @@ front_longer limit bytes read e long =
     let same : length read ≡ length (take (limit + 1) bytes) = ap (λ (l : List ℕ). length l) e in
     let most = take_shorter (limit + 1) bytes in
     omega arith
+
+-- a front of at least four bytes tells whether all are an ELF file
+pub front_tells_elf : (limit : ℕ) (bytes read : List ℕ) → 3 ≤ limit → read ≡ take (limit + 1) bytes → is_elf read ≡ is_elf bytes
+front_tells_elf limit bytes read few e =
+    let front = take-take 4 (limit + 1) bytes (omega (arith, few)) in
+    ap (λ (l : List ℕ). is_elf l) e ∙ (rw front refl)
 
 -- what has a longer front of what has this front has it too
 pub front_kept : (n m : ℕ) (xs ys zs : List ℕ) → n ≤ m → take m zs ≡ take m ys → take n ys ≡ take n xs → take n zs ≡ take n xs

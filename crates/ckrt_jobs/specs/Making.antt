@@ -1,5 +1,6 @@
 -- The making of a disk.
-use Rattle.std.specs.Prelude.{◌≡◌, ◌↔◌, ◌⊎◌, ◌<◌, ◌≤◌, ℕ, true, false, List, length, Option, Some, Result, Ok, Err, IsErrOf, OnOk}
+use Rattle.std.specs.Prelude.{◌≡◌, ◌≢◌, ◌↔◌, ◌⊎◌, ◌<◌, ◌≤◌, ℕ, Bool, true, false, eqb, List, [], ◌∷◌, length, Option, Some, Result, Ok, Err, IsErrOf, OnOk}
+use Rattle.std.specs.List.{starts_with}
 use Rattle.ckrt_disk.specs.Frame.{AtAnyMoment, WritesWithin}
 use Rattle.ckrt_disk.specs.declared.disk.Disk.{Ghosts}
 use Rattle.ckrt_checkpoint.specs.declared.config.Config.{Config}
@@ -50,10 +51,20 @@ pub record MakesDisk {D : Type 0} (d : Ghosts D) (config : Config) (known : Opti
   pub is_opened : Fills start
   pub ends : FormatsOpened d config guest start asked new result
 
--- How a making ended that found its image unfit: the image of this path was refused, or a read of it failed; there was no memory for it; it is
--- longer than the guest's memory. No disk was asked for.
+-- an ELF file, by its first four bytes (System V ABI, "ELF Header": EI_MAG0 to EI_MAG3)
+abbrev pub is_elf : List ℕ → Bool
+is_elf bytes = starts_with eqb bytes (127 ∷ 69 ∷ 76 ∷ 70 ∷ [])
+
+-- the image can't be read: that it is an ELF file is no such fault
+abbrev pub IsUnreadable : JobFault → Type 0
+IsUnreadable (job.File at why) = (at ≡ file.Image) × (why ≢ fault.IsElf)
+IsUnreadable _ = ⊥
+
+-- How a making ended that found its image unfit: the image of this path was refused, or a read of it failed; it is an ELF file; there was no
+-- memory for it; it is longer than the guest's memory. No disk was asked for.
 abbrev pub EndsOnImage : {D : Type 0} → Config → (known : Option (List ℕ)) → (image : List ℕ) → (old new : Openings D) → JobFault → Type 0
-EndsOnImage config known image old new (job.File file.Image why) = (new ≡ record old { image = refused image why }) ⊎ (new ≡ record old { image = opened image })
+EndsOnImage config known image old new (job.File file.Image why) = (new ≡ record old { image = refused image why })
+    ⊎ ((new ≡ record old { image = opened image }) × (why ≡ fault.IsElf → (bytes : List ℕ) → known ≡ Some bytes → is_elf bytes ≡ true))
 EndsOnImage config known image old new job.OutOfMemory = new ≡ record old { image = opened image }
 EndsOnImage config known image old new (job.Format format.ImageTooLong) = (new ≡ record old { image = opened image }) × ((bytes : List ℕ) → known ≡ Some bytes → memory_size config < length bytes)
 EndsOnImage config known image old new _ = ⊥
@@ -86,5 +97,5 @@ pub record Makes {D : Type 0} (d : Ghosts D) (config : Config) (known : Option (
   pub ends : EndsMaking d config known Fills image disk old new result
   -- the image's file is never made the disk
   pub apart : disk ≡ image → new.disk ≡ old.disk
-  -- a disk is made only with an image that fits
-  pub fits : OnOk result ((bytes : List ℕ) → known ≡ Some bytes → length bytes ≤ memory_size config)
+  -- a disk is made only with an image that fits, and that is no ELF file
+  pub fits : OnOk result ((bytes : List ℕ) → known ≡ Some bytes → (length bytes ≤ memory_size config) × (is_elf bytes ≡ false))

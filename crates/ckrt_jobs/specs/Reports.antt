@@ -43,6 +43,7 @@ abbrev pub file_fault_text : FileFault → List ℕ
 file_fault_text fault.NotFound = codes "there is no such file"
 file_fault_text fault.NoFolder = codes "its folder is missing"
 file_fault_text fault.IsImage = codes "the image has this path too"
+file_fault_text fault.IsElf = codes "it is an ELF file: guest/image, or objcopy -O binary, makes an image of it"
 file_fault_text fault.IsADirectory = codes "it is a directory"
 file_fault_text fault.PermissionDenied = codes "permission denied"
 file_fault_text fault.InUse = codes "another program has it locked"

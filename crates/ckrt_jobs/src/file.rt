@@ -26,6 +26,8 @@ pub enum FileFault {
     NoFolder,
     /// The disk's path is the image's too.
     IsImage,
+    /// The image is an ELF file.
+    IsElf,
     /// A directory has this path.
     IsADirectory,
     /// The user may not open it so.
@@ -87,6 +89,8 @@ impl FileFault {
             FileFault::NotFound => "there is no such file",
             FileFault::NoFolder => "its folder is missing",
             FileFault::IsImage => "the image has this path too",
+            FileFault::IsElf =>
+                "it is an ELF file: guest/image, or objcopy -O binary, makes an image of it",
             FileFault::IsADirectory => "it is a directory",
             FileFault::PermissionDenied => "permission denied",
             FileFault::InUse => "another program has it locked",

@@ -1,8 +1,7 @@
 //! Reading an image.
 ghost use Rattle.std.specs.Prelude.{◌≡◌, ◌<◌, ◌≤◌, ◌+◌, ◌^◌, ◌⊎◌, List, ℕ, Some, IfOk, IfErr, take, length};
-ghost use Rattle.ckrt_jobs.specs.Outcomes.{IsFileOf};
+ghost use Rattle.ckrt_jobs.specs.Making.{IsUnreadable, is_elf};
 ghost use Rattle.ckrt_jobs.specs.declared.fault.JobFault.TheVariants.{OutOfMemory};
-ghost use Rattle.ckrt_jobs.specs.declared.file.JobFile.TheVariants.{Image};
 
 use crate::fault::JobFault;
 use crate::file::{FileFault, JobFile};
@@ -17,7 +16,7 @@ pub(crate) fn read_image<I: Read + Drop>(
 ) -> Result<Vec<u8>, JobFault>
     requires { limit < 2 ^ 32 }
     ensures bytes { IfOk result (λ read. (bytes : List ℕ) → I.remaining image ≡ Some bytes → read.items ≡ take (limit + 1) bytes) }
-    ensures fault { IfErr result (λ e. IsFileOf Image e ⊎ (e ≡ OutOfMemory)) }
+    ensures fault { IfErr result (λ e. IsUnreadable e ⊎ (e ≡ OutOfMemory)) }
 {
     let mut bytes = Vec::new(alloc);
     let mut front = image.take(limit as u64 + 1);
@@ -26,4 +25,12 @@ pub(crate) fn read_image<I: Read + Drop>(
         Err(error) if error.kind() == ErrorKind::OutOfMemory => Err(JobFault::OutOfMemory),
         Err(error) => Err(JobFault::File(JobFile::Image, FileFault::from(error))),
     }
+}
+
+/// Whether a file is an ELF file, by its first four bytes (System V ABI, "ELF Header": `EI_MAG0` to `EI_MAG3`). An image is
+/// what a linker's output holds, and not that output.
+pub(crate) fn is_elf(bytes: &[u8]) -> bool
+    ensures { result ≡ is_elf bytes.now }
+{
+    bytes.starts_with(&[0x7f, b'E', b'L', b'F'])
 }

@@ -1,7 +1,7 @@
 //! Making a disk.
 ghost use Rattle.std.specs.Prelude.{◌≡◌, ◌↔◌, ◌≤◌, ℕ, List, Some, false, true, length, IfOk, IfErr, IsTrue, OnOk};
 ghost use Rattle.ckrt_checkpoint.specs.Layout.{is_valid, memory_size, size_needed};
-ghost use Rattle.ckrt_jobs.specs.Making.{EndsOnImage, FormatsOpened, Makes};
+ghost use Rattle.ckrt_jobs.specs.Making.{EndsOnImage, FormatsOpened, Makes, is_elf};
 ghost use Rattle.ckrt_jobs.specs.Openings.{opened, refused};
 ghost use Rattle.ckrt_jobs.specs.declared.fault.JobFault.TheVariants.{File};
 ghost use Rattle.ckrt_jobs.specs.declared.file.FileFault.{FileFault};
@@ -9,7 +9,7 @@ ghost use Rattle.ckrt_jobs.specs.declared.file.JobFile.TheVariants as file;
 
 use crate::fault::JobFault;
 use crate::file::{FileFault, JobFile};
-use crate::image::read_image;
+use crate::image::{is_elf, read_image};
 use crate::sources::Sources;
 use ckrt_disk::Disk;
 use ckrt_recovery::{Config, FormatFault};
@@ -32,7 +32,7 @@ fn open_image<'a, I: Read, D: Disk, S: Sources<'a, I, D>>(
     }
 }
 
-/// The image, which has no more bytes than the guest's memory.
+/// The image, which is no ELF file, and has no more bytes than the guest's memory.
 fn fitting_image<'a, I: Read + Drop, D: Disk, S: Sources<'a, I, D>>(
     alloc: Global,
     sources: &mut S,
@@ -41,13 +41,16 @@ fn fitting_image<'a, I: Read + Drop, D: Disk, S: Sources<'a, I, D>>(
 ) -> Result<Vec<u8>, JobFault>
     requires { is_valid config ≡ true }
     ensures bytes { IfOk result (λ image. (bytes : List ℕ) → S.image_bytes sources.old path.now ≡ Some bytes → image.items ≡ bytes) }
-    ensures fits { IfOk result (λ image. length image.items ≤ memory_size config) }
+    ensures fits { IfOk result (λ image. (length image.items ≤ memory_size config) × (is_elf image.items ≡ false)) }
     ensures opened { OnOk result (S.openings sources.new ≡ record (S.openings sources.old) { image = opened path.now }) }
     ensures unfit { IfErr result (EndsOnImage config (S.image_bytes sources.old path.now) path.now (S.openings sources.old) (S.openings sources.new)) }
     ensures same_disks { (at : List ℕ) (size : ℕ) (disk : D) → S.fills sources.new at size disk → S.fills sources.old at size disk }
 {
     let reader = open_image(sources, path)?;
     let image = read_image(alloc, reader, config.memory_size())?;
+    if is_elf(&image) {
+        return Err(JobFault::File(JobFile::Image, FileFault::IsElf));
+    }
     if image.len() > config.memory_size() {
         return Err(JobFault::Format(FormatFault::ImageTooLong));
     }
@@ -101,8 +104,8 @@ fn format_opened<'a, I: Read, D: Disk, S: Sources<'a, I, D>>(
 ///
 /// # Errors
 ///
-/// The first that applies: `BadConfig`, before anything is opened; `File` and `OutOfMemory` of the image; `ImageTooLong`,
-/// before the disk is asked for; `File` of the disk, which isn't asked for either where its path is the image's; then what
+/// The first that applies: `BadConfig`, before anything is opened; `File` and `OutOfMemory` of the image, `File` also where it
+/// is an ELF file; `ImageTooLong`, before the disk is asked for; `File` of the disk, which isn't asked for either where its path is the image's; then what
 /// formatting answers.
 pub fn make_disk<'a, I: Read + Drop, D: Disk, S: Sources<'a, I, D>>(
     alloc: Global,

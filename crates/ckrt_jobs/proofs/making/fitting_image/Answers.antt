@@ -1,6 +1,17 @@
-use Rattle.std.proofs.Common.{rules, ◌∙◌, ◌<◌, length, subst, ℕ}
-use Rattle.ckrt_jobs.proofs.FrontLemmas.{front_longer, front_whole}
+use Rattle.std.proofs.Common.{rules, ◌∙◌, ◌<◌, List, ap, inr, length, subst, sym, ℕ}
+use Rattle.ckrt_jobs.specs.Making.{is_elf}
+use Rattle.ckrt_jobs.proofs.FrontLemmas.{front_longer, front_tells_elf, front_whole}
 use Rattle.ckrt_jobs.proofs.making.fitting_image.Goals as goal
+
+-- the front that was read has the four bytes that tell it
+pub returns-then-is_elf-clause-unfit : goal.returns-then-is_elf-clause-unfit
+returns-then-is_elf-clause-unfit g c = inr (
+  search rules,
+  λ is bytes known.
+      let read = c.in_ok-image.ensures.bytes bytes (c.in_ok-reader.ensures.bytes ∙ known) in
+      let told = sym (ap (λ (l : List ℕ). is_elf l) c.deref.ensures.value) ∙ sym c.is_elf.ensures ∙ c.if-is_elf.true in
+      sym (front_tells_elf c.memory_size.result bytes c.in_ok-image.image.items (search rules) read) ∙ told,
+)
 
 -- one byte more than the limit was asked for
 pub returns-then-len-memory_size-clause-unfit : goal.returns-then-len-memory_size-clause-unfit
