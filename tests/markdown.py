@@ -97,6 +97,7 @@ class Page:
 
 
 def pages():
-    """Every tracked page."""
-    listed = subprocess.run(["git", "ls-files", "-z", "--", "*.md"], cwd=TOP, check=True, stdout=subprocess.PIPE, text=True).stdout
-    return [Page(TOP / name) for name in listed.split("\0") if name]
+    """Every page that is tracked, or is to be."""
+    words = ["git", "ls-files", "-z", "--cached", "--others", "--exclude-standard", "--", "*.md"]
+    listed = subprocess.run(words, cwd=TOP, check=True, stdout=subprocess.PIPE, text=True).stdout
+    return [Page(TOP / name) for name in sorted(set(listed.split("\0"))) if name and (TOP / name).exists()]
