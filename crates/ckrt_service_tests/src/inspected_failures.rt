@@ -52,10 +52,7 @@ fn run<R: Abort + AllocGlobal>(rt: &R, at_call: u64) -> FailingDisk<MemoryDisk> 
 }
 
 /// What the inspector answers of a disk, and what it writes.
-fn inspected<R: AllocGlobal, D: Disk>(
-    rt: &R,
-    disk: &mut D,
-) -> (Result<(), InspectFault>, Vec<u8>) {
+fn inspected<R: AllocGlobal, D: Disk>(rt: &R, disk: &mut D) -> (Result<(), InspectFault>, Vec<u8>) {
     let mut listing = Vec::new(rt.alloc());
     let answer = inspect_with(rt.alloc(), disk, Shown::default(), &mut listing);
     (answer, listing)
@@ -139,6 +136,11 @@ fn each_read_of_an_inspector_fails_behind_each_failure(rt: HostRuntime) {
     for at_call in 1..=CALLS + 1 {
         let left = run(&rt, at_call).into_inner().into_image();
         let reads = reads_of(&rt, at_call, left.as_slice());
-        expect_eq_at(&rt, (at_call, reads), is_count_of_reads(at_call, reads), true);
+        expect_eq_at(
+            &rt,
+            (at_call, reads),
+            is_count_of_reads(at_call, reads),
+            true,
+        );
     }
 }
