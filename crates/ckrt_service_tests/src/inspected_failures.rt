@@ -115,7 +115,7 @@ fn reads_of<R: Abort + AllocGlobal>(rt: &R, at_call: u64, left: &[u8]) -> u64 {
         let mut disk = FailingDisk::new(memory_disk(rt, copied(rt, left)), call);
         if inspected(rt, &mut disk).0 != Err(InspectFault::Device) {
             expect_listing(rt, at_call, &mut memory_disk(rt, copied(rt, left)));
-            return call - 1;
+            return call.saturating_sub(1);
         }
     }
     0
