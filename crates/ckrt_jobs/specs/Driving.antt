@@ -16,6 +16,7 @@ use Rattle.ckrt_recovery.specs.declared.session.Session.{Session}
 use Rattle.ckrt_state.specs.declared.table.Status.{Status}
 use Rattle.ckrt_drive.specs.Plan.{cursor_at_start}
 use Rattle.ckrt_drive.specs.Runs.{Runs}
+use Rattle.ckrt_drive.specs.Stages.{GoesBySteps, stage}
 use Rattle.ckrt_drive.specs.Streams.{got_to}
 use Rattle.ckrt_drive.specs.declared.cursor.Cursor.{Cursor}
 use Rattle.ckrt_drive.specs.declared.fault.DriveFault.{DriveFault}
@@ -78,6 +79,8 @@ pub record DrivesSession {D O : Type 0} {g : Ghosts D} (o : Ghosts O) (options :
   pub cursor : Cursor
   -- what it did, what every stop left, what was acknowledged, and what the output holds
   pub runs : Runs o options (2 ^ 64 - 1) (cursor_at_start options) cursor s t a b ran
+  -- step by step
+  pub by_steps : GoesBySteps options (stage o (cursor_at_start options) s a) (stage o cursor t b)
   -- the program stands as it says
   pub gives : answer ≡ driven_of t.progress.machine.state.tables.status ran
   pub output : IfErr answer (λ fault. fault ≡ Output → HasFailed (o.failures a) (o.failures b))
