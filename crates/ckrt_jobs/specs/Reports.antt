@@ -129,8 +129,8 @@ advice_of_drive (drive.Refused why) = codes "it can't take another event: its co
 -- the numbers stand before it
 abbrev pub advice_of_lengths : OutputLengths → List ℕ
 advice_of_lengths l = if nat_lt l.length l.confirmed
-    then codes "some of the output was lost or cut: `truncate -s` to the first of these goes on, with zeros for what is gone"
-    else codes "it is another run's: give a new file; or the disk is an older copy: `truncate -s` to the last of these goes on"
+    then codes "some of the output was lost or cut: `truncate -s` to the first number goes on, with zeros for what is gone"
+    else codes "it may be another run's: give a new file; if the disk is an older copy, `truncate -s` to the last number goes on"
 
 abbrev pub lengths_text : OutputLengths → List ℕ
 lengths_text l = codes "it has " ++ (decimal l.length ++ (codes " bytes, and this disk wants " ++ (decimal l.confirmed ++ (codes " to " ++ (decimal l.released ++ codes ": ")))))

@@ -153,9 +153,9 @@ fn lengths_advice(lengths: OutputLengths) -> &'static str
     ensures { result.now ≡ advice_of_lengths lengths }
 {
     if lengths.length < lengths.confirmed {
-        "some of the output was lost or cut: `truncate -s` to the first of these goes on, with zeros for what is gone"
+        "some of the output was lost or cut: `truncate -s` to the first number goes on, with zeros for what is gone"
     } else {
-        "it is another run's: give a new file; or the disk is an older copy: `truncate -s` to the last of these goes on"
+        "it may be another run's: give a new file; if the disk is an older copy, `truncate -s` to the last number goes on"
     }
 }
 
