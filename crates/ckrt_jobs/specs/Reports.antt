@@ -1,5 +1,5 @@
 -- What the program prints on standard error for a fault: a line in plain words, and a line with the fault's name.
-use Rattle.std.specs.Prelude.{ℕ, nat_lt, List, [], ◌∷◌, ◌++◌, codes, decimal, string_bytes, Option, Some, None}
+use Rattle.std.specs.Prelude.{if◌then◌else◌, ℕ, nat_lt, List, [], ◌∷◌, ◌++◌, codes, decimal, string_bytes, Option, Some, None}
 use Rattle.std.specs.declared.io.ErrorKind.{ErrorKind}
 use Rattle.std.specs.declared.io.ErrorKind.TheVariants as kind
 use Rattle.ckrt_jobs.specs.Names.{name_of}
@@ -132,8 +132,11 @@ advice_of_lengths l = if nat_lt l.length l.confirmed
     then codes "some of the output was lost or cut: `truncate -s` to the first number goes on, with zeros for what is gone"
     else codes "it may be another run's: give a new file; if the disk is an older copy, `truncate -s` to the last number goes on"
 
+abbrev pub range_text : (from to : ℕ) → List ℕ
+range_text from to = decimal from ++ (codes " to " ++ (decimal to ++ codes ": "))
+
 abbrev pub lengths_text : OutputLengths → List ℕ
-lengths_text l = codes "it has " ++ (decimal l.length ++ (codes " bytes, and this disk wants " ++ (decimal l.confirmed ++ (codes " to " ++ (decimal l.released ++ codes ": ")))))
+lengths_text l = codes "it has " ++ (decimal l.length ++ (codes " bytes, and this disk wants " ++ range_text l.confirmed l.released))
 
 -- the numbers of a fault, where it has some
 abbrev pub numbers_of : JobFault → List ℕ
