@@ -1,5 +1,5 @@
 -- At an end the file of an output has the length of the output.
-use Rattle.std.proofs.Common.{◌≡◌, ℕ, ◌+◌, ◌-◌, ◌^◌, ◌≤◌, max, true, List, [], ◌∷◌, ◌++◌, length, Result, Ok, Option, Some, refl, sym, ◌∙◌, ap, subst, arith, length-append}
+use Rattle.std.proofs.Common.{◌≡◌, ℕ, ◌+◌, ◌≤◌, max, true, List, [], ◌∷◌, ◌++◌, length, Result, ◌∙◌, ap, arith, length-append}
 use Rattle.std.specs.List.{concat}
 use Rattle.std.proofs.lemmas.Bool.Decides.{nat_tests}
 use Rattle.std.proofs.lemmas.List.{take_all}
@@ -40,8 +40,8 @@ module _ {D O : Type 0} (g : Ghosts D) (o : Ghosts O) (options : Options) (s t :
       let released : t.released ≡ length (output_after p all) = there.released ∙ ap (λ l. length (output_after p l)) same in
       let longer = no_longer (output_after p (acknowledged_of events s)) (output_after p (acknowledged_of all t))
       (output_begins p (acknowledged_of events s) (acknowledged_of all t) (taken_begins s.acknowledged t.acknowledged events run.runs.accepted reps.acknowledged run.runs.accepts.acknowledged)) in
-      let low : s.progress.confirmed ≤ size = grind (nat_tests, fit) in
-      let high : size ≤ s.released = grind (nat_tests, fit) in
+      let low : s.progress.confirmed ≤ size = grind (arith, nat_tests, fit) in
+      let high : size ≤ s.released = grind (arith, nat_tests, fit) in
       let below : size ≤ t.released = omega (arith, high, reps.released, there.released, longer) in
       let reach : s.progress.confirmed + length (concat run.runs.puts.pieces) ≡ t.released = run.runs.puts.reach ∙ saved.confirmed in
       let most : max size (s.progress.confirmed + length (concat run.runs.puts.pieces)) ≡ t.released = grind (arith, nat_tests, reach, below) in
