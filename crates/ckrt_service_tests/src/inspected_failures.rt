@@ -96,17 +96,31 @@ fn expect_listing<R: Abort + AllocGlobal, D: Disk>(rt: &R, at_call: u64, disk: &
     expect_eq_at(rt, at_call, listing.starts_with(line), true);
 }
 
-// The count of one disk rises over the run and the inspector behind it, which reads six times: the superblock, a header and what
-// it needs of the other one, tables, pages, and the gate of a journal that is empty.
+/// How many reads the inspector makes behind the whole run: of the superblock, a header and what it needs of the other one, the
+/// tables, the pages, and the gate of a journal that is empty.
+const READS: u64 = 6;
+
+/// Each call of the run fails in turn, and none of the inspector behind it.
+fn fail_each_call<R: Abort + AllocGlobal>(rt: &R) {
+    for at_call in 1..=CALLS {
+        expect_listing(rt, at_call, &mut run(rt, at_call));
+    }
+}
+
+/// No call of the run fails, and each read of the inspector behind it in turn.
+fn fail_each_read<R: Abort + AllocGlobal>(rt: &R) {
+    for read in 1..=READS {
+        expect_device(rt, read, &mut run(rt, CALLS + read));
+    }
+}
+
+// The count of one disk rises over the run and the inspector behind it, until nothing fails.
 #[test]
 fn one_failure_of_a_run_or_of_its_inspector(rt: HostRuntime) {
-    for at_call in 1..=CALLS {
-        expect_listing(&rt, at_call, &mut run(&rt, at_call));
-    }
-    for at_call in CALLS + 1..=CALLS + 6 {
-        expect_device(&rt, at_call, &mut run(&rt, at_call));
-    }
-    expect_listing(&rt, CALLS + 7, &mut run(&rt, CALLS + 7));
+    fail_each_call(&rt);
+    fail_each_read(&rt);
+    let call = CALLS + READS + 1;
+    expect_listing(&rt, call, &mut run(&rt, call));
 }
 
 /// How many reads of these bytes the inspector makes, each of which fails in turn.
@@ -126,21 +140,22 @@ fn reads_of<R: Abort + AllocGlobal>(rt: &R, at_call: u64, left: &[u8]) -> u64 {
 fn is_count_of_reads(at_call: u64, reads: u64) -> bool {
     match at_call {
         0..12 => reads == 1,
-        23..45 => reads > 6,
-        _ => reads == 6,
+        23..45 => reads > READS,
+        _ => reads == READS,
     }
+}
+
+/// Each read of the inspector fails in turn, over what the run leaves whose disk failed this call.
+fn fail_each_read_behind<R: Abort + AllocGlobal>(rt: &R, at_call: u64) {
+    let left = run(rt, at_call).into_inner().into_image();
+    let reads = reads_of(rt, at_call, left.as_slice());
+    let is_right = is_count_of_reads(at_call, reads);
+    expect_eq_at(rt, (at_call, reads), is_right, true);
 }
 
 #[test]
 fn each_read_of_an_inspector_fails_behind_each_failure(rt: HostRuntime) {
     for at_call in 1..=CALLS + 1 {
-        let left = run(&rt, at_call).into_inner().into_image();
-        let reads = reads_of(&rt, at_call, left.as_slice());
-        expect_eq_at(
-            &rt,
-            (at_call, reads),
-            is_count_of_reads(at_call, reads),
-            true,
-        );
+        fail_each_read_behind(&rt, at_call);
     }
 }
