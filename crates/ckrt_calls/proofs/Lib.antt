@@ -16,3 +16,4 @@ pub mod KeptInput
 pub mod Kept
 pub mod Readers
 pub mod Ticks
+pub mod Refused

@@ -1,2 +1,3 @@
 pub mod Calling
 pub mod Table
+pub mod Refused

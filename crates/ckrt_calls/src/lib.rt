@@ -5,6 +5,7 @@ mod calls;
 mod console;
 mod due;
 mod events;
+mod laws;
 mod number;
 mod time;
 mod unwinding;
@@ -13,6 +14,7 @@ pub use calls::call;
 pub use ckrt_state::{INPUT_LIMIT, InputQueue, Status, Tables};
 pub use console::END_OF_INPUT;
 pub use events::{close_input, take_input, tick};
+pub use laws::refused_changes_nothing;
 pub use number::{
     BarrierCall, Call, CancellationCall, ConditionCall, KeyCall, MutexCall, ProcessCall,
     RwLockCall, ThreadCall,

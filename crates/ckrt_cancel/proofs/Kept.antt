@@ -2,7 +2,6 @@
 use Rattle.std.proofs.Common.{◌≡◌, ℕ, ◌≤◌, ◌%◌, ◌==◌, nat_lt, nat_le, not, ◌&&◌, eqb-true, Bool, true, false, Option, Some, None, List, length, refl, sym, subst, ◌∙◌, arith}
 use Rattle.std.specs.List.{find, filter}
 use Rattle.std.proofs.lemmas.Bool.Decides.{nat_tests}
-use Rattle.ckrt_thread.specs.declared.records.TheConstants.{MAX_HANDLERS}
 use Rattle.ckrt_thread.specs.declared.records.Handler.{Handler}
 use Rattle.ckrt_thread.specs.declared.records.Wait.{Wait}
 use Rattle.ckrt_thread.specs.declared.records.Reason.{Reason}
@@ -10,7 +9,7 @@ use Rattle.ckrt_thread.specs.declared.records.Reason.TheVariants as reason
 use Rattle.ckrt_thread.specs.declared.records.RetakeResult.{RetakeResult}
 use Rattle.ckrt_thread.specs.declared.records.RetakeResult.TheVariants as retake
 use Rattle.ckrt_thread.specs.declared.records.Object.TheVariants as object
-use Rattle.ckrt_thread.specs.Cancellation.{acted_on, handlers_of, popping, entering}
+use Rattle.ckrt_thread.specs.Cancellation.{MAX_HANDLERS, acted_on, handlers_of, popping, entering}
 use Rattle.ckrt_thread.specs.Waits.{is_of, is_for, is_reason_for, without}
 use Rattle.ckrt_thread.specs.State as threads
 use Rattle.ckrt_thread.specs.State.{State, thread_of, is_live, is_waiting, count_of, unwaited, blocked}

@@ -1,14 +1,13 @@
 -- Each row of cancellation keeps the threads well-formed.
 use Rattle.std.proofs.Common.{◌≡◌, ℕ, ◌<◌, ◌%◌, ◌==◌, nat_lt, nat_le, not, Bool, true, false, Option, Some, None, IfSome, is_some, List, length, refl, ◌∙◌, arith}
 use Rattle.std.proofs.lemmas.Bool.Decides.{nat_tests}
-use Rattle.ckrt_thread.specs.declared.records.TheConstants.{MAX_HANDLERS}
 use Rattle.ckrt_thread.specs.declared.records.Cancellation.{Cancellation}
 use Rattle.ckrt_thread.specs.declared.records.Handler.{Handler}
 use Rattle.ckrt_thread.specs.declared.records.Thread.{Thread}
 use Rattle.ckrt_thread.specs.declared.records.Thread.TheVariants as thread
 use Rattle.ckrt_thread.specs.declared.records.RetakeResult.TheVariants as retake
 use Rattle.ckrt_thread.specs.Abi.{A1}
-use Rattle.ckrt_thread.specs.Cancellation.{is_consistent, is_aligned_handler, acted_on, handlers_of, newest, popping, entering}
+use Rattle.ckrt_thread.specs.Cancellation.{MAX_HANDLERS, is_consistent, is_aligned_handler, acted_on, handlers_of, newest, popping, entering}
 use Rattle.ckrt_thread.specs.State.{State, IsWellFormed, thread_of, is_live, is_waiting, is_proper_slot, unwaited}
 use Rattle.ckrt_thread.specs.Rows.{After}
 use Rattle.ckrt_thread.specs.Unwinding.{newest_handler, popped, with_cancellation_of}

@@ -1,7 +1,6 @@
 -- What the calls on cancellation do (POSIX.1-2017, 2.9.5 Thread Cancellation). The thread t makes the call, or acts.
 use Rattle.std.specs.Prelude.{ℕ, ◌%◌, ◌==◌, nat_lt, nat_le, Bool, true, if◌then◌else◌, not, Option, Some, None, is_some, List, length}
 use Rattle.std.specs.List.{find}
-use Rattle.ckrt_thread.specs.declared.records.TheConstants.{MAX_HANDLERS}
 use Rattle.ckrt_thread.specs.declared.records.Cancellation.{Cancellation}
 use Rattle.ckrt_thread.specs.declared.records.Handler.{Handler}
 use Rattle.ckrt_thread.specs.declared.records.Thread.{Thread}
@@ -13,7 +12,7 @@ use Rattle.ckrt_thread.specs.declared.records.RetakeResult.TheVariants as retake
 use Rattle.ckrt_thread.specs.declared.records.CallResult.TheVariants.{Done, Moved}
 use Rattle.ckrt_thread.specs.Abi.{A1}
 use Rattle.ckrt_thread.specs.Errors.{ESRCH, EAGAIN, EINVAL}
-use Rattle.ckrt_thread.specs.Cancellation.{is_pending, is_immediate, unwinding_with, acted_on, cancellation_of, handlers_of}
+use Rattle.ckrt_thread.specs.Cancellation.{MAX_HANDLERS, is_pending, is_immediate, unwinding_with, acted_on, cancellation_of, handlers_of}
 use Rattle.ckrt_thread.specs.Waits.{is_of}
 use Rattle.ckrt_thread.specs.State.{State, thread_of, set_word, unwaited}
 use Rattle.ckrt_thread.specs.Unwinding.{newest_handler, next_handler, pushed, popped, entered, with_cancellation_of}

@@ -1,6 +1,6 @@
 -- Which of the two areas is in use (this project's own format).
 use Rattle.std.specs.Prelude.{◌≡◌, ◌⊎◌, ◌≤◌, ◌<◌, ◌^◌, ◌||◌, ◌&&◌, not, ℕ, Bool, List, nat_lt, nat_le, nat_eq, if◌then◌else◌, Result, Ok, Err}
-use Rattle.ckrt_tables.specs.declared.encoding.TheConstants.{TABLES_ROOM}
+use Rattle.ckrt_tables.specs.Encoding.{TABLES_ROOM}
 use Rattle.ckrt_checkpoint.specs.declared.config.Config.{Config}
 use Rattle.ckrt_checkpoint.specs.declared.fault.AreaFault.{AreaFault}
 use Rattle.ckrt_checkpoint.specs.declared.fault.AreaFault.TheVariants.{Version, Damaged}

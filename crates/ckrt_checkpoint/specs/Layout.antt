@@ -1,11 +1,11 @@
 -- Where things lie on a disk, and the fields of an area's header (this project's own format). Numbers have their lowest byte first.
 use Rattle.std.specs.Prelude.{◌+◌, ◌-◌, ◌*◌, ◌%◌, ◌&&◌, ◌==◌, ℕ, Bool, List, take, drop, slice_index, nat_le, nat_eq}
 use Rattle.byteorder.specs.Endian.{little_number}
+use Rattle.ckrt_journal.specs.Chain.{OPEN}
 use Rattle.ckrt_journal.specs.declared.journal.Journal.{Journal}
 use Rattle.ckrt_checkpoint.specs.declared.area.Area.{Area}
 use Rattle.ckrt_checkpoint.specs.declared.config.Config.{Config}
 use Rattle.ckrt_checkpoint.specs.declared.header.Header.{Header}
-use Rattle.ckrt_checkpoint.specs.declared.layout.TheConstants.{OPEN}
 
 -- CONFIGURATIONS
 
@@ -54,6 +54,10 @@ journal_of c area version = record { at = journal_at c area; size = c.journal; n
 -- the number in n bytes from an offset on
 unfoldable pub number_at : (n at : ℕ) → List ℕ → ℕ
 number_at n at bytes = little_number n (take n (drop at bytes))
+
+-- the byte that a gate is closed with
+abbrev pub CLOSED : ℕ
+CLOSED = 0
 
 -- a gate is open exactly where it is the byte A5
 abbrev pub is_open : List ℕ → Bool

@@ -42,27 +42,29 @@ const GOES_ON: &[Step] = &[
     Remove("second_b.img"),
 ];
 
-/// A second format is refused, and adds zeros alone, up to this size.
+/// A second format of a file of this size is refused, and adds zeros alone, up to that size.
 fn expect_kept<R: Abort + Files<File = File> + AllocGlobal>(
     rt: &R,
     words: &'static str,
-    size: usize,
+    from: usize,
+    to: usize,
 ) {
     let before = bytes_in(rt, "second_a.disk");
     play(rt, &[Fails(words, HOLDS_A_PROGRAM)]);
     let after = bytes_in(rt, "second_a.disk");
-    expect_eq(rt, before.len(), SIZE);
-    expect_eq(rt, after.len(), size);
+    expect_eq(rt, before.len(), from);
+    expect_eq(rt, after.len(), to);
     expect_eq(rt, after.starts_with(before.as_slice()), true);
-    expect_eq(rt, after.iter().skip(SIZE).all(|byte| *byte == 0), true);
+    expect_eq(rt, after.iter().skip(from).all(|byte| *byte == 0), true);
 }
 
 // Another image in the same configuration changes nothing of the file. A configuration that needs a longer one adds zeros to
-// it, and changes nothing of what was there.
+// it, and changes nothing of what was there; and one that needs a shorter one than that changes nothing.
 #[test]
 fn a_disk_that_is_formatted_twice_keeps_its_program(rt: HostRuntime) {
     play(&rt, MADE);
-    expect_kept(&rt, SAME_SIZE, SIZE);
-    expect_kept(&rt, LARGER, 864_256);
+    expect_kept(&rt, SAME_SIZE, SIZE, SIZE);
+    expect_kept(&rt, LARGER, SIZE, 864_256);
+    expect_kept(&rt, SAME_SIZE, 864_256, 864_256);
     play(&rt, GOES_ON);
 }

@@ -1,14 +1,17 @@
 -- What a freshly formatted disk has (this project's own format).
 use Rattle.std.specs.Prelude.{◌≡◌, ◌+◌, ◌-◌, ℕ, true, List, [], ◌∷◌, ◌++◌, replicate, length}
+use Rattle.ckrt_journal.specs.Chain.{OPEN}
 use Rattle.ckrt_tables.specs.Fresh.{fresh_bytes}
-use Rattle.ckrt_tables.specs.declared.encoding.TheConstants.{VERSION}
+use Rattle.ckrt_tables.specs.Encoding.{VERSION}
 use Rattle.ckrt_checkpoint.specs.declared.config.Config.{Config}
 use Rattle.ckrt_checkpoint.specs.declared.header.Header.{Header}
-use Rattle.ckrt_checkpoint.specs.declared.layout.TheConstants.{CLOSED, OPEN}
 use Rattle.ckrt_checkpoint.specs.Fields.{HasBytes, header_fields}
-use Rattle.ckrt_checkpoint.specs.Layout.{memory_size, area_at, tables_at, memory_at, journal_at}
-use Rattle.ckrt_image.specs.declared.fresh.TheConstants.{FRESH_TABLES_SIZE}
+use Rattle.ckrt_checkpoint.specs.Layout.{CLOSED, memory_size, area_at, tables_at, memory_at, journal_at}
 use Rattle.ckrt_image.specs.Superblock.{superblock_fields}
+
+-- how many bytes the saved tables of a program have before its first event
+abbrev pub FRESH_TABLES_SIZE : ℕ
+FRESH_TABLES_SIZE = 176
 
 -- the header of area 0 before the first event
 abbrev pub fresh_header : Header

@@ -3,9 +3,8 @@ use Rattle.std.specs.Prelude.{◌≡◌, ◌≤◌, ◌<◌, ◌+◌, ◌-◌, �
 use Rattle.ckrt_disk.specs.Disk.{IsWithin}
 use Rattle.ckrt_disk.specs.Frame.{IsSameOutside}
 use Rattle.ckrt_journal.specs.Chain.{journal_bytes}
-use Rattle.ckrt_tables.specs.declared.encoding.TheConstants.{VERSION}
 use Rattle.ckrt_tables.specs.Decoding.{Saved}
-use Rattle.ckrt_tables.specs.Encoding.{encoding_of}
+use Rattle.ckrt_tables.specs.Encoding.{VERSION, encoding_of}
 use Rattle.ckrt_tables.specs.Savable.{CanBeSaved}
 use Rattle.ckrt_checkpoint.specs.declared.area.Area.{Area}
 use Rattle.ckrt_checkpoint.specs.declared.config.Config.{Config}

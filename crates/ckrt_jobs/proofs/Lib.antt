@@ -2,3 +2,4 @@ mod DriveLemmas
 mod FrontLemmas
 mod PrintLemmas
 mod RunLemmas
+mod SayLemmas

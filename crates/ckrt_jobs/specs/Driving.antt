@@ -16,6 +16,7 @@ use Rattle.ckrt_recovery.specs.declared.session.Session.{Session}
 use Rattle.ckrt_state.specs.declared.table.Status.{Status}
 use Rattle.ckrt_drive.specs.Plan.{cursor_at_start}
 use Rattle.ckrt_drive.specs.Runs.{Runs}
+use Rattle.ckrt_drive.specs.Stages.{GoesBySteps, stage}
 use Rattle.ckrt_drive.specs.Streams.{got_to}
 use Rattle.ckrt_drive.specs.declared.cursor.Cursor.{Cursor}
 use Rattle.ckrt_drive.specs.declared.fault.DriveFault.{DriveFault}
@@ -24,12 +25,14 @@ use Rattle.ckrt_drive.specs.declared.options.Options.{Options}
 use Rattle.ckrt_drive.specs.declared.progress.Ending.{Ending}
 use Rattle.ckrt_drive.specs.declared.stream.StreamOutput.{StreamOutput}
 use Rattle.ckrt_words.specs.Jobs.{Driving}
+use Rattle.ckrt_jobs.specs.Lengths.{fits, lengths_of}
 use Rattle.ckrt_jobs.specs.Openings.{Openings, opened, refused}
 use Rattle.ckrt_jobs.specs.declared.driven.Driven.{Driven}
 use Rattle.ckrt_jobs.specs.declared.fault.JobFault.{JobFault}
 use Rattle.ckrt_jobs.specs.declared.fault.JobFault.TheVariants as job
 use Rattle.ckrt_jobs.specs.declared.file.FileFault.{FileFault}
 use Rattle.ckrt_jobs.specs.declared.file.JobFile.TheVariants as file
+use Rattle.ckrt_jobs.specs.declared.output.OpenedOutput.{OpenedOutput}
 
 -- THE OPTIONS
 
@@ -78,6 +81,8 @@ pub record DrivesSession {D O : Type 0} {g : Ghosts D} (o : Ghosts O) (options :
   pub cursor : Cursor
   -- what it did, what every stop left, what was acknowledged, and what the output holds
   pub runs : Runs o options (2 ^ 64 - 1) (cursor_at_start options) cursor s t a b ran
+  -- step by step
+  pub by_steps : GoesBySteps options (stage o (cursor_at_start options) s a) (stage o cursor t b)
   -- the program stands as it says
   pub gives : answer ≡ driven_of t.progress.machine.state.tables.status ran
   pub output : IfErr answer (λ fault. fault ≡ Output → HasFailed (o.failures a) (o.failures b))
@@ -104,11 +109,29 @@ pub record LacksOutput {D : Type 0} (d : Ghosts D) (path : List ℕ) (s : Sessio
   pub is : result ≡ Err (job.File file.Output why)
   pub closes : new ≡ record old { output = refused path why; closed = Some s.disk }
 
--- the output of this path was opened, and the session driven onto it
-pub record OpensOutput {D : Type 0} (d : Ghosts D) (Outputs : D → Type 0) (path : List ℕ) (options : Options) (s : Session D d) (old new : Openings D) (result : Result Driven JobFault) : Type 0 where
-  pub output : D
-  pub is_opened : Outputs output
-  pub drives : DrivesOnto d options s output (record old { output = opened path }) new result
+-- the output that was opened can't be the disk's, by the length of its file, and both were closed as they were
+pub record RefusesOutput {D : Type 0} (d : Ghosts D) (it : OpenedOutput D) (s : Session D d) (asked new : Openings D) (result : Result Driven JobFault) : Type 0 where
+  pub unfit : fits (lengths_of it.length s) ≡ false
+  pub is : result ≡ Err (job.OutputDiffers (lengths_of it.length s))
+  pub closes : new ≡ record asked { closed = Some s.disk; closed_output = Some it.output }
+
+-- the length of its file fits the disk, and the session was driven onto it
+pub record TakesOutput {D : Type 0} (d : Ghosts D) (it : OpenedOutput D) (options : Options) (s : Session D d) (asked new : Openings D) (result : Result Driven JobFault) : Type 0 where
+  pub fit : fits (lengths_of it.length s) ≡ true
+  pub drives : DrivesOnto d options s it.output asked new result
+
+abbrev pub DrivesOpenedOutput : {D : Type 0} (d : Ghosts D) → OpenedOutput D → Options → Session D d → (asked new : Openings D) → Result Driven JobFault → Type 0
+DrivesOpenedOutput d it options s asked new result = RefusesOutput d it s asked new result ⊎ TakesOutput d it options s asked new result
+
+-- the output of this path was opened, and the session driven onto it where it fits
+pub record OpensOutput {D : Type 0} (d : Ghosts D) (Outputs : OpenedOutput D → Type 0) (path : List ℕ) (options : Options) (s : Session D d) (old new : Openings D) (result : Result Driven JobFault) : Type 0 where
+  pub it : OpenedOutput D
+  pub is_opened : Outputs it
+  pub drives : DrivesOpenedOutput d it options s (record old { output = opened path }) new result
+
+-- what became of a session whose output goes into the file of a path
+abbrev pub DrivesInto : {D : Type 0} (d : Ghosts D) → (OpenedOutput D → Type 0) → (path : List ℕ) → Options → Session D d → (old new : Openings D) → Result Driven JobFault → Type 0
+DrivesInto d Outputs path options s old new result = LacksOutput d path s old new result ⊎ OpensOutput d Outputs path options s old new result
 
 -- the session was driven onto a stream that leaves out the bytes below an offset, and its disk was closed as the drive left it
 pub record DrivesStream {D W : Type 0} (d : Ghosts D) (o : Ghosts (StreamOutput W)) (from : ℕ) (options : Options) (s : Session D d) (old new : Openings D) (result : Result Driven JobFault) : Type 0 where
@@ -122,8 +145,8 @@ pub record DrivesStream {D W : Type 0} (d : Ghosts D) (o : Ghosts (StreamOutput 
   pub closes : new ≡ record old { closed = Some after.disk }
 
 -- the session was driven with its output in the file of a path, where there is one, else onto a stream
-abbrev pub DrivesRecovered : {D W : Type 0} (d : Ghosts D) (o : Ghosts (StreamOutput W)) → (List ℕ → D → Type 0) → (output : Option (List ℕ)) (from : ℕ) → Options → Session D d → (old new : Openings D) → Result Driven JobFault → Type 0
-DrivesRecovered d o Outputs (Some path) from options s old new result = LacksOutput d path s old new result ⊎ OpensOutput d (Outputs path) path options s old new result
+abbrev pub DrivesRecovered : {D W : Type 0} (d : Ghosts D) (o : Ghosts (StreamOutput W)) → (List ℕ → OpenedOutput D → Type 0) → (output : Option (List ℕ)) (from : ℕ) → Options → Session D d → (old new : Openings D) → Result Driven JobFault → Type 0
+DrivesRecovered d o Outputs (Some path) from options s old new result = DrivesInto d (Outputs path) path options s old new result
 DrivesRecovered d o Outputs None from options s old new result = DrivesStream d o from options s old new result
 
 -- where the output goes into a file nothing is written
@@ -151,13 +174,13 @@ pub record LacksRecovery {D : Type 0} (d : Ghosts D) (start : D) (old new : Open
   pub closes : new ≡ record old { closed = Some end }
 
 -- the disk was recovered, and driven
-pub record DrivesDisk {D W : Type 0} (d : Ghosts D) (o : Ghosts (StreamOutput W)) (Outputs : List ℕ → D → Type 0) (output : Option (List ℕ)) (from : ℕ) (options : Options) (start : D)
+pub record DrivesDisk {D W : Type 0} (d : Ghosts D) (o : Ghosts (StreamOutput W)) (Outputs : List ℕ → OpenedOutput D → Type 0) (output : Option (List ℕ)) (from : ℕ) (options : Options) (start : D)
     (old new : Openings D) (result : Result Driven JobFault) : Type 0 where
   pub session : Session D d
   pub recovered : IsRecovered d start session
   pub drives : DrivesRecovered d o Outputs output from options session old new result
 
-abbrev pub DrivesOpened : {D W : Type 0} (d : Ghosts D) (o : Ghosts (StreamOutput W)) → (List ℕ → D → Type 0) → (output : Option (List ℕ)) (from : ℕ) → Options → D → (old new : Openings D) → Result Driven JobFault → Type 0
+abbrev pub DrivesOpened : {D W : Type 0} (d : Ghosts D) (o : Ghosts (StreamOutput W)) → (List ℕ → OpenedOutput D → Type 0) → (output : Option (List ℕ)) (from : ℕ) → Options → D → (old new : Openings D) → Result Driven JobFault → Type 0
 DrivesOpened d o Outputs output from options start old new result = LacksRecovery d start old new result ⊎ DrivesDisk d o Outputs output from options start old new result
 
 -- THE JOB
@@ -169,7 +192,7 @@ pub record LacksDisk {D : Type 0} (path : List ℕ) (old new : Openings D) (resu
   pub refuses : new ≡ record old { disk = refused path why }
 
 -- the disk of the words' path was opened, and driven as they ask
-pub record OpensDisk {D W : Type 0} (d : Ghosts D) (o : Ghosts (StreamOutput W)) (Opens : D → Type 0) (Outputs : List ℕ → D → Type 0) (j : Driving) (old new : Openings D) (result : Result Driven JobFault) : Type 0 where
+pub record OpensDisk {D W : Type 0} (d : Ghosts D) (o : Ghosts (StreamOutput W)) (Opens : D → Type 0) (Outputs : List ℕ → OpenedOutput D → Type 0) (j : Driving) (old new : Openings D) (result : Result Driven JobFault) : Type 0 where
   pub options : Options
   pub asked : IsAsked j options
   pub start : D
@@ -177,9 +200,9 @@ pub record OpensDisk {D W : Type 0} (d : Ghosts D) (o : Ghosts (StreamOutput W))
   pub drives : DrivesOpened d o Outputs j.output (offset_of j.from) options start (record old { disk = opened j.disk }) new result
 
 -- Out of its ranges nothing is asked for.
-abbrev pub DrivesInRange : {D W : Type 0} → Ghosts D → Ghosts (StreamOutput W) → (Opens : D → Type 0) (Outputs : List ℕ → D → Type 0) → Driving → (old new : Openings D) → Result Driven JobFault → Bool → Type 0
+abbrev pub DrivesInRange : {D W : Type 0} → Ghosts D → Ghosts (StreamOutput W) → (Opens : D → Type 0) (Outputs : List ℕ → OpenedOutput D → Type 0) → Driving → (old new : Openings D) → Result Driven JobFault → Bool → Type 0
 DrivesInRange d o Opens Outputs j old new result true = LacksDisk j.disk old new result ⊎ OpensDisk d o Opens Outputs j old new result
 DrivesInRange d o Opens Outputs j old new result false = (result ≡ Err job.Range) × (new ≡ old)
 
-abbrev pub DrivesPath : {D W : Type 0} → Ghosts D → Ghosts (StreamOutput W) → (Opens : D → Type 0) (Outputs : List ℕ → D → Type 0) → Driving → (old new : Openings D) → Result Driven JobFault → Type 0
+abbrev pub DrivesPath : {D W : Type 0} → Ghosts D → Ghosts (StreamOutput W) → (Opens : D → Type 0) (Outputs : List ℕ → OpenedOutput D → Type 0) → Driving → (old new : Openings D) → Result Driven JobFault → Type 0
 DrivesPath d o Opens Outputs j old new result = DrivesInRange d o Opens Outputs j old new result (is_in_range j)

@@ -58,4 +58,5 @@ name_of (job.Recover f) = name_of_recover f
 name_of (job.Serve f) = name_of_serve f
 name_of (job.Inspect f) = name_of_look f
 name_of job.Range = codes "Range"
+name_of (job.OutputDiffers l) = codes "OutputDiffers"
 name_of (job.Drive f) = name_of_drive f

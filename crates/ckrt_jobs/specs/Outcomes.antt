@@ -30,7 +30,7 @@ version_line = codes "ckrt " ++ (codes "0.1.0, source proved with rattle-kit-13f
 -- the program's status for a job: 0 where it is done; of a drive, its end's
 abbrev pub status_of : Result (Option Driven) JobFault → ℕ
 status_of (Ok None) = 0
-status_of (Ok (Some driven)) = end_status driven.ending
+status_of (Ok (Some driven)) = end_status driven.ending driven.status
 status_of (Err fault) = 1
 
 -- and for words that name none

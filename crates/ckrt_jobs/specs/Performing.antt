@@ -29,6 +29,7 @@ use Rattle.ckrt_jobs.specs.declared.file.FileFault.{FileFault}
 use Rattle.ckrt_jobs.specs.declared.file.JobFile.TheVariants as file
 use Rattle.ckrt_jobs.specs.declared.running.Unserved.{Unserved}
 use Rattle.ckrt_jobs.specs.declared.stored.TheConstants.{CONFIG, IMAGE}
+use Rattle.ckrt_jobs.specs.declared.output.OpenedOutput.{OpenedOutput}
 
 -- the line was written, or the writer failed, and what was written is a beginning of it
 abbrev pub SaysLine : (a b : Option (List ℕ)) → List ℕ → Result (Unit {0}) JobFault → Type 0
@@ -116,7 +117,7 @@ Comes Holds outcome = (result : Result Driven JobFault) × (outcome ≡ outcome_
 
 -- What the program does for a request, where its sources give these bytes for the path of an image, these disks for that of a disk, these
 -- once it is filled, and these outputs for that of an output; the openings go from old to new: what asks for no file opens none.
-abbrev pub Performs : {D W : Type 0} → Ghosts D → Ghosts (StreamOutput W) → Request → (List ℕ → Option (List ℕ)) → (List ℕ → D → Type 0) → (List ℕ → ℕ → D → Type 0) → (List ℕ → D → Type 0)
+abbrev pub Performs : {D W : Type 0} → Ghosts D → Ghosts (StreamOutput W) → Request → (List ℕ → Option (List ℕ)) → (List ℕ → D → Type 0) → (List ℕ → ℕ → D → Type 0) → (List ℕ → OpenedOutput D → Type 0)
     → (old new : Openings D) → (a b r s : Option (List ℕ)) → Result (Option Driven) JobFault → Type 0
 Performs d o stored known Opens Fills Outputs old new a b r s outcome = Does (ServesStored a b r s) outcome × (new ≡ old)
 Performs d o version known Opens Fills Outputs old new a b r s outcome = Does (SaysLine a b version_line) outcome × (s ≡ r) × (new ≡ old)
@@ -137,7 +138,7 @@ ReportsOutcome q (Err fault) before after has_failed = Reports before after has_
 
 -- the program's words ask for something: what was done, what was said of it, and the status
 pub record RunsRequest {D W : Type 0} (d : Ghosts D) (o : Ghosts (StreamOutput W)) (q : Request) (known : List ℕ → Option (List ℕ)) (Opens : List ℕ → D → Type 0) (Fills : List ℕ → ℕ → D → Type 0)
-    (Outputs : List ℕ → D → Type 0) (old new : Openings D) (a b r s said_before said_after : Option (List ℕ)) (has_failed : Bool) (status : ℕ) : Type 0 where
+    (Outputs : List ℕ → OpenedOutput D → Type 0) (old new : Openings D) (a b r s said_before said_after : Option (List ℕ)) (has_failed : Bool) (status : ℕ) : Type 0 where
   pub outcome : Result (Option Driven) JobFault
   pub performs : Performs d o q known Opens Fills Outputs old new a b r s outcome
   pub reports : ReportsOutcome q outcome said_before said_after has_failed
@@ -156,7 +157,7 @@ pub record RefusesWords {D : Type 0} (ws : List (List ℕ)) (old new : Openings 
 
 -- what the program does for its words
 abbrev pub RunsWords : {D W : Type 0} → Ghosts D → Ghosts (StreamOutput W) → (ws : List (List ℕ)) → (List ℕ → Option (List ℕ)) → (List ℕ → D → Type 0) → (List ℕ → ℕ → D → Type 0)
-    → (List ℕ → D → Type 0) → (old new : Openings D) → (a b r s said_before said_after : Option (List ℕ)) → Bool → ℕ → Type 0
+    → (List ℕ → OpenedOutput D → Type 0) → (old new : Openings D) → (a b r s said_before said_after : Option (List ℕ)) → Bool → ℕ → Type 0
 RunsWords d o ws known Opens Fills Outputs old new a b r s said_before said_after has_failed status =
     ((q : Request) × (request_of_words ws ≡ Some q) × RunsRequest d o q known Opens Fills Outputs old new a b r s said_before said_after has_failed status)
     ⊎ RefusesWords ws old new a b r s said_before said_after has_failed status

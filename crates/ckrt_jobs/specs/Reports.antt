@@ -1,5 +1,5 @@
 -- What the program prints on standard error for a fault: a line in plain words, and a line with the fault's name.
-use Rattle.std.specs.Prelude.{ℕ, List, [], ◌∷◌, ◌++◌, codes, string_bytes, Option, Some, None}
+use Rattle.std.specs.Prelude.{if◌then◌else◌, ℕ, nat_lt, List, [], ◌∷◌, ◌++◌, codes, decimal, string_bytes, Option, Some, None}
 use Rattle.std.specs.declared.io.ErrorKind.{ErrorKind}
 use Rattle.std.specs.declared.io.ErrorKind.TheVariants as kind
 use Rattle.ckrt_jobs.specs.Names.{name_of}
@@ -9,6 +9,7 @@ use Rattle.ckrt_jobs.specs.declared.file.FileFault.{FileFault}
 use Rattle.ckrt_jobs.specs.declared.file.FileFault.TheVariants as fault
 use Rattle.ckrt_jobs.specs.declared.file.JobFile.{JobFile}
 use Rattle.ckrt_jobs.specs.declared.file.JobFile.TheVariants as file
+use Rattle.ckrt_jobs.specs.declared.output.OutputLengths.{OutputLengths}
 use Rattle.ckrt_image.specs.declared.fault.FormatFault.{FormatFault}
 use Rattle.ckrt_image.specs.declared.fault.FormatFault.TheVariants as format
 use Rattle.ckrt_image.specs.declared.fault.RecoverFault.{RecoverFault}
@@ -45,6 +46,7 @@ file_fault_text fault.NoFolder = codes "its folder is missing"
 file_fault_text fault.IsImage = codes "the image has this path too"
 file_fault_text fault.IsElf = codes "it is an ELF file: guest/image, or objcopy -O binary, makes an image of it"
 file_fault_text fault.IsADirectory = codes "it is a directory"
+file_fault_text fault.NotAFile = codes "it isn't a plain file, and can't be written by offset; without --output the bytes are printed"
 file_fault_text fault.PermissionDenied = codes "permission denied"
 file_fault_text fault.InUse = codes "another program has it locked"
 file_fault_text fault.StorageFull = codes "no space is left for it"
@@ -76,6 +78,7 @@ file_of (job.Inspect look.Version) = Some file.Disk
 file_of (job.Inspect look.Damaged) = Some file.Disk
 file_of (job.Inspect look.Device) = Some file.Disk
 file_of (job.Inspect look.Range) = Some file.Disk
+file_of (job.OutputDiffers l) = Some file.Output
 file_of (job.Drive f) = Some (file_of_drive f)
 file_of _ = None
 
@@ -123,6 +126,23 @@ advice_of_drive drive.OutputFull = codes "it can't have so many bytes"
 advice_of_drive drive.GenerationsUsed = codes "it has made as many checkpoints as there can be; make another"
 advice_of_drive (drive.Refused why) = codes "it can't take another event: its counters are used up"
 
+-- the numbers stand before it
+abbrev pub advice_of_lengths : OutputLengths → List ℕ
+advice_of_lengths l = if nat_lt l.length l.confirmed
+    then codes "some of the output was lost or cut: `truncate -s` to the first number goes on, with zeros for what is gone"
+    else codes "it may be another run's: give a new file; if the disk is an older copy, `truncate -s` to the last number goes on"
+
+abbrev pub range_text : (from to : ℕ) → List ℕ
+range_text from to = decimal from ++ (codes " to " ++ (decimal to ++ codes ": "))
+
+abbrev pub lengths_text : OutputLengths → List ℕ
+lengths_text l = codes "it has " ++ (decimal l.length ++ (codes " bytes, and this disk wants " ++ range_text l.confirmed l.released))
+
+-- the numbers of a fault, where it has some
+abbrev pub numbers_of : JobFault → List ℕ
+numbers_of (job.OutputDiffers l) = lengths_text l
+numbers_of _ = []
+
 abbrev pub advice_of : JobFault → List ℕ
 advice_of (job.File at why) = file_fault_text why
 advice_of job.OutOfMemory = memory_advice
@@ -131,6 +151,7 @@ advice_of (job.Recover f) = advice_of_recover f
 advice_of (job.Serve f) = advice_of_serve f
 advice_of (job.Inspect f) = advice_of_look f
 advice_of job.Range = codes "--turn is 1 to 1000000, --rounds-per-commit and --progress 1 or more, and --from goes without --output"
+advice_of (job.OutputDiffers l) = advice_of_lengths l
 advice_of (job.Drive f) = advice_of_drive f
 
 -- the path of an output, or what stands for it where it is printed
@@ -159,7 +180,7 @@ fault_line f = codes "ckrt: " ++ (name_of f ++ 10 ∷ [])
 
 -- all that is printed for a fault of what the words ask for
 abbrev pub report_of : Request → JobFault → List ℕ
-report_of asked f = subject_of (file_of f) asked ++ (advice_of f ++ (10 ∷ [] ++ fault_line f))
+report_of asked f = subject_of (file_of f) asked ++ (numbers_of f ++ (advice_of f ++ (10 ∷ [] ++ fault_line f)))
 
 -- all that is printed for words that name no job
 abbrev pub words_report_of : WordsFault → List ℕ

@@ -1,6 +1,6 @@
 //! What a drive came to.
 ghost use Rattle.std.specs.Prelude.{◌≡◌};
-ghost use Rattle.ckrt_jobs.specs.Ends.{end_status};
+ghost use Rattle.ckrt_jobs.specs.Ends.{end_status, ended_status};
 
 use ckrt_drive::Ending;
 use ckrt_state::Status;
@@ -14,15 +14,28 @@ pub struct Driven {
     pub status: Status,
 }
 
+/// The program's status for a guest that ended.
+fn ended_status(status: Status) -> u8
+    ensures { result ≡ ended_status status }
+{
+    match status {
+        Status::Exited(0) => 0,
+        Status::Exited(_) => 7,
+        Status::Faulted(..) => 6,
+        Status::Running => 5,
+    }
+}
+
 impl Driven {
     /// The program's status for it.
     pub(crate) fn exit_status(self) -> u8
-        ensures { result ≡ end_status self.ending }
+        ensures { result ≡ end_status self.ending self.status }
     {
         match self.ending {
+            Some(Ending::Ended) => ended_status(self.status),
             Some(Ending::WaitsForInput) => 3,
             Some(Ending::Deadlock) => 4,
-            Some(Ending::Ended | Ending::Enough) | None => 0,
+            Some(Ending::Enough) | None => 5,
         }
     }
 }

@@ -1,13 +1,14 @@
 //! Driving a disk.
 ghost use Rattle.std.specs.Prelude.{◌≡◌, ◌⊎◌, IfSome, IfErr, IfOk, None, OnOk, false, option_map, true};
 ghost use Rattle.ckrt_words.specs.Jobs.{driving_of};
-ghost use Rattle.ckrt_jobs.specs.Driving.{DrivesDisk, DrivesOnto, DrivesOpened, DrivesPath, DrivesRecovered, DrivesSession, DrivesStream, IsAsked, IsUnwritten, LacksOutput, OpensOutput, answer_of, driven_of, is_in_range, is_target, offset_of};
+ghost use Rattle.ckrt_jobs.specs.Driving.{DrivesInto, DrivesOnto, DrivesOpened, DrivesOpenedOutput, DrivesPath, DrivesRecovered, DrivesSession, DrivesStream, IsAsked, IsUnwritten, answer_of, driven_of, is_in_range, is_target, offset_of};
 ghost use Rattle.ckrt_jobs.specs.Openings.{opened, refused};
 
 use crate::driven::Driven;
 use crate::fault::JobFault;
 use crate::file::JobFile;
 use crate::meter::Meter;
+use crate::output::{OpenedOutput, OutputLengths};
 use crate::sources::Sources;
 use ckrt_disk::Disk;
 use ckrt_drive::{Drive, DriveFault, Ending, Options, StreamOutput};
@@ -116,6 +117,29 @@ fn drive_onto<'a, I: Read, D: Disk, S: Sources<'a, I, D>, M: Meter>(
     answer_of(undertaken.driven)
 }
 
+/// Drives a session onto an output that was opened, if the length of its file fits the disk; else closes both as they are.
+fn drive_onto_opened<'a, I: Read, D: Disk, S: Sources<'a, I, D>, M: Meter>(
+    session: Session<D>,
+    opened: OpenedOutput<D>,
+    options: Options,
+    sources: &mut S,
+    meter: &mut M,
+) -> Result<Driven, JobFault>
+    ensures { DrivesOpenedOutput D.Disk opened options session (S.openings sources.old) (S.openings sources.new) result }
+{
+    let lengths = OutputLengths {
+        length: opened.length,
+        confirmed: session.confirmed(),
+        released: session.released(),
+    };
+    if lengths.fits() {
+        return drive_onto::<I, D, S, M>(session, opened.output, options, sources, meter);
+    }
+    sources.close_output(opened.output);
+    sources.close(session.into_disk());
+    Err(JobFault::OutputDiffers(lengths))
+}
+
 /// Drives a session, with its output in the file of a path.
 fn drive_into_file<'a, I: Read, D: Disk, S: Sources<'a, I, D>, M: Meter>(
     session: Session<D>,
@@ -124,10 +148,10 @@ fn drive_into_file<'a, I: Read, D: Disk, S: Sources<'a, I, D>, M: Meter>(
     sources: &mut S,
     meter: &mut M,
 ) -> Result<Driven, JobFault>
-    ensures lacks_or_opens { LacksOutput D.Disk path.now session (S.openings sources.old) (S.openings sources.new) result ⊎ OpensOutput D.Disk (S.outputs sources.old path.now) path.now options session (S.openings sources.old) (S.openings sources.new) result }
+    ensures { DrivesInto D.Disk (S.outputs sources.old path.now) path.now options session (S.openings sources.old) (S.openings sources.new) result }
 {
     match sources.open_output(path) {
-        Ok(output) => drive_onto::<I, D, S, M>(session, output, options, sources, meter),
+        Ok(opened) => drive_onto_opened::<I, D, S, M>(session, opened, options, sources, meter),
         Err(fault) => {
             sources.close(session.into_disk());
             Err(JobFault::File(JobFile::Output, fault))

@@ -1,8 +1,9 @@
 ghost use Rattle.std.specs.Prelude.{◌≡◌};
 ghost use Rattle.ckrt_jobs.specs.Names.{name_of, name_of_drive, name_of_look};
-ghost use Rattle.ckrt_jobs.specs.Reports.{advice_of, advice_of_drive, advice_of_format, advice_of_look, advice_of_recover, advice_of_serve, device_advice, file_of, file_of_drive, memory_advice};
+ghost use Rattle.ckrt_jobs.specs.Reports.{advice_of, advice_of_drive, advice_of_format, advice_of_lengths, advice_of_look, advice_of_recover, advice_of_serve, device_advice, file_of, file_of_drive, memory_advice};
 
 use crate::file::{FileFault, JobFile};
+use crate::output::OutputLengths;
 use ckrt_drive::DriveFault;
 use ckrt_inspect::InspectFault;
 use ckrt_main::ServeFault;
@@ -25,6 +26,8 @@ pub enum JobFault {
     Inspect(InspectFault),
     /// The numbers of a drive are out of their ranges.
     Range,
+    /// The file of the output has another length than that of the disk.
+    OutputDiffers(OutputLengths),
     /// The drive ended early.
     Drive(DriveFault),
 }
@@ -145,6 +148,17 @@ fn drive_name(fault: DriveFault) -> &'static str
 const RANGE_ADVICE: &str =
     "--turn is 1 to 1000000, --rounds-per-commit and --progress 1 or more, and --from goes without --output";
 
+/// What is said of an output whose file has another length than that of the disk, behind its numbers.
+fn lengths_advice(lengths: OutputLengths) -> &'static str
+    ensures { result.now ≡ advice_of_lengths lengths }
+{
+    if lengths.length < lengths.confirmed {
+        "some of the output was lost or cut: `truncate -s` to the first number goes on, with zeros for what is gone"
+    } else {
+        "it may be another run's: give a new file; if the disk is an older copy, `truncate -s` to the last number goes on"
+    }
+}
+
 /// The file that a fault of a drive is of.
 fn drive_file(fault: DriveFault) -> JobFile
     ensures { result ≡ file_of_drive fault }
@@ -181,6 +195,7 @@ impl JobFault {
             JobFault::Serve(ServeFault::Format) => "Format",
             JobFault::Inspect(fault) => inspection_name(fault),
             JobFault::Range => "Range",
+            JobFault::OutputDiffers(_) => "OutputDiffers",
             JobFault::Drive(fault) => drive_name(fault),
         }
     }
@@ -196,6 +211,7 @@ impl JobFault {
             JobFault::Serve(fault) => service_advice(fault),
             JobFault::Inspect(fault) => inspection_advice(fault),
             JobFault::Range => RANGE_ADVICE,
+            JobFault::OutputDiffers(lengths) => lengths_advice(lengths),
             JobFault::Drive(fault) => drive_advice(fault),
         }
     }
@@ -223,6 +239,7 @@ impl JobFault {
                 | InspectFault::Device
                 | InspectFault::Range,
             ) => Some(JobFile::Disk),
+            JobFault::OutputDiffers(_) => Some(JobFile::Output),
             JobFault::Drive(fault) => Some(drive_file(fault)),
             _ => None,
         }

@@ -30,6 +30,8 @@ pub enum FileFault {
     IsElf,
     /// A directory has this path.
     IsADirectory,
+    /// What has this path is no plain file: a terminal, say, or a pipe.
+    NotAFile,
     /// The user may not open it so.
     PermissionDenied,
     /// Another program holds its lock.
@@ -92,6 +94,8 @@ impl FileFault {
             FileFault::IsElf =>
                 "it is an ELF file: guest/image, or objcopy -O binary, makes an image of it",
             FileFault::IsADirectory => "it is a directory",
+            FileFault::NotAFile =>
+                "it isn't a plain file, and can't be written by offset; without --output the bytes are printed",
             FileFault::PermissionDenied => "permission denied",
             FileFault::InUse => "another program has it locked",
             FileFault::StorageFull => "no space is left for it",

@@ -183,7 +183,8 @@ fn perform<'a, I: Read + Drop, D: Disk + Drop, S: Sources<'a, I, D>, R: Read, W:
 /// prints the version and its kit, no words serve the stored program in memory. Of a fault two lines are reported: what is
 /// wrong in plain words, with the path of the file that it is of, and `ckrt: NAME`. Of words that name no job a text is. A
 /// drive is looked on by the meter. The answer is the program's status: 0 where all was done, 1 for a fault, 2 for words that
-/// name no job, 3 for a program that waits for input, 4 for a deadlock.
+/// name no job. Of a drive it is 0 where the guest ended by `exit 0` alone, 3 where it waits for input, 4 for a deadlock, 5 where
+/// it made as many events as were asked for, 6 where a fault ended the guest, 7 where the guest ended by another status.
 pub fn run_words_with<
     'a,
     I: Read + Drop,
@@ -202,7 +203,7 @@ pub fn run_words_with<
     reporter: &mut E,
     meter: &mut M,
 ) -> u8
-    ensures bound { result ≤ 4 }
+    ensures bound { result ≤ 7 }
     ensures asked { result ≡ 0 → (r : Request) × (request_of_words (map (λ s. s.now) words.entry.now) ≡ Some r) }
     ensures made { result ≡ 0 → (f : Formatting) → request_of_words (map (λ s. s.now) words.entry.now) ≡ Some (format f) → Appends (W.contents writer.old) (W.contents writer.new) (made_line f) }
     ensures version { result ≡ 0 → request_of_words (map (λ s. s.now) words.entry.now) ≡ Some version → Appends (W.contents writer.old) (W.contents writer.new) version_line }
@@ -230,7 +231,7 @@ pub fn run_words<'a, F: Files<File = File>, R: Read, W: Write, E: Reporter, M: M
     reporter: &mut E,
     meter: &mut M,
 ) -> u8
-    ensures bound { result ≤ 4 }
+    ensures bound { result ≤ 7 }
     ensures asked { result ≡ 0 → (r : Request) × (request_of_words (map (λ s. s.now) words.entry.now) ≡ Some r) }
     ensures made { result ≡ 0 → (f : Formatting) → request_of_words (map (λ s. s.now) words.entry.now) ≡ Some (format f) → Appends (W.contents writer.old) (W.contents writer.new) (made_line f) }
     ensures version { result ≡ 0 → request_of_words (map (λ s. s.now) words.entry.now) ≡ Some version → Appends (W.contents writer.old) (W.contents writer.new) version_line }

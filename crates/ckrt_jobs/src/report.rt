@@ -9,11 +9,12 @@ ghost use Rattle.ckrt_rv32i.specs.Names.{cause_name};
 ghost use Rattle.ckrt_jobs.specs.Ends.{end_line, end_text};
 ghost use Rattle.ckrt_jobs.specs.Outcomes.{formatted_line, status_of, status_of_words, version_line};
 ghost use Rattle.ckrt_jobs.specs.Performing.{ReportsOutcome, SaysLine};
-ghost use Rattle.ckrt_jobs.specs.Reports.{path_of, report_of, subject_of, words_report_of};
+ghost use Rattle.ckrt_jobs.specs.Reports.{lengths_text, numbers_of, path_of, range_text, report_of, subject_of, words_report_of};
 
 use crate::driven::Driven;
 use crate::fault::JobFault;
 use crate::file::JobFile;
+use crate::output::OutputLengths;
 use crate::reporter::{Reporter, Unsaid};
 use crate::version::VERSION;
 use arrayvec::ArrayVec;
@@ -107,12 +108,46 @@ fn say_line<E: Reporter>(reporter: &mut E, word: &[u8], text: &[u8]) -> Result<(
     reporter.say(b"\n")
 }
 
+/// Says two ends of a range, and a colon.
+fn say_range<E: Reporter>(reporter: &mut E, from: u64, to: u64) -> Result<(), Unsaid>
+    ensures said { OnOk result (Appends (E.said reporter.old) (E.said reporter.new) (range_text from to)) }
+    ensures failed { OnErr result (E.has_failed reporter.new ≡ true) }
+{
+    say_number(reporter, from)?;
+    reporter.say(b" to ")?;
+    say_number(reporter, to)?;
+    reporter.say(b": ")
+}
+
+/// Says how many bytes an output has, and how many its disk wants there.
+fn say_lengths<E: Reporter>(reporter: &mut E, lengths: OutputLengths) -> Result<(), Unsaid>
+    ensures said { OnOk result (Appends (E.said reporter.old) (E.said reporter.new) (lengths_text lengths)) }
+    ensures failed { OnErr result (E.has_failed reporter.new ≡ true) }
+{
+    reporter.say(b"it has ")?;
+    say_number(reporter, lengths.length)?;
+    reporter.say(b" bytes, and this disk wants ")?;
+    say_range(reporter, lengths.confirmed, lengths.released)
+}
+
+/// Says the numbers of a fault, where it has some.
+fn say_numbers<E: Reporter>(reporter: &mut E, fault: JobFault) -> Result<(), Unsaid>
+    ensures said { OnOk result (Appends (E.said reporter.old) (E.said reporter.new) (numbers_of fault)) }
+    ensures failed { OnErr result (E.has_failed reporter.new ≡ true) }
+{
+    match fault {
+        JobFault::OutputDiffers(lengths) => say_lengths(reporter, lengths),
+        _ => reporter.say(b""),
+    }
+}
+
 /// Says what is wrong in plain words, and then the line with the fault's name.
 fn say_fault<E: Reporter>(reporter: &mut E, job: &Job<'_>, fault: JobFault) -> Result<(), Unsaid>
     ensures said { OnOk result (Appends (E.said reporter.old) (E.said reporter.new) (report_of (request_of job.now) fault)) }
     ensures failed { OnErr result (E.has_failed reporter.new ≡ true) }
 {
     say_subject(reporter, job, fault.file())?;
+    say_numbers(reporter, fault)?;
     say_line(reporter, fault.advice().as_bytes(), b"")?;
     say_line(reporter, b"ckrt: ", fault.name().as_bytes())
 }

@@ -1,7 +1,9 @@
 ghost use Rattle.std.specs.Prelude.{◌≡◌, ℕ, List, Option, Some, IfOk};
 ghost use Rattle.ckrt_jobs.specs.Openings.{Openings, opening_of};
+ghost use Rattle.ckrt_jobs.specs.declared.output.OpenedOutput.{OpenedOutput};
 
 use crate::file::FileFault;
+use crate::output::OpenedOutput;
 use ckrt_disk::Disk;
 use std::io::Read;
 
@@ -19,8 +21,8 @@ pub trait Sources<'a, I: Read, D: Disk> {
     /// The disks that it may stand for once what is shorter than so many bytes is filled up to them.
     ghost fills: { Self → List ℕ → ℕ → D → Type 0 };
 
-    /// The outputs that a path may stand for.
-    ghost outputs: { Self → List ℕ → D → Type 0 };
+    /// The outputs that a path may stand for, with the lengths of their files.
+    ghost outputs: { Self → List ℕ → OpenedOutput D → Type 0 };
 
     /// A reader of an image, at its beginning.
     fn open_image(&mut self, path: &'a str) -> Result<I, FileFault>
@@ -32,7 +34,7 @@ pub trait Sources<'a, I: Read, D: Disk> {
     fn open_disk(&mut self, path: &'a str) -> Result<D, FileFault>
         ensures disk { IfOk result (opens self.old path.now) }
         ensures asked { openings self.new ≡ record (openings self.old) { disk = opening_of path.now result } }
-        ensures same_outputs { (at : List ℕ) (output : D) → outputs self.new at output → outputs self.old at output };
+        ensures same_outputs { (at : List ℕ) (output : OpenedOutput D) → outputs self.new at output → outputs self.old at output };
 
     /// The disk of a path, to be looked at only.
     fn look_at_disk(&mut self, path: &'a str) -> Result<D, FileFault>
@@ -46,8 +48,8 @@ pub trait Sources<'a, I: Read, D: Disk> {
         ensures asked { openings self.new ≡ record (openings self.old) { disk = opening_of path.now result } };
 
     /// The output of a path, which is made where it is missing, and never shortened: what it holds stays, and bytes behind
-    /// its end are zeros.
-    fn open_output(&mut self, path: &'a str) -> Result<D, FileFault>
+    /// its end are zeros. It comes with the length of its file.
+    fn open_output(&mut self, path: &'a str) -> Result<OpenedOutput<D>, FileFault>
         ensures output { IfOk result (outputs self.old path.now) }
         ensures asked { openings self.new ≡ record (openings self.old) { output = opening_of path.now result } };
 

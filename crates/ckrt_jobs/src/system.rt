@@ -6,6 +6,7 @@ ghost use Rattle.ckrt_jobs.specs.Streams.{IsBesideStreams};
 
 use crate::file::{FileFault, LastOpening};
 use crate::filling::fill_up;
+use crate::output::OpenedOutput;
 use crate::sources::Sources;
 use ckrt_disk::{FileDisk, Holds, SystemFile};
 use std::fs::{File, Files, OpenOptions};
@@ -136,13 +137,25 @@ fn open_system_disk<R: Files<File = File>, H: Holds>(
 /// How many bytes an output has: more than any file. Those behind the end of its file are zeros until they are written.
 const OUTPUT_SIZE: usize = i64::MAX as usize;
 
-/// The output of a path: a file that grows as it is written.
+/// The output of an open file, which grows as it is written. What isn't a plain file, as a terminal, has no offsets.
+fn output_of<H: Holds>(file: File) -> Result<OpenedOutput<FileDisk<SystemFile<H>>>, FileFault> {
+    let told = file.metadata()?;
+    if !told.is_file() {
+        return Err(FileFault::NotAFile);
+    }
+    Ok(OpenedOutput {
+        output: FileDisk::new(SystemFile::new(file), OUTPUT_SIZE),
+        length: told.len(),
+    })
+}
+
+/// The output of a path.
 fn open_system_output<R: Files<File = File>, H: Holds>(
     rt: &R,
     path: &str,
-) -> Result<FileDisk<SystemFile<H>>, FileFault> {
+) -> Result<OpenedOutput<FileDisk<SystemFile<H>>>, FileFault> {
     let file = open_or_make(rt, path)?;
-    Ok(FileDisk::new(SystemFile::new(file), OUTPUT_SIZE))
+    output_of(file)
 }
 
 /// The disk of a path, to be looked at.
@@ -234,7 +247,10 @@ impl<'a, R: Files<File = File>, H: Holds> Sources<'a, File, FileDisk<SystemFile<
         opened
     }
 
-    fn open_output(&mut self, path: &'a str) -> Result<FileDisk<SystemFile<H>>, FileFault> {
+    fn open_output(
+        &mut self,
+        path: &'a str,
+    ) -> Result<OpenedOutput<FileDisk<SystemFile<H>>>, FileFault> {
         let opened = open_system_output(self.rt, path);
         self.output = LastOpening::of(path, &opened);
         opened

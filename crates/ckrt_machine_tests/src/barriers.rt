@@ -1,4 +1,4 @@
-//! Barriers: worked rows of their calls.
+//! Barriers: worked examples of their calls.
 
 use crate::steps::Step::{self, Call, CallEach, Ready};
 use crate::steps::play;

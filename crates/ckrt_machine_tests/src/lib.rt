@@ -10,6 +10,8 @@ mod cancellation;
 #[cfg(test)]
 mod conditions;
 #[cfg(test)]
+mod drawn_guests;
+#[cfg(test)]
 mod expect;
 #[cfg(test)]
 mod instructions;

@@ -1,4 +1,4 @@
-//! Read-write locks: worked rows of their calls.
+//! Read-write locks: worked examples of their calls.
 
 use crate::steps::Step::{self, Call, Reads, Ready, Waits, Writer};
 use crate::steps::play;

@@ -1,17 +1,20 @@
 -- Granting, one waiter after another.
 use Rattle.std.proofs.Common.{◌≡◌, ℕ, zero, suc, ◌+◌, ◌≤◌, ◌<◌, Bool, true, false, cond, length, Option, Some, None, refl, ap, ◌∙◌, arith}
+use Rattle.std.specs.Prelude.{option_map}
 use Rattle.std.specs.List.{filter}
 use Rattle.ckrt_thread.specs.declared.records.Wait.{Wait}
+use Rattle.ckrt_thread.specs.declared.records.Waiter.{Waiter}
 use Rattle.ckrt_thread.specs.declared.records.Object.{Object}
 use Rattle.ckrt_thread.specs.Abi.{A0}
 use Rattle.ckrt_thread.specs.Waits.{is_for, is_of, without}
-use Rattle.ckrt_thread.specs.State.{State, IsWellFormed, is_live, is_live_thread, is_waiting, first_waiter, woken, with_word}
-use Rattle.ckrt_thread.specs.Granting.{GrantRule, obtained, grant, grant_up_to, grant_waiters}
+use Rattle.ckrt_thread.specs.State.{State, IsWellFormed, is_live, is_live_thread, is_waiting, first_waiter, first_unwaited, of_wait, of_waiter, woken, with_word}
+use Rattle.ckrt_thread.specs.Granting.{GrantRule, answered, wait_result, obtained, grant, grant_up_to, grant_waiters}
 use Rattle.ckrt_thread.proofs.Changes.{well_formed_without, well_formed_word}
 use Rattle.ckrt_thread.proofs.Known.{found_range}
 use Rattle.ckrt_thread.proofs.SlotLemmas.{kept_at, live_change}
 use Rattle.ckrt_thread.proofs.Unwound.{well_formed_obtained}
 use Rattle.ckrt_thread.proofs.WaitLemmas.{found_waits, length-without}
+use Rattle.ckrt_thread.proofs.Waking.{taken_obtained}
 use Rattle.ckrt_objects.proofs.Obtained.{among_obtained, queue_obtained, live_obtained, PassesNoJoiner}
 use Rattle.ckrt_objects.proofs.Waits.{found_holds, IsAmong, none_among}
 
@@ -25,6 +28,13 @@ live_woken t u v s h = kept_at is_live_thread (with_word A0 v) s.threads u t (li
 -- the first who waits for an object is a thread
 pub first_range : (o : Object) (s : State) (w : Wait) → IsWellFormed s → first_waiter o s ≡ Some w → (0 < w.thread) × (w.thread ≤ 64)
 first_range o s w k e = rw e at (found_range s (is_for o) k)
+
+-- who was taken out of an object's queue gets what its first waited for
+pub taken_first : (o : Object) (s : State) (w : Wait) (x : Waiter) → first_waiter o s ≡ Some w → Some (of_waiter x) ≡ option_map of_wait (first_waiter o s)
+    → answered (wait_result x.reason) x.thread (first_unwaited o s) ≡ obtained w s
+taken_first o s w x e f =
+    let same : Some (of_waiter x) ≡ option_map of_wait (Some w) = rw e at f in
+    taken_obtained o x s (record { wait = w; first = e; who = (cc) })
 
 module _ {O : Type 0} (rule : GrantRule O) where
   -- who is found in the object's queue waits

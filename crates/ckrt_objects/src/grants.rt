@@ -40,13 +40,16 @@ pub fn grant_waiters<T: Grant>(threads: &mut Threads, object: Object, value: &mu
     ensures proper { T.IsProper value.new }
 {
     for _ in 0..threads.wait_count() {
-        let Some(wait) = threads.first_waiter(object) else {
+        let Some(first) = threads.first_waiter(object) else {
             return;
         };
-        if !value.admits(&wait) {
+        if !value.admits(&first) {
             return;
         }
-        value.grant(&wait);
-        threads.obtain(&wait);
+        value.grant(&first);
+        let Some(waiter) = threads.wake_first(object) else {
+            return;
+        };
+        threads.answer(waiter.thread, waiter.result());
     }
 }

@@ -8,6 +8,8 @@ mod checkpoints;
 #[cfg(test)]
 mod expect;
 #[cfg(test)]
+mod inspected_failures;
+#[cfg(test)]
 mod largest;
 #[cfg(test)]
 mod long_runs;
@@ -25,3 +27,5 @@ mod serving;
 mod sessions;
 #[cfg(test)]
 mod small_disk;
+#[cfg(test)]
+mod worked_examples;

@@ -56,6 +56,14 @@ pub fn expect_checkpoint<R: Abort, D: Disk>(
     expect_eq(rt, session.checkpoint(), want);
 }
 
+/// A commit, where the disk doesn't fail.
+pub fn is_committed<D: Disk>(session: &mut Session<D>) -> bool {
+    match session.commit() {
+        Ok(_) => true,
+        Err(_) => false,
+    }
+}
+
 /// A checkpoint, where the disk doesn't fail.
 pub fn is_saved<D: Disk>(session: &mut Session<D>) -> bool {
     match session.checkpoint() {

@@ -11,10 +11,13 @@ use Rattle.ckrt_mutex.specs.WellFormed as mutex
 use Rattle.ckrt_cond.specs.WellFormed as condition
 use Rattle.ckrt_barrier.specs.WellFormed as barrier
 use Rattle.ckrt_rwlock.specs.WellFormed as rwlock
-use Rattle.ckrt_state.specs.declared.input.TheConstants.{INPUT_LIMIT}
 use Rattle.ckrt_state.specs.declared.table.Status.{Status}
 use Rattle.ckrt_state.specs.declared.table.Status.TheVariants.{Running, Exited, Faulted}
 use Rattle.ckrt_state.specs.declared.table.Tables.{Tables}
+
+-- how many bytes of input may wait to be read
+abbrev pub INPUT_LIMIT : ℕ
+INPUT_LIMIT = 4096
 
 -- a byte, or the end of the input, is there to be read
 abbrev pub may_be_read : List ℕ → Bool → Bool
@@ -47,7 +50,7 @@ pub record IsWellFormed (s : Tables) : Type 0 where
   pub readers : list_all (lacks_input s.input s.closed) s.threads.waits ≡ true
   -- the end of time is never reached
   pub clock : s.clock < 2 ^ 63
-  -- no more input waits than the queue holds
+  -- no more input waits than may
   pub input : length s.input ≤ INPUT_LIMIT
   -- a thread that faulted has not ended, and the pc of its fault is a multiple of 4
   pub fault : (t pc : ℕ) (cause : Cause) → s.status ≡ Faulted t pc cause → thread.is_live s.threads t ≡ true

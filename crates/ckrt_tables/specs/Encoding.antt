@@ -52,6 +52,18 @@ parts_of version s held =
 abbrev pub encoding_of : ℕ → Tables → List ℕ → List ℕ
 encoding_of version s held = concat (parts_of version s held)
 
+-- the version in which tables are saved
+abbrev pub VERSION : ℕ
+VERSION = 2
+
+-- how many bytes there are for saved tables
+abbrev pub TABLES_ROOM : ℕ
+TABLES_ROOM = 98304
+
+-- how many bytes the longest saved tables have
+abbrev pub LONGEST_TABLES : ℕ
+LONGEST_TABLES = 70820
+
 -- how many bytes of output a program holds at most
 abbrev pub HELD_LIMIT : ℕ
 HELD_LIMIT = 16384

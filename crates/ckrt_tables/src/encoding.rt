@@ -3,7 +3,7 @@ ghost use Rattle.std.specs.Prelude.{◌≡◌, ◌≤◌, ℕ, ◌+◌, ◌∷�
 ghost use Rattle.byteorder.specs.Endian.{little_bytes};
 ghost use Rattle.ckrt_state.specs.WellFormed.{IsWellFormed};
 ghost use Rattle.ckrt_tables.specs.Decoding.{DecodesTo};
-ghost use Rattle.ckrt_tables.specs.Encoding.{encoding_of, status_bytes, framed, queue_bytes, IsHeld};
+ghost use Rattle.ckrt_tables.specs.Encoding.{VERSION, TABLES_ROOM, LONGEST_TABLES, encoding_of, status_bytes, framed, queue_bytes, IsHeld};
 ghost use Rattle.ckrt_tables.specs.Records.{flag};
 ghost use Rattle.ckrt_tables.specs.Writing.{HasRoom, IsPut, IsFew};
 

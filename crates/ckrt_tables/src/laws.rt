@@ -3,8 +3,7 @@ ghost use Rattle.std.specs.Prelude.{◌≡◌, ◌≤◌, ℕ, Option, List, [],
 ghost use Rattle.ckrt_state.specs.declared.table.Tables.{Tables};
 ghost use Rattle.ckrt_state.specs.Beginnings.{fresh, with_keys_off};
 ghost use Rattle.ckrt_state.specs.WellFormed.{IsWellFormed};
-ghost use Rattle.ckrt_tables.specs.Encoding.{encoding_of, IsHeld};
-ghost use Rattle.ckrt_tables.specs.declared.encoding.TheConstants.{LONGEST_TABLES};
+ghost use Rattle.ckrt_tables.specs.Encoding.{LONGEST_TABLES, encoding_of, IsHeld};
 ghost use Rattle.ckrt_tables.specs.Savable.{AreDistinct, CanBeSaved};
 ghost use Rattle.ckrt_tables.specs.Decoding.{Saved, DecodesTo};
 ghost use Rattle.ckrt_tables.specs.Fresh.{IsFreshEncoding, IsFreshEncoding1, fresh_bytes, fresh_bytes_1};

@@ -4,12 +4,19 @@ use Rattle.std.specs.List.{list_all}
 use Rattle.ckrt_registers.specs.Registers.{Registers}
 use Rattle.ckrt_registers.specs.Registers.{put}
 use Rattle.ckrt_thread.specs.Abi.{RA, A0}
-use Rattle.ckrt_thread.specs.declared.records.TheConstants.{CANCELED, MAX_HANDLERS}
 use Rattle.ckrt_thread.specs.declared.records.Cancellation.{Cancellation}
 use Rattle.ckrt_thread.specs.declared.records.Handler.{Handler}
 use Rattle.ckrt_thread.specs.declared.records.Live.{Live}
 use Rattle.ckrt_thread.specs.declared.records.Thread.{Thread}
 use Rattle.ckrt_thread.specs.declared.records.Thread.TheVariants as thread
+
+-- what a cancelled thread ends with (PTHREAD_CANCELED; the number is this project's choice)
+abbrev pub CANCELED : ℕ
+CANCELED = 0xFFFF_FFFF
+
+-- how many clean-up handlers a thread may have (this project's choice)
+abbrev pub MAX_HANDLERS : ℕ
+MAX_HANDLERS = 16
 
 -- STATE AND TYPE
 

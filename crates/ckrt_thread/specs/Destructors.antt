@@ -2,14 +2,13 @@
 -- run by rising key, and in four rounds at most, is this project's choice.
 use Rattle.std.specs.Prelude.{ℕ, suc, ◌-◌, ◌==◌, nat_lt, Bool, ◌&&◌, not, if◌then◌else◌, Option, Some, None}
 use Rattle.std.specs.List.{find, range_with_len}
-use Rattle.ckrt_thread.specs.declared.keys.TheConstants.{MAX_KEYS, DESTRUCTOR_ROUNDS}
 use Rattle.ckrt_thread.specs.declared.keys.SpecificData.{SpecificData}
 use Rattle.ckrt_thread.specs.declared.keys.Turn.{Turn}
 use Rattle.ckrt_thread.specs.declared.records.Handler.{Handler}
 use Rattle.ckrt_thread.specs.declared.records.Live.{Live}
 use Rattle.ckrt_thread.specs.Abi.{UNWIND_GATE}
 use Rattle.ckrt_thread.specs.Cancellation.{entering}
-use Rattle.ckrt_thread.specs.Keys.{KeyTable, destructor_of, value_under, set_under, with_data}
+use Rattle.ckrt_thread.specs.Keys.{MAX_KEYS, DESTRUCTOR_ROUNDS, KeyTable, destructor_of, value_under, set_under, with_data}
 
 -- WHOSE TURN IT IS
 

@@ -3,11 +3,18 @@
 use Rattle.std.specs.Prelude.{◌≡◌, ℕ, ◌==◌, ◌%◌, nat_le, Bool, true, false, ◌&&◌, ◌||◌, if◌then◌else◌, List, length, replicate, slice_get, slice_index_or, slice_set, Option, Some, None, is_some, is_none, unwrap_or}
 use Rattle.std.specs.List.{list_all, position, range_with_len}
 use Rattle.std.specs.Option.{option_flatten}
-use Rattle.ckrt_thread.specs.declared.keys.TheConstants.{MAX_KEYS, DESTRUCTOR_ROUNDS}
 use Rattle.ckrt_thread.specs.declared.keys.SpecificData.{SpecificData}
 use Rattle.ckrt_thread.specs.declared.records.Live.{Live}
 use Rattle.ckrt_thread.specs.declared.records.Thread.{Thread}
 use Rattle.ckrt_thread.specs.declared.records.Thread.TheVariants as thread
+
+-- how many keys a program may have (this project's choice)
+abbrev pub MAX_KEYS : ℕ
+MAX_KEYS = 32
+
+-- how many rounds of destructors there are at most (PTHREAD_DESTRUCTOR_ITERATIONS; the number is this project's choice)
+abbrev pub DESTRUCTOR_ROUNDS : ℕ
+DESTRUCTOR_ROUNDS = 4
 
 -- KEYS. Whether the program may have keys, and what each number stands for: a key, by the address of its destructor (0 for
 -- none), or nothing.

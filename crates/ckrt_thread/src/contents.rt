@@ -60,6 +60,13 @@ impl Threads {
         Some((id as ThreadId, thread))
     }
 
+    /// The wait at a place, from 0 in order of the start of waiting.
+    pub fn wait_at(&self, place: usize) -> Option<Wait>
+        ensures { result ≡ slice_get self.now.waits place }
+    {
+        self.waits().get(place).copied()
+    }
+
     /// A thread goes behind those that there are. False, and nothing changes, where no well-formed table goes on so: its
     /// number is to be 1 to 64 and above theirs, its pc and its handlers' routines multiples of 4, it is disabled and
     /// deferred where it unwinds, in a round of destructors only there (of at most 4, which goes on with a key or is over),

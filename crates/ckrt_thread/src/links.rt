@@ -24,7 +24,8 @@ pub struct Ends {
     pub count: u8,
 }
 
-/// Lends a thread's entry: its place in each array of the table. Each use of an entry comes through here, and is counted.
+/// Lends a thread's entry: its place in the arrays of waits and of links. What changes the list of waits reaches each entry
+/// through here, which is counted. What only looks at the list (`in_order`, `wait_of`, `first_for`) isn't.
 pub fn entry_of(reached: &mut u8, thread: ThreadId) -> usize
     ensures { result ≡ thread }
 {

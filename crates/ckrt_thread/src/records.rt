@@ -207,18 +207,6 @@ pub struct Wait {
     pub deadline: Option<u64>,
 }
 
-impl Wait {
-    ghost use Rattle.std.specs.Prelude.{◌≡◌};
-    ghost use Rattle.ckrt_thread.specs.Granting.{wait_result};
-
-    /// What goes to x10 when the thread gets what it waited for. A cancelled thread gets nothing.
-    pub fn result(&self) -> Option<u32>
-        ensures { result ≡ wait_result self.now.reason }
-    {
-        result_of(self.reason)
-    }
-}
-
 /// Who was taken out of the list of waits.
 #[derive(Clone, Copy, Debug, Drop)]
 pub struct Waiter {

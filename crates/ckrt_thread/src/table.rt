@@ -7,7 +7,7 @@ ghost use Rattle.ckrt_thread.specs.State.{IsWellFormed, thread_of, is_live, is_l
 ghost use Rattle.ckrt_thread.specs.Cancellation.{cancellation_of, handlers_of, is_unwinding, is_consistent, is_aligned_handler, popping};
 ghost use Rattle.ckrt_thread.specs.Unwinding.{newest_handler, pushed, popped, entered, next_handler, with_cancellation_of};
 ghost use Rattle.ckrt_thread.specs.Deadlines.{earliest_due};
-ghost use Rattle.ckrt_thread.specs.Granting.{queue_of, answered, obtained};
+ghost use Rattle.ckrt_thread.specs.Granting.{queue_of, answered};
 ghost use Rattle.ckrt_thread.specs.Waits.{is_of};
 ghost use Rattle.ckrt_thread.specs.Queues.{named_at_most};
 ghost use Rattle.ckrt_thread.specs.Contents.{empty};
@@ -523,16 +523,6 @@ impl Threads {
             Some(value) => self.set_result(thread, value),
             None => self.next_handler(thread),
         }
-    }
-
-    /// A wait ends, as its thread got what it waited for: it gets the wait's result in x10, or goes to its next handler.
-    pub fn obtain(&mut self, wait: &Wait)
-        requires { is_waiting self.old wait.now.thread ≡ true }
-        ensures { self.new ≡ obtained wait.now self.old }
-    {
-        self.known();
-        self.take_wait(wait.thread);
-        self.answer(wait.thread, wait.result());
     }
 
     // Calls.

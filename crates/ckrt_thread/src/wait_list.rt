@@ -163,7 +163,8 @@ impl WaitList {
         requires room { length self.old < 64 }
         ensures items { self.new ≡ self.old ++ wait ∷ [] }
     {
-        self.entries[wait.thread as usize] = wait;
+        let place = entry_of(&mut self.reached, wait.thread);
+        self.entries[place] = wait;
         self.waiting[wait.thread as usize] = true;
         link(
             &mut self.links,

@@ -26,8 +26,8 @@ invariant_of-self c =
     let e = kept_row c.self.inside.entries c.self.inside.waiting c.self.inside.links c.self.inside.ends c.self.inside.queues (waits_along c.self.inside.entries c.self.inside.links c.self.inside.ends) c.self.invariant in
     let free : list_any (is_of c.args.wait.thread) (waits_along c.self.inside.entries c.self.inside.links c.self.inside.ends) ≡ false = rw (← c.self.view_is) at c.requires.free in
     let joins = may_join c.self.inside.entries c.self.inside.waiting c.self.inside.links c.self.inside.ends c.self.inside.queues (waits_along c.self.inside.entries c.self.inside.links c.self.inside.ends) c.args.wait c.self.invariant c.requires.number free (rw (← c.self.view_is) at c.requires.room) in
-    kept_view _ _ _ _ _ ((waits_along c.self.inside.entries c.self.inside.links c.self.inside.ends) ++ c.args.wait ∷ []) (kept_more c.self.inside.entries c.self.inside.waiting c.self.inside.links c.self.inside.ends c.self.inside.queues (waits_along c.self.inside.entries c.self.inside.links c.self.inside.ends) c.args.wait c.link.new.links c.link.new.ends c.push.new.self c.self.invariant c.requires.number free
-    (subst (λ xs. IsChain c.link.new.links c.link.new.ends (xs ++ c.args.wait.thread ∷ [])) e c.link.ensures.chain) (c.push.ensures (waits_along c.self.inside.entries c.self.inside.links c.self.inside.ends) joins))
+    rw c.entry_of-place.ensures (kept_view _ _ _ _ _ ((waits_along c.self.inside.entries c.self.inside.links c.self.inside.ends) ++ c.args.wait ∷ []) (kept_more c.self.inside.entries c.self.inside.waiting c.self.inside.links c.self.inside.ends c.self.inside.queues (waits_along c.self.inside.entries c.self.inside.links c.self.inside.ends) c.args.wait c.link.new.links c.link.new.ends c.push.new.self c.self.invariant c.requires.number free
+    (subst (λ xs. IsChain c.link.new.links c.link.new.ends (xs ++ c.args.wait.thread ∷ [])) e c.link.ensures.chain) (c.push.ensures (waits_along c.self.inside.entries c.self.inside.links c.self.inside.ends) joins)))
 
 pub returns : goal.returns
 returns c =
@@ -35,6 +35,6 @@ returns c =
     let free : list_any (is_of c.args.wait.thread) (waits_along c.self.inside.entries c.self.inside.links c.self.inside.ends) ≡ false = rw (← c.self.view_is) at c.requires.free in
     let joins = may_join c.self.inside.entries c.self.inside.waiting c.self.inside.links c.self.inside.ends c.self.inside.queues (waits_along c.self.inside.entries c.self.inside.links c.self.inside.ends) c.args.wait c.self.invariant c.requires.number free (rw (← c.self.view_is) at c.requires.room) in
     record {
-      items = rw (← c.self.view_is) (kept_is _ _ _ _ _ ((waits_along c.self.inside.entries c.self.inside.links c.self.inside.ends) ++ c.args.wait ∷ []) (kept_more c.self.inside.entries c.self.inside.waiting c.self.inside.links c.self.inside.ends c.self.inside.queues (waits_along c.self.inside.entries c.self.inside.links c.self.inside.ends) c.args.wait c.link.new.links c.link.new.ends c.push.new.self c.self.invariant c.requires.number free
+      items = rw (← c.self.view_is, c.entry_of-place.ensures) (kept_is _ _ _ _ _ ((waits_along c.self.inside.entries c.self.inside.links c.self.inside.ends) ++ c.args.wait ∷ []) (kept_more c.self.inside.entries c.self.inside.waiting c.self.inside.links c.self.inside.ends c.self.inside.queues (waits_along c.self.inside.entries c.self.inside.links c.self.inside.ends) c.args.wait c.link.new.links c.link.new.ends c.push.new.self c.self.invariant c.requires.number free
           (subst (λ xs. IsChain c.link.new.links c.link.new.ends (xs ++ c.args.wait.thread ∷ [])) e c.link.ensures.chain) (c.push.ensures (waits_along c.self.inside.entries c.self.inside.links c.self.inside.ends) joins)));
     }
