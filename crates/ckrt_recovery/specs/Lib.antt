@@ -1,4 +1,5 @@
 pub mod Represents
+pub mod Reached
 pub mod Between
 pub mod Opening
 pub mod View
