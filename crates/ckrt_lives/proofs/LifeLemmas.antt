@@ -16,7 +16,7 @@ use Rattle.std.proofs.lemmas.Grind.{same_number_lists}
 use Rattle.ckrt_recovery.specs.declared.session.Session.{Session}
 use Rattle.ckrt_recovery.specs.Represents.{Represents, RecoversToEither, acknowledged_of}
 use Rattle.ckrt_recovery.specs.View.{View, view_of, opened}
-use Rattle.ckrt_recovery.specs.Transcript.{Transcript}
+use Rattle.ckrt_commands.specs.Transcript.{Transcript}
 use Rattle.ckrt_recovery.proofs.SessionLemmas.{output_all}
 use Rattle.ckrt_lives.specs.declared.life.Life.{Life}
 use Rattle.ckrt_lives.specs.declared.life.LifeReport.{LifeReport}

@@ -12,7 +12,7 @@ use Rattle.ckrt_recovery.specs.declared.fault.SubmitFault.TheVariants.{Failed}
 use Rattle.ckrt_recovery.specs.declared.session.Session.{Session}
 use Rattle.ckrt_recovery.specs.Represents.{Represents, acknowledged_of}
 use Rattle.ckrt_recovery.specs.View.{View, view_of, refusal_of, refusal_when_running, after_event, confirmed_to}
-use Rattle.ckrt_recovery.specs.Transcript.{Fate, Transcript, preceded_by, unless_quit, followed_by, submitted, submit, unless_refused, output}
+use Rattle.ckrt_commands.specs.Transcript.{Fate, Transcript, preceded_by, unless_quit, followed_by, submitted, submit, unless_refused, output}
 use Rattle.ckrt_recovery.proofs.SessionLemmas.{output_all, output_end, represents_kept}
 use Rattle.ckrt_recovery.specs.Between.{IsBeginningOf}
 use Rattle.ckrt_lives.specs.Pieces.{HasTaken, IsWhole, Does}

@@ -16,8 +16,8 @@ use Rattle.ckrt_recovery.specs.declared.fault.SubmitFault.{SubmitFault}
 use Rattle.ckrt_recovery.specs.Calls.{checkpoint_refusal}
 use Rattle.ckrt_recovery.specs.View.{View}
 use Rattle.ckrt_recovery.specs.View as view
-use Rattle.ckrt_recovery.specs.Replies.{Reply}
-use Rattle.ckrt_recovery.specs.Transcript.{Fate, Transcript, written, preceded_by, unless_quit, submitted, submit, followed_by, unless_refused, run_planned, by_fate, commit_by, saved, respond}
+use Rattle.ckrt_commands.specs.Replies.{Reply}
+use Rattle.ckrt_commands.specs.Transcript.{Fate, Transcript, written, preceded_by, unless_quit, submitted, submit, followed_by, unless_refused, run_planned, by_fate, commit_by, saved, respond}
 use Rattle.ckrt_lives.specs.Commands.{respond_to}
 
 -- PLANNED THREADS

@@ -7,7 +7,7 @@ use Rattle.ckrt_image.specs.Programs.{Program, RecoversTo, output_after}
 use Rattle.ckrt_recovery.specs.declared.session.Session.{Session}
 use Rattle.ckrt_recovery.specs.Represents.{Represents, RecoversToEither}
 use Rattle.ckrt_recovery.specs.View.{View, view_of}
-use Rattle.ckrt_recovery.specs.Transcript.{Transcript}
+use Rattle.ckrt_commands.specs.Transcript.{Transcript}
 use Rattle.ckrt_lives.specs.declared.life.LifeReport.{LifeReport}
 use Rattle.ckrt_lives.specs.Commands.{commands_of_life}
 use Rattle.ckrt_lives.specs.declared.life.Life.{Life}

@@ -9,14 +9,15 @@ use Rattle.ckrt_image.specs.Programs.{Program, start_of, state_after, output_aft
 use Rattle.ckrt_image.proofs.ReplayLemmas.{output-append}
 use Rattle.ckrt_recovery.specs.declared.session.Session.{Session}
 use Rattle.ckrt_recovery.specs.Between.{IsBeginningOf, StandsIn}
-use Rattle.ckrt_recovery.specs.Replies.{Reply, text_of, oks_of, acks_of, outs_of}
+use Rattle.ckrt_commands.specs.Replies.{Reply, text_of, oks_of, acks_of, outs_of}
 use Rattle.ckrt_recovery.specs.Represents.{Represents, acknowledged_of}
 use Rattle.ckrt_recovery.specs.View.{View, view_of}
-use Rattle.ckrt_recovery.specs.Transcript.{Fate, Transcript, preceded_by, unless_quit, followed_by}
-use Rattle.ckrt_main.specs.Service.{AreOutput, Piece, Suits, Responds, Interrupted, ends, Answers, BreaksOff}
-use Rattle.ckrt_main.proofs.OutputLemmas.{Appends-append, Appends-nothing}
-use Rattle.ckrt_main.proofs.ReplyLemmas.{begins_behind, begins_more, all_weaker, all_more, text-append, oks-append, acks-append, outs-append, shown_more, stands_longer}
-use Rattle.ckrt_main.proofs.AcceptLemmas.{accepts_kept, accepts_more, taken_begins}
+use Rattle.ckrt_commands.specs.Transcript.{Fate, Transcript, preceded_by, unless_quit, followed_by}
+use Rattle.ckrt_main.specs.Service.{Piece, Suits, Responds, Interrupted, ends, Answers, BreaksOff}
+use Rattle.ckrt_commands.specs.Accepts.{AreOutput}
+use Rattle.ckrt_commands.proofs.WriteLemmas.{Appends-append, Appends-nothing}
+use Rattle.ckrt_commands.proofs.ReplyLemmas.{begins_behind, begins_more, all_weaker, all_more, text-append, oks-append, acks-append, outs-append, shown_more, stands_longer}
+use Rattle.ckrt_commands.proofs.AcceptLemmas.{accepts_kept, accepts_more, taken_begins}
 
 written_more : (a b c : Option (List ℕ)) (xs ys : List Reply) (part : List ℕ) → Appends a b (text_of xs ++ []) → Appends b c (text_of ys ++ part) → Appends a c (text_of (xs ++ ys) ++ part)
 written_more a b c xs ys part first second =
@@ -41,10 +42,6 @@ outs_more out all xs ys zs longer first second =
     let here : AllByRecursion (StandsIn out) (outs_of xs) = subst (λ (l : List Reply). AllByRecursion (StandsIn out) (outs_of l)) (append-nil xs) first in
     subst (AllByRecursion (StandsIn all)) (sym (ap outs_of (append_assoc xs ys zs) ∙ outs-append xs (ys ++ zs)))
     (all_more (StandsIn all) (outs_of xs) (outs_of (ys ++ zs)) (all_weaker (StandsIn out) (StandsIn all) (stands_longer out all longer) (outs_of xs) here) second)
-
--- the output of the first events is a beginning of that of more
-pub output_begins : (p : Program) (few all : List Event) → IsBeginningOf few all → IsBeginningOf (output_after p few) (output_after p all)
-output_begins p few all h = (output_of h.0 (state_after p few), ap (λ (l : List Event). output_after p l) h.1 ∙ output-append few h.0 (start_of p))
 
 pub preceded-preceded : (x : List Reply) (es : List Event) (y : List Reply) (fs : List Event) (t : Transcript) → preceded_by x es (preceded_by y fs t) ≡ preceded_by (x ++ y) (es ++ fs) t
 preceded-preceded x es y fs t = rw (append_assoc x y t.replies, append_assoc es fs t.events) refl

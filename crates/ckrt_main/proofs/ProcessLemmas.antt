@@ -9,16 +9,17 @@ use Rattle.ckrt_events.specs.declared.event.Event.{Event}
 use Rattle.ckrt_events.specs.Line.{command_of}
 use Rattle.ckrt_recovery.specs.declared.session.Session.{Session}
 use Rattle.ckrt_recovery.specs.Between.{IsBeginningOf}
-use Rattle.ckrt_recovery.specs.Replies.{Reply, text_of}
+use Rattle.ckrt_commands.specs.Replies.{Reply, text_of}
 use Rattle.ckrt_recovery.specs.View.{View, view_of}
-use Rattle.ckrt_recovery.specs.Transcript.{Fate, Transcript, transcript, preceded_by, view_after, unless_quit, followed_by, respond, respond_all, output}
-use Rattle.ckrt_main.specs.Service.{Accepts, Piece, Suits, Responds, Interrupted, Answers, BreaksOff, ends, rest_of, lines_behind, is_open, Shows, Served, Processed, ProcessedPart, ProcessedSoFar, Processes, Completes}
+use Rattle.ckrt_commands.specs.Transcript.{Fate, Transcript, transcript, preceded_by, view_after, unless_quit, followed_by, respond, respond_all, output}
+use Rattle.ckrt_main.specs.Service.{Piece, Suits, Responds, Interrupted, Answers, BreaksOff, ends, rest_of, lines_behind, is_open, Shows, Served, Processed, ProcessedPart, ProcessedSoFar, Processes, Completes}
+use Rattle.ckrt_commands.specs.Accepts.{Accepts}
 use Rattle.ckrt_main.proofs.OutputLemmas.{Consumes-append}
-use Rattle.ckrt_main.proofs.AcceptLemmas.{since_start, still_runs}
-use Rattle.ckrt_main.proofs.FateLemmas.{events_of_fate}
+use Rattle.ckrt_commands.proofs.AcceptLemmas.{since_start, still_runs}
+use Rattle.ckrt_commands.proofs.FateLemmas.{events_of_fate}
 use Rattle.ckrt_main.proofs.LineLemmas.{respond-newline, respond-last, respond-full, nothing_more}
 use Rattle.ckrt_main.proofs.PieceLemmas.{responds_then, interrupted_then, responds_as, interrupted_as, silent, answers_followed, broken_followed}
-use Rattle.ckrt_main.proofs.ReplyLemmas.{begins_through, begins_more}
+use Rattle.ckrt_commands.proofs.ReplyLemmas.{begins_through, begins_more}
 
 pub consumes_nothing : (r : Option (List ℕ)) → Consumes r r []
 consumes_nothing None = tt

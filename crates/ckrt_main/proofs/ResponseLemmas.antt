@@ -16,15 +16,17 @@ use Rattle.ckrt_recovery.specs.declared.fault.SubmitFault.TheVariants as submit_
 use Rattle.ckrt_recovery.specs.declared.session.Session.{Session}
 use Rattle.ckrt_recovery.specs.Calls.{Commits, Checkpoints, checkpoint_refusal}
 use Rattle.ckrt_recovery.specs.Between.{IsBeginningOf, StandsIn}
-use Rattle.ckrt_recovery.specs.Replies.{Reply, Accepted, Acknowledged, NotAccepted, NotSaved, line_of, text_of, outputs, oks_of, acks_of, outs_of, shown_up_to}
+use Rattle.ckrt_commands.specs.Replies.{Reply, Accepted, Acknowledged, NotAccepted, NotSaved, line_of, text_of, outputs, oks_of, acks_of, outs_of, shown_up_to}
 use Rattle.ckrt_recovery.specs.Represents.{Represents, acknowledged_of}
 use Rattle.ckrt_recovery.specs.View.{View, view_of, refusal_of, refusal_when_running, after_event, committed, checkpointed, released_output, confirmed_to}
-use Rattle.ckrt_recovery.specs.Transcript.{Fate, Transcript, preceded_by, unless_quit, followed_by, submitted, submit, unless_refused, output, commit_by, commit, saved, checkpoint, by_fate, refused_commit}
-use Rattle.ckrt_main.specs.Service.{Accepts, AppendsPart, AreOutput, Answers, BreaksOff, Piece, Responds, Interrupted, Suits, ShowsOutput, ends}
-use Rattle.ckrt_main.proofs.AcceptLemmas.{accepts_kept, accepts_more, accepts_still, refused_failed}
-use Rattle.ckrt_main.proofs.EventLemmas.{accepted_before, refused_alone}
+use Rattle.ckrt_commands.specs.Transcript.{Fate, Transcript, preceded_by, unless_quit, followed_by, submitted, submit, unless_refused, output, commit_by, commit, saved, checkpoint, by_fate, refused_commit}
+use Rattle.ckrt_main.specs.Service.{Answers, BreaksOff, Piece, Responds, Interrupted, Suits, ShowsOutput, ends}
+use Rattle.ckrt_commands.specs.Writing.{AppendsPart}
+use Rattle.ckrt_commands.specs.Accepts.{Accepts, AreOutput}
+use Rattle.ckrt_commands.proofs.AcceptLemmas.{accepts_kept, accepts_more, accepts_still, refused_failed}
+use Rattle.ckrt_commands.proofs.EventLemmas.{accepted_before, refused_alone}
 use Rattle.ckrt_main.proofs.PieceLemmas.{answers_then, broken_then, broken_followed, interrupted_as, interrupted_then, responds_as, responds_then}
-use Rattle.ckrt_main.proofs.ReplyLemmas.{nothing_begins, no_acks, no_oks, oks-outputs, fewer_outs, acks-outputs, shown-outputs, stands-outputs}
+use Rattle.ckrt_commands.proofs.ReplyLemmas.{nothing_begins, no_acks, no_oks, oks-outputs, fewer_outs, acks-outputs, shown-outputs, stands-outputs}
 
 -- what is said of an answer that is known
 at_ok : (r : Result ℕ CommitFault) (P : Type 0) (x : ℕ) → r ≡ Ok x → OnOk r P → P

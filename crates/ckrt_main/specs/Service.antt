@@ -11,10 +11,10 @@ use Rattle.ckrt_main.specs.declared.fault.ServeFault.TheVariants.{Read, Write, O
 use Rattle.ckrt_recovery.specs.declared.session.Session.{Session}
 use Rattle.ckrt_image.specs.Programs.{Program, output_after}
 use Rattle.ckrt_recovery.specs.Between.{IsBeginningOf, RecoversBetween, StandsIn}
-use Rattle.ckrt_recovery.specs.Replies.{Reply, text_of, outputs, oks_of, acks_of, outs_of, shown_up_to}
+use Rattle.ckrt_commands.specs.Replies.{Reply, text_of, outputs, oks_of, acks_of, outs_of, shown_up_to}
 use Rattle.ckrt_recovery.specs.Represents.{Represents, acknowledged_of}
 use Rattle.ckrt_recovery.specs.View.{View, view_of}
-use Rattle.ckrt_recovery.specs.Transcript.{Fate, Transcript, transcript, reply, accepted_events, preceded_by, unless_quit, respond_all}
+use Rattle.ckrt_commands.specs.Transcript.{Fate, Transcript, transcript, reply, accepted_events, preceded_by, unless_quit, respond_all}
 
 -- WHERE NO DEVICE FAILS
 
@@ -52,26 +52,6 @@ IsStartFault OutOfMemory = Unit {0}
 IsStartFault Format = Unit {0}
 
 -- WHATEVER FAILS
-
--- From old to new the session took these events, whatever its calls answered: it represents them behind those that it represented, and what
--- a stop left at any moment recovers to a list between the acknowledged events and all of them. A session has failed only where it had
--- before or its disk failed a call, and then stays as it is.
-pub record Accepts {D : Type 0} {g : Ghosts D} (accepted : List Event) (old new : Session D g) : Type 0 where
-  pub represents : g.is_honest new.disk → (p : Program) (events : List Event) → Represents p events old → Represents p (events ++ accepted) new
-  pub any_moment : g.is_honest new.disk → (p : Program) (events : List Event) → Represents p events old
-      → LeavesOnly g.moment g.left_since old.disk new.disk (RecoversBetween p (acknowledged_of events old) (events ++ accepted) new.progress.confirmed)
-  pub acknowledged : old.acknowledged ≤ new.acknowledged
-  pub confirmed : old.progress.confirmed ≤ new.progress.confirmed
-  pub after_failure : old.failed ≡ true → (accepted ≡ []) × (new.failed ≡ true) × (new.disk ≡ old.disk)
-  pub failed : new.failed ≡ true → (old.failed ≡ true) ⊎ HasFailed (g.failures old.disk) (g.failures new.disk)
-  pub well : new.failed ≡ false → (old.failed ≡ false) × (g.failures new.disk ≡ g.failures old.disk)
-  pub honest : g.is_honest new.disk → g.is_honest old.disk
-  pub size : g.size new.disk ≡ g.size old.disk
-  pub named_stop : g.named_stop new.disk ≡ g.named_stop old.disk
-
--- each line of output is the plain fold's output of the acknowledged ones of these events, at its offset
-abbrev pub AreOutput : {D : Type 0} {g : Ghosts D} → Program → List Event → Session D g → List Reply → Type 0
-AreOutput p events s replies = AllByRecursion (StandsIn (output_after p (acknowledged_of events s))) (outs_of replies)
 
 -- A service, whatever it answered and whatever failed: what was written is a beginning of the transcript of the bytes read, of a fate that is
 -- none exactly where the session hasn't failed, and no more was acknowledged, confirmed or accepted than the session says then.
@@ -190,10 +170,6 @@ pub record ProcessedSoFar {D : Type 0} {g : Ghosts D} (a b r s : Option (List �
   pub responds : Responds (λ more f. transcript f (view_of old) (read ++ more)) (rest_of quit new rest) a b old new
 
 -- WRITERS
-
--- from a to b a beginning of the text was written
-abbrev pub AppendsPart : Option (List ℕ) → Option (List ℕ) → List ℕ → Type 0
-AppendsPart a b text = (front : List ℕ) × IsBeginningOf front text × Appends a b front
 
 -- from a to b lines of this output were written, from the first on, and of the next a part
 pub record ShowsOutput (a b : Option (List ℕ)) (offset : ℕ) (bytes : List ℕ) : Type 0 where

@@ -8,15 +8,17 @@ ghost use Rattle.ckrt_events.specs.Line.{command_of, IsInRangeCommand};
 ghost use Rattle.ckrt_events.specs.declared.event.Event.TheVariants.{Place, Run};
 ghost use Rattle.ckrt_events.specs.declared.command.Command.TheVariants.{Auto};
 ghost use Rattle.ckrt_machine.specs.Events as machine;
-ghost use Rattle.ckrt_recovery.specs.Replies.{outputs, text_of};
-ghost use Rattle.ckrt_recovery.specs.Transcript as transcript;
-ghost use Rattle.ckrt_recovery.specs.Transcript.{view_after};
+ghost use Rattle.ckrt_commands.specs.Replies.{outputs, text_of};
+ghost use Rattle.ckrt_commands.specs.Transcript as transcript;
+ghost use Rattle.ckrt_commands.specs.Transcript.{view_after};
 ghost use Rattle.ckrt_recovery.specs.View.{view_of, refusal_of};
-ghost use Rattle.ckrt_main.specs.Service.{is_open, AppendsPart, ShowsOutput, Answers, BreaksOff, Processed, ProcessedPart, Processes, Completes, Served};
+ghost use Rattle.ckrt_main.specs.Service.{is_open, ShowsOutput, Answers, BreaksOff, Processed, ProcessedPart, Processes, Completes, Served};
+ghost use Rattle.ckrt_commands.specs.Writing.{AppendsPart};
 
 use crate::fault::ServeFault;
 use crate::replies::{self, OUTPUT_BYTES};
 use arrayvec::ArrayVec;
+use ckrt_commands::write_text;
 use ckrt_disk::Disk;
 use ckrt_events::{Command, Event, LineFault, parse_command};
 use ckrt_recovery::Session;
@@ -24,33 +26,6 @@ use std::io::{ErrorKind, Read, Write};
 
 /// What is kept of a line: a byte past its limit of 160, and a carriage return.
 type Line = ArrayVec<u8, 162>;
-
-/// Writes bytes whole, whatever interrupts a write.
-fn write_bytes<W: Write>(writer: &mut W, bytes: &[u8]) -> Result<(), ServeFault>
-    ensures ok { OnOk result (Appends (W.contents writer.old) (W.contents writer.new) bytes.now) }
-    ensures part { OnErr result (AppendsPart (W.contents writer.old) (W.contents writer.new) bytes.now) }
-    ensures err { IfErr result (λ e. e ≡ ServeFault.Write) }
-{
-    let mut rest = bytes;
-    for _ in 0..u64::MAX {
-        if rest.is_empty() {
-            return Ok(());
-        }
-        match writer.write(rest) {
-            Ok(0) => return Err(ServeFault::Write),
-            Ok(count) => {
-                let (_, more) = rest.split_at(count);
-                rest = more;
-            }
-            Err(error) => {
-                if error.kind() != ErrorKind::Interrupted {
-                    return Err(ServeFault::Write);
-                }
-            }
-        }
-    }
-    Err(ServeFault::Write)
-}
 
 /// Writes a text whole, and flushes it. Where the writer fails, what it took is a beginning of the text.
 ///
@@ -62,10 +37,7 @@ pub fn write_reply<W: Write>(writer: &mut W, text: &[u8]) -> Result<(), ServeFau
     ensures part { OnErr result (AppendsPart (W.contents writer.old) (W.contents writer.new) text.now) }
     ensures err { IfErr result (λ e. e ≡ ServeFault.Write) }
 {
-    write_bytes(writer, text)?;
-    if writer.flush().is_err() {
-        return Err(ServeFault::Write);
-    }
+    write_text(writer, text)?;
     Ok(())
 }
 

@@ -1,7 +1,7 @@
 use Rattle.std.proofs.Common.{◌≡◌, false, None, Ok, rules, refl, sym, subst}
 use Rattle.ckrt_events.specs.declared.command.Command.TheVariants.{Submit, Auto, Quit, Blank}
 use Rattle.ckrt_machine.specs.Events.{planned}
-use Rattle.ckrt_recovery.specs.Transcript.{respond}
+use Rattle.ckrt_commands.specs.Transcript.{respond}
 use Rattle.ckrt_recovery.specs.View.{refusal_of, view_of}
 use Rattle.ckrt_lives.specs.Pieces.{Does}
 use Rattle.ckrt_lives.proofs.PieceLemmas.{does_nothing}

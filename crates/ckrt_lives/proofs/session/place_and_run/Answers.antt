@@ -1,6 +1,6 @@
 use Rattle.std.proofs.Common.{sym}
 use Rattle.ckrt_events.specs.declared.event.Event.TheVariants.{Place, Run}
-use Rattle.ckrt_recovery.specs.Transcript.{submit}
+use Rattle.ckrt_commands.specs.Transcript.{submit}
 use Rattle.ckrt_lives.proofs.PieceLemmas.{accepted_then, refused_then}
 use Rattle.ckrt_lives.proofs.session.place_and_run.Goals as goal
 

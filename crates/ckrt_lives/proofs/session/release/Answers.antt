@@ -1,5 +1,5 @@
 use Rattle.std.proofs.Common.{◌∙◌, ℕ, List, None, sym, ap, subst}
-use Rattle.ckrt_recovery.specs.Transcript.{output}
+use Rattle.ckrt_commands.specs.Transcript.{output}
 use Rattle.ckrt_recovery.specs.View.{view_of, confirmed_to}
 use Rattle.ckrt_lives.specs.Pieces.{Does}
 use Rattle.ckrt_lives.proofs.PieceLemmas.{does_output}

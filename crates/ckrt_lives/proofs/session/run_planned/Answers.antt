@@ -1,6 +1,6 @@
 use Rattle.std.proofs.Common.{◌≡◌, ◌∙◌, Some, None, sym, subst}
 use Rattle.ckrt_machine.specs.Events as machine
-use Rattle.ckrt_recovery.specs.Transcript.{run_planned}
+use Rattle.ckrt_commands.specs.Transcript.{run_planned}
 use Rattle.ckrt_recovery.specs.View.{view_of}
 use Rattle.ckrt_lives.specs.Pieces.{Does}
 use Rattle.ckrt_lives.proofs.session.run_planned.Goals as goal

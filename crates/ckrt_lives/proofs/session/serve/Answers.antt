@@ -1,5 +1,5 @@
 use Rattle.std.proofs.Common.{[], None, refl}
-use Rattle.ckrt_recovery.specs.Transcript.{output}
+use Rattle.ckrt_commands.specs.Transcript.{output}
 use Rattle.ckrt_recovery.specs.View.{view_of}
 use Rattle.ckrt_lives.specs.Commands.{respond_to}
 use Rattle.ckrt_lives.proofs.PieceLemmas.{does_more}

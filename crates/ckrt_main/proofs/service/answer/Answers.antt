@@ -1,12 +1,13 @@
 use Rattle.std.proofs.Common.{◌≡◌, ◌∙◌, true, false, Ok, Err, rules, refl, sym, subst}
 use Rattle.std.specs.Io.KnownBytes.{Appends}
 use Rattle.ckrt_events.specs.declared.command.Command.TheVariants.{Submit, Auto, Commit, Checkpoint, Quit, Blank}
-use Rattle.ckrt_recovery.specs.Replies.{NotUnderstood}
-use Rattle.ckrt_recovery.specs.Transcript.{respond}
+use Rattle.ckrt_commands.specs.Replies.{NotUnderstood}
+use Rattle.ckrt_commands.specs.Transcript.{respond}
 use Rattle.ckrt_recovery.specs.View.{view_of}
-use Rattle.ckrt_main.specs.Service.{Answers, AppendsPart, BreaksOff, ends}
+use Rattle.ckrt_main.specs.Service.{Answers, BreaksOff, ends}
+use Rattle.ckrt_commands.specs.Writing.{AppendsPart}
 use Rattle.ckrt_main.proofs.PieceLemmas.{silent}
-use Rattle.ckrt_main.proofs.OutputLemmas.{on_err}
+use Rattle.ckrt_commands.proofs.WriteLemmas.{on_err}
 use Rattle.ckrt_main.proofs.ResponseLemmas.{half_said, said, says_still}
 use Rattle.ckrt_main.proofs.service.answer.Goals as goal
 

@@ -1,6 +1,6 @@
 use Rattle.std.proofs.Common.{◌≡◌, subst}
 use Rattle.std.specs.Prelude.{IfOk, OnErr}
-use Rattle.ckrt_recovery.specs.Transcript.{respond}
+use Rattle.ckrt_commands.specs.Transcript.{respond}
 use Rattle.ckrt_main.specs.Service.{Answers, BreaksOff}
 use Rattle.ckrt_main.proofs.service.respond.Goals as goal
 

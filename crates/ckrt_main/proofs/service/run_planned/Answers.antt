@@ -1,10 +1,10 @@
 use Rattle.std.proofs.Common.{◌≡◌, ◌∙◌, Some, None, sym, subst}
 use Rattle.std.specs.Prelude.{OnOk, OnErr, false}
 use Rattle.ckrt_machine.specs.Events as machine
-use Rattle.ckrt_recovery.specs.Transcript.{run_planned}
+use Rattle.ckrt_commands.specs.Transcript.{run_planned}
 use Rattle.ckrt_recovery.specs.View.{view_of}
 use Rattle.ckrt_main.specs.Service.{Responds, Interrupted, ends}
-use Rattle.ckrt_main.proofs.OutputLemmas.{on_err}
+use Rattle.ckrt_commands.proofs.WriteLemmas.{on_err}
 use Rattle.ckrt_main.proofs.service.run_planned.Goals as goal
 
 pub returns-in-Some-clause-ok : goal.returns-in-Some-clause-ok

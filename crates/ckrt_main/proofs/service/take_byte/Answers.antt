@@ -4,11 +4,11 @@ use Rattle.std.specs.Str.Lines.{strip_carriage_return}
 use Rattle.std.proofs.lemmas.Bool.{eqb-true}
 use Rattle.std.proofs.lemmas.Bool.Decides.{nat_tests}
 use Rattle.ckrt_events.specs.Line.{command_of}
-use Rattle.ckrt_recovery.specs.Transcript.{respond}
+use Rattle.ckrt_commands.specs.Transcript.{respond}
 use Rattle.ckrt_main.specs.Service.{Answers, BreaksOff}
 use Rattle.ckrt_main.proofs.LineLemmas.{is_open-more}
 use Rattle.ckrt_main.proofs.ProcessLemmas.{processed_newline, processed_newline_part, processed_byte, processed_full}
-use Rattle.ckrt_main.proofs.OutputLemmas.{on_err}
+use Rattle.ckrt_commands.proofs.WriteLemmas.{on_err}
 use Rattle.ckrt_main.proofs.service.take_byte.Goals as goal
 
 pub returns-then-byte-eq10-clause-processed : goal.returns-then-byte-eq10-clause-processed

@@ -1,9 +1,10 @@
 use Rattle.std.proofs.Common.{◌≡◌, ◌<◌, ◌+◌, ◌++◌, ℕ, List, [], length, take, drop, min, arith, rules, refl, sym, ap, subst, ◌∙◌, append-nil}
 use Rattle.std.proofs.lemmas.List.{nil_from_length}
 use Rattle.std.specs.Io.KnownBytes.{Appends}
-use Rattle.ckrt_recovery.specs.Replies.{Reply, outputs, text_of}
-use Rattle.ckrt_main.specs.Service.{AppendsPart}
-use Rattle.ckrt_main.proofs.OutputLemmas.{Appends-nothing, line_more, line_broken, on_err}
+use Rattle.ckrt_commands.specs.Replies.{Reply, outputs, text_of}
+use Rattle.ckrt_commands.specs.Writing.{AppendsPart}
+use Rattle.ckrt_main.proofs.OutputLemmas.{line_more, line_broken}
+use Rattle.ckrt_commands.proofs.WriteLemmas.{Appends-nothing, on_err}
 use Rattle.ckrt_main.proofs.service.write_lines.Goals as goal
 
 pub loop-rest-init : goal.loop-rest-init

@@ -1,6 +1,6 @@
 use Rattle.std.proofs.Common.{◌≡◌, ◌≤◌, ◌+◌, ◌++◌, List, length}
 use Rattle.std.specs.Io.KnownBytes.{Appends}
-use Rattle.ckrt_recovery.specs.Replies.{Reply, text_of, outputs, shown_up_to}
+use Rattle.ckrt_commands.specs.Replies.{Reply, text_of, outputs, shown_up_to}
 use Rattle.ckrt_main.proofs.service.write_lines.Given as goal
 
 abbrev pub invariant-loop-rest : goal.invariant-loop-rest

@@ -1,10 +1,10 @@
 use Rattle.std.proofs.Common.{◌≡◌, ◌≤◌, ◌+◌, ◌∙◌, length, ap, sym, subst, arith}
 use Rattle.std.specs.Io.KnownBytes.{Appends}
-use Rattle.ckrt_recovery.specs.Replies.{outputs, text_of}
+use Rattle.ckrt_commands.specs.Replies.{outputs, text_of}
 use Rattle.ckrt_recovery.specs.View.{View, view_of, confirmed_to, released_output}
 use Rattle.ckrt_main.specs.Service.{ShowsOutput}
-use Rattle.ckrt_main.proofs.AcceptLemmas.{accepts_confirmed}
-use Rattle.ckrt_main.proofs.OutputLemmas.{on_err}
+use Rattle.ckrt_commands.proofs.AcceptLemmas.{accepts_confirmed}
+use Rattle.ckrt_commands.proofs.WriteLemmas.{on_err}
 use Rattle.ckrt_main.proofs.ResponseLemmas.{answers_output, broken_output}
 use Rattle.ckrt_main.proofs.service.write_output.Goals as goal
 

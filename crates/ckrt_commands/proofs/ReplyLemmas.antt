@@ -5,7 +5,7 @@ use Rattle.std.proofs.lemmas.Bool.Decides.{leb_tells}
 use Rattle.std.proofs.lemmas.List.{drop_all, take-append-drop}
 use Rattle.ckrt_machine.specs.declared.event.Answer.{Answer}
 use Rattle.ckrt_recovery.specs.Between.{IsBeginningOf, StandsIn}
-use Rattle.ckrt_recovery.specs.Replies.{Reply, Accepted, Acknowledged, NotAccepted, NotSaved, NotUnderstood, Output, line_of, text_of, outputs_by, outputs, oks_of, acks_of, outs_of, shown_up_to}
+use Rattle.ckrt_commands.specs.Replies.{Reply, Accepted, Acknowledged, NotAccepted, NotSaved, NotUnderstood, Output, line_of, text_of, outputs_by, outputs, oks_of, acks_of, outs_of, shown_up_to}
 
 -- BEGINNINGS OF LISTS
 

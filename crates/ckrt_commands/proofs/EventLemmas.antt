@@ -9,7 +9,7 @@ use Rattle.ckrt_machine.specs.Runs.{is_running}
 use Rattle.ckrt_machine.specs.Plans.{ready_from, least_ready, or_else, or_zero, next_ready, planned}
 use Rattle.ckrt_recovery.specs.declared.fault.SubmitFault.{SubmitFault}
 use Rattle.ckrt_recovery.specs.View.{View}
-use Rattle.ckrt_recovery.specs.Transcript.{Fate, Transcript, submitted, followed_by, unless_refused}
+use Rattle.ckrt_commands.specs.Transcript.{Fate, Transcript, submitted, followed_by, unless_refused}
 
 -- PLANNED THREADS
 

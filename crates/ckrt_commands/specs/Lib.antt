@@ -1,0 +1,4 @@
+pub mod Replies
+pub mod Transcript
+pub mod Accepts
+pub mod Writing

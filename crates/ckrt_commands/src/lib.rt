@@ -1,0 +1,7 @@
+//! What the lines of a session are, what they get, and the commands among them as they are done: whoever runs commands over a
+//! session stands on this.
+#![tactic(auto)]
+
+mod writing;
+
+pub use writing::{WriteFault, write_text};
