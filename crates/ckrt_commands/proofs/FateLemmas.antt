@@ -117,6 +117,16 @@ either_respond (Ok Quit) f v = inl (record { events = refl; view = refl; quit = 
 either_respond (Ok Blank) f v = inl (record { events = refl; view = refl; quit = refl; fate = refl })
 either_respond (Err why) f v = inl (record { events = refl; view = refl; quit = refl; fate = refl })
 
+few_either : (t u : Transcript) → Agrees t u ⊎ HasFailed t → IsBeginningOf t.events u.events
+few_either t u either = ⊎_elim
+    (λ (h : _). subst (λ (l : List Event). IsBeginningOf t.events l) h.events (begins_itself t.events))
+    (λ (h : _). subst (λ (l : List Event). IsBeginningOf l u.events) (sym h.none) (nothing_begins u.events))
+    either
+
+-- one command
+pub events_of_respond : (command : Result Command LineFault) (f : Fate) (v : View) → IsBeginningOf (respond command f v).events (respond command None v).events
+events_of_respond command f v = few_either (respond command f v) (respond command None v) (either_respond command f v)
+
 -- LINES
 
 few_unless : (q : Bool) (f : Fate) (v : View) (more : Fate → View → Transcript) → IsBeginningOf (more f v).events (more None v).events → IsBeginningOf (unless_quit q f v more).events (unless_quit q None v more).events

@@ -3,3 +3,7 @@ pub mod ReplyLemmas
 pub mod AcceptLemmas
 pub mod EventLemmas
 pub mod FateLemmas
+pub mod TellLemmas
+pub mod TakenLemmas
+pub mod PieceLemmas
+pub mod ResponseLemmas

@@ -5,7 +5,7 @@ use Rattle.std.proofs.lemmas.Bool.Decides.{leb_tells}
 use Rattle.std.proofs.lemmas.List.{drop_all, take-append-drop}
 use Rattle.ckrt_machine.specs.declared.event.Answer.{Answer}
 use Rattle.ckrt_recovery.specs.Between.{IsBeginningOf, StandsIn}
-use Rattle.ckrt_commands.specs.Replies.{Reply, Accepted, Acknowledged, NotAccepted, NotSaved, NotUnderstood, Output, line_of, text_of, outputs_by, outputs, oks_of, acks_of, outs_of, shown_up_to}
+use Rattle.ckrt_commands.specs.Replies.{Reply, Accepted, Acknowledged, NotAccepted, NotSaved, NotUnderstood, Output, line_of, told_of, text_of, outputs_by, outputs, oks_of, acks_of, outs_of, output_in, shown_in, shown_up_to}
 
 -- BEGINNINGS OF LISTS
 
@@ -40,9 +40,12 @@ all_front P (x ∷ xs) ys h = (h.0, all_front P xs ys h.1)
 
 -- REPLIES AFTER REPLIES
 
+pub told-append : (text : Reply → List ℕ) (xs ys : List Reply) → told_of text (xs ++ ys) ≡ told_of text xs ++ told_of text ys
+told-append text [] ys = refl
+told-append text (x ∷ xs) ys = ap (λ (l : List ℕ). text x ++ l) (told-append text xs ys) ∙ sym (append_assoc (text x) (told_of text xs) (told_of text ys))
+
 pub text-append : (xs ys : List Reply) → text_of (xs ++ ys) ≡ text_of xs ++ text_of ys
-text-append [] ys = refl
-text-append (x ∷ xs) ys = ap (λ (l : List ℕ). line_of x ++ l) (text-append xs ys) ∙ sym (append_assoc (line_of x) (text_of xs) (text_of ys))
+text-append xs ys = told-append line_of xs ys
 
 pub oks-append : (xs ys : List Reply) → oks_of (xs ++ ys) ≡ oks_of xs + oks_of ys
 oks-append [] ys = omega arith
@@ -157,6 +160,40 @@ shown-outputs_by (suc n) offset bytes le =
 
 pub shown-outputs : (offset : ℕ) (bytes : List ℕ) → shown_up_to offset (outputs offset bytes) ≡ offset + length bytes
 shown-outputs offset bytes = shown-outputs_by ((length bytes + 63) / 64) offset bytes (omega arith)
+
+shown_in-outputs_by : (n offset : ℕ) (bytes : List ℕ) → length bytes ≤ 64 * n → shown_in (outputs_by n offset bytes) ≡ bytes
+shown_in-outputs_by zero offset [] le = refl
+shown_in-outputs_by zero offset (b ∷ bytes) le = absurd (omega (arith, le))
+shown_in-outputs_by (suc n) offset bytes le =
+    let rest : length (drop 64 bytes) ≡ length bytes - 64 = length-drop 64 bytes in
+    let more : length (drop 64 bytes) ≤ 64 * n = omega arith in
+    ap (λ (l : List ℕ). take 64 bytes ++ l) (shown_in-outputs_by n (offset + length (take 64 bytes)) (drop 64 bytes) more) ∙ take-append-drop 64 bytes
+
+-- the lines of output show all of it
+pub shown_in-outputs : (offset : ℕ) (bytes : List ℕ) → shown_in (outputs offset bytes) ≡ bytes
+shown_in-outputs offset bytes = shown_in-outputs_by ((length bytes + 63) / 64) offset bytes (omega arith)
+
+-- a reply that is no line of output shows none
+pub shows_none : (r : Reply) → outs_of (r ∷ []) ≡ [] → shown_in (r ∷ []) ≡ []
+shows_none (Accepted k a) none = refl
+shows_none (Acknowledged k) none = refl
+shows_none (NotAccepted why) none = refl
+shows_none (NotSaved why) none = refl
+shows_none (NotUnderstood why) none = refl
+shows_none (Output offset bytes) none = cc
+
+shown_behind_by : (n offset : ℕ) (bytes : List ℕ) (front rest : List Reply) → outputs_by n offset bytes ≡ front ++ rest → offset ≤ shown_up_to offset front
+shown_behind_by n offset bytes [] rest e = omega arith
+shown_behind_by zero offset bytes (x ∷ front) rest e = cc
+shown_behind_by (suc n) offset bytes (x ∷ front) rest e =
+    let first : Output offset (take 64 bytes) ≡ x = cc in
+    let others : outputs_by n (offset + length (take 64 bytes)) (drop 64 bytes) ≡ front ++ rest = cc in
+    let reached : offset + length (take 64 bytes) ≤ shown_up_to (offset + length (take 64 bytes)) front = shown_behind_by n (offset + length (take 64 bytes)) (drop 64 bytes) front rest others in
+    subst (λ (r : Reply). offset ≤ shown_up_to offset (r ∷ front)) first (omega (arith, reached))
+
+-- the first lines of output end at or behind its offset
+pub shown_behind : (offset : ℕ) (bytes : List ℕ) (front broken : List Reply) → IsBeginningOf (front ++ broken) (outputs offset bytes) → offset ≤ shown_up_to offset front
+shown_behind offset bytes front broken h = shown_behind_by ((length bytes + 63) / 64) offset bytes front (broken ++ h.0) (h.1 ∙ append_assoc front broken h.0)
 
 stands-outputs_by : (n offset : ℕ) (bytes out front rest : List ℕ) → length front ≡ offset → out ≡ front ++ (bytes ++ rest) → AllByRecursion (StandsIn out) (outs_of (outputs_by n offset bytes))
 stands-outputs_by zero offset bytes out front rest size is = tt

@@ -99,10 +99,14 @@ line_of (NotSaved why) = no_line (commit_fault_text why)
 line_of (NotUnderstood why) = no_line (line_fault_text why)
 line_of (Output offset bytes) = out_line offset bytes
 
+-- what is told of replies, one after another, by what is told of each
+abbrev pub told_of : (Reply → List ℕ) → List Reply → List ℕ
+told_of text [] = []
+told_of text (r ∷ rs) = text r ++ told_of text rs
+
 -- the text of replies, one after another
 abbrev pub text_of : List Reply → List ℕ
-text_of [] = []
-text_of (r ∷ rs) = line_of r ++ text_of rs
+text_of = told_of line_of
 
 -- n lines of 64 bytes of output each, the last of what is left
 abbrev pub outputs_by : ℕ → ℕ → List ℕ → List Reply
@@ -144,6 +148,19 @@ outs_of (NotAccepted why ∷ rs) = outs_of rs
 outs_of (NotSaved why ∷ rs) = outs_of rs
 outs_of (NotUnderstood why ∷ rs) = outs_of rs
 outs_of (Output offset bytes ∷ rs) = (offset, bytes) ∷ outs_of rs
+
+-- the output that a reply shows
+abbrev pub output_in : Reply → List ℕ
+output_in (Accepted k answer) = []
+output_in (Acknowledged k) = []
+output_in (NotAccepted why) = []
+output_in (NotSaved why) = []
+output_in (NotUnderstood why) = []
+output_in (Output offset bytes) = bytes
+
+-- the output that replies show, one after another
+abbrev pub shown_in : List Reply → List ℕ
+shown_in = told_of output_in
 
 -- the offset behind the last line of output; where there is none the given one
 abbrev pub shown_up_to : ℕ → List Reply → ℕ

@@ -2,6 +2,10 @@
 //! session stands on this.
 #![tactic(auto)]
 
+mod listener;
+mod performing;
 mod writing;
 
+pub use listener::Listener;
+pub use performing::{perform, release};
 pub use writing::{WriteFault, write_text};

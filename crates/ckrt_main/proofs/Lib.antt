@@ -1,6 +1,4 @@
 pub mod OutputLemmas
-pub mod PieceLemmas
-pub mod ResponseLemmas
 pub mod LineLemmas
 pub mod ProcessLemmas
 pub mod FreshLemmas
