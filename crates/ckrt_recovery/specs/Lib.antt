@@ -4,5 +4,3 @@ pub mod Between
 pub mod Opening
 pub mod View
 pub mod Calls
-pub mod Replies
-pub mod Transcript
