@@ -12,9 +12,8 @@ use Rattle.ckrt_recovery.specs.declared.session.Session.{Session}
 use Rattle.ckrt_recovery.specs.Between.{IsBeginningOf}
 use Rattle.ckrt_recovery.specs.Represents.{Represents, acknowledged_of}
 use Rattle.ckrt_recovery.specs.View.{View, view_of, released_output}
-use Rattle.ckrt_main.specs.Service.{Accepts}
-use Rattle.ckrt_main.proofs.AcceptLemmas.{taken_begins}
-use Rattle.ckrt_main.proofs.PieceLemmas.{output_begins}
+use Rattle.ckrt_commands.specs.Accepts.{Accepts}
+use Rattle.ckrt_commands.proofs.AcceptLemmas.{taken_begins, output_begins}
 use Rattle.ckrt_drive.specs.Output.{acknowledged_output}
 use Rattle.ckrt_drive.specs.PutOut.{FailsToPutOut, PutsAllOut, PutsOrFails, PutsOutput, between}
 

@@ -13,8 +13,8 @@ use Rattle.ckrt_machine.specs.Runs.{is_running}
 use Rattle.ckrt_recovery.specs.declared.fault.SubmitFault.{SubmitFault}
 use Rattle.ckrt_recovery.specs.declared.session.Session.{Session}
 use Rattle.ckrt_recovery.specs.View.{View, view_of, refusal_of, version_of}
-use Rattle.ckrt_main.specs.Service.{Accepts}
-use Rattle.ckrt_main.proofs.AcceptLemmas.{accepts_kept, accepts_more, since_start}
+use Rattle.ckrt_commands.specs.Accepts.{Accepts}
+use Rattle.ckrt_commands.proofs.AcceptLemmas.{accepts_kept, accepts_more, since_start}
 use Rattle.ckrt_drive.specs.declared.cursor.Cursor.{Cursor}
 use Rattle.ckrt_drive.specs.declared.options.Options.{Options}
 use Rattle.ckrt_drive.specs.declared.lot.Lot.{Lot}

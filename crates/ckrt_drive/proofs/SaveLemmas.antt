@@ -17,7 +17,7 @@ use Rattle.ckrt_recovery.specs.declared.session.Session.{Session}
 use Rattle.ckrt_recovery.specs.Calls.{Checkpoints, Commits, WritesOtherArea, checkpoint_refusal, is_device}
 use Rattle.ckrt_recovery.specs.Represents.{Represents, RecoversToEither}
 use Rattle.ckrt_recovery.specs.View.{View, view_of, refusal_of, refusal_when_running, after_event}
-use Rattle.ckrt_main.proofs.AcceptLemmas.{accepts_kept, accepts_still, accepts_commit, accepts_checkpoint}
+use Rattle.ckrt_commands.proofs.AcceptLemmas.{accepts_kept, accepts_still, accepts_commit, accepts_checkpoint}
 use Rattle.ckrt_drive.specs.declared.fault.DriveFault.{DriveFault}
 use Rattle.ckrt_drive.specs.declared.fault.DriveFault.TheVariants.{Device, GenerationsUsed, Refused}
 use Rattle.ckrt_drive.specs.declared.progress.Progress.{Progress}

@@ -12,8 +12,9 @@ use Rattle.ckrt_recovery.specs.declared.session.Session.{Session}
 use Rattle.ckrt_recovery.specs.Represents.{Represents}
 use Rattle.ckrt_recovery.specs.View.{View, view_of, released_output}
 use Rattle.ckrt_recovery.proofs.SessionLemmas.{held_front}
-use Rattle.ckrt_main.specs.Service.{Accepts, AppendsPart}
-use Rattle.ckrt_main.proofs.OutputLemmas.{Appends-append, Appends-nothing}
+use Rattle.ckrt_commands.specs.Writing.{AppendsPart}
+use Rattle.ckrt_commands.specs.Accepts.{Accepts}
+use Rattle.ckrt_commands.proofs.WriteLemmas.{Appends-append, Appends-nothing}
 use Rattle.ckrt_drive.specs.Output.{acknowledged_output}
 use Rattle.ckrt_drive.specs.PutOut.{EndsOrFails, FailsToPutOut, PutsAllOut, PutsOutput, between}
 use Rattle.ckrt_drive.specs.Streams.{HandsBetween, HandsNothingOn, HandsOn, HasBroken, StreamsOutput, got_to, writer_of}

@@ -2,8 +2,8 @@
 ghost use Rattle.std.specs.Prelude.{◌≡◌, ◌+◌, ◌-◌, ◌^◌, min, [], None, length, drop, false, IsErr};
 ghost use Rattle.ckrt_disk.specs.Stop.{named_none};
 
+use ckrt_commands::write_text;
 use ckrt_disk::{DeviceFault, Disk, History};
-use ckrt_main::write_reply;
 use std::io::Write;
 
 /// How many bytes a stream takes: more than any file has.
@@ -105,7 +105,7 @@ impl<W: Write> Disk for StreamOutput<W> {
         if self.failures > 0 {
             return self.fail();
         }
-        if write_reply(&mut self.writer, behind(bytes, at, self.next)).is_err() {
+        if write_text(&mut self.writer, behind(bytes, at, self.next)).is_err() {
             return self.fail();
         }
         self.next = self.next.max(at + bytes.len());

@@ -9,8 +9,8 @@ use Rattle.ckrt_image.specs.Programs.{Program, output_after}
 use Rattle.ckrt_recovery.specs.Represents.{Represents, acknowledged_of}
 use Rattle.ckrt_recovery.specs.View.{view_of}
 use Rattle.ckrt_recovery.specs.declared.session.Session.{Session}
-use Rattle.ckrt_main.proofs.AcceptLemmas.{taken_begins}
-use Rattle.ckrt_main.proofs.PieceLemmas.{output_begins}
+use Rattle.ckrt_commands.proofs.AcceptLemmas.{taken_begins}
+use Rattle.ckrt_commands.proofs.AcceptLemmas.{output_begins}
 use Rattle.ckrt_drive.specs.Runs.{IsAllSaved}
 use Rattle.ckrt_drive.specs.declared.fault.DriveFault.{DriveFault}
 use Rattle.ckrt_drive.specs.declared.options.Options.{Options}

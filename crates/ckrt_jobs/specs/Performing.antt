@@ -6,7 +6,8 @@ use Rattle.clap.specs.Words.{takes}
 use Rattle.ckrt_disk.specs.declared.disk.Disk.{Ghosts}
 use Rattle.ckrt_checkpoint.specs.Layout.{size_needed}
 use Rattle.ckrt_recovery.specs.View.{fresh}
-use Rattle.ckrt_main.specs.Service.{AppendsPart, IsStartFault, Served, ServedPart}
+use Rattle.ckrt_main.specs.Service.{IsStartFault, Served, ServedPart}
+use Rattle.ckrt_commands.specs.Writing.{AppendsPart}
 use Rattle.ckrt_main.specs.declared.fault.ServeFault.{ServeFault}
 use Rattle.ckrt_main.specs.declared.fault.ServeFault.TheVariants as serve
 use Rattle.ckrt_words.specs.Commands.{ckrt_app}

@@ -12,8 +12,8 @@ use Rattle.ckrt_image.specs.Recovery.{AgreesOnFault, Recovered, Recovers}
 use Rattle.ckrt_image.specs.declared.fault.RecoverFault.{RecoverFault}
 use Rattle.ckrt_recovery.specs.Between.{IsBeginningOf, RecoversBetween, StandsIn}
 use Rattle.ckrt_recovery.specs.Opening.{IsSyncedAndRead}
-use Rattle.ckrt_recovery.specs.Replies.{acks_of, oks_of, outs_of, shown_up_to, text_of}
-use Rattle.ckrt_recovery.specs.Transcript.{Fate, transcript}
+use Rattle.ckrt_commands.specs.Replies.{acks_of, oks_of, outs_of, shown_up_to, text_of}
+use Rattle.ckrt_commands.specs.Transcript.{Fate, transcript}
 use Rattle.ckrt_recovery.specs.View.{opened}
 use Rattle.ckrt_main.specs.Service.{Shows}
 use Rattle.ckrt_main.specs.declared.fault.ServeFault.TheVariants as serve

@@ -5,7 +5,7 @@ ghost use Rattle.ckrt_image.specs.Programs.{Program};
 ghost use Rattle.ckrt_jobs.specs.Printing.{HoldsEvents, PrintsOn};
 ghost use Rattle.ckrt_jobs.specs.Running.{IsUnrecovered, Serves};
 ghost use Rattle.ckrt_jobs.specs.declared.fault.JobFault.{JobFault};
-ghost use Rattle.ckrt_recovery.specs.Replies.{outs_of};
+ghost use Rattle.ckrt_commands.specs.Replies.{outs_of};
 
 use ckrt_disk::Disk;
 

@@ -2,7 +2,6 @@ pub mod TranscriptLemmas
 pub mod BeginningLemmas
 pub mod PieceLemmas
 pub mod StepLemmas
-pub mod CommitLemmas
 pub mod LifeLemmas
 pub mod ManyLemmas
 pub mod ByteLemmas

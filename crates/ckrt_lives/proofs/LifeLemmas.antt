@@ -16,13 +16,14 @@ use Rattle.std.proofs.lemmas.Grind.{same_number_lists}
 use Rattle.ckrt_recovery.specs.declared.session.Session.{Session}
 use Rattle.ckrt_recovery.specs.Represents.{Represents, RecoversToEither, acknowledged_of}
 use Rattle.ckrt_recovery.specs.View.{View, view_of, opened}
-use Rattle.ckrt_recovery.specs.Transcript.{Transcript}
+use Rattle.ckrt_commands.specs.Transcript.{Transcript}
 use Rattle.ckrt_recovery.proofs.SessionLemmas.{output_all}
 use Rattle.ckrt_lives.specs.declared.life.Life.{Life}
 use Rattle.ckrt_lives.specs.declared.life.LifeReport.{LifeReport}
 use Rattle.ckrt_lives.specs.Commands.{commands_of_life}
 use Rattle.ckrt_lives.specs.Lives.{IsLeftBy, IsUnbroken, HasRecovered, released_to}
-use Rattle.ckrt_lives.specs.Pieces.{HasTaken, Does, HasRun}
+use Rattle.ckrt_lives.specs.Pieces.{Does, HasRun}
+use Rattle.ckrt_commands.specs.Pieces.{HasTaken}
 
 -- what is left recovers to a beginning of the list that has the acknowledged events
 pub record LeavesPart (p : Program) (events : List Event) (acknowledged limit : ℕ) (image : List ℕ) : Type 0 where

@@ -10,7 +10,8 @@ use Rattle.ckrt_lives.specs.declared.life.LifeReport.{LifeReport}
 use Rattle.ckrt_recovery.specs.Between.{IsBeginningOf}
 use Rattle.ckrt_lives.specs.Lives.{HasRecovered, HasNotRecovered, IsLife, AreLives, AreLivesFrom, AreDurable, acknowledged_in, released_to}
 use Rattle.ckrt_lives.specs.Pieces.{Stands, last_left, last_list, LivedSoFar}
-use Rattle.ckrt_lives.proofs.BeginningLemmas.{begins_itself, begins_through, begins_taken, fewer_begin}
+use Rattle.ckrt_commands.proofs.ReplyLemmas.{begins_itself, begins_through}
+use Rattle.ckrt_lives.proofs.BeginningLemmas.{begins_taken, fewer_begin}
 
 -- AFTER ONE LIFE
 

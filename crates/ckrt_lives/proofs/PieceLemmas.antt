@@ -1,36 +1,25 @@
 -- Parts of a life, one after another.
-use Rattle.std.proofs.Common.{◌≡◌, ◌⊎◌, inl, inr, ⊎_elim, ℕ, ◌≤◌, ◌<◌, Bool, true, false, if◌then◌else◌, List, [], ◌∷◌, ◌++◌, length, take, drop, Some, None, Option, refl, sym, ◌∙◌, ap, subst, arith, append_assoc, append-nil, length-take-le}
+use Rattle.std.proofs.Common.{◌≡◌, ◌⊎◌, inl, inr, ⊎_elim, ℕ, zero, ◌<◌, Bool, true, false, List, [], ◌++◌, Some, None, Ok, refl, sym, ◌∙◌, ap, subst, arith, append_assoc, append-nil}
 use Rattle.std.specs.Prelude.{is_none}
-use Rattle.std.proofs.lemmas.List.{take-append-drop, take-append-le, drop-append-le, take_at}
+use Rattle.ckrt_disk.specs.Disk.{HasFailed}
 use Rattle.ckrt_disk.specs.declared.disk.Disk.{Ghosts}
+use Rattle.ckrt_events.specs.declared.command.Command.{Command}
 use Rattle.ckrt_events.specs.declared.event.Event.{Event}
-use Rattle.ckrt_machine.specs.Events.{output_of}
-use Rattle.ckrt_image.specs.Programs.{Program, start_of, state_after, output_after}
-use Rattle.ckrt_image.proofs.ReplayLemmas.{output-append}
-use Rattle.ckrt_recovery.specs.declared.fault.SubmitFault.{SubmitFault}
-use Rattle.ckrt_recovery.specs.declared.fault.SubmitFault.TheVariants.{Failed}
 use Rattle.ckrt_recovery.specs.declared.session.Session.{Session}
-use Rattle.ckrt_recovery.specs.Represents.{Represents, acknowledged_of}
-use Rattle.ckrt_recovery.specs.View.{View, view_of, refusal_of, refusal_when_running, after_event, confirmed_to}
-use Rattle.ckrt_recovery.specs.Transcript.{Fate, Transcript, preceded_by, unless_quit, followed_by, submitted, submit, unless_refused, output}
-use Rattle.ckrt_recovery.proofs.SessionLemmas.{output_all, output_end, represents_kept}
 use Rattle.ckrt_recovery.specs.Between.{IsBeginningOf}
-use Rattle.ckrt_lives.specs.Pieces.{HasTaken, IsWhole, Does}
-use Rattle.ckrt_lives.proofs.BeginningLemmas.{nothing_begins, begins_more, begins_behind}
-use Rattle.ckrt_lives.proofs.TranscriptLemmas.{submitted_goes_on, refused_alone, accepted_before}
+use Rattle.ckrt_recovery.specs.View.{View, view_of}
+use Rattle.ckrt_commands.specs.Pieces.{Tells, Answers, HasTaken, ends}
+use Rattle.ckrt_commands.specs.Replies.{Reply, output_in, shown_in}
+use Rattle.ckrt_commands.specs.Transcript.{Fate, Transcript, preceded_by, unless_quit, followed_by, output, respond}
+use Rattle.ckrt_commands.proofs.ReplyLemmas.{nothing_begins, begins_more, begins_behind}
+use Rattle.ckrt_commands.proofs.TakenLemmas.{no_more, taken_still}
+use Rattle.ckrt_commands.proofs.TellLemmas.{told_whole}
+use Rattle.ckrt_lives.specs.Pieces.{IsConfirmed, IsWhole, Does}
+use Rattle.ckrt_lives.proofs.TranscriptLemmas.{IsAllConfirmed, confirmed_respond, quits_alike}
 
 -- a transcript goes on where it doesn't quit
 pub goes_on_with : (t : Transcript) (more : Fate → View → Transcript) → t.quit ≡ false → followed_by t more ≡ preceded_by t.replies t.events (more t.fate t.view)
 goes_on_with t more e = ap (λ (q : Bool). preceded_by t.replies t.events (unless_quit q t.fate t.view more)) e
-
-is_none-true : (o : Option SubmitFault) → is_none o ≡ true → o ≡ None
-is_none-true None h = refl
-is_none-true (Some fault) h = cc
-
--- a session that takes an event hasn't failed
-runs_by : (b : Bool) (o : Option SubmitFault) → (if b then Some Failed else o) ≡ None → b ≡ false
-runs_by true o h = cc
-runs_by false o h = refl
 
 -- what follows where no device failed
 follows : (t : Transcript) (more : Fate → View → Transcript) (xs : List Event) (v : View) → IsWhole t xs v → more t.fate t.view ≡ more None v
@@ -46,97 +35,81 @@ joined_whole t more xs ys v w quit first second = record {
   fate = ap (λ (u : Transcript). u.fate) (goes_on_with t more quit) ∙ (ap (λ (u : Transcript). u.fate) (follows t more xs v first) ∙ second.fate);
 }
 
+-- bytes that were taken are those that replies show
+taken_is : (x y : List ℕ) (replies : List Reply) → Tells output_in (Some x) (Some y) replies [] → x ++ shown_in replies ≡ y
+taken_is x y replies told = sym (told_whole output_in (Some x) (Some y) replies told)
+
+-- a failure was counted
+some_failed : (before now : ℕ) → HasFailed before now → 0 < now
+some_failed before now h = ⊎_elim (λ (lt : _). omega (arith, lt)) (λ (le : _). omega (arith, le)) h
+
+no_fate : (f : Fate) → is_none f ≡ true → f ≡ None
+no_fate None kept = refl
+no_fate (Some n) kept = cc
+
 module _ {D : Type 0} {g : Ghosts D} where
-  pub no_more : (p : Program) (events : List Event) (s : Session D g) → Represents p events s → Represents p (events ++ []) s
-  no_more p events s reps = subst (λ (l : List Event). Represents p l s) (sym (append-nil events)) reps
-
-  -- the confirmed offset is within the output
-  within : (p : Program) (events : List Event) (s : Session D g) → Represents p events s → s.progress.confirmed ≤ length (output_after p events)
-  within p events s reps = omega (arith, output_end p events s reps)
-
-  -- more events change nothing of the output before them
-  pub taken_still : (p : Program) (events xs : List Event) (from : ℕ) (bytes : List ℕ) (old new : Session D g) → HasTaken p events from bytes old → new.progress.confirmed ≡ old.progress.confirmed → Represents p (events ++ xs) new → HasTaken p (events ++ xs) from bytes new
-  taken_still p events xs from bytes old new has same reps = record {
-    represents = reps;
-    start = omega (arith, has.start, same);
-    taken = has.taken ∙ ap (drop from)
-        (sym (take-append-le old.progress.confirmed (output_after p events) (output_of xs (state_after p events)) (within p events old has.represents))
-        ∙ ap (take old.progress.confirmed) (sym (output-append events xs (start_of p)))
-        ∙ ap (λ n. take n (output_after p (events ++ xs))) (sym same));
-  }
-
-  -- CALLS THAT LEAVE THE DISK AS IT IS
-
-  does_still : (t : Transcript) (accepted : List Event) (a b : List ℕ) (old new : Session D g) → new.disk ≡ old.disk → new.failed ≡ old.failed → new.acknowledged ≡ old.acknowledged → IsBeginningOf accepted t.events → (old.failed ≡ true → accepted ≡ [])
-      → ((p : Program) (events : List Event) (from : ℕ) → HasTaken p events from a old → HasTaken p (events ++ accepted) from b new) → (new.failed ≡ false → IsWhole t accepted (view_of new)) → Does t a b old new
-  does_still t accepted a b old new disk failed acknowledged part none goes_on run = record {
-    accepted = accepted;
-    part = part;
-    goes_on = λ honest p events from has. goes_on p events from has;
-    acknowledged = omega (arith, acknowledged);
-    run = run;
-    after_failure = λ was. (none was, failed ∙ was, disk);
-    well = λ is. sym failed ∙ is;
-    failed = λ is. inl (sym failed ∙ is);
-    honest = λ is. subst g.is_honest disk is;
-    named_stop = ap g.named_stop disk;
-  }
-
   -- the session is the same
   pub does_nothing : (t : Transcript) (bytes : List ℕ) (s : Session D g) → t.events ≡ [] → t.view ≡ view_of s → t.fate ≡ None → Does t bytes bytes s s
-  does_nothing t bytes s events view fate = does_still t [] bytes bytes s s refl refl refl (nothing_begins t.events) (λ _. refl)
-      (λ p events from has. taken_still p events [] from bytes s s has refl (no_more p events s has.represents))
-      (λ _. record { events = sym events; view = sym view; fate = fate })
+  does_nothing t bytes s events view fate = record {
+    accepted = [];
+    part = nothing_begins t.events;
+    goes_on = λ honest p events from has. taken_still p events [] from bytes s s has refl (no_more p events s has.represents);
+    acknowledged = omega arith;
+    run = λ _. record { events = sym events; view = sym view; fate = fate };
+    after_failure = λ was. (refl, was, refl);
+    well = λ is. is;
+    failed = λ is. inl is;
+    honest = λ is. is;
+    named_stop = refl;
+  }
 
-  -- EVENTS
+  -- WHAT A COMMAND MAKES OF A SESSION, AND OF THE OUTPUT THAT WAS TAKEN
 
-  pub does_refused : (e : Event) (fault : SubmitFault) (bytes : List ℕ) (old new : Session D g) → new ≡ old → refusal_of (view_of old) e ≡ Some fault → Does (submit e None (view_of old)) bytes bytes old new
-  does_refused e fault bytes old new same refused = subst (λ (s : Session D g). Does (submit e None (view_of old)) bytes bytes old s) (sym same)
-      (subst (λ o. Does (submitted None (view_of old) e o) bytes bytes old old) (sym refused) (does_nothing (submitted None (view_of old) e (Some fault)) bytes old refl refl refl))
+  -- what a command gets where its device fails no call
+  unfailed : (t : Fate → View → Transcript) (quit : Bool) (told : List Reply → List Reply → Type 0) (s u : Session D g) → (answers : Answers t quit told s u) → u.failed ≡ false → t None (view_of s) ≡ preceded_by answers.piece.replies answers.piece.accepted (ends quit u None)
+  unfailed t quit told s u answers well =
+      let before = no_fate (answers.piece.before None) (answers.piece.kept None) in
+      ap (λ (f : Fate). t f (view_of s)) (sym before) ∙ answers.goes_on tt None (λ fails. let no : true ≡ false = sym fails ∙ well in absurd (cc))
 
-  pub does_taken : (e : Event) (bytes : List ℕ) (old new : Session D g) → refusal_of (view_of old) e ≡ None → view_of new ≡ after_event (view_of old) e → new.disk ≡ old.disk
-      → ((p : Program) (events : List Event) → Represents p events old → Represents p (events ++ e ∷ []) new) → Does (submit e None (view_of old)) bytes bytes old new
-  does_taken e bytes old new none view disk represents =
-      let runs : old.failed ≡ false = runs_by old.failed (refusal_when_running (view_of old) e) none in
-      subst (λ o. Does (submitted None (view_of old) e o) bytes bytes old new) (sym none)
-      (does_still (submitted None (view_of old) e None) (e ∷ []) bytes bytes old new disk (ap (λ (v : View). v.failed) view) (ap (λ (v : View). v.acknowledged) view) ([], refl)
-      (λ was. let no : true ≡ false = sym was ∙ runs in absurd (cc))
-      (λ p events from has. taken_still p events (e ∷ []) from bytes old new has (ap (λ (v : View). v.recovered.confirmed) view) (represents p events has.represents))
-      (λ _. record { events = refl; view = view; fate = refl }))
+  -- and whatever fails
+  whatever_fails : (t : Fate → View → Transcript) (quit : Bool) (told : List Reply → List Reply → Type 0) (s u : Session D g) → (answers : Answers t quit told s u) → t (answers.piece.before (Some zero)) (view_of s) ≡ preceded_by answers.piece.replies answers.piece.accepted (ends quit u (Some zero))
+  whatever_fails t quit told s u answers = answers.goes_on tt (Some zero) (λ fails. refl)
 
-  -- OUTPUT
+  pub does_answered : (t : Fate → View → Transcript) (quit : Bool) (x y : List ℕ) (s u : Session D g) → ((f : Fate) → IsBeginningOf (t f (view_of s)).events (t None (view_of s)).events) → Answers t quit (Tells output_in (Some x) (Some y)) s u → Does (t None (view_of s)) x y s u
+  does_answered t quit x y s u few answers =
+      let piece = answers.piece in
+      let accepts = answers.piece.accepts in
+      record {
+        accepted = piece.accepted;
+        part = subst (λ (l : List Event). IsBeginningOf l (t None (view_of s)).events) (ap (λ (w : Transcript). w.events) (whatever_fails t quit (Tells output_in (Some x) (Some y)) s u answers) ∙ append-nil piece.accepted) (few (piece.before (Some zero)));
+        goes_on = λ honest p events from has. subst (λ (l : List ℕ). HasTaken p (events ++ piece.accepted) from l u) (taken_is x y piece.replies piece.tells) (answers.taken honest p events from x has);
+        acknowledged = accepts.acknowledged;
+        run = λ well.
+            let is = unfailed t quit (Tells output_in (Some x) (Some y)) s u answers well in
+            record {
+              events = sym (ap (λ (w : Transcript). w.events) is ∙ append-nil piece.accepted);
+              view = sym (ap (λ (w : Transcript). w.view) is);
+              fate = ap (λ (w : Transcript). w.fate) is;
+            };
+        after_failure = accepts.after_failure;
+        well = λ is. (accepts.well is).0;
+        failed = λ is. ⊎_elim (λ (was : _). inl was) (λ (grew : _). inr (some_failed (g.failures s.disk) (g.failures u.disk) grew)) (accepts.failed is);
+        honest = accepts.honest;
+        named_stop = accepts.named_stop;
+      }
 
-  -- what was taken, and the released output behind it
-  taken_on : (p : Program) (events : List Event) (from : ℕ) (bytes lent : List ℕ) (old : Session D g) → HasTaken p events from bytes old → lent ≡ drop old.progress.confirmed (output_after p (acknowledged_of events old)) → bytes ++ lent ≡ drop from (take old.released (output_after p events))
-  taken_on p events from bytes lent old has is =
-      let out = output_after p (acknowledged_of events old) in
-      let c = old.progress.confirmed in
-      let size : old.released ≡ length out = has.represents.released in
-      let le : c ≤ length out = omega (arith, size, old.released_from) in
-      let more = output_of (drop old.acknowledged events) (state_after p (take old.acknowledged events)) in
-      let whole : output_after p events ≡ out ++ more = output_all p events old has.represents in
-      let front : take c (output_after p events) ≡ take c out = ap (take c) whole ∙ take-append-le c out more le in
-      let all : take old.released (output_after p events) ≡ out = ap (take old.released) whole ∙ take_at out more old.released (sym size) in
-      let count : length (take c out) ≡ c = length-take-le c out le in
-      ap (λ (l : List ℕ). l ++ lent) (has.taken ∙ ap (drop from) front)
-      ∙ (ap (λ (l : List ℕ). drop from (take c out) ++ l) is
-      ∙ (sym (drop-append-le from (take c out) (drop c out) (omega (arith, count, has.start)))
-      ∙ (ap (drop from) (take-append-drop c out) ∙ ap (drop from) (sym all))))
+  -- whether a command is a quit
+  pub quit_answered : (command : Command) (quit : Bool) (told : List Reply → List Reply → Type 0) (s u : Session D g) → Answers (respond (Ok command)) quit told s u → quit ≡ (respond (Ok command) None (view_of s)).quit
+  quit_answered command quit told s u answers =
+      sym (ap (λ (w : Transcript). w.quit) (whatever_fails (respond (Ok command)) quit told s u answers)) ∙ quits_alike command (answers.piece.before (Some zero)) None (view_of s) (view_of s)
 
-  pub does_output : (bytes lent : List ℕ) (old mid new : Session D g) → view_of mid ≡ view_of old → mid.disk ≡ old.disk → view_of new ≡ confirmed_to (view_of mid) old.released → new.disk ≡ mid.disk
-      → ((p : Program) (events : List Event) → Represents p events mid → Represents p events new)
-      → ((p : Program) (events : List Event) → Represents p events old → lent ≡ drop old.progress.confirmed (output_after p (acknowledged_of events old)))
-      → Does (output None (view_of old)) bytes (bytes ++ lent) old new
-  does_output bytes lent old mid new kept disk view same represents is =
-      let view_now : view_of new ≡ confirmed_to (view_of old) old.released = view ∙ ap (λ (v : View). confirmed_to v old.released) kept in
-      let confirmed : new.progress.confirmed ≡ old.released = ap (λ (v : View). v.recovered.confirmed) view_now in
-      does_still (output None (view_of old)) [] bytes (bytes ++ lent) old new (same ∙ disk) (ap (λ (v : View). v.failed) view_now) (ap (λ (v : View). v.acknowledged) view_now) (nothing_begins []) (λ _. refl)
-      (λ p events from has. subst (λ (l : List Event). HasTaken p l from (bytes ++ lent) new) (sym (append-nil events)) (record {
-        represents = represents p events (represents_kept p events old has.represents mid kept disk);
-        start = omega (arith, has.start, confirmed, old.released_from);
-        taken = taken_on p events from bytes lent old has (is p events has.represents) ∙ ap (λ n. drop from (take n (output_after p events))) (sym confirmed);
-      }))
-      (λ _. record { events = refl; view = view_now; fate = refl })
+  -- a command leaves no released output where none was
+  pub confirmed_answered : (command : Command) (quit : Bool) (told : List Reply → List Reply → Type 0) (s u : Session D g) → Answers (respond (Ok command)) quit told s u → IsConfirmed s → IsConfirmed u
+  confirmed_answered command quit told s u answers was =
+      subst (λ (v : View). IsAllConfirmed v) (ap (λ (w : Transcript). w.view) (whatever_fails (respond (Ok command)) quit told s u answers)) (confirmed_respond command (answers.piece.before (Some zero)) (view_of s) was)
+
+  pub output_answered : (told : List Reply → List Reply → Type 0) (s u : Session D g) → Answers output false told s u → IsConfirmed u
+  output_answered told s u answers = subst (λ (v : View). IsAllConfirmed v) (ap (λ (w : Transcript). w.view) (whatever_fails output false told s u answers)) refl
 
   -- ONE PART AFTER ANOTHER
 
@@ -172,13 +145,3 @@ module _ {D : Type 0} {g : Ghosts D} where
     honest = λ is. first.honest (second.honest is);
     named_stop = second.named_stop ∙ first.named_stop;
   }
-
-  -- an event, and what follows unless it is refused
-  pub accepted_then : (e : Event) (more : Fate → View → Transcript) (x y z : List ℕ) (s m u : Session D g) → is_none (refusal_of (view_of s) e) ≡ true → Does (submit e None (view_of s)) x y s m → Does (more None (view_of m)) y z m u → Does (unless_refused None (view_of s) e (refusal_of (view_of s) e) more) x z s u
-  accepted_then e more x y z s m u accepted first second =
-      let is = is_none-true (refusal_of (view_of s) e) accepted in
-      subst (λ (t : Transcript). Does t x z s u) (sym (accepted_before None (view_of s) e (refusal_of (view_of s) e) more is))
-      (does_more (submit e None (view_of s)) more x y z s m u (submitted_goes_on None (view_of s) e (refusal_of (view_of s) e)) first second)
-
-  pub refused_then : (e : Event) (more : Fate → View → Transcript) (x y : List ℕ) (s m : Session D g) → is_none (refusal_of (view_of s) e) ≡ false → Does (submit e None (view_of s)) x y s m → Does (unless_refused None (view_of s) e (refusal_of (view_of s) e) more) x y s m
-  refused_then e more x y s m refused first = subst (λ (t : Transcript). Does t x y s m) (sym (refused_alone None (view_of s) e (refusal_of (view_of s) e) more refused)) first

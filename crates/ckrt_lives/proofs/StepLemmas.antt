@@ -5,7 +5,7 @@ use Rattle.ckrt_disk.specs.declared.disk.Disk.{Ghosts}
 use Rattle.ckrt_events.specs.declared.command.Command.{Command}
 use Rattle.ckrt_recovery.specs.declared.session.Session.{Session}
 use Rattle.ckrt_recovery.specs.View.{View, view_of}
-use Rattle.ckrt_recovery.specs.Transcript.{Transcript, respond}
+use Rattle.ckrt_commands.specs.Transcript.{Transcript, respond}
 use Rattle.ckrt_lives.specs.Commands.{respond_to}
 use Rattle.ckrt_lives.specs.Pieces.{Does}
 use Rattle.ckrt_lives.proofs.PieceLemmas.{does_more}

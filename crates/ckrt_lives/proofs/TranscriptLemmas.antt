@@ -1,59 +1,23 @@
 -- Transcripts of commands, one after another.
-use Rattle.std.proofs.Common.{◌≡◌, ℕ, zero, suc, ◌+◌, ◌-◌, ◌<◌, ◌≤◌, Bool, true, false, cond, List, [], ◌∷◌, ◌++◌, refl, sym, ◌∙◌, ap, arith, append-nil, append_assoc, length, Option, Some, None, Ok}
-use Rattle.std.specs.Prelude.{nat_lt, is_none, IfSome, ◌&&◌, ◌==◌}
+use Rattle.std.proofs.Common.{◌≡◌, ℕ, zero, suc, Bool, true, false, List, [], ◌∷◌, ◌++◌, refl, sym, ◌∙◌, ap, append-nil, append_assoc, length, Option, Some, None, Ok}
+use Rattle.std.specs.Prelude.{◌==◌}
 use Rattle.ckrt_events.specs.declared.command.Command.{Command}
 use Rattle.ckrt_events.specs.declared.command.Command.TheVariants.{Submit, Auto, Commit, Checkpoint, Quit, Blank}
 use Rattle.ckrt_events.specs.declared.event.Event.{Event}
 use Rattle.ckrt_events.specs.declared.event.Event.TheVariants.{Place, Run}
-use Rattle.ckrt_thread.specs.State as threads
-use Rattle.ckrt_state.specs.declared.table.Tables.{Tables}
 use Rattle.ckrt_machine.specs.Events.{planned}
-use Rattle.ckrt_machine.specs.Steps.{hart_of}
-use Rattle.ckrt_machine.specs.Runs.{is_running}
-use Rattle.ckrt_machine.specs.Plans.{ready_from, least_ready, or_else, or_zero, next_ready}
 use Rattle.ckrt_recovery.specs.declared.fault.CommitFault.{CommitFault}
 use Rattle.ckrt_recovery.specs.declared.fault.SubmitFault.{SubmitFault}
 use Rattle.ckrt_recovery.specs.Calls.{checkpoint_refusal}
 use Rattle.ckrt_recovery.specs.View.{View}
 use Rattle.ckrt_recovery.specs.View as view
-use Rattle.ckrt_recovery.specs.Replies.{Reply}
-use Rattle.ckrt_recovery.specs.Transcript.{Fate, Transcript, written, preceded_by, unless_quit, submitted, submit, followed_by, unless_refused, run_planned, by_fate, commit_by, saved, respond}
+use Rattle.ckrt_commands.specs.Replies.{Reply}
+use Rattle.ckrt_commands.specs.Transcript.{Fate, Transcript, written, preceded_by, unless_quit, submitted, submit, followed_by, unless_refused, run_planned, by_fate, commit_by, saved, respond}
 use Rattle.ckrt_lives.specs.Commands.{respond_to}
-
--- PLANNED THREADS
-
-ready_at : (c : Bool) (n t u : ℕ) (more : Option ℕ) → ((more ≡ Some u) → (t + 1 ≤ u) × (u < t + 1 + n)) → cond c (Some t) more ≡ Some u → (t ≤ u) × (u < t + suc n)
-ready_at true n t u more p h = let same : t ≡ u = cc in (omega arith, omega arith)
-ready_at false n t u more p h = let k = p h in (omega (arith, k.0), omega (arith, k.1))
-
-ready_in : (n t : ℕ) (s : threads.State) (u : ℕ) → ready_from n t s ≡ Some u → (t ≤ u) × (u < t + n)
-ready_in zero t s u h = cc
-ready_in (suc n) t s u h = ready_at (threads.is_ready s t) n t u (ready_from n (t + 1) s) (λ (p : _). ready_in n (t + 1) s u p) h
-
-least_in : (t : ℕ) (s : threads.State) (u : ℕ) → 1 ≤ t → least_ready t s ≡ Some u → (1 ≤ u) × (u ≤ 64)
-least_in t s u le h = let k = ready_in (65 - t) t s u h in (omega (arith, k.0), omega (arith, k.0, k.1))
-
-either_in : (a b : Option ℕ) (u : ℕ) → ((a ≡ Some u) → (1 ≤ u) × (u ≤ 64)) → ((b ≡ Some u) → (1 ≤ u) × (u ≤ 64)) → or_else a b ≡ Some u → (1 ≤ u) × (u ≤ 64)
-either_in None b u p q h = q h
-either_in (Some x) b u p q h = p h
-
-guarded_in : (c : Bool) (o : Option ℕ) (u : ℕ) → ((o ≡ Some u) → (1 ≤ u) × (u ≤ 64)) → cond c o None ≡ Some u → (1 ≤ u) × (u ≤ 64)
-guarded_in true o u p h = p h
-guarded_in false o u p h = cc
-
-next_in : (h : ℕ) (s : Tables) (u : ℕ) → next_ready h s ≡ Some u → (1 ≤ u) × (u ≤ 64)
-next_in h s u e = either_in (least_ready (or_zero (hart_of s h) + 1) s.threads) (least_ready 1 s.threads) u (λ (p : _). least_in (or_zero (hart_of s h) + 1) s.threads u (omega arith) p) (λ (p : _). least_in 1 s.threads u (omega arith) p) e
-
-some_in : (o : Option ℕ) → ((u : ℕ) → o ≡ Some u → (1 ≤ u) × (u ≤ 64)) → IfSome o (λ u. (1 ≤ u) × (u ≤ 64))
-some_in None p = tt
-some_in (Some u) p = p u refl
-
-pub planned_in_range : (h : ℕ) (s : Tables) → IfSome (planned h s) (λ t. (1 ≤ t) × (t ≤ 64))
-planned_in_range h s = some_in (planned h s) (λ u e. guarded_in (is_running s.status && nat_lt h s.threads.hart_count) (next_ready h s) u (λ (p : _). next_in h s u p) e)
 
 -- EVENTS ONE AFTER ANOTHER
 
-pub submitted_goes_on : (f : Fate) (v : View) (e : Event) (o : Option SubmitFault) → (submitted f v e o).quit ≡ false
+submitted_goes_on : (f : Fate) (v : View) (e : Event) (o : Option SubmitFault) → (submitted f v e o).quit ≡ false
 submitted_goes_on f v e None = refl
 submitted_goes_on f v e (Some why) = refl
 
@@ -61,19 +25,9 @@ unless_refused_goes_on : (f : Fate) (v : View) (e : Event) (o : Option SubmitFau
 unless_refused_goes_on f v e None more h = h f (submitted f v e None).view
 unless_refused_goes_on f v e (Some why) more h = refl
 
-pub planned_goes_on : (o : Option ℕ) (h n : ℕ) (f : Fate) (v : View) → (run_planned o h n f v).quit ≡ false
+planned_goes_on : (o : Option ℕ) (h n : ℕ) (f : Fate) (v : View) → (run_planned o h n f v).quit ≡ false
 planned_goes_on None h n f v = submitted_goes_on f v (Run h n) (view.refusal_of v (Run h n))
 planned_goes_on (Some t) h n f v = unless_refused_goes_on f v (Place h t) (view.refusal_of v (Place h t)) (submit (Run h n)) (λ k w. submitted_goes_on k w (Run h n) (view.refusal_of w (Run h n)))
-
--- a refused event is all
-pub refused_alone : (f : Fate) (v : View) (e : Event) (o : Option SubmitFault) (more : Fate → View → Transcript) → is_none o ≡ false → unless_refused f v e o more ≡ submitted f v e o
-refused_alone f v e None more h = cc
-refused_alone f v e (Some why) more h = refl
-
--- an accepted event goes before what follows
-pub accepted_before : (f : Fate) (v : View) (e : Event) (o : Option SubmitFault) (more : Fate → View → Transcript) → o ≡ None → unless_refused f v e o more ≡ followed_by (submitted f v e o) more
-accepted_before f v e None more h = refl
-accepted_before f v e (Some why) more h = cc
 
 -- commits and checkpoints don't quit
 by_fate_goes_on : (f : Fate) (v w : View) → (by_fate f v w).quit ≡ false
@@ -148,3 +102,44 @@ followed_quit t more e = ap (λ (q : Bool). (preceded_by t.replies t.events (unl
 pub respond_to-push_quit : (commands : List Command) (last : Command) (f k : Fate) (v w : View) → (respond_to commands f v).quit ≡ false → (respond_to (commands ++ last ∷ []) f v).quit ≡ (respond (Ok last) k w).quit
 respond_to-push_quit commands last f k v w is =
     ap (λ (t : Transcript). t.quit) (respond_to-push commands last f v) ∙ (followed_quit (respond_to commands f v) (respond (Ok last)) is ∙ quits_alike last (respond_to commands f v).fate k (respond_to commands f v).view w)
+
+-- NO RELEASED OUTPUT IS LEFT
+
+-- all released output is confirmed
+abbrev pub IsAllConfirmed : View → Type 0
+IsAllConfirmed v = v.recovered.confirmed ≡ v.released
+
+confirmed_submitted : (f : Fate) (v : View) (e : Event) (o : Option SubmitFault) → IsAllConfirmed v → IsAllConfirmed (submitted f v e o).view
+confirmed_submitted f v e None was = was
+confirmed_submitted f v e (Some why) was = was
+
+confirmed_unless_refused : (f : Fate) (v : View) (e next : Event) (o : Option SubmitFault) → IsAllConfirmed v → IsAllConfirmed (unless_refused f v e o (submit next)).view
+confirmed_unless_refused f v e next None was = let w = (submitted f v e None).view in confirmed_submitted f w next (view.refusal_of w next) was
+confirmed_unless_refused f v e next (Some why) was = was
+
+confirmed_planned : (o : Option ℕ) (h n : ℕ) (f : Fate) (v : View) → IsAllConfirmed v → IsAllConfirmed (run_planned o h n f v).view
+confirmed_planned None h n f v was = confirmed_submitted f v (Run h n) (view.refusal_of v (Run h n)) was
+confirmed_planned (Some t) h n f v was = confirmed_unless_refused f v (Place h t) (Run h n) (view.refusal_of v (Place h t)) was
+
+-- an acknowledgement confirms all that it releases
+confirmed_by_fate : (f : Fate) (v w : View) → IsAllConfirmed v → IsAllConfirmed (by_fate f v w).view
+confirmed_by_fate None v w was = refl
+confirmed_by_fate (Some zero) v w was = was
+confirmed_by_fate (Some (suc n)) v w was = refl
+
+confirmed_commit : (has_failed is_idle : Bool) (f : Fate) (v : View) → IsAllConfirmed v → IsAllConfirmed (commit_by has_failed is_idle f v).view
+confirmed_commit true is_idle f v was = was
+confirmed_commit false true f v was = refl
+confirmed_commit false false f v was = confirmed_by_fate f v (view.committed v) was
+
+confirmed_saved : (o : Option CommitFault) (f : Fate) (v : View) → IsAllConfirmed v → IsAllConfirmed (saved o f v).view
+confirmed_saved None f v was = confirmed_by_fate f v (view.checkpointed v) was
+confirmed_saved (Some why) f v was = was
+
+pub confirmed_respond : (command : Command) (f : Fate) (v : View) → IsAllConfirmed v → IsAllConfirmed (respond (Ok command) f v).view
+confirmed_respond (Submit e) f v was = confirmed_submitted f v e (view.refusal_of v e) was
+confirmed_respond (Auto h n) f v was = confirmed_planned (planned h v.recovered.state.tables) h n f v was
+confirmed_respond Commit f v was = confirmed_commit v.failed (length v.pending == 0) f v was
+confirmed_respond Checkpoint f v was = confirmed_saved (checkpoint_refusal v) f v was
+confirmed_respond Quit f v was = was
+confirmed_respond Blank f v was = was

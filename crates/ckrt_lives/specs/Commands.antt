@@ -2,7 +2,7 @@
 use Rattle.std.specs.Prelude.{List, [], ◌∷◌, None, Ok}
 use Rattle.ckrt_events.specs.declared.command.Command.{Command}
 use Rattle.ckrt_recovery.specs.View.{View}
-use Rattle.ckrt_recovery.specs.Transcript.{Fate, Transcript, written, followed_by, output, respond}
+use Rattle.ckrt_commands.specs.Transcript.{Fate, Transcript, written, followed_by, output, respond}
 
 -- what the commands get, up to a quit
 abbrev pub respond_to : List Command → Fate → View → Transcript

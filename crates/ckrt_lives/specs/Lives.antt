@@ -6,7 +6,7 @@ use Rattle.ckrt_image.specs.Programs.{RecoversToStart, Program, RecoversTo, outp
 use Rattle.ckrt_image.specs.Recovery.{Recovered, Recovers}
 use Rattle.ckrt_recovery.specs.Between.{IsBeginningOf}
 use Rattle.ckrt_recovery.specs.View.{View, opened}
-use Rattle.ckrt_recovery.specs.Transcript.{Transcript}
+use Rattle.ckrt_commands.specs.Transcript.{Transcript}
 use Rattle.ckrt_lives.specs.declared.life.Life.{Life}
 use Rattle.ckrt_lives.specs.declared.life.LifeReport.{LifeReport}
 use Rattle.ckrt_lives.specs.Commands.{commands_of_life}

@@ -7,18 +7,13 @@ use Rattle.ckrt_image.specs.Programs.{Program, RecoversTo, output_after}
 use Rattle.ckrt_recovery.specs.declared.session.Session.{Session}
 use Rattle.ckrt_recovery.specs.Represents.{Represents, RecoversToEither}
 use Rattle.ckrt_recovery.specs.View.{View, view_of}
-use Rattle.ckrt_recovery.specs.Transcript.{Transcript}
+use Rattle.ckrt_commands.specs.Transcript.{Transcript}
 use Rattle.ckrt_lives.specs.declared.life.LifeReport.{LifeReport}
+use Rattle.ckrt_commands.specs.Pieces.{HasTaken}
 use Rattle.ckrt_lives.specs.Commands.{commands_of_life}
 use Rattle.ckrt_lives.specs.declared.life.Life.{Life}
 use Rattle.ckrt_recovery.specs.Between.{IsBeginningOf}
 use Rattle.ckrt_lives.specs.Lives.{AreLivesFrom}
-
--- The session represents these events, and of their output the bytes from an offset up to the confirmed one were taken.
-pub record HasTaken {D : Type 0} {g : Ghosts D} (p : Program) (events : List Event) (from : ℕ) (bytes : List ℕ) (s : Session D g) : Type 0 where
-  pub represents : Represents p events s
-  pub start : from ≤ s.progress.confirmed
-  pub taken : bytes ≡ drop from (take s.progress.confirmed (output_after p events))
 
 -- the session took all events of a transcript, and is the one that it leaves
 pub record IsWhole (t : Transcript) (accepted : List Event) (v : View) : Type 0 where

@@ -84,11 +84,12 @@ fn word_to_store(draws: &mut Draws) -> u32 {
     }
 }
 
-/// Two memories in which one guest stands.
+/// Two memories in which one guest stands, and where it was put last: the guest or a routine among its words.
 #[derive(Drop)]
 struct Twins {
     memory: Memory,
     other: Memory,
+    last: u32,
 }
 
 impl Twins {
@@ -107,6 +108,7 @@ impl Twins {
     /// Puts a guest from an address on, with some words of a routine among its own.
     fn put<R: Abort>(&mut self, rt: &R, draws: &mut Draws, at: u32) {
         self.clear(rt);
+        self.last = at;
         for place in 0..WORDS {
             self.store(rt, at.wrapping_add(4 * place), word(draws));
         }
@@ -123,6 +125,7 @@ impl Twins {
             DIVIDE
         };
         let mut address = at.wrapping_add(4 * draws.below(WORDS));
+        self.last = address;
         for word in routine {
             self.store(rt, address, *word);
             address = address.wrapping_add(4);
@@ -134,9 +137,9 @@ impl Twins {
     }
 }
 
-/// The registers with which a guest at an address begins.
-fn registers(draws: &mut Draws, at: u32) -> Regs {
-    let mut regs = Regs::new(at);
+/// The registers with which a guest at an address begins, there or where something was put last.
+fn registers(draws: &mut Draws, at: u32, last: u32) -> Regs {
+    let mut regs = Regs::new(if draws.below(2) == 0 { at } else { last });
     for register in 5..14 {
         let number = scrambled(draws.below(u32::MAX));
         regs.put(register, number >> draws.below(32));
@@ -148,17 +151,19 @@ fn registers(draws: &mut Draws, at: u32) -> Regs {
     regs
 }
 
-/// One guest: in the first page, or so that its words end with the memory, or begun within it.
+/// One guest, in the first page, or so that its words end with the memory: run five times, as it has left itself.
 fn expect_drawn<R: Abort>(rt: &R, twins: &mut Twins, number: u32) {
     let mut draws = Draws {
         number: scrambled(number),
     };
     let at = if draws.below(4) == 0 { 0xff00 } else { 0x1000 };
     twins.put(rt, &mut draws, at);
-    let regs = registers(&mut draws, at);
-    let budget = [1, 2, 3, 7, 64, 300, 1_000][draws.below(7) as usize];
-    expect_same(rt, (&mut twins.memory, &mut twins.other), regs, budget);
-    expect_same_pages(rt, &twins.memory, &twins.other);
+    for _ in 0..5 {
+        let regs = registers(&mut draws, at, twins.last);
+        let budget = [1, 2, 3, 7, 64, 300, 1_000][draws.below(7) as usize];
+        expect_same(rt, (&mut twins.memory, &mut twins.other), regs, budget);
+        expect_same_pages(rt, &twins.memory, &twins.other);
+    }
 }
 
 #[test]
@@ -166,6 +171,7 @@ fn drawn_guests_in_bursts(rt: HostRuntime) {
     let mut twins = Twins {
         memory: new_memory(&rt),
         other: new_memory(&rt),
+        last: 0,
     };
     for number in 0..3_000 {
         expect_drawn(&rt, &mut twins, number);

@@ -14,9 +14,9 @@ use Rattle.ckrt_image.specs.Recovery.{AgreesOnFault, Recovered, Recovers}
 use Rattle.ckrt_image.specs.Programs.{Program, formatted, formatted_program}
 use Rattle.ckrt_image.proofs.RecoverLemmas.{recovered_once, recovers_once}
 use Rattle.ckrt_recovery.specs.View.{View, view_of, opened, fresh}
-use Rattle.ckrt_recovery.specs.Transcript.{transcript, view_after}
+use Rattle.ckrt_commands.specs.Transcript.{transcript, view_after}
 use Rattle.ckrt_main.specs.Service.{Processes, Served, ServedPart, Shows}
-use Rattle.ckrt_main.proofs.OutputLemmas.{Appends-nothing}
+use Rattle.ckrt_commands.proofs.WriteLemmas.{Appends-nothing}
 use Rattle.ckrt_main.proofs.ProcessLemmas.{consumes_nothing}
 
 -- a session that was opened over such a disk

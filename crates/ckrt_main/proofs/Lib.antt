@@ -1,12 +1,6 @@
 pub mod OutputLemmas
-pub mod ReplyLemmas
-pub mod AcceptLemmas
-pub mod PieceLemmas
-pub mod ResponseLemmas
 pub mod LineLemmas
-pub mod FateLemmas
 pub mod ProcessLemmas
-pub mod EventLemmas
 pub mod FreshLemmas
 pub mod FoldLemmas
 pub mod AlikeLemmas

@@ -9,16 +9,19 @@ use Rattle.ckrt_events.specs.declared.event.Event.{Event}
 use Rattle.ckrt_events.specs.Line.{command_of}
 use Rattle.ckrt_recovery.specs.declared.session.Session.{Session}
 use Rattle.ckrt_recovery.specs.Between.{IsBeginningOf}
-use Rattle.ckrt_recovery.specs.Replies.{Reply, text_of}
+use Rattle.ckrt_commands.specs.Replies.{Reply, line_of, text_of}
 use Rattle.ckrt_recovery.specs.View.{View, view_of}
-use Rattle.ckrt_recovery.specs.Transcript.{Fate, Transcript, transcript, preceded_by, view_after, unless_quit, followed_by, respond, respond_all, output}
-use Rattle.ckrt_main.specs.Service.{Accepts, Piece, Suits, Responds, Interrupted, Answers, BreaksOff, ends, rest_of, lines_behind, is_open, Shows, Served, Processed, ProcessedPart, ProcessedSoFar, Processes, Completes}
+use Rattle.ckrt_commands.specs.Transcript.{Fate, Transcript, transcript, preceded_by, view_after, unless_quit, followed_by, respond, respond_all, output}
+use Rattle.ckrt_main.specs.Service.{Writes, rest_of, lines_behind, is_open, Shows, Served, Processed, ProcessedPart, ProcessedSoFar, Processes, Completes}
+use Rattle.ckrt_commands.specs.Pieces.{Piece, Suits, Responds, Interrupted, Answers, BreaksOff, ends}
+use Rattle.ckrt_commands.specs.Accepts.{Accepts}
 use Rattle.ckrt_main.proofs.OutputLemmas.{Consumes-append}
-use Rattle.ckrt_main.proofs.AcceptLemmas.{since_start, still_runs}
-use Rattle.ckrt_main.proofs.FateLemmas.{events_of_fate}
+use Rattle.ckrt_commands.proofs.AcceptLemmas.{since_start, still_runs}
+use Rattle.ckrt_commands.proofs.FateLemmas.{events_of_fate}
 use Rattle.ckrt_main.proofs.LineLemmas.{respond-newline, respond-last, respond-full, nothing_more}
-use Rattle.ckrt_main.proofs.PieceLemmas.{responds_then, interrupted_then, responds_as, interrupted_as, silent, answers_followed, broken_followed}
-use Rattle.ckrt_main.proofs.ReplyLemmas.{begins_through, begins_more}
+use Rattle.ckrt_commands.proofs.TellLemmas.{told_whole}
+use Rattle.ckrt_commands.proofs.PieceLemmas.{responds_then, interrupted_then, responds_as, interrupted_as, silent, answers_followed, broken_followed}
+use Rattle.ckrt_commands.proofs.ReplyLemmas.{begins_through, begins_more}
 
 pub consumes_nothing : (r : Option (List ℕ)) → Consumes r r []
 consumes_nothing None = tt
@@ -64,13 +67,13 @@ module _ {D : Type 0} {g : Ghosts D} where
   -- A LINE FEED, ANOTHER BYTE, NO BYTE
 
   pub processed_newline : (a b : Option (List ℕ)) (line : List ℕ) (old new : Session D g) (quit : Bool) → is_open line ≡ true
-      → Answers (respond (command_of (strip_carriage_return line))) quit a b old new → Processed a b line (10 ∷ []) old new [] quit
+      → Answers (respond (command_of (strip_carriage_return line))) quit (Writes a b) old new → Processed a b line (10 ∷ []) old new [] quit
   processed_newline a b line old new quit o h = responds_as (λ (more : List ℕ). more) (lines_behind old line (10 ∷ [])) (rest_of quit new [])
       (λ more f. followed_by (respond (command_of (strip_carriage_return line)) f (view_of old)) (respond_all (lines more))) (λ more f. unless_quit quit f (view_of new) (respond_all (lines more))) a b old new
       (λ more f. respond-newline f (view_of old) line more o) (λ more f. refl)
       (answers_followed (respond (command_of (strip_carriage_return line))) (λ (more : List ℕ). respond_all (lines more)) quit a b old new h)
 
-  pub processed_newline_part : (a b : Option (List ℕ)) (line : List ℕ) (old new : Session D g) → is_open line ≡ true → BreaksOff (respond (command_of (strip_carriage_return line))) a b old new → ProcessedPart a b line (10 ∷ []) old new
+  pub processed_newline_part : (a b : Option (List ℕ)) (line : List ℕ) (old new : Session D g) → is_open line ≡ true → BreaksOff (respond (command_of (strip_carriage_return line))) (Writes a b) old new → ProcessedPart a b line (10 ∷ []) old new
   processed_newline_part a b line old new o h = interrupted_as (λ (more : List ℕ). more) (lines_behind old line (10 ∷ []))
       (λ more f. followed_by (respond (command_of (strip_carriage_return line)) f (view_of old)) (respond_all (lines more))) a b old new
       (λ more f. respond-newline f (view_of old) line more o)
@@ -109,13 +112,13 @@ module _ {D : Type 0} {g : Ghosts D} where
 
   -- THE LAST LINE
 
-  pub answers_last : (a b : Option (List ℕ)) (line : List ℕ) (old new : Session D g) (quit : Bool) → is_open line ≡ true → length line ≢ 0 → Answers (respond (command_of line)) quit a b old new → Answers (respond_all (lines line)) quit a b old new
+  pub answers_last : (a b : Option (List ℕ)) (line : List ℕ) (old new : Session D g) (quit : Bool) → is_open line ≡ true → length line ≢ 0 → Answers (respond (command_of line)) quit (Writes a b) old new → Answers (respond_all (lines line)) quit (Writes a b) old new
   answers_last a b line old new quit o some h = responds_as (λ (i : Unit {0}). i) (λ _ f. respond_all (lines line) f (view_of old)) (λ _ f. ends quit new f)
       (λ _ f. followed_by (respond (command_of line) f (view_of old)) (respond_all [])) (λ _ f. unless_quit quit f (view_of new) (respond_all [])) a b old new
       (λ _ f. respond-last f (view_of old) line o some) (λ _ f. nothing_more quit f (view_of new))
       (answers_followed (respond (command_of line)) (λ (_ : Unit {0}). respond_all []) quit a b old new h)
 
-  pub broken_last : (a b : Option (List ℕ)) (line : List ℕ) (old new : Session D g) → is_open line ≡ true → length line ≢ 0 → BreaksOff (respond (command_of line)) a b old new → BreaksOff (respond_all (lines line)) a b old new
+  pub broken_last : (a b : Option (List ℕ)) (line : List ℕ) (old new : Session D g) → is_open line ≡ true → length line ≢ 0 → BreaksOff (respond (command_of line)) (Writes a b) old new → BreaksOff (respond_all (lines line)) (Writes a b) old new
   broken_last a b line old new o some h = interrupted_as (λ (i : Unit {0}). i) (λ _ f. respond_all (lines line) f (view_of old))
       (λ _ f. followed_by (respond (command_of line) f (view_of old)) (respond_all [])) a b old new
       (λ _ f. respond-last f (view_of old) line o some)
@@ -123,7 +126,7 @@ module _ {D : Type 0} {g : Ghosts D} where
 
   -- ALL BYTES SO FAR
 
-  pub so_far_start : (a b r : Option (List ℕ)) (old new : Session D g) → Answers output false a b old new → ProcessedSoFar a b r r old new [] false
+  pub so_far_start : (a b r : Option (List ℕ)) (old new : Session D g) → Answers output false (Writes a b) old new → ProcessedSoFar a b r r old new [] false
   so_far_start a b r old new h = record {
     read = [];
     consumed = consumes_nothing r;
@@ -153,8 +156,8 @@ module _ {D : Type 0} {g : Ghosts D} where
   no_further old read f = ap (λ (l : List ℕ). transcript f (view_of old) l) (sym (append-nil read))
 
   -- all was read, and the last line was answered
-  pub all_at_end : (a b c r s : Option (List ℕ)) (old mid new : Session D g) (rest : List ℕ) (quit : Bool) (first : ProcessedSoFar a b r s old mid rest false) → Answers (respond_all (lines rest)) quit b c mid new
-      → Responds (λ (_ : Unit {0}) f. transcript f (view_of old) first.read) (λ _ f. ends quit new f) a c old new
+  pub all_at_end : (a b c r s : Option (List ℕ)) (old mid new : Session D g) (rest : List ℕ) (quit : Bool) (first : ProcessedSoFar a b r s old mid rest false) → Answers (respond_all (lines rest)) quit (Writes b c) mid new
+      → Responds (λ (_ : Unit {0}) f. transcript f (view_of old) first.read) (λ _ f. ends quit new f) (Writes a c) old new
   all_at_end a b c r s old mid new rest quit first second =
       let read = first.read in
       responds_then from_all (λ _ f. transcript f (view_of old) read) (λ more f. transcript f (view_of old) (read ++ more)) (rest_of false mid rest) (λ _ f. ends quit new f) a b c old mid new
@@ -162,8 +165,8 @@ module _ {D : Type 0} {g : Ghosts D} where
       (responds_as (λ (i : Unit {0}). i) (λ _ f. rest_of false mid rest [] f) (λ _ f. ends quit new f) (λ _ f. respond_all (lines rest) f (view_of mid)) (λ _ f. ends quit new f) b c mid new
       (λ _ f. ap (λ (l : List ℕ). respond_all (lines l) f (view_of mid)) (append-nil rest)) (λ _ f. refl) second)
 
-  pub part_at_end : (a b c r s : Option (List ℕ)) (old mid new : Session D g) (rest : List ℕ) (first : ProcessedSoFar a b r s old mid rest false) → BreaksOff (respond_all (lines rest)) b c mid new
-      → Interrupted (λ (_ : Unit {0}) f. transcript f (view_of old) first.read) a c old new
+  pub part_at_end : (a b c r s : Option (List ℕ)) (old mid new : Session D g) (rest : List ℕ) (first : ProcessedSoFar a b r s old mid rest false) → BreaksOff (respond_all (lines rest)) (Writes b c) mid new
+      → Interrupted (λ (_ : Unit {0}) f. transcript f (view_of old) first.read) (Writes a c) old new
   part_at_end a b c r s old mid new rest first second =
       let read = first.read in
       interrupted_then from_all (λ _ f. transcript f (view_of old) read) (λ more f. transcript f (view_of old) (read ++ more)) (rest_of false mid rest) a b c old mid new
@@ -172,16 +175,15 @@ module _ {D : Type 0} {g : Ghosts D} where
       (λ _ f. ap (λ (l : List ℕ). respond_all (lines l) f (view_of mid)) (append-nil rest)) second)
 
   -- a line quit ended it
-  pub all_at_quit : (a b r s : Option (List ℕ)) (old new : Session D g) (rest : List ℕ) (h : ProcessedSoFar a b r s old new rest true) → Responds (λ (_ : Unit {0}) f. transcript f (view_of old) h.read) (λ _ f. ends true new f) a b old new
+  pub all_at_quit : (a b r s : Option (List ℕ)) (old new : Session D g) (rest : List ℕ) (h : ProcessedSoFar a b r s old new rest true) → Responds (λ (_ : Unit {0}) f. transcript f (view_of old) h.read) (λ _ f. ends true new f) (Writes a b) old new
   all_at_quit a b r s old new rest h = responds_as from_all (λ _ f. transcript f (view_of old) h.read) (λ _ f. ends true new f) (λ more f. transcript f (view_of old) (h.read ++ more)) (rest_of true new rest) a b old new
       (λ _ f. no_further old h.read f) (λ _ f. refl) h.responds
 
   -- a fault ended it between two pieces
-  pub part_so_far : (a b r s : Option (List ℕ)) (old new : Session D g) (rest : List ℕ) (h : ProcessedSoFar a b r s old new rest false) → Interrupted (λ (_ : Unit {0}) f. transcript f (view_of old) h.read) a b old new
+  pub part_so_far : (a b r s : Option (List ℕ)) (old new : Session D g) (rest : List ℕ) (h : ProcessedSoFar a b r s old new rest false) → Interrupted (λ (_ : Unit {0}) f. transcript f (view_of old) h.read) (Writes a b) old new
   part_so_far a b r s old new rest h = record {
     broken = [];
     one = omega arith;
-    part = [];
     piece = h.responds.piece;
     among = λ i f suits.
         let e = no_further old h.read (h.responds.piece.before f) ∙ h.responds.goes_on [] f suits in
@@ -192,11 +194,11 @@ module _ {D : Type 0} {g : Ghosts D} where
   }
 
   -- the output before the first line was broken off
-  pub part_at_start : (a b : Option (List ℕ)) (old new : Session D g) → BreaksOff output a b old new → Interrupted (λ (_ : Unit {0}) f. transcript f (view_of old) []) a b old new
+  pub part_at_start : (a b : Option (List ℕ)) (old new : Session D g) → BreaksOff output (Writes a b) old new → Interrupted (λ (_ : Unit {0}) f. transcript f (view_of old) []) (Writes a b) old new
   part_at_start a b old new h = broken_followed output (λ (_ : Unit {0}). respond_all (lines [])) a b old new h
 
   pub part_more : (a b c r s t : Option (List ℕ)) (old mid new : Session D g) (rest x : List ℕ) (first : ProcessedSoFar a b r s old mid rest false) → Consumes s t x → ProcessedPart b c rest x mid new
-      → Interrupted (λ (_ : Unit {0}) f. transcript f (view_of old) (first.read ++ x)) a c old new
+      → Interrupted (λ (_ : Unit {0}) f. transcript f (view_of old) (first.read ++ x)) (Writes a c) old new
   part_more a b c r s t old mid new rest x first got second =
       let read = first.read in
       interrupted_as from_all (λ _ f. transcript f (view_of old) (read ++ x)) (λ more f. transcript f (view_of old) ((read ++ x) ++ more)) a c old new
@@ -205,18 +207,17 @@ module _ {D : Type 0} {g : Ghosts D} where
       (λ more f. further old read x more f) first.responds second)
 
   -- a whole piece is one that nothing follows
-  whole_part : (t : Fate → Transcript) (quit : Bool) (a b : Option (List ℕ)) (old new : Session D g) → Responds (λ (_ : Unit {0}) f. t f) (λ _ f. ends quit new f) a b old new → Interrupted (λ (_ : Unit {0}) f. t f) a b old new
+  whole_part : (t : Fate → Transcript) (quit : Bool) (a b : Option (List ℕ)) (old new : Session D g) → Responds (λ (_ : Unit {0}) f. t f) (λ _ f. ends quit new f) (Writes a b) old new → Interrupted (λ (_ : Unit {0}) f. t f) (Writes a b) old new
   whole_part t quit a b old new h = record {
     broken = [];
     one = omega arith;
-    part = [];
     piece = h.piece;
     among = λ i f suits. ([], ap (λ (x : Transcript). x.replies) (h.goes_on tt f suits) ∙ ap (λ (l : List Reply). l ++ []) (sym (append-nil h.piece.replies)));
     some = λ i f suits. ([], ap (λ (x : Transcript). x.events) (h.goes_on tt f suits));
   }
 
   module _ (law : (disk : D) (image : List ℕ) → g.is_honest disk → g.left_since disk (g.moment disk) image → IsImage (g.content disk) (g.pending disk) image) where
-    pub processes : (a b r s : Option (List ℕ)) (old new : Session D g) (read : List ℕ) → Consumes r s read → Interrupted (λ (_ : Unit {0}) f. transcript f (view_of old) read) a b old new → Processes a b r s old new
+    pub processes : (a b r s : Option (List ℕ)) (old new : Session D g) (read : List ℕ) → Consumes r s read → Interrupted (λ (_ : Unit {0}) f. transcript f (view_of old) read) (Writes a b) old new → Processes a b r s old new
     processes a b r s old new read consumed h =
         let piece = h.piece in
         let left : Fate = left_of new.failed in
@@ -227,7 +228,7 @@ module _ {D : Type 0} {g : Ghosts D} where
           consumed = consumed;
           fate = piece.before left;
           fated = fated_by new.failed new piece.before refl piece.kept;
-          shows = record { replies = piece.replies; broken = h.broken; one = h.one; part = h.part; written = piece.written; begun = piece.begun; among = h.among tt left suits };
+          shows = record { replies = piece.replies; broken = h.broken; one = h.one; part = piece.tells.part; written = piece.tells.written; begun = piece.tells.begun; among = h.among tt left suits };
           acks = piece.acks;
           confirmed = piece.confirmed;
           accepted = piece.accepted;
@@ -239,10 +240,10 @@ module _ {D : Type 0} {g : Ghosts D} where
           since_start = since_start law piece.accepted old new piece.accepts;
         }
 
-    pub processes_whole : (a b r s : Option (List ℕ)) (old new : Session D g) (read : List ℕ) (quit : Bool) → Consumes r s read → Responds (λ (_ : Unit {0}) f. transcript f (view_of old) read) (λ _ f. ends quit new f) a b old new → Processes a b r s old new
+    pub processes_whole : (a b r s : Option (List ℕ)) (old new : Session D g) (read : List ℕ) (quit : Bool) → Consumes r s read → Responds (λ (_ : Unit {0}) f. transcript f (view_of old) read) (λ _ f. ends quit new f) (Writes a b) old new → Processes a b r s old new
     processes_whole a b r s old new read quit consumed h = processes a b r s old new read consumed (whole_part (λ f. transcript f (view_of old) read) quit a b old new h)
 
-  pub completes : (a b r s : Option (List ℕ)) (old new : Session D g) (read : List ℕ) (quit : Bool) → Consumes r s read → IsAtEnd s ⊎ (quit ≡ true) → Responds (λ (_ : Unit {0}) f. transcript f (view_of old) read) (λ _ f. ends quit new f) a b old new → Completes a b r s old new
+  pub completes : (a b r s : Option (List ℕ)) (old new : Session D g) (read : List ℕ) (quit : Bool) → Consumes r s read → IsAtEnd s ⊎ (quit ≡ true) → Responds (λ (_ : Unit {0}) f. transcript f (view_of old) read) (λ _ f. ends quit new f) (Writes a b) old new → Completes a b r s old new
   completes a b r s old new read quit consumed ended h =
       let piece = h.piece in
       let left : Fate = left_of new.failed in
@@ -255,7 +256,7 @@ module _ {D : Type 0} {g : Ghosts D} where
         fate = piece.before left;
         fated = fated_by new.failed new piece.before refl piece.kept;
         ended = ⊎_elim (λ (end : _). inl end) (λ (is : _). inr (ap (λ (t : Transcript). t.quit) e ∙ is)) ended;
-        written = subst (λ (l : List Reply). Appends a b (text_of l)) (sym replies) (subst (Appends a b) (append-nil (text_of piece.replies)) piece.written);
+        written = subst (λ (l : List Reply). Appends a b (text_of l)) (sym replies) (told_whole line_of a b piece.replies piece.tells);
         view = sym (ap (λ (t : Transcript). t.view) e);
         accepts = subst (λ (l : List Event). Accepts l old new) (sym events) piece.accepts;
       }

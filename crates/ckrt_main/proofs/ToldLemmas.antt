@@ -8,14 +8,15 @@ use Rattle.ckrt_events.specs.declared.event.Event.{Event}
 use Rattle.ckrt_image.specs.Programs.{Program}
 use Rattle.ckrt_recovery.specs.declared.session.Session.{Session}
 use Rattle.ckrt_recovery.specs.Between.{IsBeginningOf, RecoversBetween, StandsIn}
-use Rattle.ckrt_recovery.specs.Replies.{acks_of}
+use Rattle.ckrt_commands.specs.Replies.{acks_of}
 use Rattle.ckrt_recovery.specs.Represents.{Represents, acknowledged_of}
 use Rattle.ckrt_recovery.specs.View.{view_of}
-use Rattle.ckrt_main.specs.Service.{Accepts, Processes}
+use Rattle.ckrt_main.specs.Service.{Processes}
+use Rattle.ckrt_commands.specs.Accepts.{Accepts}
 use Rattle.ckrt_main.specs.Told.{AcksAreDurable, LinesAgree}
 use Rattle.ckrt_main.specs.Alike.{IsAlike}
-use Rattle.ckrt_main.proofs.AcceptLemmas.{between_more, since_start, take_begins}
-use Rattle.ckrt_main.proofs.ReplyLemmas.{all_weaker, begins_itself}
+use Rattle.ckrt_commands.proofs.AcceptLemmas.{between_more, since_start, take_begins}
+use Rattle.ckrt_commands.proofs.ReplyLemmas.{all_weaker, begins_itself}
 
 fewer_taken : (n m : ℕ) (xs : List Event) → n ≤ m → IsBeginningOf (take n xs) (take m xs)
 fewer_taken n m xs le = subst (λ (l : List Event). IsBeginningOf l (take m xs)) (take-take n m xs le) (take_begins n (take m xs))

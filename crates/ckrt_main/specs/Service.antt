@@ -1,20 +1,21 @@
 -- What a service reads and writes, and what it makes of a session (this project's choice).
-use Rattle.std.specs.Prelude.{◌≡◌, ◌≤◌, ◌↔◌, ℕ, ◌==◌, ◌&&◌, zero, not, Bool, true, false, List, [], ◌∷◌, ◌++◌, length, Option, Some, None, is_none, ◌⊎◌}
+use Rattle.std.specs.Prelude.{◌≡◌, ◌≤◌, ◌↔◌, ℕ, ◌==◌, ◌&&◌, not, Bool, true, false, List, [], ◌∷◌, ◌++◌, length, Option, None, ◌⊎◌}
 use Rattle.std.specs.List.{AllByRecursion}
 use Rattle.std.specs.Str.Lines.{lines}
 use Rattle.std.specs.Io.KnownBytes.{Appends, Consumes, IsAtEnd}
-use Rattle.ckrt_disk.specs.Disk.{LeavesOnly, HasFailed}
 use Rattle.ckrt_disk.specs.declared.disk.Disk.{Ghosts}
 use Rattle.ckrt_events.specs.declared.event.Event.{Event}
 use Rattle.ckrt_main.specs.declared.fault.ServeFault.{ServeFault}
 use Rattle.ckrt_main.specs.declared.fault.ServeFault.TheVariants.{Read, Write, OutOfMemory, Format}
 use Rattle.ckrt_recovery.specs.declared.session.Session.{Session}
-use Rattle.ckrt_image.specs.Programs.{Program, output_after}
-use Rattle.ckrt_recovery.specs.Between.{IsBeginningOf, RecoversBetween, StandsIn}
-use Rattle.ckrt_recovery.specs.Replies.{Reply, text_of, outputs, oks_of, acks_of, outs_of, shown_up_to}
+use Rattle.ckrt_image.specs.Programs.{Program}
+use Rattle.ckrt_recovery.specs.Between.{IsBeginningOf, RecoversBetween}
+use Rattle.ckrt_commands.specs.Accepts.{Accepts, AreOutput}
+use Rattle.ckrt_commands.specs.Pieces.{Tells, Responds, Interrupted}
+use Rattle.ckrt_commands.specs.Replies.{Reply, line_of, text_of, oks_of, acks_of, shown_up_to}
 use Rattle.ckrt_recovery.specs.Represents.{Represents, acknowledged_of}
 use Rattle.ckrt_recovery.specs.View.{View, view_of}
-use Rattle.ckrt_recovery.specs.Transcript.{Fate, Transcript, transcript, reply, accepted_events, preceded_by, unless_quit, respond_all}
+use Rattle.ckrt_commands.specs.Transcript.{Fate, Transcript, transcript, reply, accepted_events, unless_quit, respond_all}
 
 -- WHERE NO DEVICE FAILS
 
@@ -52,26 +53,6 @@ IsStartFault OutOfMemory = Unit {0}
 IsStartFault Format = Unit {0}
 
 -- WHATEVER FAILS
-
--- From old to new the session took these events, whatever its calls answered: it represents them behind those that it represented, and what
--- a stop left at any moment recovers to a list between the acknowledged events and all of them. A session has failed only where it had
--- before or its disk failed a call, and then stays as it is.
-pub record Accepts {D : Type 0} {g : Ghosts D} (accepted : List Event) (old new : Session D g) : Type 0 where
-  pub represents : g.is_honest new.disk → (p : Program) (events : List Event) → Represents p events old → Represents p (events ++ accepted) new
-  pub any_moment : g.is_honest new.disk → (p : Program) (events : List Event) → Represents p events old
-      → LeavesOnly g.moment g.left_since old.disk new.disk (RecoversBetween p (acknowledged_of events old) (events ++ accepted) new.progress.confirmed)
-  pub acknowledged : old.acknowledged ≤ new.acknowledged
-  pub confirmed : old.progress.confirmed ≤ new.progress.confirmed
-  pub after_failure : old.failed ≡ true → (accepted ≡ []) × (new.failed ≡ true) × (new.disk ≡ old.disk)
-  pub failed : new.failed ≡ true → (old.failed ≡ true) ⊎ HasFailed (g.failures old.disk) (g.failures new.disk)
-  pub well : new.failed ≡ false → (old.failed ≡ false) × (g.failures new.disk ≡ g.failures old.disk)
-  pub honest : g.is_honest new.disk → g.is_honest old.disk
-  pub size : g.size new.disk ≡ g.size old.disk
-  pub named_stop : g.named_stop new.disk ≡ g.named_stop old.disk
-
--- each line of output is the plain fold's output of the acknowledged ones of these events, at its offset
-abbrev pub AreOutput : {D : Type 0} {g : Ghosts D} → Program → List Event → Session D g → List Reply → Type 0
-AreOutput p events s replies = AllByRecursion (StandsIn (output_after p (acknowledged_of events s))) (outs_of replies)
 
 -- A service, whatever it answered and whatever failed: what was written is a beginning of the transcript of the bytes read, of a fate that is
 -- none exactly where the session hasn't failed, and no more was acknowledged, confirmed or accepted than the session says then.
@@ -114,51 +95,9 @@ pub record Completes {D : Type 0} {g : Ghosts D} (a b r s : Option (List ℕ)) (
 
 -- PIECES OF A SERVICE
 
--- from old to new: the replies that were written whole, and of others a part
-pub record Piece {D : Type 0} {g : Ghosts D} (a b : Option (List ℕ)) (old new : Session D g) (broken : List Reply) (part : List ℕ) : Type 0 where
-  pub replies : List Reply
-  pub accepted : List Event
-  pub written : Appends a b (text_of replies ++ part)
-  pub begun : IsBeginningOf part (text_of broken)
-  pub acks : AllByRecursion (λ k. k ≤ new.acknowledged) (acks_of (replies ++ broken))
-  pub confirmed : new.progress.confirmed ≤ shown_up_to old.progress.confirmed replies
-  pub answered : oks_of (replies ++ broken) ≡ length accepted
-  pub accepts : Accepts accepted old new
-  pub outs : g.is_honest new.disk → (p : Program) (events : List Event) → Represents p events old → AreOutput p (events ++ accepted) new (replies ++ broken)
-  -- the fate before it, by that after it
-  pub before : Fate → Fate
-  pub kept : (f : Fate) → is_none (before f) ≡ is_none f
-  pub idle : old.failed ≡ true → (f : Fate) → before f ≡ f
-
--- what may be left of a fate: once a session has failed, that of the commit or checkpoint that failed
-abbrev pub Suits : {D : Type 0} {g : Ghosts D} → Fate → Session D g → Type 0
-Suits f s = s.failed ≡ true → f ≡ Some zero
-
--- a piece that was whole: the transcripts, of any fate, are it and then others
-pub record Responds {D : Type 0} {g : Ghosts D} {I : Type 0} (all rest : I → Fate → Transcript) (a b : Option (List ℕ)) (old new : Session D g) : Type 0 where
-  pub piece : Piece a b old new [] []
-  pub goes_on : (i : I) (f : Fate) → Suits f new → all i (piece.before f) ≡ preceded_by piece.replies piece.accepted (rest i f)
-
--- a piece that a fault of the writer ended: the transcripts, of any fate, begin with it
-pub record Interrupted {D : Type 0} {g : Ghosts D} {I : Type 0} (all : I → Fate → Transcript) (a b : Option (List ℕ)) (old new : Session D g) : Type 0 where
-  pub broken : List Reply
-  pub one : length broken ≤ 1
-  pub part : List ℕ
-  pub piece : Piece a b old new broken part
-  pub among : (i : I) (f : Fate) → Suits f new → IsBeginningOf (piece.replies ++ broken) (all i (piece.before f)).replies
-  pub some : (i : I) (f : Fate) → Suits f new → IsBeginningOf piece.accepted (all i (piece.before f)).events
-
--- a transcript's end in this session
-abbrev pub ends : {D : Type 0} {g : Ghosts D} → Bool → Session D g → Fate → Transcript
-ends quit s f = record { replies = []; events = []; view = view_of s; fate = f; quit = quit }
-
--- what a command gets
-abbrev pub Answers : {D : Type 0} {g : Ghosts D} → (Fate → View → Transcript) → Bool → Option (List ℕ) → Option (List ℕ) → Session D g → Session D g → Type 0
-Answers t quit a b old new = Responds (λ (_ : Unit {0}) f. t f (view_of old)) (λ _ f. ends quit new f) a b old new
-
--- and where the writer broke it off
-abbrev pub BreaksOff : {D : Type 0} {g : Ghosts D} → (Fate → View → Transcript) → Option (List ℕ) → Option (List ℕ) → Session D g → Session D g → Type 0
-BreaksOff t a b old new = Interrupted (λ (_ : Unit {0}) f. t f (view_of old)) a b old new
+-- from a to b the lines of these replies were written whole, and of the broken one a part
+abbrev pub Writes : Option (List ℕ) → Option (List ℕ) → List Reply → List Reply → Type 0
+Writes a b = Tells line_of a b
 
 -- LINES
 
@@ -177,25 +116,14 @@ lines_behind s line bytes more f = respond_all (lines (line ++ (bytes ++ more)))
 
 -- bytes of input, behind a line's first bytes, whatever bytes follow
 abbrev pub Processed : {D : Type 0} {g : Ghosts D} → Option (List ℕ) → Option (List ℕ) → (line bytes : List ℕ) → Session D g → Session D g → List ℕ → Bool → Type 0
-Processed a b line bytes old new rest quit = Responds (lines_behind old line bytes) (rest_of quit new rest) a b old new
+Processed a b line bytes old new rest quit = Responds (lines_behind old line bytes) (rest_of quit new rest) (Writes a b) old new
 
 -- and where a fault of the writer ended the service
 abbrev pub ProcessedPart : {D : Type 0} {g : Ghosts D} → Option (List ℕ) → Option (List ℕ) → (line bytes : List ℕ) → Session D g → Session D g → Type 0
-ProcessedPart a b line bytes old new = Interrupted (lines_behind old line bytes) a b old new
+ProcessedPart a b line bytes old new = Interrupted (lines_behind old line bytes) (Writes a b) old new
 
 -- all bytes so far
 pub record ProcessedSoFar {D : Type 0} {g : Ghosts D} (a b r s : Option (List ℕ)) (old new : Session D g) (rest : List ℕ) (quit : Bool) : Type 0 where
   pub read : List ℕ
   pub consumed : Consumes r s read
-  pub responds : Responds (λ more f. transcript f (view_of old) (read ++ more)) (rest_of quit new rest) a b old new
-
--- WRITERS
-
--- from a to b a beginning of the text was written
-abbrev pub AppendsPart : Option (List ℕ) → Option (List ℕ) → List ℕ → Type 0
-AppendsPart a b text = (front : List ℕ) × IsBeginningOf front text × Appends a b front
-
--- from a to b lines of this output were written, from the first on, and of the next a part
-pub record ShowsOutput (a b : Option (List ℕ)) (offset : ℕ) (bytes : List ℕ) : Type 0 where
-  pub shows : Shows a b (outputs offset bytes)
-  pub behind : offset ≤ shown_up_to offset shows.replies
+  pub responds : Responds (λ more f. transcript f (view_of old) (read ++ more)) (rest_of quit new rest) (Writes a b) old new

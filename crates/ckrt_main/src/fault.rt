@@ -1,3 +1,6 @@
+ghost use Rattle.std.specs.Prelude.{◌≡◌};
+
+use ckrt_commands::WriteFault;
 use thiserror::Error;
 
 /// Why a service ended early.
@@ -15,4 +18,14 @@ pub enum ServeFault {
     /// The configuration is out of its ranges, or the image longer than the memory; nothing was read or written.
     #[error("Format")]
     Format,
+}
+
+impl From<WriteFault> for ServeFault {
+    ghost use Rattle.ckrt_main.specs.declared.fault.ServeFault.TheVariants.{Write};
+
+    ghost from_gives = { λ _ e. e ≡ Write };
+
+    fn from(_: WriteFault) -> ServeFault {
+        ServeFault::Write
+    }
 }

@@ -4,6 +4,7 @@
 mod fault;
 mod in_memory;
 mod laws;
+mod lines;
 mod replies;
 mod service;
 

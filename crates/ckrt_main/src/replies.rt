@@ -2,7 +2,7 @@
 ghost use Rattle.std.specs.Prelude.{◌≡◌, ◌≤◌, ◌+◌, ◌*◌, ◌++◌, [], length, decimal, codes};
 ghost use Rattle.arrayvec.specs.ArrayVec.{array_vec_len};
 ghost use Rattle.hex.specs.Hex.{encode_lower};
-ghost use Rattle.ckrt_recovery.specs.Replies.{ok_line, ack_line, no_line, out_line, refusal_text, submit_fault_text, commit_fault_text, line_fault_text, answer_text, run_end_text};
+ghost use Rattle.ckrt_commands.specs.Replies.{ok_line, ack_line, no_line, out_line, refusal_text, submit_fault_text, commit_fault_text, line_fault_text, answer_text, run_end_text};
 
 use arrayvec::ArrayVec;
 use ckrt_events::LineFault;

@@ -1,56 +1,28 @@
 //! Lines in, replies and output out.
-ghost use Rattle.std.specs.Prelude.{◌≡◌, ◌≤◌, ◌<◌, ◌+◌, ◌^◌, ◌∷◌, ◌↔◌, ◌⊎◌, [], Bool, true, false, length, is_none, Some, Ok, IfOk, IfErr, IfSome, OnOk, OnErr, IsErrOf};
+ghost use Rattle.std.specs.Prelude.{◌≡◌, ◌∷◌, ◌⊎◌, [], Bool, true, false, IfOk, IfErr, OnOk, OnErr};
 ghost use Rattle.std.specs.Str.Lines.{lines, strip_carriage_return};
 ghost use Rattle.std.specs.Io.KnownBytes.{Appends};
 ghost use Rattle.ckrt_disk.specs.Disk.{HasFailed};
-ghost use Rattle.ckrt_events.specs.Bytes.{IsInRange};
 ghost use Rattle.ckrt_events.specs.Line.{command_of, IsInRangeCommand};
-ghost use Rattle.ckrt_events.specs.declared.event.Event.TheVariants.{Place, Run};
-ghost use Rattle.ckrt_events.specs.declared.command.Command.TheVariants.{Auto};
-ghost use Rattle.ckrt_machine.specs.Events as machine;
-ghost use Rattle.ckrt_recovery.specs.Replies.{outputs, text_of};
-ghost use Rattle.ckrt_recovery.specs.Transcript as transcript;
-ghost use Rattle.ckrt_recovery.specs.Transcript.{view_after};
-ghost use Rattle.ckrt_recovery.specs.View.{view_of, refusal_of};
-ghost use Rattle.ckrt_main.specs.Service.{is_open, AppendsPart, ShowsOutput, Answers, BreaksOff, Processed, ProcessedPart, Processes, Completes, Served};
+ghost use Rattle.ckrt_commands.specs.Transcript as transcript;
+ghost use Rattle.ckrt_commands.specs.Transcript.{view_after};
+ghost use Rattle.ckrt_recovery.specs.View.{view_of};
+ghost use Rattle.ckrt_main.specs.Service.{is_open, Writes, Processed, ProcessedPart, Processes, Completes, Served};
+ghost use Rattle.ckrt_commands.specs.Pieces.{Answers, BreaksOff};
+ghost use Rattle.ckrt_commands.specs.Writing.{AppendsPart};
 
 use crate::fault::ServeFault;
-use crate::replies::{self, OUTPUT_BYTES};
+use crate::lines::Lines;
+use crate::replies;
 use arrayvec::ArrayVec;
+use ckrt_commands::{perform, release, write_text};
 use ckrt_disk::Disk;
-use ckrt_events::{Command, Event, LineFault, parse_command};
+use ckrt_events::{Command, LineFault, parse_command};
 use ckrt_recovery::Session;
 use std::io::{ErrorKind, Read, Write};
 
 /// What is kept of a line: a byte past its limit of 160, and a carriage return.
 type Line = ArrayVec<u8, 162>;
-
-/// Writes bytes whole, whatever interrupts a write.
-fn write_bytes<W: Write>(writer: &mut W, bytes: &[u8]) -> Result<(), ServeFault>
-    ensures ok { OnOk result (Appends (W.contents writer.old) (W.contents writer.new) bytes.now) }
-    ensures part { OnErr result (AppendsPart (W.contents writer.old) (W.contents writer.new) bytes.now) }
-    ensures err { IfErr result (λ e. e ≡ ServeFault.Write) }
-{
-    let mut rest = bytes;
-    for _ in 0..u64::MAX {
-        if rest.is_empty() {
-            return Ok(());
-        }
-        match writer.write(rest) {
-            Ok(0) => return Err(ServeFault::Write),
-            Ok(count) => {
-                let (_, more) = rest.split_at(count);
-                rest = more;
-            }
-            Err(error) => {
-                if error.kind() != ErrorKind::Interrupted {
-                    return Err(ServeFault::Write);
-                }
-            }
-        }
-    }
-    Err(ServeFault::Write)
-}
 
 /// Writes a text whole, and flushes it. Where the writer fails, what it took is a beginning of the text.
 ///
@@ -62,156 +34,8 @@ pub fn write_reply<W: Write>(writer: &mut W, text: &[u8]) -> Result<(), ServeFau
     ensures part { OnErr result (AppendsPart (W.contents writer.old) (W.contents writer.new) text.now) }
     ensures err { IfErr result (λ e. e ≡ ServeFault.Write) }
 {
-    write_bytes(writer, text)?;
-    if writer.flush().is_err() {
-        return Err(ServeFault::Write);
-    }
+    write_text(writer, text)?;
     Ok(())
-}
-
-/// Writes output as lines of at most 64 bytes, from its offset on.
-fn write_lines<W: Write>(writer: &mut W, offset: u64, bytes: &[u8]) -> Result<(), ServeFault>
-    requires { offset + length bytes.now < 2 ^ 64 }
-    ensures ok { OnOk result (Appends (W.contents writer.old) (W.contents writer.new) (text_of (outputs offset bytes.now))) }
-    ensures part { OnErr result (ShowsOutput (W.contents writer.old) (W.contents writer.new) offset bytes.now) }
-    ensures err { IfErr result (λ e. e ≡ ServeFault.Write) }
-{
-    let mut at = offset;
-    let mut rest = bytes;
-    while !rest.is_empty() {
-        let (line, more) = rest.split_at(rest.len().min(OUTPUT_BYTES));
-        write_reply(writer, &replies::out(at, line))?;
-        at += line.len() as u64;
-        rest = more;
-    }
-    Ok(())
-}
-
-/// Writes the released output, and then confirms it; where the writer fails nothing is confirmed.
-fn write_output<W: Write, D: Disk>(
-    session: &mut Session<D>,
-    writer: &mut W,
-) -> Result<(), ServeFault>
-    ensures ok { OnOk result (Answers transcript.output false (W.contents writer.old) (W.contents writer.new) session.old session.new) }
-    ensures broken { OnErr result (BreaksOff transcript.output (W.contents writer.old) (W.contents writer.new) session.old session.new) }
-    ensures err { IfErr result (λ e. e ≡ ServeFault.Write) }
-{
-    let released = session.released();
-    let (offset, bytes) = session.take_output();
-    write_lines(writer, offset, bytes)?;
-    session.confirm(released);
-    Ok(())
-}
-
-/// Hands an event to the session, writes the reply, and answers whether the event was accepted.
-fn submit<W: Write, D: Disk>(
-    session: &mut Session<D>,
-    writer: &mut W,
-    event: &Event,
-) -> Result<bool, ServeFault>
-    requires { IsInRange event.now }
-    ensures accepted { IfOk result (λ accepted. accepted ≡ is_none (refusal_of (view_of session.old) event.now)) }
-    ensures ok { OnOk result (Answers (transcript.submit event.now) false (W.contents writer.old) (W.contents writer.new) session.old session.new) }
-    ensures broken { OnErr result (BreaksOff (transcript.submit event.now) (W.contents writer.old) (W.contents writer.new) session.old session.new) }
-    ensures err { IfErr result (λ e. e ≡ ServeFault.Write) }
-{
-    match session.submit(event) {
-        Ok((count, answer)) => {
-            write_reply(writer, &replies::ok(count, answer))?;
-            Ok(true)
-        }
-        Err(fault) => {
-            write_reply(writer, &replies::refused_event(fault))?;
-            Ok(false)
-        }
-    }
-}
-
-/// Places a thread onto a hart, and runs the hart unless that was refused.
-fn place_and_run<W: Write, D: Disk>(
-    session: &mut Session<D>,
-    writer: &mut W,
-    hart: u8,
-    thread: u8,
-    steps: u16,
-) -> Result<(), ServeFault>
-    requires place { IsInRange (Place hart thread) }
-    requires run { IsInRange (Run hart steps) }
-    ensures ok { OnOk result (Answers (transcript.run_planned (Some thread) hart steps) false (W.contents writer.old) (W.contents writer.new) session.old session.new) }
-    ensures broken { OnErr result (BreaksOff (transcript.run_planned (Some thread) hart steps) (W.contents writer.old) (W.contents writer.new) session.old session.new) }
-    ensures err { IfErr result (λ e. e ≡ ServeFault.Write) }
-{
-    if submit(session, writer, &Event::Place(hart, thread))? {
-        submit(session, writer, &Event::Run(hart, steps))?;
-    }
-    Ok(())
-}
-
-/// The thread to place onto a hart next, 1 to 64.
-fn planned<D: Disk>(session: &Session<D>, hart: u8) -> Option<u8>
-    ensures planned { result ≡ machine.planned hart session.now.progress.machine.state.tables }
-    ensures in_range { IfSome result (λ thread. (1 ≤ thread) × (thread ≤ 64)) }
-{
-    session.machine().planned(hart)
-}
-
-/// Places the planned thread onto a hart, if there is one, and runs the hart unless that was refused.
-fn run_planned<W: Write, D: Disk>(
-    session: &mut Session<D>,
-    writer: &mut W,
-    hart: u8,
-    steps: u16,
-) -> Result<(), ServeFault>
-    requires { IsInRange (Run hart steps) }
-    ensures ok { OnOk result (Answers (transcript.respond (Ok (Auto hart steps))) false (W.contents writer.old) (W.contents writer.new) session.old session.new) }
-    ensures broken { OnErr result (BreaksOff (transcript.respond (Ok (Auto hart steps))) (W.contents writer.old) (W.contents writer.new) session.old session.new) }
-    ensures err { IfErr result (λ e. e ≡ ServeFault.Write) }
-{
-    match planned(session, hart) {
-        Some(thread) => place_and_run(session, writer, hart, thread, steps),
-        None => {
-            submit(session, writer, &Event::Run(hart, steps))?;
-            Ok(())
-        }
-    }
-}
-
-/// Commits the events so far, acknowledges them, and writes the released output.
-fn commit<W: Write, D: Disk>(session: &mut Session<D>, writer: &mut W) -> Result<(), ServeFault>
-    ensures ok { OnOk result (Answers transcript.commit false (W.contents writer.old) (W.contents writer.new) session.old session.new) }
-    ensures broken { OnErr result (BreaksOff transcript.commit (W.contents writer.old) (W.contents writer.new) session.old session.new) }
-    ensures err { IfErr result (λ e. e ≡ ServeFault.Write) }
-{
-    match session.commit() {
-        Ok(count) => {
-            write_reply(writer, &replies::ack(count))?;
-            write_output(session, writer)?;
-            Ok(())
-        }
-        Err(fault) => {
-            write_reply(writer, &replies::refused_commit(fault))?;
-            Ok(())
-        }
-    }
-}
-
-/// Saves the state after the events so far, acknowledges them, and writes the released output.
-fn checkpoint<W: Write, D: Disk>(session: &mut Session<D>, writer: &mut W) -> Result<(), ServeFault>
-    ensures ok { OnOk result (Answers transcript.checkpoint false (W.contents writer.old) (W.contents writer.new) session.old session.new) }
-    ensures broken { OnErr result (BreaksOff transcript.checkpoint (W.contents writer.old) (W.contents writer.new) session.old session.new) }
-    ensures err { IfErr result (λ e. e ≡ ServeFault.Write) }
-{
-    match session.checkpoint() {
-        Ok(count) => {
-            write_reply(writer, &replies::ack(count))?;
-            write_output(session, writer)?;
-            Ok(())
-        }
-        Err(fault) => {
-            write_reply(writer, &replies::refused_commit(fault))?;
-            Ok(())
-        }
-    }
 }
 
 /// Does what a command says, and answers whether it was `quit`.
@@ -221,24 +45,17 @@ fn answer<W: Write, D: Disk>(
     command: Result<Command, LineFault>,
 ) -> Result<bool, ServeFault>
     requires { IfOk command IsInRangeCommand }
-    ensures ok { IfOk result (λ quit. Answers (transcript.respond command) quit (W.contents writer.old) (W.contents writer.new) session.old session.new) }
-    ensures broken { OnErr result (BreaksOff (transcript.respond command) (W.contents writer.old) (W.contents writer.new) session.old session.new) }
+    ensures ok { IfOk result (λ quit. Answers (transcript.respond command) quit (Writes (W.contents writer.old) (W.contents writer.new)) session.old session.new) }
+    ensures broken { OnErr result (BreaksOff (transcript.respond command) (Writes (W.contents writer.old) (W.contents writer.new)) session.old session.new) }
     ensures err { IfErr result (λ e. e ≡ ServeFault.Write) }
 {
     match command {
-        Ok(Command::Submit(event)) => {
-            submit(session, writer, &event)?;
-        }
-        Ok(Command::Auto(hart, steps)) => run_planned(session, writer, hart, steps)?,
-        Ok(Command::Commit) => commit(session, writer)?,
-        Ok(Command::Checkpoint) => checkpoint(session, writer)?,
-        Ok(Command::Quit) => return Ok(true),
-        Ok(Command::Blank) => {}
+        Ok(command) => Ok(perform::<Lines, W, D>(session, writer, &command)?),
         Err(fault) => {
             write_reply(writer, &replies::refused_line(fault))?;
+            Ok(false)
         }
     }
-    Ok(false)
 }
 
 /// Does what a line says, and answers whether it was `quit`.
@@ -247,8 +64,8 @@ fn respond<W: Write, D: Disk>(
     writer: &mut W,
     line: &[u8],
 ) -> Result<bool, ServeFault>
-    ensures ok { IfOk result (λ quit. Answers (transcript.respond (command_of line.now)) quit (W.contents writer.old) (W.contents writer.new) session.old session.new) }
-    ensures broken { OnErr result (BreaksOff (transcript.respond (command_of line.now)) (W.contents writer.old) (W.contents writer.new) session.old session.new) }
+    ensures ok { IfOk result (λ quit. Answers (transcript.respond (command_of line.now)) quit (Writes (W.contents writer.old) (W.contents writer.new)) session.old session.new) }
+    ensures broken { OnErr result (BreaksOff (transcript.respond (command_of line.now)) (Writes (W.contents writer.old) (W.contents writer.new)) session.old session.new) }
     ensures err { IfErr result (λ e. e ≡ ServeFault.Write) }
 {
     answer(session, writer, parse_command(line))
@@ -317,8 +134,8 @@ fn take_end<W: Write, D: Disk>(
     line: &[u8],
 ) -> Result<(), ServeFault>
     requires { is_open line.now ≡ true }
-    ensures ok { OnOk result ((quit : Bool) × Answers (transcript.respond_all (lines line.now)) quit (W.contents writer.old) (W.contents writer.new) session.old session.new) }
-    ensures broken { OnErr result (BreaksOff (transcript.respond_all (lines line.now)) (W.contents writer.old) (W.contents writer.new) session.old session.new) }
+    ensures ok { OnOk result ((quit : Bool) × Answers (transcript.respond_all (lines line.now)) quit (Writes (W.contents writer.old) (W.contents writer.new)) session.old session.new) }
+    ensures broken { OnErr result (BreaksOff (transcript.respond_all (lines line.now)) (Writes (W.contents writer.old) (W.contents writer.new)) session.old session.new) }
     ensures err { IfErr result (λ e. e ≡ ServeFault.Write) }
 {
     if line.is_empty() {
@@ -338,7 +155,7 @@ fn serve_lines<R: Read, W: Write, D: Disk>(
     ensures processed { Processes (W.contents writer.old) (W.contents writer.new) (R.remaining reader.old) (R.remaining reader.new) session.old session.new }
     ensures err { IfErr result (λ e. (e ≡ ServeFault.Read) ⊎ (e ≡ ServeFault.Write)) }
 {
-    write_output(session, writer)?;
+    release::<Lines, W, D>(session, writer)?;
     let mut line = Line::new();
     let mut chunk = [0u8; 512];
     for _ in 0..u64::MAX {

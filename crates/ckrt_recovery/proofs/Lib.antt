@@ -5,3 +5,5 @@ pub mod SessionLemmas
 pub mod CommitLemmas
 mod OpeningLemmas
 mod CheckpointLemmas
+pub mod RoomLemmas
+pub mod ReachedLemmas

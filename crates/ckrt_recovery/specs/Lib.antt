@@ -1,7 +1,6 @@
 pub mod Represents
+pub mod Reached
 pub mod Between
 pub mod Opening
 pub mod View
 pub mod Calls
-pub mod Replies
-pub mod Transcript

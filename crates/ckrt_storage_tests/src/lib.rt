@@ -12,4 +12,6 @@ mod expect;
 #[cfg(test)]
 mod journal;
 #[cfg(test)]
+mod rows;
+#[cfg(test)]
 mod saved_tables;

@@ -1,7 +1,7 @@
 use Rattle.std.proofs.Common.{◌≡◌, ◌≤◌, ◌∙◌, Some, sym, subst}
 use Rattle.std.specs.Prelude.{IfSome}
 use Rattle.ckrt_machine.specs.Plans.{planned}
-use Rattle.ckrt_main.proofs.EventLemmas.{planned_in_range}
+use Rattle.ckrt_commands.proofs.EventLemmas.{planned_in_range}
 use Rattle.ckrt_drive.proofs.plan.turn.Goals as goal
 
 pub returns-in-Some-planned-clause-in_range : goal.returns-in-Some-planned-clause-in_range

@@ -1,6 +1,8 @@
-use Rattle.std.proofs.Common.{◌<◌, ◌+◌, ◌∙◌, length, sym, refl}
+use Rattle.std.proofs.Common.{◌<◌, ◌+◌, ◌∙◌, Ok, length, sym, refl}
+use Rattle.ckrt_commands.specs.Transcript.{respond}
+use Rattle.ckrt_commands.proofs.FateLemmas.{events_of_respond}
 use Rattle.ckrt_recovery.specs.View.{view_of}
-use Rattle.ckrt_lives.proofs.PieceLemmas.{does_nothing}
+use Rattle.ckrt_lives.proofs.PieceLemmas.{confirmed_answered, does_answered, does_nothing, quit_answered}
 use Rattle.ckrt_lives.proofs.StepLemmas.{does_next, quits_next, does_quit}
 use Rattle.ckrt_lives.proofs.session.perform_all.Goals as goal
 
@@ -18,11 +20,17 @@ loop-command-preserved g c =
     let i = c.loop-command.command-index in
     let x = c.command-item.result in
     let lt : c.loop-command.command-index < length c.args.commands.now = c.loop-command-test.true in
+    let m = c.loop-command.session in
+    let u = c.perform.new.session in
+    let a = c.loop-command.released.items in
+    let b = c.perform.new.released.items in
     let f = c.in_ok-perform.ensures in
+    let does = does_answered (respond (Ok x)) c.in_ok-perform.field-0 a b m u (λ f. events_of_respond (Ok x) f (view_of m)) f.ok in
+    let quit = quit_answered x c.in_ok-perform.field-0 _ m u f.ok in
     record {
-      does = does_next cs v i x c.args.released.now.items c.loop-command.released.items c.perform.new.released.items c.args.session.now c.loop-command.session c.perform.new.session lt c.command-item.is c.loop-command.invariant.goes_on c.loop-command.invariant.does f.ok;
-      goes_on = quits_next cs v i x (view_of c.loop-command.session) lt c.command-item.is c.loop-command.invariant.goes_on ∙ (sym f.quit ∙ c.if-branch.false);
-      confirmed = λ was. f.confirmed (c.loop-command.invariant.confirmed was);
+      does = does_next cs v i x c.args.released.now.items c.loop-command.released.items c.perform.new.released.items c.args.session.now c.loop-command.session c.perform.new.session lt c.command-item.is c.loop-command.invariant.goes_on c.loop-command.invariant.does does;
+      goes_on = quits_next cs v i x (view_of c.loop-command.session) lt c.command-item.is c.loop-command.invariant.goes_on ∙ (sym quit ∙ c.if-branch.false);
+      confirmed = λ was. confirmed_answered x c.in_ok-perform.field-0 _ m u f.ok (c.loop-command.invariant.confirmed was);
     }
 
 pub returns-then-branch-clause-ok : goal.returns-then-branch-clause-ok
@@ -32,6 +40,12 @@ returns-then-branch-clause-ok g c =
     let i = c.loop-command.command-index in
     let x = c.command-item.result in
     let lt : c.loop-command.command-index < length c.args.commands.now = c.loop-command-test.true in
+    let m = c.loop-command.session in
+    let u = c.perform.new.session in
+    let a = c.loop-command.released.items in
+    let b = c.perform.new.released.items in
     let f = c.in_ok-perform.ensures in
-    let does = does_next cs v i x c.args.released.now.items c.loop-command.released.items c.perform.new.released.items c.args.session.now c.loop-command.session c.perform.new.session lt c.command-item.is c.loop-command.invariant.goes_on c.loop-command.invariant.does f.ok in
-    does_quit cs v (i + 1) c.args.released.now.items c.perform.new.released.items c.args.session.now c.perform.new.session (quits_next cs v i x (view_of c.loop-command.session) lt c.command-item.is c.loop-command.invariant.goes_on ∙ (sym f.quit ∙ c.if-branch.true)) does
+    let does = does_answered (respond (Ok x)) c.in_ok-perform.field-0 a b m u (λ f. events_of_respond (Ok x) f (view_of m)) f.ok in
+    let quit = quit_answered x c.in_ok-perform.field-0 _ m u f.ok in
+    let all = does_next cs v i x c.args.released.now.items c.loop-command.released.items c.perform.new.released.items c.args.session.now c.loop-command.session c.perform.new.session lt c.command-item.is c.loop-command.invariant.goes_on c.loop-command.invariant.does does in
+    does_quit cs v (i + 1) c.args.released.now.items c.perform.new.released.items c.args.session.now c.perform.new.session (quits_next cs v i x (view_of c.loop-command.session) lt c.command-item.is c.loop-command.invariant.goes_on ∙ (sym quit ∙ c.if-branch.true)) does

@@ -1,9 +1,10 @@
 use Rattle.std.proofs.Common.{◌≡◌, ◌<◌, ℕ, List, [], true, false, length, take, arith, subst, refl, inl, inr, append-nil, ◌++◌}
 use Rattle.std.specs.Io.KnownBytes.{Consumes}
 use Rattle.std.specs.Str.Lines.{lines}
-use Rattle.ckrt_recovery.specs.Transcript.{output, respond_all}
+use Rattle.ckrt_commands.specs.Transcript.{output, respond_all}
 use Rattle.ckrt_recovery.specs.View.{view_of}
-use Rattle.ckrt_main.specs.Service.{Answers, BreaksOff}
+use Rattle.ckrt_main.specs.Service.{Writes}
+use Rattle.ckrt_commands.specs.Pieces.{Answers, BreaksOff}
 use Rattle.ckrt_main.proofs.OutputLemmas.{Consumes-append}
 use Rattle.ckrt_main.proofs.ProcessLemmas.{all_at_end, all_at_quit, completes, consumed_at_end, consumes_nothing, part_at_end, part_at_start, part_more, part_so_far, processes, processes_whole, so_far_start, so_far_more, so_far_kept}
 use Rattle.ckrt_main.proofs.service.serve_lines.Goals as goal
@@ -12,7 +13,7 @@ use Rattle.ckrt_main.proofs.service.serve_lines.Goals.{in-Ok+in_ok-take_bytes-in
 pub loop-init : goal.loop-init
 loop-init g c = record {
   open_line = rw c.new-line.ensures refl;
-  processed = rw c.new-line.ensures (so_far_start (g.W.Write.contents c.args.writer.now) (g.W.Write.contents c.write_output.new.writer) (g.R.Read.remaining c.args.reader.now) c.args.session.now c.write_output.new.session c.in_ok-write_output.ensures.ok);
+  processed = rw c.new-line.ensures (so_far_start (g.W.Write.contents c.args.writer.now) (g.W.Write.contents c.release.new.writer) (g.R.Read.remaining c.args.reader.now) c.args.session.now c.release.new.session c.in_ok-release.ensures.ok);
 }
 
 pub returns-in-Ok-eq0-clause-whole : goal.returns-in-Ok-eq0-clause-whole
@@ -28,7 +29,7 @@ returns-in-Ok-eq0-clause-whole g c =
     let room : 0 < length c.read.new.buf = omega arith in
     let got : Consumes (g.R.Read.remaining c.loop.reader) (g.R.Read.remaining c.read.new.self) [] = subst (λ (n : ℕ). Consumes (g.R.Read.remaining c.loop.reader) (g.R.Read.remaining c.read.new.self) (take n c.read.new.buf)) none h.0 in
     let end = c.in_ok-take_end-in-Ok-eq0.ensures.ok in
-    let last = subst (λ (l : List ℕ). Answers (respond_all (lines l)) end.0 (g.W.Write.contents c.loop.writer) (g.W.Write.contents c.take_end.new.writer) c.loop.session c.take_end.new.session) c.deref.ensures.0 end.1 in
+    let last = subst (λ (l : List ℕ). Answers (respond_all (lines l)) end.0 (Writes (g.W.Write.contents c.loop.writer) (g.W.Write.contents c.take_end.new.writer)) c.loop.session c.take_end.new.session) c.deref.ensures.0 end.1 in
     let first = c.loop.invariant.processed in
     completes a d r t c.args.session.now c.take_end.new.session first.read end.0 (consumed_at_end r s t first.read first.consumed got) (inl (h.1 none room))
     (all_at_end a b d r s c.args.session.now c.loop.session c.take_end.new.session c.loop.line.items end.0 first last)
@@ -45,7 +46,7 @@ returns-in-Ok-eq0-clause-processed g c =
     let none : c.in-Ok-eq0.field-0 ≡ 0 = c.in-Ok-eq0.field-0-test in
     let got : Consumes (g.R.Read.remaining c.loop.reader) (g.R.Read.remaining c.read.new.self) [] = subst (λ (n : ℕ). Consumes (g.R.Read.remaining c.loop.reader) (g.R.Read.remaining c.read.new.self) (take n c.read.new.buf)) none h.0 in
     let end = c.in_ok-take_end-in-Ok-eq0.ensures.ok in
-    let last = subst (λ (l : List ℕ). Answers (respond_all (lines l)) end.0 (g.W.Write.contents c.loop.writer) (g.W.Write.contents c.take_end.new.writer) c.loop.session c.take_end.new.session) c.deref.ensures.0 end.1 in
+    let last = subst (λ (l : List ℕ). Answers (respond_all (lines l)) end.0 (Writes (g.W.Write.contents c.loop.writer) (g.W.Write.contents c.take_end.new.writer)) c.loop.session c.take_end.new.session) c.deref.ensures.0 end.1 in
     let first = c.loop.invariant.processed in
     processes_whole g.met.D.Disk.only_now a d r t c.args.session.now c.take_end.new.session first.read end.0 (consumed_at_end r s t first.read first.consumed got)
     (all_at_end a b d r s c.args.session.now c.loop.session c.take_end.new.session c.loop.line.items end.0 first last)
@@ -61,7 +62,7 @@ returns-in_err-take_end-in-Ok-eq0-clause-processed g c =
     let h = c.in-Ok-eq0.ensures.bytes in
     let none : c.in-Ok-eq0.field-0 ≡ 0 = c.in-Ok-eq0.field-0-test in
     let got : Consumes (g.R.Read.remaining c.loop.reader) (g.R.Read.remaining c.read.new.self) [] = subst (λ (n : ℕ). Consumes (g.R.Read.remaining c.loop.reader) (g.R.Read.remaining c.read.new.self) (take n c.read.new.buf)) none h.0 in
-    let last = subst (λ (l : List ℕ). BreaksOff (respond_all (lines l)) (g.W.Write.contents c.loop.writer) (g.W.Write.contents c.take_end.new.writer) c.loop.session c.take_end.new.session) c.deref.ensures.0 c.in_err-take_end-in-Ok-eq0.ensures.broken in
+    let last = subst (λ (l : List ℕ). BreaksOff (respond_all (lines l)) (Writes (g.W.Write.contents c.loop.writer) (g.W.Write.contents c.take_end.new.writer)) c.loop.session c.take_end.new.session) c.deref.ensures.0 c.in_err-take_end-in-Ok-eq0.ensures.broken in
     let first = c.loop.invariant.processed in
     processes g.met.D.Disk.only_now a d r t c.args.session.now c.take_end.new.session first.read (consumed_at_end r s t first.read first.consumed got)
     (part_at_end a b d r s c.args.session.now c.loop.session c.take_end.new.session c.loop.line.items first last)
@@ -118,12 +119,12 @@ loop-preserved g c = elim c.match-read.branch [
       })
 ]
 
-pub returns-in_err-write_output-clause-processed : goal.returns-in_err-write_output-clause-processed
-returns-in_err-write_output-clause-processed g c =
+pub returns-in_err-release-clause-processed : goal.returns-in_err-release-clause-processed
+returns-in_err-release-clause-processed g c =
     let a = g.W.Write.contents c.args.writer.now in
-    let b = g.W.Write.contents c.write_output.new.writer in
+    let b = g.W.Write.contents c.release.new.writer in
     let r = g.R.Read.remaining c.args.reader.now in
-    processes g.met.D.Disk.only_now a b r r c.args.session.now c.write_output.new.session [] (consumes_nothing r) (part_at_start a b c.args.session.now c.write_output.new.session c.in_err-write_output.ensures.broken)
+    processes g.met.D.Disk.only_now a b r r c.args.session.now c.release.new.session [] (consumes_nothing r) (part_at_start a b c.args.session.now c.release.new.session c.in_err-release.ensures.broken)
 
 pub returns-then-ne-clause-processed : goal.returns-then-ne-clause-processed
 returns-then-ne-clause-processed g c =

@@ -1,0 +1,9 @@
+pub mod WriteLemmas
+pub mod ReplyLemmas
+pub mod AcceptLemmas
+pub mod EventLemmas
+pub mod FateLemmas
+pub mod TellLemmas
+pub mod TakenLemmas
+pub mod PieceLemmas
+pub mod ResponseLemmas

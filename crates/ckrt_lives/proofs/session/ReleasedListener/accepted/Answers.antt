@@ -1,0 +1,10 @@
+use Rattle.std.proofs.Common.{Some}
+use Rattle.ckrt_commands.specs.Replies.{Accepted, output_in}
+use Rattle.ckrt_commands.proofs.TellLemmas.{tells_one}
+use Rattle.ckrt_commands.proofs.WriteLemmas.{Appends-nothing}
+use Rattle.ckrt_lives.proofs.session.ReleasedListener.accepted.Goals as goal
+
+pub returns-clause-ok : goal.returns-clause-ok
+returns-clause-ok c =
+    let released = c.args._released.now.items in
+    tells_one output_in (Some released) (Some released) (Accepted c.args._count c.args._answer) (Appends-nothing (Some released))

@@ -1,8 +1,0 @@
-use Rattle.std.proofs.Common.{◌≤◌, sym, subst}
-use Rattle.std.specs.Prelude.{IfSome}
-use Rattle.ckrt_lives.proofs.TranscriptLemmas.{planned_in_range}
-use Rattle.ckrt_lives.proofs.session.planned.Goals as goal
-
-pub returns-clause-in_range : goal.returns-clause-in_range
-returns-clause-in_range g c =
-    subst (λ o. IfSome o (λ t. (1 ≤ t) × (t ≤ 64))) (sym c.planned.ensures) (planned_in_range c.args.hart c.machine.result.now.state.tables)
