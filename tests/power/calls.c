@@ -2,6 +2,7 @@
 //
 //   POWER_NOTES=FILE   where each note goes, by one write: `write NAME OFFSET COUNT`, a line feed and the bytes, before the call,
 //                      in parts where there are many; `synced NAME`, once a sync has answered 0; of a folder, `folder synced`
+//   POWER_RESTS=N      how many microseconds pass behind each write, so that other programs come in between
 //   POWER_LACKS=KIND   syncs that aren't made, though the program is told that they were: `all`, `batch` (of a disk, behind a
 //                      write of more than one byte), `gate` (of a disk, behind a write of one byte), `output` (of a file whose
 //                      name doesn't end in `.disk`) or `folder`. They aren't noted.
@@ -19,6 +20,7 @@ enum { PART = 65536, NAME = 256, HIGH = 100 };
 
 static int notes = -1;
 static const char *lacks = "";
+static useconds_t rests;
 static size_t last_count; // of the last write to a disk
 
 // The last name in the path of an open file.
@@ -63,7 +65,9 @@ ssize_t pwrite64(int file, const void *bytes, size_t count, off64_t offset) {
     if (is_disk(name)) {
         last_count = count;
     }
-    return next(file, bytes, count, offset);
+    ssize_t answer = next(file, bytes, count, offset);
+    usleep(rests);
+    return answer;
 }
 
 ssize_t pwrite(int file, const void *bytes, size_t count, off_t offset) { return pwrite64(file, bytes, count, offset); }
@@ -99,7 +103,8 @@ int fdatasync(int file) { return sync_by("fdatasync", file); }
 int fsync(int file) { return sync_by("fsync", file); }
 
 __attribute__((constructor)) static void set_up(void) {
-    const char *path = getenv("POWER_NOTES"), *kind = getenv("POWER_LACKS");
+    const char *path = getenv("POWER_NOTES"), *kind = getenv("POWER_LACKS"), *rest = getenv("POWER_RESTS");
+    rests = rest ? strtoul(rest, NULL, 10) : 0;
     lacks = kind ? kind : "";
     int file = path ? open(path, O_WRONLY | O_CLOEXEC) : -1;
     if (file >= 0) {

@@ -86,9 +86,13 @@ class Cutter:
 
 
 def moments_of(log, count, chance):
-    """Moments to cut at, rising: anywhere, as a write of the disk has just come, or behind what a program noted or printed."""
-    notes = [entry.came for entry in log if isinstance(entry, Note)]
-    first, last = notes[0], notes[-1]
+    """Moments to cut at, rising: within any life, as a disk is made, as a write has just come, or behind what was noted or printed."""
+    notes = [entry for entry in log if isinstance(entry, Note)]
+    first, last = notes[0].came, notes[-1].came
+    lives = [note for note in notes if note.data.startswith(b"life ")]
+    spans = [(life.came, after.came) for life, after in zip(lives, [*lives[1:], notes[-1]])]
+    making = [span for life, span in zip(lives, spans) if b" format" in life.data]
     writes = [entry.came for entry in log if isinstance(entry, Write) and first < entry.came < last]
-    draws = [lambda: chance.randint(first, last), lambda: chance.choice(writes), lambda: chance.choice(notes) + chance.choice([0, 0, 1, 2, 5])]
+    draws = [lambda: chance.randint(*chance.choice(spans)), lambda: chance.randint(*chance.choice(making)),
+             lambda: chance.choice(writes), lambda: chance.choice(notes).came + chance.choice([0, 0, 1, 2, 5])]
     return sorted(draws[number % len(draws)]() for number in range(count))

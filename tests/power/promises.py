@@ -142,7 +142,7 @@ class State:
                 self.files[name].pending = Ranges()
             case ["found", name]:
                 self.files.setdefault(name, File()).take_over(name, data)
-            case ["life", name, seed, count]:
+            case ["life", name, seed, count, _]:
                 self.life, self.line = name, b""
                 self.runs.setdefault(name, Run(output_of(int(seed), int(count))))
             case ["kept", name, length]:

@@ -16,9 +16,11 @@ TOP = Path(__file__).resolve().parent.parent.parent
 sys.path.insert(0, str(TOP / "bench"))
 from make_guests import Program, draw  # noqa: E402
 
-COUNT = 1_500  # bytes that a guest puts
+COUNT = 3_000  # bytes that a guest puts
 JOURNALS = [4_096, 8_192, 65_536]
 LIVES = 3  # of each disk in a recording
+OTHERS, LONGEST_REST = 2, 0.004  # other programs on the file system, and the seconds for which one rests
+RESTS = "0", "0", "500"  # microseconds behind each write of a life
 PATIENCE = 60  # seconds for a command behind a cut
 
 
@@ -89,8 +91,9 @@ class Logged:
 
     def live(self, name, words, lines=b"", seconds=None):
         """One life: to its end or, after so many seconds, its kill. Says with what status it ended by itself."""
-        self.note(f"life {name} {seed_of(name)} {COUNT}")
-        how = {"stdin": subprocess.PIPE, "stdout": self.prints, "stderr": self.prints, "env": self.environment}
+        self.note(f"life {name} {seed_of(name)} {COUNT} {words[1]}")
+        environment = {**self.environment, "POWER_RESTS": self.chance.choice(RESTS)}
+        how = {"stdin": subprocess.PIPE, "stdout": self.prints, "stderr": self.prints, "env": environment}
         with subprocess.Popen(words, **how) as child:
             try:
                 child.communicate(lines, timeout=seconds)
@@ -107,7 +110,7 @@ class Logged:
 
     def drive(self, name):
         """A drive with a rhythm drawn by lot, which ends by itself or is killed."""
-        turn, rounds, events = (str(self.chance.choice(of)) for of in ([30, 100, 400], [1, 2, 8], [20, 60, 150, 10_000]))
+        turn, rounds, events = (str(self.chance.choice(of)) for of in ([30, 100, 400], [1, 2, 8], [10, 40, 100, 300, 10_000]))
         words = self.place.drive_words(name, "--turn", turn, "--rounds-per-commit", rounds, "--events", events)
         if self.live(name, words, seconds=self.chance.choice([0.05, 0.2, 0.5, 2])) == 0:
             self.note(f"kept {name} {(self.place.folder / f'{name}.out').stat().st_size}")
@@ -126,9 +129,9 @@ def sync_all(folder):
     os.close(opened)
 
 
-def disturb(folder, seed):
+def disturb(folder, chance):
     """Another program on the same file system: it writes, syncs, renames and removes files of its own, until it is killed."""
-    chance, names = random.Random(seed), [f"other{number}" for number in range(6)]
+    names = [f"other{chance.randrange(10)}.{number}" for number in range(6)]
     while True:
         path = folder / chance.choice(names)
         match chance.choice(["write", "write", "sync", "append", "rename", "remove", "sync all"]):
@@ -146,27 +149,36 @@ def disturb(folder, seed):
                 path.unlink(missing_ok=True)
             case "sync all":
                 sync_all(folder)
-        time.sleep(chance.random() * 0.01)
+        time.sleep(chance.random() * LONGEST_REST)
+
+
+def begin_other(folder, seed):
+    """Begins such a program, and says its number."""
+    child = os.fork()
+    if child == 0:
+        try:
+            disturb(folder, random.Random(seed))
+        finally:
+            os._exit(1)
+    return child
 
 
 def work(logged, names):
-    """The disks are made, driven and fed in turns, beside another program that writes and syncs."""
-    other = os.fork()
-    if other == 0:
-        try:
-            disturb(logged.place.folder, logged.chance.random())
-        finally:
-            os._exit(1)
+    """Disks are made where they aren't there, driven and fed in turns, beside other programs that write and sync."""
+    others = [begin_other(logged.place.folder, logged.chance.random()) for _ in range(OTHERS)]
     try:
-        fresh = logged.chance.sample(names, len(names))
-        for name in fresh:
+        for name in names:
             logged.format(name)
         for _ in range(LIVES):
-            for name in fresh:
-                (logged.feed if name.startswith("lines") else logged.drive)(name)
+            for name in logged.chance.sample(names, len(names)):
+                if name.startswith("lines"):
+                    logged.feed(name)
+                elif not name.startswith("made"):
+                    logged.drive(name)
     finally:
-        os.kill(other, signal.SIGKILL)
-        os.waitpid(other, 0)
+        for other in others:
+            os.kill(other, signal.SIGKILL)
+            os.waitpid(other, 0)
 
 
 def said(words, lines=b""):
@@ -191,7 +203,7 @@ def go_on(place, name, run, chance):
             raise Finding(shown(words, done))
     begin = max(run.printed, feed_behind(place, name, wanted)) if name.startswith("lines") else 0
     output = place.folder / f"{name}.out"
-    rhythm = "--turn", str(chance.choice([400, 5_000, 65_535])), "--rounds-per-commit", str(chance.choice([3, 16]))
+    rhythm = "--turn", str(chance.choice([1_000, 5_000, 65_535])), "--rounds-per-commit", str(chance.choice([3, 16]))
     words = place.drive_words(name, *rhythm)
     done = said(words)
     if done.returncode or not done.stderr.startswith(b"ended: exit 0"):
