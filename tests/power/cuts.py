@@ -6,7 +6,7 @@ that have come, a disk may have kept none, all, a beginning, some, or parts of s
 from bisect import bisect_left, bisect_right
 from operator import attrgetter
 
-from logged_disk import BLOCK, Blocks, Flush, Note, Write
+from logged_disk import Blocks, Flush, Note, Write
 
 FORGOTTEN = 50  # of so many writes that were flushed a forgetful device loses one
 DEVICES = "last flush", "forgetful"
@@ -17,8 +17,8 @@ class Leaves:
 
     KINDS = ["nothing", "all", "a beginning", "a beginning", "some", "some", "some", "torn", "torn", "torn"]
 
-    def __init__(self, chance):
-        self.chance, self.kind, self.unit = chance, chance.choice(self.KINDS), chance.choice([512, BLOCK])
+    def __init__(self, chance, units):
+        self.chance, self.kind, self.unit = chance, chance.choice(self.KINDS), chance.choice(units)
         self.share = chance.random()
 
     def __str__(self):
@@ -39,8 +39,8 @@ class Leaves:
 class Cutter:
     """Images of one logged disk, at moments that don't fall. `device` names what a wrong device does, if it is one."""
 
-    def __init__(self, blocks, log, chance, device=None):
-        self.base, self.chance, self.device = Blocks(blocks), chance, device
+    def __init__(self, blocks, log, chance, units, device=None):
+        self.base, self.chance, self.units, self.device = Blocks(blocks), chance, units, device
         self.writes = [entry for entry in log if isinstance(entry, Write)]
         answered = [entry for entry in log if isinstance(entry, Flush) and entry.answered]
         self.flushes = sorted(answered, key=attrgetter("answered"))
@@ -72,7 +72,7 @@ class Cutter:
         while self.done < end and is_sure(self.writes[self.done]):
             self.keep(self.base, self.writes[self.done])
             self.done += 1
-        blocks, leaves, number = Blocks(self.base), Leaves(self.chance), 0
+        blocks, leaves, number = Blocks(self.base), Leaves(self.chance, self.units), 0
         behind = self.writes[self.done:end]
         count = sum(not is_sure(write) for write in behind)
         for write in behind:

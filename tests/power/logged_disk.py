@@ -4,11 +4,13 @@
 the disk, each flush, each call of a program and each byte that it prints stand in one sequence of moments. A write and a flush
 have two moments, when they came and when they were answered: some are answered later, out of turn, as a disk with a queue does.
 """
+import ctypes
 import errno
 import os
 import pickle
 import random
 import select
+import signal
 import stat
 import struct
 import subprocess
@@ -32,6 +34,7 @@ UNANSWERED = FORGET, BATCH_FORGET, INTERRUPT
 HEADER = struct.Struct("<IIQQIIII")
 ASYNC_READ, BIG_WRITES, ASYNC_DIRECT, MAX_PAGES = 1, 1 << 5, 1 << 15, 1 << 22
 DIRECT = 1
+END_WITH_PARENT = 1  # PR_SET_PDEATHSIG in <linux/prctl.h>
 HOUR = 3_600  # seconds for which the kernel may keep what it was told of a file
 
 
@@ -226,6 +229,11 @@ class Server:
                 raise
 
 
+def end_with_parent():
+    """Has a child end where its parent does."""
+    ctypes.CDLL(None).prctl(END_WITH_PARENT, signal.SIGKILL)
+
+
 class LoggedDisk:
     """The disk as a folder, for a `with`; behind it `log` is there."""
 
@@ -253,6 +261,7 @@ class LoggedDisk:
 
     def serve(self, device):
         """What the child does, to its end."""
+        end_with_parent()
         status = 1
         try:
             server = Server(device, Blocks(self.blocks), self.size, random.Random(self.seed))

@@ -10,6 +10,7 @@ import zlib
 from dataclasses import dataclass
 from pathlib import Path
 
+from logged_disk import end_with_parent
 from promises import TABLE, Finding, output_of
 
 TOP = Path(__file__).resolve().parent.parent.parent
@@ -156,6 +157,7 @@ def begin_other(folder, seed):
     """Begins such a program, and says its number."""
     child = os.fork()
     if child == 0:
+        end_with_parent()
         try:
             disturb(folder, random.Random(seed))
         finally:
