@@ -2,6 +2,7 @@
 //
 //   POWER_NOTES=FILE   where each note goes, by one write: `write NAME OFFSET COUNT`, a line feed and the bytes, before the call,
 //                      in parts where there are many; `synced NAME`, once a sync has answered 0; of a folder, `folder synced`
+//   POWER_NOTED=N      the program is killed right behind its N-th note, where N isn't 0
 //   POWER_RESTS=N      how many microseconds pass behind each write, so that other programs come in between
 //   POWER_LACKS=KIND   syncs that aren't made, though the program is told that they were: `all`, `batch` (of a disk, behind a
 //                      write of more than one byte), `gate` (of a disk, behind a write of one byte), `output` (of a file whose
@@ -9,6 +10,7 @@
 #define _GNU_SOURCE
 #include <dlfcn.h>
 #include <fcntl.h>
+#include <signal.h>
 #include <stdbool.h>
 #include <stdio.h>
 #include <stdlib.h>
@@ -21,7 +23,13 @@ enum { PART = 65536, NAME = 256, HIGH = 100 };
 static int notes = -1;
 static const char *lacks = "";
 static useconds_t rests;
+static unsigned long left; // of the notes that are made
 static size_t last_count; // of the last write to a disk
+
+static unsigned long number_of(const char *name) {
+    const char *text = getenv(name);
+    return text ? strtoul(text, NULL, 10) : 0;
+}
 
 // The last name in the path of an open file.
 static const char *name_of(int file, char *path) {
@@ -41,6 +49,9 @@ static bool is_disk(const char *name) {
 static void put(const char *bytes, size_t count) {
     if (notes >= 0 && write(notes, bytes, count) != (ssize_t)count) {
         abort();
+    }
+    if (notes >= 0 && left > 0 && --left == 0) {
+        kill(getpid(), SIGKILL);
     }
 }
 
@@ -103,8 +114,9 @@ int fdatasync(int file) { return sync_by("fdatasync", file); }
 int fsync(int file) { return sync_by("fsync", file); }
 
 __attribute__((constructor)) static void set_up(void) {
-    const char *path = getenv("POWER_NOTES"), *kind = getenv("POWER_LACKS"), *rest = getenv("POWER_RESTS");
-    rests = rest ? strtoul(rest, NULL, 10) : 0;
+    const char *path = getenv("POWER_NOTES"), *kind = getenv("POWER_LACKS");
+    rests = number_of("POWER_RESTS");
+    left = number_of("POWER_NOTED");
     lacks = kind ? kind : "";
     int file = path ? open(path, O_WRONLY | O_CLOEXEC) : -1;
     if (file >= 0) {

@@ -21,8 +21,9 @@ COUNT = 3_000  # bytes that a guest puts
 JOURNALS = [4_096, 8_192, 65_536]
 LIVES = 3  # of each disk in a recording
 OTHERS, LONGEST_REST = 2, 0.004  # other programs on the file system, and the seconds for which one rests
+CALLS = 0, 7, 40, 150, 600  # behind so many writes and syncs a life is killed, if it isn't 0
 RESTS = "0", "0", "500"  # microseconds behind each write of a life
-PATIENCE = 60  # seconds for a command behind a cut
+PATIENCE = 600  # seconds for a command, on a machine however busy
 
 
 def guest(seed, count):
@@ -90,21 +91,16 @@ class Logged:
     def note(self, text, data=b""):
         os.write(self.notes, f"{text}\n".encode() + data)
 
-    def live(self, name, words, lines=b"", seconds=None):
-        """One life: to its end or, after so many seconds, its kill. Says with what status it ended by itself."""
+    def live(self, name, words, lines=b"", calls=0):
+        """One life: to its end or, behind so many calls, its kill. Says with what status it ended by itself."""
         self.note(f"life {name} {seed_of(name)} {COUNT} {words[1]}")
-        environment = {**self.environment, "POWER_RESTS": self.chance.choice(RESTS)}
-        how = {"stdin": subprocess.PIPE, "stdout": self.prints, "stderr": self.prints, "env": environment}
-        with subprocess.Popen(words, **how) as child:
-            try:
-                child.communicate(lines, timeout=seconds)
-            except subprocess.TimeoutExpired:
-                child.send_signal(signal.SIGKILL)
-        if child.returncode < 0:
+        environment = {**self.environment, "POWER_RESTS": self.chance.choice(RESTS), "POWER_NOTED": str(calls)}
+        done = subprocess.run(words, input=lines, stdout=self.prints, stderr=self.prints, env=environment, timeout=PATIENCE, check=False)
+        if done.returncode < 0:
             for file in (f"{name}.disk", f"{name}.out"):
                 if (self.place.folder / file).exists():
                     self.note(f"found {file}", (self.place.folder / file).read_bytes())
-        return child.returncode
+        return done.returncode
 
     def format(self, name):
         self.live(name, self.place.format_words(name))
@@ -113,14 +109,14 @@ class Logged:
         """A drive with a rhythm drawn by lot, which ends by itself or is killed."""
         turn, rounds, events = (str(self.chance.choice(of)) for of in ([30, 100, 400], [1, 2, 8], [10, 40, 100, 300, 10_000]))
         words = self.place.drive_words(name, "--turn", turn, "--rounds-per-commit", rounds, "--events", events)
-        if self.live(name, words, seconds=self.chance.choice([0.05, 0.2, 0.5, 2])) == 0:
+        if self.live(name, words, calls=self.chance.choice(CALLS)) == 0:
             self.note(f"kept {name} {(self.place.folder / f'{name}.out').stat().st_size}")
 
     def feed(self, name):
         """Lines drawn by lot: events, commits, and now and then a checkpoint."""
         kinds = self.chance.choices(["auto", "tick", "commit", "checkpoint"], [12, 2, 4, 1], k=self.chance.choice([40, 150, 400]))
         lines = "".join({"auto": f"auto 0 {self.chance.randint(1, 400)}\n", "tick": "tick 1\n"}.get(kind, f"{kind}\n") for kind in kinds)
-        self.live(name, self.place.words("run", name), lines.encode(), self.chance.choice([0.05, 0.2, 0.5, 2]))
+        self.live(name, self.place.words("run", name), lines.encode(), self.chance.choice(CALLS))
 
 
 def sync_all(folder):
