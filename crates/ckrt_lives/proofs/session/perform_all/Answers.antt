@@ -23,12 +23,12 @@ loop-command-preserved g c =
     let m = c.loop-command.session in
     let u = c.perform.new.session in
     let a = c.loop-command.released.items in
-    let b = c.perform.new.released.items in
+    let b = c.perform.new.to.items in
     let f = c.in_ok-perform.ensures in
     let does = does_answered (respond (Ok x)) c.in_ok-perform.field-0 a b m u (λ f. events_of_respond (Ok x) f (view_of m)) f.ok in
     let quit = quit_answered x c.in_ok-perform.field-0 _ m u f.ok in
     record {
-      does = does_next cs v i x c.args.released.now.items c.loop-command.released.items c.perform.new.released.items c.args.session.now c.loop-command.session c.perform.new.session lt c.command-item.is c.loop-command.invariant.goes_on c.loop-command.invariant.does does;
+      does = does_next cs v i x c.args.released.now.items c.loop-command.released.items c.perform.new.to.items c.args.session.now c.loop-command.session c.perform.new.session lt c.command-item.is c.loop-command.invariant.goes_on c.loop-command.invariant.does does;
       goes_on = quits_next cs v i x (view_of c.loop-command.session) lt c.command-item.is c.loop-command.invariant.goes_on ∙ (sym quit ∙ c.if-branch.false);
       confirmed = λ was. confirmed_answered x c.in_ok-perform.field-0 _ m u f.ok (c.loop-command.invariant.confirmed was);
     }
@@ -43,9 +43,14 @@ returns-then-branch-clause-ok g c =
     let m = c.loop-command.session in
     let u = c.perform.new.session in
     let a = c.loop-command.released.items in
-    let b = c.perform.new.released.items in
+    let b = c.perform.new.to.items in
     let f = c.in_ok-perform.ensures in
     let does = does_answered (respond (Ok x)) c.in_ok-perform.field-0 a b m u (λ f. events_of_respond (Ok x) f (view_of m)) f.ok in
     let quit = quit_answered x c.in_ok-perform.field-0 _ m u f.ok in
-    let all = does_next cs v i x c.args.released.now.items c.loop-command.released.items c.perform.new.released.items c.args.session.now c.loop-command.session c.perform.new.session lt c.command-item.is c.loop-command.invariant.goes_on c.loop-command.invariant.does does in
-    does_quit cs v (i + 1) c.args.released.now.items c.perform.new.released.items c.args.session.now c.perform.new.session (quits_next cs v i x (view_of c.loop-command.session) lt c.command-item.is c.loop-command.invariant.goes_on ∙ (sym quit ∙ c.if-branch.true)) does
+    let all = does_next cs v i x c.args.released.now.items c.loop-command.released.items c.perform.new.to.items c.args.session.now c.loop-command.session c.perform.new.session lt c.command-item.is c.loop-command.invariant.goes_on c.loop-command.invariant.does does in
+    does_quit cs v (i + 1) c.args.released.now.items c.perform.new.to.items c.args.session.now c.perform.new.session (quits_next cs v i x (view_of c.loop-command.session) lt c.command-item.is c.loop-command.invariant.goes_on ∙ (sym quit ∙ c.if-branch.true)) all
+
+pub returns-then-branch-clause-confirmed : goal.returns-then-branch-clause-confirmed
+returns-then-branch-clause-confirmed g c = λ was.
+    let x = c.command-item.result in
+    confirmed_answered x c.in_ok-perform.field-0 _ c.loop-command.session c.perform.new.session c.in_ok-perform.ensures.ok (c.loop-command.invariant.confirmed was)

@@ -5,7 +5,7 @@ use Rattle.ckrt_commands.specs.Replies.{output_in, outputs}
 use Rattle.ckrt_commands.proofs.ReplyLemmas.{nothing_begins, shown_in-outputs}
 use Rattle.ckrt_commands.proofs.TellLemmas.{tells_all, tells_nothing}
 use Rattle.ckrt_commands.proofs.WriteLemmas.{map_err, map_ok}
-use Rattle.ckrt_lives.proofs.session.ReleasedListener.output.Goals as goal
+use Rattle.ckrt_lives.proofs.session.ReleasedListenerVecU8.output.Goals as goal
 
 grown : {A E : Type 0} (r : Result A E) (old new bytes : List ℕ) → new ≡ (if is_ok r then old ++ bytes else old) → OnOk r (new ≡ old ++ bytes)
 grown (Ok x) old new bytes e = e
