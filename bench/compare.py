@@ -1,6 +1,7 @@
 """Runs two programs on the same guests, alternating, and prints the best rate of each and their ratio.
 
-At the end, without names of guests: what a call costs.
+Then how long the guests that have C sources take, here, by qemu-user where it is installed, and as programs of the host. At
+the end, without names of guests: what a call costs.
 """
 import os
 import re
@@ -8,6 +9,7 @@ import statistics
 import subprocess
 import sys
 
+import same_sources
 from results import note
 
 ROUNDS = 7
@@ -23,14 +25,20 @@ ENDLESS = ("stores-4",)
 CALLS = 2 * 4 * 400_000
 
 
-def rate_of(command):
-    """The console and the steps a second of processor time of one run."""
+def run_of(command):
+    """The console, the steps and the processor time of one run."""
     done = subprocess.run(command, capture_output=True, check=False)
     text = done.stderr.decode()
     if found := re.search(r"steps (\d+) nanoseconds (\d+)", text):
-        return done.stdout, int(found[1]) / (int(found[2]) / 1e9)
+        return done.stdout, int(found[1]), int(found[2]) / 1e9
     found = re.search(r"steps (\d+) seconds ([\d.]+)", text)
-    return done.stdout, int(found[1]) / float(found[2])
+    return done.stdout, int(found[1]), float(found[2])
+
+
+def rate_of(command):
+    """The console and the steps a second of processor time of one run."""
+    console, steps, seconds = run_of(command)
+    return console, steps / seconds
 
 
 def pages_of(path):
@@ -72,6 +80,38 @@ def calls(machine, guests):
         print(f"a call in {name}: {cost * 1e9:.0f} ns, {cost * steps / plain:.0f} plain instructions")
 
 
+def least_seconds(words, console):
+    """The least processor time of runs that put this console, without that of starting a process; nothing without words."""
+    if not words:
+        return None
+    runs = [same_sources.seconds_of(words) for _ in range(ROUNDS)]
+    if any(put.strip() != console.strip() for put, _ in runs):
+        sys.exit(f"{words[-1]}: the consoles differ")
+    start = min(same_sources.seconds_of(["true"])[1] for _ in range(ROUNDS))
+    return max(min(seconds for _, seconds in runs) - start, 1e-6)
+
+
+def shown(seconds):
+    """Milliseconds, or a dash for nothing."""
+    return "-" if seconds is None else f"{seconds * 1e3:.1f}"
+
+
+def same_programs(machine, guests, names):
+    """How long guests with C sources take, beside the same sources by qemu-user and as programs of the host."""
+    print(f"{'guest':16} {'Msteps':>8} {'machine ms':>11} {'qemu ms':>9} {'host ms':>9} {'times host':>11}")
+    for name in names:
+        command = [machine, "run", os.path.join(guests, name + ".bin"), "64", "1", "65535"]
+        runs = [run_of(command) for _ in range(ROUNDS)]
+        console, steps, ours = runs[0][0], runs[0][1], min(seconds for _, _, seconds in runs)
+        qemu = least_seconds(same_sources.on_qemu(name), console)
+        host = least_seconds(same_sources.on_host(name), console)
+        times = "-" if host is None else f"{ours / host:.0f}"
+        print(f"{name:16} {steps / 1e6:8.0f} {shown(ours):>11} {shown(qemu):>9} {shown(host):>9} {times:>11}")
+        for what, other in (("qemu-user", qemu), ("the host", host)):
+            if other is not None:
+                note("run", f"{name} beside {what}", "s", ours, other, ("", ours / other, ""))
+
+
 def mean(what, ratios):
     """Tells the geometric mean of these ratios, if there are any."""
     if ratios:
@@ -99,6 +139,7 @@ def main():
         print(f"{name:16} {base / 1e6:15.0f} {ours / 1e6:17.0f} {ours / base:6.2f}")
     mean("", ratios)
     mean(" of guests that multiply and divide", numeric)
+    same_programs(machine, guests, [name for name in names if name in NUMERIC])
     if not sys.argv[4:]:
         calls(machine, guests)
 

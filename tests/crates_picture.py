@@ -34,14 +34,14 @@ def covers(crates):
 
 def depths(lines):
     """How many crates stand above each, one on another: so each stands right below what needs it. What nothing needs stands
-    right above what it needs, and the program on top of all."""
+    right above what it needs, or at the bottom where it needs nothing either, and the program on top of all."""
     depth = {}
     for name in reversed(lines):
         users = [depth[it] for it in depth if name in lines[it]]
         depth[name] = 1 + max(users, default=-1)
     for name in lines:
         if not any(name in deps for deps in lines.values()) and name != "ckrt":
-            depth[name] = min(depth[it] for it in lines[name]) - 1
+            depth[name] = min((depth[it] for it in lines[name]), default=max(depth.values()) + 1) - 1
     return depth
 
 

@@ -13,7 +13,7 @@ use Rattle.ckrt_main.proofs.service.serve_lines.Goals.{in-Ok+in_ok-take_bytes-in
 pub loop-init : goal.loop-init
 loop-init g c = record {
   open_line = rw c.new-line.ensures refl;
-  processed = rw c.new-line.ensures (so_far_start (g.W.Write.contents c.args.writer.now) (g.W.Write.contents c.release.new.writer) (g.R.Read.remaining c.args.reader.now) c.args.session.now c.release.new.session c.in_ok-release.ensures.ok);
+  processed = rw c.new-line.ensures (so_far_start (g.W.Write.contents c.args.writer.now) (g.W.Write.contents c.release.new.to) (g.R.Read.remaining c.args.reader.now) c.args.session.now c.release.new.session c.in_ok-release.ensures.ok);
 }
 
 pub returns-in-Ok-eq0-clause-whole : goal.returns-in-Ok-eq0-clause-whole
@@ -122,7 +122,7 @@ loop-preserved g c = elim c.match-read.branch [
 pub returns-in_err-release-clause-processed : goal.returns-in_err-release-clause-processed
 returns-in_err-release-clause-processed g c =
     let a = g.W.Write.contents c.args.writer.now in
-    let b = g.W.Write.contents c.release.new.writer in
+    let b = g.W.Write.contents c.release.new.to in
     let r = g.R.Read.remaining c.args.reader.now in
     processes g.met.D.Disk.only_now a b r r c.args.session.now c.release.new.session [] (consumes_nothing r) (part_at_start a b c.args.session.now c.release.new.session c.in_err-release.ensures.broken)
 

@@ -1,0 +1,176 @@
+"""What has to be there after a cut, by the log: each file as the disk model says, and each promise that was printed.
+
+The bytes of a file are those that were written to it. A range is pending from the call that writes it on until a sync of the
+file has answered: what a cut leaves of it is anything. All other bytes have to be there.
+"""
+import contextlib
+import io
+import sys
+from dataclasses import dataclass, field, replace
+from pathlib import Path
+
+from logged_disk import NOTES
+
+sys.path.insert(0, str(Path(__file__).resolve().parent.parent.parent / "examples"))
+import read_disk  # noqa: E402  (a reader of disks that was written from the page on the format alone)
+
+MASK, TABLE = 0xFFFFFFFF, 0x30FC
+
+
+class Finding(Exception):
+    """Something that no cut may leave."""
+
+
+def output_of(seed, count):
+    """What the guest puts: of each number of the generator xorshift32 the sum of all so far that chose the same word of a table."""
+    number, table, put = seed, {}, bytearray()
+    for _ in range(count):
+        number ^= number << 13 & MASK
+        number ^= number >> 17
+        number ^= number << 5 & MASK
+        place = number & TABLE
+        table[place] = table.get(place, 0) + number & MASK
+        put.append(table[place] & 0xFF)
+    return bytes(put)
+
+
+@dataclass
+class Ranges:
+    """Ranges of a file that are pending."""
+
+    of: list = field(default_factory=list)
+
+    def settled(self, size):
+        """The ranges up to a size that aren't pending."""
+        at = 0
+        for begin, end in sorted(self.of):
+            if begin > at:
+                yield at, min(begin, size)
+            at = max(at, end)
+        if at < size:
+            yield at, size
+
+
+@dataclass
+class File:
+    content: bytearray = field(default_factory=bytearray)
+    pending: Ranges = field(default_factory=Ranges)
+
+    def write(self, offset, data):
+        if len(self.content) < offset:
+            self.content.extend(bytes(offset - len(self.content)))
+        self.content[offset:offset + len(data)] = data
+        self.pending.of.append((offset, offset + len(data)))
+
+    def take_over(self, name, found):
+        """What a killed program has left: of its last write perhaps a part, which is pending all the same."""
+        self.check(name, found)
+        self.content = bytearray(found)
+
+    def check(self, name, found):
+        for begin, end in self.pending.settled(len(self.content)):
+            if found[begin:end] != self.content[begin:end]:
+                at = next(at for at in range(begin, end) if found[at:at + 1] != self.content[at:at + 1])
+                raise Finding(f"{name}: byte {at} was synced as {self.content[at]:02x}, and is {found[at:at + 1].hex() or 'missing'}")
+
+
+@dataclass
+class Run:
+    """What was promised of a disk, by what its program printed and by the parent's notes."""
+
+    wanted: bytes  # the output at the guest's end
+    formatted: int = 0  # the printed size
+    acknowledged: int = 0
+    printed: int = 0  # so many bytes of output, of lines
+    kept: int = 0  # so many bytes of output, of drives that ended by themselves
+
+    def take_line(self, line):
+        match line.split():
+            case ["formatted", size]:
+                self.formatted = int(size)
+            case ["ack", number]:
+                self.acknowledged = max(self.acknowledged, int(number))
+            case ["out", offset, digits]:
+                self.take_output(int(offset), bytes.fromhex(digits))
+
+    def take_output(self, offset, data):
+        if self.wanted[offset:offset + len(data)] != data or offset > self.printed:
+            raise Finding(f"printed {data.hex()} at {offset}, behind {self.printed} bytes")
+        self.printed = max(self.printed, offset + len(data))
+
+
+def recovered(disk):
+    """How many events a disk recovers to, and the offset behind the last confirmed byte of output."""
+    with contextlib.redirect_stdout(io.StringIO()):
+        config = read_disk.read_superblock(disk)
+        headers = [read_disk.read_header(disk, config.area_at(index)) for index in range(2)]
+        used = read_disk.area_in_use(headers)
+        headers[used].check()
+        return read_disk.print_journal(disk, config, used, headers[used].version, headers[used].events), headers[used].output_offset
+
+
+class State:
+    """What is known at a moment of a log."""
+
+    def __init__(self):
+        self.files, self.runs, self.life, self.line = {}, {}, None, b""
+
+    def after_a_cut(self, folder):
+        """The same promises, with the files as they are now."""
+        state = State()
+        state.runs = {name: replace(run) for name, run in self.runs.items()}
+        for name in self.files:
+            path = folder / name
+            if path.exists():
+                state.files[name] = File(bytearray(path.read_bytes()))
+        return state
+
+    def take(self, note):
+        if note.file == NOTES:
+            head, _, data = note.data.partition(b"\n")
+            self.take_note(head.decode().split(), data)
+        else:
+            *lines, self.line = (self.line + note.data).split(b"\n")
+            for line in lines:
+                self.runs[self.life].take_line(line.decode())
+
+    def take_note(self, words, data):
+        match words:
+            case ["write", name, offset, _]:
+                self.files.setdefault(name, File()).write(int(offset), data)
+            case ["synced", name] if name in self.files:
+                self.files[name].pending = Ranges()
+            case ["found", name]:
+                self.files.setdefault(name, File()).take_over(name, data)
+            case ["life", name, seed, count, _]:
+                self.life, self.line = name, b""
+                self.runs.setdefault(name, Run(output_of(int(seed), int(count))))
+            case ["kept", name, length]:
+                self.runs[name].kept = int(length)
+
+    def check(self, folder):
+        """Looks at a folder behind a cut."""
+        for name, file in self.files.items():
+            path = folder / name
+            file.check(name, path.read_bytes() if path.exists() else b"")
+        for name, run in self.runs.items():
+            if run.formatted:
+                check_run(folder, name, run)
+
+
+def check_run(folder, name, run):
+    disk, output = folder / f"{name}.disk", folder / f"{name}.out"
+    if not disk.exists() or disk.stat().st_size != run.formatted:
+        raise Finding(f"{disk.name} was formatted with {run.formatted} bytes, and isn't there as such")
+    try:
+        events, confirmed = recovered(disk.read_bytes())
+    except read_disk.Fault as fault:
+        raise Finding(f"{disk.name}: {fault}") from None
+    if events < run.acknowledged:
+        raise Finding(f"{disk.name} recovers to {events} events, though {run.acknowledged} were acknowledged")
+    held = output.read_bytes() if output.exists() else b""
+    right = next((at for at, (one, other) in enumerate(zip(held, run.wanted)) if one != other), min(len(held), len(run.wanted)))
+    if max(right, run.printed) < confirmed:
+        raise Finding(f"{disk.name} has {confirmed} bytes of output as confirmed, of which {right} are kept and {run.printed} printed")
+    if right < run.kept:
+        raise Finding(f"{output.name} has {right} right bytes, though a drive had ended with {run.kept}")

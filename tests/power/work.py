@@ -1,0 +1,228 @@
+"""What ckrt does on a file system while its disk is logged, and what it does there after a cut."""
+import ctypes
+import os
+import random
+import signal
+import subprocess
+import sys
+import time
+import zlib
+from dataclasses import dataclass
+from pathlib import Path
+
+from logged_disk import end_with_parent
+from promises import TABLE, Finding, output_of
+
+TOP = Path(__file__).resolve().parent.parent.parent
+sys.path.insert(0, str(TOP / "bench"))
+from make_guests import Program, draw  # noqa: E402
+
+COUNT = 3_000  # bytes that a guest puts
+JOURNALS = [4_096, 8_192, 65_536]
+LIVES = 3  # of each disk in a recording
+OTHERS, LONGEST_REST = 2, 0.004  # other programs on the file system, and the seconds for which one rests
+CALLS = 0, 7, 40, 150, 600  # behind so many writes and syncs a life is killed, if it isn't 0
+RESTS = "0", "0", "500"  # microseconds behind each write of a life
+PATIENCE = 600  # seconds for a command, on a machine however busy
+
+
+def guest(seed, count):
+    """The image of a guest that puts what `output_of` says; it has its table in four pages."""
+    program = Program()
+    for register, value in ((5, seed), (8, count), (9, TABLE), (18, 0x4000)):
+        program.constant(register, value)
+    program.label("round")
+    draw(program)
+    program.both(7, 5, 9)
+    program.add(7, 7, 18)
+    program.emit(lambda at: 7 << 15 | 2 << 12 | 6 << 7 | 0x03)  # lw x6, 0(x7)
+    program.add(6, 6, 5)
+    program.store_word(6, 7)
+    program.addi(10, 6, 0)
+    program.call(2)
+    program.addi(8, 8, -1)
+    program.bne(8, 0, "round")
+    program.addi(10, 0, 0)
+    program.call(1)
+    return program.image()
+
+
+def seed_of(name):
+    return zlib.crc32(name.encode()) | 1
+
+
+@dataclass
+class Place:
+    """Where ckrt works: the folder on the file system, a folder beside it for images, and the program."""
+
+    folder: Path
+    images: Path
+    ckrt: Path
+
+    def image(self, name):
+        path = self.images / f"{name}.bin"
+        if not path.exists():
+            path.write_bytes(guest(seed_of(name), COUNT))
+        return path
+
+    def words(self, job, name, *more):
+        """The words of a job of a disk, which is named without its ending."""
+        return [self.ckrt, job, self.folder / f"{name}.disk", *more]
+
+    def format_words(self, name):
+        return self.words("format", name, self.image(name), "--pages", "16", "--journal", str(JOURNALS[seed_of(name) % len(JOURNALS)]))
+
+    def drive_words(self, name, *more):
+        return self.words("drive", name, "--output", self.folder / f"{name}.out", *more)
+
+
+class Logged:
+    """Lives of ckrt whose calls and prints are logged."""
+
+    def __init__(self, place, disk, calls, lacks, chance):
+        self.place, self.chance = place, chance
+        self.notes, self.prints = (os.open(disk.path(name), os.O_WRONLY) for name in ("notes", "prints"))
+        self.environment = {**os.environ, "LD_PRELOAD": str(calls), "POWER_NOTES": str(disk.path("notes")), "POWER_LACKS": lacks}
+
+    def close(self):
+        os.close(self.notes)
+        os.close(self.prints)
+
+    def note(self, text, data=b""):
+        os.write(self.notes, f"{text}\n".encode() + data)
+
+    def live(self, name, words, lines=b"", calls=0):
+        """One life: to its end or, behind so many calls, its kill. Says with what status it ended by itself."""
+        self.note(f"life {name} {seed_of(name)} {COUNT} {words[1]}")
+        environment = {**self.environment, "POWER_RESTS": self.chance.choice(RESTS), "POWER_NOTED": str(calls)}
+        done = subprocess.run(words, input=lines, stdout=self.prints, stderr=self.prints, env=environment, timeout=PATIENCE, check=False)
+        if done.returncode < 0:
+            for file in (f"{name}.disk", f"{name}.out"):
+                if (self.place.folder / file).exists():
+                    self.note(f"found {file}", (self.place.folder / file).read_bytes())
+        return done.returncode
+
+    def format(self, name):
+        self.live(name, self.place.format_words(name))
+
+    def drive(self, name):
+        """A drive with a rhythm drawn by lot, which ends by itself or is killed."""
+        turn, rounds, events = (str(self.chance.choice(of)) for of in ([30, 100, 400], [1, 2, 8], [10, 40, 100, 300, 10_000]))
+        words = self.place.drive_words(name, "--turn", turn, "--rounds-per-commit", rounds, "--events", events)
+        if self.live(name, words, calls=self.chance.choice(CALLS)) == 0:
+            self.note(f"kept {name} {(self.place.folder / f'{name}.out').stat().st_size}")
+
+    def feed(self, name):
+        """Lines drawn by lot: events, commits, and now and then a checkpoint."""
+        kinds = self.chance.choices(["auto", "tick", "commit", "checkpoint"], [12, 2, 4, 1], k=self.chance.choice([40, 150, 400]))
+        lines = "".join({"auto": f"auto 0 {self.chance.randint(1, 400)}\n", "tick": "tick 1\n"}.get(kind, f"{kind}\n") for kind in kinds)
+        self.live(name, self.place.words("run", name), lines.encode(), self.chance.choice(CALLS))
+
+
+def sync_all(folder):
+    """Syncs the file system of a folder."""
+    opened = os.open(folder, os.O_RDONLY)
+    ctypes.CDLL(None).syncfs(opened)
+    os.close(opened)
+
+
+def disturb(folder, chance):
+    """Another program on the same file system: it writes, syncs, renames and removes files of its own, until it is killed."""
+    names = [f"other{chance.randrange(10)}.{number}" for number in range(6)]
+    while True:
+        path = folder / chance.choice(names)
+        match chance.choice(["write", "write", "sync", "append", "rename", "remove", "sync all"]):
+            case "write":
+                path.write_bytes(chance.randbytes(chance.choice([100, 5_000, 60_000])))
+            case "append" | "sync" as kind:
+                with open(path, "ab") as file:
+                    file.write(chance.randbytes(700))
+                    file.flush()
+                    if kind == "sync":
+                        os.fsync(file.fileno())
+            case "rename" if path.exists():
+                path.rename(folder / chance.choice(names))
+            case "remove":
+                path.unlink(missing_ok=True)
+            case "sync all":
+                sync_all(folder)
+        time.sleep(chance.random() * LONGEST_REST)
+
+
+def begin_other(folder, seed):
+    """Begins such a program, and says its number."""
+    child = os.fork()
+    if child == 0:
+        end_with_parent()
+        try:
+            disturb(folder, random.Random(seed))
+        finally:
+            os._exit(1)
+    return child
+
+
+def work(logged, names):
+    """Disks are made where they aren't there, driven and fed in turns, beside other programs that write and sync."""
+    others = [begin_other(logged.place.folder, logged.chance.random()) for _ in range(OTHERS)]
+    try:
+        for name in names:
+            logged.format(name)
+        for _ in range(LIVES):
+            for name in logged.chance.sample(names, len(names)):
+                if name.startswith("lines"):
+                    logged.feed(name)
+                elif not name.startswith("made"):
+                    logged.drive(name)
+    finally:
+        for other in others:
+            os.kill(other, signal.SIGKILL)
+            os.waitpid(other, 0)
+
+
+def said(words, lines=b""):
+    """What a command behind a cut says."""
+    try:
+        return subprocess.run(words, input=lines, capture_output=True, timeout=PATIENCE, check=False)
+    except subprocess.TimeoutExpired:
+        raise Finding(f"{' '.join(map(str, words))}: no end in {PATIENCE} seconds") from None
+
+
+def shown(words, done):
+    return f"{' '.join(map(str, words[1:3]))}: status {done.returncode}, {(done.stdout + done.stderr)[-200:]!r}"
+
+
+def go_on(place, name, run, chance):
+    """Gives the same commands again after a cut, until the guest has ended, and compares its output."""
+    wanted = output_of(seed_of(name), COUNT)
+    if not run.formatted:
+        words = place.format_words(name)
+        done = said(words)
+        if done.returncode and not done.stderr.endswith(b"ckrt: AlreadyFormatted\n"):
+            raise Finding(shown(words, done))
+    begin = max(run.printed, feed_behind(place, name, wanted)) if name.startswith("lines") else 0
+    output = place.folder / f"{name}.out"
+    rhythm = "--turn", str(chance.choice([1_000, 5_000, 65_535])), "--rounds-per-commit", str(chance.choice([3, 16]))
+    words = place.drive_words(name, *rhythm)
+    done = said(words)
+    if done.returncode or not done.stderr.startswith(b"ended: exit 0"):
+        raise Finding(shown(words, done))
+    held = output.read_bytes()
+    if held[begin:] != wanted[begin:]:
+        at = next((at for at in range(begin, len(wanted)) if held[at:at + 1] != wanted[at:at + 1]), len(wanted))
+        raise Finding(f"{output.name} has {len(held)} bytes at its end, and another byte at {at}")
+
+
+def feed_behind(place, name, wanted):
+    """Feeds some lines to a disk that was fed before: each byte that it prints has to be the one of its offset. Says up to where."""
+    words, end = place.words("run", name), 0
+    done = said(words, b"auto 0 300\ncommit\nauto 0 100\ncheckpoint\n")
+    if done.returncode:
+        raise Finding(shown(words, done))
+    for line in done.stdout.decode().splitlines():
+        match line.split():
+            case ["out", offset, digits]:
+                data, begin = bytes.fromhex(digits), int(offset)
+                end = begin + len(data)
+                if wanted[begin:end] != data:
+                    raise Finding(f"{name}: {line!r}, where {wanted[begin:end].hex()} is right")
+    return end
