@@ -67,7 +67,7 @@ def kind_of(name, below):
 
 
 def legend(picture):
-    words = {"guest": "the guest's machine", "disk": "disk and journal", "join": "both", "ckrt": "the program and its words"}
+    words = {"guest": "the guest's machine", "disk": "disk and journal", "join": "both", "ckrt": "neither, or the program itself"}
     for at, (kind, text) in enumerate(words.items()):
         picture.box(20 + at * 210, 14, 16, 16, FILLS[kind])
         picture.text(42 + at * 210, 27, text, "small")
