@@ -4,6 +4,8 @@ from dataclasses import dataclass
 from devices import MemoryDisk
 from layout import OPEN, Geometry, Unformatted, format_disk, format_onto, refusal_of_format
 
+SMALLEST = Geometry(16, 1, 4096)
+
 
 @dataclass
 class FormatCase:
@@ -13,11 +15,14 @@ class FormatCase:
     before: bytes | None
 
     def outcome(self):
-        """The refusal or None, and what the file holds then. A short file is filled before its first byte is looked at."""
+        """The refusal or None, and what the file holds then. A short file is filled before formatting looks at its first byte:
+        one that is shorter than any disk from its start, another behind its end."""
         refusal = refusal_of_format(self.geometry.size, self.geometry, self.image)
         if refusal is not None:
             return refusal, self.before
-        contents = bytearray((self.before or b"").ljust(self.geometry.size, b"\0"))
+        before = self.before or b""
+        kept = before if len(before) >= SMALLEST.size else b""
+        contents = bytearray(kept.ljust(self.geometry.size, b"\0"))
         try:
             format_onto(MemoryDisk(contents), self.geometry, self.image)
         except Unformatted as fault:

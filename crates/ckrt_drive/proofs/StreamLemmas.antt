@@ -17,7 +17,7 @@ use Rattle.ckrt_commands.specs.Accepts.{Accepts}
 use Rattle.ckrt_commands.proofs.WriteLemmas.{Appends-append, Appends-nothing}
 use Rattle.ckrt_drive.specs.Output.{acknowledged_output}
 use Rattle.ckrt_drive.specs.PutOut.{EndsOrFails, FailsToPutOut, PutsAllOut, PutsOutput, between}
-use Rattle.ckrt_drive.specs.Streams.{HandsBetween, HandsNothingOn, HandsOn, HasBroken, StreamsOutput, got_to, writer_of}
+use Rattle.ckrt_drive.specs.Streams.{HandsBetween, HandsNothingOn, HandsOn, HasBroken, HasSameWriter, StreamsOutput, got_to, writer_of}
 use Rattle.ckrt_drive.specs.declared.stream.StreamOutput.{StreamOutput}
 
 drop_joined : (k : ℕ) (xs ys : List ℕ) → drop k xs ++ drop (k - length xs) ys ≡ drop k (xs ++ ys)
@@ -63,6 +63,19 @@ module _ {W : Type 0} (contents : W → Option (List ℕ)) (o : Ghosts (StreamOu
         handed = subst (λ (l : List ℕ). Appends (contents (writer_of a)) (contents (writer_of b)) l) joined (Appends-append (contents (writer_of a)) (contents (writer_of mid)) (contents (writer_of b)) (drop (got_to a - at) x) (drop (got_to mid - (at + length x)) (concat xs)) first more.handed);
         left_out = grind (arith, nat_tests, moved, more.left_out, size);
       }
+
+  -- it is lent the same writer all the while
+  lent_pieces : (at : ℕ) (pieces : List (List ℕ)) (a b : StreamOutput W) → PutsAllOut o at pieces a b → HasSameWriter a b
+  lent_pieces at [] a b h = subst (λ (x : StreamOutput W). HasSameWriter a x) (sym h) refl
+  lent_pieces at (x ∷ xs) a b (mid, put, h) = lent_pieces (at + length x) xs mid b h ∙ (syncs put.written true mid put.sync).lent ∙ (writes a at x true put.written put.write).lent
+
+  lent_part : (at : ℕ) (piece : List ℕ) (a b : StreamOutput W) → FailsToPutOut o at piece a b → HasSameWriter a b
+  lent_part at piece a b (inl write) = (writes a at piece false b write).lent
+  lent_part at piece a b (inr (written, write, sync)) = (syncs written false b sync).lent ∙ (writes a at piece true written write).lent
+
+  lent_by : (v : View) (last b : StreamOutput W) (failed : Bool) → EndsOrFails o v last b failed → HasSameWriter last b
+  lent_by v last b false h = subst (λ (x : StreamOutput W). HasSameWriter last x) (sym h) refl
+  lent_by v last b true h = lent_part v.recovered.confirmed (released_output v) last b h
 
   -- of the last piece a part
   hands_part : (at : ℕ) (piece : List ℕ) (a b : StreamOutput W) → FailsToPutOut o at piece a b → AppendsPart (contents (writer_of a)) (contents (writer_of b)) (drop (got_to a - at) piece)
@@ -123,6 +136,10 @@ module _ {W : Type 0} (contents : W → Option (List ℕ)) (o : Ghosts (StreamOu
               (subst (λ (l : List ℕ). Appends (contents (writer_of a)) (contents (writer_of h.last)) l) bytes all.handed) front.2,
         )
 
+    -- a stream that was given a drive's output is lent the same writer still
+    pub still_lent : (failed : Bool) → PutsOutput o accepted s t a b failed → HasSameWriter a b
+    still_lent failed h = lent_by (view_of t) h.last b failed h.rest ∙ lent_pieces s.progress.confirmed h.pieces a h.last h.puts
+
     -- what is put out of the fold's output is handed on
     pub streams_output : (failed : Bool) → Accepts accepted s t → PutsOutput o accepted s t a b failed → StreamsOutput contents accepted s t a b failed
     streams_output failed accepts h =
@@ -137,4 +154,5 @@ module _ {W : Type 0} (contents : W → Option (List ℕ)) (o : Ghosts (StreamOu
           broken = λ was.
               let still = broken_pieces s.progress.confirmed h.pieces a h.last was h.puts in
               ends_by (view_of t) h.last b failed (subst HasBroken (sym still) was) h.rest ∙ ap writer_of still;
+          lent = still_lent failed h;
         }

@@ -17,8 +17,13 @@ use Rattle.ckrt_drive.specs.Output.{acknowledged_output}
 use Rattle.ckrt_drive.specs.PutOut.{between, is_output_fault}
 use Rattle.ckrt_drive.specs.Runs.{Runs}
 
+-- the writer that it is lent, as it is
 abbrev pub writer_of : {W : Type 0} → StreamOutput W → W
-writer_of stream = stream.writer
+writer_of stream = stream.writer.now
+
+-- it is lent the same writer still
+abbrev pub HasSameWriter : {W : Type 0} → (old new : StreamOutput W) → Type 0
+HasSameWriter old new = new.writer.ghost_name ≡ old.writer.ghost_name
 
 -- the offset that it has got to: that of the first byte that it hasn't handed on
 abbrev pub got_to : {W : Type 0} → StreamOutput W → ℕ
@@ -44,6 +49,7 @@ pub record HandsOn {W : Type 0} (contents : W → Option (List ℕ)) (old : Stre
   pub breaks : ok ≡ false → HasBroken new
   -- after that nothing more is handed on
   pub broken : HasBroken old → (ok ≡ false) × (writer_of new ≡ writer_of old) × (got_to new ≡ got_to old)
+  pub lent : HasSameWriter old new
 
 -- a read or a sync, which hands nothing on
 pub record HandsNothingOn {W : Type 0} (old : StreamOutput W) (ok : Bool) (new : StreamOutput W) : Type 0 where
@@ -51,6 +57,11 @@ pub record HandsNothingOn {W : Type 0} (old : StreamOutput W) (ok : Bool) (new :
   pub next : got_to new ≡ got_to old
   -- one that fails breaks it
   pub breaks : ok ≡ false → HasBroken new
+  pub lent : HasSameWriter old new
+
+-- a sync, which fails only where it had broken
+abbrev pub SyncsNothing : {W : Type 0} → (old : StreamOutput W) → (ok : Bool) → (new : StreamOutput W) → Type 0
+SyncsNothing old ok new = HandsNothingOn old ok new × (ok ≡ false → HasBroken old)
 
 -- A WHOLE RUN OF A DRIVE
 
@@ -73,6 +84,7 @@ pub record StreamsOutput {D W : Type 0} {g : Ghosts D} (contents : W → Option 
   pub breaks : failed ≡ true → HasBroken b
   -- and hands nothing on where it had broken before
   pub broken : HasBroken a → writer_of b ≡ writer_of a
+  pub lent : HasSameWriter a b
 
 -- whatever run of a drive led from s to t, and its stream from a to b
 abbrev pub GetsTheOutput : {D W : Type 0} {g : Ghosts D} → Ghosts (StreamOutput W) → (contents : W → Option (List ℕ)) → (s t : Session D g) → (a b : StreamOutput W) → Type 0

@@ -17,13 +17,13 @@ use std::io::Write;
 /// byte once and in order, from the offset that the stream had got to, or that the session had confirmed if that is higher, up to
 /// the one that is confirmed at its end; and where a call of the stream failed, also a beginning of what is behind. That is said
 /// where the session's disk is honest, and the bytes that the writer holds are known.
-pub fn stream_gets_the_output<D: Disk, W: Write>(
+pub fn stream_gets_the_output<'a, D: Disk, W: Write>(
     before: &Session<D>,
     after: &Session<D>,
-    stream: &StreamOutput<W>,
-    end: &StreamOutput<W>,
+    stream: &StreamOutput<'a, W>,
+    end: &StreamOutput<'a, W>,
 )
-    ensures { GetsTheOutput ⟦<StreamOutput<W> as Disk>⟧ W.contents before.now after.now stream.now end.now }
+    ensures { GetsTheOutput ⟦<StreamOutput<'a, W> as Disk>⟧ W.contents before.now after.now stream.now end.now }
 {}
 
 /// A drive hands in no event that its session refuses as `NeedsCheckpoint`: while the area is of version 1 it plans no long run.

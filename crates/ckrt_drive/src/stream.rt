@@ -13,8 +13,8 @@ const STREAM_SIZE: usize = i64::MAX as usize;
 /// it has got to are left out. Once its writer has failed it hands nothing more on. It isn't honest: nobody can read it, and
 /// what a stop leaves of its bytes is for who gets them.
 #[derive(Drop)]
-pub struct StreamOutput<W> {
-    writer: W,
+pub struct StreamOutput<'a, W> {
+    writer: &'a mut W,
     next: usize,
     past: History<usize>,
     failures: u64,
@@ -28,15 +28,16 @@ fn behind(bytes: &[u8], at: usize, next: usize) -> &[u8]
     rest
 }
 
-impl<W: Write> StreamOutput<W> {
+impl<'a, W: Write> StreamOutput<'a, W> {
     ghost use Rattle.ckrt_drive.specs.Streams.{HandsNothingOn, got_to, writer_of};
 
-    /// A stream onto a writer, which leaves out the bytes below an offset.
-    pub fn new(writer: W, from: u64) -> StreamOutput<W>
-        ensures writer { writer_of result ≡ writer }
+    /// A stream onto a writer that it is lent, which leaves out the bytes below an offset.
+    pub fn new(writer: &'a mut W, from: u64) -> StreamOutput<'a, W>
+        ensures writer { writer_of result ≡ writer.old }
+        ensures lent { result.writer.ghost_name ≡ writer.entry.ghost_name }
         ensures from { got_to result ≡ from }
-        ensures failures { ⟦<StreamOutput<W> as Disk>⟧.failures result ≡ 0 }
-        ensures size { ⟦<StreamOutput<W> as Disk>⟧.size result ≡ 2 ^ 63 - 1 }
+        ensures failures { ⟦<StreamOutput<'a, W> as Disk>⟧.failures result ≡ 0 }
+        ensures size { ⟦<StreamOutput<'a, W> as Disk>⟧.size result ≡ 2 ^ 63 - 1 }
     {
         StreamOutput {
             writer,
@@ -46,9 +47,10 @@ impl<W: Write> StreamOutput<W> {
         }
     }
 
-    /// The writer, as it is.
-    pub fn into_writer(self) -> W
-        ensures { result ≡ writer_of self }
+    /// The writer that it was lent, as it is.
+    pub fn into_writer(self) -> &'a mut W
+        ensures lent { result.ghost_name ≡ self.entry.writer.ghost_name }
+        ensures writer { result.now ≡ writer_of self.entry }
     {
         self.writer
     }
@@ -65,8 +67,8 @@ impl<W: Write> StreamOutput<W> {
     }
 }
 
-impl<W: Write> Disk for StreamOutput<W> {
-    ghost use Rattle.ckrt_drive.specs.Streams.{HandsOn, HandsNothingOn};
+impl<'a, W: Write> Disk for StreamOutput<'a, W> {
+    ghost use Rattle.ckrt_drive.specs.Streams.{HandsOn, HandsNothingOn, SyncsNothing};
 
     ghost size = { λ _. 2 ^ 63 - 1 };
 
@@ -90,7 +92,7 @@ impl<W: Write> Disk for StreamOutput<W> {
 
     ghost write_gives = { HandsOn W.contents };
 
-    ghost sync_gives = { HandsNothingOn };
+    ghost sync_gives = { SyncsNothing };
 
     fn size(&self) -> usize {
         STREAM_SIZE
@@ -105,14 +107,14 @@ impl<W: Write> Disk for StreamOutput<W> {
         if self.failures > 0 {
             return self.fail();
         }
-        if write_text(&mut self.writer, behind(bytes, at, self.next)).is_err() {
+        if write_text(self.writer, behind(bytes, at, self.next)).is_err() {
             return self.fail();
         }
         self.next = self.next.max(at + bytes.len());
         Ok(())
     }
 
-    /// A write has flushed its writer.
+    /// A write has flushed its writer, so there is nothing that could fail.
     fn sync(&mut self) -> Result<(), DeviceFault> {
         self.past = self.past.with(&self.next);
         if self.failures > 0 {

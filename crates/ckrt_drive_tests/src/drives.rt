@@ -6,7 +6,7 @@ use crate::expect::{
 use crate::sessions::submitted;
 use crate::small_disk::{SMALL, format_outcome, recovered_in_memory, recovery_outcome};
 use arrayvec::ArrayVec;
-use ckrt_disk::{Disk, MemoryDisk};
+use ckrt_disk::{Disk, MemoryDisk, StoppingDisk};
 use ckrt_drive::{Drive, DriveFault, Ending, Nobody, Onlooker, Options, Progress, StreamOutput};
 use ckrt_events::Event;
 use ckrt_machine::{Answer, RunEnd};
@@ -351,16 +351,15 @@ impl Write for Narrow {
     }
 }
 
-/// A stream onto a writer that takes so many bytes.
-fn stream<R: AllocGlobal>(rt: &R, from: u64, takes: usize) -> StreamOutput<Narrow> {
+/// A writer that takes so many bytes.
+fn narrow<R: AllocGlobal>(rt: &R, takes: usize) -> Narrow {
     let bytes = Vec::new(rt.alloc());
-    StreamOutput::new(Narrow { bytes, takes }, from)
+    Narrow { bytes, takes }
 }
 
-/// The bytes that a stream has handed on.
-fn handed_on(stream: StreamOutput<Narrow>) -> Vec<u8> {
-    let writer: Narrow = stream.into_writer();
-    writer.bytes
+/// The session is driven to its end.
+fn drive_to_end<R: Abort, D: Disk + Drop, O: Disk + Drop>(rt: &R, session: Session<D>, output: O) {
+    let _ended = ended(rt, session, output, usual(u64::MAX), Ending::Ended);
 }
 
 /// The session is driven to its end, and hands these bytes on, which lie at or behind an offset.
@@ -370,9 +369,9 @@ fn expect_streamed<R: Abort + AllocGlobal, D: Disk + Drop>(
     from: u64,
     want: &[u8],
 ) {
-    let output = stream(rt, from, 64);
-    let (_, output) = ended(rt, session, output, usual(u64::MAX), Ending::Ended);
-    expect_bytes(rt, handed_on(output).as_slice(), want);
+    let mut writer = narrow(rt, 64);
+    drive_to_end(rt, session, StreamOutput::new(&mut writer, from));
+    expect_bytes(rt, writer.bytes.as_slice(), want);
 }
 
 #[test]
@@ -386,31 +385,40 @@ fn a_stream_leaves_out_the_bytes_below_its_offset(rt: HostRuntime) {
     }
 }
 
-/// The writer takes two bytes of five, and then no more; another one gets those behind them.
-#[test]
-fn a_stream_that_breaks(rt: HostRuntime) {
-    let session = recovered_in_memory(&rt, formatted_for(&rt, &ROUNDS, 3));
-    let mut drive = Drive::new(session, stream(&rt, 0, 2), usual(u64::MAX));
+/// Two drives of a session, one after the other, which both end as their output fails; nothing is confirmed then.
+fn expect_broken<R: Abort, D: Disk + Drop, O: Disk + Drop>(rt: &R, session: Session<D>, output: O) {
+    let mut drive = Drive::new(session, output, usual(u64::MAX));
     for _ in 0..2 {
         expect_eq(
-            &rt,
+            rt,
             drive.run(1_000_000, &mut Nobody),
             Err(DriveFault::Output),
         );
     }
-    let (session, output) = drive.into_parts();
-    expect_eq(&rt, session.confirmed(), 0);
-    expect_bytes(&rt, handed_on(output).as_slice(), &[0x06, 0x0c]);
-    expect_streamed(&rt, session, 2, &[0x12, 0x18, 0x00]);
+    expect_eq(rt, drive.session().confirmed(), 0);
 }
 
-/// A drive of small turns with a commit after each round onto a stream, over a disk that stops at a call, and then one to
-/// the end over what is left, onto a stream that begins behind what the first one handed on: each byte is handed on once.
-fn expect_streamed_once<R: Abort + AllocGlobal>(rt: &R, formatted: &[u8], at_call: u64) {
-    let bytes = formatted.to_vec(rt.alloc()).expect(rt, "memory for bytes");
-    let disk = stopping_disk(rt, bytes, at_call, &[0xa5]);
-    let output = stream(rt, 0, 64);
-    let (image, output) = match recovery_outcome(rt, disk) {
+/// The writer takes two bytes of five, and then no more; another one gets those behind them.
+#[test]
+fn a_stream_that_breaks(rt: HostRuntime) {
+    let formatted = formatted_for(&rt, &ROUNDS, 3);
+    let bytes = formatted.to_vec(rt.alloc()).expect(&rt, "memory for bytes");
+    let mut writer = narrow(&rt, 2);
+    let session = recovered_in_memory(&rt, bytes);
+    expect_broken(&rt, session, StreamOutput::new(&mut writer, 0));
+    expect_bytes(&rt, writer.bytes.as_slice(), &[0x06, 0x0c]);
+    let again = recovered_in_memory(&rt, formatted);
+    expect_streamed(&rt, again, 2, &[0x12, 0x18, 0x00]);
+}
+
+/// What is left of a disk that stops at a call, behind a drive of small turns with a commit after each round.
+fn left_by_drive<R: Abort + AllocGlobal, O: Disk + Drop>(
+    rt: &R,
+    disk: StoppingDisk,
+    at_call: u64,
+    output: O,
+) -> Vec<u8> {
+    match recovery_outcome(rt, disk) {
         Ok(session) => {
             let mut drive = Drive::new(session, output, Options::new(40, 1, u64::MAX));
             expect_eq_at(
@@ -419,12 +427,21 @@ fn expect_streamed_once<R: Abort + AllocGlobal>(rt: &R, formatted: &[u8], at_cal
                 drive.run(1_000_000, &mut Nobody),
                 Err(DriveFault::Device),
             );
-            let (session, output) = drive.into_parts();
-            (session.into_disk().into_image(), output)
+            let (session, _output) = drive.into_parts();
+            session.into_disk().into_image()
         }
-        Err(unrecovered) => (unrecovered.disk.into_image(), output),
-    };
-    let got = handed_on(output);
+        Err(unrecovered) => unrecovered.disk.into_image(),
+    }
+}
+
+/// A drive onto a stream, over a disk that stops at a call, and then one to the end over what is left, onto a stream that
+/// begins behind what the first one handed on: each byte is handed on once.
+fn expect_streamed_once<R: Abort + AllocGlobal>(rt: &R, formatted: &[u8], at_call: u64) {
+    let bytes = formatted.to_vec(rt.alloc()).expect(rt, "memory for bytes");
+    let disk = stopping_disk(rt, bytes, at_call, &[0xa5]);
+    let mut writer = narrow(rt, 64);
+    let image = left_by_drive(rt, disk, at_call, StreamOutput::new(&mut writer, 0));
+    let got = writer.bytes;
     let wanted = [0x14, 0x28, 0x3c];
     assert!(rt; got.len() <= wanted.len());
     let (front, back) = wanted.split_at(got.len());

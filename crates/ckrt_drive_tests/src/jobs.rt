@@ -83,6 +83,38 @@ fn a_longer_file_keeps_what_stands_behind(rt: HostRuntime) {
     play(&rt, LONGER);
 }
 
+const OPEN_GATE: &str =
+    "the disk jobs_j.disk: it holds a program already, and is unchanged; `ckrt run` goes on with it\nckrt: AlreadyFormatted\n";
+
+/// Files whose first byte is an open gate: as a `format` may leave them that was stopped before it printed, shorter than any
+/// disk, or by a byte; and one that may be a disk.
+const OPEN_GATES: &[Step] = &[
+    Write("jobs_j.img", &IMAGE),
+    Fill("jobs_j.disk", 0xa5, 102_400),
+    Prints(
+        "format jobs_j.disk jobs_j.img --pages 16 --journal 4096",
+        "",
+        "formatted 348160\n",
+    ),
+    Prints("run jobs_j.disk", LINES, REPLIES),
+    Fill("jobs_j.disk", 0xa5, 348_159),
+    Prints("format jobs_j.disk jobs_j.img", "", "formatted 864256\n"),
+    Prints("run jobs_j.disk", LINES, REPLIES),
+    Fill("jobs_j.disk", 0xa5, 348_160),
+    Fails(
+        "format jobs_j.disk jobs_j.img --pages 16 --journal 4096",
+        OPEN_GATE,
+    ),
+    EndsWith("jobs_j.disk", 348_160, &[0xa5; 10]),
+    Remove("jobs_j.disk"),
+    Remove("jobs_j.img"),
+];
+
+#[test]
+fn what_is_shorter_than_any_disk_is_no_formatted_one(rt: HostRuntime) {
+    play(&rt, OPEN_GATES);
+}
+
 const BAD_CONFIG: &str =
     "pages are 16 to 1024, harts 1 to 8, a journal's bytes a multiple of 4096 up to 1048576\nckrt: BadConfig\n";
 
@@ -136,6 +168,8 @@ const FAULTS: &[Step] = &[
     Fails("format jobs_d.disk jobs_d.elf --pages 16", ELF_IMAGE),
     Remove("jobs_d.elf"),
     Absent("jobs_d.disk"),
+    // a disk that can't be opened is told only of an image that fits
+    Fails("format . jobs_d.img --pages 16", LONG_IMAGE),
     Fails("format . jobs_d.img --pages 17", FOLDER),
     Remove("jobs_d.img"),
 ];

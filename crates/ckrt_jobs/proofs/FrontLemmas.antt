@@ -33,7 +33,3 @@ pub front_tells_elf : (limit : ℕ) (bytes read : List ℕ) → 3 ≤ limit → 
 front_tells_elf limit bytes read few e =
     let front = take-take 4 (limit + 1) bytes (omega (arith, few)) in
     ap (λ (l : List ℕ). is_elf l) e ∙ (rw front refl)
-
--- what has a longer front of what has this front has it too
-pub front_kept : (n m : ℕ) (xs ys zs : List ℕ) → n ≤ m → take m zs ≡ take m ys → take n ys ≡ take n xs → take n zs ≡ take n xs
-front_kept n m xs ys zs le longer front = sym (take-take n m zs le) ∙ ap (take n) longer ∙ take-take n m ys le ∙ front

@@ -17,7 +17,7 @@ use Rattle.ckrt_state.specs.declared.table.Status.{Status}
 use Rattle.ckrt_drive.specs.Plan.{cursor_at_start}
 use Rattle.ckrt_drive.specs.Runs.{Runs}
 use Rattle.ckrt_drive.specs.Stages.{GoesBySteps, stage}
-use Rattle.ckrt_drive.specs.Streams.{got_to}
+use Rattle.ckrt_drive.specs.Streams.{got_to, writer_of}
 use Rattle.ckrt_drive.specs.declared.cursor.Cursor.{Cursor}
 use Rattle.ckrt_drive.specs.declared.fault.DriveFault.{DriveFault}
 use Rattle.ckrt_drive.specs.declared.fault.DriveFault.TheVariants.{Output}
@@ -26,7 +26,7 @@ use Rattle.ckrt_drive.specs.declared.progress.Ending.{Ending}
 use Rattle.ckrt_drive.specs.declared.stream.StreamOutput.{StreamOutput}
 use Rattle.ckrt_words.specs.Jobs.{Driving}
 use Rattle.ckrt_jobs.specs.Lengths.{fits, lengths_of}
-use Rattle.ckrt_jobs.specs.Openings.{Openings, opened, refused}
+use Rattle.ckrt_jobs.specs.Openings.{Openings, opened, refused, with_closed, with_closed_output, with_disk, with_output}
 use Rattle.ckrt_jobs.specs.declared.driven.Driven.{Driven}
 use Rattle.ckrt_jobs.specs.declared.fault.JobFault.{JobFault}
 use Rattle.ckrt_jobs.specs.declared.fault.JobFault.TheVariants as job
@@ -101,19 +101,19 @@ pub record DrivesOnto {D : Type 0} (d : Ghosts D) (options : Options) (s : Sessi
   pub answer : Result Driven DriveFault
   pub drives : DrivesSession d options s after output end answer
   pub gives : result ≡ answer_of answer
-  pub closes : new ≡ record asked { closed = Some after.disk; closed_output = Some end }
+  pub closes : new ≡ with_closed (with_closed_output asked end) after.disk
 
 -- the output of this path can't be opened, and the disk was closed as it was recovered
 pub record LacksOutput {D : Type 0} (d : Ghosts D) (path : List ℕ) (s : Session D d) (old new : Openings D) (result : Result Driven JobFault) : Type 0 where
   pub why : FileFault
   pub is : result ≡ Err (job.File file.Output why)
-  pub closes : new ≡ record old { output = refused path why; closed = Some s.disk }
+  pub closes : new ≡ with_closed (with_output old (refused path why)) s.disk
 
 -- the output that was opened can't be the disk's, by the length of its file, and both were closed as they were
 pub record RefusesOutput {D : Type 0} (d : Ghosts D) (it : OpenedOutput D) (s : Session D d) (asked new : Openings D) (result : Result Driven JobFault) : Type 0 where
   pub unfit : fits (lengths_of it.length s) ≡ false
   pub is : result ≡ Err (job.OutputDiffers (lengths_of it.length s))
-  pub closes : new ≡ record asked { closed = Some s.disk; closed_output = Some it.output }
+  pub closes : new ≡ with_closed (with_closed_output asked it.output) s.disk
 
 -- the length of its file fits the disk, and the session was driven onto it
 pub record TakesOutput {D : Type 0} (d : Ghosts D) (it : OpenedOutput D) (options : Options) (s : Session D d) (asked new : Openings D) (result : Result Driven JobFault) : Type 0 where
@@ -127,27 +127,35 @@ DrivesOpenedOutput d it options s asked new result = RefusesOutput d it s asked 
 pub record OpensOutput {D : Type 0} (d : Ghosts D) (Outputs : OpenedOutput D → Type 0) (path : List ℕ) (options : Options) (s : Session D d) (old new : Openings D) (result : Result Driven JobFault) : Type 0 where
   pub it : OpenedOutput D
   pub is_opened : Outputs it
-  pub drives : DrivesOpenedOutput d it options s (record old { output = opened path }) new result
+  pub drives : DrivesOpenedOutput d it options s (with_output old (opened path)) new result
 
 -- what became of a session whose output goes into the file of a path
 abbrev pub DrivesInto : {D : Type 0} (d : Ghosts D) → (OpenedOutput D → Type 0) → (path : List ℕ) → Options → Session D d → (old new : Openings D) → Result Driven JobFault → Type 0
 DrivesInto d Outputs path options s old new result = LacksOutput d path s old new result ⊎ OpensOutput d Outputs path options s old new result
 
+-- A stream is lent the job's writer, from its beginning to its end: that holds what the writer held before, and in the end what it holds behind
+-- the job. What writers hold goes from a to b.
+pub record IsLent {W : Type 0} (contents : W → Option (List ℕ)) (a b : Option (List ℕ)) (stream end : StreamOutput W) : Type 0 where
+  pub before : contents (writer_of stream) ≡ a
+  pub behind : contents (writer_of end) ≡ b
+
 -- the session was driven onto a stream that leaves out the bytes below an offset, and its disk was closed as the drive left it
-pub record DrivesStream {D W : Type 0} (d : Ghosts D) (o : Ghosts (StreamOutput W)) (from : ℕ) (options : Options) (s : Session D d) (old new : Openings D) (result : Result Driven JobFault) : Type 0 where
+pub record DrivesStream {D W : Type 0} (d : Ghosts D) (o : Ghosts (StreamOutput W)) (Lent : (stream end : StreamOutput W) → Type 0) (from : ℕ) (options : Options) (s : Session D d) (old new : Openings D) (result : Result Driven JobFault) : Type 0 where
   pub stream : StreamOutput W
   pub begins : got_to stream ≡ from
   pub after : Session D d
   pub end : StreamOutput W
   pub answer : Result Driven DriveFault
   pub drives : DrivesSession o options s after stream end answer
+  -- nothing is written but by the stream
+  pub lent : Lent stream end
   pub gives : result ≡ answer_of answer
-  pub closes : new ≡ record old { closed = Some after.disk }
+  pub closes : new ≡ with_closed old after.disk
 
 -- the session was driven with its output in the file of a path, where there is one, else onto a stream
-abbrev pub DrivesRecovered : {D W : Type 0} (d : Ghosts D) (o : Ghosts (StreamOutput W)) → (List ℕ → OpenedOutput D → Type 0) → (output : Option (List ℕ)) (from : ℕ) → Options → Session D d → (old new : Openings D) → Result Driven JobFault → Type 0
-DrivesRecovered d o Outputs (Some path) from options s old new result = DrivesInto d (Outputs path) path options s old new result
-DrivesRecovered d o Outputs None from options s old new result = DrivesStream d o from options s old new result
+abbrev pub DrivesRecovered : {D W : Type 0} (d : Ghosts D) (o : Ghosts (StreamOutput W)) → (StreamOutput W → StreamOutput W → Type 0) → (List ℕ → OpenedOutput D → Type 0) → (output : Option (List ℕ)) (from : ℕ) → Options → Session D d → (old new : Openings D) → Result Driven JobFault → Type 0
+DrivesRecovered d o Lent Outputs (Some path) from options s old new result = DrivesInto d (Outputs path) path options s old new result
+DrivesRecovered d o Lent Outputs None from options s old new result = DrivesStream d o Lent from options s old new result
 
 -- where the output goes into a file nothing is written
 abbrev pub IsUnwritten : (output : Option (List ℕ)) → (a b : Option (List ℕ)) → Type 0
@@ -171,17 +179,17 @@ pub record LacksRecovery {D : Type 0} (d : Ghosts D) (start : D) (old new : Open
   pub is : result ≡ Err (job.Recover why)
   pub content : d.is_honest end → AgreesOnFault why (Recovers (d.content start))
   pub disk : IsSyncedAndRead d start end (is_device {X = Unit {0}} (Err why))
-  pub closes : new ≡ record old { closed = Some end }
+  pub closes : new ≡ with_closed old end
 
 -- the disk was recovered, and driven
-pub record DrivesDisk {D W : Type 0} (d : Ghosts D) (o : Ghosts (StreamOutput W)) (Outputs : List ℕ → OpenedOutput D → Type 0) (output : Option (List ℕ)) (from : ℕ) (options : Options) (start : D)
+pub record DrivesDisk {D W : Type 0} (d : Ghosts D) (o : Ghosts (StreamOutput W)) (Lent : (stream end : StreamOutput W) → Type 0) (Outputs : List ℕ → OpenedOutput D → Type 0) (output : Option (List ℕ)) (from : ℕ) (options : Options) (start : D)
     (old new : Openings D) (result : Result Driven JobFault) : Type 0 where
   pub session : Session D d
   pub recovered : IsRecovered d start session
-  pub drives : DrivesRecovered d o Outputs output from options session old new result
+  pub drives : DrivesRecovered d o Lent Outputs output from options session old new result
 
-abbrev pub DrivesOpened : {D W : Type 0} (d : Ghosts D) (o : Ghosts (StreamOutput W)) → (List ℕ → OpenedOutput D → Type 0) → (output : Option (List ℕ)) (from : ℕ) → Options → D → (old new : Openings D) → Result Driven JobFault → Type 0
-DrivesOpened d o Outputs output from options start old new result = LacksRecovery d start old new result ⊎ DrivesDisk d o Outputs output from options start old new result
+abbrev pub DrivesOpened : {D W : Type 0} (d : Ghosts D) (o : Ghosts (StreamOutput W)) → (StreamOutput W → StreamOutput W → Type 0) → (List ℕ → OpenedOutput D → Type 0) → (output : Option (List ℕ)) (from : ℕ) → Options → D → (old new : Openings D) → Result Driven JobFault → Type 0
+DrivesOpened d o Lent Outputs output from options start old new result = LacksRecovery d start old new result ⊎ DrivesDisk d o Lent Outputs output from options start old new result
 
 -- THE JOB
 
@@ -189,20 +197,20 @@ DrivesOpened d o Outputs output from options start old new result = LacksRecover
 pub record LacksDisk {D : Type 0} (path : List ℕ) (old new : Openings D) (result : Result Driven JobFault) : Type 0 where
   pub why : FileFault
   pub is : result ≡ Err (job.File file.Disk why)
-  pub refuses : new ≡ record old { disk = refused path why }
+  pub refuses : new ≡ with_disk old (refused path why)
 
 -- the disk of the words' path was opened, and driven as they ask
-pub record OpensDisk {D W : Type 0} (d : Ghosts D) (o : Ghosts (StreamOutput W)) (Opens : D → Type 0) (Outputs : List ℕ → OpenedOutput D → Type 0) (j : Driving) (old new : Openings D) (result : Result Driven JobFault) : Type 0 where
+pub record OpensDisk {D W : Type 0} (d : Ghosts D) (o : Ghosts (StreamOutput W)) (Lent : (stream end : StreamOutput W) → Type 0) (Opens : D → Type 0) (Outputs : List ℕ → OpenedOutput D → Type 0) (j : Driving) (old new : Openings D) (result : Result Driven JobFault) : Type 0 where
   pub options : Options
   pub asked : IsAsked j options
   pub start : D
   pub is_opened : Opens start
-  pub drives : DrivesOpened d o Outputs j.output (offset_of j.from) options start (record old { disk = opened j.disk }) new result
+  pub drives : DrivesOpened d o Lent Outputs j.output (offset_of j.from) options start (with_disk old (opened j.disk)) new result
 
 -- Out of its ranges nothing is asked for.
-abbrev pub DrivesInRange : {D W : Type 0} → Ghosts D → Ghosts (StreamOutput W) → (Opens : D → Type 0) (Outputs : List ℕ → OpenedOutput D → Type 0) → Driving → (old new : Openings D) → Result Driven JobFault → Bool → Type 0
-DrivesInRange d o Opens Outputs j old new result true = LacksDisk j.disk old new result ⊎ OpensDisk d o Opens Outputs j old new result
-DrivesInRange d o Opens Outputs j old new result false = (result ≡ Err job.Range) × (new ≡ old)
+abbrev pub DrivesInRange : {D W : Type 0} → Ghosts D → Ghosts (StreamOutput W) → (StreamOutput W → StreamOutput W → Type 0) → (Opens : D → Type 0) (Outputs : List ℕ → OpenedOutput D → Type 0) → Driving → (old new : Openings D) → Result Driven JobFault → Bool → Type 0
+DrivesInRange d o Lent Opens Outputs j old new result true = LacksDisk j.disk old new result ⊎ OpensDisk d o Lent Opens Outputs j old new result
+DrivesInRange d o Lent Opens Outputs j old new result false = (result ≡ Err job.Range) × (new ≡ old)
 
-abbrev pub DrivesPath : {D W : Type 0} → Ghosts D → Ghosts (StreamOutput W) → (Opens : D → Type 0) (Outputs : List ℕ → OpenedOutput D → Type 0) → Driving → (old new : Openings D) → Result Driven JobFault → Type 0
-DrivesPath d o Opens Outputs j old new result = DrivesInRange d o Opens Outputs j old new result (is_in_range j)
+abbrev pub DrivesPath : {D W : Type 0} → Ghosts D → Ghosts (StreamOutput W) → (StreamOutput W → StreamOutput W → Type 0) → (Opens : D → Type 0) (Outputs : List ℕ → OpenedOutput D → Type 0) → Driving → (old new : Openings D) → Result Driven JobFault → Type 0
+DrivesPath d o Lent Opens Outputs j old new result = DrivesInRange d o Lent Opens Outputs j old new result (is_in_range j)

@@ -8,7 +8,7 @@ use Rattle.ckrt_checkpoint.specs.Layout.{is_open, is_valid, memory_size, size_ne
 use Rattle.ckrt_image.specs.declared.fault.FormatFault.{FormatFault}
 use Rattle.ckrt_image.specs.declared.fault.FormatFault.TheVariants as format
 use Rattle.ckrt_image.specs.Format.{FormatsAt, IsFormatting, IsMade, IsRefusedBy, StaysFormatted, WasFormatted, calls_of, format_refusal, is_device}
-use Rattle.ckrt_jobs.specs.Openings.{Openings, opened, refused}
+use Rattle.ckrt_jobs.specs.Openings.{Openings, opened, refused, with_closed, with_disk, with_image}
 use Rattle.ckrt_jobs.specs.declared.fault.JobFault.{JobFault}
 use Rattle.ckrt_jobs.specs.declared.fault.JobFault.TheVariants as job
 use Rattle.ckrt_jobs.specs.declared.file.FileFault.{FileFault}
@@ -41,7 +41,7 @@ pub record FormatsOpened {D : Type 0} (d : Ghosts D) (config : Config) (guest : 
   pub answer : Result (Unit {0}) FormatFault
   pub gives : result ≡ answer_of answer
   pub formats : Formats d config guest start end answer
-  pub closes : new ≡ record asked { closed = Some end }
+  pub closes : new ≡ with_closed asked end
 
 -- A disk was opened and then formatted with the image, whose bytes may be known.
 pub record MakesDisk {D : Type 0} (d : Ghosts D) (config : Config) (known : Option (List ℕ)) (Fills : D → Type 0) (asked new : Openings D) (result : Result (Unit {0}) JobFault) : Type 0 where
@@ -60,24 +60,28 @@ abbrev pub IsUnreadable : JobFault → Type 0
 IsUnreadable (job.File at why) = (at ≡ file.Image) × (why ≢ fault.IsElf)
 IsUnreadable _ = ⊥
 
+-- the image, where its bytes are known, fits the guest's memory, and is no ELF file
+abbrev pub IsFit : Config → (known : Option (List ℕ)) → Type 0
+IsFit config known = (bytes : List ℕ) → known ≡ Some bytes → (length bytes ≤ memory_size config) × (is_elf bytes ≡ false)
+
 -- How a making ended that found its image unfit: the image of this path was refused, or a read of it failed; it is an ELF file; there was no
 -- memory for it; it is longer than the guest's memory. No disk was asked for.
 abbrev pub EndsOnImage : {D : Type 0} → Config → (known : Option (List ℕ)) → (image : List ℕ) → (old new : Openings D) → JobFault → Type 0
-EndsOnImage config known image old new (job.File file.Image why) = (new ≡ record old { image = refused image why })
-    ⊎ ((new ≡ record old { image = opened image }) × (why ≡ fault.IsElf → (bytes : List ℕ) → known ≡ Some bytes → is_elf bytes ≡ true))
-EndsOnImage config known image old new job.OutOfMemory = new ≡ record old { image = opened image }
-EndsOnImage config known image old new (job.Format format.ImageTooLong) = (new ≡ record old { image = opened image }) × ((bytes : List ℕ) → known ≡ Some bytes → memory_size config < length bytes)
+EndsOnImage config known image old new (job.File file.Image why) = (new ≡ with_image old (refused image why))
+    ⊎ ((new ≡ with_image old (opened image)) × (why ≡ fault.IsElf → (bytes : List ℕ) → known ≡ Some bytes → is_elf bytes ≡ true))
+EndsOnImage config known image old new job.OutOfMemory = new ≡ with_image old (opened image)
+EndsOnImage config known image old new (job.Format format.ImageTooLong) = (new ≡ with_image old (opened image)) × ((bytes : List ℕ) → known ≡ Some bytes → memory_size config < length bytes)
 EndsOnImage config known image old new _ = ⊥
 
 module _ {D : Type 0} (d : Ghosts D) (config : Config) (known : Option (List ℕ)) (Fills : D → Type 0) (image disk : List ℕ) (old new : Openings D) where
-  -- its disk was asked for, behind its image, and was made
+  -- its disk was asked for, behind an image that fits, and was made
   abbrev pub MakesItsDisk : Result (Unit {0}) JobFault → Type 0
-  MakesItsDisk = MakesDisk d config known Fills (record old { image = opened image; disk = opened disk }) new
+  MakesItsDisk result = IsFit config known × MakesDisk d config known Fills (with_disk (with_image old (opened image)) (opened disk)) new result
 
-  -- the disk can't be opened, or isn't asked for, since its path is the image's
+  -- the image fits, and the disk can't be opened, or isn't asked for, since its path is the image's
   abbrev pub EndsAtDisk : FileFault → Type 0
-  EndsAtDisk why = (new ≡ record old { image = opened image; disk = refused disk why })
-      ⊎ ((disk ≡ image) × (why ≡ fault.IsImage) × (new ≡ record old { image = opened image }))
+  EndsAtDisk why = IsFit config known × ((new ≡ with_disk (with_image old (opened image)) (refused disk why))
+      ⊎ ((disk ≡ image) × (why ≡ fault.IsImage) × (new ≡ with_image old (opened image))))
 
   -- How a making ended. Where the configuration is out of its ranges nothing was asked for.
   abbrev pub EndsMaking : Result (Unit {0}) JobFault → Type 0
@@ -97,5 +101,5 @@ pub record Makes {D : Type 0} (d : Ghosts D) (config : Config) (known : Option (
   pub ends : EndsMaking d config known Fills image disk old new result
   -- the image's file is never made the disk
   pub apart : disk ≡ image → new.disk ≡ old.disk
-  -- a disk is made only with an image that fits, and that is no ELF file
-  pub fits : OnOk result ((bytes : List ℕ) → known ≡ Some bytes → (length bytes ≤ memory_size config) × (is_elf bytes ≡ false))
+  -- a disk is made only with an image that fits
+  pub fits : OnOk result (IsFit config known)

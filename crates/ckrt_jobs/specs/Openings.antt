@@ -1,12 +1,11 @@
--- What sources were asked for last, and which disk and which output they were given back.
-use Rattle.std.specs.Prelude.{ℕ, List, Option, None, Result, Ok, Err}
+-- What sources were asked for, and which disks and outputs they were given back.
+use Rattle.std.specs.Prelude.{ℕ, List, [], ◌∷◌, Result, Ok, Err}
 use Rattle.ckrt_jobs.specs.declared.file.FileFault.{FileFault}
-use Rattle.ckrt_jobs.specs.declared.file.LastOpening.{LastOpening}
-use Rattle.ckrt_jobs.specs.declared.file.LastOpening.TheVariants as kept
+use Rattle.ckrt_jobs.specs.declared.file.FileOpening.{FileOpening}
+use Rattle.ckrt_jobs.specs.declared.file.FileOpening.TheVariants as kept
 
 -- the opening of a file: of which path, and whether it was refused and why
 pub data Opening : Type 0 where
-  unasked : Opening
   opened : List ℕ → Opening
   refused : List ℕ → FileFault → Opening
 
@@ -15,25 +14,41 @@ abbrev pub opening_of : {X : Type 0} → List ℕ → Result X FileFault → Ope
 opening_of path (Ok x) = opened path
 opening_of path (Err why) = refused path why
 
--- the one that is kept
-abbrev pub kept_opening : LastOpening → Opening
-kept_opening kept.Unasked = unasked
+-- one that is noted
+abbrev pub kept_opening : FileOpening → Opening
 kept_opening (kept.Opened path) = opened path.now
 kept_opening (kept.Refused path why) = refused path.now why
 
--- the last openings, and the last disk and the last output that were given back
+-- all openings, and all disks and outputs that were given back, the newest first
 pub record Openings (D : Type 0) : Type 0 where
-  -- of an image
-  pub image : Opening
-  -- of a disk
-  pub disk : Opening
-  -- of an output
-  pub output : Opening
-  -- the disk that was closed, as it was then
-  pub closed : Option D
-  -- the output that was closed, as it was then
-  pub closed_output : Option D
+  -- of images
+  pub image : List Opening
+  -- of disks
+  pub disk : List Opening
+  -- of outputs
+  pub output : List Opening
+  -- the disks that were closed, each as it was then
+  pub closed : List D
+  -- the outputs that were closed, each as it was then
+  pub closed_output : List D
 
 -- nothing was asked for
 abbrev pub unopened : {D : Type 0} → Openings D
-unopened = record { image = unasked; disk = unasked; output = unasked; closed = None; closed_output = None }
+unopened = record { image = []; disk = []; output = []; closed = []; closed_output = [] }
+
+-- one opening more, of an image, of a disk, and of an output
+abbrev pub with_image : {D : Type 0} → Openings D → Opening → Openings D
+with_image o x = record o { image = x ∷ o.image }
+
+abbrev pub with_disk : {D : Type 0} → Openings D → Opening → Openings D
+with_disk o x = record o { disk = x ∷ o.disk }
+
+abbrev pub with_output : {D : Type 0} → Openings D → Opening → Openings D
+with_output o x = record o { output = x ∷ o.output }
+
+-- one disk more that was closed, and one output
+abbrev pub with_closed : {D : Type 0} → Openings D → D → Openings D
+with_closed o disk = record o { closed = disk ∷ o.closed }
+
+abbrev pub with_closed_output : {D : Type 0} → Openings D → D → Openings D
+with_closed_output o output = record o { closed_output = output ∷ o.closed_output }

@@ -6,8 +6,7 @@ use Rattle.clap.specs.Words.{takes}
 use Rattle.ckrt_disk.specs.declared.disk.Disk.{Ghosts}
 use Rattle.ckrt_checkpoint.specs.Layout.{size_needed}
 use Rattle.ckrt_recovery.specs.View.{fresh}
-use Rattle.ckrt_main.specs.Service.{IsStartFault, Served, ServedPart}
-use Rattle.ckrt_commands.specs.Writing.{AppendsPart}
+use Rattle.ckrt_main.specs.Service.{AppendsPart, IsStartFault, Served, ServedPart}
 use Rattle.ckrt_main.specs.declared.fault.ServeFault.{ServeFault}
 use Rattle.ckrt_main.specs.declared.fault.ServeFault.TheVariants as serve
 use Rattle.ckrt_words.specs.Commands.{ckrt_app}
@@ -15,10 +14,10 @@ use Rattle.ckrt_words.specs.Jobs.{Formatting, Request, Inspection, drive, format
 use Rattle.ckrt_words.specs.declared.job.WordsFault.{WordsFault}
 use Rattle.ckrt_words.specs.declared.job.WordsFault.TheVariants as words
 use Rattle.ckrt_drive.specs.declared.stream.StreamOutput.{StreamOutput}
-use Rattle.ckrt_jobs.specs.Driving.{DrivesPath, IsUnwritten}
+use Rattle.ckrt_jobs.specs.Driving.{DrivesPath, IsLent, IsUnwritten}
 use Rattle.ckrt_jobs.specs.Ends.{end_line}
 use Rattle.ckrt_jobs.specs.Making.{Makes}
-use Rattle.ckrt_jobs.specs.Openings.{Openings, opened, refused}
+use Rattle.ckrt_jobs.specs.Openings.{Openings, opened, refused, with_closed, with_disk}
 use Rattle.ckrt_jobs.specs.Outcomes.{config_of, disk_of, made_line, status_of, status_of_words, version_line}
 use Rattle.ckrt_jobs.specs.Reports.{report_of, words_report_of}
 use Rattle.ckrt_jobs.specs.Running.{RunsDisk}
@@ -76,15 +75,15 @@ pub record RunsOpened {D : Type 0} (d : Ghosts D) (Opens : D → Type 0) (asked 
   pub ran : Result D (Unserved D)
   pub runs : RunsDisk d start a b r s ran
   pub gives : result ≡ outcome_of ran
-  pub closes : new ≡ record asked { closed = Some (disk_of ran) }
+  pub closes : new ≡ with_closed asked (disk_of ran)
 
 -- the disk of this path was asked for and can't be opened
 abbrev pub IsRefused : {D : Type 0} → (path : List ℕ) → (old new : Openings D) → (a b r s : Option (List ℕ)) → Result (Unit {0}) JobFault → Type 0
-IsRefused path old new a b r s result = (why : FileFault) × (result ≡ Err (job.File file.Disk why)) × (new ≡ record old { disk = refused path why }) × (b ≡ a) × (s ≡ r)
+IsRefused path old new a b r s result = (why : FileFault) × (result ≡ Err (job.File file.Disk why)) × (new ≡ with_disk old (refused path why)) × (b ≡ a) × (s ≡ r)
 
 -- the disk of this path was run, or can't be opened
 abbrev pub RunsPath : {D : Type 0} → Ghosts D → (path : List ℕ) → (D → Type 0) → (old new : Openings D) → (a b r s : Option (List ℕ)) → Result (Unit {0}) JobFault → Type 0
-RunsPath d path Opens old new a b r s result = IsRefused path old new a b r s result ⊎ RunsOpened d Opens (record old { disk = opened path }) new a b r s result
+RunsPath d path Opens old new a b r s result = IsRefused path old new a b r s result ⊎ RunsOpened d Opens (with_disk old (opened path)) new a b r s result
 
 -- a disk that was opened to be looked at was shown, and closed as it was then
 pub record ShowsOpened {D : Type 0} (d : Ghosts D) (Opens : D → Type 0) (i : Inspection) (asked new : Openings D) (a b r s : Option (List ℕ)) (result : Result (Unit {0}) JobFault) : Type 0 where
@@ -92,12 +91,12 @@ pub record ShowsOpened {D : Type 0} (d : Ghosts D) (Opens : D → Type 0) (i : I
   pub is_opened : Opens start
   pub end : D
   pub shows : Shows d start end (shown_of i.at i.code) a b result
-  pub closes : new ≡ record asked { closed = Some end }
+  pub closes : new ≡ with_closed asked end
   pub unread : s ≡ r
 
 -- the disk of the inspection's path was shown, or can't be opened
 abbrev pub ShowsPath : {D : Type 0} → Ghosts D → (D → Type 0) → Inspection → (old new : Openings D) → (a b r s : Option (List ℕ)) → Result (Unit {0}) JobFault → Type 0
-ShowsPath d Opens i old new a b r s result = IsRefused i.disk old new a b r s result ⊎ ShowsOpened d Opens i (record old { disk = opened i.disk }) new a b r s result
+ShowsPath d Opens i old new a b r s result = IsRefused i.disk old new a b r s result ⊎ ShowsOpened d Opens i (with_disk old (opened i.disk)) new a b r s result
 
 -- the outcome of a job that has no end of its own
 abbrev pub outcome_without_end : Result (Unit {0}) JobFault → Result (Option Driven) JobFault
@@ -118,14 +117,14 @@ Comes Holds outcome = (result : Result Driven JobFault) × (outcome ≡ outcome_
 
 -- What the program does for a request, where its sources give these bytes for the path of an image, these disks for that of a disk, these
 -- once it is filled, and these outputs for that of an output; the openings go from old to new: what asks for no file opens none.
-abbrev pub Performs : {D W : Type 0} → Ghosts D → Ghosts (StreamOutput W) → Request → (List ℕ → Option (List ℕ)) → (List ℕ → D → Type 0) → (List ℕ → ℕ → D → Type 0) → (List ℕ → OpenedOutput D → Type 0)
+abbrev pub Performs : {D W : Type 0} → Ghosts D → Ghosts (StreamOutput W) → (contents : W → Option (List ℕ)) → Request → (List ℕ → Option (List ℕ)) → (List ℕ → D → Type 0) → (List ℕ → ℕ → D → Type 0) → (List ℕ → OpenedOutput D → Type 0)
     → (old new : Openings D) → (a b r s : Option (List ℕ)) → Result (Option Driven) JobFault → Type 0
-Performs d o stored known Opens Fills Outputs old new a b r s outcome = Does (ServesStored a b r s) outcome × (new ≡ old)
-Performs d o version known Opens Fills Outputs old new a b r s outcome = Does (SaysLine a b version_line) outcome × (s ≡ r) × (new ≡ old)
-Performs d o (format f) known Opens Fills Outputs old new a b r s outcome = Does (MakesPath d f (known f.image) (Fills f.disk (size_needed (config_of f))) old new a b) outcome × (s ≡ r)
-Performs d o (run disk) known Opens Fills Outputs old new a b r s outcome = Does (RunsPath d disk (Opens disk) old new a b r s) outcome
-Performs d o (inspect i) known Opens Fills Outputs old new a b r s outcome = Does (ShowsPath d (Opens i.disk) i old new a b r s) outcome
-Performs d o (drive j) known Opens Fills Outputs old new a b r s outcome = Comes (DrivesPath d o (Opens j.disk) Outputs j old new) outcome × IsUnwritten j.output a b × (s ≡ r)
+Performs d o contents stored known Opens Fills Outputs old new a b r s outcome = Does (ServesStored a b r s) outcome × (new ≡ old)
+Performs d o contents version known Opens Fills Outputs old new a b r s outcome = Does (SaysLine a b version_line) outcome × (s ≡ r) × (new ≡ old)
+Performs d o contents (format f) known Opens Fills Outputs old new a b r s outcome = Does (MakesPath d f (known f.image) (Fills f.disk (size_needed (config_of f))) old new a b) outcome × (s ≡ r)
+Performs d o contents (run disk) known Opens Fills Outputs old new a b r s outcome = Does (RunsPath d disk (Opens disk) old new a b r s) outcome
+Performs d o contents (inspect i) known Opens Fills Outputs old new a b r s outcome = Does (ShowsPath d (Opens i.disk) i old new a b r s) outcome
+Performs d o contents (drive j) known Opens Fills Outputs old new a b r s outcome = Comes (DrivesPath d o (IsLent contents a b) (Opens j.disk) Outputs j old new) outcome × IsUnwritten j.output a b × (s ≡ r)
 
 -- a reporter said this text behind what it had said, unless it has failed
 abbrev pub Reports : (before after : Option (List ℕ)) → Bool → List ℕ → Type 0
@@ -138,10 +137,10 @@ ReportsOutcome q (Ok (Some driven)) before after has_failed = Reports before aft
 ReportsOutcome q (Err fault) before after has_failed = Reports before after has_failed (report_of q fault)
 
 -- the program's words ask for something: what was done, what was said of it, and the status
-pub record RunsRequest {D W : Type 0} (d : Ghosts D) (o : Ghosts (StreamOutput W)) (q : Request) (known : List ℕ → Option (List ℕ)) (Opens : List ℕ → D → Type 0) (Fills : List ℕ → ℕ → D → Type 0)
+pub record RunsRequest {D W : Type 0} (d : Ghosts D) (o : Ghosts (StreamOutput W)) (contents : W → Option (List ℕ)) (q : Request) (known : List ℕ → Option (List ℕ)) (Opens : List ℕ → D → Type 0) (Fills : List ℕ → ℕ → D → Type 0)
     (Outputs : List ℕ → OpenedOutput D → Type 0) (old new : Openings D) (a b r s said_before said_after : Option (List ℕ)) (has_failed : Bool) (status : ℕ) : Type 0 where
   pub outcome : Result (Option Driven) JobFault
-  pub performs : Performs d o q known Opens Fills Outputs old new a b r s outcome
+  pub performs : Performs d o contents q known Opens Fills Outputs old new a b r s outcome
   pub reports : ReportsOutcome q outcome said_before said_after has_failed
   pub gives : status ≡ status_of outcome
 
@@ -157,13 +156,13 @@ pub record RefusesWords {D : Type 0} (ws : List (List ℕ)) (old new : Openings 
   pub gives : status ≡ status_of_words fault
 
 -- what the program does for its words
-abbrev pub RunsWords : {D W : Type 0} → Ghosts D → Ghosts (StreamOutput W) → (ws : List (List ℕ)) → (List ℕ → Option (List ℕ)) → (List ℕ → D → Type 0) → (List ℕ → ℕ → D → Type 0)
+abbrev pub RunsWords : {D W : Type 0} → Ghosts D → Ghosts (StreamOutput W) → (contents : W → Option (List ℕ)) → (ws : List (List ℕ)) → (List ℕ → Option (List ℕ)) → (List ℕ → D → Type 0) → (List ℕ → ℕ → D → Type 0)
     → (List ℕ → OpenedOutput D → Type 0) → (old new : Openings D) → (a b r s said_before said_after : Option (List ℕ)) → Bool → ℕ → Type 0
-RunsWords d o ws known Opens Fills Outputs old new a b r s said_before said_after has_failed status =
-    ((q : Request) × (request_of_words ws ≡ Some q) × RunsRequest d o q known Opens Fills Outputs old new a b r s said_before said_after has_failed status)
+RunsWords d o contents ws known Opens Fills Outputs old new a b r s said_before said_after has_failed status =
+    ((q : Request) × (request_of_words ws ≡ Some q) × RunsRequest d o contents q known Opens Fills Outputs old new a b r s said_before said_after has_failed status)
     ⊎ RefusesWords ws old new a b r s said_before said_after has_failed status
 
--- the same with files of the system, of which nothing is known but what was asked for last, and how that was opened
-abbrev pub RunsOnFiles : {D W : Type 0} → Ghosts D → Ghosts (StreamOutput W) → (ws : List (List ℕ)) → (old new : Openings D) → (a b r s said_before said_after : Option (List ℕ)) → Bool → ℕ → Type 0
-RunsOnFiles d o ws old new a b r s said_before said_after has_failed status =
-    RunsWords d o ws (λ _. None) (λ _ _. Unit {0}) (λ _ _ _. Unit {0}) (λ _ _. Unit {0}) old new a b r s said_before said_after has_failed status
+-- the same with files of the system, of which nothing is known but what was asked for, and how that was opened
+abbrev pub RunsOnFiles : {D W : Type 0} → Ghosts D → Ghosts (StreamOutput W) → (contents : W → Option (List ℕ)) → (ws : List (List ℕ)) → (old new : Openings D) → (a b r s said_before said_after : Option (List ℕ)) → Bool → ℕ → Type 0
+RunsOnFiles d o contents ws old new a b r s said_before said_after has_failed status =
+    RunsWords d o contents ws (λ _. None) (λ _ _. Unit {0}) (λ _ _ _. Unit {0}) (λ _ _. Unit {0}) old new a b r s said_before said_after has_failed status

@@ -1,8 +1,9 @@
 //! Driving a disk.
 ghost use Rattle.std.specs.Prelude.{◌≡◌, ◌⊎◌, IfSome, IfErr, IfOk, None, OnOk, false, option_map, true};
 ghost use Rattle.ckrt_words.specs.Jobs.{driving_of};
-ghost use Rattle.ckrt_jobs.specs.Driving.{DrivesInto, DrivesOnto, DrivesOpened, DrivesOpenedOutput, DrivesPath, DrivesRecovered, DrivesSession, DrivesStream, IsAsked, IsUnwritten, answer_of, driven_of, is_in_range, is_target, offset_of};
+ghost use Rattle.ckrt_jobs.specs.Driving.{DrivesInto, DrivesOnto, DrivesOpened, DrivesOpenedOutput, DrivesPath, DrivesRecovered, DrivesSession, DrivesStream, IsAsked, IsLent, IsUnwritten, answer_of, driven_of, is_in_range, is_target, offset_of};
 ghost use Rattle.ckrt_jobs.specs.Openings.{opened, refused};
+ghost use Rattle.ckrt_drive.specs.Streams.{HasSameWriter};
 
 use crate::driven::Driven;
 use crate::fault::JobFault;
@@ -159,8 +160,21 @@ fn drive_into_file<'a, I: Read, D: Disk, S: Sources<'a, I, D>, M: Meter>(
     }
 }
 
+/// Drives a session, with its output on a stream, which is lent its writer all the while.
+fn drive_streamed<'a, D: Disk, W: Write, M: Meter>(
+    session: Session<D>,
+    stream: StreamOutput<'a, W>,
+    options: Options,
+    meter: &mut M,
+) -> Undertaken<D, StreamOutput<'a, W>>
+    ensures drives { DrivesSession ⟦<StreamOutput<'a, W> as Disk>⟧ options session result.session stream.entry result.output result.driven }
+    ensures lent { HasSameWriter stream.entry result.output }
+{
+    drive_session(session, stream, options, meter)
+}
+
 /// Drives a session, with its output on a writer but for the bytes below an offset, and closes its disk.
-fn drive_onto_stream<'a, I: Read, D: Disk, S: Sources<'a, I, D>, W: Write, M: Meter>(
+fn drive_onto_stream<'a, I: Read, D: Disk, S: Sources<'a, I, D>, W: Write + 'a, M: Meter>(
     session: Session<D>,
     from: u64,
     options: Options,
@@ -168,12 +182,19 @@ fn drive_onto_stream<'a, I: Read, D: Disk, S: Sources<'a, I, D>, W: Write, M: Me
     writer: &mut W,
     meter: &mut M,
 ) -> Result<Driven, JobFault>
-    ensures { DrivesStream D.Disk ⟦<StreamOutput<&'a mut W> as Disk>⟧ from options session (S.openings sources.old) (S.openings sources.new) result }
+    ensures { DrivesStream D.Disk ⟦<StreamOutput<'a, W> as Disk>⟧ (IsLent W.contents (W.contents writer.old) (W.contents writer.new)) from options session (S.openings sources.old) (S.openings sources.new) result }
 {
-    let undertaken = drive_session(session, StreamOutput::new(writer, from), options, meter);
-    let disk = undertaken.session.into_disk();
+    let Undertaken {
+        session,
+        output,
+        driven,
+    } = drive_streamed(session, StreamOutput::new(writer, from), options, meter);
+    let disk = session.into_disk();
     sources.close(disk);
-    answer_of(undertaken.driven)
+    let writer = output.into_writer();
+    // This does nothing at run time: clauses learn here what the writer holds once the stream has it no more.
+    let _ = &*writer;
+    answer_of(driven)
 }
 
 /// Below which offset output is left out.
@@ -187,7 +208,7 @@ fn offset_of(from: Option<u64>) -> u64
 }
 
 /// Drives a session, with its output in the job's file, or on the writer where the words name none.
-fn drive_recovered<'a, I: Read, D: Disk, S: Sources<'a, I, D>, W: Write, M: Meter>(
+fn drive_recovered<'a, I: Read, D: Disk, S: Sources<'a, I, D>, W: Write + 'a, M: Meter>(
     session: Session<D>,
     job: &DriveJob<'a>,
     options: Options,
@@ -195,7 +216,7 @@ fn drive_recovered<'a, I: Read, D: Disk, S: Sources<'a, I, D>, W: Write, M: Mete
     writer: &mut W,
     meter: &mut M,
 ) -> Result<Driven, JobFault>
-    ensures drives { DrivesRecovered D.Disk ⟦<StreamOutput<&'a mut W> as Disk>⟧ (S.outputs sources.old) (driving_of job.now).output (offset_of job.now.from) options session (S.openings sources.old) (S.openings sources.new) result }
+    ensures drives { DrivesRecovered D.Disk ⟦<StreamOutput<'a, W> as Disk>⟧ (IsLent W.contents (W.contents writer.old) (W.contents writer.new)) (S.outputs sources.old) (driving_of job.now).output (offset_of job.now.from) options session (S.openings sources.old) (S.openings sources.new) result }
     ensures unwritten { IsUnwritten (driving_of job.now).output (W.contents writer.old) (W.contents writer.new) }
 {
     match job.output {
@@ -212,7 +233,7 @@ fn drive_recovered<'a, I: Read, D: Disk, S: Sources<'a, I, D>, W: Write, M: Mete
 }
 
 /// Recovers a disk that was opened, and drives it.
-fn drive_opened<'a, I: Read, D: Disk, S: Sources<'a, I, D>, W: Write, M: Meter>(
+fn drive_opened<'a, I: Read, D: Disk, S: Sources<'a, I, D>, W: Write + 'a, M: Meter>(
     alloc: Global,
     disk: D,
     job: &DriveJob<'a>,
@@ -221,7 +242,7 @@ fn drive_opened<'a, I: Read, D: Disk, S: Sources<'a, I, D>, W: Write, M: Meter>(
     writer: &mut W,
     meter: &mut M,
 ) -> Result<Driven, JobFault>
-    ensures drives { DrivesOpened D.Disk ⟦<StreamOutput<&'a mut W> as Disk>⟧ (S.outputs sources.old) (driving_of job.now).output (offset_of job.now.from) options disk (S.openings sources.old) (S.openings sources.new) result }
+    ensures drives { DrivesOpened D.Disk ⟦<StreamOutput<'a, W> as Disk>⟧ (IsLent W.contents (W.contents writer.old) (W.contents writer.new)) (S.outputs sources.old) (driving_of job.now).output (offset_of job.now.from) options disk (S.openings sources.old) (S.openings sources.new) result }
     ensures unwritten { IsUnwritten (driving_of job.now).output (W.contents writer.old) (W.contents writer.new) }
 {
     match recover(alloc, disk) {
@@ -242,14 +263,14 @@ fn drive_opened<'a, I: Read, D: Disk, S: Sources<'a, I, D>, W: Write, M: Meter>(
 ///
 /// The first that applies: `Range`, before anything is opened; `File` of the disk; `Recover`, before the output is asked
 /// for; `File` of the output; then what the drive answers.
-pub(crate) fn drive_path<'a, I: Read, D: Disk, S: Sources<'a, I, D>, W: Write, M: Meter>(
+pub(crate) fn drive_path<'a, I: Read, D: Disk, S: Sources<'a, I, D>, W: Write + 'a, M: Meter>(
     alloc: Global,
     job: &DriveJob<'a>,
     sources: &mut S,
     writer: &mut W,
     meter: &mut M,
 ) -> Result<Driven, JobFault>
-    ensures drives { DrivesPath D.Disk ⟦<StreamOutput<&'a mut W> as Disk>⟧ (S.opens sources.old job.now.disk.now) (S.outputs sources.old) (driving_of job.now) (S.openings sources.old) (S.openings sources.new) result }
+    ensures drives { DrivesPath D.Disk ⟦<StreamOutput<'a, W> as Disk>⟧ (IsLent W.contents (W.contents writer.old) (W.contents writer.new)) (S.opens sources.old job.now.disk.now) (S.outputs sources.old) (driving_of job.now) (S.openings sources.old) (S.openings sources.new) result }
     ensures unwritten { IsUnwritten (driving_of job.now).output (W.contents writer.old) (W.contents writer.new) }
 {
     if !is_in_range(job) {

@@ -46,25 +46,23 @@ pub enum FileFault {
     Other,
 }
 
-/// The last opening of a file: of which path, and how it went.
+/// An opening of a file: of which path, and how it went.
 #[derive(Clone, Copy)]
-pub(crate) enum LastOpening<'a> {
-    /// None was asked for.
-    Unasked,
+pub(crate) enum FileOpening<'a> {
     /// The file of this path is open.
     Opened(&'a str),
     /// That of this path can't be used, and this is why.
     Refused(&'a str, FileFault),
 }
 
-impl<'a> LastOpening<'a> {
+impl<'a> FileOpening<'a> {
     /// The opening of a path with this answer.
-    pub(crate) fn of<T>(path: &'a str, answer: &Result<T, FileFault>) -> LastOpening<'a>
+    pub(crate) fn of<T>(path: &'a str, answer: &Result<T, FileFault>) -> FileOpening<'a>
         ensures { kept_opening result ≡ opening_of path.now answer.now }
     {
         match answer {
-            Ok(_) => LastOpening::Opened(path),
-            Err(fault) => LastOpening::Refused(path, *fault),
+            Ok(_) => FileOpening::Opened(path),
+            Err(fault) => FileOpening::Refused(path, *fault),
         }
     }
 }

@@ -4,8 +4,9 @@
 //! and disks of any [`Sources`]; [`make_disk`], [`run_disk`] and [`inspect_disk`] are its jobs over any disk.
 //!
 //! Proved of [`make_disk`]: BadConfig comes exactly where the configuration is out of its ranges, before anything is
-//! opened; with a fault of the image, ImageTooLong and want of memory for the image the disk wasn't asked for; a fault of a
-//! file is that of the opening of its path, or of a read of the image; a disk with the image's path isn't asked for. Where
+//! opened; with a fault of the image, ImageTooLong and want of memory for the image the disk wasn't asked for, and a fault of
+//! the disk's file comes only where the image fits; a fault of a file is that of the opening of its path, or of a read of the
+//! image; a disk with the image's path isn't asked for. Where
 //! the disk is open it is formatted, once: TooSmall comes exactly where it is shorter than needed; AlreadyFormatted where its
 //! first byte is an open gate, and it reads as before then; a disk whose first byte is an open gate isn't written, whatever
 //! the answer; Ok comes where that gate was closed, and it holds the program with exactly this image then; Device only where
@@ -29,36 +30,37 @@
 //! only once the disk is recovered; the session that its content recovers to was driven as `ckrt_drive` says, step by step
 //! from the first round up to an end, with the options of the words; the program's status is the session's; and disk and
 //! output are closed as the drive left them. Where the words name no file the output is a stream that leaves out what lies
-//! below their offset, else nothing is printed; an offset beside a file is the fault Range too.
+//! below their offset, and nothing but that stream writes to the writer, from the job's beginning to its end; else nothing is
+//! printed. An offset beside a file is the fault Range too.
 //!
 //! Proved of [`run_words_with`]: its outcome is the one that the words ask for, and the status is that outcome's: for
 //! `format` that of making the disk of DISK with the image of IMAGE, and then the line `formatted SIZE`; for `run` that of
-//! running the disk of DISK; for `inspect` that of showing it; for `drive` that of driving it with its output in FILE or on
-//! a stream, and then the line of what it came to; for no words that of serving the stored program, of which a service that
-//! ends early has written a beginning; for `--version` the line of version and kit. Where a line can't be
-//! written, what was written is a beginning of it. The files that were asked for last are those of DISK and IMAGE, and none
-//! where the words name none; the disk is closed as its job left it. A disk that can't be opened is a fault of File with
-//! what its sources said of that path. For each fault the line in plain words, with the path of the file, and the line with
-//! its name were reported exactly, or the reporter failed. The status is 2 never for no words, nor for words that `clap`
-//! takes. [`run_words`] says the same of some disk of the system for each path, and of the files that it was handed, what
-//! they were asked for last.
+//! running the disk of DISK; for `inspect` that of showing it; for `drive` that of driving it with its output in FILE or on a
+//! stream, and then the line of what it came to; for no words that of serving the stored program, of which a service that
+//! ends early has written a beginning; for `--version` the line of version and kit. Where a line can't be written, what was
+//! written is a beginning of it. The files that were asked for are those of DISK and IMAGE, each once, and none where the
+//! words name none; the disk is closed as its job left it, once, by who knows nothing of it and so can't write to it. A disk
+//! that can't be opened is a fault of File with what its sources said of that path. For each fault the line in plain words,
+//! with the path of the file, and the line with its name were reported exactly, or the reporter failed. The status is 2 never
+//! for no words, nor for words that `clap` takes. [`run_words`] says the same of some disk of the system for each path, and
+//! of the files that it was handed, what they were asked for.
 //!
-//! Proved of the files of the system: none that is opened has the descriptor of a standard stream. Filling writes nothing
-//! below the length that a file tells.
+//! Proved of the files of the system: none that is opened has the descriptor of a standard stream; the folder that is looked for is
+//! the path's. Filling is stated over any disk (`ckrt_filling`).
 //!
 //! A law: a byte that was printed at an offset is never another, over any number of runs of a disk
 //! ([`printed_bytes_stay`]).
 //!
 //! What a drive hands on to its stream is the output of acknowledged events: `stream_gets_the_output` of `ckrt_drive`. Only
-//! tested: that this stream is made over the writer, the lines on how far a drive is, what a path opens, that a file is filled
-//! and locked and its folder synced, that what is printed is flushed, that faults on standard error reach it.
+//! tested: the lines on how far a drive is, what a path opens, that a file is filled and locked and its folder synced, that
+//! what is printed is flushed, that faults on standard error reach it.
 #![tactic(auto)]
 
 mod driven;
 mod driving;
 mod fault;
 mod file;
-mod filling;
+mod growing;
 mod image;
 mod laws;
 mod making;
@@ -85,5 +87,5 @@ pub use program::{run_words, run_words_with};
 pub use reporter::{Reporter, Unsaid, WrittenReport};
 pub use running::{Unserved, run_disk};
 pub use showing::inspect_disk;
-pub use sources::Sources;
+pub use sources::{Closes, Sources};
 pub use system::{SystemDisk, SystemSources};

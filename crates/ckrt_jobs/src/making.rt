@@ -1,8 +1,8 @@
 //! Making a disk.
 ghost use Rattle.std.specs.Prelude.{◌≡◌, ◌↔◌, ◌≤◌, ℕ, List, Some, false, true, length, IfOk, IfErr, IsTrue, OnOk};
 ghost use Rattle.ckrt_checkpoint.specs.Layout.{is_valid, memory_size, size_needed};
-ghost use Rattle.ckrt_jobs.specs.Making.{EndsOnImage, FormatsOpened, Makes, is_elf};
-ghost use Rattle.ckrt_jobs.specs.Openings.{opened, refused};
+ghost use Rattle.ckrt_jobs.specs.Making.{EndsOnImage, FormatsOpened, IsFit, Makes, is_elf};
+ghost use Rattle.ckrt_jobs.specs.Openings.{opened, refused, with_disk, with_image};
 ghost use Rattle.ckrt_jobs.specs.declared.fault.JobFault.TheVariants.{File};
 ghost use Rattle.ckrt_jobs.specs.declared.file.FileFault.{FileFault};
 ghost use Rattle.ckrt_jobs.specs.declared.file.JobFile.TheVariants as file;
@@ -22,8 +22,8 @@ fn open_image<'a, I: Read, D: Disk, S: Sources<'a, I, D>>(
     path: &'a str,
 ) -> Result<I, JobFault>
     ensures bytes { IfOk result (λ reader. I.remaining reader ≡ S.image_bytes sources.old path.now) }
-    ensures opened { OnOk result (S.openings sources.new ≡ record (S.openings sources.old) { image = opened path.now }) }
-    ensures refused { IfErr result (λ e. (why : FileFault) × (e ≡ File file.Image why) × (S.openings sources.new ≡ record (S.openings sources.old) { image = refused path.now why })) }
+    ensures opened { OnOk result (S.openings sources.new ≡ with_image (S.openings sources.old) (opened path.now)) }
+    ensures refused { IfErr result (λ e. (why : FileFault) × (e ≡ File file.Image why) × (S.openings sources.new ≡ with_image (S.openings sources.old) (refused path.now why))) }
     ensures same_disks { (at : List ℕ) (size : ℕ) (disk : D) → S.fills sources.new at size disk → S.fills sources.old at size disk }
 {
     match sources.open_image(path) {
@@ -42,7 +42,8 @@ fn fitting_image<'a, I: Read + Drop, D: Disk, S: Sources<'a, I, D>>(
     requires { is_valid config ≡ true }
     ensures bytes { IfOk result (λ image. (bytes : List ℕ) → S.image_bytes sources.old path.now ≡ Some bytes → image.items ≡ bytes) }
     ensures fits { IfOk result (λ image. (length image.items ≤ memory_size config) × (is_elf image.items ≡ false)) }
-    ensures opened { OnOk result (S.openings sources.new ≡ record (S.openings sources.old) { image = opened path.now }) }
+    ensures known { OnOk result (IsFit config (S.image_bytes sources.old path.now)) }
+    ensures opened { OnOk result (S.openings sources.new ≡ with_image (S.openings sources.old) (opened path.now)) }
     ensures unfit { IfErr result (EndsOnImage config (S.image_bytes sources.old path.now) path.now (S.openings sources.old) (S.openings sources.new)) }
     ensures same_disks { (at : List ℕ) (size : ℕ) (disk : D) → S.fills sources.new at size disk → S.fills sources.old at size disk }
 {
@@ -64,8 +65,8 @@ fn filled_disk<'a, I: Read, D: Disk, S: Sources<'a, I, D>>(
     size: usize,
 ) -> Result<D, JobFault>
     ensures disk { IfOk result (S.fills sources.old path.now size) }
-    ensures opened { OnOk result (S.openings sources.new ≡ record (S.openings sources.old) { disk = opened path.now }) }
-    ensures refused { IfErr result (λ e. (why : FileFault) × (e ≡ File file.Disk why) × (S.openings sources.new ≡ record (S.openings sources.old) { disk = refused path.now why })) }
+    ensures opened { OnOk result (S.openings sources.new ≡ with_disk (S.openings sources.old) (opened path.now)) }
+    ensures refused { IfErr result (λ e. (why : FileFault) × (e ≡ File file.Disk why) × (S.openings sources.new ≡ with_disk (S.openings sources.old) (refused path.now why))) }
 {
     match sources.open_filled(path, size) {
         Ok(disk) => Ok(disk),
@@ -105,8 +106,8 @@ fn format_opened<'a, I: Read, D: Disk, S: Sources<'a, I, D>>(
 /// # Errors
 ///
 /// The first that applies: `BadConfig`, before anything is opened; `File` and `OutOfMemory` of the image, `File` also where it
-/// is an ELF file; `ImageTooLong`, before the disk is asked for; `File` of the disk, which isn't asked for either where its path is the image's; then what
-/// formatting answers.
+/// is an ELF file; `ImageTooLong`; `File` of the disk, which is asked for only with an image that fits, and not where its path
+/// is the image's; then what formatting answers.
 pub fn make_disk<'a, I: Read + Drop, D: Disk, S: Sources<'a, I, D>>(
     alloc: Global,
     sources: &mut S,

@@ -155,7 +155,15 @@ fn with_end(driven: Result<Driven, JobFault>) -> Result<Option<Driven>, JobFault
 }
 
 /// Does a job.
-fn perform<'a, I: Read + Drop, D: Disk + Drop, S: Sources<'a, I, D>, R: Read, W: Write, M: Meter>(
+fn perform<
+    'a,
+    I: Read + Drop,
+    D: Disk + Drop,
+    S: Sources<'a, I, D>,
+    R: Read,
+    W: Write + 'a,
+    M: Meter,
+>(
     alloc: Global,
     job: &Job<'a>,
     sources: &mut S,
@@ -163,7 +171,7 @@ fn perform<'a, I: Read + Drop, D: Disk + Drop, S: Sources<'a, I, D>, R: Read, W:
     writer: &mut W,
     meter: &mut M,
 ) -> Result<Option<Driven>, JobFault>
-    ensures performs { Performs D.Disk ⟦<StreamOutput<&'a mut W> as Disk>⟧ (request_of job.now) (S.image_bytes sources.old) (S.opens sources.old) (S.fills sources.old) (S.outputs sources.old) (S.openings sources.old) (S.openings sources.new) (W.contents writer.old) (W.contents writer.new) (R.remaining reader.old) (R.remaining reader.new) result }
+    ensures performs { Performs D.Disk ⟦<StreamOutput<'a, W> as Disk>⟧ W.contents (request_of job.now) (S.image_bytes sources.old) (S.opens sources.old) (S.fills sources.old) (S.outputs sources.old) (S.openings sources.old) (S.openings sources.new) (W.contents writer.old) (W.contents writer.new) (R.remaining reader.old) (R.remaining reader.new) result }
 {
     match job {
         Job::Stored => without_end(serve_stored(alloc, reader, writer)),
@@ -191,7 +199,7 @@ pub fn run_words_with<
     D: Disk + Drop,
     S: Sources<'a, I, D>,
     R: Read,
-    W: Write,
+    W: Write + 'a,
     E: Reporter,
     M: Meter,
 >(
@@ -209,7 +217,7 @@ pub fn run_words_with<
     ensures version { result ≡ 0 → request_of_words (map (λ s. s.now) words.entry.now) ≡ Some version → Appends (W.contents writer.old) (W.contents writer.new) version_line }
     ensures usage { result ≡ 2 → takes ckrt_app (map (λ s. s.now) words.entry.now) ≢ true }
     ensures stored { result ≡ 2 → words.entry.now ≢ [] }
-    ensures outcome { RunsWords D.Disk ⟦<StreamOutput<&'a mut W> as Disk>⟧ (map (λ s. s.now) words.entry.now) (S.image_bytes sources.old) (S.opens sources.old) (S.fills sources.old) (S.outputs sources.old) (S.openings sources.old) (S.openings sources.new) (W.contents writer.old) (W.contents writer.new) (R.remaining reader.old) (R.remaining reader.new) (E.said reporter.old) (E.said reporter.new) (E.has_failed reporter.new) result }
+    ensures outcome { RunsWords D.Disk ⟦<StreamOutput<'a, W> as Disk>⟧ W.contents (map (λ s. s.now) words.entry.now) (S.image_bytes sources.old) (S.opens sources.old) (S.fills sources.old) (S.outputs sources.old) (S.openings sources.old) (S.openings sources.new) (W.contents writer.old) (W.contents writer.new) (R.remaining reader.old) (R.remaining reader.new) (E.said reporter.old) (E.said reporter.new) (E.has_failed reporter.new) result }
 {
     match read_words(alloc, words) {
         Ok(job) => {
@@ -222,7 +230,7 @@ pub fn run_words_with<
 
 /// Does what the words after the program's name ask for, with images and disks that are files of the system, as
 /// [`run_words_with`] says.
-pub fn run_words<'a, F: Files<File = File>, R: Read, W: Write, E: Reporter, M: Meter>(
+pub fn run_words<'a, F: Files<File = File>, R: Read, W: Write + 'a, E: Reporter, M: Meter>(
     alloc: Global,
     words: &'a [&'a str],
     sources: &mut SystemSources<'a, F, SystemDisk>,
@@ -237,7 +245,7 @@ pub fn run_words<'a, F: Files<File = File>, R: Read, W: Write, E: Reporter, M: M
     ensures version { result ≡ 0 → request_of_words (map (λ s. s.now) words.entry.now) ≡ Some version → Appends (W.contents writer.old) (W.contents writer.new) version_line }
     ensures usage { result ≡ 2 → takes ckrt_app (map (λ s. s.now) words.entry.now) ≢ true }
     ensures stored { result ≡ 2 → words.entry.now ≢ [] }
-    ensures outcome { RunsOnFiles ⟦<SystemDisk as Disk>⟧ ⟦<StreamOutput<&'a mut W> as Disk>⟧ (map (λ s. s.now) words.entry.now) (openings_of sources.old) (openings_of sources.new) (W.contents writer.old) (W.contents writer.new) (R.remaining reader.old) (R.remaining reader.new) (E.said reporter.old) (E.said reporter.new) (E.has_failed reporter.new) result }
+    ensures outcome { RunsOnFiles ⟦<SystemDisk as Disk>⟧ ⟦<StreamOutput<'a, W> as Disk>⟧ W.contents (map (λ s. s.now) words.entry.now) (openings_of sources.old) (openings_of sources.new) (W.contents writer.old) (W.contents writer.new) (R.remaining reader.old) (R.remaining reader.new) (E.said reporter.old) (E.said reporter.new) (E.has_failed reporter.new) result }
 {
     run_words_with::<File, SystemDisk, SystemSources<'a, F, SystemDisk>, R, W, E, M>(
         alloc, words, sources, reader, writer, reporter, meter,

@@ -1,5 +1,5 @@
-ghost use Rattle.std.specs.Prelude.{◌≡◌, ℕ, List, Option, Some, IfOk};
-ghost use Rattle.ckrt_jobs.specs.Openings.{Openings, opening_of};
+ghost use Rattle.std.specs.Prelude.{◌≡◌, ℕ, List, Option, IfOk};
+ghost use Rattle.ckrt_jobs.specs.Openings.{Openings, opening_of, with_closed, with_closed_output, with_disk, with_image, with_output};
 ghost use Rattle.ckrt_jobs.specs.declared.output.OpenedOutput.{OpenedOutput};
 
 use crate::file::FileFault;
@@ -7,13 +7,25 @@ use crate::output::OpenedOutput;
 use ckrt_disk::Disk;
 use std::io::Read;
 
-/// Where the jobs get their images and their disks from, by path, and where they give the disks back.
-pub trait Sources<'a, I: Read, D: Disk> {
+/// Where the jobs give disks and outputs back. Nothing is known of these but that they may be let go: so whoever takes them
+/// back can't write to them.
+pub trait Closes<D> {
+    /// How all images, disks and outputs were opened, and which disks and which outputs were closed.
+    ghost openings: { Self → Openings D };
+
+    /// Takes a disk back.
+    fn close(&mut self, disk: D)
+        ensures closed { openings self.new ≡ with_closed (openings self.old) disk };
+
+    /// Takes an output back.
+    fn close_output(&mut self, output: D)
+        ensures closed { openings self.new ≡ with_closed_output (openings self.old) output };
+}
+
+/// Where the jobs get their images and their disks from, by path.
+pub trait Sources<'a, I: Read, D: Disk>: Closes<D> {
     /// The bytes of the image of a path, where they are known.
     ghost image_bytes: { Self → List ℕ → Option (List ℕ) };
-
-    /// How the last image, disk and output were opened, and which disk and which output were closed last.
-    ghost openings: { Self → Openings D };
 
     /// The disks that a path may stand for.
     ghost opens: { Self → List ℕ → D → Type 0 };
@@ -27,37 +39,29 @@ pub trait Sources<'a, I: Read, D: Disk> {
     /// A reader of an image, at its beginning.
     fn open_image(&mut self, path: &'a str) -> Result<I, FileFault>
         ensures bytes { IfOk result (λ reader. I.remaining reader ≡ image_bytes self.old path.now) }
-        ensures asked { openings self.new ≡ record (openings self.old) { image = opening_of path.now result } }
+        ensures asked { Self.openings self.new ≡ with_image (Self.openings self.old) (opening_of path.now result) }
         ensures same_disks { (at : List ℕ) (size : ℕ) (disk : D) → fills self.new at size disk → fills self.old at size disk };
 
     /// The disk of a path.
     fn open_disk(&mut self, path: &'a str) -> Result<D, FileFault>
         ensures disk { IfOk result (opens self.old path.now) }
-        ensures asked { openings self.new ≡ record (openings self.old) { disk = opening_of path.now result } }
+        ensures asked { Self.openings self.new ≡ with_disk (Self.openings self.old) (opening_of path.now result) }
         ensures same_outputs { (at : List ℕ) (output : OpenedOutput D) → outputs self.new at output → outputs self.old at output };
 
     /// The disk of a path, to be looked at only.
     fn look_at_disk(&mut self, path: &'a str) -> Result<D, FileFault>
         ensures disk { IfOk result (opens self.old path.now) }
-        ensures asked { openings self.new ≡ record (openings self.old) { disk = opening_of path.now result } };
+        ensures asked { Self.openings self.new ≡ with_disk (Self.openings self.old) (opening_of path.now result) };
 
     /// The disk of a path, which is made where it is missing. What is shorter than `size` bytes is filled with zero bytes up
     /// to them first; nothing else is changed.
     fn open_filled(&mut self, path: &'a str, size: usize) -> Result<D, FileFault>
         ensures disk { IfOk result (fills self.old path.now size) }
-        ensures asked { openings self.new ≡ record (openings self.old) { disk = opening_of path.now result } };
+        ensures asked { Self.openings self.new ≡ with_disk (Self.openings self.old) (opening_of path.now result) };
 
     /// The output of a path, which is made where it is missing, and never shortened: what it holds stays, and bytes behind
     /// its end are zeros. It comes with the length of its file.
     fn open_output(&mut self, path: &'a str) -> Result<OpenedOutput<D>, FileFault>
         ensures output { IfOk result (outputs self.old path.now) }
-        ensures asked { openings self.new ≡ record (openings self.old) { output = opening_of path.now result } };
-
-    /// Takes a disk back, and changes nothing on it.
-    fn close(&mut self, disk: D)
-        ensures closed { openings self.new ≡ record (openings self.old) { closed = Some disk } };
-
-    /// Takes an output back, and changes nothing in it.
-    fn close_output(&mut self, output: D)
-        ensures closed { openings self.new ≡ record (openings self.old) { closed_output = Some output } };
+        ensures asked { Self.openings self.new ≡ with_output (Self.openings self.old) (opening_of path.now result) };
 }

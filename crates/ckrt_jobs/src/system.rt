@@ -1,19 +1,20 @@
 //! Disks and images that are files of the system.
 ghost use Rattle.std.specs.Prelude.{◌≡◌, None, IfOk, IfErr};
-ghost use Rattle.ckrt_jobs.specs.Files.{openings_of};
+ghost use Rattle.ckrt_jobs.specs.Files.{folder_of, openings_of};
 ghost use Rattle.ckrt_jobs.specs.Openings.{unopened};
 ghost use Rattle.ckrt_jobs.specs.Streams.{IsBesideStreams};
 
-use crate::file::{FileFault, LastOpening};
-use crate::filling::fill_up;
+use crate::file::{FileFault, FileOpening};
+use crate::growing::GrowingFile;
 use crate::output::OpenedOutput;
-use crate::sources::Sources;
-use ckrt_disk::{FileDisk, Holds, SystemFile};
+use crate::sources::{Closes, Sources};
+use ckrt_disk::{FileDisk, History, Holds, SystemFile};
+use ckrt_filling::fill_up;
 use std::fs::{File, Files, OpenOptions};
 use std::io;
 use std::marker::Brand;
 use std::os::fd::AsRawFd;
-use std::snapshot::Snapshot;
+use std::path::Path;
 
 /// The file, unless its descriptor is that of standard input, output or error: a stream that is closed when the program
 /// begins leaves its descriptor to the next file, whose bytes it would then read, or print over.
@@ -65,11 +66,12 @@ fn open_shared<R: Files<File = File>>(rt: &R, path: &str) -> Result<File, FileFa
 }
 
 /// The folder of a path.
-fn folder_of(path: &str) -> &str {
-    match path.rsplit_once('/') {
-        Some(("", _)) => "/",
-        Some((folder, _)) => folder,
-        None => ".",
+fn folder_of(path: &str) -> &str
+    ensures { result.now ≡ folder_of path.now }
+{
+    match Path::new(path).parent() {
+        Some(folder) if !folder.as_str().is_empty() => folder.as_str(),
+        _ => ".",
     }
 }
 
@@ -112,6 +114,20 @@ fn disk_of<H: Holds>(file: File) -> Result<FileDisk<SystemFile<H>>, FileFault> {
     Ok(FileDisk::new(SystemFile::new(file), told.len() as usize))
 }
 
+/// Fills a file that is shorter than so many bytes up to them. What is no regular file isn't filled.
+fn fill_file(file: &File, size: usize) -> Result<(), FileFault> {
+    let told = file.metadata()?;
+    let length = told.len() as usize;
+    if !told.is_file() || length >= size {
+        return Ok(());
+    }
+    let mut growing = GrowingFile::new(file, size);
+    match fill_up(&mut growing, length) {
+        Ok(()) => Ok(()),
+        Err(_) => Err(growing.fault()),
+    }
+}
+
 /// A file of at least so many bytes: one that is missing or shorter is filled with zero bytes.
 fn open_filled_file<R: Files<File = File>>(
     rt: &R,
@@ -121,7 +137,7 @@ fn open_filled_file<R: Files<File = File>>(
     ensures { IfOk result IsBesideStreams }
 {
     let file = open_or_make(rt, path)?;
-    fill_up(&mut &file, size)?;
+    fill_file(&file, size)?;
     Ok(file)
 }
 
@@ -134,7 +150,7 @@ fn open_system_disk<R: Files<File = File>, H: Holds>(
     disk_of(file)
 }
 
-/// How many bytes an output has: more than any file. Those behind the end of its file are zeros until they are written.
+/// How many bytes an output has: more than any file. Those behind the end of its file count as zeros until they are written.
 const OUTPUT_SIZE: usize = i64::MAX as usize;
 
 /// The output of an open file, which grows as it is written. What isn't a plain file, as a terminal, has no offsets.
@@ -180,15 +196,16 @@ fn open_filled_disk<R: Files<File = File>, H: Holds>(
 /// A disk that is a file of the system.
 pub type SystemDisk = FileDisk<SystemFile<Brand>>;
 
-/// The files of the system. A disk or an output that is given back is closed.
+/// The files of the system, with the record of what they were asked for, which takes no memory. A disk or an output that is
+/// given back is closed.
 #[derive(Drop)]
 pub struct SystemSources<'a, R, D> {
     rt: &'a R,
-    image: LastOpening<'a>,
-    disk: LastOpening<'a>,
-    output: LastOpening<'a>,
-    closed: Snapshot<Option<D>>,
-    closed_output: Snapshot<Option<D>>,
+    image: History<FileOpening<'a>>,
+    disk: History<FileOpening<'a>>,
+    output: History<FileOpening<'a>>,
+    closed: History<D>,
+    closed_output: History<D>,
 }
 
 impl<'a, R, D> SystemSources<'a, R, D> {
@@ -198,20 +215,30 @@ impl<'a, R, D> SystemSources<'a, R, D> {
     {
         SystemSources {
             rt,
-            image: LastOpening::Unasked,
-            disk: LastOpening::Unasked,
-            output: LastOpening::Unasked,
-            closed: Snapshot::of(&None),
-            closed_output: Snapshot::of(&None),
+            image: History::new(),
+            disk: History::new(),
+            output: History::new(),
+            closed: History::new(),
+            closed_output: History::new(),
         }
+    }
+}
+
+impl<'a, R, D: Drop> Closes<D> for SystemSources<'a, R, D> {
+    ghost openings = { openings_of };
+
+    fn close(&mut self, disk: D) {
+        self.closed = self.closed.with(&disk);
+    }
+
+    fn close_output(&mut self, output: D) {
+        self.closed_output = self.closed_output.with(&output);
     }
 }
 
 impl<'a, R: Files<File = File>, H: Holds> Sources<'a, File, FileDisk<SystemFile<H>>>
     for SystemSources<'a, R, FileDisk<SystemFile<H>>> {
     ghost image_bytes = { λ _ _. None };
-
-    ghost openings = { openings_of };
 
     ghost opens = { λ _ _ _. Unit {0} };
 
@@ -221,19 +248,19 @@ impl<'a, R: Files<File = File>, H: Holds> Sources<'a, File, FileDisk<SystemFile<
 
     fn open_image(&mut self, path: &'a str) -> Result<File, FileFault> {
         let opened = open_read(self.rt, path);
-        self.image = LastOpening::of(path, &opened);
+        self.image = self.image.with(&FileOpening::of(path, &opened));
         opened
     }
 
     fn open_disk(&mut self, path: &'a str) -> Result<FileDisk<SystemFile<H>>, FileFault> {
         let opened = open_system_disk(self.rt, path);
-        self.disk = LastOpening::of(path, &opened);
+        self.disk = self.disk.with(&FileOpening::of(path, &opened));
         opened
     }
 
     fn look_at_disk(&mut self, path: &'a str) -> Result<FileDisk<SystemFile<H>>, FileFault> {
         let opened = look_at_system_disk(self.rt, path);
-        self.disk = LastOpening::of(path, &opened);
+        self.disk = self.disk.with(&FileOpening::of(path, &opened));
         opened
     }
 
@@ -243,7 +270,7 @@ impl<'a, R: Files<File = File>, H: Holds> Sources<'a, File, FileDisk<SystemFile<
         size: usize,
     ) -> Result<FileDisk<SystemFile<H>>, FileFault> {
         let opened = open_filled_disk(self.rt, path, size);
-        self.disk = LastOpening::of(path, &opened);
+        self.disk = self.disk.with(&FileOpening::of(path, &opened));
         opened
     }
 
@@ -252,15 +279,7 @@ impl<'a, R: Files<File = File>, H: Holds> Sources<'a, File, FileDisk<SystemFile<
         path: &'a str,
     ) -> Result<OpenedOutput<FileDisk<SystemFile<H>>>, FileFault> {
         let opened = open_system_output(self.rt, path);
-        self.output = LastOpening::of(path, &opened);
+        self.output = self.output.with(&FileOpening::of(path, &opened));
         opened
-    }
-
-    fn close(&mut self, disk: FileDisk<SystemFile<H>>) {
-        self.closed = Snapshot::of(&Some(disk));
-    }
-
-    fn close_output(&mut self, output: FileDisk<SystemFile<H>>) {
-        self.closed_output = Snapshot::of(&Some(output));
     }
 }

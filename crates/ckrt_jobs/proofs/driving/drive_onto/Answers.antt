@@ -1,4 +1,5 @@
-use Rattle.std.proofs.Common.{◌≡◌, Some, subst}
+use Rattle.std.proofs.Common.{◌≡◌, subst}
+use Rattle.ckrt_jobs.specs.Openings.{with_closed}
 use Rattle.ckrt_jobs.proofs.driving.drive_onto.Goals as goal
 
 -- both were closed as the drive left them
@@ -11,6 +12,6 @@ returns g c =
       answer = u.driven;
       drives = c.drive_session-undertaken.ensures;
       gives = c.answer_of.ensures;
-      closes = subst (λ x. g.S.Sources.openings c.close.new.self ≡ record x { closed = Some u.session.disk }) c.close_output.ensures.closed
-          (subst (λ x. g.S.Sources.openings c.close.new.self ≡ record (g.S.Sources.openings c.close_output.new.self) { closed = Some x }) c.into_disk.ensures c.close.ensures.closed);
+      closes = subst (λ x. g.S.Closes.openings c.close.new.self ≡ with_closed x u.session.disk) c.close_output.ensures.closed
+          (subst (λ x. g.S.Closes.openings c.close.new.self ≡ with_closed (g.S.Closes.openings c.close_output.new.self) x) c.into_disk.ensures c.close.ensures.closed);
     }

@@ -9,7 +9,7 @@ pub returns-in-Ok-clause-drives : goal.returns-in-Ok-clause-drives
 returns-in-Ok-clause-drives g c =
     let j = driving_of c.args.job.now in
     let inside : is_in_range j ≡ true = search rules in
-    let old = g.S.Sources.openings c.args.sources.now in
-    let new = g.S.Sources.openings c.drive_opened.new.sources in
-    path_driven g.D.Disk _ (g.S.Sources.opens c.args.sources.now c.args.job.now.disk.now) _ (g.S.Sources.outputs c.args.sources.now) c.in-Ok.ensures.same_outputs j c.options_of-options.result c.in-Ok.disk old _ new c.drive_opened.result
+    let old = g.S.Closes.openings c.args.sources.now in
+    let new = g.S.Closes.openings c.drive_opened.new.sources in
+    path_driven g.D.Disk _ _ (g.S.Sources.opens c.args.sources.now c.args.job.now.disk.now) _ (g.S.Sources.outputs c.args.sources.now) c.in-Ok.ensures.same_outputs j c.options_of-options.result c.in-Ok.disk old _ new c.drive_opened.result
     inside c.options_of-options.ensures c.in-Ok.ensures.disk c.in-Ok.ensures.asked c.drive_opened.ensures.drives

@@ -1,4 +1,5 @@
-use Rattle.std.proofs.Common.{rules, ◌∙◌, ◌<◌, List, ap, inr, length, subst, sym, ℕ}
+use Rattle.std.proofs.Common.{rules, ◌≡◌, ◌∙◌, ◌<◌, ◌≤◌, List, ap, false, inr, length, subst, sym, ℕ}
+use Rattle.ckrt_checkpoint.specs.Layout.{memory_size}
 use Rattle.ckrt_jobs.specs.Making.{is_elf}
 use Rattle.ckrt_jobs.proofs.FrontLemmas.{front_longer, front_tells_elf, front_whole}
 use Rattle.ckrt_jobs.proofs.making.fitting_image.Goals as goal
@@ -26,3 +27,11 @@ pub returns-clause-bytes : goal.returns-clause-bytes
 returns-clause-bytes g c bytes known =
     let read = c.in_ok-image.ensures.bytes bytes (c.in_ok-reader.ensures.bytes ∙ known) in
     front_whole c.memory_size.result bytes c.in_ok-image.image.items read (search rules)
+
+-- what was read is all, and it fits
+pub returns-clause-known : goal.returns-clause-known
+returns-clause-known g c bytes known =
+    let read = c.in_ok-image.ensures.bytes bytes (c.in_ok-reader.ensures.bytes ∙ known) in
+    let whole = front_whole c.memory_size.result bytes c.in_ok-image.image.items read (search rules) in
+    let fits : (length c.in_ok-image.image.items ≤ memory_size c.args.config) × (is_elf c.in_ok-image.image.items ≡ false) = search rules in
+    subst (λ (l : List ℕ). (length l ≤ memory_size c.args.config) × (is_elf l ≡ false)) whole fits

@@ -1,4 +1,5 @@
-use Rattle.std.proofs.Common.{◌≡◌, sym, subst, inr, Some}
+use Rattle.std.proofs.Common.{◌≡◌, sym, subst, inr}
+use Rattle.ckrt_jobs.specs.Openings.{with_closed}
 use Rattle.ckrt_jobs.proofs.program.inspect_path.Goals as goal
 
 -- the disk that was shown is the one that was opened
@@ -11,7 +12,7 @@ returns-in-Ok g c = record {
         is_opened = subst (λ x. g.S.Sources.opens c.args.sources.now c.args.job.now.disk.now x) (sym o.is_opened) c.in-Ok.ensures.disk;
         end = o.end;
         shows = o.shows;
-        closes = subst (λ x. g.S.Sources.openings c.show_opened.new.sources ≡ record x { closed = Some o.end }) c.in-Ok.ensures.asked o.closes;
+        closes = subst (λ x. g.S.Closes.openings c.show_opened.new.sources ≡ with_closed x o.end) c.in-Ok.ensures.asked o.closes;
         unread = o.unread;
       });
 }

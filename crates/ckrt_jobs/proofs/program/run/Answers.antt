@@ -1,5 +1,6 @@
-use Rattle.std.proofs.Common.{◌≡◌, sym, subst, inr, Some}
+use Rattle.std.proofs.Common.{◌≡◌, sym, subst, inr}
 use Rattle.ckrt_jobs.specs.Outcomes.{disk_of}
+use Rattle.ckrt_jobs.specs.Openings.{with_closed}
 use Rattle.ckrt_jobs.proofs.program.run.Goals as goal
 
 -- the disk that was run is the one that was opened
@@ -13,6 +14,6 @@ returns-in-Ok g c =
         ran = o.ran;
         runs = o.runs;
         gives = o.gives;
-        closes = subst (λ x. g.S.Sources.openings c.run_opened.new.sources ≡ record x { closed = Some (disk_of o.ran) }) c.in-Ok.ensures.asked o.closes;
+        closes = subst (λ x. g.S.Closes.openings c.run_opened.new.sources ≡ with_closed x (disk_of o.ran)) c.in-Ok.ensures.asked o.closes;
       });
     }
