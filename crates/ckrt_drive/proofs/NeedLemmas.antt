@@ -20,14 +20,13 @@ use Rattle.ckrt_drive.specs.declared.fault.DriveFault.{DriveFault}
 use Rattle.ckrt_drive.specs.declared.fault.DriveFault.TheVariants.{Refused}
 use Rattle.ckrt_drive.specs.declared.lot.Lot.{Lot}
 use Rattle.ckrt_drive.specs.declared.options.Options.{Options}
-use Rattle.ckrt_drive.specs.declared.options.TheConstants.{RUN_LIMIT}
 use Rattle.ckrt_drive.specs.declared.plan.Next.{Next}
 use Rattle.ckrt_drive.specs.declared.plan.Next.TheVariants.{Submit, End}
 use Rattle.ckrt_drive.specs.declared.progress.Ending.TheVariants.{Ended, Enough}
 use Rattle.ckrt_drive.specs.declared.progress.Progress.{Progress}
 use Rattle.ckrt_drive.specs.declared.progress.Progress.TheVariants.{Released, Stopped}
 use Rattle.ckrt_drive.specs.Lots.{number_of}
-use Rattle.ckrt_drive.specs.Plan.{earliest_deadline, hart_by, idle_until, is_shortage, most_steps, next, next_busy, next_running, next_turn, offered, on_turn, plan, plan_for, plan_onward, round_end, run_by, save, steps_by, turn_of}
+use Rattle.ckrt_drive.specs.Plan.{RUN_LIMIT, earliest_deadline, hart_by, idle_until, is_shortage, most_steps, next, next_busy, next_running, next_turn, offered, on_turn, plan, plan_for, plan_onward, round_end, run_by, save, steps_by, turn_of}
 use Rattle.ckrt_drive.proofs.Choices.{either}
 
 -- A SESSION'S REFUSAL

@@ -21,7 +21,6 @@ use Rattle.ckrt_drive.specs.Lots.{lots_of, next_lot, number_of}
 use Rattle.ckrt_drive.specs.declared.lot.Lot.{Lot}
 use Rattle.ckrt_drive.specs.declared.cursor.Cursor.{Cursor}
 use Rattle.ckrt_drive.specs.declared.options.Options.{Options}
-use Rattle.ckrt_drive.specs.declared.options.TheConstants.{RUN_LIMIT}
 use Rattle.ckrt_drive.specs.declared.fault.DriveFault.{DriveFault}
 use Rattle.ckrt_drive.specs.declared.fault.DriveFault.TheVariants.{Refused}
 use Rattle.ckrt_drive.specs.declared.progress.Ending.TheVariants.{Ended, WaitsForInput, Deadlock, Enough}
@@ -29,6 +28,10 @@ use Rattle.ckrt_drive.specs.declared.progress.Progress.{Progress}
 use Rattle.ckrt_drive.specs.declared.progress.Progress.TheVariants.{Submitted, Committed, Checkpointed, Released, Stopped}
 use Rattle.ckrt_drive.specs.declared.plan.Next.{Next}
 use Rattle.ckrt_drive.specs.declared.plan.Next.TheVariants.{Submit, End}
+
+-- how many steps a run may have that journals of each version have
+abbrev pub RUN_LIMIT : ℕ
+RUN_LIMIT = 65535
 
 -- THE PROGRAM
 

@@ -3,7 +3,6 @@ use Rattle.std.specs.Prelude.{◌≡◌, ◌⊎◌, ◌-◌, ◌^◌, ◌&&◌, 
 use Rattle.ckrt_disk.specs.Disk.{HasFailed}
 use Rattle.ckrt_disk.specs.declared.disk.Disk.{Ghosts}
 use Rattle.ckrt_events.specs.declared.event.Event.{Event}
-use Rattle.ckrt_events.specs.declared.event.TheConstants.{LONG_RUN_LIMIT}
 use Rattle.ckrt_image.specs.Programs.{Program, RecoversTo}
 use Rattle.ckrt_image.specs.Progress.{recovered_of}
 use Rattle.ckrt_image.specs.Reads.{is_device}
@@ -49,7 +48,7 @@ is_target (Some path) (Some from) = false
 
 -- a turn has 1 to 1,000,000 steps, and there is a round or more between two commits
 abbrev pub is_in_range : Driving → Bool
-is_in_range j = nat_lt 0 j.turn && (nat_le j.turn LONG_RUN_LIMIT && (nat_lt 0 j.rounds && (is_interval j.progress && is_target j.output j.from)))
+is_in_range j = nat_lt 0 j.turn && (nat_le j.turn 1000000 && (nat_lt 0 j.rounds && (is_interval j.progress && is_target j.output j.from)))
 
 -- below which offset output is left out
 abbrev pub offset_of : Option ℕ → ℕ

@@ -1,12 +1,14 @@
 -- What the program does for its words: the outcome of each job, by what its image and its disk are. What was written goes from a to b, and
 -- what was left to read from r to s.
-use Rattle.std.specs.Prelude.{◌≡◌, ◌≢◌, ◌⊎◌, ℕ, Bool, true, false, List, [], Option, Some, None, Result, Ok, Err}
+use Rattle.std.specs.Prelude.{◌≡◌, ◌≢◌, ◌⊎◌, ℕ, Bool, true, false, List, [], ◌∷◌, Option, Some, None, Result, Ok, Err}
 use Rattle.std.specs.Io.KnownBytes.{Appends}
 use Rattle.clap.specs.Words.{takes}
 use Rattle.ckrt_disk.specs.declared.disk.Disk.{Ghosts}
 use Rattle.ckrt_checkpoint.specs.Layout.{size_needed}
+use Rattle.ckrt_checkpoint.specs.declared.config.Config.{Config}
 use Rattle.ckrt_recovery.specs.View.{fresh}
-use Rattle.ckrt_main.specs.Service.{AppendsPart, IsStartFault, Served, ServedPart}
+use Rattle.ckrt_commands.specs.Writing.{AppendsPart}
+use Rattle.ckrt_main.specs.Service.{IsStartFault, Served, ServedPart}
 use Rattle.ckrt_main.specs.declared.fault.ServeFault.{ServeFault}
 use Rattle.ckrt_main.specs.declared.fault.ServeFault.TheVariants as serve
 use Rattle.ckrt_words.specs.Commands.{ckrt_app}
@@ -28,8 +30,17 @@ use Rattle.ckrt_jobs.specs.declared.fault.JobFault.TheVariants as job
 use Rattle.ckrt_jobs.specs.declared.file.FileFault.{FileFault}
 use Rattle.ckrt_jobs.specs.declared.file.JobFile.TheVariants as file
 use Rattle.ckrt_jobs.specs.declared.running.Unserved.{Unserved}
-use Rattle.ckrt_jobs.specs.declared.stored.TheConstants.{CONFIG, IMAGE}
 use Rattle.ckrt_jobs.specs.declared.output.OpenedOutput.{OpenedOutput}
+
+-- the stored program: it prints the letter A, and exits with 0
+abbrev pub IMAGE : List ℕ
+IMAGE =
+    0x13 ∷ 0x05 ∷ 0x10 ∷ 0x04 ∷ 0x93 ∷ 0x08 ∷ 0x20 ∷ 0x00 ∷ 0x73 ∷ 0x00 ∷ 0x00 ∷ 0x00
+    ∷ 0x13 ∷ 0x05 ∷ 0x00 ∷ 0x00 ∷ 0x93 ∷ 0x08 ∷ 0x10 ∷ 0x00 ∷ 0x73 ∷ 0x00 ∷ 0x00 ∷ 0x00 ∷ []
+
+-- and its machine
+abbrev pub CONFIG : Config
+CONFIG = record { pages = 16; harts = 1; journal = 4096 }
 
 -- the line was written, or the writer failed, and what was written is a beginning of it
 abbrev pub SaysLine : (a b : Option (List ℕ)) → List ℕ → Result (Unit {0}) JobFault → Type 0
