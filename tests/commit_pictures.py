@@ -48,10 +48,13 @@ def calls_of(traces, trace, disk):
         found = traces.CALL.match(line)
         if not found:
             continue
-        name, descriptor, path, rest, _ = found.groups()
+        name, descriptor, path, rest, count = found.groups()
         if path == disk and name == "pwrite64":
             data, numbers = traces.BYTES.match(rest).groups()
-            yield "write", int(numbers.split(",")[-1]), bytes.fromhex(data.replace("\\x", ""))
+            data = bytes.fromhex(data.replace("\\x", ""))
+            if len(data) != int(count):
+                raise SystemExit(f"of a write of {count} bytes the trace has {len(data)}")
+            yield "write", int(numbers.split(",")[-1]), data
         elif path == disk and name in ("fdatasync", "fsync"):
             yield ("sync",)
         elif descriptor == "1" and name == "write":
@@ -169,11 +172,13 @@ def commit_name(at, journal):
 def checkpoint_cells(traces):
     """The area in use with its journal, and the other one with its own."""
     cells = []
-    for number, area in enumerate(traces.AREAS):
-        journal, tables = traces.JOURNALS[number], area + traces.BLOCK
+    for number in (0, 1):
+        area = traces.SMALL.area(number)
+        tables = area + traces.BLOCK
         pages = tables + traces.TABLES + traces.BLOCK
         cells += [Cell(f"gate {number}", area, 1, 50, True), Cell("header", area + 8, 32, 50), Cell("tables", tables, traces.TABLES, 60),
-                  Cell("pages", pages, traces.BLOCK * (traces.PAGES - 1), 60), Cell("journal", journal, 1, 55, True)]
+                  Cell("pages", pages, traces.BLOCK * (traces.SMALL.pages - 1), 60),
+                  Cell("journal", traces.SMALL.journal_at(number), 1, 55, True)]
     return cells
 
 
@@ -215,14 +220,13 @@ def pictures(traces, program, folder):
     folder = Path(folder).resolve()
     disk, image = folder / "disk", folder / "image"
     image.write_bytes(traces.IMAGE)
-    words = ["format", str(disk), str(image), "--pages", str(traces.PAGES), "--journal", str(traces.JOURNAL)]
-    traces.traced(program, words, [], str(folder))
+    traces.traced(program, ["format", str(disk), str(image), *traces.SMALL.words()], [], str(folder))
     formatted = disk.read_bytes()
-    trace = traces.traced(program, ["run", str(disk)], LINES, str(folder))
+    trace = traces.traced(program, ["run", str(disk)], LINES, str(folder), shown=4 * traces.BLOCK)
     commit, first, second = between_acks(calls_of(traces, trace, str(disk)))
     committed = behind(formatted, commit)
     saved = behind(committed, first)
-    journal, cells = traces.JOURNALS[0], checkpoint_cells(traces)
+    journal, cells = traces.SMALL.journal_at(0), checkpoint_cells(traces)
     journal_cells = commit_cells(journal, len(commit[0][2]) - 3)
     shown = [
         ("commit", "A commit of the events place 0 1 and run 0 3", journal_cells, formatted, commit, lambda at: commit_name(at, journal)),

@@ -34,14 +34,14 @@ def covers(crates):
 
 def depths(lines):
     """How many crates stand above each, one on another: so each stands right below what needs it. What nothing needs stands
-    right above what it needs, and the program on top of all."""
+    right above what it needs, or at the bottom where it needs nothing either, and the program on top of all."""
     depth = {}
     for name in reversed(lines):
         users = [depth[it] for it in depth if name in lines[it]]
         depth[name] = 1 + max(users, default=-1)
     for name in lines:
         if not any(name in deps for deps in lines.values()) and name != "ckrt":
-            depth[name] = min(depth[it] for it in lines[name]) - 1
+            depth[name] = min((depth[it] for it in lines[name]), default=max(depth.values()) + 1) - 1
     return depth
 
 
@@ -67,7 +67,7 @@ def kind_of(name, below):
 
 
 def legend(picture):
-    words = {"guest": "the guest's machine", "disk": "disk and journal", "join": "both", "ckrt": "the program and its words"}
+    words = {"guest": "the guest's machine", "disk": "disk and journal", "join": "both", "ckrt": "neither, or the program itself"}
     for at, (kind, text) in enumerate(words.items()):
         picture.box(20 + at * 210, 14, 16, 16, FILLS[kind])
         picture.text(42 + at * 210, 27, text, "small")
