@@ -199,16 +199,18 @@ def go_on(place, name, run, chance):
         done = said(words)
         if done.returncode and not done.stderr.endswith(b"ckrt: AlreadyFormatted\n"):
             raise Finding(shown(words, done))
-    begin = max(run.printed, feed_behind(place, name, wanted)) if name.startswith("lines") else 0
     output = place.folder / f"{name}.out"
+    if name.startswith("lines"):
+        # who read the lines has kept the bytes, and hands them to the drive, which goes on behind them
+        output.write_bytes(wanted[:max(run.printed, feed_behind(place, name, wanted))])
     rhythm = "--turn", str(chance.choice([1_000, 5_000, 65_535])), "--rounds-per-commit", str(chance.choice([3, 16]))
     words = place.drive_words(name, *rhythm)
     done = said(words)
     if done.returncode or not done.stderr.startswith(b"ended: exit 0"):
         raise Finding(shown(words, done))
     held = output.read_bytes()
-    if held[begin:] != wanted[begin:]:
-        at = next((at for at in range(begin, len(wanted)) if held[at:at + 1] != wanted[at:at + 1]), len(wanted))
+    if held != wanted:
+        at = next((at for at in range(len(wanted)) if held[at:at + 1] != wanted[at:at + 1]), len(wanted))
         raise Finding(f"{output.name} has {len(held)} bytes at its end, and another byte at {at}")
 
 
