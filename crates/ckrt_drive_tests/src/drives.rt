@@ -352,7 +352,7 @@ impl Write for Narrow {
 }
 
 /// A writer that takes so many bytes.
-fn narrow<R: AllocGlobal>(rt: &R, takes: usize) -> Narrow {
+fn narrow_writer<R: AllocGlobal>(rt: &R, takes: usize) -> Narrow {
     let bytes = Vec::new(rt.alloc());
     Narrow { bytes, takes }
 }
@@ -369,7 +369,7 @@ fn expect_streamed<R: Abort + AllocGlobal, D: Disk + Drop>(
     from: u64,
     want: &[u8],
 ) {
-    let mut writer = narrow(rt, 64);
+    let mut writer = narrow_writer(rt, 64);
     drive_to_end(rt, session, StreamOutput::new(&mut writer, from));
     expect_bytes(rt, writer.bytes.as_slice(), want);
 }
@@ -403,7 +403,7 @@ fn expect_broken<R: Abort, D: Disk + Drop, O: Disk + Drop>(rt: &R, session: Sess
 fn a_stream_that_breaks(rt: HostRuntime) {
     let formatted = formatted_for(&rt, &ROUNDS, 3);
     let bytes = formatted.to_vec(rt.alloc()).expect(&rt, "memory for bytes");
-    let mut writer = narrow(&rt, 2);
+    let mut writer = narrow_writer(&rt, 2);
     let session = recovered_in_memory(&rt, bytes);
     expect_broken(&rt, session, StreamOutput::new(&mut writer, 0));
     expect_bytes(&rt, writer.bytes.as_slice(), &[0x06, 0x0c]);
@@ -439,7 +439,7 @@ fn left_by_drive<R: Abort + AllocGlobal, O: Disk + Drop>(
 fn expect_streamed_once<R: Abort + AllocGlobal>(rt: &R, formatted: &[u8], at_call: u64) {
     let bytes = formatted.to_vec(rt.alloc()).expect(rt, "memory for bytes");
     let disk = stopping_disk(rt, bytes, at_call, &[0xa5]);
-    let mut writer = narrow(rt, 64);
+    let mut writer = narrow_writer(rt, 64);
     let image = left_by_drive(rt, disk, at_call, StreamOutput::new(&mut writer, 0));
     let got = writer.bytes;
     let wanted = [0x14, 0x28, 0x3c];
