@@ -38,7 +38,7 @@ const DRIVEN_ON: &[Step] = &[
         "drive drive_a.disk --output drive_a.out --events 1 --seed 5 --progress 60",
         "",
         "enough\n",
-        0,
+        5,
     ),
     Holds("drive_a.out", b""),
     Ends(
@@ -91,7 +91,7 @@ const OTHER_ENDS: &[Step] = &[
         "drive drive_b.disk --output drive_b.out --turn 1 --rounds-per-commit 1",
         "",
         "ended: fault 1 00001000 Illegal\n",
-        0,
+        6,
     ),
     Remove("drive_b.disk"),
     Remove("drive_b.out"),
@@ -102,7 +102,14 @@ fn each_end_has_its_line_and_status(rt: HostRuntime) {
     play(&rt, OTHER_ENDS);
 }
 
-/// A guest that waits for input, is given some, and is driven on. The output's file is longer than that, and stays so.
+/// A file of three bytes for a disk that has put none out, and one of two for a disk that has put one.
+const LONGER: &str =
+    "the output drive_c.out: it has 3 bytes, and this disk wants 0 to 0: it may be another run's: give a new file; if the disk is an older copy, `truncate -s` to the last number goes on\nckrt: OutputDiffers\n";
+
+const LONGER_BY_ONE: &str =
+    "the output drive_c.out: it has 2 bytes, and this disk wants 0 to 1: it may be another run's: give a new file; if the disk is an older copy, `truncate -s` to the last number goes on\nckrt: OutputDiffers\n";
+
+/// A guest that waits for input, is given some, and is driven on. A file that is longer than its output is refused, and stays.
 const FED: &[Step] = &[
     WriteGuest("drive_c.img", &ECHO),
     Prints(
@@ -112,13 +119,16 @@ const FED: &[Step] = &[
     ),
     Remove("drive_c.img"),
     Write("drive_c.out", b"..."),
+    Fails("drive drive_c.disk --output drive_c.out", LONGER),
+    Holds("drive_c.out", b"..."),
+    Remove("drive_c.out"),
     Ends(
         "drive drive_c.disk --output drive_c.out",
         "",
         "waits for input\n",
         3,
     ),
-    Holds("drive_c.out", b"..."),
+    Holds("drive_c.out", b""),
     Prints(
         "run drive_c.disk",
         "in 58\ncommit\n",
@@ -130,7 +140,10 @@ const FED: &[Step] = &[
         "waits for input\n",
         3,
     ),
-    Holds("drive_c.out", b"X.."),
+    Holds("drive_c.out", b"X"),
+    Write("drive_c.out", b"XY"),
+    Fails("drive drive_c.disk --output drive_c.out", LONGER_BY_ONE),
+    Holds("drive_c.out", b"XY"),
     Remove("drive_c.disk"),
     Remove("drive_c.out"),
 ];

@@ -18,16 +18,22 @@ const FILLED_AT: u64 = 87;
 /// The write that opens the gate.
 const OPENED_AT: u64 = 96;
 
+/// Whether a disk of a file with so many bytes is filled up, over those that the disk has behind the file's end.
+fn is_filled_up<R: Abort, D: Disk>(rt: &R, disk: &mut D, length: usize) -> bool {
+    assert!(rt; length <= disk.size());
+    fill_up(disk, length).is_ok()
+}
+
 /// A disk of a file with so many bytes, and behind its end those that the disk has there: it is filled and formatted.
 fn made<R: Abort + AllocGlobal, D: Disk>(
     rt: &R,
     disk: &mut D,
     length: usize,
 ) -> Result<(), FormatFault> {
-    assert!(rt; length <= disk.size());
-    match fill_up(disk, length) {
-        Ok(()) => format_outcome(rt, disk, SMALL, &IMAGE),
-        Err(_) => Err(FormatFault::Device),
+    if is_filled_up(rt, disk, length) {
+        format_outcome(rt, disk, SMALL, &IMAGE)
+    } else {
+        Err(FormatFault::Device)
     }
 }
 
@@ -118,7 +124,7 @@ fn a_disk_is_filled_behind_its_end(rt: HostRuntime) {
         .resize(SIZE + 9_000, 0x77)
         .expect(&rt, "memory for bytes");
     let mut disk = memory_disk(&rt, bytes);
-    expect_eq_at(&rt, "kept", fill_up(&mut disk, SIZE).is_ok(), true);
+    expect_eq_at(&rt, "kept", is_filled_up(&rt, &mut disk, SIZE), true);
     let kept = disk.into_image();
     let wanted = another_disk(&rt);
     expect_eq_at(&rt, "kept", kept.starts_with(wanted.as_slice()), true);
@@ -129,7 +135,7 @@ fn a_disk_is_filled_behind_its_end(rt: HostRuntime) {
         true,
     );
     let mut short = memory_disk(&rt, kept);
-    expect_eq_at(&rt, "short", fill_up(&mut short, SIZE - 1).is_ok(), true);
+    expect_eq_at(&rt, "short", is_filled_up(&rt, &mut short, SIZE - 1), true);
     expect_eq_at(
         &rt,
         "short",
