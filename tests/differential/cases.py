@@ -7,6 +7,7 @@ from assembler import call_words, image_of, jump_form
 from call_by_call import Script, flavour_of
 from computations import computation
 from damage import Damage
+from drive_cases import drives_case
 from formats import format_case
 from guests import Guest
 from layout import Geometry, format_disk
@@ -194,7 +195,7 @@ KINDS = {
     "disks": disks_case, "killed": killed_case, "limits": limits_case, "saved": saved_case, "tables": tables_case,
     "stopped": stopped_case, "checkpoints": checkpoints_case, "formats": format_case, "lists": of_guest(lists_case),
     "fates": of_guest(fates_case), "parts": of_guest(parts_case), "listings": of_guest(listings_case), "cuts": cuts_case,
-    "words": words_case,
+    "words": words_case, "drives": of_guest(drives_case),
 }
 
 

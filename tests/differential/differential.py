@@ -12,6 +12,7 @@ from random import Random
 
 from abi import KEY_CALLS, Call
 from cases import KINDS, case_of
+from drive_cases import DrivesCase, difference_of_drives
 from formats import FormatCase
 from layout import Geometry, format_disk
 from lines import serve_disk
@@ -181,6 +182,8 @@ def first_difference(ckrt, case, folder, tally, count_life):
             return difference_of_format(ckrt, case, folder, tally)
         case WordsCase():
             return difference_of_words(ckrt, case, folder, tally)
+        case DrivesCase():
+            return difference_of_drives(ckrt, case, folder, tally, count_life)
         case ListingsCase():
             return difference_of_listings(ckrt, case, path, tally)
         case LivesCase():

@@ -13,9 +13,16 @@ HERE = Path(__file__).parent
 TIME_LIMIT = 900
 # That of the module first, then the quick ones.
 FIRST = {"lives.py": "test_lives", "foreseen.py": "test_lives", "ledger.py": "test_fates", "devices.py": "test_fates",
-         "key_calls.py": "test_keys", "events.py": "test_long_runs"}
-TESTS = ["test_calls", "test_keys", "test_long_runs", "test_listings", "test_rows", "test_tables", "test_texts", "test_fates", "test_lives", "test_stops"]
+         "key_calls.py": "test_keys", "events.py": "test_long_runs", "plans.py": "test_plans"}
+TESTS = ["test_plans", "test_calls", "test_keys", "test_long_runs", "test_listings", "test_rows", "test_tables", "test_texts", "test_fates", "test_lives", "test_stops"]
 MUTATIONS = [
+    ("plans.py", "place = count % round_length(machine)", "place = 0"),
+    ("plans.py", "if place == 2 * machine.hart_count:", "if place == 2 * machine.hart_count - 1:"),
+    ("plans.py", "if place % 2 == 1 and any(running):", "if any(running):"),
+    ("plans.py", "number // 8 % options.turn + 1", "number // 8 % options.turn"),
+    ("plans.py", "        count //= 2\n", "        count = 0\n"),
+    ("plans.py", "or not self.unacknowledged and self.is_crowded", "or self.is_crowded"),
+    ("plans.py", "self.unacknowledged >= self.options.rounds", "self.unacknowledged > self.options.rounds"),
     ("tables.py", "for wait in state.waits]),", "for wait in sorted(state.waits, key=lambda wait: wait.thread)]),"),
     ("tables.py", "value = thread.value if thread.is_unwinding else 0", "value = thread.value"),
     ("tables.py", "HALF.pack(len(held)) + bytes(held)", "HALF.pack(0)"),
