@@ -14,7 +14,7 @@ use crate::fields::header_fields;
 use crate::header::Header;
 use crate::layout::{CLOSED, FIELDS_AT, OPEN};
 use crate::save_point::SavePoint;
-use ckrt_disk::{DeviceFault, Disk, write_synced};
+use ckrt_disk::{DeviceFault, Disk, write_part, write_synced};
 use ckrt_memory::Memory;
 use ckrt_tables::VERSION;
 
@@ -35,15 +35,6 @@ fn close_gate<D: Disk>(disk: &mut D, gate_at: usize) -> Result<bool, DeviceFault
     }
     write_synced(disk, gate_at, &[CLOSED])?;
     Ok(true)
-}
-
-// Writes bytes.
-fn write_part<D: Disk>(disk: &mut D, at: usize, bytes: &[u8]) -> Result<(), DeviceFault>
-    requires inside { at + length bytes.now ≤ D.size disk.old }
-    ensures within { WritesWithin D.Disk (IsWithin at (length bytes.now)) 1 disk.old disk.new (is_err result) }
-    ensures written { OnOk result (D.is_honest disk.new → IsOverwritten (D.content disk.old) at bytes.now (D.content disk.new)) }
-{
-    disk.write(at, bytes)
 }
 
 // Writes a page of the guest's memory into its slot.

@@ -28,6 +28,6 @@ pub use memory::MemoryDisk;
 pub use memory_file::MemoryFile;
 pub use positioned::PositionedFile;
 pub use stopping::StoppingDisk;
-pub use synced::write_synced;
+pub use synced::{write_part, write_synced};
 pub use system_file::{Holds, SystemFile};
 pub use transfer::Transfer;

@@ -1,9 +1,18 @@
-// A write that is durable when it has answered Ok.
+// Writes that are alike wherever they are made.
 ghost use Rattle.std.specs.Prelude.{◌≤◌, ◌+◌, ℕ, length, is_err, OnOk};
 ghost use Rattle.ckrt_disk.specs.Disk.{IsOverwritten, IsWithin};
 ghost use Rattle.ckrt_disk.specs.Frame.{WritesWithin};
 
 use crate::disk::{DeviceFault, Disk};
+
+/// Writes the bytes from the offset `at` on. They are pending until the next sync.
+pub fn write_part<D: Disk>(disk: &mut D, at: usize, bytes: &[u8]) -> Result<(), DeviceFault>
+    requires inside { at + length bytes.now ≤ D.size disk.old }
+    ensures within { WritesWithin D.Disk (IsWithin at (length bytes.now)) 1 disk.old disk.new (is_err result) }
+    ensures written { OnOk result (D.is_honest disk.new → IsOverwritten (D.content disk.old) at bytes.now (D.content disk.new)) }
+{
+    disk.write(at, bytes)
+}
 
 /// Writes the bytes from the offset `at` on and syncs. A stop at any moment of it leaves the bytes from before it
 /// everywhere but in the ranges that were pending and in that of the write.
@@ -13,6 +22,6 @@ pub fn write_synced<D: Disk>(disk: &mut D, at: usize, bytes: &[u8]) -> Result<()
     ensures written { OnOk result (D.is_honest disk.new → IsOverwritten (D.content disk.old) at bytes.now (D.content disk.new)) }
     ensures nothing_pending { OnOk result (D.is_honest disk.new → (i : ℕ) → ¬ D.pending disk.new i) }
 {
-    disk.write(at, bytes)?;
+    write_part(disk, at, bytes)?;
     disk.sync()
 }

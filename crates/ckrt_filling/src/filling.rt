@@ -1,27 +1,18 @@
 // Filling a file with zero bytes.
 ghost use Rattle.std.specs.Prelude.{◌≡◌, ◌≤◌, ◌<◌, ◌+◌, ℕ, ⊤, false, length, is_err, slice_index, IfOk, OnOk};
-ghost use Rattle.ckrt_disk.specs.Disk.{IsOverwritten, IsWithin};
+ghost use Rattle.ckrt_disk.specs.Disk.{IsWithin};
 ghost use Rattle.ckrt_disk.specs.Frame.{AtAnyMoment, IsOnlyRead, MayBeLeft, Nowhere, WritesWithin};
 ghost use Rattle.ckrt_checkpoint.specs.Layout.{is_open};
 ghost use Rattle.ckrt_filling.specs.Filling.{FillsAt, IsBegun, IsClosed, IsFilled, IsZeroFrom, WritesOnly, block, smallest_disk};
 
 use ckrt_checkpoint::OPEN;
-use ckrt_disk::{DeviceFault, Disk, write_synced};
+use ckrt_disk::{DeviceFault, Disk, write_part, write_synced};
 
 /// The bytes of the smallest disk, of 16 pages and journals of 4,096 bytes.
 const SMALLEST_DISK: usize = 348_160;
 
 /// How many bytes are written at a time, at most. The first of these blocks has the gate of a disk.
 const BLOCK: usize = 4_096;
-
-/// Writes bytes.
-fn write_part<D: Disk>(disk: &mut D, at: usize, bytes: &[u8]) -> Result<(), DeviceFault>
-    requires inside { at + length bytes.now ≤ D.size disk.old }
-    ensures within { WritesWithin D.Disk (IsWithin at (length bytes.now)) 1 disk.old disk.new (is_err result) }
-    ensures written { OnOk result (D.is_honest disk.new → IsOverwritten (D.content disk.old) at bytes.now (D.content disk.new)) }
-{
-    disk.write(at, bytes)
-}
 
 /// Writes so many zero bytes from the offset `at` on.
 fn write_zeros<D: Disk>(disk: &mut D, at: usize, count: usize) -> Result<(), DeviceFault>

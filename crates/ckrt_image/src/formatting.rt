@@ -1,7 +1,6 @@
 // Formatting a disk. Its first byte is the superblock's gate, which is opened last: until then a stop leaves a disk that
 // isn't formatted.
 ghost use Rattle.std.specs.Prelude.{◌≡◌, ◌≤◌, ◌+◌, ℕ, true, Some, None, length, is_err, IfOk, IfErr, OnOk};
-ghost use Rattle.ckrt_disk.specs.Disk.{IsOverwritten, IsWithin};
 ghost use Rattle.ckrt_disk.specs.Frame.{Nowhere, WritesWithin};
 ghost use Rattle.ckrt_image.specs.declared.fault.FormatFault.TheVariants.{AlreadyFormatted, Device, OutOfMemory};
 ghost use Rattle.ckrt_checkpoint.specs.Layout.{is_valid, is_open, memory_size, size_needed};
@@ -12,7 +11,7 @@ use crate::blocks::superblock_fields;
 use crate::fault::FormatFault;
 use crate::fresh::{FRESH_TABLES_SIZE, fresh_tables};
 use ckrt_checkpoint::{CLOSED, Config, FIELDS_AT, Header, OPEN, header_fields};
-use ckrt_disk::{DeviceFault, Disk, write_synced};
+use ckrt_disk::{DeviceFault, Disk, write_part, write_synced};
 use ckrt_tables::VERSION;
 use std::alloc::{AllocError, Global};
 
@@ -79,15 +78,6 @@ fn is_formatted<D: Disk>(disk: &mut D) -> Result<bool, DeviceFault>
     let mut gate = [0];
     disk.read(0, &mut gate)?;
     Ok(gate[0] == OPEN)
-}
-
-// Writes bytes.
-fn write_part<D: Disk>(disk: &mut D, at: usize, bytes: &[u8]) -> Result<(), DeviceFault>
-    requires inside { at + length bytes.now ≤ D.size disk.old }
-    ensures within { WritesWithin D.Disk (IsWithin at (length bytes.now)) 1 disk.old disk.new (is_err result) }
-    ensures written { OnOk result (D.is_honest disk.new → IsOverwritten (D.content disk.old) at bytes.now (D.content disk.new)) }
-{
-    disk.write(at, bytes)
 }
 
 // Area 0, open, with this memory and no event.

@@ -1,19 +1,17 @@
 use Rattle.std.proofs.Common.{◌≡◌, ℕ, length, false, is_err, subst, rules}
 use Rattle.ckrt_disk.specs.Disk.{IsWithin}
 use Rattle.ckrt_disk.specs.Frame.{WritesWithin}
-use Rattle.ckrt_disk.proofs.FrameLemmas.{wrote, synced, writes_on}
+use Rattle.ckrt_disk.proofs.FrameLemmas.{synced, writes_on}
 use Rattle.ckrt_disk.proofs.synced.write_synced.Goals as goal
 
 pub returns-clause-within : goal.returns-clause-within
 returns-clause-within g c =
-    let d = g.D.Disk in let w = c.write.ensures in let s = c.sync.ensures in
+    let d = g.D.Disk in let s = c.sync.ensures in let s₀ = c.args.disk.now in let s₁ = c.write_part.new.disk in let s₂ = c.sync.new.self in
     let region : ℕ → Type 0 = IsWithin c.args.at (length c.args.bytes.now) in
-    let first : WritesWithin d region 1 c.args.disk.now c.write.new.self (is_err c.write.result) =
-    wrote d c.args.disk.now c.write.new.self c.args.at c.args.bytes.now c.write.result c.requires (g.met.D.Disk.whole c.args.disk.now) w.written w.torn w.pending w.time w.honest w.size w.named_stop w.calls w.failures in
-    let second : WritesWithin d region 1 c.write.new.self c.sync.new.self (is_err c.sync.result) =
-    synced d c.write.new.self c.sync.new.self c.sync.result s.nothing_pending s.content s.torn s.pending s.time s.honest s.size s.named_stop s.calls s.failures region in
-    let fine : is_err c.write.result ≡ false = search rules in
-    writes_on d region 1 1 c.args.disk.now c.write.new.self c.sync.new.self (is_err c.sync.result) (subst (λ b. WritesWithin d region 1 c.args.disk.now c.write.new.self b) fine first) second
+    let second : WritesWithin d region 1 s₁ s₂ (is_err c.sync.result) =
+    synced d s₁ s₂ c.sync.result s.nothing_pending s.content s.torn s.pending s.time s.honest s.size s.named_stop s.calls s.failures region in
+    let fine : is_err c.write_part.result ≡ false = search rules in
+    writes_on d region 1 1 s₀ s₁ s₂ (is_err c.sync.result) (subst (λ b. WritesWithin d region 1 s₀ s₁ b) fine c.write_part.ensures.within) second
 
 pub returns-clause-nothing_pending : goal.returns-clause-nothing_pending
 returns-clause-nothing_pending g c = search rules
