@@ -14,5 +14,5 @@ pub use command::{Command, LineFault};
 pub use encoding::{
     BATCH_LIMIT, Events, decode_events, encode_event, encoded_len, encodings_are_prefix_free,
 };
-pub use event::{Event, LONG_RUN_LIMIT};
+pub use event::{Event, LONG_RUN_LIMIT, RUN_LIMIT};
 pub use line::{LINE_LIMIT, parse_command};

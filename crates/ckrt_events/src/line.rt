@@ -3,7 +3,7 @@ ghost use Rattle.ckrt_events.specs.Words.{words_of};
 ghost use Rattle.ckrt_events.specs.Line.{IsInRangeCommand, command_of, named_command, bare_of, one_of, two_of, hart_and_steps_of, place_of, run_of, run_long_of, tick_of, auto_of, input_of};
 
 use crate::command::{Command, LineFault};
-use crate::event::{Event, LONG_RUN_LIMIT};
+use crate::event::{Event, LONG_RUN_LIMIT, RUN_LIMIT};
 use crate::words::{next_word, number};
 use arrayvec::ArrayVec;
 
@@ -113,7 +113,7 @@ fn run(args: &[u8]) -> Result<Command, LineFault>
     ensures value { result ≡ run_of (words_of args.now) }
     ensures in_range { IfOk result IsInRangeCommand }
 {
-    let (hart, steps) = hart_and_steps(args, 65_535)?;
+    let (hart, steps) = hart_and_steps(args, RUN_LIMIT)?;
     Ok(Command::Submit(Event::Run(hart, steps as u16)))
 }
 
@@ -129,7 +129,7 @@ fn auto(args: &[u8]) -> Result<Command, LineFault>
     ensures value { result ≡ auto_of (words_of args.now) }
     ensures in_range { IfOk result IsInRangeCommand }
 {
-    let (hart, steps) = hart_and_steps(args, 65_535)?;
+    let (hart, steps) = hart_and_steps(args, RUN_LIMIT)?;
     Ok(Command::Auto(hart, steps as u16))
 }
 

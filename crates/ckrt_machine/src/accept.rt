@@ -8,11 +8,10 @@ use crate::hart::{RUN_OUTPUT, is_running};
 use arrayvec::ArrayVec;
 use ckrt_calls::{INPUT_LIMIT, Tables};
 use ckrt_events::Event;
+use ckrt_thread::MOMENT_END;
 
 /// How many bytes of output may be held.
 const OUTPUT_LIMIT: usize = 16_384;
-/// The clock, which counts ticks, stays below this.
-const CLOCK_END: u64 = 1 << 63;
 
 /// The first reason to refuse the event where so many bytes of output are held, if there is one.
 pub fn refusal(tables: &Tables, held: usize, event: &Event) -> Option<Refusal>
@@ -89,7 +88,7 @@ fn eof_refusal(tables: &Tables) -> Option<Refusal>
 fn tick_refusal(tables: &Tables, ticks: u32) -> Option<Refusal>
     ensures { (held : ℕ) → result ≡ running_refusal held (Tick ticks) tables.now }
 {
-    if tables.clock >= CLOCK_END - u64::from(ticks) {
+    if tables.clock >= MOMENT_END - u64::from(ticks) {
         return Some(Refusal::ClockEnd);
     }
     None
