@@ -1,6 +1,7 @@
 pub mod EffectLaws
 pub mod RegsLaws
 pub mod RunLaws
+pub mod StoreLaws
 pub mod PlanLaws
 pub mod KeptSteps
 pub mod KeptEvents

@@ -28,7 +28,7 @@ at t r m s = record { bytes = m; tables = with_regs t r s }
 twice : (t : ℕ) (q r : Registers) (s : Tables) → with_regs t q (with_regs t r s) ≡ with_regs t q s
 twice t q r s = ap (λ x. record s { threads = x }) (regs_twice t q r s.threads)
 
-hart_is : (h t : ℕ) (l : Live) (r : Registers) (m : List ℕ) (s : Tables) → hart_of s h ≡ Some t → threads.thread_of s.threads t ≡ Some (thread.Live l) → hart_step h (at t r m s) ≡ thread_step (threads.with_regs r l) t (at t r m s)
+pub hart_is : (h t : ℕ) (l : Live) (r : Registers) (m : List ℕ) (s : Tables) → hart_of s h ≡ Some t → threads.thread_of s.threads t ≡ Some (thread.Live l) → hart_step h (at t r m s) ≡ thread_step (threads.with_regs r l) t (at t r m s)
 hart_is h t l r m s e f = ap (λ o. step_of o (at t r m s)) e ∙ ap (λ o. slot_step o t (at t r m s)) (regs_read t r l s.threads f)
 
 -- away from the gates
@@ -40,7 +40,7 @@ apart r m o l e n =
 -- THE STEPS OF A BURST, by a thread without a request that is immediate
 
 -- a step that goes on
-goes : (t : ℕ) (l : Live) (r : Registers) (m : List ℕ) (s : Tables) → is_immediate l.cancellation ≡ false → length m < 4194304 → (instruction_step r m).outcome ≡ Next → thread_step (threads.with_regs r l) t (at t r m s) ≡ quiet (at t (instruction_step r m).registers (instruction_step r m).bytes s)
+pub goes : (t : ℕ) (l : Live) (r : Registers) (m : List ℕ) (s : Tables) → is_immediate l.cancellation ≡ false → length m < 4194304 → (instruction_step r m).outcome ≡ Next → thread_step (threads.with_regs r l) t (at t r m s) ≡ quiet (at t (instruction_step r m).registers (instruction_step r m).bytes s)
 goes t l r m s n z e =
     let away = apart r m Next z e (λ c x. cc) in
     rw (n, away.0, away.1, e, twice t (instruction_step r m).registers r s) refl
@@ -57,7 +57,7 @@ last_fault c t l r m s f n e =
     let k = kept r m in
     rw (k.registers c e, k.bytes c e, e, n) (sym (ap (λ o. fault_ending c o t (at t r m s)) (regs_read t r l s.threads f)))
 
-last : (o : Outcome) (t : ℕ) (l : Live) (r : Registers) (m : List ℕ) (s : Tables) → threads.thread_of s.threads t ≡ Some (thread.Live l) → is_immediate l.cancellation ≡ false → length m < 4194304 → (instruction_step r m).outcome ≡ o → is_next o ≡ false → thread_step (threads.with_regs r l) t (at t r m s) ≡ ending o t (at t (instruction_step r m).registers (instruction_step r m).bytes s)
+pub last : (o : Outcome) (t : ℕ) (l : Live) (r : Registers) (m : List ℕ) (s : Tables) → threads.thread_of s.threads t ≡ Some (thread.Live l) → is_immediate l.cancellation ≡ false → length m < 4194304 → (instruction_step r m).outcome ≡ o → is_next o ≡ false → thread_step (threads.with_regs r l) t (at t r m s) ≡ ending o t (at t (instruction_step r m).registers (instruction_step r m).bytes s)
 last Next t l r m s f n z e k = absurd (cc)
 last Call t l r m s f n z e k = last_call t l r m s n z e
 last (Fault c) t l r m s f n z e k = last_fault c t l r m s f n e
@@ -68,13 +68,13 @@ resumed zero e h t s out = record { left = 0; how = On; state = at t e.registers
 resumed (suc n) e h t s out = continued (run_on n) n h out (ending e.outcome t (at t e.registers e.bytes s))
 
 -- one more step of a burst
-burst_true : (n : ℕ) (r : Registers) (m : List ℕ) → is_next (instruction_step r m).outcome ≡ true → burst (suc n) r m ≡ burst n (instruction_step r m).registers (instruction_step r m).bytes
+pub burst_true : (n : ℕ) (r : Registers) (m : List ℕ) → is_next (instruction_step r m).outcome ≡ true → burst (suc n) r m ≡ burst n (instruction_step r m).registers (instruction_step r m).bytes
 burst_true n r m e = ap (λ b. cond b (burst n (instruction_step r m).registers (instruction_step r m).bytes) (record { left = suc n; effect = instruction_step r m })) e
 
-burst_false : (n : ℕ) (r : Registers) (m : List ℕ) → is_next (instruction_step r m).outcome ≡ false → burst (suc n) r m ≡ record { left = suc n; effect = instruction_step r m }
+pub burst_false : (n : ℕ) (r : Registers) (m : List ℕ) → is_next (instruction_step r m).outcome ≡ false → burst (suc n) r m ≡ record { left = suc n; effect = instruction_step r m }
 burst_false n r m e = ap (λ b. cond b (burst n (instruction_step r m).registers (instruction_step r m).bytes) (record { left = suc n; effect = instruction_step r m })) e
 
-next_of : (o : Outcome) → is_next o ≡ true → o ≡ Next
+pub next_of : (o : Outcome) → is_next o ≡ true → o ≡ Next
 next_of Next e = refl
 next_of Call e = absurd (cc)
 next_of (Fault c) e = absurd (cc)
@@ -105,7 +105,7 @@ bursts (suc n) h t l r m s out b i z =
           ∙ ap (λ y. resumed_from y h t s out) (sym (burst_false n r m x))
     ] refl
 
-same : (t : ℕ) (l : Live) (m : List ℕ) (s : Tables) → threads.thread_of s.threads t ≡ Some (thread.Live l) → at t l.regs m s ≡ record { bytes = m; tables = s }
+pub same : (t : ℕ) (l : Live) (m : List ℕ) (s : Tables) → threads.thread_of s.threads t ≡ Some (thread.Live l) → at t l.regs m s ≡ record { bytes = m; tables = s }
 same t l m s e = ap (λ x. record { bytes = m; tables = record s { threads = x } }) (regs_same t l s.threads e)
 
 -- a turn: a burst, and nothing is left
@@ -132,7 +132,7 @@ turned n h t l r m b s y z out o p k j a e i q u w v =
 
 -- A TURN THAT ACTS ON A REQUEST
 
-acts : (h t : ℕ) (l : Live) (m : List ℕ) (s : Tables) → hart_of s h ≡ Some t → threads.thread_of s.threads t ≡ Some (thread.Live l) → is_immediate l.cancellation ≡ true → hart_step h (record { bytes = m; tables = s }) ≡ acted t (record { bytes = m; tables = s })
+pub acts : (h t : ℕ) (l : Live) (m : List ℕ) (s : Tables) → hart_of s h ≡ Some t → threads.thread_of s.threads t ≡ Some (thread.Live l) → is_immediate l.cancellation ≡ true → hart_step h (record { bytes = m; tables = s }) ≡ acted t (record { bytes = m; tables = s })
 acts h t l m s e f i =
     ap (λ o. step_of o (record { bytes = m; tables = s })) e
     ∙ (ap (λ o. slot_step o t (record { bytes = m; tables = s })) f

@@ -4,3 +4,4 @@ pub mod Runs
 pub mod Refusals
 pub mod Plans
 pub mod Events
+pub mod Stores

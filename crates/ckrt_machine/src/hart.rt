@@ -2,11 +2,12 @@
 ghost use Rattle.std.specs.Prelude.{◌≡◌, ◌<◌, ◌≤◌, ◌-◌, ◌%◌, ℕ, List, [], length, true, false, Some, None, IsSome, IsNone, IfSome};
 ghost use Rattle.ckrt_thread.specs.State.{is_live, is_ready, is_waiting, placed_on, thread_of};
 ghost use Rattle.ckrt_thread.specs.Cancellation.{cancellation_of, is_immediate};
-ghost use Rattle.ckrt_memory.specs.Marks.{Follows};
+ghost use Rattle.ckrt_memory.specs.Marks.{AreWithin, FollowsStores};
 ghost use Rattle.ckrt_state.specs.WellFormed.{IsWellFormed};
 ghost use Rattle.ckrt_machine.specs.Steps.{hart_of, with_regs};
 ghost use Rattle.ckrt_machine.specs.Runs.{is_running, stop_of, stopped, run_on, with_byte};
 ghost use Rattle.ckrt_machine.specs.Events.{run_of};
+ghost use Rattle.ckrt_machine.specs.Stores.{stored_in_run};
 
 use crate::ending::end_burst;
 use crate::event::{Answer, RunEnd};
@@ -110,7 +111,16 @@ fn turn(
     ensures less { IsNone result.1 → result.0 < limit }
     ensures within { result.0 ≤ limit }
     ensures going { IsNone result.1 → stop_of hart tables.new output.new.items ≡ None }
-    ensures follows { Follows memory.old memory.new }
+    ensures follows { FollowsStores
+        (stored_in_run limit hart (record { bytes = memory.old.bytes; tables = tables.old })
+        output.old.items)
+        memory.old memory.new }
+    ensures rest { IsNone result.1
+        → AreWithin
+        (stored_in_run result.0 hart (record { bytes = memory.new.bytes; tables = tables.new })
+        output.new.items)
+        (stored_in_run limit hart (record { bytes = memory.old.bytes; tables = tables.old })
+        output.old.items) }
     ensures run { run_on limit hart (record { bytes = memory.old.bytes; tables = tables.old }) output.old.items ≡ stopped (run_on result.0) result.1 result.0 hart (record { bytes = memory.new.bytes; tables = tables.new }) output.new.items }
 {
     let thread = runner(tables, hart);
@@ -145,7 +155,10 @@ pub fn run(
     requires well_formed { IsWellFormed tables.old }
     ensures well_formed { IsWellFormed tables.new }
     ensures within { result.0 ≤ limit }
-    ensures follows { Follows memory.old memory.new }
+    ensures follows { FollowsStores
+        (stored_in_run limit hart (record { bytes = memory.old.bytes; tables = tables.old })
+        output.old.items)
+        memory.old memory.new }
     ensures run { record { left = result.0; how = result.1; state = record { bytes = memory.new.bytes; tables = tables.new }; output = output.new.items } ≡ run_on limit hart (record { bytes = memory.old.bytes; tables = tables.old }) output.old.items }
 {
     let mut left = limit;
@@ -171,7 +184,10 @@ pub fn answer_run(
     requires empty { output.old.items ≡ [] }
     requires well_formed { IsWellFormed tables.old }
     ensures well_formed { IsWellFormed tables.new }
-    ensures follows { Follows memory.old memory.new }
+    ensures follows { FollowsStores
+        (stored_in_run limit hart (record { bytes = memory.old.bytes; tables = tables.old })
+        [])
+        memory.old memory.new }
     ensures run { record { state = record { bytes = memory.new.bytes; tables = tables.new }; answer = result; output = output.new.items } ≡ run_of hart limit (record { bytes = memory.old.bytes; tables = tables.old }) }
 {
     let (left, how) = run(memory, tables, output, usize::from(hart), limit);

@@ -1,10 +1,11 @@
 //! The machine.
 ghost use Rattle.std.specs.Prelude.{◌≡◌, ◌<◌, ◌≤◌, ◌*◌, ◌-◌, ◌↔◌, [], length, None, Some, IfOk, IsErrOf, MatchResult};
-ghost use Rattle.ckrt_memory.specs.Marks.{Follows, IsAllDirty, IsCleaned};
+ghost use Rattle.ckrt_memory.specs.Marks.{Follows, IsAllDirty, IsCleaned, MarksOnly};
 ghost use Rattle.ckrt_memory.specs.declared.MemoryError.TheVariants.{ImageTooLong};
 ghost use Rattle.ckrt_state.specs.WellFormed.{IsWellFormed};
 ghost use Rattle.ckrt_events.specs.Bytes.{IsInRange};
 ghost use Rattle.ckrt_machine.specs.Events.{fresh, memory_in, step, refusal_of, planned};
+ghost use Rattle.ckrt_machine.specs.Stores.{stored_in_event};
 
 use crate::accept::refusal;
 use crate::event::{Answer, Refusal};
@@ -33,7 +34,7 @@ impl Model for Machine {
 
     ghost Value = { Machine };
 
-    ghost view = { λ m. record { state = record { bytes = m.memory.bytes; tables = m.tables }; marks = m.memory.marks; output = m.output.items } };
+    ghost view = { λ m. record { state = record { bytes = m.memory.bytes; tables = m.tables }; marks = m.memory.marks; room = m.memory.room; output = m.output.items } };
 
     ghost invariant = { λ m. IsWellFormed m.tables };
 }
@@ -135,13 +136,15 @@ impl Machine {
         }
     }
 
-    /// Applies an event that would be accepted if no output were held.
+    /// Applies an event that would be accepted if no output were held. A page whose mark is changed was stored to by a step.
     pub fn step(&mut self, event: &Event) -> Answer
         requires in_range { IsInRange event.now }
         requires accepted { refusal_of 0 event.now self.old.state ≡ None }
         ensures step { record { state = self.new.state; answer = result; output = self.new.output } ≡ step event.now self.old.state }
         ensures well_formed { IsWellFormed self.new.state.tables }
         ensures follows { Follows (memory_in self.old) (memory_in self.new) }
+        ensures only { MarksOnly (stored_in_event event.now self.old.state)
+            self.old.marks self.new.marks }
     {
         self.output.clear();
         match event {

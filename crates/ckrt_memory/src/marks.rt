@@ -45,7 +45,9 @@ fn is_group_clean(marks: &[u8; 1024], area: usize, first: usize) -> bool
 pub fn next_marked(marks: &[u8; 1024], area: usize, from: usize, end: usize) -> usize
     requires area { area ≤ 1 }
     requires range { (from ≤ end) × (end ≤ 1024) }
-    ensures { IsNextDirty area from end (record { bytes = []; marks = marks.now }) result }
+    ensures { IsNextDirty area from end
+        (record { bytes = []; marks = marks.now; room = record { bytes = 0; words = 0 } })
+        result }
 {
     let mut page = from;
     while page < end {

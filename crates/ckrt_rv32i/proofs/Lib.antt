@@ -5,3 +5,4 @@ pub mod EffectLaws
 pub mod TextLaws
 pub mod ParsingLaws
 pub mod BurstLaws
+pub mod StoreLaws

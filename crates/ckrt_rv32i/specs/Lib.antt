@@ -7,3 +7,4 @@ pub mod Names
 pub mod Text
 pub mod Reading
 pub mod Bursts
+pub mod Stores

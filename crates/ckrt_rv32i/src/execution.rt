@@ -5,6 +5,7 @@ ghost use Rattle.ckrt_rv32i.specs.Words.{word_add_signed};
 ghost use Rattle.ckrt_rv32i.specs.Table.{IsInRange};
 ghost use Rattle.ckrt_rv32i.specs.Decoding.{instruction_of};
 ghost use Rattle.ckrt_rv32i.specs.Effect.{jump, load_effect, store_effect, effect, instruction_step, following};
+ghost use Rattle.ckrt_rv32i.specs.Stores.{stored_to, stored_by, stored_in_step};
 
 use crate::decoding::decode;
 use crate::instruction::{Instr, LoadKind};
@@ -157,7 +158,7 @@ fn store<B: Bus>(regs: &mut Regs, bus: &mut B, size: Size, address: u32, value: 
     ensures outcome { result ≡ (store_effect size address value regs.old (B.bytes bus.old)).outcome }
     ensures registers { regs.new ≡ (store_effect size address value regs.old (B.bytes bus.old)).registers }
     ensures bytes { B.bytes bus.new ≡ (store_effect size address value regs.old (B.bytes bus.old)).bytes }
-    ensures follows { B.Follows bus.old bus.new }
+    ensures follows { B.Follows (stored_to size address (B.bytes bus.old)) bus.old bus.new }
 {
     if !size.is_aligned(address) {
         return Outcome::Fault(Cause::StoreMisaligned);
@@ -175,7 +176,7 @@ fn perform<B: Bus>(instr: Instr, regs: &mut Regs, bus: &mut B) -> Outcome
     ensures outcome { result ≡ (effect instr regs.old (B.bytes bus.old)).outcome }
     ensures registers { regs.new ≡ (effect instr regs.old (B.bytes bus.old)).registers }
     ensures bytes { B.bytes bus.new ≡ (effect instr regs.old (B.bytes bus.old)).bytes }
-    ensures follows { B.Follows bus.old bus.new }
+    ensures follows { B.Follows (stored_by instr regs.old (B.bytes bus.old)) bus.old bus.new }
 {
     match instr {
         Instr::Lui { rd, imm } => finish(regs, rd, imm << 12),
@@ -226,7 +227,7 @@ pub fn execute<B: Bus>(regs: &mut Regs, bus: &mut B) -> Outcome
     ensures registers { regs.new ≡ (instruction_step regs.old (B.bytes bus.old)).registers }
     ensures bytes { B.bytes bus.new ≡ (instruction_step regs.old (B.bytes bus.old)).bytes }
     ensures aligned { regs.new.pc % 4 ≡ 0 }
-    ensures follows { B.Follows bus.old bus.new }
+    ensures follows { B.Follows (stored_in_step regs.old (B.bytes bus.old)) bus.old bus.new }
 {
     let Some(word) = bus.load(regs.pc(), Size::Word) else {
         return Outcome::Fault(Cause::FetchRange);

@@ -1,5 +1,5 @@
 //! What the processor asks of a memory.
-ghost use Rattle.std.specs.Prelude.{◌≡◌, ℕ, List, IsTrue, false, Some, None, IfSome, ◌<◌, if◌then◌else◌};
+ghost use Rattle.std.specs.Prelude.{◌≡◌, ℕ, List, [], ◌∷◌, IsTrue, false, Some, None, IfSome, ◌<◌, if◌then◌else◌};
 ghost use Rattle.ckrt_rv32i.specs.Memory.{value_end, is_aligned, is_valid, loaded, stored};
 
 /// How many bytes a load or a store concerns: 1, 2 or 4.
@@ -18,8 +18,9 @@ pub trait Bus {
     /// The bytes. Address a names item a - 4096.
     ghost bytes: { Self → List ℕ };
 
-    /// What each store keeps between the memory before and the memory after, beside the bytes: its marks of what was changed, or its size.
-    ghost Follows: { Self → Self → Type 0 };
+    /// What stores to these addresses keep between the memory before and the memory after, beside the bytes: its marks of
+    /// what was changed, or its size.
+    ghost Follows: { List ℕ → Self → Self → Type 0 };
 
     /// The value of so many bytes from `address` on, the low byte first. `None` where one of them isn't in the memory.
     fn load(&self, address: u32, size: Size) -> Option<u32>
@@ -33,8 +34,8 @@ pub trait Bus {
         ensures valid { result ≡ is_valid (bytes self.old) address size }
         ensures refused { result ≡ false → self.new ≡ self.old }
         ensures stored { bytes self.new ≡ (if is_valid (bytes self.old) address size then stored (bytes self.old) address size value else bytes self.old) }
-        ensures follows { Follows self.old self.new };
+        ensures follows { Follows (address ∷ []) self.old self.new };
 
-    /// A memory that no store touched follows itself.
-    ghost same: { (bus : Self) → Follows bus bus };
+    /// A memory that no store touched follows itself, whatever the addresses.
+    ghost same: { (addresses : List ℕ) (bus : Self) → Follows addresses bus bus };
 }
