@@ -19,7 +19,8 @@ pub record IsTable (bs : List (Entry Barrier)) : Type 0 where
 pub record IsWellFormedWith (s : State) (bs : List (Entry Barrier)) : Type 0 where
   pub table : IsTable bs
   -- who completes the count doesn't wait
-  pub fewer_wait_than_the_count : (b : ℕ) (barrier : Barrier) → lookup b bs ≡ Some barrier → length (waiters b s) < barrier.count
+  pub fewer_wait_than_the_count : (b : ℕ) (barrier : Barrier) → lookup b bs ≡ Some barrier
+      → length (waiters b s) < barrier.count
   pub nobody_waits_where_no_barrier_is : (b : ℕ) → lookup b bs ≡ None → waiters b s ≡ []
 
 -- THE SAME AS A TEST of each barrier and of each wait.

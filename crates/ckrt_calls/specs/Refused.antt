@@ -15,7 +15,9 @@ use Rattle.ckrt_calls.specs.Table.{call_of, called}
 
 -- the error numbers, but for ETIMEDOUT
 abbrev pub is_error : ℕ → Bool
-is_error e = e == EPERM || e == ESRCH || e == EAGAIN || e == EBUSY || e == EINVAL || e == EDEADLK || e == ENOSYS
+is_error e =
+    e == EPERM || e == ESRCH || e == EAGAIN || e == EBUSY || e == EINVAL || e == EDEADLK
+    || e == ENOSYS
 
 -- Whether a call that answers this number was refused. ETIMEDOUT refuses a timed lock; at a condition it is the result of a
 -- wait for which the mutex was given up. What getc, clock and pthread_self answer is a byte, a word and an id.
@@ -35,5 +37,7 @@ is_refused (Some c) Moved = false
 
 -- the call in the registers of a thread that was refused leaves the tables as they were
 abbrev pub RefusedChangesNothing : Type 0
-RefusedChangesNothing = (t : ℕ) (r : Registers) (s : Tables) → regs_of (thread_of s.threads t) ≡ Some r → is_refused (call_of (get r 17)) (called t s).result ≡ true
+RefusedChangesNothing =
+    (t : ℕ) (r : Registers) (s : Tables) → regs_of (thread_of s.threads t) ≡ Some r
+    → is_refused (call_of (get r 17)) (called t s).result ≡ true
     → (called t s).tables ≡ s

@@ -75,7 +75,11 @@ input_taken bytes s = with_fed s (feed (s.input ++ bytes) s.threads)
 
 -- no more input comes, and each thread that waits for it learns so
 abbrev pub input_closed : Tables → Tables
-input_closed s = record s { closed = true; threads = thread.all_woken END_OF_INPUT (queue_of object.Input s.threads) s.threads }
+input_closed s =
+    record s {
+      closed = true;
+      threads = thread.all_woken END_OF_INPUT (queue_of object.Input s.threads) s.threads;
+    }
 
 -- TIME
 
@@ -91,7 +95,8 @@ retaken r s = record s { threads = r.threads; mutexes = r.mutexes }
 -- wait for a mutex with ETIMEDOUT (pthread_mutex_timedlock). No other wait has a deadline.
 abbrev pub timed_out : Reason → ℕ → Tables → Tables
 timed_out reason.Sleep t s = woken t 0 s
-timed_out (reason.Condition c m) t s = retaken (condition.resume_row t m retake.TimedOut s.threads s.mutexes) s
+timed_out (reason.Condition c m) t s =
+    retaken (condition.resume_row t m retake.TimedOut s.threads s.mutexes) s
 timed_out _ t s = woken t ETIMEDOUT s
 
 -- these waits end one after another
@@ -202,19 +207,39 @@ by_threads s r = record { result = r.result; put = None; tables = record s { thr
 
 -- what a row of the mutexes or the conditions does to the tables
 abbrev pub by_mutexes : Tables → mutex.After → After
-by_mutexes s r = record { result = r.result; put = None; tables = record s { threads = r.threads; mutexes = r.mutexes } }
+by_mutexes s r =
+    record {
+      result = r.result;
+      put = None;
+      tables = record s { threads = r.threads; mutexes = r.mutexes };
+    }
 
 -- what a row of the barriers does to the tables
 abbrev pub by_barriers : Tables → barrier.After → After
-by_barriers s r = record { result = r.result; put = None; tables = record s { threads = r.threads; barriers = r.barriers } }
+by_barriers s r =
+    record {
+      result = r.result;
+      put = None;
+      tables = record s { threads = r.threads; barriers = r.barriers };
+    }
 
 -- what a row of the read-write locks does to the tables
 abbrev pub by_rwlocks : Tables → rwlock.After → After
-by_rwlocks s r = record { result = r.result; put = None; tables = record s { threads = r.threads; rwlocks = r.locks } }
+by_rwlocks s r =
+    record {
+      result = r.result;
+      put = None;
+      tables = record s { threads = r.threads; rwlocks = r.locks };
+    }
 
 -- the thread that calls waits
 abbrev pub waits : ℕ → Reason → Option ℕ → Tables → After
-waits t r d s = record { result = Blocked; put = None; tables = record s { threads = thread.blocked t r d s.threads } }
+waits t r d s =
+    record {
+      result = Blocked;
+      put = None;
+      tables = record s { threads = thread.blocked t r d s.threads };
+    }
 
 -- the first byte of the input, END_OF_INPUT where it has ended, else the thread waits for a byte
 abbrev pub getc_of : List ℕ → ℕ → Tables → After
@@ -223,7 +248,9 @@ getc_of (b ∷ bs) t s = done b (record s { input = bs })
 
 -- the clock in two words: the low one, and the high one in x11
 abbrev pub clock_row : ℕ → Tables → After
-clock_row t s = done (s.clock % 2 ^ 32) (record s { threads = thread.set_word t A1 (s.clock / 2 ^ 32) s.threads })
+clock_row t s =
+    done (s.clock % 2 ^ 32)
+    (record s { threads = thread.set_word t A1 (s.clock / 2 ^ 32) s.threads })
 
 -- a moment in two words
 abbrev pub moment_of : ℕ → ℕ → ℕ
@@ -241,9 +268,11 @@ sleep_row t moment s =
 -- the rows of the process, its console and its time
 abbrev pub process_row : ProcessCall → ℕ → Registers → Tables → After
 -- POSIX.1-2017, _exit; that the status is a whole word is this project's choice
-process_row process_call.Exit t r s = record { result = Moved; put = None; tables = record s { status = Exited (get r 10) } }
+process_row process_call.Exit t r s =
+    record { result = Moved; put = None; tables = record s { status = Exited (get r 10) } }
 -- this project's choice: the low byte goes to the console
-process_row process_call.Putc t r s = record { result = Done 0; put = Some (get r 10 % 256); tables = s }
+process_row process_call.Putc t r s =
+    record { result = Done 0; put = Some (get r 10 % 256); tables = s }
 -- POSIX.1-2017, getchar, on the console's input; that a thread waits for a byte is this project's choice
 process_row process_call.Getc t r s = getc_of s.input t s
 -- POSIX.1-2017, clock_gettime, in ticks
@@ -254,86 +283,113 @@ process_row process_call.SleepUntil t r s = sleep_row t (moment_of (get r 10) (g
 -- the rows of threads
 abbrev pub thread_row : ThreadCall → ℕ → Registers → Tables → After
 -- POSIX.1-2017, pthread_create
-thread_row thread_call.Create t r s = by_threads s (rows.create_row t (get r 10) (get r 11) (get r 12) (get r 13) s.threads)
+thread_row thread_call.Create t r s =
+    by_threads s (rows.create_row t (get r 10) (get r 11) (get r 12) (get r 13) s.threads)
 -- POSIX.1-2017, pthread_join
 thread_row thread_call.Join t r s = by_threads s (rows.join_row t (get r 10) s.threads)
 -- POSIX.1-2017, pthread_detach
 thread_row thread_call.Detach t r s = by_threads s (rows.detach_row (get r 10) s.threads)
 -- POSIX.1-2017, pthread_exit: its handlers and the destructors of its values run first
-thread_row thread_call.Exit t r s = record { result = Moved; put = None; tables = begun_unwind t (get r 10) s }
+thread_row thread_call.Exit t r s =
+    record { result = Moved; put = None; tables = begun_unwind t (get r 10) s }
 -- POSIX.1-2017, pthread_self
 thread_row thread_call.SelfId t r s = done t s
 
 -- the rows of mutexes
 abbrev pub mutex_row : MutexCall → ℕ → Registers → Tables → After
 -- POSIX.1-2017, pthread_mutex_init
-mutex_row mutex_call.Init t r s = by_mutexes s (mutex.init_row (get r 10) (get r 11) s.threads s.mutexes)
+mutex_row mutex_call.Init t r s =
+    by_mutexes s (mutex.init_row (get r 10) (get r 11) s.threads s.mutexes)
 -- POSIX.1-2017, pthread_mutex_destroy
 mutex_row mutex_call.Destroy t r s = by_mutexes s (mutex.destroy_row (get r 10) s.threads s.mutexes)
 -- POSIX.1-2017, pthread_mutex_lock
 mutex_row mutex_call.Lock t r s = by_mutexes s (mutex.lock_row t (get r 10) s.threads s.mutexes)
 -- POSIX.1-2017, pthread_mutex_trylock
-mutex_row mutex_call.TryLock t r s = by_mutexes s (mutex.trylock_row t (get r 10) s.threads s.mutexes)
+mutex_row mutex_call.TryLock t r s =
+    by_mutexes s (mutex.trylock_row t (get r 10) s.threads s.mutexes)
 -- POSIX.1-2017, pthread_mutex_timedlock
-mutex_row mutex_call.TimedLock t r s = by_mutexes s (mutex.timedlock_row t (get r 10) (moment_of (get r 11) (get r 12)) s.clock s.threads s.mutexes)
+mutex_row mutex_call.TimedLock t r s =
+    by_mutexes s (mutex.timedlock_row t (get r 10) (moment_of (get r 11) (get r 12)) s.clock
+    s.threads s.mutexes)
 -- POSIX.1-2017, pthread_mutex_unlock
 mutex_row mutex_call.Unlock t r s = by_mutexes s (mutex.unlock_row t (get r 10) s.threads s.mutexes)
 
 -- the rows of conditions
 abbrev pub condition_row : ConditionCall → ℕ → Registers → Tables → After
 -- POSIX.1-2017, pthread_cond_init
-condition_row condition_call.Init t r s = by_mutexes s (condition.init_row (get r 10) s.threads s.mutexes)
+condition_row condition_call.Init t r s =
+    by_mutexes s (condition.init_row (get r 10) s.threads s.mutexes)
 -- POSIX.1-2017, pthread_cond_destroy
-condition_row condition_call.Destroy t r s = by_mutexes s (condition.destroy_row (get r 10) s.threads s.mutexes)
+condition_row condition_call.Destroy t r s =
+    by_mutexes s (condition.destroy_row (get r 10) s.threads s.mutexes)
 -- POSIX.1-2017, pthread_cond_wait
-condition_row condition_call.Wait t r s = by_mutexes s (condition.wait_row t (get r 10) (get r 11) s.threads s.mutexes)
+condition_row condition_call.Wait t r s =
+    by_mutexes s (condition.wait_row t (get r 10) (get r 11) s.threads s.mutexes)
 -- POSIX.1-2017, pthread_cond_timedwait
-condition_row condition_call.TimedWait t r s = by_mutexes s (condition.timedwait_row t (get r 10) (get r 11) (moment_of (get r 12) (get r 13)) s.clock s.threads s.mutexes)
+condition_row condition_call.TimedWait t r s =
+    by_mutexes s (condition.timedwait_row t (get r 10) (get r 11) (moment_of (get r 12) (get r 13))
+    s.clock s.threads s.mutexes)
 -- POSIX.1-2017, pthread_cond_signal
-condition_row condition_call.Signal t r s = by_mutexes s (condition.signal_row (get r 10) s.threads s.mutexes)
+condition_row condition_call.Signal t r s =
+    by_mutexes s (condition.signal_row (get r 10) s.threads s.mutexes)
 -- POSIX.1-2017, pthread_cond_broadcast
-condition_row condition_call.Broadcast t r s = by_mutexes s (condition.broadcast_row (get r 10) s.threads s.mutexes)
+condition_row condition_call.Broadcast t r s =
+    by_mutexes s (condition.broadcast_row (get r 10) s.threads s.mutexes)
 
 -- the rows of barriers
 abbrev pub barrier_row : BarrierCall → ℕ → Registers → Tables → After
 -- POSIX.1-2017, pthread_barrier_init
-barrier_row barrier_call.Init t r s = by_barriers s (barrier.init_row (get r 10) (get r 11) s.threads s.barriers)
+barrier_row barrier_call.Init t r s =
+    by_barriers s (barrier.init_row (get r 10) (get r 11) s.threads s.barriers)
 -- POSIX.1-2017, pthread_barrier_destroy
-barrier_row barrier_call.Destroy t r s = by_barriers s (barrier.destroy_row (get r 10) s.threads s.barriers)
+barrier_row barrier_call.Destroy t r s =
+    by_barriers s (barrier.destroy_row (get r 10) s.threads s.barriers)
 -- POSIX.1-2017, pthread_barrier_wait
-barrier_row barrier_call.Wait t r s = by_barriers s (barrier.wait_row t (get r 10) s.threads s.barriers)
+barrier_row barrier_call.Wait t r s =
+    by_barriers s (barrier.wait_row t (get r 10) s.threads s.barriers)
 
 -- the rows of read-write locks
 abbrev pub rwlock_row : RwLockCall → ℕ → Registers → Tables → After
 -- POSIX.1-2017, pthread_rwlock_init
 rwlock_row rwlock_call.Init t r s = by_rwlocks s (rwlock.init_row (get r 10) s.threads s.rwlocks)
 -- POSIX.1-2017, pthread_rwlock_destroy
-rwlock_row rwlock_call.Destroy t r s = by_rwlocks s (rwlock.destroy_row (get r 10) s.threads s.rwlocks)
+rwlock_row rwlock_call.Destroy t r s =
+    by_rwlocks s (rwlock.destroy_row (get r 10) s.threads s.rwlocks)
 -- POSIX.1-2017, pthread_rwlock_rdlock
-rwlock_row rwlock_call.RdLock t r s = by_rwlocks s (rwlock.rdlock_row t (get r 10) s.threads s.rwlocks)
+rwlock_row rwlock_call.RdLock t r s =
+    by_rwlocks s (rwlock.rdlock_row t (get r 10) s.threads s.rwlocks)
 -- POSIX.1-2017, pthread_rwlock_tryrdlock
-rwlock_row rwlock_call.TryRdLock t r s = by_rwlocks s (rwlock.tryrdlock_row t (get r 10) s.threads s.rwlocks)
+rwlock_row rwlock_call.TryRdLock t r s =
+    by_rwlocks s (rwlock.tryrdlock_row t (get r 10) s.threads s.rwlocks)
 -- POSIX.1-2017, pthread_rwlock_wrlock
-rwlock_row rwlock_call.WrLock t r s = by_rwlocks s (rwlock.wrlock_row t (get r 10) s.threads s.rwlocks)
+rwlock_row rwlock_call.WrLock t r s =
+    by_rwlocks s (rwlock.wrlock_row t (get r 10) s.threads s.rwlocks)
 -- POSIX.1-2017, pthread_rwlock_trywrlock
-rwlock_row rwlock_call.TryWrLock t r s = by_rwlocks s (rwlock.trywrlock_row t (get r 10) s.threads s.rwlocks)
+rwlock_row rwlock_call.TryWrLock t r s =
+    by_rwlocks s (rwlock.trywrlock_row t (get r 10) s.threads s.rwlocks)
 -- POSIX.1-2017, pthread_rwlock_unlock
-rwlock_row rwlock_call.Unlock t r s = by_rwlocks s (rwlock.unlock_row t (get r 10) s.threads s.rwlocks)
+rwlock_row rwlock_call.Unlock t r s =
+    by_rwlocks s (rwlock.unlock_row t (get r 10) s.threads s.rwlocks)
 
 -- the rows of cancellation and clean-up handlers
 abbrev pub cancellation_row : CancellationCall → ℕ → Registers → Tables → After
 -- POSIX.1-2017, pthread_cancel
-cancellation_row cancellation_call.Cancel t r s = by_mutexes s (cancel.request_row (get r 10) s.threads s.mutexes)
+cancellation_row cancellation_call.Cancel t r s =
+    by_mutexes s (cancel.request_row (get r 10) s.threads s.mutexes)
 -- POSIX.1-2017, pthread_testcancel, where there is no request to act on
 cancellation_row cancellation_call.TestCancel t r s = done 0 s
 -- POSIX.1-2017, pthread_setcancelstate
-cancellation_row cancellation_call.SetCancelState t r s = by_threads s (cancel.set_state_row t (get r 10) s.threads)
+cancellation_row cancellation_call.SetCancelState t r s =
+    by_threads s (cancel.set_state_row t (get r 10) s.threads)
 -- POSIX.1-2017, pthread_setcanceltype
-cancellation_row cancellation_call.SetCancelType t r s = by_threads s (cancel.set_type_row t (get r 10) s.threads)
+cancellation_row cancellation_call.SetCancelType t r s =
+    by_threads s (cancel.set_type_row t (get r 10) s.threads)
 -- POSIX.1-2017, pthread_cleanup_push
-cancellation_row cancellation_call.CleanupPush t r s = by_threads s (cancel.push_row t (get r 10) (get r 11) s.threads)
+cancellation_row cancellation_call.CleanupPush t r s =
+    by_threads s (cancel.push_row t (get r 10) (get r 11) s.threads)
 -- POSIX.1-2017, pthread_cleanup_pop; the handler returns to the address after the call
-cancellation_row cancellation_call.CleanupPop t r s = by_threads s (cancel.pop_row t (get r 10) r.pc s.threads)
+cancellation_row cancellation_call.CleanupPop t r s =
+    by_threads s (cancel.pop_row t (get r 10) r.pc s.threads)
 
 -- the rows of thread-specific data
 abbrev pub key_row : KeyCall → ℕ → Registers → Tables → After
@@ -342,7 +398,8 @@ key_row key_call.Create t r s = by_threads s (keys.key_create_row t (get r 10) s
 -- POSIX.1-2017, pthread_key_delete
 key_row key_call.Delete t r s = by_threads s (keys.key_delete_row (get r 10) s.threads)
 -- POSIX.1-2017, pthread_setspecific
-key_row key_call.SetSpecific t r s = by_threads s (keys.setspecific_row t (get r 10) (get r 11) s.threads)
+key_row key_call.SetSpecific t r s =
+    by_threads s (keys.setspecific_row t (get r 10) (get r 11) s.threads)
 -- POSIX.1-2017, pthread_getspecific
 key_row key_call.GetSpecific t r s = by_threads s (keys.getspecific_row t (get r 10) s.threads)
 

@@ -49,7 +49,8 @@ pub fn end_due_waits(tables: &mut Tables, now: u64) -> u32
     requires well_formed { IsWellFormed tables.old }
     ensures well_formed { IsWellFormed tables.new }
     ensures ahead { list_all (lies_ahead now) tables.new.threads.waits ≡ true }
-    ensures tables { tables.new ≡ all_timed_out (due_waits now tables.old.threads.waits) tables.old }
+    ensures tables { tables.new
+        ≡ all_timed_out (due_waits now tables.old.threads.waits) tables.old }
     ensures ended { result ≡ length (due_waits now tables.old.threads.waits) }
 {
     let mut ended = 0;

@@ -11,7 +11,9 @@ use ckrt_thread::ThreadId;
 
 /// With the last thread that ends the program exits with status 0.
 fn exit_with_last(tables: &mut Tables)
-    ensures { tables.new ≡ record tables.old { status = status_with (is_any_live tables.old.threads) tables.old.status } }
+    ensures { tables.new
+        ≡ record tables.old
+        { status = status_with (is_any_live tables.old.threads) tables.old.status } }
 {
     if !tables.threads.is_any_live() {
         tables.status = Status::Exited(0);

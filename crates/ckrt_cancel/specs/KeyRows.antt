@@ -23,7 +23,8 @@ if_key k s r = if is_key s.keys k then r else unchanged (Done EINVAL) s
 
 abbrev pub key_created : Option ℕ → ℕ → ℕ → State → After
 key_created None t destructor s = unchanged (Done EAGAIN) s
-key_created (Some k) t destructor s = record { result = Done 0; threads = set_word t A1 k (with_key_of k destructor s) }
+key_created (Some k) t destructor s =
+    record { result = Done 0; threads = set_word t A1 k (with_key_of k destructor s) }
 
 abbrev pub key_create_row : ℕ → ℕ → State → After
 key_create_row t destructor s =
@@ -37,9 +38,11 @@ key_delete_row k s = if_on s (if_key k s (record { result = Done 0; threads = wi
 
 -- pthread_setspecific. Else 0, and the thread has this value under the key.
 abbrev pub setspecific_row : ℕ → ℕ → ℕ → State → After
-setspecific_row t k value s = if_on s (if_key k s (record { result = Done 0; threads = with_value_of t k value s }))
+setspecific_row t k value s =
+    if_on s (if_key k s (record { result = Done 0; threads = with_value_of t k value s }))
 
 -- pthread_getspecific. Else 0, and x11 has the thread's value under the key, 0 where it set none. (That an unknown key is an
 -- error is this project's choice.)
 abbrev pub getspecific_row : ℕ → ℕ → State → After
-getspecific_row t k s = if_on s (if_key k s (record { result = Done 0; threads = set_word t A1 (value_of t k s) s }))
+getspecific_row t k s =
+    if_on s (if_key k s (record { result = Done 0; threads = set_word t A1 (value_of t k s) s }))

@@ -127,7 +127,8 @@ with_type n c = if is_some c.unwinding then c else record c { is_asynchronous = 
 
 -- the thread has this cancellation from now on, and the old setting in x11
 abbrev pub set_to : Cancellation → ℕ → ℕ → State → threads.After
-set_to c old t s = record { result = Done 0; threads = set_word t A1 old (with_cancellation_of t c s) }
+set_to c old t s =
+    record { result = Done 0; threads = set_word t A1 old (with_cancellation_of t c s) }
 
 abbrev pub set_state_row : ℕ → ℕ → State → threads.After
 set_state_row t n s =

@@ -61,8 +61,10 @@ fn interrupt_at_condition(
     requires conditions { IsWellFormed threads.old }
     ensures well_formed { IsWellFormedWith threads.new mutexes.new }
     ensures conditions { IsWellFormed threads.new }
-    ensures threads { threads.new ≡ (interrupted_at_condition mutex thread threads.old mutexes.old).threads }
-    ensures mutexes { mutexes.new ≡ (interrupted_at_condition mutex thread threads.old mutexes.old).mutexes }
+    ensures threads { threads.new
+        ≡ (interrupted_at_condition mutex thread threads.old mutexes.old).threads }
+    ensures mutexes { mutexes.new
+        ≡ (interrupted_at_condition mutex thread threads.old mutexes.old).mutexes }
 {
     cancel(threads, thread);
     resume(threads, mutexes, thread, mutex, RetakeResult::Unwind);
@@ -75,8 +77,12 @@ fn request_enabled(threads: &mut Threads, mutexes: &mut Mutexes, thread: ThreadI
     requires conditions { IsWellFormed threads.old }
     ensures well_formed { IsWellFormedWith threads.new mutexes.new }
     ensures conditions { IsWellFormed threads.new }
-    ensures threads { threads.new ≡ (request_in (find (is_of thread) threads.old.waits) thread threads.old mutexes.old).threads }
-    ensures mutexes { mutexes.new ≡ (request_in (find (is_of thread) threads.old.waits) thread threads.old mutexes.old).mutexes }
+    ensures threads { threads.new
+        ≡ (request_in (find (is_of thread) threads.old.waits) thread threads.old
+        mutexes.old).threads }
+    ensures mutexes { mutexes.new
+        ≡ (request_in (find (is_of thread) threads.old.waits) thread threads.old
+        mutexes.old).mutexes }
 {
     let Some(wait) = threads.wait_of(thread) else {
         leave_pending(threads, thread);

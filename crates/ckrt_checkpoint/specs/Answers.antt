@@ -27,5 +27,6 @@ Agrees view (Ok x) value = value ≡ Ok (view x)
 Agrees view (Err e) value = AgreesOnFault e value
 
 -- what a reading of an honest disk gives is what a function gives for its content, unless the device or the memory failed
-abbrev pub IsReadAs : {D X : Type 0} → Ghosts D → (old new : D) → Result X AreaFault → (List ℕ → Result X AreaFault) → Type 0
+abbrev pub IsReadAs : {D X : Type 0} → Ghosts D → (old new : D) → Result X AreaFault
+    → (List ℕ → Result X AreaFault) → Type 0
 IsReadAs d old new result given = d.is_honest new → Agrees (λ x. x) result (given (d.content old))

@@ -5,7 +5,9 @@ use Rattle.ckrt_checkpoint.specs.declared.header.Header.{Header}
 
 -- bytes 8..40 of an area's header
 abbrev pub header_fields : Header → List ℕ
-header_fields h = little_bytes 8 h.generation ++ little_bytes 8 h.count ++ little_bytes 8 h.offset ++ little_bytes 4 h.tables ++ little_bytes 4 h.version
+header_fields h =
+    little_bytes 8 h.generation ++ little_bytes 8 h.count ++ little_bytes 8 h.offset
+    ++ little_bytes 4 h.tables ++ little_bytes 4 h.version
 
 -- these bytes stand from an offset on
 abbrev pub HasBytes : List ℕ → ℕ → List ℕ → Type 0

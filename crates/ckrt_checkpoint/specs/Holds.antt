@@ -19,17 +19,20 @@ slot c area p image = take 4096 (drop (slot_at c area p) image)
 
 -- each page of a memory stands in its slot of an area
 abbrev pub AllPagesStand : Config → (area : ℕ) → (memory image : List ℕ) → Type 0
-AllPagesStand c area memory image = (p : ℕ) → 1 ≤ p → p < c.pages → slot c area p image ≡ page_of memory p
+AllPagesStand c area memory image =
+    (p : ℕ) → 1 ≤ p → p < c.pages → slot c area p image ≡ page_of memory p
 
 -- A state stands behind an area's gate: the fields of its header, the bytes of its tables, and each page of its memory in its slot.
-pub record HasState (c : Config) (area : ℕ) (h : Header) (tables memory image : List ℕ) : Type 0 where
+pub record HasState (c : Config) (area : ℕ) (h : Header) (tables memory image : List ℕ)
+    : Type 0 where
   pub fields : HasBytes image (area_at c area + 8) (header_fields h)
   pub encoded : HasBytes image (tables_at c area) tables
   pub pages : AllPagesStand c area memory image
 
 -- page p of a memory stands in its slot, if it is clean for the area
 abbrev pub IsInSlot : Config → (area p : ℕ) → Memory → (image : List ℕ) → Type 0
-IsInSlot c area p memory image = is_dirty area p memory ≡ false → slot c area p image ≡ page_of memory.bytes p
+IsInSlot c area p memory image =
+    is_dirty area p memory ≡ false → slot c area p image ≡ page_of memory.bytes p
 
 -- each page of a memory that is clean for the area stands in its slot
 abbrev pub CleanPagesStand : Config → (area : ℕ) → Memory → (image : List ℕ) → Type 0
@@ -41,14 +44,17 @@ BothStand c memory image = (area : ℕ) → area ≤ 1 → CleanPagesStand c are
 
 -- each page of a memory that is clean for the area stands in its slot of a disk, if that is honest
 abbrev pub CleanPagesStandOn : {D : Type 0} → Ghosts D → Config → (area : ℕ) → Memory → D → Type 0
-CleanPagesStandOn d c area memory disk = d.is_honest disk → CleanPagesStand c area memory (d.content disk)
+CleanPagesStandOn d c area memory disk =
+    d.is_honest disk → CleanPagesStand c area memory (d.content disk)
 
 -- a reading of an honest disk gave a memory of which each page that is clean for either area stands in its slot there
-abbrev pub GivesPagesThatStand : {D X E : Type 0} → Ghosts D → Config → (old new : D) → (X → Memory) → Result X E → Type 0
+abbrev pub GivesPagesThatStand : {D X E : Type 0} → Ghosts D → Config → (old new : D) → (X → Memory)
+    → Result X E → Type 0
 GivesPagesThatStand d c old new memory result = d.is_honest new → IfOk result (λ x. BothStand c (memory x) (d.content old))
 
 -- An area holds a state whole: it stands behind its gate, and the gate is open.
-pub record HoldsArea (c : Config) (area : ℕ) (h : Header) (tables memory image : List ℕ) : Type 0 where
+pub record HoldsArea (c : Config) (area : ℕ) (h : Header) (tables memory image : List ℕ)
+    : Type 0 where
   pub gate : HasBytes image (area_at c area) (OPEN ∷ [])
   pub state : HasState c area h tables memory image
 

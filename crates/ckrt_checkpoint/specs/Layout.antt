@@ -47,7 +47,8 @@ journal_at c area = 4096 + 2 * area_size c + area * c.journal
 
 -- the same at its first gate, where the area is of a version, which is the journal's too
 abbrev pub journal_of : Config → (area version : ℕ) → Journal
-journal_of c area version = record { at = journal_at c area; size = c.journal; next_gate = 0; version = version }
+journal_of c area version =
+    record { at = journal_at c area; size = c.journal; next_gate = 0; version = version }
 
 -- FIELDS
 

@@ -12,15 +12,19 @@ use Rattle.ckrt_checkpoint.specs.declared.fault.AreaFault.TheVariants.{Device, D
 use Rattle.ckrt_checkpoint.specs.Layout.{memory_of, tables_of}
 
 -- The area's tables decode to these tables and this held output, and its pages are this memory.
-pub record HoldsParts (c : Config) (area : Area) (image memory : List ℕ) (tables : Tables) (held : List ℕ) : Type 0 where
-  pub decodes : DecodesTo area.header.version c.harts (tables_of c area image) (Some (record { tables = tables; held = held }))
+pub record HoldsParts (c : Config) (area : Area) (image memory : List ℕ) (tables : Tables)
+    (held : List ℕ) : Type 0 where
+  pub decodes : DecodesTo area.header.version c.harts (tables_of c area image)
+      (Some (record { tables = tables; held = held }))
   pub pages : memory ≡ memory_of c area.index image
 
 -- What the answer says of the area: what it holds; or that its tables decode to nothing, exactly where Damaged is answered. The other
 -- faults say nothing of the bytes.
-abbrev pub ReadsArea : Config → Area → List ℕ → Result (Memory × Tables × Buffer ℕ) AreaFault → Type 0
+abbrev pub ReadsArea : Config → Area → List ℕ → Result (Memory × Tables × Buffer ℕ) AreaFault
+    → Type 0
 ReadsArea c area image (Ok r) = HoldsParts c area image r.0.bytes r.1 r.2.items
-ReadsArea c area image (Err Damaged) = DecodesTo area.header.version c.harts (tables_of c area image) None
+ReadsArea c area image (Err Damaged) =
+    DecodesTo area.header.version c.harts (tables_of c area image) None
 ReadsArea c area image (Err Device) = Unit {0}
 ReadsArea c area image (Err GenerationsUsed) = Unit {0}
 ReadsArea c area image (Err OutOfMemory) = Unit {0}

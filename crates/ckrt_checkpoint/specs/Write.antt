@@ -38,7 +38,8 @@ GateAt c area = IsWithin (area_at c area) 1
 
 -- all but the gate
 abbrev pub FillsAt : Config → ℕ → ℕ → Type 0
-FillsAt c area i = IsWithin (area_at c area + 1) (area_size c - 1) i ⊎ IsWithin (journal_at c area) 1 i
+FillsAt c area i =
+    IsWithin (area_at c area + 1) (area_size c - 1) i ⊎ IsWithin (journal_at c area) 1 i
 
 abbrev pub WritesAt : Config → ℕ → ℕ → Type 0
 WritesAt c area i = GateAt c area i ⊎ FillsAt c area i
@@ -56,7 +57,8 @@ pub record IsFilling (c : Config) (area : ℕ) (content image : List ℕ) : Type
   pub outside : IsSameOutside (WritesAt c area) content image
 
 -- The area holds the state whole, its journal has no batch, and all else is as before.
-pub record HasSaved (c : Config) (area : ℕ) (h : Header) (tables memory content image : List ℕ) : Type 0 where
+pub record HasSaved (c : Config) (area : ℕ) (h : Header) (tables memory content image : List ℕ)
+    : Type 0 where
   pub holds : HoldsArea c area h tables memory image
   pub no_batch : HasNoBatch c area image
   pub outside : IsSameOutside (WritesAt c area) content image
@@ -73,11 +75,14 @@ abbrev pub IsDurable : {D : Type 0} → Ghosts D → D → Type 0
 IsDurable d disk = (i : ℕ) → ¬ d.pending disk i
 
 -- of an honest disk on which nothing was pending a stop at any moment since old leaves no more than one of the three
-abbrev pub LeavesSaving : {D : Type 0} → Ghosts D → Config → SavePoint → (tables : List ℕ) → Memory → (old new : D) → Type 0
-LeavesSaving d c point tables memory old new = IsDurable d old → AtAnyMoment d old new (IsSaving c point tables memory.bytes (d.content old))
+abbrev pub LeavesSaving : {D : Type 0} → Ghosts D → Config → SavePoint → (tables : List ℕ) → Memory
+    → (old new : D) → Type 0
+LeavesSaving d c point tables memory old new =
+    IsDurable d old → AtAnyMoment d old new (IsSaving c point tables memory.bytes (d.content old))
 
 -- an honest disk has the state whole in the other area, no batch in that area's journal, and all else as before
-abbrev pub IsSavedOn : {D : Type 0} → Ghosts D → Config → SavePoint → (tables : List ℕ) → Memory → (old new : D) → Type 0
+abbrev pub IsSavedOn : {D : Type 0} → Ghosts D → Config → SavePoint → (tables : List ℕ) → Memory
+    → (old new : D) → Type 0
 IsSavedOn d c point tables memory old new =
     d.is_honest new → HasSaved c (other_area point) (next_header point tables) tables memory.bytes (d.content old) (d.content new)
 
@@ -107,7 +112,8 @@ abbrev pub PagesAt : Config → ℕ → ℕ → Type 0
 PagesAt c area = IsWithin (memory_at c area) (memory_size c)
 
 -- what stands behind the gate when it is opened
-pub record IsFilled (c : Config) (area : ℕ) (h : Header) (tables memory content : List ℕ) : Type 0 where
+pub record IsFilled (c : Config) (area : ℕ) (h : Header) (tables memory content : List ℕ)
+    : Type 0 where
   pub state : HasState c area h tables memory content
   pub no_batch : HasNoBatch c area content
 
@@ -120,19 +126,25 @@ calls_of dirty was_open (Ok x) = (if was_open then 2 else 0) + dirty + 6
 calls_of dirty was_open (Err e) = 0
 
 -- The calls of the disk: writes in the area and the first byte of its journal, as many as it takes.
-pub record IsAreaWrite {D X : Type 0} (d : Ghosts D) (c : Config) (area : ℕ) (memory : Memory) (old new : D) (result : Result X AreaFault) : Type 0 where
+pub record IsAreaWrite {D X : Type 0} (d : Ghosts D) (c : Config) (area : ℕ) (memory : Memory)
+    (old new : D) (result : Result X AreaFault) : Type 0 where
   -- whether the gate of the area was open
   pub was_open : Bool
   -- which is what it read as
-  pub read : d.is_honest new → OnOk result (was_open ≡ is_gate_open (area_at c area) (d.content old))
-  pub within : WritesWithin d (WritesAt c area) (calls_of (dirty_pages c area memory) was_open result) old new (is_device result)
+  pub read : d.is_honest new
+      → OnOk result (was_open ≡ is_gate_open (area_at c area) (d.content old))
+  pub within : WritesWithin d (WritesAt c area)
+      (calls_of (dirty_pages c area memory) was_open result) old new (is_device result)
 
 -- the same, into the area that isn't in use
-abbrev pub IsOtherAreaWrite : {D X : Type 0} → Ghosts D → Config → SavePoint → Memory → (old new : D) → Result X AreaFault → Type 0
-IsOtherAreaWrite d c point memory old new result = IsAreaWrite d c (other_area point) memory old new result
+abbrev pub IsOtherAreaWrite : {D X : Type 0} → Ghosts D → Config → SavePoint → Memory
+    → (old new : D) → Result X AreaFault → Type 0
+IsOtherAreaWrite d c point memory old new result =
+    IsAreaWrite d c (other_area point) memory old new result
 
 -- the last generation was in use: that is the answer, before any call of the disk; else Device is the only error
-pub record IsRefusedExactly {D X : Type 0} (point : SavePoint) (old new : D) (result : Result X AreaFault) : Type 0 where
+pub record IsRefusedExactly {D X : Type 0} (point : SavePoint) (old new : D)
+    (result : Result X AreaFault) : Type 0 where
   pub exact : result ≡ Err GenerationsUsed ↔ point.generation ≡ 2 ^ 64 - 1
   pub unchanged : result ≡ Err GenerationsUsed → new ≡ old
   pub errors : IfErr result (λ e. (e ≡ Device) ⊎ (e ≡ GenerationsUsed))

@@ -29,7 +29,8 @@ fn read_table_bytes<D: Disk>(
     requires valid { is_valid config.now ≡ true }
     requires disk { size_needed config.now ≤ D.size disk.old }
     requires picked { IsPicked area.now }
-    ensures exact { D.is_honest disk.new → IfOk result (λ bytes. bytes.items ≡ tables_of config.now area.now (D.content disk.old)) }
+    ensures exact { D.is_honest disk.new
+        → IfOk result (λ bytes. bytes.items ≡ tables_of config.now area.now (D.content disk.old)) }
     ensures errors { IfErr result (λ e. (e ≡ Device) ⊎ (e ≡ OutOfMemory)) }
     ensures read { IsOnlyRead D.Disk disk.old disk.new (is_device result) }
 {
@@ -48,9 +49,11 @@ fn read_memory<D: Disk>(
     requires valid { is_valid config.now ≡ true }
     requires room { size_needed config.now ≤ D.size disk.old }
     requires area { area ≤ 1 }
-    ensures exact { D.is_honest disk.new → IfOk result (λ m. m.bytes ≡ memory_of config.now area (D.content disk.old)) }
+    ensures exact { D.is_honest disk.new
+        → IfOk result (λ m. m.bytes ≡ memory_of config.now area (D.content disk.old)) }
     ensures size { IfOk result (λ m. length m.bytes ≡ memory_size config.now) }
-    ensures pages { D.is_honest disk.new → IfOk result (λ m. BothStand config.now m (D.content disk.old)) }
+    ensures pages { D.is_honest disk.new
+        → IfOk result (λ m. BothStand config.now m (D.content disk.old)) }
     ensures clean { IfOk result (λ m. IsAllClean area m) }
     ensures errors { IfErr result (λ e. (e ≡ Device) ⊎ (e ≡ OutOfMemory)) }
     ensures read { IsOnlyRead D.Disk disk.old disk.new (is_device result) }
@@ -78,7 +81,8 @@ pub fn read_area<D: Disk>(
     requires disk { size_needed config.now ≤ D.size disk.old }
     requires picked { IsPicked area.now }
     ensures read { IsOnlyRead D.Disk disk.old disk.new (is_device result) }
-    ensures exact { D.is_honest disk.new → ReadsArea config.now area.now (D.content disk.old) result }
+    ensures exact { D.is_honest disk.new
+        → ReadsArea config.now area.now (D.content disk.old) result }
     ensures savable { IfOk result (λ r. CanBeSavedIn config.now area.now r.1 r.2.items) }
     ensures memory { IfOk result (λ r. length r.0.bytes ≡ memory_size config.now) }
     ensures pages { GivesPagesThatStand D.Disk config.now disk.old disk.new (λ r. r.0) result }

@@ -22,11 +22,16 @@ use ckrt_tables::VERSION;
 // again may be left as any byte by a stop, also as an open gate.
 fn close_gate<D: Disk>(disk: &mut D, gate_at: usize) -> Result<bool, DeviceFault>
     requires { gate_at + 1 ≤ D.size disk.old }
-    ensures any_moment { IsDurable D.Disk disk.old → AtAnyMoment D.Disk disk.old disk.new (IsClosing gate_at (D.content disk.old)) }
-    ensures within { WritesWithin D.Disk (IsWithin gate_at 1) (calls_of_closing result) disk.old disk.new (is_err result) }
-    ensures read { IfOk result (λ was_open. D.is_honest disk.new → was_open ≡ is_gate_open gate_at (D.content disk.old)) }
-    ensures closed { OnOk result (D.is_honest disk.new → is_gate_open gate_at (D.content disk.new) ≡ false) }
-    ensures durable { OnOk result (D.is_honest disk.new → IsDurable D.Disk disk.old → IsDurable D.Disk disk.new) }
+    ensures any_moment { IsDurable D.Disk disk.old
+        → AtAnyMoment D.Disk disk.old disk.new (IsClosing gate_at (D.content disk.old)) }
+    ensures within { WritesWithin D.Disk (IsWithin gate_at 1) (calls_of_closing result) disk.old
+        disk.new (is_err result) }
+    ensures read { IfOk result (λ was_open.
+        D.is_honest disk.new → was_open ≡ is_gate_open gate_at (D.content disk.old)) }
+    ensures closed { OnOk result
+        (D.is_honest disk.new → is_gate_open gate_at (D.content disk.new) ≡ false) }
+    ensures durable { OnOk result
+        (D.is_honest disk.new → IsDurable D.Disk disk.old → IsDurable D.Disk disk.new) }
 {
     let mut gate = [0];
     disk.read(gate_at, &mut gate)?;
@@ -50,8 +55,10 @@ fn write_page<D: Disk>(
     requires area { area ≤ 1 }
     requires memory { length memory.now.bytes ≡ memory_size config.now }
     requires page { (1 ≤ page) × (page < config.now.pages) }
-    ensures within { WritesWithin D.Disk (IsWithin (slot_at config.now area page) 4096) 1 disk.old disk.new (is_err result) }
-    ensures written { OnOk result (D.is_honest disk.new → slot config.now area page (D.content disk.new) ≡ page_of memory.now.bytes page) }
+    ensures within { WritesWithin D.Disk (IsWithin (slot_at config.now area page) 4096) 1 disk.old
+        disk.new (is_err result) }
+    ensures written { OnOk result (D.is_honest disk.new
+        → slot config.now area page (D.content disk.new) ≡ page_of memory.now.bytes page) }
 {
     write_part(disk, config.slot_at(area, page), memory.page(page))
 }
@@ -67,8 +74,11 @@ fn write_pages<D: Disk>(
     requires room { size_needed config.now ≤ D.size disk.old }
     requires area { area ≤ 1 }
     requires memory { length memory.now.bytes ≡ memory_size config.now }
-    ensures within { WritesWithin D.Disk (PagesAt config.now area) (dirty_pages config.now area memory.now) disk.old disk.new (is_err result) }
-    ensures written { OnOk result (D.is_honest disk.new → CleanPagesStand config.now area memory.now (D.content disk.old) → AllPagesStand config.now area memory.now.bytes (D.content disk.new)) }
+    ensures within { WritesWithin D.Disk (PagesAt config.now area)
+        (dirty_pages config.now area memory.now) disk.old disk.new (is_err result) }
+    ensures written { OnOk result (D.is_honest disk.new
+        → CleanPagesStand config.now area memory.now (D.content disk.old)
+        → AllPagesStand config.now area memory.now.bytes (D.content disk.new)) }
 {
     let mut page = memory.next_dirty(area, 1, config.pages);
     while page < config.pages {
@@ -92,8 +102,12 @@ fn fill<D: Disk>(
     requires area { area ≤ 1 }
     requires tables { length tables.now ≤ TABLES_ROOM }
     requires memory { length memory.now.bytes ≡ memory_size config.now }
-    ensures within { WritesWithin D.Disk (FillsAt config.now area) (dirty_pages config.now area memory.now + 4) disk.old disk.new (is_err result) }
-    ensures filled { OnOk result (D.is_honest disk.new → CleanPagesStand config.now area memory.now (D.content disk.old) → IsFilled config.now area header.now tables.now memory.now.bytes (D.content disk.new)) }
+    ensures within { WritesWithin D.Disk (FillsAt config.now area)
+        (dirty_pages config.now area memory.now + 4) disk.old disk.new (is_err result) }
+    ensures filled { OnOk result (D.is_honest disk.new
+        → CleanPagesStand config.now area memory.now (D.content disk.old)
+        → IsFilled config.now area header.now tables.now memory.now.bytes
+        (D.content disk.new)) }
     ensures durable { OnOk result (D.is_honest disk.new → IsDurable D.Disk disk.new) }
 {
     write_part(disk, config.journal_at(area), &[CLOSED])?;
@@ -107,7 +121,8 @@ fn fill<D: Disk>(
 fn open_gate<D: Disk>(disk: &mut D, gate_at: usize) -> Result<(), DeviceFault>
     requires { gate_at + 1 ≤ D.size disk.old }
     ensures within { WritesWithin D.Disk (IsWithin gate_at 1) 2 disk.old disk.new (is_err result) }
-    ensures written { OnOk result (D.is_honest disk.new → IsOverwritten (D.content disk.old) gate_at (OPEN ∷ []) (D.content disk.new)) }
+    ensures written { OnOk result (D.is_honest disk.new
+        → IsOverwritten (D.content disk.old) gate_at (OPEN ∷ []) (D.content disk.new)) }
     ensures durable { OnOk result (D.is_honest disk.new → IsDurable D.Disk disk.new) }
 {
     write_synced(disk, gate_at, &[OPEN])
@@ -133,11 +148,15 @@ pub fn write_area<D: Disk>(
     requires area { point.now.area ≤ 1 }
     requires tables { length tables.now ≤ TABLES_ROOM }
     requires memory { length memory.now.bytes ≡ memory_size config.now }
-    requires clean { CleanPagesStandOn D.Disk config.now (other_area point.now) memory.now disk.old }
-    ensures any_moment { LeavesSaving D.Disk config.now point.now tables.now memory.now disk.old disk.new }
-    ensures write { IsOtherAreaWrite D.Disk config.now point.now memory.now disk.old disk.new result }
+    requires clean { CleanPagesStandOn D.Disk config.now (other_area point.now) memory.now
+        disk.old }
+    ensures any_moment { LeavesSaving D.Disk config.now point.now tables.now memory.now disk.old
+        disk.new }
+    ensures write { IsOtherAreaWrite D.Disk config.now point.now memory.now disk.old disk.new
+        result }
     ensures refused { IsRefusedExactly point.now disk.old disk.new result }
-    ensures saved { OnOk result (IsSavedOn D.Disk config.now point.now tables.now memory.now disk.old disk.new) }
+    ensures saved { OnOk result
+        (IsSavedOn D.Disk config.now point.now tables.now memory.now disk.old disk.new) }
     ensures durable { OnOk result (D.is_honest disk.new → IsDurable D.Disk disk.new) }
 {
     if point.generation == u64::MAX {

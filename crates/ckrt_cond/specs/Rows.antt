@@ -55,13 +55,15 @@ wait_refusal t c a s ms =
     else (if has_other_mutex c a s then Some EINVAL else None)
 
 -- One level of the mutex is released as by unlock, with its hand-over, and the same step goes on from there.
-abbrev pub released_then : (State → List (Entry Mutex) → After) → Option ℕ → ℕ → ℕ → State → List (Entry Mutex) → After
+abbrev pub released_then : (State → List (Entry Mutex) → After) → Option ℕ → ℕ → ℕ → State
+    → List (Entry Mutex) → After
 released_then next (Some e) t a s ms = unchanged (Done e) s ms
 released_then next None t a s ms = (let r = unlock_row t a s ms in next r.threads r.mutexes)
 
 -- the thread waits at the condition, until the moment d if there is one
 abbrev pub waiting_at : ℕ → ℕ → ℕ → Option ℕ → State → List (Entry Mutex) → After
-waiting_at t c a d s ms = record { result = Blocked; threads = blocked t (reason.Condition c a) d s; mutexes = ms }
+waiting_at t c a d s ms =
+    record { result = Blocked; threads = blocked t (reason.Condition c a) d s; mutexes = ms }
 
 abbrev pub wait_row : ℕ → ℕ → ℕ → State → List (Entry Mutex) → After
 wait_row t c a s ms = released_then (waiting_at t c a None) (wait_refusal t c a s ms) t a s ms

@@ -106,10 +106,26 @@ fn release_and_wait(
     requires conditions { IsWellFormed threads.old }
     ensures well_formed { IsWellFormedWith threads.new mutexes.new }
     ensures conditions { IsWellFormed threads.new }
-    ensures queue { result ≡ Blocked → waiters condition threads.new ≡ waiters condition threads.old ++ (record { thread = thread; reason = Condition condition mutex; deadline = deadline }) ∷ [] }
-    ensures result { result ≡ (released_then (waiting_at thread condition mutex deadline) (wait_refusal thread condition mutex threads.old mutexes.old) thread mutex threads.old mutexes.old).result }
-    ensures threads { threads.new ≡ (released_then (waiting_at thread condition mutex deadline) (wait_refusal thread condition mutex threads.old mutexes.old) thread mutex threads.old mutexes.old).threads }
-    ensures mutexes { mutexes.new ≡ (released_then (waiting_at thread condition mutex deadline) (wait_refusal thread condition mutex threads.old mutexes.old) thread mutex threads.old mutexes.old).mutexes }
+    ensures queue { result ≡ Blocked
+        → waiters condition threads.new
+        ≡ waiters condition threads.old
+        ++ (record {
+          thread = thread;
+          reason = Condition condition mutex;
+          deadline = deadline;
+        }) ∷ [] }
+    ensures result { result
+        ≡ (released_then (waiting_at thread condition mutex deadline)
+        (wait_refusal thread condition mutex threads.old mutexes.old) thread mutex
+        threads.old mutexes.old).result }
+    ensures threads { threads.new
+        ≡ (released_then (waiting_at thread condition mutex deadline)
+        (wait_refusal thread condition mutex threads.old mutexes.old) thread mutex
+        threads.old mutexes.old).threads }
+    ensures mutexes { mutexes.new
+        ≡ (released_then (waiting_at thread condition mutex deadline)
+        (wait_refusal thread condition mutex threads.old mutexes.old) thread mutex
+        threads.old mutexes.old).mutexes }
 {
     if let Some(error) = wait_refusal(threads, mutexes, thread, condition, mutex) {
         return CallResult::Done(error);
@@ -134,9 +150,18 @@ fn release_and_retake(
     ensures well_formed { IsWellFormedWith threads.new mutexes.new }
     ensures conditions { IsWellFormed threads.new }
     ensures queue { waiters condition threads.new ≡ waiters condition threads.old }
-    ensures result { result ≡ (released_then (retake_row thread mutex TimedOut) (wait_refusal thread condition mutex threads.old mutexes.old) thread mutex threads.old mutexes.old).result }
-    ensures threads { threads.new ≡ (released_then (retake_row thread mutex TimedOut) (wait_refusal thread condition mutex threads.old mutexes.old) thread mutex threads.old mutexes.old).threads }
-    ensures mutexes { mutexes.new ≡ (released_then (retake_row thread mutex TimedOut) (wait_refusal thread condition mutex threads.old mutexes.old) thread mutex threads.old mutexes.old).mutexes }
+    ensures result { result
+        ≡ (released_then (retake_row thread mutex TimedOut)
+        (wait_refusal thread condition mutex threads.old mutexes.old) thread mutex
+        threads.old mutexes.old).result }
+    ensures threads { threads.new
+        ≡ (released_then (retake_row thread mutex TimedOut)
+        (wait_refusal thread condition mutex threads.old mutexes.old) thread mutex
+        threads.old mutexes.old).threads }
+    ensures mutexes { mutexes.new
+        ≡ (released_then (retake_row thread mutex TimedOut)
+        (wait_refusal thread condition mutex threads.old mutexes.old) thread mutex
+        threads.old mutexes.old).mutexes }
 {
     if let Some(error) = wait_refusal(threads, mutexes, thread, condition, mutex) {
         return CallResult::Done(error);
@@ -162,10 +187,16 @@ pub fn wait(
     requires conditions { IsWellFormed threads.old }
     ensures well_formed { IsWellFormedWith threads.new mutexes.new }
     ensures conditions { IsWellFormed threads.new }
-    ensures queue { result ≡ Blocked → waiters condition threads.new ≡ waiters condition threads.old ++ (record { thread = thread; reason = Condition condition mutex; deadline = None }) ∷ [] }
+    ensures queue { result ≡ Blocked
+        → waiters condition threads.new
+        ≡ waiters condition threads.old
+        ++ (record { thread = thread; reason = Condition condition mutex; deadline = None })
+        ∷ [] }
     ensures result { result ≡ (wait_row thread condition mutex threads.old mutexes.old).result }
-    ensures threads { threads.new ≡ (wait_row thread condition mutex threads.old mutexes.old).threads }
-    ensures mutexes { mutexes.new ≡ (wait_row thread condition mutex threads.old mutexes.old).mutexes }
+    ensures threads { threads.new
+        ≡ (wait_row thread condition mutex threads.old mutexes.old).threads }
+    ensures mutexes { mutexes.new
+        ≡ (wait_row thread condition mutex threads.old mutexes.old).mutexes }
 {
     release_and_wait(threads, mutexes, thread, condition, mutex, None)
 }
@@ -189,11 +220,21 @@ pub fn timedwait(
     requires conditions { IsWellFormed threads.old }
     ensures well_formed { IsWellFormedWith threads.new mutexes.new }
     ensures conditions { IsWellFormed threads.new }
-    ensures queue { clock < moment → result ≡ Blocked → waiters condition threads.new ≡ waiters condition threads.old ++ (record { thread = thread; reason = Condition condition mutex; deadline = Some moment }) ∷ [] }
+    ensures queue { clock < moment → result ≡ Blocked
+        → waiters condition threads.new
+        ≡ waiters condition threads.old
+        ++ (record {
+          thread = thread;
+          reason = Condition condition mutex;
+          deadline = Some moment;
+        }) ∷ [] }
     ensures due { moment ≤ clock → waiters condition threads.new ≡ waiters condition threads.old }
-    ensures result { result ≡ (timedwait_row thread condition mutex moment clock threads.old mutexes.old).result }
-    ensures threads { threads.new ≡ (timedwait_row thread condition mutex moment clock threads.old mutexes.old).threads }
-    ensures mutexes { mutexes.new ≡ (timedwait_row thread condition mutex moment clock threads.old mutexes.old).mutexes }
+    ensures result { result
+        ≡ (timedwait_row thread condition mutex moment clock threads.old mutexes.old).result }
+    ensures threads { threads.new
+        ≡ (timedwait_row thread condition mutex moment clock threads.old mutexes.old).threads }
+    ensures mutexes { mutexes.new
+        ≡ (timedwait_row thread condition mutex moment clock threads.old mutexes.old).mutexes }
 {
     if moment >= MOMENT_END {
         return CallResult::Done(EINVAL);

@@ -56,8 +56,10 @@ pub fn resume(
     ensures well_formed { IsWellFormedWith threads.new mutexes.new }
     ensures conditions { IsWellFormed threads.new }
     ensures result { result ≡ (resume_row thread mutex outcome threads.old mutexes.old).result }
-    ensures threads { threads.new ≡ (resume_row thread mutex outcome threads.old mutexes.old).threads }
-    ensures mutexes { mutexes.new ≡ (resume_row thread mutex outcome threads.old mutexes.old).mutexes }
+    ensures threads { threads.new
+        ≡ (resume_row thread mutex outcome threads.old mutexes.old).threads }
+    ensures mutexes { mutexes.new
+        ≡ (resume_row thread mutex outcome threads.old mutexes.old).mutexes }
 {
     threads.known();
     threads.take_wait(thread);

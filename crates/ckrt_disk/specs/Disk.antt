@@ -16,9 +16,11 @@ pub record IsImage (content : List ℕ) (pending : ℕ → Type 0) (image : List
 
 -- Time over a call: a stop at a moment since t may have left what it might have left before the call, or what a stop
 -- within the call may leave.
-pub record Elapses (before now : ℕ) (past since : ℕ → List ℕ → Type 0) (within : List ℕ → Type 0) : Type 0 where
+pub record Elapses (before now : ℕ) (past since : ℕ → List ℕ → Type 0) (within : List ℕ → Type 0)
+    : Type 0 where
   pub later : before ≤ now
-  pub nothing_else : (t : ℕ) (image : List ℕ) → t ≤ before → since t image → past t image ⊎ within image
+  pub nothing_else : (t : ℕ) (image : List ℕ) → t ≤ before → since t image
+      → past t image ⊎ within image
   pub keeps : (t : ℕ) (image : List ℕ) → t ≤ before → past t image → since t image
 
 -- the count of failures grows with a fault and with nothing else, and stays at its greatest value
@@ -39,6 +41,8 @@ abbrev pub StopsAt : {T E : Type 0} → Option ℕ → ℕ → Result T E → Ty
 StopsAt named_stop calls result = (s : ℕ) → named_stop ≡ Some s → (IsErr result ↔ IsStopped s calls)
 
 -- from old to new: a stop at any moment since old leaves an image that has P, or that it might have left before
-pub record LeavesOnly {D : Type 0} (moment : D → ℕ) (left_since : D → ℕ → List ℕ → Type 0) (old new : D) (P : List ℕ → Type 0) : Type 0 where
+pub record LeavesOnly {D : Type 0} (moment : D → ℕ) (left_since : D → ℕ → List ℕ → Type 0)
+    (old new : D) (P : List ℕ → Type 0) : Type 0 where
   pub later : moment old ≤ moment new
-  pub each : (t : ℕ) (image : List ℕ) → t ≤ moment old → left_since new t image → left_since old t image ⊎ P image
+  pub each : (t : ℕ) (image : List ℕ) → t ≤ moment old → left_since new t image
+      → left_since old t image ⊎ P image

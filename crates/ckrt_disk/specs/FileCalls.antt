@@ -21,7 +21,8 @@ abbrev pub Keeps : FileCall → List ℕ → (ℕ → Type 0) → List ℕ → L
 Keeps (Read at (Done n)) bytes pending old new = (take n bytes ≡ take n (drop at old)) × (new ≡ old)
 Keeps (Read at Interrupted) bytes pending old new = new ≡ old
 Keeps (Read at Failed) bytes pending old new = new ≡ old
-Keeps (Write at (Done n)) bytes pending old new = IsOverwritten old at (take n bytes) new × (length new ≡ length old)
+Keeps (Write at (Done n)) bytes pending old new =
+    IsOverwritten old at (take n bytes) new × (length new ≡ length old)
 Keeps (Write at Interrupted) bytes pending old new = new ≡ old
 Keeps (Write at Failed) bytes pending old new = IsImage old pending new
 Keeps (Sync true) bytes pending old new = new ≡ old
@@ -58,9 +59,12 @@ interruptions_of (c ∷ cs) = interruptions_with c.0 (interruptions_of cs)
 -- each of these calls was answered as the model says
 abbrev pub HasKept : (ℕ → List ℕ) → (ℕ → Type 0) → List (FileCall × List ℕ) → Type 0
 HasKept held unsettled [] = Unit {0}
-HasKept held unsettled (c ∷ cs) = HasKept held unsettled cs × Keeps c.0 c.1 (pending_of unsettled (c ∷ cs)) (held (length cs)) (held (length (c ∷ cs)))
+HasKept held unsettled (c ∷ cs) =
+    HasKept held unsettled cs
+    × Keeps c.0 c.1 (pending_of unsettled (c ∷ cs)) (held (length cs)) (held (length (c ∷ cs)))
 
-keeps_length : (call : FileCall) (bytes : List ℕ) (pending : ℕ → Type 0) (old new : List ℕ) → Keeps call bytes pending old new → length new ≡ length old
+keeps_length : (call : FileCall) (bytes : List ℕ) (pending : ℕ → Type 0) (old new : List ℕ)
+    → Keeps call bytes pending old new → length new ≡ length old
 keeps_length (Read at (Done n)) bytes pending old new kept = ap length kept.1
 keeps_length (Read at Interrupted) bytes pending old new kept = ap length kept
 keeps_length (Read at Failed) bytes pending old new kept = ap length kept
@@ -71,6 +75,8 @@ keeps_length (Sync true) bytes pending old new kept = ap length kept
 keeps_length (Sync false) bytes pending old new kept = kept.size
 
 -- a file that has kept the model is as long as it was
-pub same_length : (held : ℕ → List ℕ) (unsettled : ℕ → Type 0) (calls : List (FileCall × List ℕ)) → HasKept held unsettled calls → length (held (length calls)) ≡ length (held 0)
+pub same_length : (held : ℕ → List ℕ) (unsettled : ℕ → Type 0) (calls : List (FileCall × List ℕ))
+    → HasKept held unsettled calls → length (held (length calls)) ≡ length (held 0)
 same_length held unsettled [] kept = refl
-same_length held unsettled (c ∷ cs) kept = keeps_length c.0 c.1 _ _ _ kept.1 ∙ same_length held unsettled cs kept.0
+same_length held unsettled (c ∷ cs) kept =
+    keeps_length c.0 c.1 _ _ _ kept.1 ∙ same_length held unsettled cs kept.0

@@ -12,7 +12,8 @@ abbrev pub start_of : {F : Type 0} {g : Ghosts F} → FileDisk F g → List F
 start_of disk = disk.start.states
 
 -- a call of the disk fails exactly where a call of its file does, or where it is given up
-pub record CallsFile {F : Type 0} {g : Ghosts F} (old new : FileDisk F g) (given_up : Type 0) (ok : Bool) : Type 0 where
+pub record CallsFile {F : Type 0} {g : Ghosts F} (old new : FileDisk F g) (given_up : Type 0)
+    (ok : Bool) : Type 0 where
   pub fails : FailsWithFile g (file_of old) (file_of new) given_up ok
   -- the file has as many bytes as it had
   pub len : g.len (file_of new) ≡ g.len (file_of old)

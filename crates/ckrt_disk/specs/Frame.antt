@@ -50,13 +50,17 @@ pub record IsOnlyRead {D : Type 0} (d : Ghosts D) (old new : D) (failed : Bool) 
 
 -- The disk was written in a region alone, and read and synced as often as may be; failed is whether the last of these calls failed. No call
 -- before it did, and they were n writes and syncs.
-pub record WritesWithin {D : Type 0} (d : Ghosts D) (region : ℕ → Type 0) (n : ℕ) (old new : D) (failed : Bool) : Type 0 where
+pub record WritesWithin {D : Type 0} (d : Ghosts D) (region : ℕ → Type 0) (n : ℕ) (old new : D)
+    (failed : Bool) : Type 0 where
   -- a stop at any moment since old leaves what a stop before might have left, but for bytes of the region
-  pub any_moment : AtAnyMoment d old new (IsSameOutside (λ i. d.pending old i ⊎ region i) (d.content old))
+  pub any_moment : AtAnyMoment d old new
+      (IsSameOutside (λ i. d.pending old i ⊎ region i) (d.content old))
   -- it reads as before outside the region, unless it failed
-  pub content : failed ≡ false → d.is_honest new → IsSameOutside region (d.content old) (d.content new)
+  pub content : failed ≡ false → d.is_honest new
+      → IsSameOutside region (d.content old) (d.content new)
   -- either way it reads as before outside the region and what was pending
-  pub torn : d.is_honest new → IsSameOutside (λ i. d.pending old i ⊎ region i) (d.content old) (d.content new)
+  pub torn : d.is_honest new
+      → IsSameOutside (λ i. d.pending old i ⊎ region i) (d.content old) (d.content new)
   -- what is pending was pending before, or lies in the region
   pub pending : d.is_honest new → (i : ℕ) → d.pending new i → d.pending old i ⊎ region i
   -- it is the same disk
@@ -70,4 +74,5 @@ pub record WritesWithin {D : Type 0} (d : Ghosts D) (region : ℕ → Type 0) (n
 
 -- where the disk names a stop and has reached it, a call failed
 abbrev pub FailsBehindStop : {D : Type 0} → Ghosts D → D → Bool → Type 0
-FailsBehindStop d disk failed = (s : ℕ) → d.named_stop disk ≡ Some s → IsStopped s (d.calls disk) → failed ≡ true
+FailsBehindStop d disk failed =
+    (s : ℕ) → d.named_stop disk ≡ Some s → IsStopped s (d.calls disk) → failed ≡ true

@@ -24,6 +24,7 @@ module _ {S : Type 0} (content : S → List ℕ) (pending : S → ℕ → Type 0
   none_left t (s ∷ ss) image le (inl had) = let early : t ≤ length ss = had.0 in omega arith
   none_left t (s ∷ ss) image le (inr had) = none_left t ss image (omega arith) had
 
-  pub only_now : (now : S) (ss : List S) (image : List ℕ) → Since now ss (length ss) image → IsImageOf now image
+  pub only_now : (now : S) (ss : List S) (image : List ℕ) → Since now ss (length ss) image
+      → IsImageOf now image
   only_now now ss image (inl is) = is
   only_now now ss image (inr had) = absurd (none_left (length ss) ss image (omega arith) had)

@@ -23,6 +23,7 @@ abbrev pub answer_to : List ℕ → ℕ → ℕ → ℕ → Transfer
 answer_to limits at n size = answer_within (min (size - at) n) (limit_of limits n)
 
 -- a call of n bytes from `at` on is answered so, and uses up a limit
-pub record AnswersTo (old : MemoryFile) (at n : ℕ) (answer : Transfer) (new : MemoryFile) : Type 0 where
+pub record AnswersTo (old : MemoryFile) (at n : ℕ) (answer : Transfer) (new : MemoryFile)
+    : Type 0 where
   pub given : answer ≡ answer_to (limits_of old) at n (length old.bytes.items)
   pub used : limits_of new ≡ drop 1 (limits_of old)

@@ -23,13 +23,17 @@ abbrev pub HasStopped : StoppingDisk → Type 0
 HasStopped disk = IsStopped disk.count.at_call (length disk.count.history.states)
 
 -- a write: at the stop its bytes go in first, and then the fill over all pending bytes; after it no byte changes
-pub record LaysFillAtWrite (old : StoppingDisk) (at : ℕ) (bytes : List ℕ) (ok : Bool) (new : StoppingDisk) : Type 0 where
-  pub at_stop : StopsNext old → (written : List ℕ) × IsOverwritten (content_of old) at bytes written × IsFilled (pending_of new) (fill_of old) written (content_of new)
+pub record LaysFillAtWrite (old : StoppingDisk) (at : ℕ) (bytes : List ℕ) (ok : Bool)
+    (new : StoppingDisk) : Type 0 where
+  pub at_stop : StopsNext old
+      → (written : List ℕ) × IsOverwritten (content_of old) at bytes written
+      × IsFilled (pending_of new) (fill_of old) written (content_of new)
   pub after_stop : HasStopped old → content_of new ≡ content_of old
   pub fill : fill_of new ≡ fill_of old
 
 -- a sync: at the stop the fill over all pending bytes; after it no byte changes
 pub record LaysFillAtSync (old : StoppingDisk) (ok : Bool) (new : StoppingDisk) : Type 0 where
-  pub at_stop : StopsNext old → IsFilled (pending_of old) (fill_of old) (content_of old) (content_of new)
+  pub at_stop : StopsNext old
+      → IsFilled (pending_of old) (fill_of old) (content_of old) (content_of new)
   pub after_stop : HasStopped old → content_of new ≡ content_of old
   pub fill : fill_of new ≡ fill_of old

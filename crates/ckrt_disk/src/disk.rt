@@ -59,10 +59,13 @@ pub trait Disk {
     /// Reads the bytes from the offset `at` on. A read that fails changes nothing on the disk.
     fn read(&mut self, at: usize, buf: &mut [u8]) -> Result<(), DeviceFault>
         requires { at + length buf.old ≤ size self.old }
-        ensures bytes { OnOk result (is_honest self.new → buf.new ≡ take (length buf.old) (drop at (content self.old))) }
+        ensures bytes { OnOk result (is_honest self.new
+            → buf.new ≡ take (length buf.old) (drop at (content self.old))) }
         ensures content { is_honest self.new → content self.new ≡ content self.old }
         ensures pending { is_honest self.new → (i : ℕ) → (pending self.new i ↔ pending self.old i) }
-        ensures time { is_honest self.new → Elapses (moment self.old) (moment self.new) (left_since self.old) (left_since self.new) (λ _. ⊥) }
+        ensures time { is_honest self.new
+            → Elapses (moment self.old) (moment self.new) (left_since self.old)
+            (left_since self.new) (λ _. ⊥) }
         ensures honest { is_honest self.new → is_honest self.old }
         ensures size { size self.new ≡ size self.old }
         ensures failures { CountsFault (failures self.old) (failures self.new) result }
@@ -75,10 +78,15 @@ pub trait Disk {
     /// that fails may leave any bytes in the pending ranges.
     fn write(&mut self, at: usize, bytes: &[u8]) -> Result<(), DeviceFault>
         requires { at + length bytes.now ≤ size self.old }
-        ensures written { OnOk result (is_honest self.new → IsOverwritten (content self.old) at bytes.now (content self.new)) }
-        ensures torn { OnErr result (is_honest self.new → IsImage (content self.old) (pending self.new) (content self.new)) }
-        ensures pending { is_honest self.new → (i : ℕ) → (pending self.new i ↔ (pending self.old i ⊎ IsWithin at (length bytes.now) i)) }
-        ensures time { is_honest self.new → Elapses (moment self.old) (moment self.new) (left_since self.old) (left_since self.new) (IsImage (content self.old) (pending self.new)) }
+        ensures written { OnOk result (is_honest self.new
+            → IsOverwritten (content self.old) at bytes.now (content self.new)) }
+        ensures torn { OnErr result (is_honest self.new
+            → IsImage (content self.old) (pending self.new) (content self.new)) }
+        ensures pending { is_honest self.new → (i : ℕ)
+            → (pending self.new i ↔ (pending self.old i ⊎ IsWithin at (length bytes.now) i)) }
+        ensures time { is_honest self.new
+            → Elapses (moment self.old) (moment self.new) (left_since self.old)
+            (left_since self.new) (IsImage (content self.old) (pending self.new)) }
         ensures honest { is_honest self.new → is_honest self.old }
         ensures size { size self.new ≡ size self.old }
         ensures failures { CountsFault (failures self.old) (failures self.new) result }
@@ -90,11 +98,16 @@ pub trait Disk {
     /// Makes what was written durable: after Ok nothing is pending. A sync that fails may leave any bytes in the
     /// pending ranges.
     fn sync(&mut self) -> Result<(), DeviceFault>
-        ensures nothing_pending { OnOk result (is_honest self.new → (i : ℕ) → ¬ pending self.new i) }
+        ensures nothing_pending { OnOk result
+            (is_honest self.new → (i : ℕ) → ¬ pending self.new i) }
         ensures content { OnOk result (is_honest self.new → content self.new ≡ content self.old) }
-        ensures torn { OnErr result (is_honest self.new → IsImage (content self.old) (pending self.old) (content self.new)) }
-        ensures pending { OnErr result (is_honest self.new → (i : ℕ) → (pending self.new i ↔ pending self.old i)) }
-        ensures time { is_honest self.new → Elapses (moment self.old) (moment self.new) (left_since self.old) (left_since self.new) (IsImage (content self.old) (pending self.old)) }
+        ensures torn { OnErr result (is_honest self.new
+            → IsImage (content self.old) (pending self.old) (content self.new)) }
+        ensures pending { OnErr result
+            (is_honest self.new → (i : ℕ) → (pending self.new i ↔ pending self.old i)) }
+        ensures time { is_honest self.new
+            → Elapses (moment self.old) (moment self.new) (left_since self.old)
+            (left_since self.new) (IsImage (content self.old) (pending self.old)) }
         ensures honest { is_honest self.new → is_honest self.old }
         ensures size { size self.new ≡ size self.old }
         ensures failures { CountsFault (failures self.old) (failures self.new) result }
@@ -107,14 +120,18 @@ pub trait Disk {
     ghost whole: { (disk : Self) → is_honest disk → length (content disk) ≡ size disk };
 
     /// The content as it reads is one of the images that a stop may leave.
-    ghost readable: { (disk : Self) → is_honest disk → IsImage (content disk) (pending disk) (content disk) };
+    ghost readable: { (disk : Self) → is_honest disk
+        → IsImage (content disk) (pending disk) (content disk) };
 
     /// A stop now is a stop since any moment so far.
-    ghost counts_now: { (disk : Self) (t : ℕ) (image : List ℕ) → is_honest disk → t ≤ moment disk → IsImage (content disk) (pending disk) image → left_since disk t image };
+    ghost counts_now: { (disk : Self) (t : ℕ) (image : List ℕ) → is_honest disk → t ≤ moment disk
+        → IsImage (content disk) (pending disk) image → left_since disk t image };
 
     /// Since the present moment there is no stop but one now.
-    ghost only_now: { (disk : Self) (image : List ℕ) → is_honest disk → left_since disk (moment disk) image → IsImage (content disk) (pending disk) image };
+    ghost only_now: { (disk : Self) (image : List ℕ) → is_honest disk
+        → left_since disk (moment disk) image → IsImage (content disk) (pending disk) image };
 
     /// It has failed exactly where it has reached the call that it names.
-    ghost stopped: { (disk : Self) (s : ℕ) → named_stop disk ≡ Some s → ((0 < failures disk) ↔ IsStopped s (calls disk)) };
+    ghost stopped: { (disk : Self) (s : ℕ) → named_stop disk ≡ Some s
+        → ((0 < failures disk) ↔ IsStopped s (calls disk)) };
 }

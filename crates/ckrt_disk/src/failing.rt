@@ -41,7 +41,8 @@ impl<D: Disk> FailingDisk<D> {
         ensures inner { inner_of result ≡ inner }
         ensures at_call { at_call_of result ≡ at_call }
         ensures count { count_of result ≡ 0 }
-        ensures pending { (i : ℕ) → (⟦<FailingDisk<D> as Disk>⟧.pending result i ↔ D.pending inner i) }
+        ensures pending { (i : ℕ)
+            → (⟦<FailingDisk<D> as Disk>⟧.pending result i ↔ D.pending inner i) }
         ensures calls { ⟦<FailingDisk<D> as Disk>⟧.calls result ≡ 0 }
         ensures failures { ⟦<FailingDisk<D> as Disk>⟧.failures result ≡ 0 }
         ensures named_stop { ⟦<FailingDisk<D> as Disk>⟧.named_stop result ≡ None }
@@ -86,7 +87,9 @@ impl<D: Disk> Disk for FailingDisk<D> {
 
     ghost moment = { λ d. length d.history.states };
 
-    ghost left_since = { λ d. Since (λ s. D.content s.disk) (λ s i. D.pending s.disk i ⊎ IsInSpans s.skipped.states i) d.inner d.history.states };
+    ghost left_since = { λ d.
+        Since (λ s. D.content s.disk) (λ s i. D.pending s.disk i ⊎ IsInSpans s.skipped.states i)
+        d.inner d.history.states };
 
     ghost failures = { λ d. d.failures };
 
@@ -96,11 +99,16 @@ impl<D: Disk> Disk for FailingDisk<D> {
 
     ghost is_honest = { λ d. D.is_honest d.inner.disk };
 
-    ghost read_gives = { λ old at buf buf' ok new. FailsOnce D.failures D.calls 0 old new ok (D.read_gives old.inner.disk at buf buf' ok new.inner.disk) };
+    ghost read_gives = { λ old at buf buf' ok new.
+        FailsOnce D.failures D.calls 0 old new ok
+        (D.read_gives old.inner.disk at buf buf' ok new.inner.disk) };
 
-    ghost write_gives = { λ old at bytes ok new. FailsOnce D.failures D.calls 1 old new ok (D.write_gives old.inner.disk at bytes ok new.inner.disk) };
+    ghost write_gives = { λ old at bytes ok new.
+        FailsOnce D.failures D.calls 1 old new ok
+        (D.write_gives old.inner.disk at bytes ok new.inner.disk) };
 
-    ghost sync_gives = { λ old ok new. FailsOnce D.failures D.calls 1 old new ok (D.sync_gives old.inner.disk ok new.inner.disk) };
+    ghost sync_gives = { λ old ok new.
+        FailsOnce D.failures D.calls 1 old new ok (D.sync_gives old.inner.disk ok new.inner.disk) };
 
     fn size(&self) -> usize {
         self.inner.disk.size()

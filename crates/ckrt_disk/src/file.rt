@@ -40,7 +40,8 @@ impl<F: PositionedFile> FileDisk<F> {
         ensures calls { ⟦<FileDisk<F> as Disk>⟧.calls result ≡ 0 }
         ensures failures { ⟦<FileDisk<F> as Disk>⟧.failures result ≡ 0 }
         ensures named_stop { ⟦<FileDisk<F> as Disk>⟧.named_stop result ≡ None }
-        ensures honest { ⟦<FileDisk<F> as Disk>⟧.is_honest result ↔ (F.keeps_model file × (F.len file ≡ size)) }
+        ensures honest { ⟦<FileDisk<F> as Disk>⟧.is_honest result
+            ↔ (F.keeps_model file × (F.len file ≡ size)) }
     {
         let start = History::new().with(&file);
         FileDisk {
@@ -55,7 +56,9 @@ impl<F: PositionedFile> FileDisk<F> {
     /// What always holds of its count of failures: it is that of its file's errors since the disk was made, and over a
     /// reliable file of its size it is 0.
     pub fn known(&self)
-        ensures counted { CountsErrors F.PositionedFile (start_of self.now) (file_of self.now) (⟦<FileDisk<F> as Disk>⟧.size self.now) (⟦<FileDisk<F> as Disk>⟧.failures self.now) }
+        ensures counted { CountsErrors F.PositionedFile (start_of self.now) (file_of self.now)
+            (⟦<FileDisk<F> as Disk>⟧.size self.now)
+            (⟦<FileDisk<F> as Disk>⟧.failures self.now) }
     {
         let _ = &self.file;
     }
@@ -65,7 +68,8 @@ impl FileDisk<MemoryFile> {
     /// A disk over a file in memory of its size has never failed, however few bytes the file's calls transfer and however
     /// often they are interrupted.
     pub fn never_failed(&self)
-        ensures { ⟦<FileDisk<MemoryFile> as Disk>⟧.is_honest self.now → ⟦<FileDisk<MemoryFile> as Disk>⟧.failures self.now ≡ 0 }
+        ensures { ⟦<FileDisk<MemoryFile> as Disk>⟧.is_honest self.now
+            → ⟦<FileDisk<MemoryFile> as Disk>⟧.failures self.now ≡ 0 }
     {
         let _ = &self.file;
     }
@@ -81,12 +85,19 @@ impl<H: Holds> FileDisk<SystemFile<H>> {
     pub fn open<R: Files<File = File>>(rt: &R, path: &str) -> io::Result<FileDisk<SystemFile<H>>>
         ensures file { IfOk result (λ disk. calls_of (file_of disk) ≡ []) }
         ensures start { IfOk result (λ disk. start_of disk ≡ file_of disk ∷ []) }
-        ensures honest { IfOk result (λ disk. ⟦<FileDisk<SystemFile<H>> as Disk>⟧.is_honest disk ↔ (length (H.held 0) ≡ ⟦<FileDisk<SystemFile<H>> as Disk>⟧.size disk)) }
-        ensures content { IfOk result (λ disk. ⟦<FileDisk<SystemFile<H>> as Disk>⟧.content disk ≡ H.held 0) }
-        ensures pending { IfOk result (λ disk. (i : ℕ) → (⟦<FileDisk<SystemFile<H>> as Disk>⟧.pending disk i ↔ H.unsettled i)) }
+        ensures honest { IfOk result (λ disk.
+            ⟦<FileDisk<SystemFile<H>> as Disk>⟧.is_honest disk
+            ↔ (length (H.held 0) ≡ ⟦<FileDisk<SystemFile<H>> as Disk>⟧.size disk)) }
+        ensures content { IfOk result
+            (λ disk. ⟦<FileDisk<SystemFile<H>> as Disk>⟧.content disk ≡ H.held 0) }
+        ensures pending { IfOk result (λ disk.
+            (i : ℕ)
+            → (⟦<FileDisk<SystemFile<H>> as Disk>⟧.pending disk i ↔ H.unsettled i)) }
         ensures calls { IfOk result (λ disk. ⟦<FileDisk<SystemFile<H>> as Disk>⟧.calls disk ≡ 0) }
-        ensures failures { IfOk result (λ disk. ⟦<FileDisk<SystemFile<H>> as Disk>⟧.failures disk ≡ 0) }
-        ensures named_stop { IfOk result (λ disk. ⟦<FileDisk<SystemFile<H>> as Disk>⟧.named_stop disk ≡ None) }
+        ensures failures { IfOk result
+            (λ disk. ⟦<FileDisk<SystemFile<H>> as Disk>⟧.failures disk ≡ 0) }
+        ensures named_stop { IfOk result
+            (λ disk. ⟦<FileDisk<SystemFile<H>> as Disk>⟧.named_stop disk ≡ None) }
     {
         let file = OpenOptions::new().read(true).write(true).open(rt, path)?;
         let size = file.metadata()?.len() as usize;
@@ -105,9 +116,13 @@ fn read_on<F: PositionedFile>(
     requires place { done ≤ length buf.old }
     requires small { at + length buf.old < 2 ^ 64 }
     ensures bound { IfOk result (λ next. next ≤ length buf.old) }
-    ensures bytes { IfOk result (λ next. F.keeps_model file.new → take done buf.old ≡ take done (drop at (F.content file.old)) → take next buf.new ≡ take next (drop at (F.content file.old))) }
+    ensures bytes { IfOk result (λ next.
+        F.keeps_model file.new
+        → take done buf.old ≡ take done (drop at (F.content file.old))
+        → take next buf.new ≡ take next (drop at (F.content file.old))) }
     ensures content { F.keeps_model file.new → F.content file.new ≡ F.content file.old }
-    ensures pending { F.keeps_model file.new → (i : ℕ) → (F.pending file.new i ↔ F.pending file.old i) }
+    ensures pending { F.keeps_model file.new → (i : ℕ)
+        → (F.pending file.new i ↔ F.pending file.old i) }
     ensures len { F.len file.new ≡ F.len file.old }
     ensures keeps_model { F.keeps_model file.new → F.keeps_model file.old }
     ensures goes_on { GoesOn F.PositionedFile file.old file.new at (length buf.old) done result }
@@ -122,13 +137,17 @@ fn read_on<F: PositionedFile>(
 // Reads until the buffer is full. A file that ends before is a fault.
 fn read_all<F: PositionedFile>(file: &mut F, at: usize, buf: &mut [u8]) -> Result<(), DeviceFault>
     requires { at + length buf.old < 2 ^ 64 }
-    ensures bytes { OnOk result (F.keeps_model file.new → buf.new ≡ take (length buf.old) (drop at (F.content file.old))) }
+    ensures bytes { OnOk result (F.keeps_model file.new
+        → buf.new ≡ take (length buf.old) (drop at (F.content file.old))) }
     ensures content { F.keeps_model file.new → F.content file.new ≡ F.content file.old }
-    ensures pending { F.keeps_model file.new → (i : ℕ) → (F.pending file.new i ↔ F.pending file.old i) }
+    ensures pending { F.keeps_model file.new → (i : ℕ)
+        → (F.pending file.new i ↔ F.pending file.old i) }
     ensures len { F.len file.new ≡ F.len file.old }
     ensures keeps_model { F.keeps_model file.new → F.keeps_model file.old }
-    ensures fails { FailsWithFile F.PositionedFile file.old file.new (GivesUp F.PositionedFile file.old file.new (length buf.old)) (is_ok result) }
-    ensures reliable { OnErr result (F.is_reliable file.new → F.len file.old < at + length buf.old) }
+    ensures fails { FailsWithFile F.PositionedFile file.old file.new
+        (GivesUp F.PositionedFile file.old file.new (length buf.old)) (is_ok result) }
+    ensures reliable { OnErr result
+        (F.is_reliable file.new → F.len file.old < at + length buf.old) }
     ensures is_reliable { F.is_reliable file.new → F.is_reliable file.old }
 {
     let mut done = 0;
@@ -152,9 +171,16 @@ fn write_on<F: PositionedFile>(
     requires place { done ≤ length bytes.now }
     requires small { at + length bytes.now < 2 ^ 64 }
     ensures bound { IfOk result (λ next. next ≤ length bytes.now) }
-    ensures written { IfOk result (λ next. (start : List ℕ) → F.keeps_model file.new → at + length bytes.now ≤ F.len file.old → at + length bytes.now ≤ length start → IsOverwritten start at (take done bytes.now) (F.content file.old) → IsOverwritten start at (take next bytes.now) (F.content file.new)) }
-    ensures torn { OnErr result (F.keeps_model file.new → IsImage (F.content file.old) (F.pending file.new) (F.content file.new)) }
-    ensures pending { F.keeps_model file.new → (i : ℕ) → (F.pending file.new i ↔ (F.pending file.old i ⊎ IsWithin (at + done) (length bytes.now - done) i)) }
+    ensures written { IfOk result (λ next.
+        (start : List ℕ) → F.keeps_model file.new
+        → at + length bytes.now ≤ F.len file.old → at + length bytes.now ≤ length start
+        → IsOverwritten start at (take done bytes.now) (F.content file.old)
+        → IsOverwritten start at (take next bytes.now) (F.content file.new)) }
+    ensures torn { OnErr result (F.keeps_model file.new
+        → IsImage (F.content file.old) (F.pending file.new) (F.content file.new)) }
+    ensures pending { F.keeps_model file.new → (i : ℕ)
+        → (F.pending file.new i
+        ↔ (F.pending file.old i ⊎ IsWithin (at + done) (length bytes.now - done) i)) }
     ensures len { F.len file.new ≡ F.len file.old }
     ensures keeps_model { F.keeps_model file.new → F.keeps_model file.old }
     ensures goes_on { GoesOn F.PositionedFile file.old file.new at (length bytes.now) done result }
@@ -170,13 +196,18 @@ fn write_on<F: PositionedFile>(
 // Writes until all bytes are written.
 fn write_all<F: PositionedFile>(file: &mut F, at: usize, bytes: &[u8]) -> Result<(), DeviceFault>
     requires { at + length bytes.now < 2 ^ 64 }
-    ensures written { OnOk result (F.keeps_model file.new → at + length bytes.now ≤ F.len file.old → IsOverwritten (F.content file.old) at bytes.now (F.content file.new)) }
-    ensures torn { OnErr result (F.keeps_model file.new → at + length bytes.now ≤ F.len file.old → IsImage (F.content file.old) (F.pending file.new) (F.content file.new)) }
-    ensures pending { F.keeps_model file.new → (i : ℕ) → (F.pending file.new i ↔ (F.pending file.old i ⊎ IsWithin at (length bytes.now) i)) }
+    ensures written { OnOk result (F.keeps_model file.new → at + length bytes.now ≤ F.len file.old
+        → IsOverwritten (F.content file.old) at bytes.now (F.content file.new)) }
+    ensures torn { OnErr result (F.keeps_model file.new → at + length bytes.now ≤ F.len file.old
+        → IsImage (F.content file.old) (F.pending file.new) (F.content file.new)) }
+    ensures pending { F.keeps_model file.new → (i : ℕ)
+        → (F.pending file.new i ↔ (F.pending file.old i ⊎ IsWithin at (length bytes.now) i)) }
     ensures len { F.len file.new ≡ F.len file.old }
     ensures keeps_model { F.keeps_model file.new → F.keeps_model file.old }
-    ensures fails { FailsWithFile F.PositionedFile file.old file.new (GivesUp F.PositionedFile file.old file.new (length bytes.now)) (is_ok result) }
-    ensures reliable { OnErr result (F.is_reliable file.new → F.len file.old < at + length bytes.now) }
+    ensures fails { FailsWithFile F.PositionedFile file.old file.new
+        (GivesUp F.PositionedFile file.old file.new (length bytes.now)) (is_ok result) }
+    ensures reliable { OnErr result
+        (F.is_reliable file.new → F.len file.old < at + length bytes.now) }
     ensures is_reliable { F.is_reliable file.new → F.is_reliable file.old }
 {
     let mut done = 0;
@@ -213,9 +244,11 @@ impl<F: PositionedFile> Disk for FileDisk<F> {
 
     ghost is_honest = { λ d. F.keeps_model d.file × (F.len d.file ≡ d.size) };
 
-    ghost read_gives = { λ old at buf buf' ok new. CallsFile old new (GivesUp F.PositionedFile old.file new.file (length buf)) ok };
+    ghost read_gives = { λ old at buf buf' ok new.
+        CallsFile old new (GivesUp F.PositionedFile old.file new.file (length buf)) ok };
 
-    ghost write_gives = { λ old at bytes ok new. CallsFile old new (GivesUp F.PositionedFile old.file new.file (length bytes)) ok };
+    ghost write_gives = { λ old at bytes ok new.
+        CallsFile old new (GivesUp F.PositionedFile old.file new.file (length bytes)) ok };
 
     ghost sync_gives = { λ old ok new. CallsFile old new ⊥ ok × F.sync_gives old.file ok new.file };
 

@@ -22,7 +22,8 @@ impl MemoryDisk {
     /// bytes, here.
     pub fn new(alloc: Global, bytes: Vec<u8>) -> Result<MemoryDisk, AllocError>
         ensures content { IfOk result (λ disk. ⟦<MemoryDisk as Disk>⟧.content disk ≡ bytes.items) }
-        ensures nothing_pending { IfOk result (λ disk. (i : ℕ) → ¬ ⟦<MemoryDisk as Disk>⟧.pending disk i) }
+        ensures nothing_pending { IfOk result
+            (λ disk. (i : ℕ) → ¬ ⟦<MemoryDisk as Disk>⟧.pending disk i) }
         ensures calls { IfOk result (λ disk. ⟦<MemoryDisk as Disk>⟧.calls disk ≡ 0) }
         ensures named_stop { IfOk result (λ disk. ⟦<MemoryDisk as Disk>⟧.named_stop disk ≡ None) }
         ensures honest { IfOk result ⟦<MemoryDisk as Disk>⟧.is_honest }
@@ -51,7 +52,8 @@ impl Disk for MemoryDisk {
 
     ghost moment = { λ d. length d.history.states };
 
-    ghost left_since = { λ d. Since (λ m. m.bytes.items) (λ m. IsMarked m.pending.items) d.marked d.history.states };
+    ghost left_since = { λ d.
+        Since (λ m. m.bytes.items) (λ m. IsMarked m.pending.items) d.marked d.history.states };
 
     ghost failures = { λ _. 0 };
 

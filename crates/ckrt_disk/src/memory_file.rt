@@ -49,7 +49,8 @@ impl MemoryFile {
 
     // The answer to a call of `len` bytes from `at` on, which uses up a limit.
     fn answer(&mut self, at: usize, len: usize) -> Transfer
-        ensures answer { result ≡ answer_to (limits_of self.old) at len (length self.old.bytes.items) }
+        ensures answer { result
+            ≡ answer_to (limits_of self.old) at len (length self.old.bytes.items) }
         ensures limits { limits_of self.new ≡ drop 1 (limits_of self.old) }
         ensures bytes { self.new.bytes ≡ self.old.bytes }
         ensures calls { self.new.calls ≡ self.old.calls }

@@ -47,37 +47,51 @@ pub trait PositionedFile {
     /// Reads bytes from the offset `at` on.
     fn read_some(&mut self, at: usize, buf: &mut [u8]) -> Transfer
         ensures count { OnDone result (λ n. (1 ≤ n) × (n ≤ length buf.old)) }
-        ensures bytes { OnDone result (λ n. keeps_model self.new → take n buf.new ≡ take n (drop at (content self.old))) }
+        ensures bytes { OnDone result
+            (λ n. keeps_model self.new → take n buf.new ≡ take n (drop at (content self.old))) }
         ensures content { keeps_model self.new → content self.new ≡ content self.old }
-        ensures pending { keeps_model self.new → (i : ℕ) → (pending self.new i ↔ pending self.old i) }
+        ensures pending { keeps_model self.new → (i : ℕ)
+            → (pending self.new i ↔ pending self.old i) }
         ensures len { len self.new ≡ len self.old }
         ensures keeps_model { keeps_model self.new → keeps_model self.old }
         ensures errors { errors self.new ≡ errors_after result (errors self.old) }
-        ensures interruptions { interruptions self.new ≡ interruptions_after result (interruptions self.old) }
-        ensures reliable { OnFailed result (is_reliable self.new → (length buf.old ≡ 0) ⊎ (len self.old < at + length buf.old)) }
+        ensures interruptions { interruptions self.new
+            ≡ interruptions_after result (interruptions self.old) }
+        ensures reliable { OnFailed result (is_reliable self.new
+            → (length buf.old ≡ 0) ⊎ (len self.old < at + length buf.old)) }
         ensures is_reliable { is_reliable self.new → is_reliable self.old }
         ensures gives { read_gives self.old at buf.new result self.new };
 
     /// Writes bytes from the offset `at` on, within the file. Well or not, their range is then pending.
     fn write_some(&mut self, at: usize, bytes: &[u8]) -> Transfer
         ensures count { OnDone result (λ n. (1 ≤ n) × (n ≤ length bytes.now)) }
-        ensures written { OnDone result (λ n. keeps_model self.new → at + length bytes.now ≤ len self.old → IsOverwritten (content self.old) at (take n bytes.now) (content self.new)) }
-        ensures torn { OnStopped result (keeps_model self.new → content self.new ≡ content self.old) (keeps_model self.new → IsImage (content self.old) (pending self.new) (content self.new)) }
-        ensures pending { keeps_model self.new → (i : ℕ) → (pending self.new i ↔ (pending self.old i ⊎ IsWithin at (length bytes.now) i)) }
+        ensures written { OnDone result (λ n.
+            keeps_model self.new → at + length bytes.now ≤ len self.old
+            → IsOverwritten (content self.old) at (take n bytes.now) (content self.new)) }
+        ensures torn { OnStopped result
+            (keeps_model self.new → content self.new ≡ content self.old) (keeps_model self.new
+            → IsImage (content self.old) (pending self.new) (content self.new)) }
+        ensures pending { keeps_model self.new → (i : ℕ)
+            → (pending self.new i ↔ (pending self.old i ⊎ IsWithin at (length bytes.now) i)) }
         ensures len { len self.new ≡ len self.old }
         ensures keeps_model { keeps_model self.new → keeps_model self.old }
         ensures errors { errors self.new ≡ errors_after result (errors self.old) }
-        ensures interruptions { interruptions self.new ≡ interruptions_after result (interruptions self.old) }
-        ensures reliable { OnFailed result (is_reliable self.new → (length bytes.now ≡ 0) ⊎ (len self.old < at + length bytes.now)) }
+        ensures interruptions { interruptions self.new
+            ≡ interruptions_after result (interruptions self.old) }
+        ensures reliable { OnFailed result (is_reliable self.new
+            → (length bytes.now ≡ 0) ⊎ (len self.old < at + length bytes.now)) }
         ensures is_reliable { is_reliable self.new → is_reliable self.old }
         ensures gives { write_gives self.old at bytes.now result self.new };
 
     /// Makes what was written durable.
     fn sync(&mut self) -> Result<(), DeviceFault>
-        ensures nothing_pending { OnOk result (keeps_model self.new → (i : ℕ) → ¬ pending self.new i) }
+        ensures nothing_pending { OnOk result
+            (keeps_model self.new → (i : ℕ) → ¬ pending self.new i) }
         ensures content { OnOk result (keeps_model self.new → content self.new ≡ content self.old) }
-        ensures torn { OnErr result (keeps_model self.new → IsImage (content self.old) (pending self.old) (content self.new)) }
-        ensures pending { OnErr result (keeps_model self.new → (i : ℕ) → (pending self.new i ↔ pending self.old i)) }
+        ensures torn { OnErr result (keeps_model self.new
+            → IsImage (content self.old) (pending self.old) (content self.new)) }
+        ensures pending { OnErr result
+            (keeps_model self.new → (i : ℕ) → (pending self.new i ↔ pending self.old i)) }
         ensures len { len self.new ≡ len self.old }
         ensures keeps_model { keeps_model self.new → keeps_model self.old }
         ensures no_error { OnOk result (errors self.new ≡ errors self.old) }
@@ -91,5 +105,6 @@ pub trait PositionedFile {
     ghost whole: { (file : Self) → keeps_model file → length (content file) ≡ len file };
 
     /// Too few calls of a reliable file are interrupted for a transfer within it to be given up.
-    ghost patient: { (file : Self) → is_reliable file → interruptions file + len file < 2 ^ 64 - 1 };
+    ghost patient: { (file : Self) → is_reliable file
+        → interruptions file + len file < 2 ^ 64 - 1 };
 }

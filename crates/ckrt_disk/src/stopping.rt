@@ -45,11 +45,14 @@ impl StoppingDisk {
         at_call: u64,
         fill: Vec<u8>,
     ) -> Result<StoppingDisk, AllocError>
-        ensures content { IfOk result (λ disk. ⟦<StoppingDisk as Disk>⟧.content disk ≡ image.items) }
-        ensures nothing_pending { IfOk result (λ disk. (i : ℕ) → ¬ ⟦<StoppingDisk as Disk>⟧.pending disk i) }
+        ensures content { IfOk result
+            (λ disk. ⟦<StoppingDisk as Disk>⟧.content disk ≡ image.items) }
+        ensures nothing_pending { IfOk result
+            (λ disk. (i : ℕ) → ¬ ⟦<StoppingDisk as Disk>⟧.pending disk i) }
         ensures calls { IfOk result (λ disk. ⟦<StoppingDisk as Disk>⟧.calls disk ≡ 0) }
         ensures failures { IfOk result (λ disk. ⟦<StoppingDisk as Disk>⟧.failures disk ≡ 0) }
-        ensures named_stop { IfOk result (λ disk. ⟦<StoppingDisk as Disk>⟧.named_stop disk ≡ Some at_call) }
+        ensures named_stop { IfOk result
+            (λ disk. ⟦<StoppingDisk as Disk>⟧.named_stop disk ≡ Some at_call) }
         ensures fill { IfOk result (λ disk. fill_of disk ≡ fill.items) }
         ensures honest { IfOk result ⟦<StoppingDisk as Disk>⟧.is_honest }
     {
@@ -90,7 +93,8 @@ enum Phase {
 
 // The phase of the next write or sync.
 fn next_phase(at_call: u64, calls: u64) -> Phase
-    ensures at { (result ≡ Phase.At) ↔ (at_call ≡ min (calls + 1) (2 ^ 64 - 1)) × (calls < at_call) }
+    ensures at { (result ≡ Phase.At)
+        ↔ (at_call ≡ min (calls + 1) (2 ^ 64 - 1)) × (calls < at_call) }
     ensures after { (result ≡ Phase.After) ↔ IsStopped at_call calls }
 {
     if at_call != 0 && calls >= at_call {
@@ -106,11 +110,13 @@ impl CallCount {
     // Counts a write or sync of a disk in this state: how it stands to the stop.
     fn note_call(&mut self, state: &MarkedBytes) -> Phase
         ensures at { (result ≡ Phase.At) ↔ (self.old.at_call ≡ length self.old.history.states + 1) }
-        ensures after { (result ≡ Phase.After) ↔ IsStopped self.old.at_call (length self.old.history.states) }
+        ensures after { (result ≡ Phase.After)
+            ↔ IsStopped self.old.at_call (length self.old.history.states) }
         ensures history { self.new.history.states ≡ state.now ∷ self.old.history.states }
         ensures at_call { self.new.at_call ≡ self.old.at_call }
         ensures before { result ≡ Phase.Before → self.new.failures ≡ self.old.failures }
-        ensures failed { ¬ (result ≡ Phase.Before) → self.new.failures ≡ min (self.old.failures + 1) (2 ^ 64 - 1) }
+        ensures failed { ¬ (result ≡ Phase.Before)
+            → self.new.failures ≡ min (self.old.failures + 1) (2 ^ 64 - 1) }
     {
         let phase = next_phase(self.at_call, self.calls);
         self.history = self.history.with(state);
@@ -144,7 +150,9 @@ fn put(bytes: &mut [u8], table: &[bool], at: usize, from: &[u8], phase: Phase, f
     requires marked { (i : ℕ) → IsWithin at (length from.now) i → IsMarked table.now i }
     ensures image { IsImage bytes.old (IsMarked table.now) bytes.new }
     ensures before { phase ≡ Phase.Before → IsOverwritten bytes.old at from.now bytes.new }
-    ensures at { phase ≡ Phase.At → (written : List ℕ) × IsOverwritten bytes.old at from.now written × IsFilled (IsMarked table.now) fill.now written bytes.new }
+    ensures at { phase ≡ Phase.At
+        → (written : List ℕ) × IsOverwritten bytes.old at from.now written
+        × IsFilled (IsMarked table.now) fill.now written bytes.new }
     ensures after { phase ≡ Phase.After → bytes.new ≡ bytes.old }
 {
     if phase == Phase::After {
@@ -167,7 +175,9 @@ impl Disk for StoppingDisk {
 
     ghost moment = { λ d. length d.count.history.states };
 
-    ghost left_since = { λ d. Since (λ m. m.bytes.items) (λ m. IsMarked m.pending.items) d.marked d.count.history.states };
+    ghost left_since = { λ d.
+        Since (λ m. m.bytes.items) (λ m. IsMarked m.pending.items) d.marked
+        d.count.history.states };
 
     ghost failures = { λ d. d.count.failures };
 
@@ -232,5 +242,7 @@ impl Disk for StoppingDisk {
 
     ghost only_now = { λ d image h left. only_now _ _ d.marked d.count.history.states image left };
 
-    ghost stopped = { λ d s is. stopped_law d.count.at_call d.count.calls (length d.count.history.states) d.count.failures d.count.small d.count.counted d.count.failed d.count.stopped s is };
+    ghost stopped = { λ d s is.
+        stopped_law d.count.at_call d.count.calls (length d.count.history.states) d.count.failures
+        d.count.small d.count.counted d.count.failed d.count.stopped s is };
 }

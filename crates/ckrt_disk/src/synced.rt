@@ -8,8 +8,10 @@ use crate::disk::{DeviceFault, Disk};
 /// Writes the bytes from the offset `at` on. They are pending until the next sync.
 pub fn write_part<D: Disk>(disk: &mut D, at: usize, bytes: &[u8]) -> Result<(), DeviceFault>
     requires inside { at + length bytes.now ≤ D.size disk.old }
-    ensures within { WritesWithin D.Disk (IsWithin at (length bytes.now)) 1 disk.old disk.new (is_err result) }
-    ensures written { OnOk result (D.is_honest disk.new → IsOverwritten (D.content disk.old) at bytes.now (D.content disk.new)) }
+    ensures within { WritesWithin D.Disk (IsWithin at (length bytes.now)) 1 disk.old disk.new
+        (is_err result) }
+    ensures written { OnOk result (D.is_honest disk.new
+        → IsOverwritten (D.content disk.old) at bytes.now (D.content disk.new)) }
 {
     disk.write(at, bytes)
 }
@@ -18,9 +20,12 @@ pub fn write_part<D: Disk>(disk: &mut D, at: usize, bytes: &[u8]) -> Result<(), 
 /// everywhere but in the ranges that were pending and in that of the write.
 pub fn write_synced<D: Disk>(disk: &mut D, at: usize, bytes: &[u8]) -> Result<(), DeviceFault>
     requires { at + length bytes.now ≤ D.size disk.old }
-    ensures within { WritesWithin D.Disk (IsWithin at (length bytes.now)) 2 disk.old disk.new (is_err result) }
-    ensures written { OnOk result (D.is_honest disk.new → IsOverwritten (D.content disk.old) at bytes.now (D.content disk.new)) }
-    ensures nothing_pending { OnOk result (D.is_honest disk.new → (i : ℕ) → ¬ D.pending disk.new i) }
+    ensures within { WritesWithin D.Disk (IsWithin at (length bytes.now)) 2 disk.old disk.new
+        (is_err result) }
+    ensures written { OnOk result (D.is_honest disk.new
+        → IsOverwritten (D.content disk.old) at bytes.now (D.content disk.new)) }
+    ensures nothing_pending { OnOk result
+        (D.is_honest disk.new → (i : ℕ) → ¬ D.pending disk.new i) }
 {
     write_part(disk, at, bytes)?;
     disk.sync()

@@ -87,9 +87,11 @@ impl<H: Holds> PositionedFile for SystemFile<H> {
 
     ghost is_reliable = { λ _. ⊥ };
 
-    ghost read_gives = { λ old at buf answer new. calls_of new ≡ (Read at answer, buf) ∷ calls_of old };
+    ghost read_gives = { λ old at buf answer new.
+        calls_of new ≡ (Read at answer, buf) ∷ calls_of old };
 
-    ghost write_gives = { λ old at bytes answer new. calls_of new ≡ (Write at answer, bytes) ∷ calls_of old };
+    ghost write_gives = { λ old at bytes answer new.
+        calls_of new ≡ (Write at answer, bytes) ∷ calls_of old };
 
     ghost sync_gives = { λ old ok new. calls_of new ≡ (Sync ok, []) ∷ calls_of old };
 

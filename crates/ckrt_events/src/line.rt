@@ -71,7 +71,8 @@ fn bare(command: Command, args: &[u8]) -> Result<Command, LineFault>
 fn only_word(args: &[u8]) -> Result<&[u8], LineFault>
     ensures some { IfOk result (λ w. 1 ≤ length w.now) }
     ensures within { IfOk result (λ w. length w.now ≤ length args.now) }
-    ensures value { MatchResult result (λ w. one_of (words_of args.now) ≡ Ok w.now) (λ e. one_of (words_of args.now) ≡ Err e) }
+    ensures value { MatchResult result (λ w. one_of (words_of args.now) ≡ Ok w.now)
+        (λ e. one_of (words_of args.now) ≡ Err e) }
 {
     let (word, rest) = next_word(args).ok_or(LineFault::Unknown)?;
     match next_word(rest) {
@@ -82,7 +83,8 @@ fn only_word(args: &[u8]) -> Result<&[u8], LineFault>
 
 /// The only two words.
 fn two_words(args: &[u8]) -> Result<(&[u8], &[u8]), LineFault>
-    ensures { MatchResult result (λ w. two_of (words_of args.now) ≡ Ok (w.0.now, w.1.now)) (λ e. two_of (words_of args.now) ≡ Err e) }
+    ensures { MatchResult result (λ w. two_of (words_of args.now) ≡ Ok (w.0.now, w.1.now))
+        (λ e. two_of (words_of args.now) ≡ Err e) }
 {
     let (first, rest) = next_word(args).ok_or(LineFault::Unknown)?;
     Ok((first, only_word(rest)?))

@@ -36,9 +36,11 @@ fn word_len(rest: &[u8]) -> usize
 
 /// The first word of a line, and what follows it.
 pub(crate) fn next_word(line: &[u8]) -> Option<(&[u8], &[u8])>
-    ensures within { IfSome result (λ r. (length r.0.now ≤ length line.now) × (length r.1.now ≤ length line.now)) }
+    ensures within { IfSome result
+        (λ r. (length r.0.now ≤ length line.now) × (length r.1.now ≤ length line.now)) }
     ensures some { IfSome result (λ r. 1 ≤ length r.0.now) }
-    ensures words { MatchOption result (words_of line.now ≡ []) (λ r. words_of line.now ≡ r.0.now ∷ words_of r.1.now) }
+    ensures words { MatchOption result (words_of line.now ≡ [])
+        (λ r. words_of line.now ≡ r.0.now ∷ words_of r.1.now) }
 {
     let rest = skip_blanks(line);
     if rest.is_empty() {

@@ -24,7 +24,8 @@ or_zero (Some t) = t
 
 -- the least above who is on the hart, else the least at all
 abbrev pub next_ready : ℕ → Tables → Option ℕ
-next_ready h s = or_else (least_ready (or_zero (hart_of s h) + 1) s.threads) (least_ready 1 s.threads)
+next_ready h s =
+    or_else (least_ready (or_zero (hart_of s h) + 1) s.threads) (least_ready 1 s.threads)
 
 -- nobody, once the program ended, or where there is no such hart
 abbrev pub planned : ℕ → Tables → Option ℕ

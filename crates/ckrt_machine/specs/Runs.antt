@@ -38,7 +38,8 @@ stopped more (Some w) n h s out = record { left = n; how = w; state = s; output 
 
 -- what follows a step, where n more may come
 abbrev pub continued : (ℕ → State → List ℕ → Ran) → ℕ → ℕ → List ℕ → Stepped → Ran
-continued more n h out e = stopped more (stop_of h e.state.tables (with_byte e.put out)) n h e.state (with_byte e.put out)
+continued more n h out e =
+    stopped more (stop_of h e.state.tables (with_byte e.put out)) n h e.state (with_byte e.put out)
 
 -- n steps at most of the thread on hart h, where the bytes out were put before
 abbrev pub run_on : ℕ → ℕ → State → List ℕ → Ran
@@ -55,7 +56,8 @@ pub record Stepping : Type 0 where
 -- k steps of the thread on hart h, where the bytes out were put before
 abbrev pub after_steps : ℕ → ℕ → State → List ℕ → Stepping
 after_steps zero h s out = record { state = s; output = out }
-after_steps (suc k) h s out = after_steps k h (hart_step h s).state (with_byte (hart_step h s).put out)
+after_steps (suc k) h s out =
+    after_steps k h (hart_step h s).state (with_byte (hart_step h s).put out)
 
 -- whether a run ends after k steps, and how
 abbrev pub stop_after : ℕ → ℕ → State → List ℕ → Option RunEnd
@@ -70,4 +72,5 @@ pub record HasMade (n m h : ℕ) (s : State) (out : List ℕ) (ran : Ran) : Type
   -- nothing ended it after fewer
   pub goes_on : (k : ℕ) → 1 ≤ k → k < m → stop_after k h s out ≡ None
   -- the last of them ended it so, or all n were made
-  pub ended : ((1 ≤ m) × (stop_after m h s out ≡ Some ran.how)) ⊎ ((m ≡ n) × (ran.how ≡ On) × (1 ≤ m → stop_after m h s out ≡ None))
+  pub ended : ((1 ≤ m) × (stop_after m h s out ≡ Some ran.how))
+      ⊎ ((m ≡ n) × (ran.how ≡ On) × (1 ≤ m → stop_after m h s out ≡ None))

@@ -54,7 +54,8 @@ with_result result.Moved t s = s
 
 -- a call that the thread made, with its result
 abbrev pub called : ℕ → List ℕ → calls.After → Stepped
-called t m a = record { state = record { bytes = m; tables = with_result a.result t a.tables }; put = a.put }
+called t m a =
+    record { state = record { bytes = m; tables = with_result a.result t a.tables }; put = a.put }
 
 -- an instruction of the thread, whose effect this is; an ECALL makes its call once the pc has moved behind it
 abbrev pub performed : Outcome → ℕ → Registers → List ℕ → State → Stepped

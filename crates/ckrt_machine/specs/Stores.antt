@@ -35,12 +35,15 @@ unless_stopped None more = more
 unless_stopped (Some how) more = []
 
 abbrev pub stored_behind : (State → List ℕ → List ℕ) → ℕ → List ℕ → Stepped → List ℕ
-stored_behind more h out e = unless_stopped (stop_of h e.state.tables (with_byte e.put out)) (more e.state (with_byte e.put out))
+stored_behind more h out e =
+    unless_stopped (stop_of h e.state.tables (with_byte e.put out))
+    (more e.state (with_byte e.put out))
 
 -- the addresses that n steps at most of the thread on hart h store to, in their order, where the bytes out were put before
 abbrev pub stored_in_run : ℕ → ℕ → State → List ℕ → List ℕ
 stored_in_run zero h s out = []
-stored_in_run (suc n) h s out = stored_in_hart_step h s ++ stored_behind (stored_in_run n h) h out (hart_step h s)
+stored_in_run (suc n) h s out =
+    stored_in_hart_step h s ++ stored_behind (stored_in_run n h) h out (hart_step h s)
 
 -- the addresses that an event stores to
 abbrev pub stored_in_event : Event → State → List ℕ

@@ -22,7 +22,9 @@ pub fn end_burst(tables: &mut Tables, outcome: Outcome, thread: u8) -> Option<u8
     requires running { tables.old.status ≡ Running }
     requires well_formed { IsWellFormed tables.old }
     ensures well_formed { IsWellFormed tables.new }
-    ensures tables { (m : List ℕ) → record { state = record { bytes = m; tables = tables.new }; put = result } ≡ ending outcome thread (record { bytes = m; tables = tables.old }) }
+    ensures tables { (m : List ℕ)
+        → record { state = record { bytes = m; tables = tables.new }; put = result }
+        ≡ ending outcome thread (record { bytes = m; tables = tables.old }) }
 {
     match outcome {
         Outcome::Next => None,
@@ -42,7 +44,9 @@ fn make_call(tables: &mut Tables, thread: u8) -> Option<u8>
     requires running { tables.old.status ≡ Running }
     requires well_formed { IsWellFormed tables.old }
     ensures well_formed { IsWellFormed tables.new }
-    ensures tables { (m : List ℕ) → record { state = record { bytes = m; tables = tables.new }; put = result } ≡ called thread m (calls.called thread tables.old) }
+    ensures tables { (m : List ℕ)
+        → record { state = record { bytes = m; tables = tables.new }; put = result }
+        ≡ called thread m (calls.called thread tables.old) }
 {
     let (made, put) = call(tables, thread);
     if let CallResult::Done(value) = made {
@@ -70,7 +74,9 @@ fn end_at_fault(tables: &mut Tables, cause: Cause, thread: u8)
     requires running { tables.old.status ≡ Running }
     requires well_formed { IsWellFormed tables.old }
     ensures well_formed { IsWellFormed tables.new }
-    ensures tables { (m : List ℕ) → quiet (record { bytes = m; tables = tables.new }) ≡ ending (Fault cause) thread (record { bytes = m; tables = tables.old }) }
+    ensures tables { (m : List ℕ)
+        → quiet (record { bytes = m; tables = tables.new })
+        ≡ ending (Fault cause) thread (record { bytes = m; tables = tables.old }) }
 {
     let live = tables.threads.live(thread);
     let pc = live.regs.pc();
@@ -94,7 +100,9 @@ fn leave(tables: &mut Tables, initial: bool, thread: u8, value: u32)
     requires running { tables.old.status ≡ Running }
     requires well_formed { IsWellFormed tables.old }
     ensures well_formed { IsWellFormed tables.new }
-    ensures tables { (m : List ℕ) → quiet (record { bytes = m; tables = tables.new }) ≡ returned initial value thread (record { bytes = m; tables = tables.old }) }
+    ensures tables { (m : List ℕ)
+        → quiet (record { bytes = m; tables = tables.new })
+        ≡ returned initial value thread (record { bytes = m; tables = tables.old }) }
 {
     if initial {
         tables.status = Status::Exited(value);
@@ -112,7 +120,9 @@ fn leave_handler(tables: &mut Tables, unwinds: bool, thread: u8, pc: u32)
     requires aligned { pc % 4 ≡ 0 }
     requires well_formed { IsWellFormed tables.old }
     ensures well_formed { IsWellFormed tables.new }
-    ensures tables { (m : List ℕ) → quiet (record { bytes = m; tables = tables.new }) ≡ handled unwinds pc thread (record { bytes = m; tables = tables.old }) }
+    ensures tables { (m : List ℕ)
+        → quiet (record { bytes = m; tables = tables.new })
+        ≡ handled unwinds pc thread (record { bytes = m; tables = tables.old }) }
 {
     if unwinds {
         next_handler(tables, thread);

@@ -25,7 +25,8 @@ pub fn place(tables: &mut Tables, hart: u8, thread: u8)
     requires ready { is_ready tables.old.threads thread ≡ true }
     requires well_formed { IsWellFormed tables.old }
     ensures well_formed { IsWellFormed tables.new }
-    ensures tables { tables.new ≡ record tables.old { threads = placed_on hart thread tables.old.threads } }
+    ensures tables { tables.new
+        ≡ record tables.old { threads = placed_on hart thread tables.old.threads } }
 {
     tables.threads.place(usize::from(hart), thread);
     tables.threads.known();
@@ -121,7 +122,10 @@ fn turn(
         output.new.items)
         (stored_in_run limit hart (record { bytes = memory.old.bytes; tables = tables.old })
         output.old.items) }
-    ensures run { run_on limit hart (record { bytes = memory.old.bytes; tables = tables.old }) output.old.items ≡ stopped (run_on result.0) result.1 result.0 hart (record { bytes = memory.new.bytes; tables = tables.new }) output.new.items }
+    ensures run { run_on limit hart (record { bytes = memory.old.bytes; tables = tables.old })
+        output.old.items
+        ≡ stopped (run_on result.0) result.1 result.0 hart
+        (record { bytes = memory.new.bytes; tables = tables.new }) output.new.items }
 {
     let thread = runner(tables, hart);
     let live = tables.threads.live(thread);
@@ -159,7 +163,14 @@ pub fn run(
         (stored_in_run limit hart (record { bytes = memory.old.bytes; tables = tables.old })
         output.old.items)
         memory.old memory.new }
-    ensures run { record { left = result.0; how = result.1; state = record { bytes = memory.new.bytes; tables = tables.new }; output = output.new.items } ≡ run_on limit hart (record { bytes = memory.old.bytes; tables = tables.old }) output.old.items }
+    ensures run { record {
+      left = result.0;
+      how = result.1;
+      state = record { bytes = memory.new.bytes; tables = tables.new };
+      output = output.new.items;
+    }
+        ≡ run_on limit hart (record { bytes = memory.old.bytes; tables = tables.old })
+        output.old.items }
 {
     let mut left = limit;
     while left > 0 {
@@ -188,7 +199,11 @@ pub fn answer_run(
         (stored_in_run limit hart (record { bytes = memory.old.bytes; tables = tables.old })
         [])
         memory.old memory.new }
-    ensures run { record { state = record { bytes = memory.new.bytes; tables = tables.new }; answer = result; output = output.new.items } ≡ run_of hart limit (record { bytes = memory.old.bytes; tables = tables.old }) }
+    ensures run { record {
+      state = record { bytes = memory.new.bytes; tables = tables.new };
+      answer = result;
+      output = output.new.items;
+    } ≡ run_of hart limit (record { bytes = memory.old.bytes; tables = tables.old }) }
 {
     let (left, how) = run(memory, tables, output, usize::from(hart), limit);
     Answer::Ran(limit - left, how)

@@ -34,7 +34,13 @@ impl Model for Machine {
 
     ghost Value = { Machine };
 
-    ghost view = { λ m. record { state = record { bytes = m.memory.bytes; tables = m.tables }; marks = m.memory.marks; room = m.memory.room; output = m.output.items } };
+    ghost view = { λ m.
+        record {
+          state = record { bytes = m.memory.bytes; tables = m.tables };
+          marks = m.memory.marks;
+          room = m.memory.room;
+          output = m.output.items;
+        } };
 
     ghost invariant = { λ m. IsWellFormed m.tables };
 }
@@ -127,7 +133,8 @@ impl Machine {
     /// Whether the event is accepted where `held` bytes of output aren't confirmed yet, and else
     /// the first reason to refuse it.
     pub fn accept(&self, held: usize, event: &Event) -> Result<(), Refusal>
-        ensures refusal { MatchResult result (λ _. refusal_of held event.now self.now.state ≡ None) (λ refusal. refusal_of held event.now self.now.state ≡ Some refusal) }
+        ensures refusal { MatchResult result (λ _. refusal_of held event.now self.now.state ≡ None)
+            (λ refusal. refusal_of held event.now self.now.state ≡ Some refusal) }
         ensures accepted { IfOk result (λ _. refusal_of 0 event.now self.now.state ≡ None) }
     {
         match refusal(&self.tables, held, event) {
@@ -140,7 +147,8 @@ impl Machine {
     pub fn step(&mut self, event: &Event) -> Answer
         requires in_range { IsInRange event.now }
         requires accepted { refusal_of 0 event.now self.old.state ≡ None }
-        ensures step { record { state = self.new.state; answer = result; output = self.new.output } ≡ step event.now self.old.state }
+        ensures step { record { state = self.new.state; answer = result; output = self.new.output }
+            ≡ step event.now self.old.state }
         ensures well_formed { IsWellFormed self.new.state.tables }
         ensures follows { Follows (memory_in self.old) (memory_in self.new) }
         ensures only { MarksOnly (stored_in_event event.now self.old.state)

@@ -100,7 +100,8 @@ taken_or wait m t a s ms =
 
 -- the thread waits for the mutex, until the deadline at the latest if there is one
 abbrev pub waiting : ℕ → ℕ → Option ℕ → State → List (Entry Mutex) → After
-waiting t a d s ms = record { result = Blocked; threads = blocked t (reason.Lock a) d s; mutexes = ms }
+waiting t a d s ms =
+    record { result = Blocked; threads = blocked t (reason.Lock a) d s; mutexes = ms }
 
 abbrev pub lock_of : Mutex → ℕ → ℕ → State → List (Entry Mutex) → After
 lock_of m t a s ms = taken_or (waiting t a None s ms) m t a s ms

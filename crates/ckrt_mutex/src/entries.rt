@@ -82,7 +82,8 @@ pub fn kept_count(entries: &[Entry<Mutex>]) -> usize
 pub fn append_entry(entries: &mut ArrayVec<Entry<Mutex>, 256>, entry: Entry<Mutex>) -> bool
     requires entries { AreEntries entries.old.items }
     ensures entries { AreEntries entries.new.items }
-    ensures appends { Appends (IsTableUpTo 256 IsTable) entry (kept entries.old.items) (kept entries.new.items) result }
+    ensures appends { Appends (IsTableUpTo 256 IsTable) entry (kept entries.old.items)
+        (kept entries.new.items) result }
 {
     if entry.value.is_plain() || !entry.value.is_proper() {
         return false;

@@ -330,9 +330,12 @@ impl Mutexes {
         requires free { is_waiting threads.old thread ≡ false }
         requires well_formed { IsWellFormedWith threads.old self.old }
         ensures well_formed { IsWellFormedWith threads.new self.new }
-        ensures result { result ≡ (timedlock_row thread address moment clock threads.old self.old).result }
-        ensures threads { threads.new ≡ (timedlock_row thread address moment clock threads.old self.old).threads }
-        ensures mutexes { self.new ≡ (timedlock_row thread address moment clock threads.old self.old).mutexes }
+        ensures result { result
+            ≡ (timedlock_row thread address moment clock threads.old self.old).result }
+        ensures threads { threads.new
+            ≡ (timedlock_row thread address moment clock threads.old self.old).threads }
+        ensures mutexes { self.new
+            ≡ (timedlock_row thread address moment clock threads.old self.old).mutexes }
     {
         threads.known_live(thread);
         self.take_or_wait_until(threads, thread, address, moment, clock)
@@ -350,9 +353,12 @@ impl Mutexes {
         requires live { is_live threads.old thread ≡ true }
         requires free { is_waiting threads.old thread ≡ false }
         requires few { used_count threads.old self.old ≤ 256 }
-        ensures result { result ≡ (timedlock_row thread address moment clock threads.old self.old).result }
-        ensures threads { threads.new ≡ (timedlock_row thread address moment clock threads.old self.old).threads }
-        ensures mutexes { self.new ≡ (timedlock_row thread address moment clock threads.old self.old).mutexes }
+        ensures result { result
+            ≡ (timedlock_row thread address moment clock threads.old self.old).result }
+        ensures threads { threads.new
+            ≡ (timedlock_row thread address moment clock threads.old self.old).threads }
+        ensures mutexes { self.new
+            ≡ (timedlock_row thread address moment clock threads.old self.old).mutexes }
     {
         threads.known_live(thread);
         let mutex = self.mutex(address);
@@ -472,8 +478,10 @@ impl Mutexes {
         requires count { can_retake thread (mutex_at address self.old) ≡ true }
         ensures well_formed { IsWellFormedWith threads.new self.new }
         ensures result { result ≡ (retake_row thread address outcome threads.old self.old).result }
-        ensures threads { threads.new ≡ (retake_row thread address outcome threads.old self.old).threads }
-        ensures mutexes { self.new ≡ (retake_row thread address outcome threads.old self.old).mutexes }
+        ensures threads { threads.new
+            ≡ (retake_row thread address outcome threads.old self.old).threads }
+        ensures mutexes { self.new
+            ≡ (retake_row thread address outcome threads.old self.old).mutexes }
     {
         threads.known_live(thread);
         self.take_again(threads, thread, address, outcome)
@@ -494,8 +502,10 @@ impl Mutexes {
         requires room { is_full address threads.old self.old ≡ false }
         requires count { can_retake thread (mutex_at address self.old) ≡ true }
         ensures result { result ≡ (retake_row thread address outcome threads.old self.old).result }
-        ensures threads { threads.new ≡ (retake_row thread address outcome threads.old self.old).threads }
-        ensures mutexes { self.new ≡ (retake_row thread address outcome threads.old self.old).mutexes }
+        ensures threads { threads.new
+            ≡ (retake_row thread address outcome threads.old self.old).threads }
+        ensures mutexes { self.new
+            ≡ (retake_row thread address outcome threads.old self.old).mutexes }
     {
         threads.known_live(thread);
         self.known();

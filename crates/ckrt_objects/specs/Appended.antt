@@ -8,12 +8,14 @@ module _ {T : Type 0} where
   with_last e es = es ++ e ∷ []
 
   -- a table of a kind, with at most so many entries
-  pub record IsTableUpTo (limit : ℕ) (IsTable : List (Entry T) → Type 0) (es : List (Entry T)) : Type 0 where
+  pub record IsTableUpTo (limit : ℕ) (IsTable : List (Entry T) → Type 0) (es : List (Entry T))
+      : Type 0 where
     pub table : IsTable es
     pub size : length es ≤ limit
 
   -- An entry goes behind the others where that gives a table that there may be; `result` says whether.
-  pub record Appends (MayBe : List (Entry T) → Type 0) (e : Entry T) (old new : List (Entry T)) (result : Bool) : Type 0 where
+  pub record Appends (MayBe : List (Entry T) → Type 0) (e : Entry T) (old new : List (Entry T))
+      (result : Bool) : Type 0 where
     -- where it does
     pub exact : (result ≡ true) ↔ MayBe (with_last e old)
     -- what the table is then

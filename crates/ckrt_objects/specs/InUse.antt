@@ -16,7 +16,8 @@ is_name a (Some b) = a == b
 -- condition may name another than the others there.
 pub record NamesByObject (name_of : Wait → Option ℕ) : Type 0 where
   pub none : (w : Wait) → object_of w.reason ≡ None → name_of w ≡ None
-  pub same : (o : Object) (v w : Wait) → is_condition o ≡ false → is_for o v ≡ true → is_for o w ≡ true → name_of v ≡ name_of w
+  pub same : (o : Object) (v w : Wait) → is_condition o ≡ false → is_for o v ≡ true
+      → is_for o w ≡ true → name_of v ≡ name_of w
 
 -- `name_of` is the address that a wait names
 module _ (name_of : Wait → Option ℕ) where

@@ -148,7 +148,8 @@ pub fn append<T: Copy + Default + Drop, const N: usize>(
     entry: Entry<T>,
 ) -> bool
     requires { is_rising entries.old.items ≡ true }
-    ensures { Appends (IsTableUpTo N (λ es. is_rising es ≡ true)) entry entries.old.items entries.new.items result }
+    ensures { Appends (IsTableUpTo N (λ es. is_rising es ≡ true)) entry entries.old.items
+        entries.new.items result }
 {
     if entries.is_full() || place_of(entries.as_slice(), entry.address) < entries.len() {
         return false;

@@ -35,8 +35,10 @@ pub trait Grant {
 #[tactic(auto, using(crate::proofs::Granting::none_up_to, crate::proofs::Granting::stop_up_to, crate::proofs::Granting::step_up_to))]
 pub fn grant_waiters<T: Grant>(threads: &mut Threads, object: Object, value: &mut T)
     requires { T.IsProper value.old }
-    ensures threads { threads.new ≡ (grant_waiters (rule_of T.is_admissible T.granted object) value.old threads.old).1 }
-    ensures value { value.new ≡ (grant_waiters (rule_of T.is_admissible T.granted object) value.old threads.old).0 }
+    ensures threads { threads.new
+        ≡ (grant_waiters (rule_of T.is_admissible T.granted object) value.old threads.old).1 }
+    ensures value { value.new
+        ≡ (grant_waiters (rule_of T.is_admissible T.granted object) value.old threads.old).0 }
     ensures proper { T.IsProper value.new }
 {
     for _ in 0..threads.wait_count() {

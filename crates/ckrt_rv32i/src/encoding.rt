@@ -134,7 +134,8 @@ fn complement_21(value: i32) -> u32
 fn branch_fields(offset: i32) -> (u32, u32)
     requires { FitsEvenBits 13 offset }
     ensures small { (result.0 < 32) × (result.1 < 128) }
-    ensures value { signed_of 13 (result.1 / 64 * 2 ^ 12 + result.0 % 2 * 2 ^ 11 + result.1 % 64 * 2 ^ 5 + result.0 / 2 * 2) ≡ offset }
+    ensures value { signed_of 13 (result.1 / 64 * 2 ^ 12 + result.0 % 2 * 2 ^ 11
+        + result.1 % 64 * 2 ^ 5 + result.0 / 2 * 2) ≡ offset }
 {
     let bits = complement_13(offset);
     let low = (((bits >> 1) % 16) << 1) + ((bits >> 11) % 2);

@@ -124,8 +124,10 @@ fn jump(regs: &mut Regs, target: u32) -> Outcome
 #[inline(always)]
 fn link(regs: &mut Regs, rd: u8, target: u32) -> Outcome
     requires { rd < 32 }
-    ensures outcome { result ≡ (jump target (put regs.old rd (following regs.old)) regs.old []).outcome }
-    ensures registers { regs.new ≡ (jump target (put regs.old rd (following regs.old)) regs.old []).registers }
+    ensures outcome { result
+        ≡ (jump target (put regs.old rd (following regs.old)) regs.old []).outcome }
+    ensures registers { regs.new
+        ≡ (jump target (put regs.old rd (following regs.old)) regs.old []).registers }
 {
     if target % 4 != 0 {
         return Outcome::Fault(Cause::JumpMisaligned);
@@ -140,7 +142,8 @@ fn link(regs: &mut Regs, rd: u8, target: u32) -> Outcome
 fn load<B: Bus>(regs: &mut Regs, bus: &B, kind: LoadKind, rd: u8, address: u32) -> Outcome
     requires { rd < 32 }
     ensures outcome { result ≡ (load_effect kind rd address regs.old (B.bytes bus.now)).outcome }
-    ensures registers { regs.new ≡ (load_effect kind rd address regs.old (B.bytes bus.now)).registers }
+    ensures registers { regs.new
+        ≡ (load_effect kind rd address regs.old (B.bytes bus.now)).registers }
 {
     let size = kind.size();
     if !size.is_aligned(address) {
@@ -155,9 +158,12 @@ fn load<B: Bus>(regs: &mut Regs, bus: &B, kind: LoadKind, rd: u8, address: u32) 
 /// Stores, aligned and in the memory, or faults.
 #[inline(always)]
 fn store<B: Bus>(regs: &mut Regs, bus: &mut B, size: Size, address: u32, value: u32) -> Outcome
-    ensures outcome { result ≡ (store_effect size address value regs.old (B.bytes bus.old)).outcome }
-    ensures registers { regs.new ≡ (store_effect size address value regs.old (B.bytes bus.old)).registers }
-    ensures bytes { B.bytes bus.new ≡ (store_effect size address value regs.old (B.bytes bus.old)).bytes }
+    ensures outcome { result
+        ≡ (store_effect size address value regs.old (B.bytes bus.old)).outcome }
+    ensures registers { regs.new
+        ≡ (store_effect size address value regs.old (B.bytes bus.old)).registers }
+    ensures bytes { B.bytes bus.new
+        ≡ (store_effect size address value regs.old (B.bytes bus.old)).bytes }
     ensures follows { B.Follows (stored_to size address (B.bytes bus.old)) bus.old bus.new }
 {
     if !size.is_aligned(address) {

@@ -28,7 +28,8 @@ pub fn one_instruction_a_text()
 /// A step that faults leaves the pc, the registers and the memory as they were.
 #[tactic(auto, using(crate::proofs::EffectLaws::faulted))]
 pub fn fault_changes_nothing()
-    ensures { (c : Cause) (h : Registers) (m : List ℕ) → (instruction_step h m).outcome ≡ Fault c → instruction_step h m ≡ fault c h m }
+    ensures { (c : Cause) (h : Registers) (m : List ℕ) → (instruction_step h m).outcome ≡ Fault c
+        → instruction_step h m ≡ fault c h m }
 {}
 
 /// A step keeps the number of the memory's bytes.

@@ -26,14 +26,18 @@ pub trait Bus {
     fn load(&self, address: u32, size: Size) -> Option<u32>
         requires { IsTrue (is_aligned address size) }
         ensures small { IfSome result (λ value. value < value_end size) }
-        ensures value { result ≡ (if is_valid (bytes self.now) address size then Some (loaded (bytes self.now) address size) else None) };
+        ensures value { result
+            ≡ (if is_valid (bytes self.now) address size then Some
+            (loaded (bytes self.now) address size) else None) };
 
     /// Puts the low bytes of `value` from `address` on, and answers true. Answers false, and changes nothing, where one of them isn't in the memory.
     fn store(&mut self, address: u32, size: Size, value: u32) -> bool
         requires { IsTrue (is_aligned address size) }
         ensures valid { result ≡ is_valid (bytes self.old) address size }
         ensures refused { result ≡ false → self.new ≡ self.old }
-        ensures stored { bytes self.new ≡ (if is_valid (bytes self.old) address size then stored (bytes self.old) address size value else bytes self.old) }
+        ensures stored { bytes self.new
+            ≡ (if is_valid (bytes self.old) address size then stored (bytes self.old) address size
+            value else bytes self.old) }
         ensures follows { Follows (address ∷ []) self.old self.new };
 
     /// A memory that no store touched follows itself, whatever the addresses.

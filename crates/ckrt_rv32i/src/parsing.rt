@@ -212,7 +212,8 @@ fn from_number(text: &[u8]) -> &[u8]
 
 /// The number that the digits in front of a text write, and what follows them.
 fn digits(text: &[u8]) -> (u32, &[u8])
-    ensures value { (result.0 ≡ (digits_from 0 text.now).0) × (result.1.now ≡ (digits_from 0 text.now).1) }
+    ensures value { (result.0 ≡ (digits_from 0 text.now).0)
+        × (result.1.now ≡ (digits_from 0 text.now).1) }
     ensures small { result.0 ≤ NUMBER_LIMIT }
 {
     let mut value = 0u32;
@@ -270,7 +271,8 @@ fn is_text_of(text: &[u8], instr: &Instr) -> bool
 
 /// The instruction whose text this is, byte by byte as `instr_text` gives it; `None` for every other text. Its fields are in range.
 pub fn parse_instr(text: &[u8]) -> Option<Instr>
-    ensures exact { (instr : Instr) → (result ≡ Some instr) ↔ (IsInRange instr × (text.now ≡ text_of instr)) }
+    ensures exact { (instr : Instr) → (result ≡ Some instr)
+        ↔ (IsInRange instr × (text.now ≡ text_of instr)) }
     ensures in_range { IfSome result IsInRange }
 {
     let instr = read(text)?;

@@ -143,7 +143,9 @@ fn push_first(text: &mut ArrayString<TEXT_LIMIT>, r: u8)
 fn push_two(text: &mut ArrayString<TEXT_LIMIT>, first: u8, second: u8)
     requires registers { (first < 32) × (second < 32) }
     requires room { array_string_len text.old + 11 ≤ TEXT_LIMIT }
-    ensures bytes { text.new.bytes ≡ text.old.bytes ++ codes " " ++ register first ++ codes ", " ++ register second ++ codes ", " }
+    ensures bytes { text.new.bytes
+        ≡ text.old.bytes ++ codes " " ++ register first ++ codes ", " ++ register second
+        ++ codes ", " }
     ensures len { array_string_len text.new ≤ array_string_len text.old + 11 }
 {
     push_first(text, first);
@@ -187,7 +189,8 @@ fn push_place(text: &mut ArrayString<TEXT_LIMIT>, offset: i32, r: u8)
     requires register { r < 32 }
     requires offset { FitsBits 12 offset }
     requires room { array_string_len text.old + 10 ≤ TEXT_LIMIT }
-    ensures { text.new.bytes ≡ text.old.bytes ++ signed_decimal offset ++ codes "(" ++ register r ++ codes ")" }
+    ensures { text.new.bytes
+        ≡ text.old.bytes ++ signed_decimal offset ++ codes "(" ++ register r ++ codes ")" }
 {
     push_immediate(text, offset);
     text.push_str("(");

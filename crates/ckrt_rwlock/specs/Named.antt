@@ -17,7 +17,8 @@ none_of : (r : Reason) → object_of r ≡ None → lock_of r ≡ None
 none_of reason.Sleep e = refl
 none_of _ e = absurd (cc)
 
-named_for : (o : Object) (r : Reason) → is_condition o ≡ false → is_reason_for o r ≡ true → lock_of r ≡ lock_of_object o
+named_for : (o : Object) (r : Reason) → is_condition o ≡ false → is_reason_for o r ≡ true
+    → lock_of r ≡ lock_of_object o
 named_for object.Input reason.Input n f = refl
 named_for (object.End t) (reason.Join u) n f = refl
 named_for (object.Mutex a) (reason.Lock m) n f = refl

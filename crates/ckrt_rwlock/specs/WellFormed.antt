@@ -21,14 +21,17 @@ pub record IsWellFormedWith (s : State) (ls : List (Entry RwLock)) : Type 0 wher
   -- who waits for a lock does not hold it
   pub no_waiter_holds : (a t : ℕ) → is_waiting_for a t s ≡ true → is_holder t (lock_at a ls) ≡ false
   -- a first reader faces a writer, and a first writer a holder
-  pub no_first_waiter_is_admissible : (a : ℕ) → has_admissible_waiter (rwlock_rule a) (lock_at a ls, s) ≡ false
+  pub no_first_waiter_is_admissible : (a : ℕ)
+      → has_admissible_waiter (rwlock_rule a) (lock_at a ls, s) ≡ false
 
 -- THE SAME AS A TEST of the table's size and of each wait: at other addresses nobody waits.
 
 -- a thread that waits for the lock does not hold it, and the first who waits for it is not admissible
 abbrev pub may_wait_at : State → List (Entry RwLock) → ℕ → Option ℕ → Bool
 may_wait_at s ls t None = true
-may_wait_at s ls t (Some a) = not (is_holder t (lock_at a ls)) && not (has_admissible_waiter (rwlock_rule a) (lock_at a ls, s))
+may_wait_at s ls t (Some a) =
+    not (is_holder t (lock_at a ls))
+    && not (has_admissible_waiter (rwlock_rule a) (lock_at a ls, s))
 
 abbrev pub may_wait : State → List (Entry RwLock) → Wait → Bool
 may_wait s ls w = may_wait_at s ls w.thread (named w)

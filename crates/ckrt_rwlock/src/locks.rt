@@ -255,7 +255,8 @@ impl RwLocks {
         requires proper { is_proper lock ≡ true }
         requires unwritten { is_written lock ≡ false }
         requires count { read_count thread lock < 65535 }
-        ensures { self.new ≡ put address (with_read_count thread (read_count thread lock + 1) lock) self.old }
+        ensures { self.new
+            ≡ put address (with_read_count thread (read_count thread lock + 1) lock) self.old }
     {
         self.put(
             address,
@@ -295,7 +296,8 @@ impl RwLocks {
         requires well_formed { IsWellFormedWith threads.now self.old }
         ensures well_formed { IsWellFormedWith threads.now self.new }
         ensures result { result ≡ (tryrdlock_row thread address threads.now self.old).result }
-        ensures threads { threads.now ≡ (tryrdlock_row thread address threads.now self.old).threads }
+        ensures threads { threads.now
+            ≡ (tryrdlock_row thread address threads.now self.old).threads }
         ensures locks { self.new ≡ (tryrdlock_row thread address threads.now self.old).locks }
     {
         threads.known_live(thread);
@@ -307,7 +309,8 @@ impl RwLocks {
         requires live { is_live threads.now thread ≡ true }
         requires few { used_count threads.now self.old ≤ 64 }
         ensures result { result ≡ (tryrdlock_row thread address threads.now self.old).result }
-        ensures threads { threads.now ≡ (tryrdlock_row thread address threads.now self.old).threads }
+        ensures threads { threads.now
+            ≡ (tryrdlock_row thread address threads.now self.old).threads }
         ensures locks { self.new ≡ (tryrdlock_row thread address threads.now self.old).locks }
     {
         threads.known_live(thread);
@@ -378,7 +381,8 @@ impl RwLocks {
         requires well_formed { IsWellFormedWith threads.now self.old }
         ensures well_formed { IsWellFormedWith threads.now self.new }
         ensures result { result ≡ (trywrlock_row thread address threads.now self.old).result }
-        ensures threads { threads.now ≡ (trywrlock_row thread address threads.now self.old).threads }
+        ensures threads { threads.now
+            ≡ (trywrlock_row thread address threads.now self.old).threads }
         ensures locks { self.new ≡ (trywrlock_row thread address threads.now self.old).locks }
     {
         threads.known_live(thread);
@@ -390,7 +394,8 @@ impl RwLocks {
         requires live { is_live threads.now thread ≡ true }
         requires few { used_count threads.now self.old ≤ 64 }
         ensures result { result ≡ (trywrlock_row thread address threads.now self.old).result }
-        ensures threads { threads.now ≡ (trywrlock_row thread address threads.now self.old).threads }
+        ensures threads { threads.now
+            ≡ (trywrlock_row thread address threads.now self.old).threads }
         ensures locks { self.new ≡ (trywrlock_row thread address threads.now self.old).locks }
     {
         threads.known_live(thread);

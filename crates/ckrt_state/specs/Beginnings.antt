@@ -8,7 +8,17 @@ use Rattle.ckrt_state.specs.declared.table.Tables.{Tables}
 
 -- the tables that a program begins with
 abbrev pub fresh : ℕ → ℕ → Tables
-fresh pages harts = record { threads = thread.fresh (4096 * pages) harts; mutexes = []; barriers = []; rwlocks = []; clock = 0; input = []; closed = false; status = Running }
+fresh pages harts =
+    record {
+      threads = thread.fresh (4096 * pages) harts;
+      mutexes = [];
+      barriers = [];
+      rwlocks = [];
+      clock = 0;
+      input = [];
+      closed = false;
+      status = Running;
+    }
 
 -- the same tables, but keys are off
 abbrev pub with_keys_off : Tables → Tables

@@ -53,7 +53,8 @@ pub record IsWellFormed (s : Tables) : Type 0 where
   -- no more input waits than may
   pub input : length s.input ≤ INPUT_LIMIT
   -- a thread that faulted has not ended, and the pc of its fault is a multiple of 4
-  pub fault : (t pc : ℕ) (cause : Cause) → s.status ≡ Faulted t pc cause → thread.is_live s.threads t ≡ true
+  pub fault : (t pc : ℕ) (cause : Cause) → s.status ≡ Faulted t pc cause
+      → thread.is_live s.threads t ≡ true
   pub fault_pc : (t pc : ℕ) (cause : Cause) → s.status ≡ Faulted t pc cause → pc % 4 ≡ 0
 
 -- THE SAME AS A TEST of the status: who must not have ended, and which deadlines may not have come.

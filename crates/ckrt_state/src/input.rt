@@ -23,7 +23,8 @@ impl Model for InputQueue {
 
     ghost view = { λ q. q.bytes.items };
 
-    ghost invariant = { λ q. (q.bytes.capacity ≡ INPUT_LIMIT) × (length q.bytes.items ≤ INPUT_LIMIT) };
+    ghost invariant = { λ q.
+        (q.bytes.capacity ≡ INPUT_LIMIT) × (length q.bytes.items ≤ INPUT_LIMIT) };
 }
 
 impl InputQueue {

@@ -59,7 +59,8 @@ GoesOn {T = T} {R = R} LeadsTo begun row new =
 
 -- Where the bytes begin with the encoding of so many rows, and these lead to a table, that table is reached, and the bytes behind
 -- the rows are left.
-abbrev pub Reaches : {T R : Type 0} → (T → List R → T → Type 0) → (R → Bool) → (List R → List ℕ) → (ℕ → Type 0)
+abbrev pub Reaches : {T R : Type 0} → (T → List R → T → Type 0) → (R → Bool) → (List R → List ℕ)
+    → (ℕ → Type 0)
     → List ℕ → T → T → List ℕ → Type 0
 Reaches {T = T} {R = R} LeadsTo fits encoding IsCount bytes begun reached left =
     (goal : T) (rows : List R) (rest : List ℕ) → IsCount (length rows) → list_all fits rows ≡ true → LeadsTo begun rows goal

@@ -45,7 +45,8 @@ FindsKeys version bytes found left =
 -- THREADS
 
 -- a thread has these flags, value, registers, handlers and data in its record
-pub record AreThreadBytes (flags value : ℕ) (regs : Registers) (handlers : List Handler) (specific : SpecificData) (t : Thread) : Type 0 where
+pub record AreThreadBytes (flags value : ℕ) (regs : Registers) (handlers : List Handler)
+    (specific : SpecificData) (t : Thread) : Type 0 where
   pub flags_are : flags ≡ flags_of t
   pub value_is : value ≡ value_of t
   pub registers_are : regs ≡ registers_of t
@@ -88,7 +89,8 @@ pub record HartsLeadTo (placed : ℕ) (begun goal : State) : Type 0 where
 
 -- Where a table lacks nothing of another but who is on a hart, and these are on the harts of that, that one is reached.
 abbrev pub PutsOnHarts : List (Option ℕ) → State → State → Type 0
-PutsOnHarts harts begun reached = (goal : State) → HartsLeadTo 0 begun goal → harts ≡ goal.harts → reached ≡ goal
+PutsOnHarts harts begun reached =
+    (goal : State) → HartsLeadTo 0 begun goal → harts ≡ goal.harts → reached ≡ goal
 
 -- a well-formed table of threads whose numbers fit their records in a version
 pub record AreThreads (version : ℕ) (s : State) : Type 0 where

@@ -30,4 +30,5 @@ IsFreshEncoding = (pages harts : ℕ) → encoding_of 2 (fresh pages harts) [] �
 
 -- and in version 1, where keys are off, these
 abbrev pub IsFreshEncoding1 : Type 0
-IsFreshEncoding1 = (pages harts : ℕ) → encoding_of 1 (with_keys_off (fresh pages harts)) [] ≡ fresh_bytes_1 pages
+IsFreshEncoding1 =
+    (pages harts : ℕ) → encoding_of 1 (with_keys_off (fresh pages harts)) [] ≡ fresh_bytes_1 pages

@@ -13,14 +13,16 @@ use Rattle.ckrt_tables.specs.declared.reading_objects.Reader.{Reader}
 use Rattle.ckrt_tables.specs.Savable.{is_byte, is_half, fits_mutex, fits_barrier, fits_rwlock}
 
 -- A READER OF A WHOLE LIST. Where the bytes begin with the encoding of such a list, that is found, and the bytes behind it are left.
-abbrev pub FindsAll : {X : Type 0} → (List X → Type 0) → (List X → List ℕ) → List ℕ → List X → List ℕ → Type 0
+abbrev pub FindsAll : {X : Type 0} → (List X → Type 0) → (List X → List ℕ) → List ℕ → List X
+    → List ℕ → Type 0
 FindsAll {X = X} Are encoding bytes found left =
     (xs : List X) (rest : List ℕ) → Are xs → bytes ≡ encoding xs ++ rest → (found ≡ xs) × (left ≡ rest)
 
 -- TABLES
 
 -- a table of a kind, and its numbers fit their fields
-pub record AreEntries {T : Type 0} (IsTable : List (Entry T) → Type 0) (fits : Entry T → Bool) (es : List (Entry T)) : Type 0 where
+pub record AreEntries {T : Type 0} (IsTable : List (Entry T) → Type 0) (fits : Entry T → Bool)
+    (es : List (Entry T)) : Type 0 where
   pub table : IsTable es
   pub fit : list_all fits es ≡ true
 
@@ -34,7 +36,8 @@ abbrev pub AreRwLocks : List (Entry RwLock) → Type 0
 AreRwLocks ls = AreEntries (IsTableUpTo 64 rwlock.IsTable) fits_rwlock ls
 
 -- the goal is a table, and has these entries behind those that it began with
-pub record LeadsToTable {T : Type 0} (IsTable : List (Entry T) → Type 0) (begun es goal : List (Entry T)) : Type 0 where
+pub record LeadsToTable {T : Type 0} (IsTable : List (Entry T) → Type 0)
+    (begun es goal : List (Entry T)) : Type 0 where
   pub table : IsTable goal
   pub entries : goal ≡ begun ++ es
 

@@ -225,7 +225,9 @@ mutex_kind_number kind.Recursive = 1
 mutex_kind_number kind.ErrorCheck = 2
 
 abbrev pub mutex_bytes : Entry Mutex → List ℕ
-mutex_bytes e = little_bytes 4 e.address ++ (mutex_kind_number e.value.kind ∷ id_or_0 e.value.owner ∷ little_bytes 2 e.value.count)
+mutex_bytes e =
+    little_bytes 4 e.address
+    ++ (mutex_kind_number e.value.kind ∷ id_or_0 e.value.owner ∷ little_bytes 2 e.value.count)
 
 -- A BARRIER, 8 bytes: address, count
 

@@ -45,14 +45,16 @@ if_there p (Some n) = p n
 
 -- x0 is 0
 abbrev pub fit_registers : Registers → Bool
-fit_registers r = is_word r.pc && (length r.x == 32 && (slice_index r.x 0 == 0 && list_all is_word r.x))
+fit_registers r =
+    is_word r.pc && (length r.x == 32 && (slice_index r.x 0 == 0 && list_all is_word r.x))
 
 abbrev pub fits_handler : Handler → Bool
 fits_handler h = is_word h.routine && is_word h.argument
 
 -- a word for each of 32 keys
 abbrev pub fits_data : SpecificData → Bool
-fits_data d = is_byte d.round && (is_byte d.next_key && (length d.values == 32 && list_all is_word d.values))
+fits_data d =
+    is_byte d.round && (is_byte d.next_key && (length d.values == 32 && list_all is_word d.values))
 
 abbrev pub fit_keys : KeyTable → Bool
 fit_keys keys = length keys.destructors == 32 && list_all (if_there is_word) keys.destructors
@@ -148,5 +150,7 @@ pub record CanBeSaved (version harts : ℕ) (s : Tables) (held : List ℕ) : Typ
 
 -- no two states that can be saved have one encoding
 abbrev pub AreDistinct : ℕ → ℕ → Type 0
-AreDistinct version harts = (s t : Tables) (held out : List ℕ) → CanBeSaved version harts s held → CanBeSaved version harts t out
+AreDistinct version harts =
+    (s t : Tables) (held out : List ℕ) → CanBeSaved version harts s held
+    → CanBeSaved version harts t out
     → encoding_of version s held ≡ encoding_of version t out → (s ≡ t) × (held ≡ out)

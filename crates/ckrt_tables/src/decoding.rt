@@ -137,7 +137,10 @@ fn are_encoded(
     held: &Held,
 ) -> Result<bool, AllocError>
     requires held { IsHeld held.now.items }
-    ensures { IfOk result (λ are. IsTrue are ↔ IsEncodingOf version harts bytes.now (record { tables = tables.now; held = held.now.items })) }
+    ensures { IfOk result (λ are.
+        IsTrue are
+        ↔ IsEncodingOf version harts bytes.now
+        (record { tables = tables.now; held = held.now.items })) }
 {
     if !tables.is_well_formed() || tables.threads.hart_count() != harts {
         return Ok(false);

@@ -20,8 +20,10 @@ pub fn fresh_encoding()
 /// No well-formed tables with held output have a longer encoding than [`crate::LONGEST_TABLES`] bytes, and in version 1 none
 /// than 53,922.
 pub fn longest_encoding()
-    ensures any { (version : ℕ) (s : Tables) (held : List ℕ) → IsWellFormed s → IsHeld held → length (encoding_of version s held) ≤ LONGEST_TABLES }
-    ensures version_1 { (s : Tables) (held : List ℕ) → IsWellFormed s → IsHeld held → length (encoding_of 1 s held) ≤ 53922 }
+    ensures any { (version : ℕ) (s : Tables) (held : List ℕ) → IsWellFormed s → IsHeld held
+        → length (encoding_of version s held) ≤ LONGEST_TABLES }
+    ensures version_1 { (s : Tables) (held : List ℕ) → IsWellFormed s → IsHeld held
+        → length (encoding_of 1 s held) ≤ 53922 }
 {}
 
 /// No two savable states of a program with so many harts have one encoding.
@@ -32,11 +34,14 @@ pub fn encodings_are_distinct()
 /// Bytes decode to one thing only: to one state, or to nothing.
 #[tactic(auto, using(crate::proofs::Decoded::decodes_once))]
 pub fn decodes_to_one()
-    ensures { (version harts : ℕ) (bytes : List ℕ) (a b : Option Saved) → DecodesTo version harts bytes a → DecodesTo version harts bytes b → a ≡ b }
+    ensures { (version harts : ℕ) (bytes : List ℕ) (a b : Option Saved)
+        → DecodesTo version harts bytes a → DecodesTo version harts bytes b → a ≡ b }
 {}
 
 /// The tables of a program that hasn't begun, without output, can be saved, also in version 1, where keys are off.
 pub fn fresh_is_savable()
-    ensures version_2 { (pages harts : ℕ) → pages ≤ 1024 → harts ≤ 8 → CanBeSaved 2 harts (fresh pages harts) [] }
-    ensures version_1 { (pages harts : ℕ) → pages ≤ 1024 → harts ≤ 8 → CanBeSaved 1 harts (with_keys_off (fresh pages harts)) [] }
+    ensures version_2 { (pages harts : ℕ) → pages ≤ 1024 → harts ≤ 8
+        → CanBeSaved 2 harts (fresh pages harts) [] }
+    ensures version_1 { (pages harts : ℕ) → pages ≤ 1024 → harts ≤ 8
+        → CanBeSaved 1 harts (with_keys_off (fresh pages harts)) [] }
 {}

@@ -30,7 +30,8 @@ pub trait Row: Drop {
 
 /// So many rows, which go onto the table.
 pub fn read_rows<R: Row>(cursor: &mut Cursor<'_>, table: &mut R::Table, count: usize)
-    ensures { Reaches R.LeadsTo R.fits (flat_map R.encoding) (λ n. n ≡ count) cursor.old table.old table.new cursor.new }
+    ensures { Reaches R.LeadsTo R.fits (flat_map R.encoding) (λ n. n ≡ count) cursor.old table.old
+        table.new cursor.new }
 {
     for _ in 0..count {
         let row = R::read(cursor);
@@ -40,7 +41,8 @@ pub fn read_rows<R: Row>(cursor: &mut Cursor<'_>, table: &mut R::Table, count: u
 
 /// How many rows there are, in one byte, and the rows, which go onto the table.
 pub fn read_few<R: Row>(cursor: &mut Cursor<'_>, table: &mut R::Table)
-    ensures { Reaches R.LeadsTo R.fits (counted one_byte R.encoding) (λ n. n < 256) cursor.old table.old table.new cursor.new }
+    ensures { Reaches R.LeadsTo R.fits (counted one_byte R.encoding) (λ n. n < 256) cursor.old
+        table.old table.new cursor.new }
 {
     let count = cursor.byte();
     read_rows::<R>(cursor, table, usize::from(count));
@@ -48,7 +50,8 @@ pub fn read_few<R: Row>(cursor: &mut Cursor<'_>, table: &mut R::Table)
 
 /// How many rows there are, in two bytes, and the rows, which go onto the table.
 pub fn read_many<R: Row>(cursor: &mut Cursor<'_>, table: &mut R::Table)
-    ensures { Reaches R.LeadsTo R.fits (counted two_bytes R.encoding) (λ n. n < 256 ^ 2) cursor.old table.old table.new cursor.new }
+    ensures { Reaches R.LeadsTo R.fits (counted two_bytes R.encoding) (λ n. n < 256 ^ 2) cursor.old
+        table.old table.new cursor.new }
 {
     let count = cursor.half();
     read_rows::<R>(cursor, table, usize::from(count));

@@ -53,8 +53,10 @@ impl Row for KeyWord {
 
 /// So many words, by their keys.
 fn read_words(cursor: &mut Cursor<'_>, count: u8) -> [Option<u32>; MAX_KEYS]
-    ensures { (os : List (Option ℕ)) (rest : List ℕ) → AreWords os → count ≡ length (words_from 0 os)
-        → cursor.old ≡ flat_map key_word_bytes (words_from 0 os) ++ rest → (result ≡ os) × (cursor.new ≡ rest) }
+    ensures { (os : List (Option ℕ)) (rest : List ℕ) → AreWords os
+        → count ≡ length (words_from 0 os)
+        → cursor.old ≡ flat_map key_word_bytes (words_from 0 os) ++ rest
+        → (result ≡ os) × (cursor.new ≡ rest) }
 {
     let mut words = KeyWords {
         by_key: [None; MAX_KEYS],

@@ -174,7 +174,8 @@ impl Row for Entry<RwLock> {
 /// Mutexes by rising address, onto a table that has none.
 pub fn read_mutexes(cursor: &mut Cursor<'_>, mutexes: &mut Mutexes)
     requires { mutexes.old ≡ [] }
-    ensures { FindsAll AreMutexes (counted two_bytes mutex_bytes) cursor.old mutexes.new cursor.new }
+    ensures { FindsAll AreMutexes (counted two_bytes mutex_bytes) cursor.old mutexes.new
+        cursor.new }
 {
     read_many::<Entry<Mutex>>(cursor, mutexes);
 }
@@ -182,7 +183,8 @@ pub fn read_mutexes(cursor: &mut Cursor<'_>, mutexes: &mut Mutexes)
 /// Barriers by rising address, onto a table that has none.
 pub fn read_barriers(cursor: &mut Cursor<'_>, barriers: &mut Barriers)
     requires { barriers.old ≡ [] }
-    ensures { FindsAll AreBarriers (counted one_byte barrier_bytes) cursor.old barriers.new cursor.new }
+    ensures { FindsAll AreBarriers (counted one_byte barrier_bytes) cursor.old barriers.new
+        cursor.new }
 {
     read_few::<Entry<Barrier>>(cursor, barriers);
 }
@@ -190,7 +192,8 @@ pub fn read_barriers(cursor: &mut Cursor<'_>, barriers: &mut Barriers)
 /// Read-write locks by rising address, onto a table that has none.
 pub fn read_rwlocks(cursor: &mut Cursor<'_>, rwlocks: &mut RwLocks)
     requires { rwlocks.old ≡ [] }
-    ensures { FindsAll AreRwLocks (counted one_byte rwlock_bytes) cursor.old rwlocks.new cursor.new }
+    ensures { FindsAll AreRwLocks (counted one_byte rwlock_bytes) cursor.old rwlocks.new
+        cursor.new }
 {
     read_few::<Entry<RwLock>>(cursor, rwlocks);
 }

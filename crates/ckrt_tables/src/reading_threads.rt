@@ -81,7 +81,8 @@ impl Row for Option<ThreadId> {
 
 /// The next mark among flags, the lowest first.
 fn next_mark(flags: &mut u8) -> bool
-    ensures { (mark : Bool) (more : ℕ) → flags.old ≡ flag 1 mark + 2 * more → (result ≡ mark) × (flags.new ≡ more) }
+    ensures { (mark : Bool) (more : ℕ) → flags.old ≡ flag 1 mark + 2 * more
+        → (result ≡ mark) × (flags.new ≡ more) }
 {
     let is_set = *flags % 2 == 1;
     *flags /= 2;
@@ -97,7 +98,8 @@ fn number_if(is_there: bool, number: u32) -> Option<u32>
 
 /// A thread that has not ended, with these flags, the value that it unwinds with, registers, handlers and data.
 fn live_of(flags: u8, value: u32, regs: Regs, handlers: Handlers, specific: SpecificData) -> Live
-    ensures { (l : Live) → AreThreadBytes flags value regs handlers.items specific (thread.Live l) → result ≡ l }
+    ensures { (l : Live) → AreThreadBytes flags value regs handlers.items specific (thread.Live l)
+        → result ≡ l }
 {
     let mut flags = flags;
     let initial = next_mark(&mut flags);
@@ -132,7 +134,8 @@ fn thread_of(
     handlers: Handlers,
     specific: SpecificData,
 ) -> Thread
-    ensures { (t : Thread) → AreThreadBytes flags value regs handlers.items specific t → result ≡ t }
+    ensures { (t : Thread) → AreThreadBytes flags value regs handlers.items specific t
+        → result ≡ t }
 {
     if flags == ENDED {
         Thread::Ended(value)
@@ -178,7 +181,8 @@ impl Row for Handler {
 
 /// A thread in a version.
 fn read_thread(cursor: &mut Cursor<'_>, version: u32) -> (ThreadId, Thread)
-    ensures { Finds (fits_row version) (thread_bytes version) cursor.old (record { id = result.0; thread = result.1 }) cursor.new }
+    ensures { Finds (fits_row version) (thread_bytes version) cursor.old
+        (record { id = result.0; thread = result.1 }) cursor.new }
 {
     let id = cursor.byte();
     let flags = cursor.byte();
@@ -329,7 +333,8 @@ impl Row for Wait {
 
 /// Puts a thread onto a hart, if one is to be there.
 fn place_on(threads: &mut Threads, hart: usize, thread: Option<ThreadId>)
-    ensures { (goal : State) → hart < 8 → who_is_on goal hart ≡ thread → HartsLeadTo hart threads.old goal
+    ensures { (goal : State) → hart < 8 → who_is_on goal hart ≡ thread
+        → HartsLeadTo hart threads.old goal
         → HartsLeadTo (hart + 1) threads.new goal }
 {
     threads.known();
@@ -351,7 +356,8 @@ fn place_all(threads: &mut Threads, harts: &[Option<ThreadId>])
 /// How many threads there are, and the threads in a version, which go onto the table.
 fn read_thread_rows(cursor: &mut Cursor<'_>, threads: &mut Threads, version: u32)
     requires { (version ≡ 1) ⊎ (version ≡ 2) }
-    ensures { Reaches ThreadsLeadTo (fits_row version) (counted one_byte (thread_bytes version)) (λ n. n < 256) cursor.old threads.old threads.new cursor.new }
+    ensures { Reaches ThreadsLeadTo (fits_row version) (counted one_byte (thread_bytes version))
+        (λ n. n < 256) cursor.old threads.old threads.new cursor.new }
 {
     if version == 1 {
         read_few::<FirstRecord>(cursor, threads);

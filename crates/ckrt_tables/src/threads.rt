@@ -73,8 +73,11 @@ fn thread_head(id: ThreadId, flags: u8, handlers: u8, value: u32) -> [u8; 8]
 
 /// A thread that has not ended.
 fn put_live(out: &mut [u8], at: usize, id: ThreadId, live: &Live, version: u32) -> usize
-    requires { HasRoom out.old at (thread_bytes version (record { id = id; thread = thread.Live live.now })) }
-    ensures { IsPut out.old at (thread_bytes version (record { id = id; thread = thread.Live live.now })) out.new result }
+    requires { HasRoom out.old at
+        (thread_bytes version (record { id = id; thread = thread.Live live.now })) }
+    ensures { IsPut out.old at
+        (thread_bytes version (record { id = id; thread = thread.Live live.now })) out.new
+        result }
 {
     let handlers = live.handlers.as_slice();
     let value = live.cancellation.unwinding.unwrap_or(0);
@@ -87,8 +90,11 @@ fn put_live(out: &mut [u8], at: usize, id: ThreadId, live: &Live, version: u32) 
 
 /// A thread that has ended with a value.
 fn put_ended(out: &mut [u8], at: usize, id: ThreadId, value: u32, version: u32) -> usize
-    requires { HasRoom out.old at (thread_bytes version (record { id = id; thread = thread.Ended value })) }
-    ensures { IsPut out.old at (thread_bytes version (record { id = id; thread = thread.Ended value })) out.new result }
+    requires { HasRoom out.old at
+        (thread_bytes version (record { id = id; thread = thread.Ended value })) }
+    ensures { IsPut out.old at
+        (thread_bytes version (record { id = id; thread = thread.Ended value })) out.new
+        result }
 {
     let end = put(out, at, &thread_head(id, 64, 0, value));
     let end = put_registers(out, end, &Regs::new(0));
@@ -97,8 +103,11 @@ fn put_ended(out: &mut [u8], at: usize, id: ThreadId, value: u32, version: u32) 
 
 /// What stands for an id: a thread, or nothing.
 fn put_slot(out: &mut [u8], at: usize, threads: &Threads, id: ThreadId, version: u32) -> usize
-    requires { HasRoom out.old at (flat_map (thread_bytes version) (rows_of id (thread_of threads.now id))) }
-    ensures { IsPut out.old at (flat_map (thread_bytes version) (rows_of id (thread_of threads.now id))) out.new result }
+    requires { HasRoom out.old at
+        (flat_map (thread_bytes version) (rows_of id (thread_of threads.now id))) }
+    ensures { IsPut out.old at
+        (flat_map (thread_bytes version) (rows_of id (thread_of threads.now id))) out.new
+        result }
 {
     match threads.thread(u32::from(id)) {
         Some(Thread::Live(live)) => put_live(out, at, id, live, version),
@@ -109,8 +118,10 @@ fn put_slot(out: &mut [u8], at: usize, threads: &Threads, id: ThreadId, version:
 
 /// The threads by rising id. There is a place for each id of 1 to 64, and place 0, which stays empty.
 pub fn put_threads(out: &mut [u8], at: usize, threads: &Threads, version: u32) -> usize
-    requires { HasRoom out.old at (counted one_byte (thread_bytes version) (thread_rows threads.now)) }
-    ensures { IsPut out.old at (counted one_byte (thread_bytes version) (thread_rows threads.now)) out.new result }
+    requires { HasRoom out.old at
+        (counted one_byte (thread_bytes version) (thread_rows threads.now)) }
+    ensures { IsPut out.old at (counted one_byte (thread_bytes version) (thread_rows threads.now))
+        out.new result }
 {
     threads.known();
     let mut end = put(out, at, &[threads.thread_count() as u8]);

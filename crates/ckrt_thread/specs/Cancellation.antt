@@ -22,7 +22,8 @@ MAX_HANDLERS = 16
 
 -- a new thread can be cancelled at a cancellation point, and nobody asked for it
 abbrev pub at_the_start : Cancellation
-at_the_start = record { is_enabled = true; is_asynchronous = false; is_requested = false; unwinding = None }
+at_the_start =
+    record { is_enabled = true; is_asynchronous = false; is_requested = false; unwinding = None }
 
 -- the thread unwinds from now on, to end with the value v: nothing cancels it any more
 abbrev pub unwinding_with : ℕ → Cancellation → Cancellation
@@ -91,7 +92,8 @@ popping l = with_handlers (without_newest l.handlers.items) l
 
 -- the registers of a thread that goes to a handler's routine, which returns to the address back
 abbrev pub at_routine : ℕ → Handler → Registers → Registers
-at_routine back h r = record { pc = h.routine; x = put (record r { x = put r RA back }) A0 h.argument }
+at_routine back h r =
+    record { pc = h.routine; x = put (record r { x = put r RA back }) A0 h.argument }
 
 abbrev pub entering : ℕ → Handler → Live → Live
 entering back h l = record l { regs = at_routine back h l.regs }

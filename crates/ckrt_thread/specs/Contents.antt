@@ -41,7 +41,14 @@ who_is_on s h = option_flatten (slice_get s.harts h)
 
 -- these keys, no thread, no wait, and so many harts, all idle
 abbrev pub empty : KeyTable → ℕ → State
-empty keys harts = record { threads = replicate 65 None; waits = []; harts = replicate 8 None; hart_count = harts; keys = keys }
+empty keys harts =
+    record {
+      threads = replicate 65 None;
+      waits = [];
+      harts = replicate 8 None;
+      hart_count = harts;
+      keys = keys;
+    }
 
 -- ONE ROW MORE
 

@@ -48,8 +48,10 @@ taken turn d = record (set_under turn.key 0 d) { round = turn.round; next_key = 
 
 -- the destructor as a routine, which gets the value
 abbrev pub routine_of : KeyTable → Turn → SpecificData → Handler
-routine_of keys turn d = record { routine = destructor_of keys turn.key; argument = value_under turn.key d }
+routine_of keys turn d =
+    record { routine = destructor_of keys turn.key; argument = value_under turn.key d }
 
 -- the thread goes to the destructor, which returns to the gate where it goes on to unwind
 abbrev pub destroying : KeyTable → Turn → Live → Live
-destroying keys turn l = entering UNWIND_GATE (routine_of keys turn l.specific) (with_data (taken turn l.specific) l)
+destroying keys turn l =
+    entering UNWIND_GATE (routine_of keys turn l.specific) (with_data (taken turn l.specific) l)

@@ -25,7 +25,9 @@ row links ends = walk (length links.next) links.next ends.first
 -- The links lead from f through the list and then to 0. No number stands in it twice.
 abbrev pub IsPath : List ℕ → ℕ → List ℕ → Type 0
 IsPath next f [] = f ≡ 0
-IsPath next f (x ∷ xs) = (f ≡ x) × (0 < x) × (x ≤ 64) × (list_any (nat_eq x) xs ≡ false) × IsPath next (slice_index next x) xs
+IsPath next f (x ∷ xs) =
+    (f ≡ x) × (0 < x) × (x ≤ 64) × (list_any (nat_eq x) xs ≡ false)
+    × IsPath next (slice_index next x) xs
 
 -- The links back lead from each to the one before it, the first one's to p. The last one is l.
 abbrev pub IsBack : List ℕ → ℕ → List ℕ → ℕ → Type 0
@@ -45,4 +47,5 @@ AreApart xs ys = (x : ℕ) → list_any (nat_eq x) xs ≡ true → list_any (nat
 
 -- each chain that has none of the numbers xs is the same with both links
 abbrev pub KeepsOthers : List ℕ → Links → Links → Type 0
-KeepsOthers xs old new = (ends : Ends) (ys : List ℕ) → AreApart xs ys → IsChain old ends ys → IsChain new ends ys
+KeepsOthers xs old new =
+    (ends : Ends) (ys : List ℕ) → AreApart xs ys → IsChain old ends ys → IsChain new ends ys

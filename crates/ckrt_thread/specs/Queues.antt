@@ -91,7 +91,8 @@ named_by_all (q ∷ qs) = named_by q.object q.ends.count + named_by_all qs
 -- no object has two entries, and no entry is that of an empty queue
 abbrev pub IsDirectory : List Queue → Type 0
 IsDirectory [] = ⊤
-IsDirectory (q ∷ qs) = (list_any (is_queue_of q.object) qs ≡ false) × (0 < q.ends.count) × IsDirectory qs
+IsDirectory (q ∷ qs) =
+    (list_any (is_queue_of q.object) qs ≡ false) × (0 < q.ends.count) × IsDirectory qs
 
 -- one directory is the other with these ends at the object
 abbrev pub IsWithEnds : Object → Ends → List Queue → List Queue → Type 0

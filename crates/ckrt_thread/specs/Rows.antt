@@ -30,7 +30,11 @@ unchanged r s = record { result = r; threads = s }
 -- a new thread: it returns to the gate at which a thread ends, and has its argument and its stack
 abbrev pub new_thread : ℕ → ℕ → ℕ → Bool → Thread
 new_thread start arg sp detached = thread.Live (record {
-  regs = record { pc = start; x = slice_set (slice_set (slice_set (replicate 32 0) RA RETURN_GATE) SP sp) A0 arg };
+  regs =
+      record {
+        pc = start;
+        x = slice_set (slice_set (slice_set (replicate 32 0) RA RETURN_GATE) SP sp) A0 arg;
+      };
   initial = false;
   detached = detached;
   cancellation = at_the_start;
@@ -55,7 +59,8 @@ create_row by start arg sp detached s =
 -- id is free. Else the caller waits for the end.
 abbrev pub join_at : Option Thread → ℕ → ℕ → State → After
 join_at None by id s = unchanged (Done ESRCH) s
-join_at (Some (thread.Ended v)) by id s = record { result = Done 0; threads = set_word by A1 v (with_slot id None s) }
+join_at (Some (thread.Ended v)) by id s =
+    record { result = Done 0; threads = set_word by A1 v (with_slot id None s) }
 join_at (Some (thread.Live l)) by id s =
     if l.detached || is_joined id s then unchanged (Done EINVAL) s
     else (record { result = Blocked; threads = blocked by (reason.Join id) None s })

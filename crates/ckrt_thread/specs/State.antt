@@ -139,7 +139,8 @@ pub record IsWellFormed (s : State) : Type 0 where
   -- destructors, of at most 4, unwinds (who has ended is in none, and has no value)
   pub proper : (t : ℕ) → is_proper_slot (thread_of s t) ≡ true
   -- at most one thread has the mark initial
-  pub one_initial : (t q : ℕ) → is_initial (thread_of s t) ≡ true → is_initial (thread_of s q) ≡ true → t ≡ q
+  pub one_initial : (t q : ℕ) → is_initial (thread_of s t) ≡ true
+      → is_initial (thread_of s q) ≡ true → t ≡ q
   -- who waits or is on a hart has not ended, and does so at one place
   pub placed : (t : ℕ) → places s t ≤ (if is_live s t then 1 else 0)
   -- who is joined has not ended and is not detached, and one thread joins it
@@ -160,7 +161,11 @@ pub record IsWellFormed (s : State) : Type 0 where
 -- the thread that a program begins with
 abbrev pub first_of_program : ℕ → Thread
 first_of_program stack = thread.Live (record {
-  regs = record { pc = PROGRAM_START; x = slice_set (slice_set (replicate 32 0) RA RETURN_GATE) SP stack };
+  regs =
+      record {
+        pc = PROGRAM_START;
+        x = slice_set (slice_set (replicate 32 0) RA RETURN_GATE) SP stack;
+      };
   initial = true;
   detached = false;
   cancellation = at_the_start;

@@ -17,4 +17,5 @@ with_key_of k d s = record s { keys = with_key k (Some d) s.keys }
 
 -- the number is no key, and no thread has a value under it
 abbrev pub without_key_of : ℕ → State → State
-without_key_of k s = record s { threads = map (change_live (setting k 0)) s.threads; keys = with_key k None s.keys }
+without_key_of k s =
+    record s { threads = map (change_live (setting k 0)) s.threads; keys = with_key k None s.keys }

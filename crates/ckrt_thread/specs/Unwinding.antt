@@ -35,7 +35,8 @@ turn_of t s = if is_unwinding (thread_of s t) then next_turn s.keys (data_of (th
 -- the thread goes to this destructor; with none left it ends with the value that it unwinds with, and its values are gone
 abbrev pub destroyed_by : Option Turn → ℕ → State → State
 destroyed_by None t s = finished t (unwinding_value (thread_of s t)) s
-destroyed_by (Some turn) t s = record s { threads = change_thread (destroying s.keys turn) t s.threads }
+destroyed_by (Some turn) t s =
+    record s { threads = change_thread (destroying s.keys turn) t s.threads }
 
 abbrev pub next_destructor : ℕ → State → State
 next_destructor t s = destroyed_by (turn_of t s) t s

@@ -33,7 +33,8 @@ abbrev pub waits_along : List Wait → Links → Ends → List Wait
 waits_along entries links ends = map (entry_at entries) (row links ends)
 
 -- the parts of the table are those of these waits
-pub record AreKept (table : List Wait) (waiting : List Bool) (links : Links) (ends : Ends) (heads : Queues) (ws : List Wait) : Type 0 where
+pub record AreKept (table : List Wait) (waiting : List Bool) (links : Links) (ends : Ends)
+    (heads : Queues) (ws : List Wait) : Type 0 where
   pub size : length table ≡ 65
   pub entries : AreEntries table ws
   pub marks : AreMarked waiting ws

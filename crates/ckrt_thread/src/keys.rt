@@ -87,7 +87,8 @@ impl Model for Keys {
 
     ghost view = { λ a. record { is_on = a.is_on; destructors = a.destructors } };
 
-    ghost invariant = { λ a. are_proper_keys (record { is_on = a.is_on; destructors = a.destructors }) ≡ true };
+    ghost invariant = { λ a.
+        are_proper_keys (record { is_on = a.is_on; destructors = a.destructors }) ≡ true };
 }
 
 /// The first place that stands for no key.

@@ -94,10 +94,12 @@ pub fn ends_of(queues: &[Queue], object: Object) -> Ends
 fn store_ends(directory: &mut ArrayVec<Queue, MAX_THREADS>, object: Object, ends: Ends)
     requires directory { IsDirectory directory.old.items }
     requires filled { 0 < ends.count }
-    requires room { (ends_of object directory.old.items).count ≡ 0 → length directory.old.items < 64 }
+    requires room { (ends_of object directory.old.items).count ≡ 0
+        → length directory.old.items < 64 }
     ensures directory { IsDirectory directory.new.items }
     ensures ends { IsWithEnds object ends directory.old.items directory.new.items }
-    ensures total { total directory.new.items + (ends_of object directory.old.items).count ≡ total directory.old.items + ends.count }
+    ensures total { total directory.new.items + (ends_of object directory.old.items).count
+        ≡ total directory.old.items + ends.count }
 {
     match place_of(directory.as_slice(), object) {
         Some(place) => directory[place] = Queue { object, ends },
@@ -110,7 +112,8 @@ fn forget_ends(directory: &mut ArrayVec<Queue, MAX_THREADS>, object: Object)
     requires directory { IsDirectory directory.old.items }
     ensures directory { IsDirectory directory.new.items }
     ensures ends { IsWithEnds object no_ends directory.old.items directory.new.items }
-    ensures total { total directory.new.items + (ends_of object directory.old.items).count ≡ total directory.old.items }
+    ensures total { total directory.new.items + (ends_of object directory.old.items).count
+        ≡ total directory.old.items }
 {
     let Some(place) = place_of(directory.as_slice(), object) else {
         return;
@@ -167,7 +170,8 @@ impl Queues {
     /// A thread waits from now on, behind all others that wait for the same.
     pub fn push(&mut self, wait: &Wait, reached: &mut u8)
         requires { (ws : List Wait) × MayJoin self.old wait.now ws }
-        ensures { (ws : List Wait) → MayJoin self.old wait.now ws → AreQueues self.new (ws ++ wait.now ∷ []) }
+        ensures { (ws : List Wait) → MayJoin self.old wait.now ws
+            → AreQueues self.new (ws ++ wait.now ∷ []) }
     {
         let Some(object) = object_of(wait.reason) else {
             return;
@@ -180,7 +184,8 @@ impl Queues {
     /// The wait of a thread is taken out.
     pub fn take_out(&mut self, wait: &Wait, reached: &mut u8)
         requires { (ws : List Wait) × MayLeave self.old wait.now ws }
-        ensures { (ws : List Wait) → MayLeave self.old wait.now ws → AreQueues self.new (without wait.now.thread ws) }
+        ensures { (ws : List Wait) → MayLeave self.old wait.now ws
+            → AreQueues self.new (without wait.now.thread ws) }
     {
         let Some(object) = object_of(wait.reason) else {
             return;

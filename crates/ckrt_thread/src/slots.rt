@@ -140,7 +140,8 @@ impl Slots {
     #[tactic(auto, using(crate::proofs::SlotLemmas::slot_read))]
     pub fn push_handler(&mut self, thread: ThreadId, handler: Handler)
         requires within { thread < length self.old }
-        requires room { length (handlers_of (option_flatten (slice_get self.old thread))) < MAX_HANDLERS }
+        requires room { length (handlers_of (option_flatten (slice_get self.old thread)))
+            < MAX_HANDLERS }
         ensures { self.new ≡ change_thread (pushing handler) thread self.old }
     {
         let slot = &mut self.slots[thread as usize];

@@ -47,9 +47,23 @@ impl Model for Threads {
 
     ghost Value = { State };
 
-    ghost view = { λ a. record { threads = a.slots; waits = a.waits; harts = a.harts; hart_count = a.hart_count; keys = a.keys } };
+    ghost view = { λ a.
+        record {
+          threads = a.slots;
+          waits = a.waits;
+          harts = a.harts;
+          hart_count = a.hart_count;
+          keys = a.keys;
+        } };
 
-    ghost invariant = { λ a. IsWellFormed (record { threads = a.slots; waits = a.waits; harts = a.harts; hart_count = a.hart_count; keys = a.keys }) };
+    ghost invariant = { λ a.
+        IsWellFormed (record {
+          threads = a.slots;
+          waits = a.waits;
+          harts = a.harts;
+          hart_count = a.hart_count;
+          keys = a.keys;
+        }) };
 }
 
 impl Threads {
@@ -225,7 +239,8 @@ impl Threads {
     /// Who is on the hart. That thread has not ended and does not wait.
     pub fn on_hart(&self, hart: usize) -> Option<ThreadId>
         ensures on { result ≡ option_flatten (slice_get self.now.harts hart) }
-        ensures ready { IfSome result (λ t. (is_live self.now t ≡ true) × (is_waiting self.now t ≡ false)) }
+        ensures ready { IfSome result
+            (λ t. (is_live self.now t ≡ true) × (is_waiting self.now t ≡ false)) }
     {
         self.known();
         self.who_on(hart)
@@ -290,7 +305,9 @@ impl Threads {
     /// The due wait that ends first at this moment: by deadline, then by thread.
     pub fn earliest_due(&self, now: u64) -> Option<Wait>
         ensures first { result ≡ earliest_due now self.now.waits }
-        ensures found { IfSome result (λ w. (find (is_of w.thread) self.now.waits ≡ Some w) × (is_live self.now w.thread ≡ true)) }
+        ensures found { IfSome result (λ w.
+            (find (is_of w.thread) self.now.waits ≡ Some w)
+            × (is_live self.now w.thread ≡ true)) }
     {
         earliest_due(self.waits.in_order().as_slice(), now)
     }
@@ -398,10 +415,12 @@ impl Threads {
     /// nothing changes.
     #[tactic(auto, using(crate::proofs::WaitLemmas::found_waits))]
     pub fn wake_first(&mut self, object: Object) -> Option<Waiter>
-        ensures first { option_map of_waiter result ≡ option_map of_wait (first_waiter object self.old) }
+        ensures first { option_map of_waiter result
+            ≡ option_map of_wait (first_waiter object self.old) }
         ensures waiting { IfSome result (λ w. is_waiting self.old w.thread ≡ true) }
         ensures thread { IfSome result (λ w. (0 < w.thread) × (w.thread ≤ 64)) }
-        ensures ready { IfSome result (λ w. (is_live self.new w.thread ≡ true) × (is_waiting self.new w.thread ≡ false)) }
+        ensures ready { IfSome result
+            (λ w. (is_live self.new w.thread ≡ true) × (is_waiting self.new w.thread ≡ false)) }
         ensures threads { self.new ≡ first_unwaited object self.old }
     {
         self.known();
@@ -425,7 +444,8 @@ impl Threads {
         requires number { (0 < id) × (id ≤ 64) }
         requires free { places self.old id ≡ 0 }
         requires unjoined { joiners self.old id ≡ 0 }
-        requires initial { (t : ℕ) → is_initial slot ≡ true → is_initial (thread_of self.old t) ≡ true → id ≡ t }
+        requires initial { (t : ℕ) → is_initial slot ≡ true
+            → is_initial (thread_of self.old t) ≡ true → id ≡ t }
         requires proper { is_proper_slot slot ≡ true }
         requires values { HasValuesOf self.old.keys slot }
         ensures { self.new ≡ with_slot id slot self.old }
@@ -437,7 +457,8 @@ impl Threads {
     fn set_detached(&mut self, thread: ThreadId)
         requires live { is_live self.old thread ≡ true }
         requires unjoined { joiners self.old thread ≡ 0 }
-        ensures { self.new ≡ record self.old { threads = change_thread detached thread self.old.threads } }
+        ensures { self.new
+            ≡ record self.old { threads = change_thread detached thread self.old.threads } }
     {
         self.slots.detach(thread);
     }
@@ -449,7 +470,8 @@ impl Threads {
     pub fn set_cancellation(&mut self, thread: ThreadId, cancellation: &Cancellation)
         requires live { is_live self.old thread ≡ true }
         requires consistent { is_consistent cancellation.now ≡ true }
-        requires unwinding { is_unwinding (thread_of self.old thread) ≡ true → is_some cancellation.now.unwinding ≡ true }
+        requires unwinding { is_unwinding (thread_of self.old thread) ≡ true
+            → is_some cancellation.now.unwinding ≡ true }
         ensures { self.new ≡ with_cancellation_of thread cancellation.now self.old }
     {
         self.slots.set_cancellation(thread, cancellation);
@@ -483,7 +505,8 @@ impl Threads {
     /// A thread that has not ended has its newest clean-up handler no more.
     fn drop_newest(&mut self, thread: ThreadId)
         requires { is_live self.old thread ≡ true }
-        ensures { self.new ≡ record self.old { threads = change_thread popping thread self.old.threads } }
+        ensures { self.new
+            ≡ record self.old { threads = change_thread popping thread self.old.threads } }
     {
         self.slots.pop_handler(thread);
     }

@@ -215,7 +215,10 @@ impl Threads {
     fn destroy(&mut self, thread: ThreadId, turn: Turn)
         requires live { is_live self.old thread ≡ true }
         requires turn { turn_of thread self.old ≡ Some turn }
-        ensures { self.new ≡ record self.old { threads = change_thread (destroying self.old.keys turn) thread self.old.threads } }
+        ensures { self.new
+            ≡ record self.old {
+              threads = change_thread (destroying self.old.keys turn) thread self.old.threads;
+            } }
     {
         self.slots.destroy(thread, &self.keys, turn);
     }

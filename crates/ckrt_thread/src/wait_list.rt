@@ -40,7 +40,9 @@ impl Model for WaitList {
 
     ghost view = { λ a. waits_along a.entries a.links a.ends };
 
-    ghost invariant = { λ a. AreKept a.entries a.waiting a.links a.ends a.queues (waits_along a.entries a.links a.ends) };
+    ghost invariant = { λ a.
+        AreKept a.entries a.waiting a.links a.ends a.queues
+        (waits_along a.entries a.links a.ends) };
 }
 
 /// The waits of so many threads along the links, from a first one on.
