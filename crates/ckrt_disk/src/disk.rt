@@ -44,7 +44,8 @@ pub trait Disk {
 
     /// What a kind of disk says of a read beside the model: the disk before it, the offset, the buffer before and
     /// after it, whether the answer is Ok, and the disk after it.
-    ghost read_gives: { Self → ℕ → List ℕ → List ℕ → Bool → Self → Type 0 } = { λ _ _ _ _ _ _. Unit {0} };
+    ghost read_gives: { Self → ℕ → List ℕ → List ℕ → Bool
+        → Self → Type 0 } = { λ _ _ _ _ _ _. Unit {0} };
 
     /// The same of a write: the disk before it, the offset, the bytes, whether the answer is Ok, the disk after it.
     ghost write_gives: { Self → ℕ → List ℕ → Bool → Self → Type 0 } = { λ _ _ _ _ _. Unit {0} };
