@@ -1,0 +1,5 @@
+pub mod SlotLemmas
+pub mod FedLemmas
+pub mod ReadLemmas
+pub mod KeepLemmas
+pub mod CallLemmas
