@@ -1,6 +1,6 @@
 -- What follows where each Input and each end of input was next at its turn.
 use Rattle.std.proofs.Common.{◌≡◌, ℕ, zero, suc, ◌+◌, ◌≤◌, ◌<◌, ◌==◌, ◌&&◌, not, Bool, true, false, cond, nat_le, nat_lt, if◌then◌else◌, List, [], ◌∷◌, ◌++◌, length, take, drop, min, Option, Some, None, refl, sym, ◌∙◌, ap, subst, arith, append_assoc, length-append}
-use Rattle.std.proofs.lemmas.List.{take-append-drop, take-take, length-take-le, take_all, drop-drop, nil_from_length}
+use Rattle.std.proofs.lemmas.List.{take-append-drop, take-take, take_min, length-take, drop-drop}
 use Rattle.std.proofs.lemmas.Bool.{cases_lt}
 use Rattle.std.proofs.lemmas.Bool.Decides.{nat_tests}
 use Rattle.std.proofs.lemmas.Grind.{common_steps}
@@ -27,21 +27,27 @@ given_where false e f is = absurd (cc)
 pub next_is : (s : Tables) (rest : List ℕ) (e : Event) → next_input s rest ≡ Some e → (has_room s (length (next_bytes rest)) ≡ true) × (given_by (next_bytes rest) ≡ e)
 next_is s rest e is = given_where (has_room s (length (next_bytes rest))) (given_by (next_bytes rest)) e is
 
+-- bytes that there are come as an Input
+given_some : (b : ℕ) (bs : List ℕ) → given_by (b ∷ bs) ≡ Input (record { items = b ∷ bs })
+given_some b bs =
+    let some : (length (b ∷ bs) == 0) ≡ false = grind (arith, nat_tests) in
+    ap (λ (x : Bool). if x then Eof else Input (record { items = b ∷ bs })) some
+
 -- the bytes of an Input or of an end
 pub given_bytes : (bytes : List ℕ) → bytes_of (given_by bytes) ≡ bytes
 given_bytes [] = refl
-given_bytes (b ∷ bs) = refl
+given_bytes (b ∷ bs) = ap bytes_of (given_some b bs)
 
 no_bytes : (bytes : List ℕ) → given_by bytes ≡ Eof → bytes ≡ []
 no_bytes [] is = refl
-no_bytes (b ∷ bs) is = absurd (cc)
+no_bytes (b ∷ bs) is = let no : Input (record { items = b ∷ bs }) ≡ Eof = sym (given_some b bs) ∙ is in absurd (cc)
 
 none_left : (rest : List ℕ) → take 64 rest ≡ [] → rest ≡ []
 none_left [] is = refl
 none_left (b ∷ bs) is = absurd (cc)
 
 drop_taken : (n : ℕ) (xs : List ℕ) → drop (length (take n xs)) xs ≡ drop n xs
-drop_taken n xs = grind (arith, common_steps)
+drop_taken n xs = grind (arith, common_steps, length-take n xs)
 
 front_back : (rest : List ℕ) → rest ≡ next_bytes rest ++ drop (length (next_bytes rest)) rest
 front_back rest = sym (ap (λ (l : List ℕ). take 64 rest ++ l) (drop_taken 64 rest) ∙ take-append-drop 64 rest)
@@ -76,7 +82,7 @@ pub goes_on : GoesOnGiven
 goes_on [] back file s given more = more
 goes_on (e ∷ es) back file s given more =
     let left : drop (taken_by (e ∷ es)) file ≡ drop (taken_by es) (drop (length (bytes_of e)) file) =
-    ap (λ n. drop n file) (length-append (bytes_of e) (input_of es)) ∙ sym (ap (λ n. drop n file) (omega arith) ∙ sym (drop-drop (taken_by es) (length (bytes_of e)) file)) in
+    ap (λ n. drop n file) (length-append (bytes_of e) (input_of es)) ∙ sym (drop-drop (taken_by es) (length (bytes_of e)) file) in
     (given.0, goes_on es back (drop (length (bytes_of e)) file) (step e s).state given.1 (subst (λ (l : List ℕ). AreGiven back l (fold es (step e s).state).state) left more))
 
 -- WHAT IS TAKEN
@@ -85,11 +91,11 @@ room_is : (running closed : Bool) (n : ℕ) → (running && (not closed && nat_l
 room_is running closed n is = (grind (arith, nat_tests, is), grind (arith, nat_tests, is), grind (arith, nat_tests, is))
 
 few_next : (rest : List ℕ) → length (next_bytes rest) ≤ 64
-few_next rest = grind (arith, common_steps)
+few_next rest = omega (arith, length-take 64 rest)
 
 in_range : (bytes : List ℕ) → length bytes ≤ 64 → IsInRange (given_by bytes)
 in_range [] few = tt
-in_range (b ∷ bs) few = (omega arith, few)
+in_range (b ∷ bs) few = subst IsInRange (sym (given_some b bs)) (omega arith, few)
 
 taken : (bytes : List ℕ) (s : State) (held : ℕ) → has_room s.tables (length bytes) ≡ true → refusal_of held (given_by bytes) s ≡ None
 taken [] s held room =
@@ -98,7 +104,7 @@ taken [] s held room =
 taken (b ∷ bs) s held room =
     let r = room_is (is_running s.tables.status) s.tables.closed (length s.tables.input + length (b ∷ bs)) room in
     let fits : nat_lt 4096 (length s.tables.input + length (b ∷ bs)) ≡ false = grind (arith, nat_tests, r.2) in
-    rw (r.0, r.1, fits) refl
+    ap (λ (e : Event). refusal_of held e s) (given_some b bs) ∙ rw (r.0, r.1, fits) refl
 
 pub always_taken : IsAlwaysTaken
 always_taken s rest e is =
@@ -112,4 +118,4 @@ hangs_on_next s rest n enough = ap (λ (l : List ℕ). if has_room s (length l) 
 
 -- the next bytes, as a slice has them
 pub next_slice : (rest : List ℕ) → take (min (length rest) 64) rest ≡ next_bytes rest
-next_slice rest = grind (arith, common_steps)
+next_slice rest = ap (λ n. take n rest) (let e : min (length rest) 64 ≡ min 64 (length rest) = omega arith in e) ∙ take_min 64 rest

@@ -12,5 +12,5 @@ mod laws;
 mod taken;
 
 pub use giving::{PIECE, next_input};
-pub use laws::{given_input_is_the_file, given_input_is_taken};
+pub use laws::{given_input_is_taken, given_input_is_the_file};
 pub use taken::taken_by;

@@ -1,5 +1,5 @@
 -- A write behind the bytes of the format leaves what a session represents.
-use Rattle.std.proofs.Common.{◌≡◌, ◌⊎◌, inl, inr, ⊎_elim, ℕ, ◌+◌, ◌≤◌, true, false, List, length, take, drop, Ok, sym, ◌∙◌, ap, subst, arith}
+use Rattle.std.proofs.Common.{◌≡◌, ◌⊎◌, inl, inr, ⊎_elim, ℕ, ◌+◌, ◌≤◌, true, false, List, length, take, drop, Ok, refl, sym, ◌∙◌, ap, subst, arith}
 use Rattle.ckrt_disk.specs.Disk.{IsImage, IsWithin, LeavesOnly}
 use Rattle.ckrt_disk.specs.Frame.{IsSameOutside, WritesWithin}
 use Rattle.ckrt_disk.specs.declared.disk.Disk.{Ghosts}
