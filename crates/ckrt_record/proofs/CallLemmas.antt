@@ -1,6 +1,6 @@
 -- What a session keeps of the input, over commits, writes of a slot and checkpoints, by what the session says of them.
 use Rattle.std.proofs.Common.{◌≡◌, ◌⊎◌, inl, inr, ⊎_elim, ℕ, ◌+◌, ◌-◌, ◌≤◌, ◌<◌, Bool, true, false, List, [], ◌∷◌, ◌++◌, length, take, Option, Some, None, Result, Ok, Err, refl, sym, ◌∙◌, ap, subst, arith}
-use Rattle.std.specs.Prelude.{MatchOption, IfErr}
+use Rattle.std.specs.Prelude.{MatchOption, IfErr, unwrap_or}
 use Rattle.std.proofs.lemmas.List.{take_all, append-nil}
 use Rattle.ckrt_disk.specs.Disk.{IsWithin, LeavesOnly}
 use Rattle.ckrt_disk.specs.Frame.{IsSameOutside, MayBeLeft, WritesWithin}
@@ -9,6 +9,7 @@ use Rattle.ckrt_disk.proofs.Images.{wider_image}
 use Rattle.ckrt_disk.proofs.Moments.{started, weaker}
 use Rattle.ckrt_events.specs.declared.event.Event.{Event}
 use Rattle.ckrt_events.specs.Bytes.{events_in}
+use Rattle.ckrt_events.proofs.EventLemmas.{events_of-encodings}
 use Rattle.ckrt_image.specs.Programs.{Program}
 use Rattle.ckrt_recovery.specs.Calls.{Checkpoints, Saves, WritesOtherArea, WritesSpare, checkpoint_refusal}
 use Rattle.ckrt_recovery.specs.Represents.{RecoversAtAnyMoment, RecoversToEither, Represents, RepresentsSame, acknowledged_of}
@@ -66,10 +67,13 @@ module _ {D : Type 0} {g : Ghosts D} (p : Program) (events : List Event) (old ne
       by_failed true failed = untouched_moment (commit_untouched failed result is)
       by_failed false running = together (commit_fed running result is)
 
+  no_events : events_in [] ≡ []
+  no_events = ap (λ (o : Option (List Event)). unwrap_or o []) (events_of-encodings [] tt)
+
   -- the pending events, if there are any
   commit_ok : old.failed ≡ false → (n : ℕ) → IsCommit old (Ok n) new → (pending : List ℕ) → old.pending.items ≡ pending → IsFed events (g.content new.disk)
   commit_ok running n is [] none =
-      let all : acknowledged_of events old ≡ events = sym (append-nil (acknowledged_of events old)) ∙ ap (λ (l : List ℕ). acknowledged_of events old ++ events_in l) (sym none) ∙ front_back p events old reps keeps running in
+      let all : acknowledged_of events old ≡ events = sym (append-nil (acknowledged_of events old)) ∙ ap (λ (es : List Event). acknowledged_of events old ++ es) (sym no_events ∙ ap events_in (sym none)) ∙ front_back p events old reps keeps running in
       subst (λ d. IsFed events (g.content d)) (sym (is.commits.no_call (inr none))) (subst (λ (es : List Event). IsFed es (g.content old.disk)) all (fed_now p events old reps keeps running))
   commit_ok running n is (b ∷ bs) some = committed_fed p events old reps keeps running (g.content new.disk) (is.journals.ok (subst (λ (l : List ℕ). 0 < length l) (sym some) (omega arith)) honest)
 
@@ -78,13 +82,13 @@ module _ {D : Type 0} {g : Ghosts D} (p : Program) (events : List Event) (old ne
     where
       by_result : old.failed ≡ false → (r : Result ℕ CommitFault) → IsCommit old r new → KeepsInput events new
       by_result running (Ok n) is = all_keeps (is.represents honest p events reps) (ap (λ (v : View). v.failed) is.commits.ok) (ap (λ (v : View). v.acknowledged) is.commits.ok) (commit_ok running n is old.pending.items refl)
-      by_result running (Err Failed) is = let no : true ≡ false = sym (is.commits.refused.0 refl) ∙ running in absurd (cc)
+      by_result running (Err Failed) is = let other : true ≡ false = sym (is.commits.refused.0 refl) ∙ running in absurd (cc)
       by_result running (Err Device) is = failed_keeps running is.commits.err (commit_fed running (Err Device) is)
-      by_result running (Err GenerationsUsed) is = absurd (⊎_elim (λ (no : _). absurd (cc)) (λ (no : _). absurd (cc)) is.commits.errors)
+      by_result running (Err GenerationsUsed) is = absurd (⊎_elim (λ (other : _). absurd (cc)) (λ (other : _). absurd (cc)) is.commits.errors)
 
       by_refusal : old.failed ≡ true → (r : Result ℕ CommitFault) → r ≡ Err Failed → IsCommit old r new → KeepsInput events new
-      by_refusal failed (Ok n) no is = absurd (cc)
-      by_refusal failed (Err e) no is = kept_input events old new (ap (λ (v : View). v.acknowledged) is.commits.err) (ap (λ (v : View). v.failed) is.commits.err ∙ sym failed) (commit_untouched failed (Err e) is) keeps
+      by_refusal failed (Ok n) other is = absurd (cc)
+      by_refusal failed (Err e) other is = kept_input events old new (ap (λ (v : View). v.acknowledged) is.commits.err) (ap (λ (v : View). v.failed) is.commits.err ∙ sym failed) (commit_untouched failed (Err e) is) keeps
 
       by_failed : (b : Bool) → old.failed ≡ b → KeepsInput events new
       by_failed true failed = by_refusal failed result (is.commits.refused.1 failed) is
@@ -119,9 +123,9 @@ module _ {D : Type 0} {g : Ghosts D} (p : Program) (events : List Event) (old ne
             subst (λ n. IsSameOutside (AtRisk p events old reps running offset n) (g.content old.disk) (g.content new.disk)) size (is.within.torn honest) in
             keeps_content events new failed ((same p events reps).settled failed)
             (subst (λ n. IsFed (take n events) (g.content new.disk)) (sym acknowledged) (spared_fed p events old reps keeps running (g.content new.disk) there))
-        by_result running (Err Failed) is = let no : true ≡ false = sym (is.refused.0 refl) ∙ running in absurd (cc)
+        by_result running (Err Failed) is = let other : true ≡ false = sym (is.refused.0 refl) ∙ running in absurd (cc)
         by_result running (Err Device) is = failed_keeps running (is.err refl) (slot_fed running (Err Device) is)
-        by_result running (Err GenerationsUsed) is = absurd (⊎_elim (λ (no : _). absurd (cc)) (λ (no : _). absurd (cc)) is.errors)
+        by_result running (Err GenerationsUsed) is = absurd (⊎_elim (λ (other : _). absurd (cc)) (λ (other : _). absurd (cc)) is.errors)
 
         by_failed : (b : Bool) → old.failed ≡ b → KeepsInput events new
         by_failed true failed = subst (λ (s : Session D g). KeepsInput events s) (sym (is.unchanged (is.refused.1 failed))) keeps

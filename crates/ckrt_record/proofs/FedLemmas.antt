@@ -112,7 +112,7 @@ before_slots c area other which i slot w = ⊎_elim
     (λ (is : area ≡ 1). let v = subst (λ k. IsWithin (journal_at c k) c.journal i) is w in omega (arith, v.1, slot.0)) which
 
 module _ (events : List Event) (before image : List ℕ) (r : Recovered) (recovers : Recovers before (Ok r)) (same : IsSameOutside (IsInJournal r.journal) before image) (is : IsFed events before) where
-  old : IsKnown before r
+  abbrev old : IsKnown before r
   old = known before r recovers
 
   f : IsFedIn events old.config old.area before
@@ -120,10 +120,6 @@ module _ (events : List Event) (before image : List ℕ) (r : Recovered) (recove
 
   batches : f.batches ≡ old.batches
   batches = let e : ◌≡◌ {A = Result (List (List ℕ)) JournalFault} (Ok f.batches) (Ok old.batches) = sym f.chain ∙ old.chain in cc
-
-  -- the journal, at some gate
-  gate : ℕ
-  gate = 0 + gate_behind old.batches
 
   journal : r.journal ≡ record (journal_of old.config old.area.index old.area.header.version) { next_gate = 0 + gate_behind old.batches }
   journal = ap (λ (x : Recovered). x.journal) (sym old.is_replayed)
@@ -190,7 +186,7 @@ said a s events generation count number taken = by_first (is_first a) refl
     by_first false is = rw same (ap (λ n. Some n) taken)
 
 module _ (image : List ℕ) (r : Recovered) (recovers : Recovers image (Ok r)) (start : r.journal.next_gate ≡ 0) (events : List Event) (number : r.count ≡ length events) where
-  now : IsKnown image r
+  abbrev now : IsKnown image r
   now = known image r recovers
 
   no_batches : now.batches ≡ []

@@ -205,19 +205,19 @@ pub more_input : {D : Type 0} {g : Ghosts D} (events more : List Event) (old new
 more_input {g = g} events more old new within acknowledged failed running disk keeps = record {
   running = λ is image left. subst (λ (es : List Event). IsFed es image) (sym (ap (λ n. take n (events ++ more)) acknowledged ∙ take-append-le old.acknowledged events more within))
       (keeps.running running image (subst (λ d. MayBeLeft g d image) disk left));
-  failed = λ is. let no : true ≡ false = sym is ∙ (failed ∙ running) in absurd (cc);
+  failed = λ is. let other : true ≡ false = sym is ∙ (failed ∙ running) in absurd (cc);
 }
 
 -- a session that hasn't failed, on whose disk nothing is pending, keeps what its content does
 pub keeps_content : {D : Type 0} {g : Ghosts D} (events : List Event) (s : Session D g) → s.failed ≡ false → ((i : ℕ) → ¬ g.pending s.disk i) → IsFed (acknowledged_of events s) (g.content s.disk) → KeepsInput events s
 keeps_content {g = g} events s running durable is = record {
   running = λ _ image left. subst (λ (l : List ℕ). IsFed (acknowledged_of events s) l) (sym (one_image g s.disk image durable left)) is;
-  failed = λ was. let no : true ≡ false = sym was ∙ running in absurd (cc);
+  failed = λ was. let other : true ≡ false = sym was ∙ running in absurd (cc);
 }
 
 -- one that has keeps what each image does
 pub keeps_images : {D : Type 0} {g : Ghosts D} (events : List Event) (s : Session D g) → s.failed ≡ true → ((image : List ℕ) → MayBeLeft g s.disk image → IsFed (acknowledged_of events s) image ⊎ IsFed events image) → KeepsInput events s
 keeps_images events s failed is = record {
-  running = λ was. let no : true ≡ false = sym failed ∙ was in absurd (cc);
+  running = λ was. let other : true ≡ false = sym failed ∙ was in absurd (cc);
   failed = λ _. is;
 }

@@ -3,3 +3,4 @@ pub mod FedLemmas
 pub mod ReadLemmas
 pub mod KeepLemmas
 pub mod CallLemmas
+pub mod SavingLemmas

@@ -40,13 +40,16 @@ KeepsAtAnyMoment {g = g} old new = g.is_honest new.disk → (p : Program) (event
 abbrev pub KeepsSame : {D : Type 0} {g : Ghosts D} → (old new : Session D g) → Type 0
 KeepsSame {g = g} old new = g.is_honest new.disk → (p : Program) (events : List Event) → RepresentsFed p events old → RepresentsFed p events new
 
--- the same of a checkpoint with a record, where it is told what the events took
-abbrev pub SavesAtAnyMoment : {D : Type 0} {g : Ghosts D} → (taken : ℕ) → (old new : Session D g) → Type 0
-SavesAtAnyMoment {g = g} taken old new = g.is_honest new.disk → (p : Program) (events : List Event) → RepresentsFed p events old → taken ≡ taken_by events
-    → LeavesOnly g.moment g.left_since old.disk new.disk (RecoversFedEither p events old)
+-- What a checkpoint with a record makes of these events.
+pub record IsSaved {D : Type 0} {g : Ghosts D} (p : Program) (events : List Event) (old new : Session D g) : Type 0 where
+  -- a stop at any moment leaves what recovers to the acknowledged ones or to all, and keeps what just these took
+  pub any_moment : LeavesOnly g.moment g.left_since old.disk new.disk (RecoversFedEither p events old)
+  -- the session behind it represents them, and keeps what they took
+  pub after : RepresentsFed p events new
 
-abbrev pub SavesSame : {D : Type 0} {g : Ghosts D} → (taken : ℕ) → (old new : Session D g) → Type 0
-SavesSame {g = g} taken old new = g.is_honest new.disk → (p : Program) (events : List Event) → RepresentsFed p events old → taken ≡ taken_by events → RepresentsFed p events new
+-- On an honest disk: so it is of whatever events old represents and keeps, where it was told what they took.
+abbrev pub SavesInput : {D : Type 0} {g : Ghosts D} → (taken : ℕ) → (old new : Session D g) → Type 0
+SavesInput {g = g} taken old new = g.is_honest new.disk → (p : Program) (events : List Event) → RepresentsFed p events old → taken ≡ taken_by events → IsSaved p events old new
 
 -- Where such a checkpoint writes: the slot of the other area, and what a checkpoint writes.
 abbrev pub RecordsAt : {D : Type 0} {g : Ghosts D} → Session D g → ℕ → Type 0

@@ -3,7 +3,7 @@ ghost use Rattle.std.specs.Prelude.{◌≡◌, ◌≤◌, ◌<◌, ◌+◌};
 ghost use Rattle.ckrt_checkpoint.specs.Layout.{size_needed};
 ghost use Rattle.ckrt_recovery.specs.Calls.{Checkpoints, KeepsRooms};
 ghost use Rattle.ckrt_recovery.specs.Represents.{RecoversAtAnyMoment, RepresentsSame};
-ghost use Rattle.ckrt_record.specs.Keeping.{SavesAtAnyMoment, SavesSame, WritesRecord};
+ghost use Rattle.ckrt_record.specs.Keeping.{SavesInput, WritesRecord};
 ghost use Rattle.ckrt_record.specs.Slot.{RECORD_BYTES, TAKEN_LIMIT};
 
 use crate::slot::{SLOT_DISTANCE, Slot, slot_bytes};
@@ -19,9 +19,8 @@ pub fn checkpoint<D: Disk>(session: &mut Session<D>, taken: u64) -> Result<u64, 
     requires room { size_needed session.old.progress.config + RECORD_BYTES ≤ D.size session.old.disk }
     requires taken { taken < TAKEN_LIMIT }
     ensures any_moment { RecoversAtAnyMoment session.old session.new }
-    ensures records { SavesAtAnyMoment taken session.old session.new }
+    ensures saves { SavesInput taken session.old session.new }
     ensures represents { D.is_honest session.new.disk → RepresentsSame session.old session.new }
-    ensures keeps { SavesSame taken session.old session.new }
     ensures disk { WritesRecord session.old result session.new }
     ensures checkpoints { Checkpoints session.old result session.new }
     ensures rooms { KeepsRooms session.old session.new }
@@ -37,6 +36,5 @@ pub fn checkpoint<D: Disk>(session: &mut Session<D>, taken: u64) -> Result<u64, 
     };
     let offset = SLOT_DISTANCE * (1 - session.area());
     session.write_spare(offset, slot_bytes(&slot).as_slice())?;
-    let count = session.checkpoint()?;
-    Ok(count)
+    session.checkpoint()
 }

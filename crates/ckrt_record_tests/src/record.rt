@@ -18,8 +18,8 @@ const SMALL: Config = Config {
 /// The slot of area 1 behind the first checkpoint, of two events that took five bytes: the name, version 1, generation 2, two
 /// events, five bytes.
 const SLOT: [u8; 40] = [
-    0x43, 0x4b, 0x52, 0x54, 0x46, 0x45, 0x45, 0x44, 1, 0, 0, 0, 0, 0, 0, 0, 2, 0, 0, 0, 0, 0, 0, 0, 2,
-    0, 0, 0, 0, 0, 0, 0, 5, 0, 0, 0, 0, 0, 0, 0,
+    0x43, 0x4b, 0x52, 0x54, 0x46, 0x45, 0x45, 0x44, 1, 0, 0, 0, 0, 0, 0, 0, 2, 0, 0, 0, 0, 0, 0, 0,
+    2, 0, 0, 0, 0, 0, 0, 0, 5, 0, 0, 0, 0, 0, 0, 0,
 ];
 
 /// Where that slot lies: half of the record behind the size needed.
@@ -61,7 +61,11 @@ fn feed<R: Abort, D: Disk>(rt: &R, session: &mut Session<D>, bytes: &[u8]) {
 }
 
 /// A checkpoint with a record, on a disk that has room for one.
-fn save<R: Abort, D: Disk>(rt: &R, session: &mut Session<D>, taken: u64) -> Result<u64, CommitFault> {
+fn save<R: Abort, D: Disk>(
+    rt: &R,
+    session: &mut Session<D>,
+    taken: u64,
+) -> Result<u64, CommitFault> {
     assert!(rt; session.spare_room() >= RECORD_BYTES);
     assert!(rt; taken < 1_000);
     checkpoint(session, taken)
@@ -112,7 +116,12 @@ fn a_checkpoint_without_a_record_is_told(rt: HostRuntime) {
 }
 
 /// A disk with a record, by two checkpoints, that stops at a call and then lays a fill over its pending bytes. What it leaves.
-fn stopped<R: Abort + AllocGlobal>(rt: &R, image: &[u8], at_call: u64, fill: &[u8]) -> StoppingDisk {
+fn stopped<R: Abort + AllocGlobal>(
+    rt: &R,
+    image: &[u8],
+    at_call: u64,
+    fill: &[u8],
+) -> StoppingDisk {
     let image = image.to_vec(rt.alloc()).expect(rt, "memory for bytes");
     let fill = fill.to_vec(rt.alloc()).expect(rt, "memory for bytes");
     let disk = StoppingDisk::new(rt.alloc(), image, at_call, fill).expect(rt, "memory for a disk");
