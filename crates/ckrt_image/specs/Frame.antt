@@ -9,7 +9,7 @@ use Rattle.ckrt_tables.specs.Savable.{CanBeSaved}
 use Rattle.ckrt_checkpoint.specs.declared.area.Area.{Area}
 use Rattle.ckrt_checkpoint.specs.declared.config.Config.{Config}
 use Rattle.ckrt_checkpoint.specs.Areas.{checked_area}
-use Rattle.ckrt_checkpoint.specs.Layout.{area_at, area_size, header_of, is_open, journal_at, journal_of, memory_of, tables_of}
+use Rattle.ckrt_checkpoint.specs.Layout.{area_at, area_size, header_of, is_open, journal_at, journal_of, memory_of, size_needed, tables_of}
 use Rattle.ckrt_image.specs.Superblock.{superblock_of}
 use Rattle.ckrt_image.specs.Recovery.{Recovered, Recovers, is_end_in_range, unreplayed}
 
@@ -21,6 +21,14 @@ BelongsTo c area i = IsWithin (area_at c area) (area_size c) i ⊎ IsWithin (jou
 abbrev pub IsFramed : Type 0
 IsFramed = (before image : List ℕ) (r : Recovered) → Recovers before (Ok r) → IsSameOutside (BelongsTo r.config (1 - r.area)) before image
     → (header_of r.config (1 - r.area) image).is_open ≡ false → Recovers image (Ok r)
+
+-- the offsets behind the bytes that the configuration needs
+abbrev pub IsSpare : Config → ℕ → Type 0
+IsSpare c i = size_needed c ≤ i
+
+-- Spare: the bytes behind those that the configuration needs don't matter.
+abbrev pub IsSpareFree : Type 0
+IsSpareFree = (before image : List ℕ) (r : Recovered) → Recovers before (Ok r) → IsSameOutside (IsSpare r.config) before image → Recovers image (Ok r)
 
 -- An area holds a state whole, and its journal has no batch.
 pub record HoldsState (c : Config) (area : Area) (memory : List ℕ) (s : Saved) (image : List ℕ) : Type 0 where

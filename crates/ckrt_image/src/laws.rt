@@ -1,5 +1,5 @@
 //! Laws of what an image recovers to. Each is the contract of a function with an empty body.
-ghost use Rattle.ckrt_image.specs.Frame.{IsFramed, IsSwitched};
+ghost use Rattle.ckrt_image.specs.Frame.{IsFramed, IsSpareFree, IsSwitched};
 ghost use Rattle.ckrt_image.specs.Past.{PastFaultIsWhole};
 ghost use Rattle.ckrt_image.specs.Recovery.{RecoversOnce};
 
@@ -12,6 +12,11 @@ pub fn images_recover_once()
 /// area's gate isn't open.
 pub fn unused_area_is_free()
     ensures { IsFramed }
+{}
+
+/// The bytes behind those that the configuration needs don't matter to what an image recovers to.
+pub fn spare_bytes_are_free()
+    ensures { IsSpareFree }
 {}
 
 /// An image recovers to the state that its newest open area holds, where the area's journal has no batch.

@@ -16,8 +16,8 @@ pub use fault::{FormatFault, RecoverFault};
 pub use formatting::format;
 pub use laws::{
     images_recover_once, newest_area_takes_over, past_of_an_image_has_its_faults,
-    unused_area_is_free,
+    spare_bytes_are_free, unused_area_is_free,
 };
 pub use past::read_past;
 pub use progress::Progress;
-pub use reading::read_progress;
+pub use reading::{read_in_use, read_progress};

@@ -7,3 +7,4 @@ mod OpeningLemmas
 mod CheckpointLemmas
 pub mod RoomLemmas
 pub mod ReachedLemmas
+pub mod SpareLemmas

@@ -1,0 +1,5 @@
+pub mod Slot
+pub mod SlotLaws
+pub mod Offset
+pub mod Fed
+pub mod Keeping
