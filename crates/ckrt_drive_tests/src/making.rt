@@ -1,6 +1,6 @@
 //! The disk that a drive makes where it is missing, over real files.
 
-use crate::program::Step::{Absent, EndsWith, Ends, Fails, Fill, Holds, Prints, Remove, Write};
+use crate::program::Step::{Absent, Ends, EndsWith, Fails, Fill, Holds, Prints, Remove, Write};
 use crate::program::{LINES, Step, play};
 use ckrt_test_data::IMAGE;
 
@@ -30,7 +30,12 @@ const MAKES: &[Step] = &[
         0,
     ),
     // what isn't given isn't compared, and the image isn't looked at
-    Ends("drive making_a.disk --image making_none.img", "A", "ended: exit 0\n", 0),
+    Ends(
+        "drive making_a.disk --image making_none.img",
+        "A",
+        "ended: exit 0\n",
+        0,
+    ),
     Fails("drive making_a.disk --pages 17", OTHER_SIZES),
     Fails("drive making_a.disk --harts 2 --pages 16", OTHER_SIZES),
     Fails("drive making_a.disk --journal 8192", OTHER_SIZES),
@@ -124,9 +129,15 @@ const NO_FOLDER: &str =
 const FAULTS: &[Step] = &[
     Fill("making_c.img", 0, 61_441),
     Fails("drive making_c.disk --pages 15", ABSENT),
-    Fails("drive making_c.disk --image making_none.img --pages 15", BAD_CONFIG),
+    Fails(
+        "drive making_c.disk --image making_none.img --pages 15",
+        BAD_CONFIG,
+    ),
     Fails("drive making_c.disk --image making_none.img", ABSENT_IMAGE),
-    Fails("drive making_c.disk --image making_c.img --pages 16", LONG_IMAGE),
+    Fails(
+        "drive making_c.disk --image making_c.img --pages 16",
+        LONG_IMAGE,
+    ),
     Fails("drive making_none/c.disk --image making_c.img", NO_FOLDER),
     Absent("making_c.disk"),
     Absent("making_c.disk.making"),

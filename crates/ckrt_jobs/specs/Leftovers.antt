@@ -1,6 +1,8 @@
 -- What a making that was cut leaves beside a disk's path.
-use Rattle.std.specs.Prelude.{◌≡◌, ◌⊎◌, ℕ, nat_eq, nat_lt, Bool, true, if◌then◌else◌, List, length, take, Ok}
+use Rattle.std.specs.Prelude.{◌≡◌, ◌≢◌, ◌⊎◌, ℕ, nat_eq, nat_lt, Bool, true, if◌then◌else◌, List, length, take, Ok}
 use Rattle.ckrt_checkpoint.specs.Layout.{number_at}
+use Rattle.ckrt_image.specs.declared.fault.RecoverFault.{RecoverFault}
+use Rattle.ckrt_image.specs.declared.fault.RecoverFault.TheVariants.{Device, OutOfMemory}
 use Rattle.ckrt_image.specs.Recovery.{Recovered, Recovers}
 
 -- the file is empty, or begins with eight zero bytes: its gate is closed
@@ -13,6 +15,10 @@ pub record HasNotBegun (image : List ℕ) : Type 0 where
   pub recovers : Recovers image (Ok recovered)
   pub no_event : recovered.count ≡ 0
   pub no_checkpoint : recovered.generation ≡ 1
+
+-- a fault of recovery that tells what the bytes are
+abbrev pub IsOfContent : RecoverFault → Type 0
+IsOfContent fault = (fault ≢ Device) × (fault ≢ OutOfMemory)
 
 -- A disk in the making isn't formatted yet, or only just.
 abbrev pub IsInMaking : List ℕ → Type 0

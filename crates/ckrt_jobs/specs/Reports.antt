@@ -151,8 +151,12 @@ range_text from to = decimal from ++ (codes " to " ++ (decimal to ++ codes ": ")
 abbrev pub lengths_text : OutputLengths → List ℕ
 lengths_text l = codes "it has " ++ (decimal l.length ++ (codes " bytes, and this disk wants " ++ range_text l.confirmed l.released))
 
+-- a size between two texts
+abbrev pub size_text : (before : List ℕ) → ℕ → (behind : List ℕ) → List ℕ
+size_text before size behind = before ++ (decimal size ++ behind)
+
 abbrev pub sizes_text : Config → List ℕ
-sizes_text c = codes "it has --pages " ++ (decimal c.pages ++ (codes " --harts " ++ (decimal c.harts ++ (codes " --journal " ++ (decimal c.journal ++ codes ": ")))))
+sizes_text c = size_text (codes "it has --pages ") c.pages [] ++ (size_text (codes " --harts ") c.harts [] ++ size_text (codes " --journal ") c.journal (codes ": "))
 
 -- the numbers of a fault, where it has some
 abbrev pub numbers_of : JobFault → List ℕ

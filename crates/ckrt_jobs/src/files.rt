@@ -250,7 +250,11 @@ pub(crate) fn open_making_file<R: Files<File = File>>(
 }
 
 /// Gives a file the path that it was made for, if nothing has that, and makes its name durable.
-pub(crate) fn give_name<R: Files<File = File>>(rt: &R, name: &str, path: &str) -> Result<(), FileFault> {
+pub(crate) fn give_name<R: Files<File = File>>(
+    rt: &R,
+    name: &str,
+    path: &str,
+) -> Result<(), FileFault> {
     if is_taken(rt, path)? {
         return Err(FileFault::IsThere);
     }

@@ -9,7 +9,7 @@ ghost use Rattle.ckrt_rv32i.specs.Names.{cause_name};
 ghost use Rattle.ckrt_jobs.specs.Ends.{end_line, end_text};
 ghost use Rattle.ckrt_jobs.specs.Outcomes.{formatted_line, status_of, status_of_words, version_line};
 ghost use Rattle.ckrt_jobs.specs.Performing.{ReportsOutcome, SaysLine};
-ghost use Rattle.ckrt_jobs.specs.Reports.{lengths_text, numbers_of, path_of, range_text, sizes_text, report_of, subject_of, words_report_of};
+ghost use Rattle.ckrt_jobs.specs.Reports.{lengths_text, numbers_of, path_of, range_text, size_text, sizes_text, report_of, subject_of, words_report_of};
 
 use crate::driven::Driven;
 use crate::fault::JobFault;
@@ -134,18 +134,29 @@ fn say_lengths<E: Reporter>(reporter: &mut E, lengths: OutputLengths) -> Result<
     say_range(reporter, lengths.confirmed, lengths.released)
 }
 
+/// Says a size between two texts.
+fn say_size<E: Reporter>(
+    reporter: &mut E,
+    before: &[u8],
+    size: u32,
+    behind: &[u8],
+) -> Result<(), Unsaid>
+    ensures said { OnOk result (Appends (E.said reporter.old) (E.said reporter.new) (size_text before.now size behind.now)) }
+    ensures failed { OnErr result (E.has_failed reporter.new ≡ true) }
+{
+    reporter.say(before)?;
+    say_number(reporter, u64::from(size))?;
+    reporter.say(behind)
+}
+
 /// Says the sizes of a disk.
 fn say_sizes<E: Reporter>(reporter: &mut E, sizes: Config) -> Result<(), Unsaid>
     ensures said { OnOk result (Appends (E.said reporter.old) (E.said reporter.new) (sizes_text sizes)) }
     ensures failed { OnErr result (E.has_failed reporter.new ≡ true) }
 {
-    reporter.say(b"it has --pages ")?;
-    say_number(reporter, u64::from(sizes.pages))?;
-    reporter.say(b" --harts ")?;
-    say_number(reporter, u64::from(sizes.harts))?;
-    reporter.say(b" --journal ")?;
-    say_number(reporter, u64::from(sizes.journal))?;
-    reporter.say(b": ")
+    say_size(reporter, b"it has --pages ", sizes.pages, b"")?;
+    say_size(reporter, b" --harts ", sizes.harts, b"")?;
+    say_size(reporter, b" --journal ", sizes.journal, b": ")
 }
 
 /// Says the numbers of a fault, where it has some.
