@@ -19,10 +19,8 @@ queue_again() {
     exit 0
 }
 
-# A disk that holds a program already is left as it is.
-ckrt format "$task.disk" "$task.bin" --journal 1048576
-
-ckrt drive "$task.disk" --output "$task.out" &
+# A disk that is missing is made; one that is there goes on.
+ckrt drive "$task.disk" --image "$task.bin" --journal 1048576 --output "$task.out" &
 driver=$!
 trap queue_again USR1
 wait "$driver"

@@ -12,6 +12,8 @@ mod filling;
 #[cfg(test)]
 mod jobs;
 #[cfg(test)]
+mod making;
+#[cfg(test)]
 mod program;
 #[cfg(test)]
 mod second_format;

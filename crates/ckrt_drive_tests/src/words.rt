@@ -1,7 +1,7 @@
 //! Words of the program, and the jobs that they name.
 
 use crate::expect::{expect_eq, expect_eq_at};
-use ckrt_words::{DriveJob, FormatJob, Job, WordsFault, read_words};
+use ckrt_words::{DriveJob, FormatJob, Job, Sizes, WordsFault, read_words};
 use std::process::Abort;
 
 /// Words, and the job that they name.
@@ -55,8 +55,16 @@ const DEFAULTS: FormatJob<'static> = FormatJob {
     journal: 65_536,
 };
 
+const NO_SIZES: Sizes = Sizes {
+    pages: None,
+    harts: None,
+    journal: None,
+};
+
 const DRIVE: DriveJob<'static> = DriveJob {
     disk: "d",
+    image: None,
+    sizes: NO_SIZES,
     output: Some("o"),
     turn: 1_000_000,
     rounds: 16,
@@ -149,7 +157,15 @@ fn a_drive_with_its_defaults(rt: HostRuntime) {
     expect_usages(&rt, NO_DISK);
 }
 
+const EVERY_SIZE: Sizes = Sizes {
+    pages: Some(0),
+    harts: Some(4_294_967_295),
+    journal: Some(4_096),
+};
+
 const EVERY_DRIVE_OPTION: DriveJob<'static> = DriveJob {
+    image: Some("i"),
+    sizes: EVERY_SIZE,
     turn: 0,
     rounds: 4_294_967_295,
     events: Some(18_446_744_073_709_551_615),
@@ -163,6 +179,12 @@ const FULL_DRIVES: &[Named] = &[(
     &[
         "drive",
         "d",
+        "--image",
+        "i",
+        "--pages=0",
+        "--harts",
+        "4294967295",
+        "--journal=4096",
         "--output=o",
         "--turn=0",
         "--rounds-per-commit",

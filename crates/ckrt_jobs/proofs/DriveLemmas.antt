@@ -1,6 +1,8 @@
 -- The drive of a disk, where less is known of the outputs.
-use Rattle.std.proofs.Common.{◌≡◌, ℕ, true, sym, subst, List, Option, Some, None, Result, Ok, Err, IfErr, inl, inr}
+use Rattle.std.proofs.Common.{◌≡◌, ℕ, true, refl, sym, subst, List, Option, Some, None, Result, Ok, Err, IfErr, inl, inr}
 use Rattle.ckrt_state.specs.declared.table.Status.{Status}
+use Rattle.ckrt_checkpoint.specs.declared.config.Config.{Config}
+use Rattle.ckrt_disk.specs.declared.disk.DeviceFault.{DeviceFault}
 use Rattle.ckrt_disk.specs.declared.disk.Disk.{Ghosts}
 use Rattle.ckrt_drive.specs.declared.fault.DriveFault.{DriveFault}
 use Rattle.ckrt_drive.specs.declared.options.Options.{Options}
@@ -8,8 +10,10 @@ use Rattle.ckrt_drive.specs.declared.progress.Ending.{Ending}
 use Rattle.ckrt_drive.specs.declared.stream.StreamOutput.{StreamOutput}
 use Rattle.ckrt_recovery.specs.declared.session.Session.{Session}
 use Rattle.ckrt_words.specs.Jobs.{Driving}
-use Rattle.ckrt_jobs.specs.Driving.{DrivesInRange, DrivesOpened, DrivesPath, DrivesRecovered, IsAsked, driven_of, is_in_range, offset_of}
-use Rattle.ckrt_jobs.specs.Openings.{Openings, opened, with_disk}
+use Rattle.ckrt_jobs.specs.Driving.{DrivesInRange, DrivesLooked, DrivesOpened, DrivesPath, DrivesRecovered, DrivesSized, IsAsked, driven_of, is_in_range, offset_of}
+use Rattle.ckrt_jobs.specs.Missing.{FindsDisk}
+use Rattle.ckrt_jobs.specs.Openings.{Openings}
+use Rattle.ckrt_jobs.specs.Sizes.{config_for}
 use Rattle.ckrt_jobs.specs.declared.driven.Driven.{Driven}
 use Rattle.ckrt_jobs.specs.declared.fault.JobFault.{JobFault}
 use Rattle.ckrt_jobs.specs.declared.output.OpenedOutput.{OpenedOutput}
@@ -30,17 +34,34 @@ module _ {D W : Type 0} (d : Ghosts D) (o : Ghosts (StreamOutput W)) (Lent : (st
   opened_weaker to start (inl lacks) = inl lacks
   opened_weaker to start (inr drives) = inr (record { session = drives.session; recovered = drives.recovered; drives = recovered_weaker to drives.session drives.drives })
 
--- a disk that was opened and driven is that of the job's path, where less is known of the outputs
-pub path_driven : {D W : Type 0} (d : Ghosts D) (o : Ghosts (StreamOutput W)) (Lent : (stream end : StreamOutput W) → Type 0) (Opens : D → Type 0) (Outputs Weaker : List ℕ → OpenedOutput D → Type 0) → ((path : List ℕ) (it : OpenedOutput D) → Outputs path it → Weaker path it)
-    → (j : Driving) (options : Options) (start : D) (old asked new : Openings D) (result : Result Driven JobFault) → is_in_range j ≡ true → IsAsked j options → Opens start → asked ≡ with_disk old (opened j.disk)
-    → DrivesOpened d o Lent Outputs j.output (offset_of j.from) options start asked new result → DrivesPath d o Lent Opens Weaker j old new result
-path_driven d o Lent Opens Outputs Weaker are j options start old asked new result inside as_asked is_opened is drives =
-    let weaker = opened_weaker d o Lent Outputs Weaker are (offset_of j.from) options asked new result j.output start drives in
-    subst (λ b. DrivesInRange d o Lent Opens Weaker j old new result b) (sym inside)
-    (inr (record {
-      options = options;
-      asked = as_asked;
-      start = start;
-      is_opened = is_opened;
-      drives = subst (λ x. DrivesOpened d o Lent Weaker j.output (offset_of j.from) options start x new result) is weaker;
-    }))
+  pub looked_weaker : (to : Option (List ℕ)) (disk : D) (found : Result (Option Config) DeviceFault) → DrivesLooked d o Lent Outputs to from options disk old new result found → DrivesLooked d o Lent Weaker to from options disk old new result found
+  looked_weaker to disk (Err failed) closed = closed
+  looked_weaker to disk (Ok (Some other)) closed = closed
+  looked_weaker to disk (Ok None) drives = opened_weaker to disk drives
+
+module _ {D W : Type 0} (d : Ghosts D) (o : Ghosts (StreamOutput W)) (Lent : (stream end : StreamOutput W) → Type 0) (images : List ℕ → Option (List ℕ)) (Opens Fills : D → Type 0) (Outputs Weaker : List ℕ → OpenedOutput D → Type 0) (j : Driving) (inside : is_in_range j ≡ true) where
+  -- a disk that was found and driven is that of the job's path, where less is known of the outputs
+  pub found_driven : (are : (path : List ℕ) (it : OpenedOutput D) → Outputs path it → Weaker path it) (options : Options) (start : D) (old asked new : Openings D) (result : Result Driven JobFault) → IsAsked j options
+      → FindsDisk d (config_for j.sizes) images Opens Fills j.disk j.image old asked (Ok start) → DrivesSized d o Lent Outputs j options start asked new result → DrivesPath d o Lent images Opens Fills Weaker j old new result
+  found_driven are options start old asked new result as_asked finds sized =
+      subst (λ b. DrivesInRange d o Lent images Opens Fills Weaker j old new result b) (sym inside) (record {
+        found = Ok start;
+        asked = asked;
+        finds = finds;
+        drives = record {
+          options = options;
+          asked = as_asked;
+          drives = record {
+            disk = sized.disk;
+            found = sized.found;
+            read = sized.read;
+            exact = sized.exact;
+            drives = looked_weaker d o Lent Outputs Weaker are (offset_of j.from) options asked new result j.output sized.disk sized.found sized.drives;
+          };
+        };
+      })
+
+  -- a disk that wasn't found isn't driven
+  pub lacks_driven : (fault : JobFault) (old new : Openings D) → FindsDisk d (config_for j.sizes) images Opens Fills j.disk j.image old new (Err fault) → DrivesPath d o Lent images Opens Fills Weaker j old new (Err fault)
+  lacks_driven fault old new finds =
+      subst (λ b. DrivesInRange d o Lent images Opens Fills Weaker j old new (Err fault) b) (sym inside) (record { found = Err fault; asked = new; finds = finds; drives = (refl, refl) })

@@ -1,5 +1,7 @@
 mod DriveLemmas
 mod FrontLemmas
+mod LeftoverLemmas
+mod MissingLemmas
 mod PrintLemmas
 mod RunLemmas
 mod SayLemmas

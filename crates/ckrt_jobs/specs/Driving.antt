@@ -1,6 +1,9 @@
 -- The drive of a disk, with its output in a disk of its own or on the standard output: from the words' options to the ending.
-use Rattle.std.specs.Prelude.{◌≡◌, ◌⊎◌, ◌-◌, ◌^◌, ◌&&◌, ℕ, nat_lt, nat_le, Bool, true, false, List, Option, Some, None, Result, Ok, Err, IfErr}
+use Rattle.std.specs.Prelude.{◌≡◌, ◌⊎◌, ◌-◌, ◌^◌, ◌&&◌, ℕ, nat_lt, nat_le, Bool, true, false, List, Option, Some, None, Result, Ok, Err, IfErr, IfOk, is_err}
+use Rattle.ckrt_checkpoint.specs.declared.config.Config.{Config}
 use Rattle.ckrt_disk.specs.Disk.{HasFailed}
+use Rattle.ckrt_disk.specs.Frame.{IsOnlyRead}
+use Rattle.ckrt_disk.specs.declared.disk.DeviceFault.{DeviceFault}
 use Rattle.ckrt_disk.specs.declared.disk.Disk.{Ghosts}
 use Rattle.ckrt_events.specs.declared.event.Event.{Event}
 use Rattle.ckrt_image.specs.Programs.{Program, RecoversTo}
@@ -8,6 +11,7 @@ use Rattle.ckrt_image.specs.Progress.{recovered_of}
 use Rattle.ckrt_image.specs.Reads.{is_device}
 use Rattle.ckrt_image.specs.Recovery.{AgreesOnFault, Recovers}
 use Rattle.ckrt_image.specs.declared.fault.RecoverFault.{RecoverFault}
+use Rattle.ckrt_image.specs.declared.fault.RecoverFault.TheVariants as recover
 use Rattle.ckrt_recovery.specs.Opening.{IsSyncedAndRead}
 use Rattle.ckrt_recovery.specs.Represents.{Represents}
 use Rattle.ckrt_recovery.specs.View.{opened as opened_view, view_of}
@@ -25,7 +29,9 @@ use Rattle.ckrt_drive.specs.declared.progress.Ending.{Ending}
 use Rattle.ckrt_drive.specs.declared.stream.StreamOutput.{StreamOutput}
 use Rattle.ckrt_words.specs.Jobs.{Driving}
 use Rattle.ckrt_jobs.specs.Lengths.{fits, lengths_of}
-use Rattle.ckrt_jobs.specs.Openings.{Openings, opened, refused, with_closed, with_closed_output, with_disk, with_output}
+use Rattle.ckrt_jobs.specs.Missing.{FindsDisk}
+use Rattle.ckrt_jobs.specs.Openings.{Openings, opened, refused, with_closed, with_closed_output, with_output}
+use Rattle.ckrt_jobs.specs.Sizes.{config_for, other_sizes}
 use Rattle.ckrt_jobs.specs.declared.driven.Driven.{Driven}
 use Rattle.ckrt_jobs.specs.declared.fault.JobFault.{JobFault}
 use Rattle.ckrt_jobs.specs.declared.fault.JobFault.TheVariants as job
@@ -190,26 +196,49 @@ pub record DrivesDisk {D W : Type 0} (d : Ghosts D) (o : Ghosts (StreamOutput W)
 abbrev pub DrivesOpened : {D W : Type 0} (d : Ghosts D) (o : Ghosts (StreamOutput W)) → (StreamOutput W → StreamOutput W → Type 0) → (List ℕ → OpenedOutput D → Type 0) → (output : Option (List ℕ)) (from : ℕ) → Options → D → (old new : Openings D) → Result Driven JobFault → Type 0
 DrivesOpened d o Lent Outputs output from options start old new result = LacksRecovery d start old new result ⊎ DrivesDisk d o Lent Outputs output from options start old new result
 
+-- THE SIZES
+
+-- What became of a disk that was looked at: a read failed; or it has other sizes than those that are asked for; or it was driven. Where it
+-- wasn't, it was closed as it was, and nothing else was asked for.
+abbrev pub DrivesLooked : {D W : Type 0} (d : Ghosts D) (o : Ghosts (StreamOutput W)) → (StreamOutput W → StreamOutput W → Type 0) → (List ℕ → OpenedOutput D → Type 0) → (output : Option (List ℕ)) (from : ℕ) → Options → D → (old new : Openings D) → Result Driven JobFault
+    → (found : Result (Option Config) DeviceFault) → Type 0
+DrivesLooked d o Lent Outputs output from options disk old new result (Err failed) = (result ≡ Err (job.Recover recover.Device)) × (new ≡ with_closed old disk)
+DrivesLooked d o Lent Outputs output from options disk old new result (Ok (Some other)) = (result ≡ Err (job.SizesDiffer other)) × (new ≡ with_closed old disk)
+DrivesLooked d o Lent Outputs output from options disk old new result (Ok None) = DrivesOpened d o Lent Outputs output from options disk old new result
+
+-- the disk's sizes were read, and it was driven where they are those that are asked for
+pub record DrivesSized {D W : Type 0} (d : Ghosts D) (o : Ghosts (StreamOutput W)) (Lent : (stream end : StreamOutput W) → Type 0) (Outputs : List ℕ → OpenedOutput D → Type 0) (j : Driving) (options : Options) (start : D)
+    (old new : Openings D) (result : Result Driven JobFault) : Type 0 where
+  pub disk : D
+  pub found : Result (Option Config) DeviceFault
+  pub read : IsOnlyRead d start disk (is_err found)
+  pub exact : IfOk found (λ other. d.is_honest disk → other ≡ other_sizes j.sizes (d.content start))
+  pub drives : DrivesLooked d o Lent Outputs j.output (offset_of j.from) options disk old new result found
+
 -- THE JOB
 
--- the disk of this path can't be opened; nothing else was asked for
-pub record LacksDisk {D : Type 0} (path : List ℕ) (old new : Openings D) (result : Result Driven JobFault) : Type 0 where
-  pub why : FileFault
-  pub is : result ≡ Err (job.File file.Disk why)
-  pub refuses : new ≡ with_disk old (refused path why)
-
--- the disk of the words' path was opened, and driven as they ask
-pub record OpensDisk {D W : Type 0} (d : Ghosts D) (o : Ghosts (StreamOutput W)) (Lent : (stream end : StreamOutput W) → Type 0) (Opens : D → Type 0) (Outputs : List ℕ → OpenedOutput D → Type 0) (j : Driving) (old new : Openings D) (result : Result Driven JobFault) : Type 0 where
+-- A drive that came by its disk drives it as the words ask; one that didn't asked for nothing more.
+pub record DrivesIt {D W : Type 0} (d : Ghosts D) (o : Ghosts (StreamOutput W)) (Lent : (stream end : StreamOutput W) → Type 0) (Outputs : List ℕ → OpenedOutput D → Type 0) (j : Driving) (start : D) (old new : Openings D) (result : Result Driven JobFault) : Type 0 where
   pub options : Options
   pub asked : IsAsked j options
-  pub start : D
-  pub is_opened : Opens start
-  pub drives : DrivesOpened d o Lent Outputs j.output (offset_of j.from) options start (with_disk old (opened j.disk)) new result
+  pub drives : DrivesSized d o Lent Outputs j options start old new result
+
+abbrev pub DrivesFound : {D W : Type 0} → Ghosts D → Ghosts (StreamOutput W) → (StreamOutput W → StreamOutput W → Type 0) → (Outputs : List ℕ → OpenedOutput D → Type 0) → Driving → (old new : Openings D) → Result Driven JobFault → (found : Result D JobFault) → Type 0
+DrivesFound d o Lent Outputs j old new result (Ok start) = DrivesIt d o Lent Outputs j start old new result
+DrivesFound d o Lent Outputs j old new result (Err fault) = (result ≡ Err fault) × (new ≡ old)
+
+-- the drive of the words' path: how it came by its disk, and what became of it
+pub record FindsAndDrives {D W : Type 0} (d : Ghosts D) (o : Ghosts (StreamOutput W)) (Lent : (stream end : StreamOutput W) → Type 0) (images : List ℕ → Option (List ℕ)) (Opens Fills : D → Type 0) (Outputs : List ℕ → OpenedOutput D → Type 0) (j : Driving)
+    (old new : Openings D) (result : Result Driven JobFault) : Type 0 where
+  pub found : Result D JobFault
+  pub asked : Openings D
+  pub finds : FindsDisk d (config_for j.sizes) images Opens Fills j.disk j.image old asked found
+  pub drives : DrivesFound d o Lent Outputs j asked new result found
 
 -- Out of its ranges nothing is asked for.
-abbrev pub DrivesInRange : {D W : Type 0} → Ghosts D → Ghosts (StreamOutput W) → (StreamOutput W → StreamOutput W → Type 0) → (Opens : D → Type 0) (Outputs : List ℕ → OpenedOutput D → Type 0) → Driving → (old new : Openings D) → Result Driven JobFault → Bool → Type 0
-DrivesInRange d o Lent Opens Outputs j old new result true = LacksDisk j.disk old new result ⊎ OpensDisk d o Lent Opens Outputs j old new result
-DrivesInRange d o Lent Opens Outputs j old new result false = (result ≡ Err job.Range) × (new ≡ old)
+abbrev pub DrivesInRange : {D W : Type 0} → Ghosts D → Ghosts (StreamOutput W) → (StreamOutput W → StreamOutput W → Type 0) → (images : List ℕ → Option (List ℕ)) → (Opens Fills : D → Type 0) (Outputs : List ℕ → OpenedOutput D → Type 0) → Driving → (old new : Openings D) → Result Driven JobFault → Bool → Type 0
+DrivesInRange d o Lent images Opens Fills Outputs j old new result true = FindsAndDrives d o Lent images Opens Fills Outputs j old new result
+DrivesInRange d o Lent images Opens Fills Outputs j old new result false = (result ≡ Err job.Range) × (new ≡ old)
 
-abbrev pub DrivesPath : {D W : Type 0} → Ghosts D → Ghosts (StreamOutput W) → (StreamOutput W → StreamOutput W → Type 0) → (Opens : D → Type 0) (Outputs : List ℕ → OpenedOutput D → Type 0) → Driving → (old new : Openings D) → Result Driven JobFault → Type 0
-DrivesPath d o Lent Opens Outputs j old new result = DrivesInRange d o Lent Opens Outputs j old new result (is_in_range j)
+abbrev pub DrivesPath : {D W : Type 0} → Ghosts D → Ghosts (StreamOutput W) → (StreamOutput W → StreamOutput W → Type 0) → (images : List ℕ → Option (List ℕ)) → (Opens Fills : D → Type 0) (Outputs : List ℕ → OpenedOutput D → Type 0) → Driving → (old new : Openings D) → Result Driven JobFault → Type 0
+DrivesPath d o Lent images Opens Fills Outputs j old new result = DrivesInRange d o Lent images Opens Fills Outputs j old new result (is_in_range j)

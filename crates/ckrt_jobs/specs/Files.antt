@@ -9,8 +9,12 @@ openings_of s = record {
   image = map kept_opening s.image.states;
   disk = map kept_opening s.disk.states;
   output = map kept_opening s.output.states;
+  making = map kept_opening s.making.states;
+  naming = map kept_opening s.naming.states;
+  named = s.named.states;
   closed = s.closed.states;
   closed_output = s.closed_output.states;
+  abandoned = s.abandoned.states;
 }
 
 -- the folder that stands before a name, or the one that the program is in where none does

@@ -1,7 +1,9 @@
 pub mod Lengths
 pub mod Driving
 pub mod Ends
+pub mod Leftovers
 pub mod Making
+pub mod Missing
 pub mod Names
 pub mod Openings
 pub mod Files
@@ -11,4 +13,6 @@ pub mod Printing
 pub mod Reports
 pub mod Running
 pub mod Showing
+pub mod Sizes
+pub mod Sources
 pub mod Streams

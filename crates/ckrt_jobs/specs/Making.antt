@@ -8,7 +8,7 @@ use Rattle.ckrt_checkpoint.specs.Layout.{is_open, is_valid, memory_size, size_ne
 use Rattle.ckrt_image.specs.declared.fault.FormatFault.{FormatFault}
 use Rattle.ckrt_image.specs.declared.fault.FormatFault.TheVariants as format
 use Rattle.ckrt_image.specs.Format.{FormatsAt, IsFormatting, IsMade, IsRefusedBy, StaysFormatted, WasFormatted, calls_of, format_refusal, is_device}
-use Rattle.ckrt_jobs.specs.Openings.{Openings, opened, refused, with_closed, with_disk, with_image}
+use Rattle.ckrt_jobs.specs.Openings.{Openings, opened, refused, with_abandoned, with_closed, with_disk, with_image}
 use Rattle.ckrt_jobs.specs.declared.fault.JobFault.{JobFault}
 use Rattle.ckrt_jobs.specs.declared.fault.JobFault.TheVariants as job
 use Rattle.ckrt_jobs.specs.declared.file.FileFault.{FileFault}
@@ -35,13 +35,19 @@ pub record Formats {D : Type 0} (d : Ghosts D) (config : Config) (guest : List �
   pub made : OnOk answer (d.is_honest end → IsMade d config guest start end)
   pub size : OnOk answer (size_needed config ≤ d.size end)
 
--- A disk that was opened was formatted, and closed as formatting left it. The openings go from asked to new.
+-- The disk was closed, or given up where it wasn't formatted: a file that was made for it goes then. One that holds a program already is no
+-- such file.
+abbrev pub given_back : {D : Type 0} → Openings D → D → Result (Unit {0}) FormatFault → Openings D
+given_back asked end (Ok done) = with_closed asked end
+given_back asked end (Err f) = with_abandoned asked end
+
+-- A disk that was opened was formatted, and given back as formatting left it. The openings go from asked to new.
 pub record FormatsOpened {D : Type 0} (d : Ghosts D) (config : Config) (guest : List ℕ) (start : D) (asked new : Openings D) (result : Result (Unit {0}) JobFault) : Type 0 where
   pub end : D
   pub answer : Result (Unit {0}) FormatFault
   pub gives : result ≡ answer_of answer
   pub formats : Formats d config guest start end answer
-  pub closes : new ≡ with_closed asked end
+  pub closes : new ≡ given_back asked end answer
 
 -- A disk was opened and then formatted with the image, whose bytes may be known.
 pub record MakesDisk {D : Type 0} (d : Ghosts D) (config : Config) (known : Option (List ℕ)) (Fills : D → Type 0) (asked new : Openings D) (result : Result (Unit {0}) JobFault) : Type 0 where

@@ -2,6 +2,7 @@
 use Rattle.std.specs.Prelude.{ℕ, List, codes}
 use Rattle.ckrt_jobs.specs.declared.fault.JobFault.{JobFault}
 use Rattle.ckrt_jobs.specs.declared.fault.JobFault.TheVariants as job
+use Rattle.ckrt_jobs.specs.declared.file.FileFault.TheVariants as fault
 use Rattle.ckrt_image.specs.declared.fault.FormatFault.{FormatFault}
 use Rattle.ckrt_image.specs.declared.fault.FormatFault.TheVariants as format
 use Rattle.ckrt_image.specs.declared.fault.RecoverFault.{RecoverFault}
@@ -51,6 +52,7 @@ name_of_drive drive.GenerationsUsed = codes "GenerationsUsed"
 name_of_drive (drive.Refused why) = codes "Refused"
 
 abbrev pub name_of : JobFault → List ℕ
+name_of (job.File at fault.OutOfMemory) = codes "OutOfMemory"
 name_of (job.File at why) = codes "File"
 name_of job.OutOfMemory = codes "OutOfMemory"
 name_of (job.Format f) = name_of_format f
@@ -58,5 +60,6 @@ name_of (job.Recover f) = name_of_recover f
 name_of (job.Serve f) = name_of_serve f
 name_of (job.Inspect f) = name_of_look f
 name_of job.Range = codes "Range"
+name_of (job.SizesDiffer c) = codes "BadConfig"
 name_of (job.OutputDiffers l) = codes "OutputDiffers"
 name_of (job.Drive f) = name_of_drive f

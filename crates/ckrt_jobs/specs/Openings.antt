@@ -19,7 +19,7 @@ abbrev pub kept_opening : FileOpening → Opening
 kept_opening (kept.Opened path) = opened path.now
 kept_opening (kept.Refused path why) = refused path.now why
 
--- all openings, and all disks and outputs that were given back, the newest first
+-- all openings, all disks that were given a name, and all disks and outputs that were given back, the newest first
 pub record Openings (D : Type 0) : Type 0 where
   -- of images
   pub image : List Opening
@@ -27,16 +27,24 @@ pub record Openings (D : Type 0) : Type 0 where
   pub disk : List Opening
   -- of outputs
   pub output : List Opening
+  -- of disks in the making, by the paths that they are made for
+  pub making : List Opening
+  -- the paths that were given to disks in the making, and how that went
+  pub naming : List Opening
+  -- and these disks, each as it was then
+  pub named : List D
   -- the disks that were closed, each as it was then
   pub closed : List D
   -- the outputs that were closed, each as it was then
   pub closed_output : List D
+  -- the disks that were given up, each as it was then
+  pub abandoned : List D
 
 -- nothing was asked for
 abbrev pub unopened : {D : Type 0} → Openings D
-unopened = record { image = []; disk = []; output = []; closed = []; closed_output = [] }
+unopened = record { image = []; disk = []; output = []; making = []; naming = []; named = []; closed = []; closed_output = []; abandoned = [] }
 
--- one opening more, of an image, of a disk, and of an output
+-- one opening more, of an image, of a disk, of an output, and of a disk in the making
 abbrev pub with_image : {D : Type 0} → Openings D → Opening → Openings D
 with_image o x = record o { image = x ∷ o.image }
 
@@ -45,6 +53,17 @@ with_disk o x = record o { disk = x ∷ o.disk }
 
 abbrev pub with_output : {D : Type 0} → Openings D → Opening → Openings D
 with_output o x = record o { output = x ∷ o.output }
+
+abbrev pub with_making : {D : Type 0} → Openings D → Opening → Openings D
+with_making o x = record o { making = x ∷ o.making }
+
+-- one disk more that was given a name, with how that went
+abbrev pub with_named : {D : Type 0} → Openings D → Opening → D → Openings D
+with_named o x disk = record o { naming = x ∷ o.naming; named = disk ∷ o.named }
+
+-- one disk more that was given up
+abbrev pub with_abandoned : {D : Type 0} → Openings D → D → Openings D
+with_abandoned o disk = record o { abandoned = disk ∷ o.abandoned }
 
 -- one disk more that was closed, and one output
 abbrev pub with_closed : {D : Type 0} → Openings D → D → Openings D

@@ -24,6 +24,7 @@ use Rattle.ckrt_jobs.specs.Outcomes.{config_of, disk_of, made_line, status_of, s
 use Rattle.ckrt_jobs.specs.Reports.{report_of, words_report_of}
 use Rattle.ckrt_jobs.specs.Running.{RunsDisk}
 use Rattle.ckrt_jobs.specs.Showing.{Shows, shown_of}
+use Rattle.ckrt_jobs.specs.Sizes.{config_for}
 use Rattle.ckrt_jobs.specs.declared.driven.Driven.{Driven}
 use Rattle.ckrt_jobs.specs.declared.fault.JobFault.{JobFault}
 use Rattle.ckrt_jobs.specs.declared.fault.JobFault.TheVariants as job
@@ -135,7 +136,7 @@ Performs d o contents version known Opens Fills Outputs old new a b r s outcome 
 Performs d o contents (format f) known Opens Fills Outputs old new a b r s outcome = Does (MakesPath d f (known f.image) (Fills f.disk (size_needed (config_of f))) old new a b) outcome × (s ≡ r)
 Performs d o contents (run disk) known Opens Fills Outputs old new a b r s outcome = Does (RunsPath d disk (Opens disk) old new a b r s) outcome
 Performs d o contents (inspect i) known Opens Fills Outputs old new a b r s outcome = Does (ShowsPath d (Opens i.disk) i old new a b r s) outcome
-Performs d o contents (drive j) known Opens Fills Outputs old new a b r s outcome = Comes (DrivesPath d o (IsLent contents a b) (Opens j.disk) Outputs j old new) outcome × IsUnwritten j.output a b × (s ≡ r)
+Performs d o contents (drive j) known Opens Fills Outputs old new a b r s outcome = Comes (DrivesPath d o (IsLent contents a b) known (Opens j.disk) (Fills j.disk (size_needed (config_for j.sizes))) Outputs j old new) outcome × IsUnwritten j.output a b × (s ≡ r)
 
 -- a reporter said this text behind what it had said, unless it has failed
 abbrev pub Reports : (before after : Option (List ℕ)) → Bool → List ℕ → Type 0

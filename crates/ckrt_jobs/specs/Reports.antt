@@ -2,6 +2,7 @@
 use Rattle.std.specs.Prelude.{if◌then◌else◌, ℕ, nat_lt, List, [], ◌∷◌, ◌++◌, codes, decimal, string_bytes, Option, Some, None}
 use Rattle.std.specs.declared.io.ErrorKind.{ErrorKind}
 use Rattle.std.specs.declared.io.ErrorKind.TheVariants as kind
+use Rattle.ckrt_checkpoint.specs.declared.config.Config.{Config}
 use Rattle.ckrt_jobs.specs.Names.{name_of}
 use Rattle.ckrt_jobs.specs.declared.fault.JobFault.{JobFault}
 use Rattle.ckrt_jobs.specs.declared.fault.JobFault.TheVariants as job
@@ -24,8 +25,8 @@ use Rattle.ckrt_words.specs.declared.job.WordsFault.{WordsFault}
 use Rattle.ckrt_words.specs.declared.job.WordsFault.TheVariants as words
 use Rattle.ckrt_words.specs.Jobs.{Request, format as asks_format, run as asks_run, inspect as asks_inspect, drive as asks_drive, stored}
 
--- what the system's error says of a file (POSIX.1-2017, open, read, write: ENOENT, EISDIR, EACCES and EPERM, ENOSPC, EROFS; EWOULDBLOCK of a
--- lock that is held)
+-- what the system's error says of a file (POSIX.1-2017, open, read, write: ENOENT, EISDIR, EACCES and EPERM, ENOSPC, EROFS, ENOMEM; EWOULDBLOCK of
+-- a lock that is held)
 abbrev pub file_fault_of : ErrorKind → FileFault
 file_fault_of kind.NotFound = fault.NotFound
 file_fault_of kind.IsADirectory = fault.IsADirectory
@@ -33,24 +34,41 @@ file_fault_of kind.PermissionDenied = fault.PermissionDenied
 file_fault_of kind.WouldBlock = fault.InUse
 file_fault_of kind.StorageFull = fault.StorageFull
 file_fault_of kind.ReadOnlyFilesystem = fault.ReadOnly
+file_fault_of kind.OutOfMemory = fault.OutOfMemory
 file_fault_of _ = fault.Other
+
+abbrev pub device_advice : List ℕ
+device_advice = codes "a read, write or sync failed; look after the device, then run this again (docs/OPERATING.md)"
+
+abbrev pub memory_advice : List ℕ
+memory_advice = codes "the system refused memory"
 
 abbrev pub file_text : JobFile → List ℕ
 file_text file.Image = codes "the image "
 file_text file.Disk = codes "the disk "
 file_text file.Output = codes "the output "
+file_text file.Making = codes "the disk in the making "
+
+-- what stands behind the path that the words give: a disk in the making lies beside its path
+abbrev pub file_ending : JobFile → List ℕ
+file_ending file.Making = codes ".making"
+file_ending _ = []
 
 abbrev pub file_fault_text : FileFault → List ℕ
 file_fault_text fault.NotFound = codes "there is no such file"
 file_fault_text fault.NoFolder = codes "its folder is missing"
 file_fault_text fault.IsImage = codes "the image has this path too"
 file_fault_text fault.IsElf = codes "it is an ELF file: guest/image, or objcopy -O binary, makes an image of it"
+file_fault_text fault.IsDisk = codes "the disk has this path too; give the output another"
 file_fault_text fault.IsADirectory = codes "it is a directory"
 file_fault_text fault.NotAFile = codes "it isn't a plain file, and can't be written by offset; without --output the bytes are printed"
 file_fault_text fault.PermissionDenied = codes "permission denied"
 file_fault_text fault.InUse = codes "another program has it locked"
 file_fault_text fault.StorageFull = codes "no space is left for it"
 file_fault_text fault.ReadOnly = codes "its file system is read-only"
+file_fault_text fault.NotInMaking = codes "it is no disk in the making, and is unchanged; move it away, then give the command again"
+file_fault_text fault.IsThere = codes "something has the disk's path meanwhile; look at it, then give the command again"
+file_fault_text fault.OutOfMemory = memory_advice
 file_fault_text fault.StreamClosed = codes "a standard stream is closed"
 file_fault_text fault.Other = codes "it can't be opened, read or filled"
 
@@ -78,15 +96,10 @@ file_of (job.Inspect look.Version) = Some file.Disk
 file_of (job.Inspect look.Damaged) = Some file.Disk
 file_of (job.Inspect look.Device) = Some file.Disk
 file_of (job.Inspect look.Range) = Some file.Disk
+file_of (job.SizesDiffer c) = Some file.Disk
 file_of (job.OutputDiffers l) = Some file.Output
 file_of (job.Drive f) = Some (file_of_drive f)
 file_of _ = None
-
-abbrev pub device_advice : List ℕ
-device_advice = codes "a read, write or sync failed; look after the device, then run this again (docs/OPERATING.md)"
-
-abbrev pub memory_advice : List ℕ
-memory_advice = codes "the system refused memory"
 
 -- what is wrong, in plain words, and what to do about it
 abbrev pub advice_of_format : FormatFault → List ℕ
@@ -138,8 +151,16 @@ range_text from to = decimal from ++ (codes " to " ++ (decimal to ++ codes ": ")
 abbrev pub lengths_text : OutputLengths → List ℕ
 lengths_text l = codes "it has " ++ (decimal l.length ++ (codes " bytes, and this disk wants " ++ range_text l.confirmed l.released))
 
+-- a size between two texts
+abbrev pub size_text : (before : List ℕ) → ℕ → (behind : List ℕ) → List ℕ
+size_text before size behind = before ++ (decimal size ++ behind)
+
+abbrev pub sizes_text : Config → List ℕ
+sizes_text c = size_text (codes "it has --pages ") c.pages [] ++ (size_text (codes " --harts ") c.harts [] ++ size_text (codes " --journal ") c.journal (codes ": "))
+
 -- the numbers of a fault, where it has some
 abbrev pub numbers_of : JobFault → List ℕ
+numbers_of (job.SizesDiffer c) = sizes_text c
 numbers_of (job.OutputDiffers l) = lengths_text l
 numbers_of _ = []
 
@@ -151,6 +172,7 @@ advice_of (job.Recover f) = advice_of_recover f
 advice_of (job.Serve f) = advice_of_serve f
 advice_of (job.Inspect f) = advice_of_look f
 advice_of job.Range = codes "--turn is 1 to 1000000, --rounds-per-commit and --progress 1 or more, and --from goes without --output"
+advice_of (job.SizesDiffer c) = codes "these stay; give them, or leave them out"
 advice_of (job.OutputDiffers l) = advice_of_lengths l
 advice_of (job.Drive f) = advice_of_drive f
 
@@ -158,6 +180,11 @@ advice_of (job.Drive f) = advice_of_drive f
 abbrev pub output_text : Option (List ℕ) → List ℕ
 output_text None = codes "(standard output)"
 output_text (Some path) = path
+
+-- the path of an image, where there is one
+abbrev pub image_text : Option (List ℕ) → List ℕ
+image_text None = []
+image_text (Some path) = path
 
 -- the path that the words give for a file
 abbrev pub path_of : JobFile → Request → List ℕ
@@ -167,12 +194,14 @@ path_of file.Disk (asks_run disk) = disk
 path_of file.Disk (asks_inspect i) = i.disk
 path_of file.Disk (asks_drive j) = j.disk
 path_of file.Output (asks_drive j) = output_text j.output
+path_of file.Making (asks_drive j) = j.disk
+path_of file.Image (asks_drive j) = image_text j.image
 path_of _ _ = []
 
 -- the file that is spoken of, with its path
 abbrev pub subject_of : Option JobFile → Request → List ℕ
 subject_of None asked = []
-subject_of (Some at) asked = file_text at ++ (path_of at asked ++ codes ": ")
+subject_of (Some at) asked = file_text at ++ (path_of at asked ++ (file_ending at ++ codes ": "))
 
 -- the line with the fault's name
 abbrev pub fault_line : JobFault → List ℕ

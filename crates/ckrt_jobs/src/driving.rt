@@ -1,7 +1,9 @@
 //! Driving a disk.
 ghost use Rattle.std.specs.Prelude.{◌≡◌, ◌⊎◌, IfSome, IfErr, IfOk, None, OnOk, false, option_map, true};
+ghost use Rattle.ckrt_checkpoint.specs.Layout.{size_needed};
 ghost use Rattle.ckrt_words.specs.Jobs.{driving_of};
-ghost use Rattle.ckrt_jobs.specs.Driving.{DrivesInto, DrivesOnto, DrivesOpened, DrivesOpenedOutput, DrivesPath, DrivesRecovered, DrivesSession, DrivesStream, IsAsked, IsLent, IsUnwritten, answer_of, driven_of, is_in_range, is_target, offset_of};
+ghost use Rattle.ckrt_jobs.specs.Sizes.{config_for};
+ghost use Rattle.ckrt_jobs.specs.Driving.{DrivesInto, DrivesOnto, DrivesOpened, DrivesOpenedOutput, DrivesPath, DrivesRecovered, DrivesSession, DrivesSized, DrivesStream, IsAsked, IsLent, IsUnwritten, answer_of, driven_of, is_in_range, is_target, offset_of};
 ghost use Rattle.ckrt_jobs.specs.Openings.{opened, refused};
 ghost use Rattle.ckrt_drive.specs.Streams.{HasSameWriter};
 
@@ -9,12 +11,14 @@ use crate::driven::Driven;
 use crate::fault::JobFault;
 use crate::file::JobFile;
 use crate::meter::Meter;
+use crate::missing::find_disk;
 use crate::output::{OpenedOutput, OutputLengths};
+use crate::sizes::other_sizes;
 use crate::sources::Sources;
 use ckrt_disk::Disk;
 use ckrt_drive::{Drive, DriveFault, Ending, Options, StreamOutput};
 use ckrt_events::LONG_RUN_LIMIT;
-use ckrt_recovery::{Session, recover};
+use ckrt_recovery::{RecoverFault, Session, recover};
 use ckrt_state::Status;
 use ckrt_words::DriveJob;
 use std::alloc::Global;
@@ -256,32 +260,66 @@ fn drive_opened<'a, I: Read, D: Disk, S: Sources<'a, I, D>, W: Write + 'a, M: Me
     }
 }
 
+/// Drives a disk that was found, if it has the sizes that are asked for; else closes it as it is.
+fn drive_sized<'a, I: Read, D: Disk, S: Sources<'a, I, D>, W: Write + 'a, M: Meter>(
+    alloc: Global,
+    disk: D,
+    job: &DriveJob<'a>,
+    options: Options,
+    sources: &mut S,
+    writer: &mut W,
+    meter: &mut M,
+) -> Result<Driven, JobFault>
+    ensures drives { DrivesSized D.Disk ⟦<StreamOutput<'a, W> as Disk>⟧ (IsLent W.contents (W.contents writer.old) (W.contents writer.new)) (S.outputs sources.old) (driving_of job.now) options disk (S.openings sources.old) (S.openings sources.new) result }
+    ensures unwritten { IsUnwritten (driving_of job.now).output (W.contents writer.old) (W.contents writer.new) }
+{
+    let mut disk = disk;
+    let found = other_sizes(&mut disk, &job.sizes);
+    match found {
+        Ok(None) => {
+            drive_opened::<I, D, S, W, M>(alloc, disk, job, options, sources, writer, meter)
+        }
+        Ok(Some(other)) => {
+            sources.close(disk);
+            Err(JobFault::SizesDiffer(other))
+        }
+        Err(_) => {
+            sources.close(disk);
+            Err(JobFault::Recover(RecoverFault::Device))
+        }
+    }
+}
+
 /// Drives the disk of a path to an end, with its output in the file of another, which is asked for once the disk is
-/// recovered, or on the writer where the words name none.
+/// recovered, or on the writer where the words name none. A disk that is missing is made, where the words have an image for it.
 ///
 /// # Errors
 ///
-/// The first that applies: `Range`, before anything is opened; `File` of the disk; `Recover`, before the output is asked
-/// for; `File` of the output; then what the drive answers.
-pub(crate) fn drive_path<'a, I: Read, D: Disk, S: Sources<'a, I, D>, W: Write + 'a, M: Meter>(
+/// The first that applies: `Range`, before anything is opened; `File` of the disk, or what making it answers; `BadConfig` where
+/// it has other sizes than those of the words; `Recover`, before the output is asked for; `File` of the output; then what the
+/// drive answers.
+pub(crate) fn drive_path<
+    'a,
+    I: Read + Drop,
+    D: Disk,
+    S: Sources<'a, I, D>,
+    W: Write + 'a,
+    M: Meter,
+>(
     alloc: Global,
     job: &DriveJob<'a>,
     sources: &mut S,
     writer: &mut W,
     meter: &mut M,
 ) -> Result<Driven, JobFault>
-    ensures drives { DrivesPath D.Disk ⟦<StreamOutput<'a, W> as Disk>⟧ (IsLent W.contents (W.contents writer.old) (W.contents writer.new)) (S.opens sources.old job.now.disk.now) (S.outputs sources.old) (driving_of job.now) (S.openings sources.old) (S.openings sources.new) result }
+    ensures drives { DrivesPath D.Disk ⟦<StreamOutput<'a, W> as Disk>⟧ (IsLent W.contents (W.contents writer.old) (W.contents writer.new)) (S.image_bytes sources.old) (S.opens sources.old job.now.disk.now) (S.fills sources.old job.now.disk.now (size_needed (config_for job.now.sizes))) (S.outputs sources.old) (driving_of job.now) (S.openings sources.old) (S.openings sources.new) result }
     ensures unwritten { IsUnwritten (driving_of job.now).output (W.contents writer.old) (W.contents writer.new) }
 {
     if !is_in_range(job) {
         return Err(JobFault::Range);
     }
     let options = options_of(job);
-    match sources.open_disk(job.disk) {
-        Ok(disk) => {
-            meter.begin(job.progress);
-            drive_opened::<I, D, S, W, M>(alloc, disk, job, options, sources, writer, meter)
-        }
-        Err(fault) => Err(JobFault::File(JobFile::Disk, fault)),
-    }
+    let disk = find_disk::<I, D, S>(alloc, job, sources)?;
+    meter.begin(job.progress);
+    drive_sized::<I, D, S, W, M>(alloc, disk, job, options, sources, writer, meter)
 }

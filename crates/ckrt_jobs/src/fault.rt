@@ -2,12 +2,12 @@ ghost use Rattle.std.specs.Prelude.{◌≡◌};
 ghost use Rattle.ckrt_jobs.specs.Names.{name_of, name_of_drive, name_of_look};
 ghost use Rattle.ckrt_jobs.specs.Reports.{advice_of, advice_of_drive, advice_of_format, advice_of_lengths, advice_of_look, advice_of_recover, advice_of_serve, device_advice, file_of, file_of_drive, memory_advice};
 
-use crate::file::{FileFault, JobFile};
+use crate::file::{FileFault, JobFile, MEMORY_ADVICE};
 use crate::output::OutputLengths;
 use ckrt_drive::DriveFault;
 use ckrt_inspect::InspectFault;
 use ckrt_main::ServeFault;
-use ckrt_recovery::{FormatFault, RecoverFault};
+use ckrt_recovery::{Config, FormatFault, RecoverFault};
 
 /// Why a job wasn't done.
 #[derive(Clone, Copy, Debug, PartialEq, Eq)]
@@ -26,6 +26,8 @@ pub enum JobFault {
     Inspect(InspectFault),
     /// The numbers of a drive are out of their ranges.
     Range,
+    /// The disk has these sizes, which aren't those that were asked for.
+    SizesDiffer(Config),
     /// The file of the output has another length than that of the disk.
     OutputDiffers(OutputLengths),
     /// The drive ended early.
@@ -35,9 +37,6 @@ pub enum JobFault {
 /// What is said where the disk failed a call.
 const DEVICE_ADVICE: &str =
     "a read, write or sync failed; look after the device, then run this again (docs/OPERATING.md)";
-
-/// What is said where memory was refused.
-const MEMORY_ADVICE: &str = "the system refused memory";
 
 /// What is said of a fault of formatting.
 fn format_advice(fault: FormatFault) -> &'static str
@@ -148,6 +147,9 @@ fn drive_name(fault: DriveFault) -> &'static str
 const RANGE_ADVICE: &str =
     "--turn is 1 to 1000000, --rounds-per-commit and --progress 1 or more, and --from goes without --output";
 
+/// What is said of a disk with other sizes than those that were asked for, behind its own.
+const SIZES_ADVICE: &str = "these stay; give them, or leave them out";
+
 /// What is said of an output whose file has another length than that of the disk, behind its numbers.
 fn lengths_advice(lengths: OutputLengths) -> &'static str
     ensures { result.now ≡ advice_of_lengths lengths }
@@ -175,6 +177,7 @@ impl JobFault {
         ensures { result.now ≡ name_of self }
     {
         match self {
+            JobFault::File(_, FileFault::OutOfMemory) => "OutOfMemory",
             JobFault::File(_, _) => "File",
             JobFault::OutOfMemory
             | JobFault::Format(FormatFault::OutOfMemory)
@@ -195,6 +198,7 @@ impl JobFault {
             JobFault::Serve(ServeFault::Format) => "Format",
             JobFault::Inspect(fault) => inspection_name(fault),
             JobFault::Range => "Range",
+            JobFault::SizesDiffer(_) => "BadConfig",
             JobFault::OutputDiffers(_) => "OutputDiffers",
             JobFault::Drive(fault) => drive_name(fault),
         }
@@ -211,6 +215,7 @@ impl JobFault {
             JobFault::Serve(fault) => service_advice(fault),
             JobFault::Inspect(fault) => inspection_advice(fault),
             JobFault::Range => RANGE_ADVICE,
+            JobFault::SizesDiffer(_) => SIZES_ADVICE,
             JobFault::OutputDiffers(lengths) => lengths_advice(lengths),
             JobFault::Drive(fault) => drive_advice(fault),
         }
@@ -239,6 +244,7 @@ impl JobFault {
                 | InspectFault::Device
                 | InspectFault::Range,
             ) => Some(JobFile::Disk),
+            JobFault::SizesDiffer(_) => Some(JobFile::Disk),
             JobFault::OutputDiffers(_) => Some(JobFile::Output),
             JobFault::Drive(fault) => Some(drive_file(fault)),
             _ => None,

@@ -2,9 +2,12 @@
 ghost use Rattle.std.specs.Prelude.{◌≡◌};
 ghost use Rattle.std.specs.IoError.{error_kind};
 ghost use Rattle.ckrt_jobs.specs.Openings.{kept_opening, opening_of};
-ghost use Rattle.ckrt_jobs.specs.Reports.{file_fault_of, file_fault_text, file_text};
+ghost use Rattle.ckrt_jobs.specs.Reports.{file_ending, file_fault_of, file_fault_text, file_text};
 
 use std::io::{self, ErrorKind};
+
+/// What is said where memory was refused.
+pub(crate) const MEMORY_ADVICE: &str = "the system refused memory";
 
 /// A file that a job names.
 #[derive(Clone, Copy, Debug, PartialEq, Eq)]
@@ -15,6 +18,8 @@ pub enum JobFile {
     Disk,
     /// The file of the output.
     Output,
+    /// The disk in the making, beside the path that it is made for.
+    Making,
 }
 
 /// Why a file can't be opened, read, locked or filled.
@@ -28,6 +33,8 @@ pub enum FileFault {
     IsImage,
     /// The image is an ELF file.
     IsElf,
+    /// The output's path is the disk's too.
+    IsDisk,
     /// A directory has this path.
     IsADirectory,
     /// What has this path is no plain file: a terminal, say, or a pipe.
@@ -40,6 +47,12 @@ pub enum FileFault {
     StorageFull,
     /// Its file system may only be read.
     ReadOnly,
+    /// It holds something else than a disk in the making.
+    NotInMaking,
+    /// Something has got the path that was free.
+    IsThere,
+    /// The system refused memory.
+    OutOfMemory,
     /// A standard stream is closed, and the file got its descriptor.
     StreamClosed,
     /// Anything else.
@@ -67,6 +80,9 @@ impl<'a> FileOpening<'a> {
     }
 }
 
+/// What stands behind a disk's path in that of the disk in the making.
+pub(crate) const MAKING: &str = ".making";
+
 impl JobFile {
     /// What the file is to its job.
     pub(crate) fn text(self) -> &'static str
@@ -76,6 +92,17 @@ impl JobFile {
             JobFile::Image => "the image ",
             JobFile::Disk => "the disk ",
             JobFile::Output => "the output ",
+            JobFile::Making => "the disk in the making ",
+        }
+    }
+
+    /// What stands behind the path that the words give for it.
+    pub(crate) fn ending(self) -> &'static str
+        ensures { result.now ≡ file_ending self }
+    {
+        match self {
+            JobFile::Making => MAKING,
+            JobFile::Image | JobFile::Disk | JobFile::Output => "",
         }
     }
 }
@@ -91,6 +118,7 @@ impl FileFault {
             FileFault::IsImage => "the image has this path too",
             FileFault::IsElf =>
                 "it is an ELF file: guest/image, or objcopy -O binary, makes an image of it",
+            FileFault::IsDisk => "the disk has this path too; give the output another",
             FileFault::IsADirectory => "it is a directory",
             FileFault::NotAFile =>
                 "it isn't a plain file, and can't be written by offset; without --output the bytes are printed",
@@ -98,6 +126,11 @@ impl FileFault {
             FileFault::InUse => "another program has it locked",
             FileFault::StorageFull => "no space is left for it",
             FileFault::ReadOnly => "its file system is read-only",
+            FileFault::NotInMaking =>
+                "it is no disk in the making, and is unchanged; move it away, then give the command again",
+            FileFault::IsThere =>
+                "something has the disk's path meanwhile; look at it, then give the command again",
+            FileFault::OutOfMemory => MEMORY_ADVICE,
             FileFault::StreamClosed => "a standard stream is closed",
             FileFault::Other => "it can't be opened, read or filled",
         }
@@ -115,6 +148,7 @@ impl From<io::Error> for FileFault {
             ErrorKind::WouldBlock => FileFault::InUse,
             ErrorKind::StorageFull => FileFault::StorageFull,
             ErrorKind::ReadOnlyFilesystem => FileFault::ReadOnly,
+            ErrorKind::OutOfMemory => FileFault::OutOfMemory,
             _ => FileFault::Other,
         }
     }

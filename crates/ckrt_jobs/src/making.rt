@@ -3,6 +3,7 @@ ghost use Rattle.std.specs.Prelude.{◌≡◌, ◌↔◌, ◌≤◌, ℕ, List, 
 ghost use Rattle.ckrt_checkpoint.specs.Layout.{is_valid, memory_size, size_needed};
 ghost use Rattle.ckrt_jobs.specs.Making.{EndsOnImage, FormatsOpened, IsFit, Makes, is_elf};
 ghost use Rattle.ckrt_jobs.specs.Openings.{opened, refused, with_disk, with_image};
+ghost use Rattle.ckrt_jobs.specs.Sources.{GivesSame};
 ghost use Rattle.ckrt_jobs.specs.declared.fault.JobFault.TheVariants.{File};
 ghost use Rattle.ckrt_jobs.specs.declared.file.FileFault.{FileFault};
 ghost use Rattle.ckrt_jobs.specs.declared.file.JobFile.TheVariants as file;
@@ -24,7 +25,7 @@ fn open_image<'a, I: Read, D: Disk, S: Sources<'a, I, D>>(
     ensures bytes { IfOk result (λ reader. I.remaining reader ≡ S.image_bytes sources.old path.now) }
     ensures opened { OnOk result (S.openings sources.new ≡ with_image (S.openings sources.old) (opened path.now)) }
     ensures refused { IfErr result (λ e. (why : FileFault) × (e ≡ File file.Image why) × (S.openings sources.new ≡ with_image (S.openings sources.old) (refused path.now why))) }
-    ensures same_disks { (at : List ℕ) (size : ℕ) (disk : D) → S.fills sources.new at size disk → S.fills sources.old at size disk }
+    ensures same { GivesSame (S.image_bytes sources.old) (S.image_bytes sources.new) (S.fills sources.old) (S.fills sources.new) (S.outputs sources.old) (S.outputs sources.new) }
 {
     match sources.open_image(path) {
         Ok(reader) => Ok(reader),
@@ -33,7 +34,7 @@ fn open_image<'a, I: Read, D: Disk, S: Sources<'a, I, D>>(
 }
 
 /// The image, which is no ELF file, and has no more bytes than the guest's memory.
-fn fitting_image<'a, I: Read + Drop, D: Disk, S: Sources<'a, I, D>>(
+pub(crate) fn fitting_image<'a, I: Read + Drop, D: Disk, S: Sources<'a, I, D>>(
     alloc: Global,
     sources: &mut S,
     path: &'a str,
@@ -45,7 +46,7 @@ fn fitting_image<'a, I: Read + Drop, D: Disk, S: Sources<'a, I, D>>(
     ensures known { OnOk result (IsFit config (S.image_bytes sources.old path.now)) }
     ensures opened { OnOk result (S.openings sources.new ≡ with_image (S.openings sources.old) (opened path.now)) }
     ensures unfit { IfErr result (EndsOnImage config (S.image_bytes sources.old path.now) path.now (S.openings sources.old) (S.openings sources.new)) }
-    ensures same_disks { (at : List ℕ) (size : ℕ) (disk : D) → S.fills sources.new at size disk → S.fills sources.old at size disk }
+    ensures same { GivesSame (S.image_bytes sources.old) (S.image_bytes sources.new) (S.fills sources.old) (S.fills sources.new) (S.outputs sources.old) (S.outputs sources.new) }
 {
     let reader = open_image(sources, path)?;
     let image = read_image(alloc, reader, config.memory_size())?;
@@ -81,7 +82,7 @@ fn is_same_path(path: &str, other: &str) -> bool
     path == other
 }
 
-/// Formats a disk that was opened, and closes it.
+/// Formats a disk that was opened, and closes it, or gives it up where it isn't formatted.
 fn format_opened<'a, I: Read, D: Disk, S: Sources<'a, I, D>>(
     alloc: Global,
     disk: D,
@@ -93,10 +94,15 @@ fn format_opened<'a, I: Read, D: Disk, S: Sources<'a, I, D>>(
 {
     let mut disk = disk;
     let answer = ckrt_recovery::format(alloc, &mut disk, config, image);
-    sources.close(disk);
     match answer {
-        Ok(()) => Ok(()),
-        Err(fault) => Err(JobFault::Format(fault)),
+        Ok(()) => {
+            sources.close(disk);
+            Ok(())
+        }
+        Err(fault) => {
+            sources.abandon(disk);
+            Err(JobFault::Format(fault))
+        }
     }
 }
 

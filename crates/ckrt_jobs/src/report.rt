@@ -9,7 +9,7 @@ ghost use Rattle.ckrt_rv32i.specs.Names.{cause_name};
 ghost use Rattle.ckrt_jobs.specs.Ends.{end_line, end_text};
 ghost use Rattle.ckrt_jobs.specs.Outcomes.{formatted_line, status_of, status_of_words, version_line};
 ghost use Rattle.ckrt_jobs.specs.Performing.{ReportsOutcome, SaysLine};
-ghost use Rattle.ckrt_jobs.specs.Reports.{lengths_text, numbers_of, path_of, range_text, report_of, subject_of, words_report_of};
+ghost use Rattle.ckrt_jobs.specs.Reports.{lengths_text, numbers_of, path_of, range_text, size_text, sizes_text, report_of, subject_of, words_report_of};
 
 use crate::driven::Driven;
 use crate::fault::JobFault;
@@ -20,6 +20,7 @@ use crate::version::VERSION;
 use arrayvec::ArrayVec;
 use ckrt_drive::Ending;
 use ckrt_main::write_reply;
+use ckrt_recovery::Config;
 use ckrt_rv32i::Cause;
 use ckrt_state::Status;
 use ckrt_thread::ThreadId;
@@ -77,6 +78,8 @@ fn path<'a>(job: &Job<'a>, file: JobFile) -> &'a str
         (Job::Inspect(job), JobFile::Disk) => job.disk,
         (Job::Drive(job), JobFile::Disk) => job.disk,
         (Job::Drive(job), JobFile::Output) => job.output.unwrap_or(STANDARD_OUTPUT),
+        (Job::Drive(job), JobFile::Making) => job.disk,
+        (Job::Drive(job), JobFile::Image) => job.image.unwrap_or(""),
         _ => "",
     }
 }
@@ -95,6 +98,7 @@ fn say_subject<E: Reporter>(
     };
     reporter.say(file.text().as_bytes())?;
     reporter.say(path(job, file).as_bytes())?;
+    reporter.say(file.ending().as_bytes())?;
     reporter.say(b": ")
 }
 
@@ -130,12 +134,38 @@ fn say_lengths<E: Reporter>(reporter: &mut E, lengths: OutputLengths) -> Result<
     say_range(reporter, lengths.confirmed, lengths.released)
 }
 
+/// Says a size between two texts.
+fn say_size<E: Reporter>(
+    reporter: &mut E,
+    before: &[u8],
+    size: u32,
+    behind: &[u8],
+) -> Result<(), Unsaid>
+    ensures said { OnOk result (Appends (E.said reporter.old) (E.said reporter.new) (size_text before.now size behind.now)) }
+    ensures failed { OnErr result (E.has_failed reporter.new ≡ true) }
+{
+    reporter.say(before)?;
+    say_number(reporter, u64::from(size))?;
+    reporter.say(behind)
+}
+
+/// Says the sizes of a disk.
+fn say_sizes<E: Reporter>(reporter: &mut E, sizes: Config) -> Result<(), Unsaid>
+    ensures said { OnOk result (Appends (E.said reporter.old) (E.said reporter.new) (sizes_text sizes)) }
+    ensures failed { OnErr result (E.has_failed reporter.new ≡ true) }
+{
+    say_size(reporter, b"it has --pages ", sizes.pages, b"")?;
+    say_size(reporter, b" --harts ", sizes.harts, b"")?;
+    say_size(reporter, b" --journal ", sizes.journal, b": ")
+}
+
 /// Says the numbers of a fault, where it has some.
 fn say_numbers<E: Reporter>(reporter: &mut E, fault: JobFault) -> Result<(), Unsaid>
     ensures said { OnOk result (Appends (E.said reporter.old) (E.said reporter.new) (numbers_of fault)) }
     ensures failed { OnErr result (E.has_failed reporter.new ≡ true) }
 {
     match fault {
+        JobFault::SizesDiffer(sizes) => say_sizes(reporter, sizes),
         JobFault::OutputDiffers(lengths) => say_lengths(reporter, lengths),
         _ => reporter.say(b""),
     }

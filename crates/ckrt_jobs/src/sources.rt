@@ -1,21 +1,27 @@
 ghost use Rattle.std.specs.Prelude.{◌≡◌, ℕ, List, Option, IfOk};
-ghost use Rattle.ckrt_jobs.specs.Openings.{Openings, opening_of, with_closed, with_closed_output, with_disk, with_image, with_output};
+ghost use Rattle.ckrt_jobs.specs.Openings.{Openings, opening_of, with_abandoned, with_closed, with_closed_output, with_disk, with_image, with_making, with_named, with_output};
+ghost use Rattle.ckrt_jobs.specs.Sources.{GivesSame};
 ghost use Rattle.ckrt_jobs.specs.declared.output.OpenedOutput.{OpenedOutput};
 
 use crate::file::FileFault;
 use crate::output::OpenedOutput;
 use ckrt_disk::Disk;
+use std::alloc::Global;
 use std::io::Read;
 
 /// Where the jobs give disks and outputs back. Nothing is known of these but that they may be let go: so whoever takes them
 /// back can't write to them.
 pub trait Closes<D> {
-    /// How all images, disks and outputs were opened, and which disks and which outputs were closed.
+    /// How all images, disks and outputs were opened, which disks were given a name, and which disks and outputs were given back.
     ghost openings: { Self → Openings D };
 
     /// Takes a disk back.
     fn close(&mut self, disk: D)
         ensures closed { openings self.new ≡ with_closed (openings self.old) disk };
+
+    /// Takes a disk back that wasn't made: where a file was made for it, that goes.
+    fn abandon(&mut self, disk: D)
+        ensures abandoned { openings self.new ≡ with_abandoned (openings self.old) disk };
 
     /// Takes an output back.
     fn close_output(&mut self, output: D)
@@ -30,7 +36,8 @@ pub trait Sources<'a, I: Read, D: Disk>: Closes<D> {
     /// The disks that a path may stand for.
     ghost opens: { Self → List ℕ → D → Type 0 };
 
-    /// The disks that it may stand for once what is shorter than so many bytes is filled up to them.
+    /// The disks that it may stand for once what is shorter than so many bytes is filled up to them, under its own name or as a
+    /// disk in the making.
     ghost fills: { Self → List ℕ → ℕ → D → Type 0 };
 
     /// The outputs that a path may stand for, with the lengths of their files.
@@ -40,13 +47,13 @@ pub trait Sources<'a, I: Read, D: Disk>: Closes<D> {
     fn open_image(&mut self, path: &'a str) -> Result<I, FileFault>
         ensures bytes { IfOk result (λ reader. I.remaining reader ≡ image_bytes self.old path.now) }
         ensures asked { Self.openings self.new ≡ with_image (Self.openings self.old) (opening_of path.now result) }
-        ensures same_disks { (at : List ℕ) (size : ℕ) (disk : D) → fills self.new at size disk → fills self.old at size disk };
+        ensures same { GivesSame (image_bytes self.old) (image_bytes self.new) (fills self.old) (fills self.new) (outputs self.old) (outputs self.new) };
 
     /// The disk of a path.
     fn open_disk(&mut self, path: &'a str) -> Result<D, FileFault>
         ensures disk { IfOk result (opens self.old path.now) }
         ensures asked { Self.openings self.new ≡ with_disk (Self.openings self.old) (opening_of path.now result) }
-        ensures same_outputs { (at : List ℕ) (output : OpenedOutput D) → outputs self.new at output → outputs self.old at output };
+        ensures same { GivesSame (image_bytes self.old) (image_bytes self.new) (fills self.old) (fills self.new) (outputs self.old) (outputs self.new) };
 
     /// The disk of a path, to be looked at only.
     fn look_at_disk(&mut self, path: &'a str) -> Result<D, FileFault>
@@ -58,6 +65,18 @@ pub trait Sources<'a, I: Read, D: Disk>: Closes<D> {
     fn open_filled(&mut self, path: &'a str, size: usize) -> Result<D, FileFault>
         ensures disk { IfOk result (fills self.old path.now size) }
         ensures asked { Self.openings self.new ≡ with_disk (Self.openings self.old) (opening_of path.now result) };
+
+    /// A disk in the making, for a path that nothing has: a file beside it, made anew with so many zero bytes. What lies there
+    /// and is no disk in the making is refused.
+    fn open_making(&mut self, alloc: Global, path: &'a str, size: usize) -> Result<D, FileFault>
+        ensures disk { IfOk result (fills self.old path.now size) }
+        ensures asked { Self.openings self.new ≡ with_making (Self.openings self.old) (opening_of path.now result) }
+        ensures same { GivesSame (image_bytes self.old) (image_bytes self.new) (fills self.old) (fills self.new) (outputs self.old) (outputs self.new) };
+
+    /// Gives a disk in the making the path that it was made for, if nothing has that yet. Its name is durable then.
+    fn name_disk(&mut self, path: &'a str, disk: &D) -> Result<(), FileFault>
+        ensures named { Self.openings self.new ≡ with_named (Self.openings self.old) (opening_of path.now result) disk.now }
+        ensures same { GivesSame (image_bytes self.old) (image_bytes self.new) (fills self.old) (fills self.new) (outputs self.old) (outputs self.new) };
 
     /// The output of a path, which is made where it is missing, and never shortened: what it holds stays, and bytes behind
     /// its end are zeros. It comes with the length of its file.

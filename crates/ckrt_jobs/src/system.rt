@@ -1,196 +1,55 @@
 //! Disks and images that are files of the system.
-ghost use Rattle.std.specs.Prelude.{◌≡◌, None, IfOk, IfErr};
-ghost use Rattle.ckrt_jobs.specs.Files.{folder_of, openings_of};
+ghost use Rattle.std.specs.Prelude.{◌≡◌, None};
+ghost use Rattle.ckrt_jobs.specs.Files.{openings_of};
 ghost use Rattle.ckrt_jobs.specs.Openings.{unopened};
-ghost use Rattle.ckrt_jobs.specs.Streams.{IsBesideStreams};
 
 use crate::file::{FileFault, FileOpening};
-use crate::growing::GrowingFile;
+use crate::files::{
+    beside, disk_of, give_name, look_at_system_disk, open_disk_file, open_filled_file,
+    open_making_file, open_read, open_system_output, remove,
+};
 use crate::output::OpenedOutput;
 use crate::sources::{Closes, Sources};
 use ckrt_disk::{FileDisk, History, Holds, SystemFile};
-use ckrt_filling::fill_up;
-use std::fs::{File, Files, OpenOptions};
-use std::io;
+use std::alloc::Global;
+use std::fs::{File, Files, Metadata};
 use std::marker::Brand;
-use std::os::fd::AsRawFd;
-use std::path::Path;
+use std::os::unix::fs::MetadataExt;
 
-/// The file, unless its descriptor is that of standard input, output or error: a stream that is closed when the program
-/// begins leaves its descriptor to the next file, whose bytes it would then read, or print over.
-fn beside_streams(file: File) -> Result<File, FileFault>
-    ensures beside { IfOk result IsBesideStreams }
-    ensures same { IfOk result (λ opened. opened ≡ file) }
-    ensures closed { IfErr result (λ e. (e ≡ FileFault.StreamClosed) × ¬ IsBesideStreams file) }
-{
-    if file.as_raw_fd() > 2 {
-        Ok(file)
-    } else {
-        Err(FileFault::StreamClosed)
+/// Which file of the system it is: on which device, and its number there.
+#[derive(Clone, Copy, PartialEq, Eq)]
+struct FileId {
+    device: u64,
+    number: u64,
+}
+
+impl FileId {
+    /// That of a file with this metadata.
+    fn of(told: &Metadata) -> FileId {
+        FileId {
+            device: told.dev(),
+            number: told.ino(),
+        }
     }
 }
 
-/// Opens a file to read it.
-fn open_read<R: Files<File = File>>(rt: &R, path: &str) -> Result<File, FileFault>
-    ensures { IfOk result IsBesideStreams }
-{
-    let file = OpenOptions::new().read(true).open(rt, path)?;
-    beside_streams(file)
+/// A file that was made, and goes where it isn't formatted.
+#[derive(Drop)]
+enum MadeFile<'a> {
+    /// That of a path.
+    Itself(&'a str),
+    /// A disk in the making, by its own name.
+    Beside(String),
 }
 
-/// Opens a file to read and write it, and locks it: a second program over the same disk is refused at once.
-fn open_locked<R: Files<File = File>>(rt: &R, path: &str, is_new: bool) -> Result<File, FileFault>
-    ensures { IfOk result IsBesideStreams }
-{
-    let file = OpenOptions::new()
-        .read(true)
-        .write(true)
-        .create(is_new)
-        .open(rt, path)?;
-    let file = beside_streams(file)?;
-    match file.try_lock() {
-        Ok(()) => Ok(file),
-        Err(error) => Err(FileFault::from(io::Error::from(error))),
+impl<'a> MadeFile<'a> {
+    /// Its path.
+    fn path(&self) -> &str {
+        match self {
+            MadeFile::Itself(path) => path,
+            MadeFile::Beside(name) => name.as_str(),
+        }
     }
-}
-
-/// Opens a file to read it, and locks it with other readers: a file that a program may write is refused at once.
-fn open_shared<R: Files<File = File>>(rt: &R, path: &str) -> Result<File, FileFault>
-    ensures { IfOk result IsBesideStreams }
-{
-    let file = open_read(rt, path)?;
-    match file.try_lock_shared() {
-        Ok(()) => Ok(file),
-        Err(error) => Err(FileFault::from(io::Error::from(error))),
-    }
-}
-
-/// The folder of a path.
-fn folder_of(path: &str) -> &str
-    ensures { result.now ≡ folder_of path.now }
-{
-    match Path::new(path).parent() {
-        Some(folder) if !folder.as_str().is_empty() => folder.as_str(),
-        _ => ".",
-    }
-}
-
-/// Makes the names of a path's folder durable.
-fn sync_folder<R: Files<File = File>>(rt: &R, path: &str) -> Result<(), FileFault> {
-    let folder = open_read(rt, folder_of(path))?;
-    folder.sync_all()?;
-    Ok(())
-}
-
-/// Makes a file, and opens it as [`open_locked`] does. Where it can't be found no folder is there for it.
-fn make_locked<R: Files<File = File>>(rt: &R, path: &str) -> Result<File, FileFault>
-    ensures { IfOk result IsBesideStreams }
-{
-    match open_locked(rt, path, true) {
-        Err(FileFault::NotFound) => Err(FileFault::NoFolder),
-        made => made,
-    }
-}
-
-/// The file of a path, which is made where there is none. Its name is durable then, also where the file was there: who made
-/// it may have been killed before that.
-fn open_or_make<R: Files<File = File>>(rt: &R, path: &str) -> Result<File, FileFault>
-    ensures { IfOk result IsBesideStreams }
-{
-    let file = match open_locked(rt, path, false) {
-        Err(FileFault::NotFound) => make_locked(rt, path)?,
-        opened => opened?,
-    };
-    sync_folder(rt, path)?;
-    Ok(file)
-}
-
-/// The disk of an open file, with as many bytes as the file. A directory, which may be opened to be read, is none.
-fn disk_of<H: Holds>(file: File) -> Result<FileDisk<SystemFile<H>>, FileFault> {
-    let told = file.metadata()?;
-    if told.is_dir() {
-        return Err(FileFault::IsADirectory);
-    }
-    Ok(FileDisk::new(SystemFile::new(file), told.len() as usize))
-}
-
-/// Fills a file that is shorter than so many bytes up to them. What is no regular file isn't filled.
-fn fill_file(file: &File, size: usize) -> Result<(), FileFault> {
-    let told = file.metadata()?;
-    let length = told.len() as usize;
-    if !told.is_file() || length >= size {
-        return Ok(());
-    }
-    let mut growing = GrowingFile::new(file, size);
-    match fill_up(&mut growing, length) {
-        Ok(()) => Ok(()),
-        Err(_) => Err(growing.fault()),
-    }
-}
-
-/// A file of at least so many bytes: one that is missing or shorter is filled with zero bytes.
-fn open_filled_file<R: Files<File = File>>(
-    rt: &R,
-    path: &str,
-    size: usize,
-) -> Result<File, FileFault>
-    ensures { IfOk result IsBesideStreams }
-{
-    let file = open_or_make(rt, path)?;
-    fill_file(&file, size)?;
-    Ok(file)
-}
-
-/// The disk of a path.
-fn open_system_disk<R: Files<File = File>, H: Holds>(
-    rt: &R,
-    path: &str,
-) -> Result<FileDisk<SystemFile<H>>, FileFault> {
-    let file = open_locked(rt, path, false)?;
-    disk_of(file)
-}
-
-/// How many bytes an output has: more than any file. Those behind the end of its file count as zeros until they are written.
-const OUTPUT_SIZE: usize = i64::MAX as usize;
-
-/// The output of an open file, which grows as it is written. What isn't a plain file, as a terminal, has no offsets.
-fn output_of<H: Holds>(file: File) -> Result<OpenedOutput<FileDisk<SystemFile<H>>>, FileFault> {
-    let told = file.metadata()?;
-    if !told.is_file() {
-        return Err(FileFault::NotAFile);
-    }
-    Ok(OpenedOutput {
-        output: FileDisk::new(SystemFile::new(file), OUTPUT_SIZE),
-        length: told.len(),
-    })
-}
-
-/// The output of a path.
-fn open_system_output<R: Files<File = File>, H: Holds>(
-    rt: &R,
-    path: &str,
-) -> Result<OpenedOutput<FileDisk<SystemFile<H>>>, FileFault> {
-    let file = open_or_make(rt, path)?;
-    output_of(file)
-}
-
-/// The disk of a path, to be looked at.
-fn look_at_system_disk<R: Files<File = File>, H: Holds>(
-    rt: &R,
-    path: &str,
-) -> Result<FileDisk<SystemFile<H>>, FileFault> {
-    let file = open_shared(rt, path)?;
-    disk_of(file)
-}
-
-/// The disk of a path, filled up to so many bytes.
-fn open_filled_disk<R: Files<File = File>, H: Holds>(
-    rt: &R,
-    path: &str,
-    size: usize,
-) -> Result<FileDisk<SystemFile<H>>, FileFault> {
-    let file = open_filled_file(rt, path, size)?;
-    disk_of(file)
 }
 
 /// A disk that is a file of the system.
@@ -204,8 +63,16 @@ pub struct SystemSources<'a, R, D> {
     image: History<FileOpening<'a>>,
     disk: History<FileOpening<'a>>,
     output: History<FileOpening<'a>>,
+    making: History<FileOpening<'a>>,
+    naming: History<FileOpening<'a>>,
+    named: History<D>,
     closed: History<D>,
     closed_output: History<D>,
+    abandoned: History<D>,
+    /// The file of a disk, where one is open.
+    disk_file: Option<FileId>,
+    /// The file that was made for a disk that isn't formatted yet.
+    made: Option<MadeFile<'a>>,
 }
 
 impl<'a, R, D> SystemSources<'a, R, D> {
@@ -218,17 +85,109 @@ impl<'a, R, D> SystemSources<'a, R, D> {
             image: History::new(),
             disk: History::new(),
             output: History::new(),
+            making: History::new(),
+            naming: History::new(),
+            named: History::new(),
             closed: History::new(),
             closed_output: History::new(),
+            abandoned: History::new(),
+            disk_file: None,
+            made: None,
         }
     }
 }
 
-impl<'a, R, D: Drop> Closes<D> for SystemSources<'a, R, D> {
+impl<'a, R: Files<File = File>, D> SystemSources<'a, R, D> {
+    /// Remembers the file of a disk.
+    fn remember(&mut self, file: &File)
+        ensures { openings_of self.new ≡ openings_of self.old }
+    {
+        self.disk_file = match file.metadata() {
+            Ok(told) => Some(FileId::of(&told)),
+            Err(_) => None,
+        };
+    }
+
+    /// Whether a path is that of the disk that is open.
+    fn is_disk(&self, path: &str) -> bool {
+        match (self.rt.metadata(path), self.disk_file) {
+            (Ok(told), Some(disk)) => FileId::of(&told) == disk,
+            _ => false,
+        }
+    }
+
+    /// The file of a disk, which is remembered.
+    fn open_disk_file(&mut self, path: &str) -> Result<File, FileFault>
+        ensures { openings_of self.new ≡ openings_of self.old }
+    {
+        let file = open_disk_file(self.rt, path)?;
+        self.remember(&file);
+        Ok(file)
+    }
+
+    /// The file of a disk that is made where it is missing, and filled up to so many bytes.
+    fn open_filled_file(&mut self, path: &'a str, size: usize) -> Result<File, FileFault>
+        ensures { openings_of self.new ≡ openings_of self.old }
+    {
+        let claimed = open_filled_file(self.rt, path, size)?;
+        if claimed.is_new {
+            self.made = Some(MadeFile::Itself(path));
+        }
+        Ok(claimed.file)
+    }
+
+    /// The file of a disk in the making, which is remembered.
+    fn open_making_file(
+        &mut self,
+        alloc: Global,
+        path: &str,
+        size: usize,
+    ) -> Result<File, FileFault>
+        ensures { openings_of self.new ≡ openings_of self.old }
+    {
+        let name = beside(alloc, path)?;
+        let file = open_making_file(self.rt, alloc, path, &name, size)?;
+        self.remember(&file);
+        self.made = Some(MadeFile::Beside(name));
+        Ok(file)
+    }
+
+    /// Gives the disk in the making a path.
+    fn give_name(&mut self, path: &str) -> Result<(), FileFault>
+        ensures { openings_of self.new ≡ openings_of self.old }
+    {
+        let named = match &self.made {
+            Some(made) => give_name(self.rt, made.path(), path),
+            None => Err(FileFault::Other),
+        };
+        if named.is_ok() {
+            self.made = None;
+        }
+        named
+    }
+
+    /// Removes what was made.
+    fn remove_made(&mut self)
+        ensures { openings_of self.new ≡ openings_of self.old }
+    {
+        if let Some(made) = &self.made {
+            remove(self.rt, made.path());
+        }
+        self.made = None;
+    }
+}
+
+impl<'a, R: Files<File = File>, D: Drop> Closes<D> for SystemSources<'a, R, D> {
     ghost openings = { openings_of };
 
     fn close(&mut self, disk: D) {
+        self.made = None;
         self.closed = self.closed.with(&disk);
+    }
+
+    fn abandon(&mut self, disk: D) {
+        self.remove_made();
+        self.abandoned = self.abandoned.with(&disk);
     }
 
     fn close_output(&mut self, output: D) {
@@ -253,7 +212,10 @@ impl<'a, R: Files<File = File>, H: Holds> Sources<'a, File, FileDisk<SystemFile<
     }
 
     fn open_disk(&mut self, path: &'a str) -> Result<FileDisk<SystemFile<H>>, FileFault> {
-        let opened = open_system_disk(self.rt, path);
+        let opened = match self.open_disk_file(path) {
+            Ok(file) => disk_of(file),
+            Err(fault) => Err(fault),
+        };
         self.disk = self.disk.with(&FileOpening::of(path, &opened));
         opened
     }
@@ -269,16 +231,49 @@ impl<'a, R: Files<File = File>, H: Holds> Sources<'a, File, FileDisk<SystemFile<
         path: &'a str,
         size: usize,
     ) -> Result<FileDisk<SystemFile<H>>, FileFault> {
-        let opened = open_filled_disk(self.rt, path, size);
+        let opened = match self.open_filled_file(path, size) {
+            Ok(file) => disk_of(file),
+            Err(fault) => Err(fault),
+        };
         self.disk = self.disk.with(&FileOpening::of(path, &opened));
         opened
+    }
+
+    fn open_making(
+        &mut self,
+        alloc: Global,
+        path: &'a str,
+        size: usize,
+    ) -> Result<FileDisk<SystemFile<H>>, FileFault> {
+        let opened = match self.open_making_file(alloc, path, size) {
+            Ok(file) => disk_of(file),
+            Err(fault) => Err(fault),
+        };
+        self.making = self.making.with(&FileOpening::of(path, &opened));
+        opened
+    }
+
+    fn name_disk(
+        &mut self,
+        path: &'a str,
+        disk: &FileDisk<SystemFile<H>>,
+    ) -> Result<(), FileFault> {
+        let named = self.give_name(path);
+        self.naming = self.naming.with(&FileOpening::of(path, &named));
+        self.named = self.named.with(disk);
+        named
     }
 
     fn open_output(
         &mut self,
         path: &'a str,
     ) -> Result<OpenedOutput<FileDisk<SystemFile<H>>>, FileFault> {
-        let opened = open_system_output(self.rt, path);
+        let mut opened = open_system_output(self.rt, path);
+        if let Err(FileFault::InUse) = opened {
+            if self.is_disk(path) {
+                opened = Err(FileFault::IsDisk);
+            }
+        }
         self.output = self.output.with(&FileOpening::of(path, &opened));
         opened
     }

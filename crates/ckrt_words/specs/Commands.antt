@@ -1,6 +1,6 @@
 -- The program's command line, as `clap` sees it: `format DISK IMAGE [--pages P] [--harts H] [--journal J]`, `run DISK`,
--- `inspect DISK [--at K] [--code]` and `drive DISK [--output FILE] [--turn N] [--rounds-per-commit R] [--events N]
--- [--seed S] [--progress SECONDS] [--from OFFSET]`.
+-- `inspect DISK [--at K] [--code]` and `drive DISK [--image IMAGE] [--pages P] [--harts H] [--journal J] [--output FILE] [--turn N]
+-- [--rounds-per-commit R] [--events N] [--seed S] [--progress SECONDS] [--from OFFSET]`.
 use Rattle.std.specs.Prelude.{pos, codes, Some, true, [], ◌∷◌}
 use Rattle.clap.specs.Words.{App, Rule, Text, new_app, new_rule, with_rule, with_subcommand}
 use Rattle.clap.specs.declared.builder.value_parser.ValueParser.TheVariants.{Signed, Unsigned}
@@ -17,6 +17,14 @@ number_rule id default = record (new_rule id) {
   value_names = 1;
   parser = Some (Signed (pos 0) (pos 4294967295));
   defaults = default ∷ [];
+}
+
+-- an option `--id N`, a number of 32 bits, which may be left out
+abbrev pub size_rule : Text → Rule
+size_rule id = record (new_rule id) {
+  long = Some id;
+  value_names = 1;
+  parser = Some (Signed (pos 0) (pos 4294967295));
 }
 
 -- an option `--id K`, a number of 64 bits, which may be left out
@@ -56,8 +64,13 @@ inspect_app =
 
 abbrev pub drive_app : App
 drive_app =
-    with_rule (with_rule (with_rule (with_rule (with_rule (with_rule (with_rule (with_rule (new_app (codes "drive"))
+    with_rule (with_rule (with_rule (with_rule (with_rule (with_rule (with_rule (with_rule (with_rule (with_rule (with_rule (with_rule
+    (new_app (codes "drive"))
     (needed_rule (codes "disk")))
+    (option_rule (codes "image")))
+    (size_rule (codes "pages")))
+    (size_rule (codes "harts")))
+    (size_rule (codes "journal")))
     (option_rule (codes "output")))
     (number_rule (codes "turn") (codes "1000000")))
     (number_rule (codes "rounds-per-commit") (codes "16")))

@@ -12,6 +12,7 @@ use Rattle.ckrt_words.specs.declared.job.Job.TheVariants as job
 use Rattle.ckrt_words.specs.declared.job.FormatJob.{FormatJob}
 use Rattle.ckrt_words.specs.declared.job.InspectJob.{InspectJob}
 use Rattle.ckrt_words.specs.declared.job.DriveJob.{DriveJob}
+use Rattle.ckrt_words.specs.declared.job.Sizes.{Sizes}
 
 -- what `format` makes
 pub record Formatting : Type 0 where
@@ -27,10 +28,12 @@ pub record Inspection : Type 0 where
   pub at : Option ℕ
   pub code : Bool
 
--- what `drive` drives: which disk, the file of its output, steps of a turn, rounds between commits, after how many events it ends, the seed of its
+-- what `drive` drives: which disk, the image that a missing one is made with, its sizes, the file of its output, steps of a turn, rounds between commits, after how many events it ends, the seed of its
 -- lots, at most each how many seconds it tells how far it is, and below which offset output is left out
 pub record Driving : Type 0 where
   pub disk : Text
+  pub image : Option Text
+  pub sizes : Sizes
   pub output : Option Text
   pub turn : ℕ
   pub rounds : ℕ
@@ -57,6 +60,8 @@ inspection_of i = record { disk = i.disk.now; at = i.at; code = i.code }
 abbrev pub driving_of : DriveJob → Driving
 driving_of d = record {
   disk = d.disk.now;
+  image = option_map (λ path. path.now) d.image;
+  sizes = d.sizes;
   output = option_map (λ path. path.now) d.output;
   turn = d.turn;
   rounds = d.rounds;
@@ -115,6 +120,10 @@ inspection_in rows = do
   disk ← first_of (codes "disk") rows
   Some (record { disk = disk; at = place_in (codes "at") rows; code = flag_in (codes "code") rows })
 
+-- the sizes that are given
+abbrev pub sizes_in : List Row → Sizes
+sizes_in rows = record { pages = number_in (codes "pages") rows; harts = number_in (codes "harts") rows; journal = number_in (codes "journal") rows }
+
 abbrev pub driving_in : List Row → Option Driving
 driving_in rows = do
   disk ← first_of (codes "disk") rows
@@ -122,6 +131,8 @@ driving_in rows = do
   rounds ← number_in (codes "rounds-per-commit") rows
   Some (record {
     disk = disk;
+    image = first_of (codes "image") rows;
+    sizes = sizes_in rows;
     output = first_of (codes "output") rows;
     turn = turn;
     rounds = rounds;

@@ -3,7 +3,7 @@ ghost use Rattle.std.specs.Prelude.{◌≡◌, IfOk, codes, false, fold, map, no
 ghost use Rattle.std.specs.List.{list_all};
 ghost use Rattle.clap.specs.Words.{App, app_of, new_app, rule_of, with_rule, with_subcommand};
 ghost use Rattle.clap.specs.declared.builder.command.Command.TheViews.{out-Command};
-ghost use Rattle.ckrt_words.specs.Commands.{bare_app, ckrt_app, drive_app, flag_rule, format_app, inspect_app, needed_rule, number_rule, option_rule, place_rule, run_app};
+ghost use Rattle.ckrt_words.specs.Commands.{bare_app, ckrt_app, drive_app, flag_rule, format_app, inspect_app, needed_rule, number_rule, option_rule, place_rule, run_app, size_rule};
 
 use clap::{Arg, ArgAction, Command, value_parser};
 use std::alloc::{AllocError, Global};
@@ -29,6 +29,18 @@ fn number<'a>(alloc: Global, id: &'a str, default: &'a str, help: &'a str) -> Ar
         .value_name("N")
         .value_parser(value_parser!(u32))
         .default_value(default)
+        .help(help)
+}
+
+/// An option with a number of 32 bits, which may be left out.
+fn size<'a>(alloc: Global, id: &'a str, help: &'a str) -> Arg<'a>
+    ensures rule { rule_of result ≡ size_rule id.entry.now }
+    ensures local { result.global ≡ false }
+{
+    Arg::new(alloc, id)
+        .long(id)
+        .value_name("N")
+        .value_parser(value_parser!(u32))
         .help(help)
 }
 
@@ -139,7 +151,7 @@ fn inspect_arguments<'a>(alloc: Global) -> Result<Vec<Arg<'a>>, AllocError>
     Ok(arguments)
 }
 
-/// `drive DISK [--output FILE] [--turn N] [--rounds-per-commit R] [--events N] [--seed S] [--progress SECONDS] [--from OFFSET]`.
+/// `drive DISK` with its options: how a missing disk is made, where the output goes, how it goes on.
 fn drive_command<'a>(alloc: Global) -> Result<Command<'a>, AllocError>
     ensures app { IfOk result (λ c. app_of c ≡ drive_app) }
     ensures local { IfOk result (λ c. (out-Command c).has_globals ≡ false) }
@@ -158,7 +170,29 @@ fn drive_arguments<'a>(alloc: Global) -> Result<Vec<Arg<'a>>, AllocError>
     ensures local { IfOk result (λ arguments. list_all (λ a. not a.global) arguments.items ≡ true) }
 {
     let arguments = vec![in alloc;
-        needed(alloc, "disk", "DISK", "A disk that `format` made"),
+        needed(
+            alloc,
+            "disk",
+            "DISK",
+            "A disk; where it is missing, --image makes it"
+        ),
+        option(
+            alloc,
+            "image",
+            "IMAGE",
+            "The guest program that the disk is made with where it is missing"
+        ),
+        size(
+            alloc,
+            "pages",
+            "Pages of guest memory, 16 to 1024; 64 for a disk that is made"
+        ),
+        size(alloc, "harts", "Harts, 1 to 8; 1 for a disk that is made"),
+        size(
+            alloc,
+            "journal",
+            "Bytes of a journal, 4096 to 1048576 by 4096; 65536 for a disk that is made"
+        ),
         option(
             alloc,
             "output",

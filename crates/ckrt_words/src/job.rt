@@ -43,11 +43,26 @@ pub struct InspectJob<'a> {
     pub code: bool,
 }
 
+/// The sizes that a disk is asked to have. The numbers are as they were given, and may be out of a disk's ranges.
+#[derive(Clone, Copy, Debug, PartialEq, Eq)]
+pub struct Sizes {
+    /// Pages of guest memory; this isn't given where any number does.
+    pub pages: Option<u32>,
+    /// Harts; this isn't given where any number does.
+    pub harts: Option<u32>,
+    /// Bytes of a journal; this isn't given where any number does.
+    pub journal: Option<u32>,
+}
+
 /// What `drive` drives, and how. The numbers are as they were given, and may be out of a drive's ranges.
 #[derive(Clone, Copy, Debug, PartialEq, Eq)]
 pub struct DriveJob<'a> {
     /// The path of the disk.
     pub disk: &'a str,
+    /// The path of the image that the disk is made with where it is missing; this isn't given where it has to be there.
+    pub image: Option<&'a str>,
+    /// The sizes that a disk which is made gets, and that one which is there has to have.
+    pub sizes: Sizes,
     /// The path of the file of its output, which goes to the standard output where this isn't given.
     pub output: Option<&'a str>,
     /// Steps of a turn, at most.

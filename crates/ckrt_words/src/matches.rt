@@ -1,9 +1,9 @@
 //! What the matches of a command line name.
 ghost use Rattle.std.specs.Prelude.{◌≡◌, codes, option_and_then, option_map};
 ghost use Rattle.clap.specs.Words.{first_of, found_of, rows_of, subcommand_rows_of};
-ghost use Rattle.ckrt_words.specs.Jobs.{drive, driving_in, driving_of, flag_in, format, formatting_in, formatting_of, inspect, inspection_in, inspection_of, number_in, place_in, request_in, request_of, run};
+ghost use Rattle.ckrt_words.specs.Jobs.{drive, driving_in, driving_of, flag_in, format, formatting_in, formatting_of, inspect, inspection_in, inspection_of, number_in, place_in, request_in, request_of, run, sizes_in};
 
-use crate::job::{DriveJob, FormatJob, InspectJob, Job};
+use crate::job::{DriveJob, FormatJob, InspectJob, Job, Sizes};
 use clap::ArgMatches;
 
 /// The text that was given for an argument.
@@ -48,12 +48,25 @@ fn inspection<'a>(matches: &ArgMatches<'a>) -> Option<InspectJob<'a>>
     })
 }
 
+/// The sizes that a disk is asked to have.
+fn sizes(matches: &ArgMatches<'_>) -> Sizes
+    ensures { result ≡ sizes_in (rows_of (found_of matches.now)) }
+{
+    Sizes {
+        pages: number(matches, "pages"),
+        harts: number(matches, "harts"),
+        journal: number(matches, "journal"),
+    }
+}
+
 /// What `drive` was given.
 fn driving<'a>(matches: &ArgMatches<'a>) -> Option<DriveJob<'a>>
     ensures { option_map driving_of result ≡ driving_in (rows_of (found_of matches.now)) }
 {
     Some(DriveJob {
         disk: text(matches, "disk")?,
+        image: text(matches, "image"),
+        sizes: sizes(matches),
         output: text(matches, "output"),
         turn: number(matches, "turn")?,
         rounds: number(matches, "rounds-per-commit")?,

@@ -1,0 +1,150 @@
+//! The disk that a drive makes where it is missing, over real files.
+
+use crate::program::Step::{Absent, Ends, EndsWith, Fails, Fill, Holds, Prints, Remove, Write};
+use crate::program::{LINES, Step, play};
+use ckrt_test_data::IMAGE;
+
+/// The listing of a program that hasn't begun.
+const FRESH: &str =
+    "events 0\nclock 0\nstatus running\nhart 0 idle\nthread 1 joinable ready pc 00001000 enabled deferred none handlers 0\n";
+
+const OTHER_SIZES: &str =
+    "the disk making_a.disk: it has --pages 16 --harts 1 --journal 4096: these stay; give them, or leave them out\nckrt: BadConfig\n";
+
+/// A disk is made, goes on by the same words, and takes no other sizes.
+const MAKES: &[Step] = &[
+    Write("making_a.img", &IMAGE),
+    Ends(
+        "drive making_a.disk --image making_a.img --pages 16 --journal 4096 --events 0",
+        "",
+        "enough\n",
+        5,
+    ),
+    Absent("making_a.disk.making"),
+    EndsWith("making_a.disk", 348_160, &[]),
+    Prints("inspect making_a.disk", "", FRESH),
+    Ends(
+        "drive making_a.disk --image making_a.img --pages 16 --journal 4096",
+        "A",
+        "ended: exit 0\n",
+        0,
+    ),
+    // what isn't given isn't compared, and the image isn't looked at
+    Ends(
+        "drive making_a.disk --image making_none.img",
+        "A",
+        "ended: exit 0\n",
+        0,
+    ),
+    Fails("drive making_a.disk --pages 17", OTHER_SIZES),
+    Fails("drive making_a.disk --harts 2 --pages 16", OTHER_SIZES),
+    Fails("drive making_a.disk --journal 8192", OTHER_SIZES),
+    Remove("making_a.disk"),
+    Ends(
+        "drive making_a.disk --image making_a.img --events 0",
+        "",
+        "enough\n",
+        5,
+    ),
+    EndsWith("making_a.disk", 864_256, &[]),
+    Remove("making_a.disk"),
+    Remove("making_a.img"),
+];
+
+#[test]
+fn a_missing_disk_is_made_and_goes_on(rt: HostRuntime) {
+    play(&rt, MAKES);
+}
+
+const MAKE_B: &str =
+    "drive making_b.disk --image making_b.img --pages 16 --journal 4096 --events 0";
+
+const MAKE_B_LATER: &str = "drive making_b.disk --image making_b.img --pages 16 --journal 4096";
+
+const NOT_IN_MAKING: &str =
+    "the disk in the making making_b.disk.making: it is no disk in the making, and is unchanged; move it away, then give the command again\nckrt: File\n";
+
+/// What a making that was cut may leave is made anew: a file without a byte, one that is filled in part, and a disk that hasn't
+/// begun. Anything else stays, and is told.
+const LEFTOVERS: &[Step] = &[
+    Write("making_b.img", &IMAGE),
+    Write("making_b.disk.making", b""),
+    Ends(MAKE_B, "", "enough\n", 5),
+    Absent("making_b.disk.making"),
+    Remove("making_b.disk"),
+    Fill("making_b.disk.making", 0, 900_000),
+    Ends(MAKE_B, "", "enough\n", 5),
+    EndsWith("making_b.disk", 348_160, &[]),
+    Absent("making_b.disk.making"),
+    Remove("making_b.disk"),
+    Prints(
+        "format making_b.disk.making making_b.img --pages 17",
+        "",
+        "formatted 479232\n",
+    ),
+    Ends(MAKE_B, "", "enough\n", 5),
+    EndsWith("making_b.disk", 348_160, &[]),
+    Remove("making_b.disk"),
+    Write("making_b.disk.making", b"notes"),
+    Fails(MAKE_B_LATER, NOT_IN_MAKING),
+    Holds("making_b.disk.making", b"notes"),
+    Fill("making_b.disk.making", 0x77, 20_000),
+    Fails(MAKE_B_LATER, NOT_IN_MAKING),
+    Remove("making_b.disk.making"),
+    Prints(
+        "format making_b.disk.making making_b.img",
+        "",
+        "formatted 864256\n",
+    ),
+    Prints(
+        "run making_b.disk.making",
+        LINES,
+        "ok 1 placed\nok 2 ran 6 end\nack 2\nout 0 41\n",
+    ),
+    Fails(MAKE_B_LATER, NOT_IN_MAKING),
+    Prints("run making_b.disk.making", "", "out 0 41\n"),
+    Remove("making_b.disk.making"),
+    Remove("making_b.img"),
+];
+
+#[test]
+fn what_a_cut_making_left_is_made_anew(rt: HostRuntime) {
+    play(&rt, LEFTOVERS);
+}
+
+const ABSENT: &str = "the disk making_c.disk: there is no such file\nckrt: File\n";
+
+const ABSENT_IMAGE: &str = "the image making_none.img: there is no such file\nckrt: File\n";
+
+const BAD_CONFIG: &str =
+    "pages are 16 to 1024, harts 1 to 8, a journal's bytes a multiple of 4096 up to 1048576\nckrt: BadConfig\n";
+
+const LONG_IMAGE: &str =
+    "the image making_c.img: it is longer than the guest's memory; choose more pages\nckrt: ImageTooLong\n";
+
+const NO_FOLDER: &str =
+    "the disk in the making making_none/c.disk.making: its folder is missing\nckrt: File\n";
+
+/// Nothing is left where no disk was made.
+const FAULTS: &[Step] = &[
+    Fill("making_c.img", 0, 61_441),
+    Fails("drive making_c.disk --pages 15", ABSENT),
+    Fails(
+        "drive making_c.disk --image making_none.img --pages 15",
+        BAD_CONFIG,
+    ),
+    Fails("drive making_c.disk --image making_none.img", ABSENT_IMAGE),
+    Fails(
+        "drive making_c.disk --image making_c.img --pages 16",
+        LONG_IMAGE,
+    ),
+    Fails("drive making_none/c.disk --image making_c.img", NO_FOLDER),
+    Absent("making_c.disk"),
+    Absent("making_c.disk.making"),
+    Remove("making_c.img"),
+];
+
+#[test]
+fn no_disk_is_made_of_nothing(rt: HostRuntime) {
+    play(&rt, FAULTS);
+}
