@@ -3,23 +3,25 @@ use Rattle.std.proofs.Common.{◌≡◌, ℕ, zero, suc, ◌+◌, ◌-◌, ◌<�
 use Rattle.std.proofs.lemmas.Bool.Decides.{nat_tests}
 use Rattle.ckrt_thread.specs.declared.records.Wait.{Wait}
 use Rattle.ckrt_state.specs.declared.table.Tables.{Tables}
-use Rattle.ckrt_drive.specs.Plan.{is_busy, busy_from, next_busy, sooner, earliest_deadline}
+use Rattle.ckrt_drive.specs.declared.plan.Sought.{Sought}
+use Rattle.ckrt_drive.specs.Plan.{is_sought, sought_among, next_sought, sooner, earliest_deadline}
 
 -- HARTS
 
-step_of : (h : ℕ) (s : Tables) (b : Bool) → h < s.threads.hart_count → is_busy s h ≡ b → next_busy h s ≡ cond b (Some h) (next_busy (h + 1) s)
-step_of h s b l e =
-    let left : s.threads.hart_count - h ≡ suc (s.threads.hart_count - (h + 1)) = omega arith in
-    rw left (ap (λ x. cond x (Some h) (busy_from (s.threads.hart_count - (h + 1)) (h + 1) s)) e)
+module _ (k : Sought) (h : ℕ) (s : Tables) where
+  step_of : (b : Bool) → h < s.threads.hart_count → is_sought k s h ≡ b → next_sought k h s ≡ cond b (Some h) (next_sought k (h + 1) s)
+  step_of b l e =
+      let left : s.threads.hart_count - h ≡ suc (s.threads.hart_count - (h + 1)) = omega arith in
+      rw left (ap (λ x. cond x (Some h) (sought_among k (s.threads.hart_count - (h + 1)) (h + 1) s)) e)
 
-pub found : (h : ℕ) (s : Tables) → h < s.threads.hart_count → is_busy s h ≡ true → next_busy h s ≡ Some h
-found h s l e = step_of h s true l e
+  pub found : h < s.threads.hart_count → is_sought k s h ≡ true → next_sought k h s ≡ Some h
+  found l e = step_of true l e
 
-pub passed : (h : ℕ) (s : Tables) → h < s.threads.hart_count → is_busy s h ≡ false → next_busy h s ≡ next_busy (h + 1) s
-passed h s l e = step_of h s false l e
+  pub passed : h < s.threads.hart_count → is_sought k s h ≡ false → next_sought k h s ≡ next_sought k (h + 1) s
+  passed l e = step_of false l e
 
-pub none_left : (h : ℕ) (s : Tables) → s.threads.hart_count ≤ h → next_busy h s ≡ None
-none_left h s l = let none : s.threads.hart_count - h ≡ 0 = omega arith in rw none refl
+  pub none_left : s.threads.hart_count ≤ h → next_sought k h s ≡ None
+  none_left l = let none : s.threads.hart_count - h ≡ 0 = omega arith in rw none refl
 
 -- DEADLINES
 

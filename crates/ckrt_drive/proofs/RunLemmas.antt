@@ -1,129 +1,57 @@
 -- Steps of a drive, one after another, and its ends.
-use Rattle.std.proofs.Common.{◌≡◌, ⊎_elim, ◌+◌, ◌-◌, ◌*◌, ◌<◌, ◌≤◌, ℕ, nat_lt, Bool, true, false, if◌then◌else◌, Option, Some, None, List, [], ◌∷◌, ◌++◌, length, Result, Ok, Err, refl, sym, ◌∙◌, ap, subst, arith, append_assoc, append-nil, length-append}
-use Rattle.std.specs.Prelude.{◌==◌, IfOk}
+use Rattle.std.proofs.Common.{◌≡◌, ⊎_elim, ◌+◌, ◌<◌, ◌≤◌, ℕ, nat_lt, true, false, Option, Some, None, List, [], ◌∷◌, ◌++◌, length, Result, Ok, Err, refl, sym, ◌∙◌, ap, subst, arith, append_assoc, append-nil, length-append}
+use Rattle.std.specs.Prelude.{IfOk}
 use Rattle.std.proofs.lemmas.Bool.Decides.{nat_tests}
 use Rattle.ckrt_disk.specs.Disk.{IsImage}
 use Rattle.ckrt_disk.specs.declared.disk.Disk.{Ghosts}
 use Rattle.ckrt_disk.proofs.Moments.{weaker, goes_on}
 use Rattle.ckrt_events.specs.declared.event.Event.{Event}
-use Rattle.ckrt_machine.specs.declared.event.Answer.{Answer}
-use Rattle.ckrt_events.specs.declared.event.Event.TheVariants.{Place, Run, Tick, Input, Eof, RunLong}
-use Rattle.ckrt_image.specs.Recovery.{room_of}
-use Rattle.ckrt_machine.specs.Runs.{is_running}
-use Rattle.ckrt_recovery.specs.declared.fault.SubmitFault.{SubmitFault}
 use Rattle.ckrt_recovery.specs.declared.session.Session.{Session}
-use Rattle.ckrt_recovery.specs.View.{View, view_of, refusal_of, version_of}
+use Rattle.ckrt_recovery.specs.View.{View, view_of}
 use Rattle.ckrt_commands.specs.Accepts.{Accepts}
 use Rattle.ckrt_commands.proofs.AcceptLemmas.{accepts_kept, accepts_more, since_start}
-use Rattle.ckrt_drive.specs.declared.cursor.Cursor.{Cursor}
 use Rattle.ckrt_drive.specs.declared.options.Options.{Options}
-use Rattle.ckrt_drive.specs.declared.lot.Lot.{Lot}
-use Rattle.ckrt_drive.specs.declared.plan.Next.{Next}
-use Rattle.ckrt_drive.specs.declared.plan.Next.TheVariants.{Submit, End}
 use Rattle.ckrt_drive.specs.declared.fault.DriveFault.{DriveFault}
 use Rattle.ckrt_drive.specs.declared.fault.DriveFault.TheVariants.{Device, Output, OutputFull, GenerationsUsed, Refused}
 use Rattle.ckrt_drive.specs.declared.progress.Ending.{Ending}
-use Rattle.ckrt_drive.specs.declared.progress.Ending.TheVariants.{Ended, Enough}
+use Rattle.ckrt_drive.specs.declared.progress.Ending.TheVariants.{Enough}
 use Rattle.ckrt_drive.specs.declared.progress.Progress.{Progress}
 use Rattle.ckrt_drive.specs.declared.progress.Progress.TheVariants.{Submitted, Committed, Checkpointed, Released, Stopped}
-use Rattle.ckrt_drive.specs.Plan.{LONGEST_BATCH, after_event, behind_turn, cursor_after, is_shortage, next, next_running, offered, plan, plan_for, save, most_steps}
+use Rattle.ckrt_drive.specs.Plan.{left_after, plan, schedule_of}
 use Rattle.ckrt_drive.specs.Output.{HasOutput, HoldsOutput, Writes, acknowledged_output}
 use Rattle.ckrt_drive.specs.Runs.{FollowsPlan, GoesByPlan, IsAtEnd, IsFault, IsOnward, Runs, Stand, StopsRightly, events_in, stand, stand_after, stand_of}
 use Rattle.ckrt_drive.specs.PutOut.{PutsOutput, output_failed, is_output_fault}
-use Rattle.ckrt_drive.specs.Steps.{IsSound, IsWhyStep, Steps, accepted_by, view_after}
-use Rattle.ckrt_drive.proofs.Choices.{either}
+use Rattle.ckrt_drive.specs.Steps.{IsWhyStep, Steps, accepted_by, view_after}
 use Rattle.ckrt_drive.proofs.EndLemmas.{end_of}
+use Rattle.ckrt_drive.proofs.PlannedLemmas.{planned_end, some_left}
 use Rattle.ckrt_drive.proofs.PutLemmas.{puts_nothing, puts_output_more}
 use Rattle.ckrt_drive.proofs.WriteLemmas.{same_output, writes_kept}
 
 -- ENDS
 
--- nothing but an end is planned
-abbrev pub IsNoStop : Result Progress DriveFault → Type 0
-IsNoStop planned = (ending : Ending) → planned ≡ Ok (Stopped ending) → ⊥
-
-no_stop_saved : (v : View) → IsNoStop (Ok (save v))
-no_stop_saved v =
-    either (λ did. IsNoStop (Ok did)) (nat_lt (room_of v.recovered.journal) (2 * LONGEST_BATCH)) Checkpointed Committed (λ ending is. absurd (cc)) (λ ending is. absurd (cc))
-
-no_stop_offered : (v : View) (e : Event) (o : Option SubmitFault) → IsNoStop (offered v e o)
-no_stop_offered v e None = λ ending is. absurd (cc)
-no_stop_offered v e (Some why) = either IsNoStop (is_shortage why) (Ok (save v)) (Err (Refused why)) (no_stop_saved v) (λ ending is. absurd (cc))
-
-saved_by : (b : Bool) (why ending : Ending) (v : View) (planned : Result Progress DriveFault) → planned ≡ (if b then Ok (Stopped why) else Ok (save v)) → planned ≡ Ok (Stopped ending) → (b ≡ true) × (why ≡ ending)
-saved_by true why ending v planned is e = (refl, cc)
-saved_by false why ending v planned is e = absurd (no_stop_saved v ending (sym is ∙ e))
-
-saved_for : (n : Next) (c : Cursor) (v : View) (ending : Ending) → plan_for n c v ≡ Ok (Stopped ending) → (c.is_saved ≡ true) × (n ≡ End ending)
-saved_for (Submit e) c v ending is = absurd (either IsNoStop (c.rounds_left == 0) (Ok (save v)) (offered v e (refusal_of v e)) (no_stop_saved v) (no_stop_offered v e (refusal_of v e)) ending is)
-saved_for (End why) c v ending is = let h = saved_by c.is_saved why ending v (plan_for (End why) c v) refl is in (h.0, ap End h.1)
-
-kept_by : (b : Bool) (n : Next) (c : Cursor) (v : View) (ending : Ending) → (if b then Ok Released else plan_for n c v) ≡ Ok (Stopped ending) → (b ≡ false) × (c.is_saved ≡ true) × (n ≡ End ending)
-kept_by true n c v ending is = absurd (cc)
-kept_by false n c v ending is = let h = saved_for n c v ending is in (refl, h.0, h.1)
-
 reached : (n m : ℕ) → nat_lt n m ≡ false → n ≤ m → n ≡ m
 reached n m e le = grind (arith, nat_tests)
 
 -- an end is planned only where all is saved, and it is what it says
-pub at_end : (o : Options) (c : Cursor) (v : View) (ending : Ending) → v.recovered.confirmed ≤ v.released → IsSound c v → plan o c v ≡ Ok (Stopped ending) → IsAtEnd c v ending
-at_end o c v ending le sound is =
-    let kept = kept_by (nat_lt v.recovered.confirmed v.released) (next (most_steps (version_of v) o.turn) c v.recovered.state.tables) c v ending is in
+pub at_end : (o : Options) (left : ℕ) (v : View) (ending : Ending) → v.recovered.confirmed ≤ v.released → plan o left v ≡ Ok (Stopped ending) → IsAtEnd left v ending
+at_end o left v ending le is =
+    let h = planned_end o left v ending is in
     record {
-      saved = record { acknowledged = sound.saved kept.1; confirmed = reached v.recovered.confirmed v.released kept.0 le };
-      is = end_of (most_steps (version_of v) o.turn) c v.recovered.state.tables ending kept.2;
+      saved = record { acknowledged = h.settled; confirmed = reached v.recovered.confirmed v.released h.confirmed le };
+      is = end_of (schedule_of o) left v.recovered.count v.recovered.state.tables ending h.planned;
     }
 
 -- EVENTS
 
--- an event is planned only where one is left
-abbrev pub IsNoEvent : Result Progress DriveFault → Type 0
-IsNoEvent planned = (e : Event) (answer : Answer) → planned ≡ Ok (Submitted e answer) → ⊥
-
-no_event_saved : (v : View) → IsNoEvent (Ok (save v))
-no_event_saved v =
-    either (λ did. IsNoEvent (Ok did)) (nat_lt (room_of v.recovered.journal) (2 * LONGEST_BATCH)) Checkpointed Committed (λ e answer is. absurd (cc)) (λ e answer is. absurd (cc))
-
-submits_for : (n : Next) (c : Cursor) (v : View) (e : Event) (answer : Answer) → plan_for n c v ≡ Ok (Submitted e answer) → (ending : Ending) → n ≡ End ending → ⊥
-submits_for (Submit x) c v e answer is = λ ending no. absurd (cc)
-submits_for (End why) c v e answer is = λ ending no. either IsNoEvent c.is_saved (Ok (Stopped why)) (Ok (save v)) (λ x a are. absurd (cc)) (no_event_saved v) e answer is
-
-submits_by : (b : Bool) (n : Next) (c : Cursor) (v : View) (e : Event) (answer : Answer) → (if b then Ok Released else plan_for n c v) ≡ Ok (Submitted e answer) → (ending : Ending) → n ≡ End ending → ⊥
-submits_by true n c v e answer is = absurd (cc)
-submits_by false n c v e answer is = submits_for n c v e answer is
-
-left_by : (r b : Bool) (c : Cursor) (n : Next) → (c.events_left == 0) ≡ b → ((ending : Ending) → (if r then (if b then End Enough else n) else End Ended) ≡ End ending → ⊥) → 0 < c.events_left
-left_by true true c n is never = absurd (never Enough refl)
-left_by true false c n is never = grind (arith, nat_tests)
-left_by false b c n is never = absurd (never Ended refl)
-
-some_left : (o : Options) (x : Stand) (e : Event) (answer : Answer) → plan o x.cursor x.view ≡ Ok (Submitted e answer) → 0 < x.cursor.events_left
-some_left o x e answer is =
-    let s = x.view.recovered.state.tables in
-    left_by (is_running s.status) (x.cursor.events_left == 0) x.cursor (next_running (most_steps (version_of x.view) o.turn) x.cursor s) refl (submits_by (nat_lt x.view.recovered.confirmed x.view.released) (next (most_steps (version_of x.view) o.turn) x.cursor s) x.cursor x.view e answer is)
-
-turn_keeps : (lot : Option Lot) (h : ℕ) (c : Cursor) → (behind_turn lot h c).events_left ≡ c.events_left
-turn_keeps None h c = refl
-turn_keeps (Some lot) h c = refl
-
-one_less : (e : Event) (c : Cursor) → (after_event e c).events_left ≡ c.events_left - 1
-one_less (Place h t) c = refl
-one_less (Run h n) c = turn_keeps c.lot h (record c { events_left = c.events_left - 1; is_saved = false })
-one_less (RunLong h n) c = turn_keeps c.lot h (record c { events_left = c.events_left - 1; is_saved = false })
-one_less (Tick k) c = refl
-one_less (Input bytes) c = refl
-one_less Eof c = refl
-
 -- as many events are left as were, less those that were taken
-counted : (o : Options) (did : List Progress) (x y : Stand) → FollowsPlan o did x y → length (events_in did) + y.cursor.events_left ≡ x.cursor.events_left
-counted o [] x y h = let same = ap (λ (q : Stand). q.cursor.events_left) h in omega (arith, same)
+counted : (o : Options) (did : List Progress) (x y : Stand) → FollowsPlan o did x y → length (events_in did) + y.left ≡ x.left
+counted o [] x y h = let same = ap (λ (q : Stand). q.left) h in omega (arith, same)
 counted o (Submitted e answer ∷ more) x y h =
-    let rest = counted o more (stand_after o (Submitted e answer) x) y h.2 in
-    let less = one_less e x.cursor in
-    omega (arith, rest, less, some_left o x e answer h.0)
-counted o (Committed ∷ more) x y h = counted o more (stand_after o Committed x) y h.2
-counted o (Checkpointed ∷ more) x y h = counted o more (stand_after o Checkpointed x) y h.2
-counted o (Released ∷ more) x y h = counted o more (stand_after o Released x) y h.2
+    let rest = counted o more (stand_after (Submitted e answer) x) y h.2 in
+    omega (arith, rest, some_left o x.left x.view e answer h.0)
+counted o (Committed ∷ more) x y h = counted o more (stand_after Committed x) y h.2
+counted o (Checkpointed ∷ more) x y h = counted o more (stand_after Checkpointed x) y h.2
+counted o (Released ∷ more) x y h = counted o more (stand_after Released x) y h.2
 counted o (Stopped ending ∷ more) x y h = absurd h.1
 
 -- whatever isn't an end goes on
@@ -134,38 +62,38 @@ onward Checkpointed no_stop = tt
 onward Released no_stop = tt
 onward (Stopped ending) no_stop = no_stop ending refl
 
-follows_more : (o : Options) (xs : List Progress) (did : Progress) (x y : Stand) → FollowsPlan o xs x y → plan o y.cursor y.view ≡ Ok did → IsOnward did → FollowsPlan o (xs ++ did ∷ []) x (stand_after o did y)
-follows_more o [] did x y h is on = (subst (λ (q : Stand). plan o q.cursor q.view ≡ Ok did) h is, on, ap (stand_after o did) h)
-follows_more o (first ∷ xs) did x y h is on = (h.0, h.1, follows_more o xs did (stand_after o first x) y h.2 is on)
+follows_more : (o : Options) (xs : List Progress) (did : Progress) (x y : Stand) → FollowsPlan o xs x y → plan o y.left y.view ≡ Ok did → IsOnward did → FollowsPlan o (xs ++ did ∷ []) x (stand_after did y)
+follows_more o [] did x y h is on = (subst (λ (q : Stand). plan o q.left q.view ≡ Ok did) h is, on, ap (stand_after did) h)
+follows_more o (first ∷ xs) did x y h is on = (h.0, h.1, follows_more o xs did (stand_after first x) y h.2 is on)
 
 events_more : (xs : List Progress) (did : Progress) → events_in (xs ++ did ∷ []) ≡ events_in xs ++ accepted_by did
 events_more [] did = append-nil (accepted_by did)
 events_more (x ∷ xs) did = ap (λ (l : List Event). accepted_by x ++ l) (events_more xs did) ∙ sym (append_assoc (accepted_by x) (events_in xs) (accepted_by did))
 
-same_stand : (c d : Cursor) (v w : View) → c ≡ d → v ≡ w → stand c v ≡ stand d w
+same_stand : (c d : ℕ) (v w : View) → c ≡ d → v ≡ w → stand c v ≡ stand d w
 same_stand c d v w e f = ap (λ q. stand q v) e ∙ ap (λ q. stand d q) f
 
-enough_by : (o : Options) (did : List Progress) (x y : Stand) (ending : Ending) → FollowsPlan o did x y → IsAtEnd y.cursor y.view ending → (result : Result (Option Ending) DriveFault) → result ≡ Ok (Some ending) → result ≡ Ok (Some Enough) → length (events_in did) ≡ x.cursor.events_left
+enough_by : (o : Options) (did : List Progress) (x y : Stand) (ending : Ending) → FollowsPlan o did x y → IsAtEnd y.left y.view ending → (result : Result (Option Ending) DriveFault) → result ≡ Ok (Some ending) → result ≡ Ok (Some Enough) → length (events_in did) ≡ x.left
 enough_by o did x y ending h at result gives is =
     let same : ending ≡ Enough = cc in
-    let none = subst (λ e. IsAtEnd y.cursor y.view e) same at in
+    let none = subst (λ e. IsAtEnd y.left y.view e) same at in
     omega (arith, counted o did x y h, none.is.1)
 
 no_room : (fault : DriveFault) (result : Result (Option Ending) DriveFault) → result ≡ Err fault → result ≡ Err OutputFull → fault ≡ OutputFull
 no_room fault result is full = cc
 
 module _ {D O : Type 0} {g : Ghosts D} (o : Ghosts O) where
-  pub stops_rightly : (options : Options) (c c' : Cursor) (s t : Session D g) (a b : O) (r : Result Progress DriveFault) → IsSound c (view_of s) → Steps o (plan options c (view_of s)) s t a b r
-      → IfOk r (λ did. c' ≡ cursor_after options did c) → IfOk r (StopsRightly c' (view_of t))
-  stops_rightly options c c' s t a b (Ok (Submitted e answer)) sound h turned = tt
-  stops_rightly options c c' s t a b (Ok Committed) sound h turned = tt
-  stops_rightly options c c' s t a b (Ok Checkpointed) sound h turned = tt
-  stops_rightly options c c' s t a b (Ok Released) sound h turned = tt
-  stops_rightly options c c' s t a b (Ok (Stopped ending)) sound h turned = subst (λ (q : Stand). IsAtEnd q.cursor q.view ending) (sym (same_stand c' c (view_of t) (view_of s) turned h.done.1)) (at_end options c (view_of s) ending s.released_from sound h.done.0)
-  stops_rightly options c c' s t a b (Err e) sound h turned = tt
+  pub stops_rightly : (options : Options) (c c' : ℕ) (s t : Session D g) (a b : O) (r : Result Progress DriveFault) → Steps o (plan options c (view_of s)) s t a b r
+      → IfOk r (λ did. c' ≡ left_after did c) → IfOk r (StopsRightly c' (view_of t))
+  stops_rightly options c c' s t a b (Ok (Submitted e answer)) h turned = tt
+  stops_rightly options c c' s t a b (Ok Committed) h turned = tt
+  stops_rightly options c c' s t a b (Ok Checkpointed) h turned = tt
+  stops_rightly options c c' s t a b (Ok Released) h turned = tt
+  stops_rightly options c c' s t a b (Ok (Stopped ending)) h turned = subst (λ (q : Stand). IsAtEnd q.left q.view ending) (sym (same_stand c' c (view_of t) (view_of s) turned h.done.1)) (at_end options c (view_of s) ending s.released_from h.done.0)
+  stops_rightly options c c' s t a b (Err e) h turned = tt
 
   -- how a step's fault leaves where it stands
-  fault_stands : (options : Options) (c c' : Cursor) (s t : Session D g) (a b : O) (fault : DriveFault) → c' ≡ c → IsWhyStep o (plan options c (view_of s)) s t a b fault → IsFault options (stand_of c s) (stand_of c' t) fault
+  fault_stands : (options : Options) (c c' : ℕ) (s t : Session D g) (a b : O) (fault : DriveFault) → c' ≡ c → IsWhyStep o (plan options c (view_of s)) s t a b fault → IsFault options (stand_of c s) (stand_of c' t) fault
   fault_stands options c c' s t a b Device same h = same_stand c' c (view_of t) (record (view_of s) { failed = true }) same h
   fault_stands options c c' s t a b Output same h = (h.0, same_stand c' c (view_of t) (view_of s) same h.2)
   fault_stands options c c' s t a b OutputFull same h = (h.0, same_stand c' c (view_of t) (view_of s) same (ap view_of h.2))
@@ -173,7 +101,7 @@ module _ {D O : Type 0} {g : Ghosts D} (o : Ghosts O) where
   fault_stands options c c' s t a b (Refused why) same h = (h.0, same_stand c' c (view_of t) (view_of s) same (ap view_of h.1))
 
   -- where the output has no room it had none at first
-  full_by : (options : Options) (c : Cursor) (s t : Session D g) (x a b : O) (fault : DriveFault) → o.size x ≡ o.size a → IsWhyStep o (plan options c (view_of s)) s t a b fault → fault ≡ OutputFull → o.size x < t.released
+  full_by : (options : Options) (c : ℕ) (s t : Session D g) (x a b : O) (fault : DriveFault) → o.size x ≡ o.size a → IsWhyStep o (plan options c (view_of s)) s t a b fault → fault ≡ OutputFull → o.size x < t.released
   full_by options c s t x a b fault same h is =
       let why = subst (λ f. IsWhyStep o (plan options c (view_of s)) s t a b f) is h in
       let released = ap (λ (v : Session D g). v.released) why.2 in
@@ -202,7 +130,7 @@ module _ {D O : Type 0} {g : Ghosts D} (o : Ghosts O) where
   }
 
   -- steps so far, of which none failed, and none was an end
-  pub record SoFar (options : Options) (made : ℕ) (c c' : Cursor) (s t : Session D g) (a b : O) : Type 0 where
+  pub record SoFar (options : Options) (made : ℕ) (c c' : ℕ) (s t : Session D g) (a b : O) : Type 0 where
     pub did : List Progress
     pub follows : FollowsPlan options did (stand_of c s) (stand_of c' t)
     pub count : length did ≡ made
@@ -211,14 +139,14 @@ module _ {D O : Type 0} {g : Ghosts D} (o : Ghosts O) where
     pub puts : PutsOutput o (events_in did) s t a b false
     pub well : o.failures b ≡ o.failures a
 
-  pub so_far_nothing : (options : Options) (c : Cursor) (s : Session D g) (a : O) → SoFar options 0 c c s s a a
+  pub so_far_nothing : (options : Options) (c : ℕ) (s : Session D g) (a : O) → SoFar options 0 c c s s a a
   so_far_nothing options c s a = let accepts = accepts_kept s s refl refl in record { did = []; follows = refl; count = refl; accepts = accepts; writes = writes_kept o [] s s a accepts refl; puts = puts_nothing o [] s s a refl; well = refl }
 
-  pub so_far_more : (options : Options) (made : ℕ) (c d e : Cursor) (did : Progress) (s m u : Session D g) (x y z : O) → SoFar options made c d s m x y → IsOnward did → Steps o (plan options d (view_of m)) m u y z (Ok did)
-      → e ≡ cursor_after options did d → o.failures z ≡ o.failures y → SoFar options (made + 1) c e s u x z
+  pub so_far_more : (options : Options) (made : ℕ) (c d e : ℕ) (did : Progress) (s m u : Session D g) (x y z : O) → SoFar options made c d s m x y → IsOnward did → Steps o (plan options d (view_of m)) m u y z (Ok did)
+      → e ≡ left_after did d → o.failures z ≡ o.failures y → SoFar options (made + 1) c e s u x z
   so_far_more options made c d e did s m u x y z h on k turned well = record {
     did = h.did ++ did ∷ [];
-    follows = subst (λ q. FollowsPlan options (h.did ++ did ∷ []) (stand_of c s) q) (sym (same_stand e (cursor_after options did d) (view_of u) (view_after did (view_of m)) turned k.done.1))
+    follows = subst (λ q. FollowsPlan options (h.did ++ did ∷ []) (stand_of c s) q) (sym (same_stand e (left_after did d) (view_of u) (view_after did (view_of m)) turned k.done.1))
         (follows_more options h.did did (stand_of c s) (stand_of d m) h.follows k.done.0 on);
     count = length-append h.did (did ∷ []) ∙ ap (λ n. n + 1) h.count;
     accepts = subst (λ (l : List Event). Accepts l s u) (sym (events_more h.did did)) (accepts_more (events_in h.did) (accepted_by did) s m u h.accepts k.accepts);
@@ -230,7 +158,7 @@ module _ {D O : Type 0} {g : Ghosts D} (o : Ghosts O) where
   module _ (law : (disk : D) (image : List ℕ) → g.is_honest disk → g.left_since disk (g.moment disk) image → IsImage (g.content disk) (g.pending disk) image)
       (output_law : (disk : O) (image : List ℕ) → o.is_honest disk → o.left_since disk (o.moment disk) image → IsImage (o.content disk) (o.pending disk) image)
       (options : Options) (steps : ℕ) where
-    runs_by : (accepted : List Event) (c e : Cursor) (s u : Session D g) (x z : O) (result : Result (Option Ending) DriveFault) → Accepts accepted s u → Writes o accepted s u x z → PutsOutput o accepted s u x z (is_output_fault result)
+    runs_by : (accepted : List Event) (c e : ℕ) (s u : Session D g) (x z : O) (result : Result (Option Ending) DriveFault) → Accepts accepted s u → Writes o accepted s u x z → PutsOutput o accepted s u x z (is_output_fault result)
         → (result ≡ Err OutputFull → o.size x < u.released) → GoesByPlan options steps accepted (stand_of c s) (stand_of e u) result → Runs o options steps c e s u x z result
     runs_by accepted c e s u x z result accepts writes puts full goes = record {
       accepted = accepted;
@@ -247,7 +175,7 @@ module _ {D O : Type 0} {g : Ghosts D} (o : Ghosts O) where
     }
 
     -- all the steps were made
-    pub runs_all : (c d : Cursor) (s m : Session D g) (x y : O) → SoFar options steps c d s m x y → Runs o options steps c d s m x y (Ok None)
+    pub runs_all : (c d : ℕ) (s m : Session D g) (x y : O) → SoFar options steps c d s m x y → Runs o options steps c d s m x y (Ok None)
     runs_all c d s m x y h = runs_by (events_in h.did) c d s m x y (Ok None) h.accepts h.writes h.puts (λ no. absurd (cc)) (record {
       did = h.did;
       last = stand_of d m;
@@ -259,7 +187,7 @@ module _ {D O : Type 0} {g : Ghosts D} (o : Ghosts O) where
     })
 
     -- steps so far, and then an end
-    pub runs_to_end : (made : ℕ) (c d e : Cursor) (ending : Ending) (s m u : Session D g) (x y z : O) → made < steps → SoFar options made c d s m x y → Steps o (plan options d (view_of m)) m u y z (Ok (Stopped ending))
+    pub runs_to_end : (made : ℕ) (c d e : ℕ) (ending : Ending) (s m u : Session D g) (x y z : O) → made < steps → SoFar options made c d s m x y → Steps o (plan options d (view_of m)) m u y z (Ok (Stopped ending))
         → e ≡ d → IsAtEnd e (view_of u) ending → Runs o options steps c e s u x z (Ok (Some ending))
     runs_to_end made c d e ending s m u x y z some h k same at =
         let there = same_stand e d (view_of u) (view_of m) same k.done.1 in
@@ -276,11 +204,11 @@ module _ {D O : Type 0} {g : Ghosts D} (o : Ghosts O) where
           few = omega (arith, h.count, some);
           took = refl;
           why = (k.done.0, there, at);
-          enough = enough_by options h.did (stand_of c s) (stand_of d m) ending h.follows (subst (λ (q : Stand). IsAtEnd q.cursor q.view ending) there at) (Ok (Some ending)) refl;
+          enough = enough_by options h.did (stand_of c s) (stand_of d m) ending h.follows (subst (λ (q : Stand). IsAtEnd q.left q.view ending) there at) (Ok (Some ending)) refl;
         })
 
     -- steps so far, and then one that failed
-    pub runs_to_fault : (made : ℕ) (c d e : Cursor) (fault : DriveFault) (s m u : Session D g) (x y z : O) → made < steps → SoFar options made c d s m x y → Steps o (plan options d (view_of m)) m u y z (Err fault)
+    pub runs_to_fault : (made : ℕ) (c d e : ℕ) (fault : DriveFault) (s m u : Session D g) (x y z : O) → made < steps → SoFar options made c d s m x y → Steps o (plan options d (view_of m)) m u y z (Err fault)
         → e ≡ d → Runs o options steps c e s u x z (Err fault)
     runs_to_fault made c d e fault s m u x y z some h k same =
         let none = append-nil (events_in h.did) in

@@ -22,7 +22,7 @@ use Rattle.ckrt_drive.specs.declared.fault.DriveFault.{DriveFault}
 use Rattle.ckrt_drive.specs.declared.fault.DriveFault.TheVariants.{Device, GenerationsUsed, Refused}
 use Rattle.ckrt_drive.specs.declared.progress.Progress.{Progress}
 use Rattle.ckrt_drive.specs.declared.progress.Progress.TheVariants.{Submitted, Committed, Checkpointed}
-use Rattle.ckrt_drive.specs.Plan.{save, is_shortage, offered}
+use Rattle.ckrt_drive.specs.Plan.{make_room, is_shortage, offered}
 use Rattle.ckrt_drive.specs.Steps.{Advances}
 
 pub at_ok : {A E : Type 0} (r : Result A E) (P : Type 0) (x : A) → r ≡ Ok x → OnOk r P → P
@@ -170,15 +170,15 @@ module _ {D : Type 0} {g : Ghosts D} where
       }
 
   pub advances_short : (e : Event) (why : SubmitFault) (old mid new : Session D g) (r : Result Progress DriveFault) → refusal_of (view_of old) e ≡ Some why → mid ≡ old → is_shortage why ≡ true
-      → Advances (Ok (save (view_of mid))) mid new r → Advances (offered (view_of old) e (refusal_of (view_of old) e)) old new r
+      → Advances (Ok (make_room (view_of mid))) mid new r → Advances (offered (view_of old) e (refusal_of (view_of old) e)) old new r
   advances_short e why old mid new r is same short saved =
-      let planned = ap (offered (view_of old) e) is ∙ choice (is_shortage why) (Ok (save (view_of old))) (Err (Refused why)) true short in
-      subst (λ (q : Result Progress DriveFault). Advances q old new r) (sym planned) (subst (λ (s : Session D g). Advances (Ok (save (view_of s))) s new r) same saved)
+      let planned = ap (offered (view_of old) e) is ∙ choice (is_shortage why) (Ok (make_room (view_of old))) (Err (Refused why)) true short in
+      subst (λ (q : Result Progress DriveFault). Advances q old new r) (sym planned) (subst (λ (s : Session D g). Advances (Ok (make_room (view_of s))) s new r) same saved)
 
   pub advances_refused : (e : Event) (why : SubmitFault) (old new : Session D g) → refusal_of (view_of old) e ≡ Some why → new ≡ old → is_shortage why ≡ false
       → Advances (offered (view_of old) e (refusal_of (view_of old) e)) old new (Err (Refused why))
   advances_refused e why old new is same long = record {
     done = tt;
-    why = (ap (offered (view_of old) e) is ∙ choice (is_shortage why) (Ok (save (view_of old))) (Err (Refused why)) false long, same);
+    why = (ap (offered (view_of old) e) is ∙ choice (is_shortage why) (Ok (make_room (view_of old))) (Err (Refused why)) false long, same);
     accepts = accepts_kept old new (ap view_of same) (ap (λ (s : Session D g). s.disk) same);
   }

@@ -7,7 +7,6 @@ use Rattle.ckrt_thread.specs.Waits.{is_for}
 use Rattle.ckrt_state.specs.declared.table.Tables.{Tables}
 use Rattle.ckrt_machine.specs.Steps.{hart_of}
 use Rattle.ckrt_machine.specs.Runs.{is_running}
-use Rattle.ckrt_drive.specs.declared.cursor.Cursor.{Cursor}
 use Rattle.ckrt_drive.specs.declared.progress.Ending.{Ending}
 use Rattle.ckrt_drive.specs.declared.progress.Ending.TheVariants.{Ended, WaitsForInput, Deadlock, Enough}
 
@@ -41,8 +40,8 @@ pub record IsHungry (s : Tables) : Type 0 where
   pub read : IsRead s.threads.waits
 
 -- what an end says of the program; one that goes on had all its events
-abbrev pub IsEnd : Ending → Cursor → Tables → Type 0
-IsEnd Ended c s = is_running s.status ≡ false
-IsEnd WaitsForInput c s = IsHungry s
-IsEnd Deadlock c s = IsDeadlock s
-IsEnd Enough c s = (is_running s.status ≡ true) × (c.events_left ≡ 0)
+abbrev pub IsEnd : Ending → (left : ℕ) → Tables → Type 0
+IsEnd Ended left s = is_running s.status ≡ false
+IsEnd WaitsForInput left s = IsHungry s
+IsEnd Deadlock left s = IsDeadlock s
+IsEnd Enough left s = (is_running s.status ≡ true) × (left ≡ 0)

@@ -1,5 +1,7 @@
--- What a drive does next (this project's choice): a function of its options, of where it stands, and of what the session shows.
-use Rattle.std.specs.Prelude.{ℕ, zero, suc, ◌+◌, ◌-◌, ◌*◌, ◌/◌, ◌%◌, ◌==◌, ◌||◌, nat_lt, min, max, Bool, true, false, if◌then◌else◌, Option, Some, None, is_some, option_map, List, [], ◌∷◌, Result, Ok, Err, nat_le}
+-- What a drive does next (this project's choice). Which event comes next is a function of the schedule, of how many events were accepted since
+-- the disk was formatted, and of the tables; what is saved when is one of what is pending and of the journal's room. A drive remembers nothing
+-- of it but how many events are left to it.
+use Rattle.std.specs.Prelude.{ℕ, zero, suc, ◌+◌, ◌-◌, ◌*◌, ◌/◌, ◌%◌, ◌==◌, ◌||◌, ◌&&◌, nat_lt, nat_le, min, max, Bool, true, false, if◌then◌else◌, Option, Some, None, is_some, unwrap_or, List, [], ◌∷◌, Result, Ok, Err}
 use Rattle.ckrt_thread.specs.declared.records.Wait.{Wait}
 use Rattle.ckrt_thread.specs.declared.records.Object.TheVariants.{Input}
 use Rattle.ckrt_thread.specs.State.{first_waiter}
@@ -7,7 +9,6 @@ use Rattle.ckrt_state.specs.declared.table.Tables.{Tables}
 use Rattle.ckrt_events.specs.Bytes.{IsInRange}
 use Rattle.ckrt_events.specs.declared.event.Event.{Event}
 use Rattle.ckrt_events.specs.declared.event.Event.TheVariants.{Place, Run, Tick, RunLong}
-use Rattle.ckrt_events.specs.declared.event.Event.TheVariants as event
 use Rattle.ckrt_machine.specs.declared.event.Refusal.TheVariants.{OutputFull}
 use Rattle.ckrt_machine.specs.Events.{step}
 use Rattle.ckrt_machine.specs.Steps.{hart_of}
@@ -17,9 +18,7 @@ use Rattle.ckrt_image.specs.Recovery.{room_of}
 use Rattle.ckrt_recovery.specs.declared.fault.SubmitFault.{SubmitFault}
 use Rattle.ckrt_recovery.specs.declared.fault.SubmitFault.TheVariants as fault
 use Rattle.ckrt_recovery.specs.View.{View, refusal_of, version_of}
-use Rattle.ckrt_drive.specs.Lots.{lots_of, next_lot, number_of}
-use Rattle.ckrt_drive.specs.declared.lot.Lot.{Lot}
-use Rattle.ckrt_drive.specs.declared.cursor.Cursor.{Cursor}
+use Rattle.ckrt_drive.specs.Lots.{lot_of}
 use Rattle.ckrt_drive.specs.declared.options.Options.{Options}
 use Rattle.ckrt_drive.specs.declared.fault.DriveFault.{DriveFault}
 use Rattle.ckrt_drive.specs.declared.fault.DriveFault.TheVariants.{Refused}
@@ -28,25 +27,29 @@ use Rattle.ckrt_drive.specs.declared.progress.Progress.{Progress}
 use Rattle.ckrt_drive.specs.declared.progress.Progress.TheVariants.{Submitted, Committed, Checkpointed, Released, Stopped}
 use Rattle.ckrt_drive.specs.declared.plan.Next.{Next}
 use Rattle.ckrt_drive.specs.declared.plan.Next.TheVariants.{Submit, End}
+use Rattle.ckrt_drive.specs.declared.plan.Sought.{Sought}
+use Rattle.ckrt_drive.specs.declared.plan.Sought.TheVariants.{Busy, Occupied}
+use Rattle.ckrt_drive.specs.declared.plan.Turn.{Turn}
 
--- how many steps a run may have that journals of each version have
+-- how many steps a Run may have; a RunLong has more
 abbrev pub RUN_LIMIT : ℕ
 RUN_LIMIT = 65535
 
 -- THE PROGRAM
 
--- a thread is on the hart, or one is ready to go there
-abbrev pub is_busy : Tables → ℕ → Bool
-is_busy s h = is_some (hart_of s h) || is_some (planned h s)
+-- whether a hart is one that is sought: an occupied one has a thread on it; a busy one has, or a thread is ready to go there
+abbrev pub is_sought : Sought → Tables → ℕ → Bool
+is_sought Occupied s h = is_some (hart_of s h)
+is_sought Busy s h = is_some (hart_of s h) || is_some (planned h s)
 
--- the first busy hart of h, h + 1, .., among n of them
-abbrev pub busy_from : ℕ → ℕ → Tables → Option ℕ
-busy_from zero h s = None
-busy_from (suc n) h s = if is_busy s h then Some h else busy_from n (h + 1) s
+-- the first of n harts, h, h + 1, .., that is sought
+abbrev pub sought_among : Sought → (n h : ℕ) → Tables → Option ℕ
+sought_among sought zero h s = None
+sought_among sought (suc n) h s = if is_sought sought s h then Some h else sought_among sought n (h + 1) s
 
--- the first busy hart from this one on
-abbrev pub next_busy : ℕ → Tables → Option ℕ
-next_busy h s = busy_from (s.threads.hart_count - h) h s
+-- the first one from a hart on, up to the last hart
+abbrev pub next_sought : Sought → (h : ℕ) → Tables → Option ℕ
+next_sought sought h s = sought_among sought (s.threads.hart_count - h) h s
 
 abbrev pub sooner : Option ℕ → Option ℕ → Option ℕ
 sooner None o = o
@@ -62,71 +65,104 @@ earliest_deadline (w ∷ ws) = sooner w.deadline (earliest_deadline ws)
 abbrev pub ticks_to : (deadline clock : ℕ) → ℕ
 ticks_to deadline clock = max 1 (min (deadline - clock) 4294967295)
 
+-- ROUNDS
+
+-- by what the events of a drive are chosen: how many steps a run has at most, and the seed of its lots, where it has one
+pub record Schedule : Type 0 where
+  pub turn : ℕ
+  pub seed : Option ℕ
+
+abbrev pub schedule_of : Options → Schedule
+schedule_of o = record { turn = o.turn; seed = o.seed }
+
+-- With H harts a round has 2 H + 1 places. Those of hart h are 2 h, where a thread may be placed, and 2 h + 1, for running; the last one is
+-- the clock's.
+abbrev pub places_of : Tables → ℕ
+places_of s = 2 * s.threads.hart_count + 1
+
+-- a turn at the place behind n events: the hart that is looked at first, and how many steps a run has
+abbrev pub turn_by : (seed : Option ℕ) → (most place n harts : ℕ) → Turn
+turn_by None most place n harts = record { place = place; first = place / 2; steps = most }
+turn_by (Some seed) most place n harts = record { place = place; first = lot_of seed n % harts; steps = lot_of seed n / 8 % most + 1 }
+
+-- the turn behind n events
+abbrev pub turn_at : Schedule → (n : ℕ) → Tables → Turn
+turn_at u n s = turn_by u.seed u.turn (n % places_of s) n s.threads.hart_count
+
 -- THE NEXT EVENT
 
--- nobody is on a hart or ready: the clock goes to the earliest deadline, and without one the drive is at an end
+-- a run of n steps, by the shortest event that has as many
+abbrev pub run_by : (h n : ℕ) → Event
+run_by h n = if nat_le n RUN_LIMIT then Run h n else RunLong h n
+
+-- the hart whose thread runs at a turn: at a place for running the first occupied one, from the turn's on and around
+abbrev pub runner_at : Turn → Tables → Option ℕ
+runner_at turn s = if turn.place % 2 == 1 then or_else (next_sought Occupied turn.first s) (next_sought Occupied 0 s) else None
+
+-- who is planned for a hart goes onto it, and where nobody is, its thread runs
+abbrev pub on_hart : (who : Option ℕ) → (h n : ℕ) → Event
+on_hart (Some t) h n = Place h t
+on_hart None h n = run_by h n
+
+-- the event of a busy hart
+abbrev pub of_busy : (h n : ℕ) → Tables → Event
+of_busy h n s = on_hart (planned h s) h n
+
+-- the thread of the hart that runs does so; where none does, it is for the first busy hart, from the turn's on and around
+abbrev pub of_runner : (runner : Option ℕ) → Turn → (least : ℕ) → Tables → Event
+of_runner (Some h) turn least s = run_by h turn.steps
+of_runner None turn least s = of_busy (unwrap_or (next_sought Busy turn.first s) least) turn.steps s
+
+-- the event of a turn, where `least` is the least busy hart
+abbrev pub event_at : Turn → (least : ℕ) → Tables → Event
+event_at turn least s = if turn.place == 2 * s.threads.hart_count then Tick 1 else of_runner (runner_at turn s) turn least s
+
+-- nobody is on a hart or ready: the clock goes to the earliest deadline, and without one there is nothing more to do
 abbrev pub idle_until : Option ℕ → Tables → Next
 idle_until (Some d) s = Submit (Tick (ticks_to d s.clock))
 idle_until None s = End (if is_some (first_waiter Input s.threads) then WaitsForInput else Deadlock)
 
--- behind the turn of the last hart
-abbrev pub round_end : Option ℕ → Tables → Next
-round_end (Some h) s = Submit (Tick 1)
-round_end None s = idle_until (earliest_deadline s.threads.waits) s
+abbrev pub next_by : (least : Option ℕ) → Turn → Tables → Next
+next_by (Some h) turn s = Submit (event_at turn h s)
+next_by None turn s = idle_until (earliest_deadline s.threads.waits) s
 
--- a run of n steps at most, by the shortest event that has as many
-abbrev pub run_by : ℕ → ℕ → Event
-run_by h n = if nat_le n RUN_LIMIT then Run h n else RunLong h n
+-- the event that is next behind n others, or why there is none
+abbrev pub next_event : Schedule → (n : ℕ) → Tables → Next
+next_event u n s = if is_running s.status then next_by (next_sought Busy 0 s) (turn_at u n s) s else End Ended
 
--- who is planned goes onto the hart, and else the hart's thread runs on
-abbrev pub on_turn : Option ℕ → ℕ → ℕ → Event
-on_turn (Some t) h n = Place h t
-on_turn None h n = run_by h n
+-- the same for a drive to which so many events are left
+abbrev pub next : Schedule → (left n : ℕ) → Tables → Next
+next u left n s = if is_running s.status && (left == 0) then End Enough else next_event u n s
 
--- the turn of a busy hart
-abbrev pub turn_of : Option ℕ → ℕ → Tables → Next
-turn_of (Some h) n s = Submit (on_turn (planned h s) h n)
-turn_of None n s = round_end (next_busy 0 s) s
-
--- the first busy hart from a drawn one on, and else from the first one; a round has as many turns as there are harts
-abbrev pub drawn_hart : Lot → ℕ → Tables → Option ℕ
-drawn_hart lot turn s = if nat_lt turn s.threads.hart_count then or_else (next_busy (number_of lot % s.threads.hart_count) s) (next_busy 0 s) else None
-
--- the hart whose turn it is: the first busy one that hasn't had its turn in the round, or one by lot
-abbrev pub hart_by : Option Lot → ℕ → Tables → Option ℕ
-hart_by None turn s = next_busy turn s
-hart_by (Some lot) turn s = drawn_hart lot turn s
-
--- how many steps it has: the most, or a drawn number up to it
-abbrev pub steps_by : Option Lot → ℕ → ℕ
-steps_by None most = most
-steps_by (Some lot) most = number_of lot / 8 % most + 1
-
--- while the program runs; who was placed in this turn runs
-abbrev pub next_turn : Option ℕ → ℕ → Cursor → Tables → Next
-next_turn (Some h) most c s = Submit (run_by h (steps_by c.lot most))
-next_turn None most c s = turn_of (hart_by c.lot c.turn s) (steps_by c.lot most) s
-
-abbrev pub next_running : ℕ → Cursor → Tables → Next
-next_running most c s = next_turn c.placed most c s
-
--- the event that is next, or why there is none, with so many steps of a turn at most
-abbrev pub next : ℕ → Cursor → Tables → Next
-next most c s = if is_running s.status then (if c.events_left == 0 then End Enough else next_running most c s) else End Ended
-
--- the most steps of a turn where the session's area is of a version: journals of version 1 have no long runs
-abbrev pub most_steps : (version most : ℕ) → ℕ
-most_steps version most = if nat_le 2 version then most else min most RUN_LIMIT
-
--- THE PLAN
+-- SAVING
 
 -- the most bytes that a batch takes of a journal behind its gate: two of length, 4,096 of events, and the next gate
 abbrev pub LONGEST_BATCH : ℕ
 LONGEST_BATCH = 4099
 
--- a commit, or a checkpoint where the journal might have no room for a full batch behind this one
-abbrev pub save : View → Progress
-save v = if nat_lt (room_of v.recovered.journal) (2 * LONGEST_BATCH) then Checkpointed else Committed
+-- nothing is pending: all events are acknowledged
+abbrev pub is_settled : View → Bool
+is_settled v = v.acknowledged == v.recovered.count
+
+-- the area is of version 1: its journal has no long runs
+abbrev pub is_old : View → Bool
+is_old v = nat_lt (version_of v) 2
+
+-- the journal has a batch, and might have no room for another
+abbrev pub is_filled : View → Bool
+is_filled v = nat_lt 0 v.recovered.journal.next_gate && nat_lt (room_of v.recovered.journal) LONGEST_BATCH
+
+-- a checkpoint comes first: with nothing pending, so the last batch stands in the journal that it leaves
+abbrev pub is_checkpoint_due : View → Bool
+is_checkpoint_due v = is_settled v && (is_old v || is_filled v)
+
+-- a commit does: what is pending has as many events as the rounds between two commits, or keeps a checkpoint waiting
+abbrev pub is_commit_due : Options → View → Bool
+is_commit_due o v = is_old v || nat_le (o.rounds * places_of v.recovered.state.tables) (v.recovered.count - v.acknowledged)
+
+-- room for an event that the session has no place for
+abbrev pub make_room : View → Progress
+make_room v = if is_settled v then Checkpointed else Committed
 
 -- a commit or a checkpoint makes room for the event
 abbrev pub is_shortage : SubmitFault → Bool
@@ -138,65 +174,39 @@ is_shortage fault.BatchFull = true
 is_shortage fault.JournalFull = true
 is_shortage fault.CountersUsed = false
 
+-- THE PLAN
+
 -- an event that the session takes, with what it comes to, or refuses so
 abbrev pub offered : View → Event → Option SubmitFault → Result Progress DriveFault
 offered v e None = Ok (Submitted e (step e v.recovered.state).answer)
-offered v e (Some why) = if is_shortage why then Ok (save v) else Err (Refused why)
+offered v e (Some why) = if is_shortage why then Ok (make_room v) else Err (Refused why)
 
--- an event waits until the rounds are saved, and an end until all is saved
-abbrev pub plan_for : Next → Cursor → View → Result Progress DriveFault
-plan_for (Submit e) c v = if c.rounds_left == 0 then Ok (save v) else offered v e (refusal_of v e)
-plan_for (End ending) c v = if c.is_saved then Ok (Stopped ending) else Ok (save v)
+-- an event is offered, and an end waits until all is acknowledged
+abbrev pub plan_for : Next → View → Result Progress DriveFault
+plan_for (Submit e) v = offered v e (refusal_of v e)
+plan_for (End ending) v = if is_settled v then Ok (Stopped ending) else Ok Committed
+
+-- what is planned where nothing has to be saved first
+abbrev pub plan_next : Options → (left : ℕ) → View → Result Progress DriveFault
+plan_next o left v = plan_for (next (schedule_of o) left v.recovered.count v.recovered.state.tables) v
 
 -- what is planned where all released output is confirmed
-abbrev pub plan_onward : Options → Cursor → View → Result Progress DriveFault
-plan_onward o c v = plan_for (next (most_steps (version_of v) o.turn) c v.recovered.state.tables) c v
+abbrev pub plan_onward : Options → (left : ℕ) → View → Result Progress DriveFault
+plan_onward o left v = if is_checkpoint_due v then Ok Checkpointed else if is_commit_due o v then Ok Committed else plan_next o left v
 
 -- released output goes out first
-abbrev pub plan : Options → Cursor → View → Result Progress DriveFault
-plan o c v = if nat_lt v.recovered.confirmed v.released then Ok Released else plan_onward o c v
+abbrev pub plan : Options → (left : ℕ) → View → Result Progress DriveFault
+plan o left v = if nat_lt v.recovered.confirmed v.released then Ok Released else plan_onward o left v
+
+-- how many events are left behind what the drive did
+abbrev pub left_after : Progress → (left : ℕ) → ℕ
+left_after (Submitted e answer) left = left - 1
+left_after Committed left = left
+left_after Checkpointed left = left
+left_after Released left = left
+left_after (Stopped ending) left = left
 
 -- the event's fields are in their ranges
-abbrev pub IsInRangeProgress : Progress → Type 0
-IsInRangeProgress (Submitted e answer) = IsInRange e
-IsInRangeProgress Committed = Unit {0}
-IsInRangeProgress Checkpointed = Unit {0}
-IsInRangeProgress Released = Unit {0}
-IsInRangeProgress (Stopped ending) = Unit {0}
-
 abbrev pub IsInRangeNext : Next → Type 0
 IsInRangeNext (Submit e) = IsInRange e
 IsInRangeNext (End ending) = Unit {0}
-
--- THE CURSOR
-
-abbrev pub cursor_at_start : Options → Cursor
-cursor_at_start o = record { turn = 0; placed = None; lot = option_map lots_of o.seed; rounds_left = o.rounds; events_left = o.events; is_saved = false }
-
--- behind the turn of a hart; no round has more than eight
-abbrev pub behind_turn : Option Lot → ℕ → Cursor → Cursor
-behind_turn None h c = record c { turn = h + 1; placed = None }
-behind_turn (Some lot) h c = record c { turn = min (c.turn + 1) 8; placed = None; lot = Some (next_lot lot) }
-
--- whose turn it is behind an event
-abbrev pub turned : Event → Cursor → Cursor
-turned (Place h t) c = record c { placed = Some h }
-turned (Run h n) c = behind_turn c.lot h c
-turned (RunLong h n) c = behind_turn c.lot h c
-turned (Tick k) c = record c { turn = 0; placed = None; rounds_left = c.rounds_left - 1 }
-turned (event.Input bytes) c = c
-turned event.Eof c = c
-
-abbrev pub after_event : Event → Cursor → Cursor
-after_event e c = turned e (record c { events_left = c.events_left - 1; is_saved = false })
-
-abbrev pub saved : Options → Cursor → Cursor
-saved o c = record c { rounds_left = o.rounds; is_saved = true }
-
--- where the drive stands behind what it did
-abbrev pub cursor_after : Options → Progress → Cursor → Cursor
-cursor_after o (Submitted e answer) c = after_event e c
-cursor_after o Committed c = saved o c
-cursor_after o Checkpointed c = saved o c
-cursor_after o Released c = c
-cursor_after o (Stopped ending) c = c

@@ -8,7 +8,6 @@ use Rattle.ckrt_recovery.specs.Between.{RecoversBetween}
 use Rattle.ckrt_recovery.specs.Represents.{Represents, acknowledged_of}
 use Rattle.ckrt_recovery.specs.View.{View, view_of}
 use Rattle.ckrt_commands.specs.Accepts.{Accepts}
-use Rattle.ckrt_drive.specs.declared.cursor.Cursor.{Cursor}
 use Rattle.ckrt_drive.specs.declared.fault.DriveFault.{DriveFault}
 use Rattle.ckrt_drive.specs.declared.fault.DriveFault.TheVariants.{Device, Output, OutputFull, GenerationsUsed, Refused}
 use Rattle.ckrt_drive.specs.declared.options.Options.{Options}
@@ -18,7 +17,7 @@ use Rattle.ckrt_drive.specs.declared.progress.Progress.{Progress}
 use Rattle.ckrt_drive.specs.declared.progress.Progress.TheVariants.{Submitted, Committed, Checkpointed, Released, Stopped}
 use Rattle.ckrt_drive.specs.Ends.{IsEnd}
 use Rattle.ckrt_drive.specs.Output.{HasOutput, HoldsOutput, Writes, acknowledged_output}
-use Rattle.ckrt_drive.specs.Plan.{cursor_after, plan}
+use Rattle.ckrt_drive.specs.Plan.{left_after, plan}
 use Rattle.ckrt_drive.specs.PutOut.{PutsOutput, is_output_fault}
 use Rattle.ckrt_drive.specs.Steps.{accepted_by, view_after}
 
@@ -30,33 +29,33 @@ pub record IsAllSaved (v : View) : Type 0 where
   pub confirmed : v.recovered.confirmed ≡ v.released
 
 -- at an end all is saved, and the end is what it says
-pub record IsAtEnd (c : Cursor) (v : View) (ending : Ending) : Type 0 where
+pub record IsAtEnd (left : ℕ) (v : View) (ending : Ending) : Type 0 where
   pub saved : IsAllSaved v
-  pub is : IsEnd ending c v.recovered.state.tables
+  pub is : IsEnd ending left v.recovered.state.tables
 
-abbrev pub StopsRightly : Cursor → View → Progress → Type 0
-StopsRightly c v (Submitted e answer) = Unit {0}
-StopsRightly c v Committed = Unit {0}
-StopsRightly c v Checkpointed = Unit {0}
-StopsRightly c v Released = Unit {0}
-StopsRightly c v (Stopped ending) = IsAtEnd c v ending
+abbrev pub StopsRightly : (left : ℕ) → View → Progress → Type 0
+StopsRightly left v (Submitted e answer) = Unit {0}
+StopsRightly left v Committed = Unit {0}
+StopsRightly left v Checkpointed = Unit {0}
+StopsRightly left v Released = Unit {0}
+StopsRightly left v (Stopped ending) = IsAtEnd left v ending
 
 -- STEP BY STEP
 
--- where a drive stands: its cursor, and what its session shows
+-- where a drive stands: how many events are left to it, and what its session shows
 pub record Stand : Type 0 where
-  pub cursor : Cursor
+  pub left : ℕ
   pub view : View
 
-abbrev pub stand : Cursor → View → Stand
-stand c v = record { cursor = c; view = v }
+abbrev pub stand : (left : ℕ) → View → Stand
+stand left v = record { left = left; view = v }
 
-abbrev pub stand_of : {D : Type 0} {g : Ghosts D} → Cursor → Session D g → Stand
-stand_of c s = stand c (view_of s)
+abbrev pub stand_of : {D : Type 0} {g : Ghosts D} → (left : ℕ) → Session D g → Stand
+stand_of left s = stand left (view_of s)
 
 -- behind what it did
-abbrev pub stand_after : Options → Progress → Stand → Stand
-stand_after o did x = record { cursor = cursor_after o did x.cursor; view = view_after did x.view }
+abbrev pub stand_after : Progress → Stand → Stand
+stand_after did x = record { left = left_after did x.left; view = view_after did x.view }
 
 -- it isn't an end
 abbrev pub IsOnward : Progress → Type 0
@@ -69,7 +68,7 @@ IsOnward (Stopped ending) = ⊥
 -- From one stand to another a drive did these things, each as planned, and none of them was an end.
 abbrev pub FollowsPlan : Options → List Progress → (x y : Stand) → Type 0
 FollowsPlan o [] x y = y ≡ x
-FollowsPlan o (did ∷ more) x y = (plan o x.cursor x.view ≡ Ok did) × IsOnward did × FollowsPlan o more (stand_after o did x) y
+FollowsPlan o (did ∷ more) x y = (plan o x.left x.view ≡ Ok did) × IsOnward did × FollowsPlan o more (stand_after did x) y
 
 -- the events among them
 abbrev pub events_in : List Progress → List Event
@@ -79,16 +78,16 @@ events_in (did ∷ more) = accepted_by did ++ events_in more
 -- how a drive stands at y that couldn't do what is planned at x
 abbrev pub IsFault : Options → (x y : Stand) → DriveFault → Type 0
 IsFault o x y Device = y ≡ record x { view = record x.view { failed = true } }
-IsFault o x y Output = (plan o x.cursor x.view ≡ Ok Released) × (y ≡ x)
-IsFault o x y OutputFull = (plan o x.cursor x.view ≡ Ok Released) × (y ≡ x)
+IsFault o x y Output = (plan o x.left x.view ≡ Ok Released) × (y ≡ x)
+IsFault o x y OutputFull = (plan o x.left x.view ≡ Ok Released) × (y ≡ x)
 IsFault o x y GenerationsUsed = (x.view.recovered.generation ≡ 2 ^ 64 - 1) × (y ≡ x)
-IsFault o x y (Refused why) = (plan o x.cursor x.view ≡ Err (Refused why)) × (y ≡ x)
+IsFault o x y (Refused why) = (plan o x.left x.view ≡ Err (Refused why)) × (y ≡ x)
 
 -- Why a drive that may make so many steps makes no more than these, behind which it stood at x: it made them all, an end is planned, or it
 -- couldn't do what is planned.
 abbrev pub IsWhyNoMore : Options → (steps made : ℕ) → (x y : Stand) → Result (Option Ending) DriveFault → Type 0
 IsWhyNoMore o steps made x y (Ok None) = (made ≡ steps) × (y ≡ x)
-IsWhyNoMore o steps made x y (Ok (Some ending)) = (plan o x.cursor x.view ≡ Ok (Stopped ending)) × (y ≡ x) × IsAtEnd y.cursor y.view ending
+IsWhyNoMore o steps made x y (Ok (Some ending)) = (plan o x.left x.view ≡ Ok (Stopped ending)) × (y ≡ x) × IsAtEnd y.left y.view ending
 IsWhyNoMore o steps made x y (Err fault) = (made < steps) × IsFault o x y fault
 
 -- From x to y a drive took these events, in at most so many steps.
@@ -100,16 +99,16 @@ pub record GoesByPlan (o : Options) (steps : ℕ) (accepted : List Event) (x y :
   pub took : accepted ≡ events_in did
   pub why : IsWhyNoMore o steps (length did) last y result
   -- it had enough where it took as many events as were left for it
-  pub enough : result ≡ Ok (Some Enough) → length accepted ≡ x.cursor.events_left
+  pub enough : result ≡ Ok (Some Enough) → length accepted ≡ x.left
 
 -- WHAT IS LEFT
 
 -- From s to t, with the output from a to b, a drive made at most so many steps by its plan, whatever they answered.
-pub record Runs {D O : Type 0} {g : Ghosts D} (o : Ghosts O) (options : Options) (steps : ℕ) (c c' : Cursor) (s t : Session D g) (a b : O) (result : Result (Option Ending) DriveFault) : Type 0 where
+pub record Runs {D O : Type 0} {g : Ghosts D} (o : Ghosts O) (options : Options) (steps left left' : ℕ) (s t : Session D g) (a b : O) (result : Result (Option Ending) DriveFault) : Type 0 where
   -- the events that the session took
   pub accepted : List Event
   pub accepts : Accepts accepted s t
-  pub goes : GoesByPlan options steps accepted (stand_of c s) (stand_of c' t) result
+  pub goes : GoesByPlan options steps accepted (stand_of left s) (stand_of left' t) result
   pub writes : Writes o accepted s t a b
   -- what the output was given
   pub puts : PutsOutput o accepted s t a b (is_output_fault result)

@@ -8,7 +8,6 @@ use Rattle.ckrt_recovery.specs.declared.session.Session.{Session}
 use Rattle.ckrt_recovery.specs.Between.{IsBeginningOf}
 use Rattle.ckrt_recovery.specs.Represents.{Represents}
 use Rattle.ckrt_commands.specs.Writing.{AppendsPart}
-use Rattle.ckrt_drive.specs.declared.cursor.Cursor.{Cursor}
 use Rattle.ckrt_drive.specs.declared.fault.DriveFault.{DriveFault}
 use Rattle.ckrt_drive.specs.declared.options.Options.{Options}
 use Rattle.ckrt_drive.specs.declared.progress.Ending.{Ending}
@@ -88,5 +87,5 @@ pub record StreamsOutput {D W : Type 0} {g : Ghosts D} (contents : W → Option 
 
 -- whatever run of a drive led from s to t, and its stream from a to b
 abbrev pub GetsTheOutput : {D W : Type 0} {g : Ghosts D} → Ghosts (StreamOutput W) → (contents : W → Option (List ℕ)) → (s t : Session D g) → (a b : StreamOutput W) → Type 0
-GetsTheOutput o contents s t a b = (options : Options) (steps : ℕ) (first last : Cursor) (result : Result (Option Ending) DriveFault)
+GetsTheOutput o contents s t a b = (options : Options) (steps first last : ℕ) (result : Result (Option Ending) DriveFault)
     → (runs : Runs o options steps first last s t a b result) → StreamsOutput contents runs.accepted s t a b (is_output_fault result)

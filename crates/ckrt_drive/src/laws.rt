@@ -1,10 +1,10 @@
 //! Laws of drives. Each is the contract of a function with an empty body.
-ghost use Rattle.std.specs.Prelude.{◌≡◌, Err};
-ghost use Rattle.ckrt_drive.specs.declared.cursor.Cursor.{Cursor};
+ghost use Rattle.std.specs.Prelude.{◌≡◌, ℕ, Err};
 ghost use Rattle.ckrt_drive.specs.declared.fault.DriveFault.TheVariants.{Refused};
 ghost use Rattle.ckrt_drive.specs.Plan.{plan};
+ghost use Rattle.ckrt_drive.specs.Settled.{FindsAllAcknowledged, FindsNothingPending};
 ghost use Rattle.ckrt_drive.specs.Streams.{GetsTheOutput};
-ghost use Rattle.ckrt_recovery.specs.View.{View};
+ghost use Rattle.ckrt_recovery.specs.View.{View, view_of};
 ghost use Rattle.ckrt_recovery.specs.declared.fault.SubmitFault.TheVariants.{NeedsCheckpoint};
 
 use crate::options::Options;
@@ -26,7 +26,15 @@ pub fn stream_gets_the_output<'a, D: Disk, W: Write>(
     ensures { GetsTheOutput ⟦<StreamOutput<'a, W> as Disk>⟧ W.contents before.now after.now stream.now end.now }
 {}
 
-/// A drive hands in no event that its session refuses as `NeedsCheckpoint`: while the area is of version 1 it plans no long run.
+/// A drive hands in no event that its session refuses as `NeedsCheckpoint`: where the area is of version 1, it has been checkpointed
+/// before.
 pub fn plans_suit_the_version(options: &Options)
-    ensures { (c : Cursor) (v : View) → plan options.now c v ≡ Err (Refused NeedsCheckpoint) → ⊥ }
+    ensures { (left : ℕ) (v : View) → plan options.now left v ≡ Err (Refused NeedsCheckpoint) → ⊥ }
+{}
+
+/// A checkpoint of a drive finds nothing pending: the last batch stands in the journal. So the older area with its journal leads
+/// exactly to what the newer one has.
+pub fn checkpoints_find_nothing_pending<D: Disk>(options: &Options, session: &Session<D>)
+    ensures acknowledged { FindsAllAcknowledged options.now (view_of session.now) }
+    ensures pending { FindsNothingPending options.now session.now }
 {}

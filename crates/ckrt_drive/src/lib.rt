@@ -2,7 +2,6 @@
 //! byte of output at its offset of a disk of its own, or hands it on ([`StreamOutput`]).
 #![tactic(auto)]
 
-mod cursor;
 mod drive;
 mod fault;
 mod laws;
@@ -14,11 +13,9 @@ mod progress;
 mod steps;
 mod stream;
 
-pub use cursor::Cursor;
 pub use drive::Drive;
 pub use fault::DriveFault;
-pub use laws::{plans_suit_the_version, stream_gets_the_output};
-pub use lot::Lot;
+pub use laws::{checkpoints_find_nothing_pending, plans_suit_the_version, stream_gets_the_output};
 pub use onlooker::{Nobody, Onlooker};
 pub use options::Options;
 pub use progress::{Ending, Progress};

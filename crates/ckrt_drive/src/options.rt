@@ -4,9 +4,6 @@ ghost use Rattle.ckrt_events.specs.declared.event.TheConstants.{LONG_RUN_LIMIT};
 
 use ckrt_events::LONG_RUN_LIMIT;
 
-/// The most steps of a [`Run`](ckrt_events::Event::Run).
-pub(crate) const RUN_LIMIT: u32 = 65_535;
-
 /// How a drive goes.
 #[derive(Clone, Copy, Debug, PartialEq, Eq)]
 pub struct Options {
@@ -20,10 +17,8 @@ pub struct Options {
 }
 
 impl Options {
-    ghost use Rattle.ckrt_drive.specs.Plan.{most_steps};
-
-    /// In each round each hart in turn runs `turn` steps at most, and 65,535 at most while the session's area is of version 1.
-    /// There is a commit after `rounds` rounds, and the drive ends after `events` events.
+    /// In each round each hart in turn runs `turn` steps at most. There is a commit after `rounds` rounds, and the drive ends
+    /// after `events` events.
     pub fn new(turn: u32, rounds: u32, events: u64) -> Options
         requires turn { 1 ≤ turn }
         requires few { turn ≤ LONG_RUN_LIMIT }
@@ -41,8 +36,8 @@ impl Options {
         }
     }
 
-    /// The same with harts and the steps of their turns by lot, as a generator draws them that begins with this seed: a
-    /// round has as many turns as there are harts.
+    /// The same with harts and the steps of their runs by lot, as the generator of this seed draws them: each by the number of
+    /// its event.
     pub fn with_seed(self, seed: u64) -> Options
         ensures { result ≡ record self { seed = Some seed } }
     {
@@ -51,19 +46,6 @@ impl Options {
             rounds: self.rounds,
             events: self.events,
             seed: Some(seed),
-        }
-    }
-
-    /// How many steps a turn has at most in a session whose area is of this version.
-    pub(crate) fn most_steps(&self, version: u32) -> u32
-        ensures turn { result ≡ most_steps version self.now.turn }
-        ensures some { 1 ≤ result }
-        ensures few { result ≤ LONG_RUN_LIMIT }
-    {
-        if 2 <= version {
-            self.turn
-        } else {
-            self.turn.min(RUN_LIMIT)
         }
     }
 }

@@ -1,20 +1,22 @@
 //! Which event is next.
-ghost use Rattle.std.specs.Prelude.{◌≡◌, ◌≤◌, ℕ, IfSome, Some};
+ghost use Rattle.std.specs.Prelude.{◌≡◌, ◌≤◌, ◌<◌, ℕ, IfSome, Some};
 ghost use Rattle.ckrt_events.specs.Bytes.{IsInRange};
 ghost use Rattle.ckrt_events.specs.declared.event.TheConstants.{LONG_RUN_LIMIT};
 ghost use Rattle.ckrt_thread.specs.declared.records.Object.TheVariants.{Input};
 ghost use Rattle.ckrt_machine.specs.Plans.{planned};
 ghost use Rattle.ckrt_machine.specs.Runs.{is_running};
-ghost use Rattle.ckrt_drive.specs.Plan.{IsInRangeNext, run_by, is_busy, next_busy, sooner, earliest_deadline, ticks_to, idle_until, round_end, turn_of, drawn_hart, hart_by, steps_by, next_running, next};
+ghost use Rattle.ckrt_drive.specs.Plan.{IsInRangeNext, earliest_deadline, event_at, idle_until, is_sought, next, next_event, next_sought, of_busy, run_by, runner_at, schedule_of, sooner, ticks_to, turn_at, turn_by};
 
-use crate::cursor::Cursor;
-use crate::lot::Lot;
-use crate::options::RUN_LIMIT;
+use crate::lot::lot_of;
+use crate::options::Options;
 use crate::progress::Ending;
 use ckrt_events::{Event, LONG_RUN_LIMIT};
 use ckrt_machine::Machine;
 use ckrt_state::{Status, Tables};
 use ckrt_thread::{Object, Wait};
+
+/// The most steps of a [`Run`](ckrt_events::Event::Run).
+const RUN_LIMIT: u32 = 65_535;
 
 /// The event that is next, or why there is none.
 #[derive(Clone, Debug, Drop, PartialEq, Eq)]
@@ -23,27 +25,51 @@ pub enum Next {
     End(Ending),
 }
 
-/// Whether a thread is on the hart, or one is ready to go there.
-fn is_busy(machine: &Machine, hart: u8) -> bool
-    ensures { result ≡ is_busy machine.now.state.tables hart }
+/// Which hart is sought.
+#[derive(Clone, Copy, Debug, PartialEq, Eq)]
+pub enum Sought {
+    /// One that a thread is on.
+    Occupied,
+    /// One that a thread is on, or is ready for.
+    Busy,
+}
+
+/// A turn in a round.
+#[derive(Clone, Copy, Debug, PartialEq, Eq)]
+pub struct Turn {
+    /// Its place in the round.
+    pub place: u8,
+    /// The hart that is looked at first.
+    pub first: u8,
+    /// How many steps a run has.
+    pub steps: u32,
+}
+
+/// Whether the hart is one that is sought.
+fn is_sought(machine: &Machine, sought: Sought, hart: u8) -> bool
+    ensures { result ≡ is_sought sought machine.now.state.tables hart }
 {
-    machine
+    let is_occupied = machine
         .tables()
         .threads
         .on_hart(usize::from(hart))
-        .is_some()
-        || machine.planned(hart).is_some()
+        .is_some();
+    match sought {
+        Sought::Occupied => is_occupied,
+        Sought::Busy => is_occupied || machine.planned(hart).is_some(),
+    }
 }
 
-/// The first busy hart from this one on.
-fn next_busy(machine: &Machine, from: u8) -> Option<u8>
+/// The first one from a hart on, up to the last hart.
+fn next_sought(machine: &Machine, sought: Sought, from: u8) -> Option<u8>
     requires { from ≤ 8 }
-    ensures busy { result ≡ next_busy from machine.now.state.tables }
+    ensures found { result ≡ next_sought sought from machine.now.state.tables }
     ensures small { IfSome result (λ hart. hart ≤ 7) }
+    ensures within { IfSome result (λ hart. hart < machine.now.state.tables.threads.hart_count) }
 {
     let count = machine.tables().threads.hart_count() as u8;
     for hart in from..count {
-        if is_busy(machine, hart) {
+        if is_sought(machine, sought, hart) {
             return Some(hart);
         }
     }
@@ -97,57 +123,45 @@ fn idle(tables: &Tables) -> Next
     Next::End(Ending::Deadlock)
 }
 
-/// What is next behind the turn of the last hart.
-fn round_end(machine: &Machine) -> Next
-    ensures next { result ≡ round_end (next_busy 0 machine.now.state.tables) machine.now.state.tables }
-    ensures in_range { IsInRangeNext result }
+/// The turn of a seed, or of none, at a place of a round: behind so many events, among so many harts.
+fn turn_by(seed: Option<u64>, most: u32, place: u8, behind: u64, harts: u32) -> Turn
+    requires some { 1 ≤ most }
+    requires place { place ≤ 16 }
+    requires harts { (1 ≤ harts) × (harts ≤ 8) }
+    ensures turn { result ≡ turn_by seed most place behind harts }
+    ensures first { result.first ≤ 8 }
+    ensures steps { (1 ≤ result.steps) × (result.steps ≤ most) }
 {
-    match next_busy(machine, 0) {
-        Some(_) => Next::Submit(Event::Tick(1)),
-        None => idle(machine.tables()),
+    match seed {
+        None => Turn {
+            place,
+            first: place / 2,
+            steps: most,
+        },
+        Some(seed) => {
+            let lot = lot_of(seed, behind);
+            Turn {
+                place,
+                first: (lot % harts) as u8,
+                steps: lot / 8 % most + 1,
+            }
+        }
     }
 }
 
-/// The first busy hart from a drawn one on, and else from the first one, while the round has turns left.
-fn drawn_hart(machine: &Machine, lot: Lot, turn: u8) -> Option<u8>
-    ensures busy { result ≡ drawn_hart lot turn machine.now.state.tables }
-    ensures small { IfSome result (λ hart. hart ≤ 7) }
+/// The turn behind so many events.
+fn turn_at(machine: &Machine, options: &Options, behind: u64) -> Turn
+    requires { 1 ≤ machine.now.state.tables.threads.hart_count }
+    ensures turn { result ≡ turn_at (schedule_of options.now) behind machine.now.state.tables }
+    ensures first { result.first ≤ 8 }
+    ensures steps { (1 ≤ result.steps) × (result.steps ≤ LONG_RUN_LIMIT) }
 {
-    let count = machine.tables().threads.hart_count() as u32;
-    if u32::from(turn) >= count {
-        return None;
-    }
-    match next_busy(machine, (lot.number() % count) as u8) {
-        Some(hart) => Some(hart),
-        None => next_busy(machine, 0),
-    }
+    let harts = machine.tables().threads.hart_count() as u32;
+    let place = behind % u64::from(2 * harts + 1);
+    turn_by(options.seed, options.turn, place as u8, behind, harts)
 }
 
-/// The hart whose turn it is.
-fn hart_by(machine: &Machine, cursor: &Cursor) -> Option<u8>
-    requires { cursor.now.turn ≤ 8 }
-    ensures busy { result ≡ hart_by cursor.now.lot cursor.now.turn machine.now.state.tables }
-    ensures small { IfSome result (λ hart. hart ≤ 7) }
-{
-    match cursor.lot {
-        None => next_busy(machine, cursor.turn),
-        Some(lot) => drawn_hart(machine, lot, cursor.turn),
-    }
-}
-
-/// How many steps a turn has, so many at most.
-fn steps_by(most: u32, cursor: &Cursor) -> u32
-    requires { 1 ≤ most }
-    ensures steps { result ≡ steps_by cursor.now.lot most }
-    ensures range { (1 ≤ result) × (result ≤ most) }
-{
-    match cursor.lot {
-        None => most,
-        Some(lot) => lot.number() / 8 % most + 1,
-    }
-}
-
-/// A run of so many steps at most, by the shortest event that has as many.
+/// A run of so many steps, by the shortest event that has as many.
 fn run_by(hart: u8, steps: u32) -> Event
     requires hart { hart ≤ 7 }
     requires some { 1 ≤ steps }
@@ -162,40 +176,78 @@ fn run_by(hart: u8, steps: u32) -> Event
     }
 }
 
-/// What is next from a turn on, with so many steps of a turn at most.
-fn turn(machine: &Machine, most: u32, cursor: &Cursor) -> Next
-    requires turn { cursor.now.turn ≤ 8 }
-    requires some { 1 ≤ most }
-    requires few { most ≤ LONG_RUN_LIMIT }
-    ensures next { result ≡ turn_of (hart_by cursor.now.lot cursor.now.turn machine.now.state.tables) (steps_by cursor.now.lot most) machine.now.state.tables }
-    ensures in_range { IsInRangeNext result }
+/// The hart whose thread runs at a turn.
+fn runner_at(machine: &Machine, turn: Turn) -> Option<u8>
+    requires { turn.first ≤ 8 }
+    ensures runner { result ≡ runner_at turn machine.now.state.tables }
+    ensures small { IfSome result (λ hart. hart ≤ 7) }
 {
-    let Some(hart) = hart_by(machine, cursor) else {
-        return round_end(machine);
-    };
-    match machine.planned(hart) {
-        Some(thread) => Next::Submit(Event::Place(hart, thread)),
-        None => Next::Submit(run_by(hart, steps_by(most, cursor))),
+    if turn.place % 2 != 1 {
+        return None;
+    }
+    match next_sought(machine, Sought::Occupied, turn.first) {
+        Some(hart) => Some(hart),
+        None => next_sought(machine, Sought::Occupied, 0),
     }
 }
 
-/// What is next, with so many steps of a turn at most: an event, or why there is none.
-pub(crate) fn next_event(machine: &Machine, most: u32, cursor: &Cursor) -> Next
-    requires some { 1 ≤ most }
-    requires few { most ≤ LONG_RUN_LIMIT }
-    requires turn { cursor.now.turn ≤ 8 }
-    requires placed { (hart : ℕ) → cursor.now.placed ≡ Some hart → hart ≤ 7 }
-    ensures next { result ≡ next most cursor.now machine.now.state.tables }
+/// The event of a busy hart: who is planned for it goes onto it, and where nobody is, its thread runs.
+fn of_busy(machine: &Machine, hart: u8, steps: u32) -> Event
+    requires hart { hart ≤ 7 }
+    requires some { 1 ≤ steps }
+    requires few { steps ≤ LONG_RUN_LIMIT }
+    ensures event { result ≡ of_busy hart steps machine.now.state.tables }
+    ensures in_range { IsInRange result }
+{
+    match machine.planned(hart) {
+        Some(thread) => Event::Place(hart, thread),
+        None => run_by(hart, steps),
+    }
+}
+
+/// The event of a turn, where `least` is the least busy hart.
+fn event_at(machine: &Machine, turn: Turn, least: u8) -> Event
+    requires first { turn.first ≤ 8 }
+    requires some { 1 ≤ turn.steps }
+    requires few { turn.steps ≤ LONG_RUN_LIMIT }
+    requires least { least ≤ 7 }
+    ensures event { result ≡ event_at turn least machine.now.state.tables }
+    ensures in_range { IsInRange result }
+{
+    if usize::from(turn.place) == 2 * machine.tables().threads.hart_count() {
+        return Event::Tick(1);
+    }
+    if let Some(runner) = runner_at(machine, turn) {
+        return run_by(runner, turn.steps);
+    }
+    match next_sought(machine, Sought::Busy, turn.first) {
+        Some(hart) => of_busy(machine, hart, turn.steps),
+        None => of_busy(machine, least, turn.steps),
+    }
+}
+
+/// The event that is next behind so many others, or why there is none.
+fn next_event(machine: &Machine, options: &Options, behind: u64) -> Next
+    ensures next { result ≡ next_event (schedule_of options.now) behind machine.now.state.tables }
     ensures in_range { IsInRangeNext result }
 {
     if !matches!(machine.status(), Status::Running) {
         return Next::End(Ending::Ended);
     }
-    if cursor.events_left == 0 {
+    let Some(least) = next_sought(machine, Sought::Busy, 0) else {
+        return idle(machine.tables());
+    };
+    let turn = turn_at(machine, options, behind);
+    Next::Submit(event_at(machine, turn, least))
+}
+
+/// The same for a drive to which so many events are left.
+pub(crate) fn next_for(machine: &Machine, options: &Options, left: u64, behind: u64) -> Next
+    ensures next { result ≡ next (schedule_of options.now) left behind machine.now.state.tables }
+    ensures in_range { IsInRangeNext result }
+{
+    if matches!(machine.status(), Status::Running) && left == 0 {
         return Next::End(Ending::Enough);
     }
-    match cursor.placed {
-        Some(hart) => Next::Submit(run_by(hart, steps_by(most, cursor))),
-        None => turn(machine, most, cursor),
-    }
+    next_event(machine, options, behind)
 }

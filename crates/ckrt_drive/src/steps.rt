@@ -1,27 +1,26 @@
 //! Steps of a drive.
-ghost use Rattle.std.specs.Prelude.{◌≡◌, ◌≤◌, ◌+◌, ℕ, length, is_err, true, Ok, OnErr, OnOk, IfOk};
+ghost use Rattle.std.specs.Prelude.{◌≡◌, ◌≤◌, ◌+◌, ◌-◌, ◌*◌, ℕ, length, is_err, true, Ok, OnErr, OnOk, IfOk};
 ghost use Rattle.ckrt_disk.specs.Disk.{IsOverwritten, IsWithin};
 ghost use Rattle.ckrt_disk.specs.Frame.{WritesWithin};
 ghost use Rattle.ckrt_events.specs.Bytes.{IsInRange};
 ghost use Rattle.ckrt_recovery.specs.declared.fault.SubmitFault.{SubmitFault};
 ghost use Rattle.ckrt_recovery.specs.View.{view_of, refusal_of};
 ghost use Rattle.ckrt_drive.specs.declared.progress.Progress.TheVariants.{Committed, Checkpointed, Released};
-ghost use Rattle.ckrt_drive.specs.Plan.{IsInRangeProgress, save, is_shortage, offered, plan, plan_onward, cursor_after};
+ghost use Rattle.ckrt_drive.specs.Plan.{is_checkpoint_due, is_commit_due, is_filled, is_old, is_settled, is_shortage, left_after, make_room, offered, places_of, plan, plan_for, plan_next, plan_onward};
 ghost use Rattle.ckrt_drive.specs.PutOut.{PutsOrFails};
-ghost use Rattle.ckrt_drive.specs.Steps.{Advances, IsSound, Steps};
+ghost use Rattle.ckrt_drive.specs.Steps.{Advances, Steps};
 
-use crate::cursor::Cursor;
 use crate::fault::DriveFault;
 use crate::options::Options;
-use crate::plan::{Next, next_event};
+use crate::plan::{Next, next_for};
 use crate::progress::Progress;
 use ckrt_disk::{DeviceFault, Disk};
 use ckrt_events::Event;
 use ckrt_machine::Refusal;
 use ckrt_recovery::{CommitFault, Session, SubmitFault};
 
-/// How many bytes of the journal a full batch takes, and so much again: one behind another.
-const TWO_BATCHES: usize = 2 * 4_099;
+/// How many bytes of the journal a full batch takes.
+const LONGEST_BATCH: usize = 4_099;
 
 /// Acknowledges the events so far by a commit.
 fn commit<D: Disk>(session: &mut Session<D>) -> Result<Progress, DriveFault>
@@ -45,11 +44,55 @@ fn checkpoint<D: Disk>(session: &mut Session<D>) -> Result<Progress, DriveFault>
     }
 }
 
-/// Acknowledges the events so far: by a checkpoint where the journal might have no room for a full batch behind this one.
-fn save<D: Disk>(session: &mut Session<D>) -> Result<Progress, DriveFault>
-    ensures { Advances (Ok (save (view_of session.old))) session.old session.new result }
+/// Whether nothing is pending.
+fn is_settled<D: Disk>(session: &Session<D>) -> bool
+    ensures { result ≡ is_settled (view_of session.now) }
 {
-    if session.room() < TWO_BATCHES {
+    session.acknowledged() == session.count()
+}
+
+/// Whether the area is of version 1, whose journal has no long runs.
+fn is_old<D: Disk>(session: &Session<D>) -> bool
+    ensures { result ≡ is_old (view_of session.now) }
+{
+    session.version() < 2
+}
+
+/// Whether the journal has a batch, and might have no room for another.
+fn is_filled<D: Disk>(session: &Session<D>) -> bool
+    ensures { result ≡ is_filled (view_of session.now) }
+{
+    session.has_batches() && session.room() < LONGEST_BATCH
+}
+
+/// Whether a checkpoint comes first.
+fn is_checkpoint_due<D: Disk>(session: &Session<D>) -> bool
+    ensures { result ≡ is_checkpoint_due (view_of session.now) }
+{
+    is_settled(session) && (is_old(session) || is_filled(session))
+}
+
+/// How many places a round has.
+fn places_of<D: Disk>(session: &Session<D>) -> u64
+    ensures places { result ≡ places_of session.now.progress.machine.state.tables }
+    ensures few { result ≤ 17 }
+{
+    2 * session.machine().tables().threads.hart_count() as u64 + 1
+}
+
+/// Whether a commit comes first.
+fn is_commit_due<D: Disk>(session: &Session<D>, options: &Options) -> bool
+    ensures { result ≡ is_commit_due options.now (view_of session.now) }
+{
+    let pending = session.count() - session.acknowledged();
+    is_old(session) || u64::from(options.rounds) * places_of(session) <= pending
+}
+
+/// Makes room: by a commit where something is pending, and else by a checkpoint.
+fn make_room<D: Disk>(session: &mut Session<D>) -> Result<Progress, DriveFault>
+    ensures { Advances (Ok (make_room (view_of session.old))) session.old session.new result }
+{
+    if is_settled(session) {
         checkpoint(session)
     } else {
         commit(session)
@@ -68,7 +111,7 @@ fn is_shortage(fault: SubmitFault) -> bool
     )
 }
 
-/// Hands an event in; where there is no room for it, acknowledges those before it.
+/// Hands an event in; where there is no room for it, makes some.
 fn offer<D: Disk>(session: &mut Session<D>, event: Event) -> Result<Progress, DriveFault>
     requires { IsInRange event }
     ensures { Advances (offered (view_of session.old) event (refusal_of (view_of session.old) event)) session.old session.new result }
@@ -77,7 +120,7 @@ fn offer<D: Disk>(session: &mut Session<D>, event: Event) -> Result<Progress, Dr
         Ok((_, answer)) => Ok(Progress::Submitted(event, answer)),
         Err(fault) => {
             if is_shortage(fault) {
-                return save(session);
+                return make_room(session);
             }
             Err(DriveFault::Refused(fault))
         }
@@ -115,32 +158,41 @@ fn release<D: Disk, O: Disk>(
     Ok(Progress::Released)
 }
 
-/// Does what is next with the session: takes an event, acknowledges those so far, or finds that there is nothing more to
-/// do.
-fn go_on<D: Disk>(
+/// Hands in the next event, or finds that there is none, once all is acknowledged.
+fn do_next<D: Disk>(
     session: &mut Session<D>,
     options: &Options,
-    cursor: &Cursor,
+    left: u64,
 ) -> Result<Progress, DriveFault>
-    requires { IsSound cursor.now (view_of session.old) }
-    ensures advances { Advances (plan_onward options.now cursor.now (view_of session.old)) session.old session.new result }
-    ensures in_range { IfOk result IsInRangeProgress }
+    ensures { Advances (plan_next options.now left (view_of session.old)) session.old session.new result }
 {
-    let most = options.most_steps(session.version());
-    match next_event(session.machine(), most, cursor) {
-        Next::Submit(event) => {
-            if cursor.rounds_left == 0 {
-                return save(session);
-            }
-            offer(session, event)
-        }
+    let behind = session.count();
+    match next_for(session.machine(), options, left, behind) {
+        Next::Submit(event) => offer(session, event),
         Next::End(ending) => {
-            if !cursor.is_saved {
-                return save(session);
+            if !is_settled(session) {
+                return commit(session);
             }
             Ok(Progress::Stopped(ending))
         }
     }
+}
+
+/// Saves what has to be saved first, or else does what is next.
+fn go_on<D: Disk>(
+    session: &mut Session<D>,
+    options: &Options,
+    left: u64,
+) -> Result<Progress, DriveFault>
+    ensures { Advances (plan_onward options.now left (view_of session.old)) session.old session.new result }
+{
+    if is_checkpoint_due(session) {
+        return checkpoint(session);
+    }
+    if is_commit_due(session, options) {
+        return commit(session);
+    }
+    do_next(session, options, left)
 }
 
 /// Does what is planned.
@@ -148,32 +200,39 @@ fn advance<D: Disk, O: Disk>(
     session: &mut Session<D>,
     output: &mut O,
     options: &Options,
-    cursor: &Cursor,
+    left: u64,
 ) -> Result<Progress, DriveFault>
-    requires { IsSound cursor.now (view_of session.old) }
-    ensures steps { Steps O.Disk (plan options.now cursor.now (view_of session.old)) session.old session.new output.old output.new result }
-    ensures in_range { IfOk result IsInRangeProgress }
+    ensures { Steps O.Disk (plan options.now left (view_of session.old)) session.old session.new output.old output.new result }
 {
     if session.confirmed() < session.released() {
         return release(session, output);
     }
-    go_on(session, options, cursor)
+    go_on(session, options, left)
 }
 
-/// Does what is planned, and moves the cursor.
+/// How many events are left behind what the drive did.
+fn left_after(did: &Progress, left: u64) -> u64
+    ensures { result ≡ left_after did.now left }
+{
+    match did {
+        Progress::Submitted(_, _) => left.saturating_sub(1),
+        Progress::Committed | Progress::Checkpointed | Progress::Released | Progress::Stopped(_) =>
+            left,
+    }
+}
+
+/// Does what is planned, and counts the events that are left.
 pub(crate) fn step<D: Disk, O: Disk>(
     session: &mut Session<D>,
     output: &mut O,
     options: &Options,
-    cursor: &mut Cursor,
+    left: &mut u64,
 ) -> Result<Progress, DriveFault>
-    requires { IsSound cursor.old (view_of session.old) }
-    ensures steps { Steps O.Disk (plan options.now cursor.old (view_of session.old)) session.old session.new output.old output.new result }
-    ensures cursor { IfOk result (λ did. cursor.new ≡ cursor_after options.now did cursor.old) }
-    ensures kept { OnErr result (cursor.new ≡ cursor.old) }
-    ensures sound { IsSound cursor.new (view_of session.new) }
+    ensures steps { Steps O.Disk (plan options.now left.old (view_of session.old)) session.old session.new output.old output.new result }
+    ensures left { IfOk result (λ did. left.new ≡ left_after did left.old) }
+    ensures kept { OnErr result (left.new ≡ left.old) }
 {
-    let done = advance(session, output, options, cursor)?;
-    *cursor = cursor.behind(&done, options);
-    Ok(done)
+    let did = advance(session, output, options, *left)?;
+    *left = left_after(&did, *left);
+    Ok(did)
 }

@@ -70,6 +70,39 @@ const PUTS_ONCE: [u32; 6] = [
 /// Puts its argument for ever.
 const PUTS_FOR_EVER: [u32; 3] = [0x00200893, 0x00000073, 0xffdff06f];
 
+/// Two threads that put eight letters each, with no lock: in which order hangs on their turns.
+const RACERS: [u32; 26] = [
+    0x00001537, // lui x10, 1
+    0x03c50513, // addi x10, x10, puts
+    0x06200593, // addi x11, x0, 0x62
+    0x00000613, // addi x12, x0, 0
+    0x00000693, // addi x13, x0, 0
+    0x00a00893, // addi x17, x0, 10
+    0x00000073, // ecall
+    0x06100513, // addi x10, x0, 0x61
+    0x01c000ef, // jal x1, puts
+    0x00200513, // addi x10, x0, 2
+    0x00b00893, // addi x17, x0, 11
+    0x00000073, // ecall
+    0x00000513, // addi x10, x0, 0
+    0x00100893, // addi x17, x0, 1
+    0x00000073, // ecall
+    // puts:
+    0x00050293, // addi x5, x10, 0
+    0x00800313, // addi x6, x0, 8
+    // again:
+    0x00c00393, // addi x7, x0, 12
+    // count:
+    0xfff38393, // addi x7, x7, -1
+    0xfe039ee3, // bne x7, x0, count
+    0x00028513, // addi x10, x5, 0
+    0x00200893, // addi x17, x0, 2
+    0x00000073, // ecall
+    0xfff30313, // addi x6, x6, -1
+    0xfe0312e3, // bne x6, x0, again
+    0x00008067, // jalr x0, 0(x1)
+];
+
 /// Turns of the most steps, and a commit after 16 rounds.
 fn usual(events: u64) -> Options {
     Options::new(65_535, 16, events)
@@ -147,7 +180,27 @@ impl Onlooker for Listener<'_> {
     }
 }
 
-/// A journal of 4,096 bytes has never room for a full batch behind another one, so each commit is a checkpoint.
+/// What a drive tells an onlooker in all its steps.
+fn expect_told<R: Abort, D: Disk, O: Disk>(
+    rt: &R,
+    drive: &mut Drive<D, O>,
+    ending: Ending,
+    awaited: &[Progress],
+) {
+    let mut listener = Listener {
+        awaited,
+        told: 0,
+        first_difference: None,
+    };
+    expect_eq(rt, drive.run(100, &mut listener), Ok(Some(ending)));
+    expect_eq(
+        rt,
+        (listener.told, listener.first_difference),
+        (awaited.len(), None),
+    );
+}
+
+/// A journal of 4,096 bytes has no room for a full batch behind another one, so a checkpoint follows each commit.
 #[test]
 fn an_onlooker_is_told_each_step(rt: HostRuntime) {
     let session = recovered_in_memory(&rt, formatted_for(&rt, &PUTS_ONCE, 1));
@@ -155,43 +208,36 @@ fn an_onlooker_is_told_each_step(rt: HostRuntime) {
     let awaited = [
         Progress::Submitted(Event::Place(0, 1), Answer::Placed),
         Progress::Submitted(Event::Run(0, 65_535), Answer::Ran(6, RunEnd::End)),
-        Progress::Checkpointed,
+        Progress::Committed,
         Progress::Released,
+        Progress::Checkpointed,
         Progress::Stopped(Ending::Ended),
     ];
-    let mut listener = Listener {
-        awaited: &awaited,
-        told: 0,
-        first_difference: None,
-    };
     let mut drive = Drive::new(session, output, usual(u64::MAX));
-    expect_eq(&rt, drive.run(100, &mut listener), Ok(Some(Ending::Ended)));
-    expect_eq(&rt, (listener.told, listener.first_difference), (5, None));
+    expect_told(&rt, &mut drive, Ending::Ended, &awaited);
 }
 
-/// While the area is of version 1 a turn has 65,535 steps at most.
+/// An area of version 1 is checkpointed first. A round of one hart has a place for placing, where the hart runs if nobody is to
+/// be placed, one for running, and the clock's.
 #[test]
-fn long_turns_come_with_version_2(rt: HostRuntime) {
+fn a_disk_of_version_1_is_checkpointed_first(rt: HostRuntime) {
     let session = recovered_in_memory(&rt, old_disk(&rt, &LOOPS));
     let output = memory_disk(&rt, filled(&rt, 0, 64));
     let awaited = [
-        Progress::Submitted(Event::Place(0, 1), Answer::Placed),
-        Progress::Submitted(Event::Run(0, 65_535), Answer::Ran(65_535, RunEnd::On)),
-        Progress::Submitted(Event::Tick(1), Answer::Ticked(0)),
         Progress::Checkpointed,
+        Progress::Submitted(Event::Place(0, 1), Answer::Placed),
         Progress::Submitted(Event::RunLong(0, 100_000), Answer::Ran(100_000, RunEnd::On)),
         Progress::Submitted(Event::Tick(1), Answer::Ticked(0)),
+        Progress::Committed,
+        Progress::Checkpointed,
+        Progress::Submitted(Event::RunLong(0, 100_000), Answer::Ran(100_000, RunEnd::On)),
+        Progress::Submitted(Event::RunLong(0, 100_000), Answer::Ran(100_000, RunEnd::On)),
+        Progress::Committed,
         Progress::Checkpointed,
         Progress::Stopped(Ending::Enough),
     ];
-    let mut listener = Listener {
-        awaited: &awaited,
-        told: 0,
-        first_difference: None,
-    };
     let mut drive = Drive::new(session, output, Options::new(100_000, 1, 5));
-    expect_eq(&rt, drive.run(100, &mut listener), Ok(Some(Ending::Enough)));
-    expect_eq(&rt, (listener.told, listener.first_difference), (8, None));
+    expect_told(&rt, &mut drive, Ending::Enough, &awaited);
 }
 
 #[test]
@@ -292,15 +338,19 @@ fn output_that_fails(rt: HostRuntime) {
     expect_held(&rt, output, &[0x14]);
 }
 
-/// A drive of small turns with a commit after each round, over a disk that stops at a call, and then one to the end over
-/// what is left: the output holds each byte once.
-fn expect_whole_after_stop<R: Abort + AllocGlobal>(rt: &R, formatted: &[u8], at_call: u64) {
+/// What is left of a disk that stops at a call, and of the output, behind a drive.
+fn left_by_stop<R: Abort + AllocGlobal>(
+    rt: &R,
+    formatted: &[u8],
+    at_call: u64,
+    options: Options,
+) -> (Vec<u8>, MemoryDisk) {
     let bytes = formatted.to_vec(rt.alloc()).expect(rt, "memory for bytes");
     let disk = stopping_disk(rt, bytes, at_call, &[0xa5]);
     let output = memory_disk(rt, filled(rt, 0, 64));
-    let (image, output) = match recovery_outcome(rt, disk) {
+    match recovery_outcome(rt, disk) {
         Ok(session) => {
-            let mut drive = Drive::new(session, output, Options::new(40, 1, u64::MAX));
+            let mut drive = Drive::new(session, output, options);
             expect_eq_at(
                 rt,
                 at_call,
@@ -313,7 +363,13 @@ fn expect_whole_after_stop<R: Abort + AllocGlobal>(rt: &R, formatted: &[u8], at_
             (session.into_disk().into_image(), output)
         }
         Err(unrecovered) => (unrecovered.disk.into_image(), output),
-    };
+    }
+}
+
+/// A drive of small turns with a commit after each round, over a disk that stops at a call, and then one to the end over
+/// what is left: the output holds each byte once.
+fn expect_whole_after_stop<R: Abort + AllocGlobal>(rt: &R, formatted: &[u8], at_call: u64) {
+    let (image, output) = left_by_stop(rt, formatted, at_call, Options::new(40, 1, u64::MAX));
     let session = recovered_in_memory(rt, image);
     let (_, output) = ended(rt, session, output, usual(u64::MAX), Ending::Ended);
     expect_held(rt, output, &[0x14, 0x28, 0x3c]);
@@ -322,9 +378,38 @@ fn expect_whole_after_stop<R: Abort + AllocGlobal>(rt: &R, formatted: &[u8], at_
 #[test]
 fn each_byte_once_after_a_stop_at_each_call(rt: HostRuntime) {
     let formatted = formatted_for(&rt, &SLEEPERS, 3);
-    // recovery's sync, a checkpoint of all 15 pages by 21 calls, and four of none by 8 each: the guest stores nothing
-    for at_call in 1..55 {
+    // recovery's sync, four commits by 4 calls each, a checkpoint of all 15 pages by 21, and three of none by 8 each: the guest
+    // stores nothing
+    for at_call in 1..63 {
         expect_whole_after_stop(&rt, formatted.as_slice(), at_call);
+    }
+}
+
+/// The output once a drive of small turns by this seed has come to its end.
+fn raced<R: Abort + AllocGlobal>(rt: &R, image: Vec<u8>, output: MemoryDisk, seed: u64) -> Vec<u8> {
+    let session = recovered_in_memory(rt, image);
+    let options = Options::new(40, 16, u64::MAX).with_seed(seed);
+    let (_, output) = ended(rt, session, output, options, Ending::Ended);
+    output.into_image()
+}
+
+/// The same of a formatted disk that nothing stops.
+fn raced_unbroken<R: Abort + AllocGlobal>(rt: &R, formatted: &[u8], seed: u64) -> Vec<u8> {
+    let bytes = formatted.to_vec(rt.alloc()).expect(rt, "memory for bytes");
+    raced(rt, bytes, memory_disk(rt, filled(rt, 0, 64)), seed)
+}
+
+#[test]
+fn racers_end_as_unbroken_after_a_stop_at_each_call(rt: HostRuntime) {
+    let formatted = formatted_for(&rt, &RACERS, 3);
+    let wanted = raced_unbroken(&rt, formatted.as_slice(), 5);
+    let other = raced_unbroken(&rt, formatted.as_slice(), 6);
+    expect_eq(&rt, wanted.as_slice() == other.as_slice(), false);
+    for at_call in 1..40 {
+        let options = Options::new(40, 1, u64::MAX).with_seed(5);
+        let (image, output) = left_by_stop(&rt, formatted.as_slice(), at_call, options);
+        let got = raced(&rt, image, output, 5);
+        expect_bytes(&rt, got.as_slice(), wanted.as_slice());
     }
 }
 
@@ -453,7 +538,7 @@ fn expect_streamed_once<R: Abort + AllocGlobal>(rt: &R, formatted: &[u8], at_cal
 #[test]
 fn each_byte_is_handed_on_once_after_a_stop_at_each_call(rt: HostRuntime) {
     let formatted = formatted_for(&rt, &SLEEPERS, 3);
-    for at_call in 1..55 {
+    for at_call in 1..63 {
         expect_streamed_once(&rt, formatted.as_slice(), at_call);
     }
 }

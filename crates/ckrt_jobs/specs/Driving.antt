@@ -17,11 +17,9 @@ use Rattle.ckrt_recovery.specs.Represents.{Represents}
 use Rattle.ckrt_recovery.specs.View.{opened as opened_view, view_of}
 use Rattle.ckrt_recovery.specs.declared.session.Session.{Session}
 use Rattle.ckrt_state.specs.declared.table.Status.{Status}
-use Rattle.ckrt_drive.specs.Plan.{cursor_at_start}
 use Rattle.ckrt_drive.specs.Runs.{Runs}
 use Rattle.ckrt_drive.specs.Stages.{GoesBySteps, stage}
 use Rattle.ckrt_drive.specs.Streams.{got_to, writer_of}
-use Rattle.ckrt_drive.specs.declared.cursor.Cursor.{Cursor}
 use Rattle.ckrt_drive.specs.declared.fault.DriveFault.{DriveFault}
 use Rattle.ckrt_drive.specs.declared.fault.DriveFault.TheVariants.{Output}
 use Rattle.ckrt_drive.specs.declared.options.Options.{Options}
@@ -80,14 +78,15 @@ abbrev pub driven_of : Status → Result (Option Ending) DriveFault → Result D
 driven_of status (Ok ending) = Ok (record { ending = ending; status = status })
 driven_of status (Err fault) = Err fault
 
--- From s to t, with its output from a to b, a session was driven: from the first round on, by the plan, up to an end.
+-- From s to t, with its output from a to b, a session was driven: by the plan, with all its events left, up to an end.
 pub record DrivesSession {D O : Type 0} {g : Ghosts D} (o : Ghosts O) (options : Options) (s t : Session D g) (a b : O) (answer : Result Driven DriveFault) : Type 0 where
   pub ran : Result (Option Ending) DriveFault
-  pub cursor : Cursor
+  -- how many events are left in the end
+  pub left : ℕ
   -- what it did, what every stop left, what was acknowledged, and what the output holds
-  pub runs : Runs o options (2 ^ 64 - 1) (cursor_at_start options) cursor s t a b ran
+  pub runs : Runs o options (2 ^ 64 - 1) options.events left s t a b ran
   -- step by step
-  pub by_steps : GoesBySteps options (stage o (cursor_at_start options) s a) (stage o cursor t b)
+  pub by_steps : GoesBySteps options (stage o options.events s a) (stage o left t b)
   -- the program stands as it says
   pub gives : answer ≡ driven_of t.progress.machine.state.tables.status ran
   pub output : IfErr answer (λ fault. fault ≡ Output → HasFailed (o.failures a) (o.failures b))

@@ -2,8 +2,8 @@ use Rattle.std.proofs.Common.{◌≡◌, nat_lt, false, rules}
 use Rattle.ckrt_drive.proofs.StepLemmas.{steps_on}
 use Rattle.ckrt_drive.proofs.steps.advance.Goals as goal
 
-pub returns-clause-steps : goal.returns-clause-steps
-returns-clause-steps g c =
+pub returns : goal.returns
+returns g c =
     let s = c.args.session.now in
     let none : nat_lt s.progress.confirmed s.released ≡ false = search rules in
-    steps_on g.O.Disk c.args.options.now c.args.cursor.now s c.go_on.new.session c.args.output.now c.go_on.result none c.go_on.ensures.advances
+    steps_on g.O.Disk c.args.options.now c.args.left s c.go_on.new.session c.args.output.now c.go_on.result none c.go_on.ensures

@@ -20,7 +20,7 @@ returns-then-is_shortage g c =
     let e = c.args.event in
     let f = c.submit.ensures in
     let is = refused c.submit.result (refusal_of (view_of s) e) c.in-Err.fault (s.progress.count + 1, (machine.step e s.progress.machine.state).answer) c.in-Err.is f.answer in
-    advances_short e c.in-Err.fault s c.submit.new.self c.save.new.session c.save.result is (at_some (refusal_of (view_of s) e) _ _ c.in-Err.fault is f.view) (sym c.is_shortage.ensures ∙ c.if-is_shortage.true) c.save.ensures
+    advances_short e c.in-Err.fault s c.submit.new.self c.make_room.new.session c.make_room.result is (at_some (refusal_of (view_of s) e) _ _ c.in-Err.fault is f.view) (sym c.is_shortage.ensures ∙ c.if-is_shortage.true) c.make_room.ensures
 
 pub returns-else-is_shortage : goal.returns-else-is_shortage
 returns-else-is_shortage g c =

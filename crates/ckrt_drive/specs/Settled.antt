@@ -1,0 +1,19 @@
+-- What a drive's checkpoint finds.
+use Rattle.std.specs.Prelude.{◌≡◌, ℕ, List, [], Ok}
+use Rattle.ckrt_disk.specs.declared.disk.Disk.{Ghosts}
+use Rattle.ckrt_events.specs.declared.event.Event.{Event}
+use Rattle.ckrt_image.specs.Programs.{Program}
+use Rattle.ckrt_recovery.specs.Represents.{Represents}
+use Rattle.ckrt_recovery.specs.View.{View, view_of}
+use Rattle.ckrt_recovery.specs.declared.session.Session.{Session}
+use Rattle.ckrt_drive.specs.Plan.{plan}
+use Rattle.ckrt_drive.specs.declared.options.Options.{Options}
+use Rattle.ckrt_drive.specs.declared.progress.Progress.TheVariants.{Checkpointed}
+
+-- where a checkpoint is planned all accepted events are acknowledged
+abbrev pub FindsAllAcknowledged : Options → View → Type 0
+FindsAllAcknowledged o v = (left : ℕ) → plan o left v ≡ Ok Checkpointed → v.acknowledged ≡ v.recovered.count
+
+-- so the batch of a session that represents events is empty then
+abbrev pub FindsNothingPending : {D : Type 0} {g : Ghosts D} → Options → Session D g → Type 0
+FindsNothingPending o s = (left : ℕ) (p : Program) (events : List Event) → Represents p events s → plan o left (view_of s) ≡ Ok Checkpointed → s.pending.items ≡ []
