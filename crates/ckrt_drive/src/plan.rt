@@ -10,13 +10,10 @@ ghost use Rattle.ckrt_drive.specs.Plan.{IsInRangeNext, earliest_deadline, event_
 use crate::lot::lot_of;
 use crate::options::Options;
 use crate::progress::Ending;
-use ckrt_events::{Event, LONG_RUN_LIMIT};
+use ckrt_events::{Event, LONG_RUN_LIMIT, RUN_LIMIT};
 use ckrt_machine::Machine;
 use ckrt_state::{Status, Tables};
 use ckrt_thread::{Object, Wait};
-
-/// The most steps of a [`Run`](ckrt_events::Event::Run).
-const RUN_LIMIT: u32 = 65_535;
 
 /// The event that is next, or why there is none.
 #[derive(Clone, Debug, Drop, PartialEq, Eq)]
