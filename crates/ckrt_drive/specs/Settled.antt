@@ -4,7 +4,7 @@ use Rattle.ckrt_disk.specs.declared.disk.Disk.{Ghosts}
 use Rattle.ckrt_events.specs.declared.event.Event.{Event}
 use Rattle.ckrt_image.specs.Programs.{Program}
 use Rattle.ckrt_recovery.specs.Represents.{Represents}
-use Rattle.ckrt_recovery.specs.View.{View, view_of}
+use Rattle.ckrt_recovery.specs.View.{View, checkpointed, view_of}
 use Rattle.ckrt_recovery.specs.declared.session.Session.{Session}
 use Rattle.ckrt_drive.specs.Plan.{plan}
 use Rattle.ckrt_drive.specs.declared.options.Options.{Options}
@@ -17,3 +17,7 @@ FindsAllAcknowledged o v = (left : ℕ) → plan o left v ≡ Ok Checkpointed �
 -- so the batch of a session that represents events is empty then
 abbrev pub FindsNothingPending : {D : Type 0} {g : Ghosts D} → Options → Session D g → Type 0
 FindsNothingPending o s = (left : ℕ) (p : Program) (events : List Event) → Represents p events s → plan o left (view_of s) ≡ Ok Checkpointed → s.pending.items ≡ []
+
+-- behind a checkpoint no other one is planned: an event, an end, a commit or a release is, so there are no checkpoints without end
+abbrev pub NoneIsNext : {D : Type 0} {g : Ghosts D} → Options → Session D g → Type 0
+NoneIsNext o s = (left : ℕ) → plan o left (checkpointed (view_of s)) ≡ Ok Checkpointed → ⊥

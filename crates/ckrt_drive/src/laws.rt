@@ -2,7 +2,7 @@
 ghost use Rattle.std.specs.Prelude.{◌≡◌, ℕ, Err};
 ghost use Rattle.ckrt_drive.specs.declared.fault.DriveFault.TheVariants.{Refused};
 ghost use Rattle.ckrt_drive.specs.Plan.{plan};
-ghost use Rattle.ckrt_drive.specs.Settled.{FindsAllAcknowledged, FindsNothingPending};
+ghost use Rattle.ckrt_drive.specs.Settled.{FindsAllAcknowledged, FindsNothingPending, NoneIsNext};
 ghost use Rattle.ckrt_drive.specs.Streams.{GetsTheOutput};
 ghost use Rattle.ckrt_recovery.specs.View.{View, view_of};
 ghost use Rattle.ckrt_recovery.specs.declared.fault.SubmitFault.TheVariants.{NeedsCheckpoint};
@@ -37,4 +37,9 @@ pub fn plans_suit_the_version(options: &Options)
 pub fn checkpoints_find_nothing_pending<D: Disk>(options: &Options, session: &Session<D>)
     ensures acknowledged { FindsAllAcknowledged options.now (view_of session.now) }
     ensures pending { FindsNothingPending options.now session.now }
+{}
+
+/// Behind a checkpoint a drive plans none: the journal is empty, and takes each event of a plan.
+pub fn no_checkpoint_behind_a_checkpoint<D: Disk>(options: &Options, session: &Session<D>)
+    ensures { NoneIsNext options.now session.now }
 {}
