@@ -6,7 +6,7 @@ from pathlib import Path
 
 TOP = Path(__file__).resolve().parent.parent.parent
 TEXTS = TOP / "examples/cluster"
-PACKAGES = "systemd,systemd-sysv,udev,linux-image-cloud-amd64,e2fsprogs,slurm-wlm,munge"
+PACKAGES = "systemd,systemd-sysv,udev,dbus,linux-image-cloud-amd64,e2fsprogs,iproute2,slurm-wlm,munge"
 RELEASE, MEBIBYTES = "bookworm", 1_600
 WORK = "srv/ckrt"  # where the second disk is mounted
 
@@ -18,6 +18,22 @@ ExecStart=/bin/sh /usr/local/lib/watch-%i
 
 [Install]
 WantedBy=multi-user.target
+"""
+# No name is found on a machine that has the address 127.0.0.1 alone, so it is given another one.
+ADDRESS = """[Unit]
+Before=slurmctld.service slurmd.service
+
+[Service]
+Type=oneshot
+ExecStart=/bin/ip address add 10.0.0.1/32 dev lo
+
+[Install]
+WantedBy=multi-user.target
+"""
+# A task that a node which registers doesn't have is queued again by the controller, if it has known of it for longer than
+# MessageTimeout and BatchStartTimeout. A controller that goes down with its node has begun to know of it just now.
+LATER = """[Service]
+ExecStartPre=/bin/sh -c 'until scontrol show jobs > /dev/null 2>&1; do sleep 0.5; done; sleep 12'
 """
 # Tells on the console which outputs are driven to, and how all has ended. A drive that runs stands behind a format that has answered.
 WATCH = """cd /srv/ckrt
@@ -34,6 +50,8 @@ SlurmctldHost=machine
 SlurmUser=root
 SlurmdUser=root
 AuthInfo=cred_expire=5
+MessageTimeout=10
+BatchStartTimeout=1
 StateSaveLocation=/srv/ckrt/slurm
 SlurmdSpoolDir=/var/spool/slurmd
 ProctrackType=proctrack/linuxproc
@@ -74,7 +92,7 @@ UNIT = Machine(
 # Who gives sbatch gives it again where the controller knows of no such job: it answers before it has saved one.
 ARRAY = Machine(
     guests=("1", "2", "3", "4"),
-    units=("munge.service", "slurmctld.service", "slurmd.service"),
+    units=("address.service", "munge.service", "slurmctld.service", "slurmd.service"),
     begin="""until jobs=$(scontrol -o show jobs 2> /dev/null); do sleep 0.5; done
 case $jobs in
     *JobName=ckrt*) ;;
@@ -102,9 +120,11 @@ class System:
             part.rename(folder)
         self.put("etc/fstab", FSTAB)
         self.put("etc/hostname", "machine\n")
-        self.put("etc/hosts", "127.0.0.1 localhost machine\n")
+        self.put("etc/hosts", "127.0.0.1 localhost\n10.0.0.1 machine\n")
         self.put("etc/slurm/slurm.conf", SLURM)
         self.put("etc/systemd/system/watcher@.service", WATCHER)
+        self.put("etc/systemd/system/address.service", ADDRESS)
+        self.put("etc/systemd/system/slurmd.service.d/later.conf", LATER)
         for name, machine in MACHINES.items():
             self.put(f"usr/local/lib/watch-{name}", machine.watch())
         shutil.copy(TEXTS / "ckrt-drive@.service", folder / "etc/systemd/system")
