@@ -90,7 +90,7 @@ const OTHER_ENDS: &[Step] = &[
     Ends(
         "drive drive_b.disk --output drive_b.out --turn 1 --rounds-per-commit 1",
         "",
-        "ended: fault 1 00001000 Illegal\n",
+        "`guest/where PROGRAM.elf 00001000` says where that is; so does `addr2line -e PROGRAM.elf 00001000`\nended: fault 1 00001000 Illegal\n",
         6,
     ),
     Remove("drive_b.disk"),

@@ -16,7 +16,7 @@ use Rattle.ckrt_recovery.specs.Opening.{IsSyncedAndRead}
 use Rattle.ckrt_recovery.specs.Represents.{Represents}
 use Rattle.ckrt_recovery.specs.View.{opened as opened_view, view_of}
 use Rattle.ckrt_recovery.specs.declared.session.Session.{Session}
-use Rattle.ckrt_state.specs.declared.table.Status.{Status}
+use Rattle.ckrt_machine.specs.Steps.{State}
 use Rattle.ckrt_drive.specs.Runs.{Runs}
 use Rattle.ckrt_drive.specs.Stages.{GoesBySteps, stage}
 use Rattle.ckrt_drive.specs.Streams.{got_to, writer_of}
@@ -26,6 +26,7 @@ use Rattle.ckrt_drive.specs.declared.options.Options.{Options}
 use Rattle.ckrt_drive.specs.declared.progress.Ending.{Ending}
 use Rattle.ckrt_drive.specs.declared.stream.StreamOutput.{StreamOutput}
 use Rattle.ckrt_words.specs.Jobs.{Driving}
+use Rattle.ckrt_jobs.specs.Addresses.{fault_address}
 use Rattle.ckrt_jobs.specs.Lengths.{fits, lengths_of}
 use Rattle.ckrt_jobs.specs.Missing.{FindsDisk}
 use Rattle.ckrt_jobs.specs.Openings.{Openings, opened, refused, with_closed, with_closed_output, with_output}
@@ -73,10 +74,10 @@ pub record IsAsked (j : Driving) (o : Options) : Type 0 where
 
 -- THE SESSION
 
--- what a drive came to where its run answered so, and the program stands so
-abbrev pub driven_of : Status → Result (Option Ending) DriveFault → Result Driven DriveFault
-driven_of status (Ok ending) = Ok (record { ending = ending; status = status })
-driven_of status (Err fault) = Err fault
+-- what a drive came to where its run answered so, and the machine is in this state
+abbrev pub driven_of : State → Result (Option Ending) DriveFault → Result Driven DriveFault
+driven_of s (Ok ending) = Ok (record { ending = ending; status = s.tables.status; address = fault_address s })
+driven_of s (Err fault) = Err fault
 
 -- From s to t, with its output from a to b, a session was driven: by the plan, with all its events left, up to an end.
 pub record DrivesSession {D O : Type 0} {g : Ghosts D} (o : Ghosts O) (options : Options) (s t : Session D g) (a b : O) (answer : Result Driven DriveFault) : Type 0 where
@@ -88,7 +89,7 @@ pub record DrivesSession {D O : Type 0} {g : Ghosts D} (o : Ghosts O) (options :
   -- step by step
   pub by_steps : GoesBySteps options (stage o options.events s a) (stage o left t b)
   -- the program stands as it says
-  pub gives : answer ≡ driven_of t.progress.machine.state.tables.status ran
+  pub gives : answer ≡ driven_of t.progress.machine.state ran
   pub output : IfErr answer (λ fault. fault ≡ Output → HasFailed (o.failures a) (o.failures b))
 
 -- THE FILES

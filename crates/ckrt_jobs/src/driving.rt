@@ -7,6 +7,7 @@ ghost use Rattle.ckrt_jobs.specs.Driving.{DrivesInto, DrivesOnto, DrivesOpened, 
 ghost use Rattle.ckrt_jobs.specs.Openings.{opened, refused};
 ghost use Rattle.ckrt_drive.specs.Streams.{HasSameWriter};
 
+use crate::address::fault_address;
 use crate::driven::Driven;
 use crate::fault::JobFault;
 use crate::file::JobFile;
@@ -18,8 +19,8 @@ use crate::sources::Sources;
 use ckrt_disk::Disk;
 use ckrt_drive::{Drive, DriveFault, Ending, Options, StreamOutput};
 use ckrt_events::LONG_RUN_LIMIT;
+use ckrt_machine::Machine;
 use ckrt_recovery::{RecoverFault, Session, recover};
-use ckrt_state::Status;
 use ckrt_words::DriveJob;
 use std::alloc::Global;
 use std::io::{Read, Write};
@@ -62,15 +63,19 @@ fn options_of(job: &DriveJob<'_>) -> Options
     }
 }
 
-/// What a drive came to where its run answered so, and the program stands so.
+/// What a drive came to where its run answered so, and the machine stands so.
 fn driven_of(
-    status: Status,
+    machine: &Machine,
     answer: Result<Option<Ending>, DriveFault>,
 ) -> Result<Driven, DriveFault>
-    ensures { result ≡ driven_of status answer }
+    ensures { result ≡ driven_of machine.now.state answer }
 {
     match answer {
-        Ok(ending) => Ok(Driven { ending, status }),
+        Ok(ending) => Ok(Driven {
+            ending,
+            status: machine.status(),
+            address: fault_address(machine),
+        }),
         Err(fault) => Err(fault),
     }
 }
@@ -86,9 +91,8 @@ fn drive_session<D: Disk, O: Disk, M: Meter>(
 {
     let mut drive = Drive::new(session, output, options);
     let answer = drive.run(u64::MAX, meter);
-    let status = drive.session().machine().status();
+    let driven = driven_of(drive.session().machine(), answer);
     let (session, output) = drive.into_parts();
-    let driven = driven_of(status, answer);
     Undertaken {
         session,
         output,

@@ -6,7 +6,7 @@ ghost use Rattle.ckrt_words.specs.Jobs.{request_of};
 ghost use Rattle.ckrt_state.specs.declared.table.Status.TheVariants.{Exited, Faulted};
 ghost use Rattle.ckrt_inspect.specs.Texts.{hex_text, status_text};
 ghost use Rattle.ckrt_rv32i.specs.Names.{cause_name};
-ghost use Rattle.ckrt_jobs.specs.Ends.{end_line, end_text};
+ghost use Rattle.ckrt_jobs.specs.Ends.{address_text, end_line, end_text, ended_text, hex_between, hint_text, place_text};
 ghost use Rattle.ckrt_jobs.specs.Outcomes.{formatted_line, status_of, status_of_words, version_line};
 ghost use Rattle.ckrt_jobs.specs.Performing.{ReportsOutcome, SaysLine};
 ghost use Rattle.ckrt_jobs.specs.Reports.{lengths_text, numbers_of, path_of, range_text, size_text, sizes_text, report_of, subject_of, words_report_of};
@@ -260,26 +260,83 @@ fn say_status<E: Reporter>(reporter: &mut E, status: Status) -> Result<(), Unsai
     }
 }
 
-/// Says that the program ended, and how.
-fn say_ended<E: Reporter>(reporter: &mut E, status: Status) -> Result<(), Unsaid>
-    ensures said { OnOk result (Appends (E.said reporter.old) (E.said reporter.new) (codes "ended: " ++ status_text status)) }
+/// Says the address that a fault is about.
+fn say_address<E: Reporter>(reporter: &mut E, address: Option<u32>) -> Result<(), Unsaid>
+    ensures said { OnOk result (Appends (E.said reporter.old) (E.said reporter.new) (address_text address)) }
     ensures failed { OnErr result (E.has_failed reporter.new ≡ true) }
 {
+    match address {
+        Some(address) => {
+            reporter.say(b" ")?;
+            say_hex(reporter, address)
+        }
+        None => reporter.say(b""),
+    }
+}
+
+/// Says a word in eight hexadecimal digits between two texts.
+fn say_hex_between<E: Reporter>(
+    reporter: &mut E,
+    before: &[u8],
+    word: u32,
+    behind: &[u8],
+) -> Result<(), Unsaid>
+    ensures said { OnOk result (Appends (E.said reporter.old) (E.said reporter.new) (hex_between before.now word behind.now)) }
+    ensures failed { OnErr result (E.has_failed reporter.new ≡ true) }
+{
+    reporter.say(before)?;
+    say_hex(reporter, word)?;
+    reporter.say(behind)
+}
+
+/// Says which commands name the place of a fault.
+fn say_place<E: Reporter>(reporter: &mut E, pc: u32, address: Option<u32>) -> Result<(), Unsaid>
+    ensures said { OnOk result (Appends (E.said reporter.old) (E.said reporter.new) (place_text pc address)) }
+    ensures failed { OnErr result (E.has_failed reporter.new ≡ true) }
+{
+    let other = b"` says where that is; so does `addr2line -e PROGRAM.elf ";
+    say_hex_between(reporter, b"`guest/where PROGRAM.elf ", pc, b"")?;
+    say_address(reporter, address)?;
+    say_hex_between(reporter, other, pc, b"`\n")
+}
+
+/// Says what to do about a fault of the program, if that ended it.
+fn say_hint<E: Reporter>(
+    reporter: &mut E,
+    status: Status,
+    address: Option<u32>,
+) -> Result<(), Unsaid>
+    ensures said { OnOk result (Appends (E.said reporter.old) (E.said reporter.new) (hint_text status address)) }
+    ensures failed { OnErr result (E.has_failed reporter.new ≡ true) }
+{
+    match status {
+        Status::Faulted(_, pc, _) => say_place(reporter, pc, address),
+        _ => reporter.say(b""),
+    }
+}
+
+/// Says that the program ended, and how.
+fn say_ended<E: Reporter>(
+    reporter: &mut E,
+    status: Status,
+    address: Option<u32>,
+) -> Result<(), Unsaid>
+    ensures said { OnOk result (Appends (E.said reporter.old) (E.said reporter.new) (ended_text status address)) }
+    ensures failed { OnErr result (E.has_failed reporter.new ≡ true) }
+{
+    say_hint(reporter, status, address)?;
     reporter.say(b"ended: ")?;
-    say_status(reporter, status)
+    say_status(reporter, status)?;
+    say_address(reporter, address)
 }
 
 /// Says an end in words.
-fn say_end_text<E: Reporter>(
-    reporter: &mut E,
-    ending: Option<Ending>,
-    status: Status,
-) -> Result<(), Unsaid>
-    ensures said { OnOk result (Appends (E.said reporter.old) (E.said reporter.new) (end_text ending status)) }
+fn say_end_text<E: Reporter>(reporter: &mut E, driven: Driven) -> Result<(), Unsaid>
+    ensures said { OnOk result (Appends (E.said reporter.old) (E.said reporter.new) (end_text driven.ending driven.status driven.address)) }
     ensures failed { OnErr result (E.has_failed reporter.new ≡ true) }
 {
-    match ending {
-        Some(Ending::Ended) => say_ended(reporter, status),
+    match driven.ending {
+        Some(Ending::Ended) => say_ended(reporter, driven.status, driven.address),
         Some(Ending::WaitsForInput) => reporter.say(b"waits for input"),
         Some(Ending::Deadlock) => reporter.say(b"deadlock"),
         Some(Ending::Enough) | None => reporter.say(b"enough"),
@@ -291,7 +348,7 @@ fn say_end<E: Reporter>(reporter: &mut E, driven: Driven) -> Result<(), Unsaid>
     ensures said { OnOk result (Appends (E.said reporter.old) (E.said reporter.new) (end_line driven)) }
     ensures failed { OnErr result (E.has_failed reporter.new ≡ true) }
 {
-    say_end_text(reporter, driven.ending, driven.status)?;
+    say_end_text(reporter, driven)?;
     reporter.say(b"\n")
 }
 
