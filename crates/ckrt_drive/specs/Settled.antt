@@ -12,11 +12,14 @@ use Rattle.ckrt_drive.specs.declared.progress.Progress.TheVariants.{Checkpointed
 
 -- where a checkpoint is planned all accepted events are acknowledged
 abbrev pub FindsAllAcknowledged : Options → View → Type 0
-FindsAllAcknowledged o v = (left : ℕ) → plan o left v ≡ Ok Checkpointed → v.acknowledged ≡ v.recovered.count
+FindsAllAcknowledged o v =
+    (left : ℕ) → plan o left v ≡ Ok Checkpointed → v.acknowledged ≡ v.recovered.count
 
 -- so the batch of a session that represents events is empty then
 abbrev pub FindsNothingPending : {D : Type 0} {g : Ghosts D} → Options → Session D g → Type 0
-FindsNothingPending o s = (left : ℕ) (p : Program) (events : List Event) → Represents p events s → plan o left (view_of s) ≡ Ok Checkpointed → s.pending.items ≡ []
+FindsNothingPending o s =
+    (left : ℕ) (p : Program) (events : List Event) → Represents p events s
+    → plan o left (view_of s) ≡ Ok Checkpointed → s.pending.items ≡ []
 
 -- behind a checkpoint no other one is planned: an event, an end, a commit or a release is, so there are no checkpoints without end
 abbrev pub NoneIsNext : {D : Type 0} {g : Ghosts D} → Options → Session D g → Type 0

@@ -23,7 +23,8 @@ pub fn stream_gets_the_output<'a, D: Disk, W: Write>(
     stream: &StreamOutput<'a, W>,
     end: &StreamOutput<'a, W>,
 )
-    ensures { GetsTheOutput ⟦<StreamOutput<'a, W> as Disk>⟧ W.contents before.now after.now stream.now end.now }
+    ensures { GetsTheOutput ⟦<StreamOutput<'a, W> as Disk>⟧ W.contents before.now after.now
+        stream.now end.now }
 {}
 
 /// A drive hands in no event that its session refuses as `NeedsCheckpoint`: where the area is of version 1, it has been checkpointed

@@ -114,7 +114,9 @@ fn is_shortage(fault: SubmitFault) -> bool
 /// Hands an event in; where there is no room for it, makes some.
 fn offer<D: Disk>(session: &mut Session<D>, event: Event) -> Result<Progress, DriveFault>
     requires { IsInRange event }
-    ensures { Advances (offered (view_of session.old) event (refusal_of (view_of session.old) event)) session.old session.new result }
+    ensures { Advances
+        (offered (view_of session.old) event (refusal_of (view_of session.old) event))
+        session.old session.new result }
 {
     match session.submit(&event) {
         Ok((_, answer)) => Ok(Progress::Submitted(event, answer)),
@@ -130,9 +132,12 @@ fn offer<D: Disk>(session: &mut Session<D>, event: Event) -> Result<Progress, Dr
 /// Writes the bytes from the offset `at` on, and syncs the output.
 fn put_out<O: Disk>(output: &mut O, at: usize, bytes: &[u8]) -> Result<(), DeviceFault>
     requires { at + length bytes.now ≤ O.size output.old }
-    ensures within { WritesWithin O.Disk (IsWithin at (length bytes.now)) 2 output.old output.new (is_err result) }
-    ensures written { OnOk result (O.is_honest output.new → IsOverwritten (O.content output.old) at bytes.now (O.content output.new)) }
-    ensures nothing_pending { OnOk result (O.is_honest output.new → (i : ℕ) → ¬ O.pending output.new i) }
+    ensures within { WritesWithin O.Disk (IsWithin at (length bytes.now)) 2 output.old output.new
+        (is_err result) }
+    ensures written { OnOk result (O.is_honest output.new
+        → IsOverwritten (O.content output.old) at bytes.now (O.content output.new)) }
+    ensures nothing_pending { OnOk result
+        (O.is_honest output.new → (i : ℕ) → ¬ O.pending output.new i) }
     ensures puts { PutsOrFails O.Disk at bytes.now output.old output.new (is_err result) }
 {
     output.write(at, bytes)?;
@@ -164,7 +169,8 @@ fn do_next<D: Disk>(
     options: &Options,
     left: u64,
 ) -> Result<Progress, DriveFault>
-    ensures { Advances (plan_next options.now left (view_of session.old)) session.old session.new result }
+    ensures { Advances (plan_next options.now left (view_of session.old)) session.old session.new
+        result }
 {
     let behind = session.count();
     match next_for(session.machine(), options, left, behind) {
@@ -184,7 +190,8 @@ fn go_on<D: Disk>(
     options: &Options,
     left: u64,
 ) -> Result<Progress, DriveFault>
-    ensures { Advances (plan_onward options.now left (view_of session.old)) session.old session.new result }
+    ensures { Advances (plan_onward options.now left (view_of session.old)) session.old session.new
+        result }
 {
     if is_checkpoint_due(session) {
         return checkpoint(session);
@@ -202,7 +209,8 @@ fn advance<D: Disk, O: Disk>(
     options: &Options,
     left: u64,
 ) -> Result<Progress, DriveFault>
-    ensures { Steps O.Disk (plan options.now left (view_of session.old)) session.old session.new output.old output.new result }
+    ensures { Steps O.Disk (plan options.now left (view_of session.old)) session.old session.new
+        output.old output.new result }
 {
     if session.confirmed() < session.released() {
         return release(session, output);
@@ -228,7 +236,8 @@ pub(crate) fn step<D: Disk, O: Disk>(
     options: &Options,
     left: &mut u64,
 ) -> Result<Progress, DriveFault>
-    ensures steps { Steps O.Disk (plan options.now left.old (view_of session.old)) session.old session.new output.old output.new result }
+    ensures steps { Steps O.Disk (plan options.now left.old (view_of session.old)) session.old
+        session.new output.old output.new result }
     ensures left { IfOk result (λ did. left.new ≡ left_after did left.old) }
     ensures kept { OnErr result (left.new ≡ left.old) }
 {
