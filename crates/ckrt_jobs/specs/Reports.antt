@@ -209,7 +209,8 @@ fault_line f = codes "ckrt: " ++ (name_of f ++ 10 ∷ [])
 
 -- all that is printed for a fault of what the words ask for
 abbrev pub report_of : Request → JobFault → List ℕ
-report_of asked f = subject_of (file_of f) asked ++ (numbers_of f ++ (advice_of f ++ (10 ∷ [] ++ fault_line f)))
+report_of asked f =
+    subject_of (file_of f) asked ++ (numbers_of f ++ (advice_of f ++ (10 ∷ [] ++ fault_line f)))
 
 -- all that is printed for words that name no job
 abbrev pub words_report_of : WordsFault → List ℕ
