@@ -147,7 +147,7 @@ class System:
         kernel, initial = (sorted((self.folder / "boot").glob(f"{name}-*"))[-1] for name in ("vmlinuz", "initrd.img"))
         return ["qemu-system-x86_64", "-accel", accel, "-cpu", "max", "-m", "1024", "-smp", "1",
                 "-nodefaults", "-display", "none", "-no-reboot", "-kernel", kernel, "-initrd", initial,
-                "-append", "root=LABEL=system rw console=ttyS0 quiet", "-serial", f"file:{console}",
+                "-append", "root=LABEL=system rw console=ttyS0 quiet systemd.journald.forward_to_console=1", "-serial", f"file:{console}",
                 "-drive", f"file={image},format=raw,if=virtio,snapshot=on",
                 "-drive", f"file={disk},format=raw,if=none,id=work,cache=none,aio=native",
                 "-device", "virtio-blk-pci,drive=work,logical_block_size=4096,physical_block_size=4096"]
