@@ -9,11 +9,12 @@ use Rattle.ckrt_recovery.specs.declared.session.Session.{Session}
 use Rattle.ckrt_drive.specs.Plan.{plan}
 use Rattle.ckrt_drive.specs.declared.options.Options.{Options}
 use Rattle.ckrt_drive.specs.declared.progress.Progress.TheVariants.{Checkpointed}
+use Rattle.ckrt_drive.specs.declared.supply.Supply.{Supply}
 
 -- where a checkpoint is planned all accepted events are acknowledged
 abbrev pub FindsAllAcknowledged : Options → View → Type 0
-FindsAllAcknowledged o v = (left : ℕ) → plan o left v ≡ Ok Checkpointed → v.acknowledged ≡ v.recovered.count
+FindsAllAcknowledged o v = (w : Supply) → plan o w v ≡ Ok Checkpointed → v.acknowledged ≡ v.recovered.count
 
 -- so the batch of a session that represents events is empty then
 abbrev pub FindsNothingPending : {D : Type 0} {g : Ghosts D} → Options → Session D g → Type 0
-FindsNothingPending o s = (left : ℕ) (p : Program) (events : List Event) → Represents p events s → plan o left (view_of s) ≡ Ok Checkpointed → s.pending.items ≡ []
+FindsNothingPending o s = (w : Supply) (p : Program) (events : List Event) → Represents p events s → plan o w (view_of s) ≡ Ok Checkpointed → s.pending.items ≡ []

@@ -6,4 +6,4 @@ pub returns : goal.returns
 returns g c =
     let s = c.args.session.now in
     let none : nat_lt s.progress.confirmed s.released ≡ false = search rules in
-    steps_on g.O.Disk c.args.options.now c.args.left s c.go_on.new.session c.args.output.now c.go_on.result none c.go_on.ensures
+    steps_on g.O.Disk c.args.options.now c.args.supply s c.go_on.new.session c.args.output.now c.go_on.result none c.go_on.ensures

@@ -1,0 +1,105 @@
+//! What a drive gives its program as input.
+ghost use Rattle.std.specs.Prelude.{◌≡◌, ◌+◌, ◌<◌, ◌^◌, ℕ, List, [], ◌∷◌, Option, Some, None, is_some, IfOk, IfSome, refl, true, false};
+ghost use Rattle.ckrt_disk.specs.Disk.{CountsFault};
+ghost use Rattle.ckrt_events.specs.Bytes.{IsInRange};
+ghost use Rattle.ckrt_input.specs.Taken.{taken_by};
+ghost use Rattle.ckrt_drive.specs.Given.{given_in};
+
+use ckrt_disk::{DeviceFault, Disk};
+use ckrt_events::Event;
+use ckrt_input::{PIECE, next_input};
+use ckrt_state::Tables;
+
+/// What a drive gives its program as input: the bytes of a file and then its end, or nothing.
+pub trait Feed {
+    /// The bytes of the file, where there is one.
+    ghost file: { Self → Option (List ℕ) };
+
+    /// Whether the file has read as these bytes up to now.
+    ghost is_honest: { Self → Type 0 };
+
+    /// The count of reads that failed, which stays at 2^64 - 1.
+    ghost failures: { Self → ℕ };
+
+    /// Whether there is a file: then checkpoints record how much the program has taken of it.
+    fn is_recorded(&self) -> bool
+        ensures { result ≡ is_some (file self.now) };
+
+    /// What the program is given next, where it has taken so many bytes; nothing where there is no file.
+    fn next(&mut self, tables: &Tables, taken: u64) -> Result<Option<Event>, DeviceFault>
+        ensures given { IfOk result (λ given. is_honest self.new
+            → given ≡ given_in (file self.old) taken tables.now) }
+        ensures in_range { IfOk result (λ given. IfSome given IsInRange) }
+        ensures few { IfOk result (λ given. IfSome given (λ e. taken + taken_by (e ∷ []) < 2 ^ 64)) }
+        ensures file { is_honest self.new → file self.new ≡ file self.old }
+        ensures kind { is_some (file self.new) ≡ is_some (file self.old) }
+        ensures honest { is_honest self.new → is_honest self.old }
+        ensures failures { CountsFault (failures self.old) (failures self.new) result };
+}
+
+/// No input at all: events give a program what it reads, if anybody does.
+#[derive(Clone, Copy, Debug, Drop, PartialEq, Eq)]
+pub struct Nothing;
+
+impl Feed for Nothing {
+    ghost file = { λ _. None };
+
+    ghost is_honest = { λ _. Unit {0} };
+
+    ghost failures = { λ _. 0 };
+
+    fn is_recorded(&self) -> bool {
+        false
+    }
+
+    fn next(&mut self, _tables: &Tables, _taken: u64) -> Result<Option<Event>, DeviceFault> {
+        Ok(None)
+    }
+}
+
+/// The bytes of a disk, which is only read: at most [`PIECE`] bytes at once, where the program takes them.
+#[derive(Drop)]
+pub struct FromDisk<I: Disk> {
+    disk: I,
+}
+
+impl<I: Disk> FromDisk<I> {
+    /// The bytes of this disk.
+    pub fn new(disk: I) -> FromDisk<I>
+        ensures { result.disk ≡ disk }
+    {
+        FromDisk { disk }
+    }
+
+    /// The disk, as it is.
+    pub fn into_disk(self) -> I
+        ensures { result ≡ self.disk }
+    {
+        self.disk
+    }
+}
+
+impl<I: Disk> Feed for FromDisk<I> {
+    ghost file = { λ feed. Some (I.content feed.disk) };
+
+    ghost is_honest = { λ feed. I.is_honest feed.disk };
+
+    ghost failures = { λ feed. I.failures feed.disk };
+
+    fn is_recorded(&self) -> bool {
+        true
+    }
+
+    /// Nothing is read where nothing is given: that hangs on the number of the bytes alone.
+    fn next(&mut self, tables: &Tables, taken: u64) -> Result<Option<Event>, DeviceFault> {
+        let size = self.disk.size();
+        let at = (taken as usize).min(size);
+        let mut window = [0; PIECE];
+        let bytes = &mut window[..(size - at).min(PIECE)];
+        if next_input(tables, bytes).is_none() {
+            return Ok(None);
+        }
+        self.disk.read(at, bytes)?;
+        Ok(next_input(tables, bytes))
+    }
+}
