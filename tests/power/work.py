@@ -26,12 +26,24 @@ RESTS = "0", "0", "500"  # microseconds behind each write of a life
 PATIENCE = 600  # seconds for a command, on a machine however busy
 
 
-def guest(seed, count):
-    """The image of a guest that puts what `output_of` says; it has its table in four pages."""
+def guest(seed, count, rounds=0):
+    """The image of a guest that puts what `output_of` says; it has its table in four pages.
+
+    Before each byte it goes so many rounds of two steps, and then sleeps for a moment, if it goes any: so it is committed often.
+    """
     program = Program()
     for register, value in ((5, seed), (8, count), (9, TABLE), (18, 0x4000)):
         program.constant(register, value)
     program.label("round")
+    if rounds:
+        program.constant(7, rounds)
+        program.label("rest")
+        program.addi(7, 7, -1)
+        program.bne(7, 0, "rest")
+        program.addi(19, 19, 2)
+        program.addi(10, 19, 0)
+        program.addi(11, 0, 0)
+        program.call(5)
     draw(program)
     program.both(7, 5, 9)
     program.add(7, 7, 18)

@@ -205,7 +205,7 @@ def tools(ckrt, folder):
 
     call(IMAGE, program, "-o", image, "--", "fault")
     ending, _ = driven(ckrt, image, folder)
-    fault = re.fullmatch(r"ended: fault 2 ([0-9a-f]{8}) StoreRange", ending)
+    fault = re.fullmatch(r"ended: fault 2 ([0-9a-f]{8}) StoreRange [0-9a-f]{8}", ending)
     place = call(WHERE, program, fault[1]) if fault else ""
     if place != f"{fault[1] if fault else ''} ends at deadlock.c:14\n":
         yield f"the fault {ending!r} is at {place!r}"

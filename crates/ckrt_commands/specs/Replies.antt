@@ -111,7 +111,8 @@ text_of = told_of line_of
 -- n lines of 64 bytes of output each, the last of what is left
 abbrev pub outputs_by : ℕ → ℕ → List ℕ → List Reply
 outputs_by zero offset bytes = []
-outputs_by (suc n) offset bytes = Output offset (take 64 bytes) ∷ outputs_by n (offset + length (take 64 bytes)) (drop 64 bytes)
+outputs_by (suc n) offset bytes =
+    Output offset (take 64 bytes) ∷ outputs_by n (offset + length (take 64 bytes)) (drop 64 bytes)
 
 -- all of the output, as lines of at most 64 bytes
 abbrev pub outputs : ℕ → List ℕ → List Reply

@@ -33,7 +33,14 @@ written rs f v = record { replies = rs; events = []; view = v; fate = f; quit = 
 
 -- replies and events before a transcript
 abbrev pub preceded_by : List Reply → List Event → Transcript → Transcript
-preceded_by rs es t = record { replies = rs ++ t.replies; events = es ++ t.events; view = t.view; fate = t.fate; quit = t.quit }
+preceded_by rs es t =
+    record {
+      replies = rs ++ t.replies;
+      events = es ++ t.events;
+      view = t.view;
+      fate = t.fate;
+      quit = t.quit;
+    }
 
 -- nothing more after quit
 abbrev pub unless_quit : Bool → Fate → View → (Fate → View → Transcript) → Transcript
@@ -61,20 +68,23 @@ abbrev pub submit : Event → Fate → View → Transcript
 submit e f v = submitted f v e (refusal_of v e)
 
 -- an event, and what follows unless it is refused
-abbrev pub unless_refused : Fate → View → Event → Option SubmitFault → (Fate → View → Transcript) → Transcript
+abbrev pub unless_refused : Fate → View → Event → Option SubmitFault → (Fate → View → Transcript)
+    → Transcript
 unless_refused f v e (Some why) more = submitted f v e (Some why)
 unless_refused f v e None more = followed_by (submitted f v e None) more
 
 -- the planned thread, if there is one, goes onto the hart; then the hart runs
 abbrev pub run_planned : Option ℕ → ℕ → ℕ → Fate → View → Transcript
 run_planned None h n f v = submit (Run h n) f v
-run_planned (Some t) h n f v = unless_refused f v (Place h t) (refusal_of v (Place h t)) (submit (Run h n))
+run_planned (Some t) h n f v =
+    unless_refused f v (Place h t) (refusal_of v (Place h t)) (submit (Run h n))
 
 -- COMMITS AND CHECKPOINTS
 
 -- the committed output that isn't confirmed, written and then confirmed
 abbrev pub output : Fate → View → Transcript
-output f v = written (outputs v.recovered.confirmed (released_output v)) f (confirmed_to v v.released)
+output f v =
+    written (outputs v.recovered.confirmed (released_output v)) f (confirmed_to v v.released)
 
 -- all of so many events are acknowledged, and the output that this releases is written
 abbrev pub acknowledged : ℕ → Fate → View → Transcript
@@ -87,7 +97,8 @@ refused_commit why f v = written (NotSaved why ∷ []) f v
 -- a commit or checkpoint that has work for the disk: the device fails it, or it makes this of the session
 abbrev pub by_fate : Fate → (before after : View) → Transcript
 by_fate None before after = acknowledged before.recovered.count None after
-by_fate (Some zero) before after = refused_commit fault.Device (Some zero) (record before { failed = true })
+by_fate (Some zero) before after =
+    refused_commit fault.Device (Some zero) (record before { failed = true })
 by_fate (Some (suc n)) before after = acknowledged before.recovered.count (Some n) after
 
 -- with nothing pending a commit has no work

@@ -19,8 +19,12 @@ pub fn release<L: Listener<T>, T, D: Disk>(
     session: &mut Session<D>,
     to: &mut T,
 ) -> Result<(), L::Fault>
-    ensures ok { OnOk result (Answers transcript.output false (Tells L.text (L.contents to.old) (L.contents to.new)) session.old session.new) }
-    ensures broken { OnErr result (BreaksOff transcript.output (Tells L.text (L.contents to.old) (L.contents to.new)) session.old session.new) }
+    ensures ok { OnOk result (Answers transcript.output false
+        (Tells L.text (L.contents to.old) (L.contents to.new)) session.old
+        session.new) }
+    ensures broken { OnErr result (BreaksOff transcript.output
+        (Tells L.text (L.contents to.old) (L.contents to.new)) session.old
+        session.new) }
 {
     let released = session.released();
     let (offset, bytes) = session.take_output();
@@ -36,9 +40,14 @@ fn submit<L: Listener<T>, T, D: Disk>(
     event: &Event,
 ) -> Result<bool, L::Fault>
     requires { IsInRange event.now }
-    ensures accepted { IfOk result (λ accepted. accepted ≡ is_none (refusal_of (view_of session.old) event.now)) }
-    ensures ok { OnOk result (Answers (transcript.submit event.now) false (Tells L.text (L.contents to.old) (L.contents to.new)) session.old session.new) }
-    ensures broken { OnErr result (BreaksOff (transcript.submit event.now) (Tells L.text (L.contents to.old) (L.contents to.new)) session.old session.new) }
+    ensures accepted { IfOk result
+        (λ accepted. accepted ≡ is_none (refusal_of (view_of session.old) event.now)) }
+    ensures ok { OnOk result (Answers (transcript.submit event.now) false
+        (Tells L.text (L.contents to.old) (L.contents to.new)) session.old
+        session.new) }
+    ensures broken { OnErr result (BreaksOff (transcript.submit event.now)
+        (Tells L.text (L.contents to.old) (L.contents to.new)) session.old
+        session.new) }
 {
     match session.submit(event) {
         Ok((count, answer)) => {
@@ -62,8 +71,12 @@ fn place_and_run<L: Listener<T>, T, D: Disk>(
 ) -> Result<(), L::Fault>
     requires place { IsInRange (Place hart thread) }
     requires run { IsInRange (Run hart steps) }
-    ensures ok { OnOk result (Answers (transcript.run_planned (Some thread) hart steps) false (Tells L.text (L.contents to.old) (L.contents to.new)) session.old session.new) }
-    ensures broken { OnErr result (BreaksOff (transcript.run_planned (Some thread) hart steps) (Tells L.text (L.contents to.old) (L.contents to.new)) session.old session.new) }
+    ensures ok { OnOk result (Answers (transcript.run_planned (Some thread) hart steps) false
+        (Tells L.text (L.contents to.old) (L.contents to.new)) session.old
+        session.new) }
+    ensures broken { OnErr result (BreaksOff (transcript.run_planned (Some thread) hart steps)
+        (Tells L.text (L.contents to.old) (L.contents to.new)) session.old
+        session.new) }
 {
     if submit::<L, T, D>(session, to, &Event::Place(hart, thread))? {
         submit::<L, T, D>(session, to, &Event::Run(hart, steps))?;
@@ -88,8 +101,12 @@ fn run_planned<L: Listener<T>, T, D: Disk>(
     steps: u16,
 ) -> Result<(), L::Fault>
     requires { IsInRange (Run hart steps) }
-    ensures ok { OnOk result (Answers (transcript.respond (Ok (Auto hart steps))) false (Tells L.text (L.contents to.old) (L.contents to.new)) session.old session.new) }
-    ensures broken { OnErr result (BreaksOff (transcript.respond (Ok (Auto hart steps))) (Tells L.text (L.contents to.old) (L.contents to.new)) session.old session.new) }
+    ensures ok { OnOk result (Answers (transcript.respond (Ok (Auto hart steps))) false
+        (Tells L.text (L.contents to.old) (L.contents to.new)) session.old
+        session.new) }
+    ensures broken { OnErr result (BreaksOff (transcript.respond (Ok (Auto hart steps)))
+        (Tells L.text (L.contents to.old) (L.contents to.new)) session.old
+        session.new) }
 {
     match planned(session, hart) {
         Some(thread) => place_and_run::<L, T, D>(session, to, hart, thread, steps),
@@ -102,8 +119,12 @@ fn run_planned<L: Listener<T>, T, D: Disk>(
 
 /// Commits the events so far, acknowledges them, and tells the released output.
 fn commit<L: Listener<T>, T, D: Disk>(session: &mut Session<D>, to: &mut T) -> Result<(), L::Fault>
-    ensures ok { OnOk result (Answers transcript.commit false (Tells L.text (L.contents to.old) (L.contents to.new)) session.old session.new) }
-    ensures broken { OnErr result (BreaksOff transcript.commit (Tells L.text (L.contents to.old) (L.contents to.new)) session.old session.new) }
+    ensures ok { OnOk result (Answers transcript.commit false
+        (Tells L.text (L.contents to.old) (L.contents to.new)) session.old
+        session.new) }
+    ensures broken { OnErr result (BreaksOff transcript.commit
+        (Tells L.text (L.contents to.old) (L.contents to.new)) session.old
+        session.new) }
 {
     match session.commit() {
         Ok(count) => {
@@ -119,8 +140,12 @@ fn checkpoint<L: Listener<T>, T, D: Disk>(
     session: &mut Session<D>,
     to: &mut T,
 ) -> Result<(), L::Fault>
-    ensures ok { OnOk result (Answers transcript.checkpoint false (Tells L.text (L.contents to.old) (L.contents to.new)) session.old session.new) }
-    ensures broken { OnErr result (BreaksOff transcript.checkpoint (Tells L.text (L.contents to.old) (L.contents to.new)) session.old session.new) }
+    ensures ok { OnOk result (Answers transcript.checkpoint false
+        (Tells L.text (L.contents to.old) (L.contents to.new)) session.old
+        session.new) }
+    ensures broken { OnErr result (BreaksOff transcript.checkpoint
+        (Tells L.text (L.contents to.old) (L.contents to.new)) session.old
+        session.new) }
 {
     match session.checkpoint() {
         Ok(count) => {
@@ -141,8 +166,13 @@ pub fn perform<L: Listener<T>, T, D: Disk>(
     command: &Command,
 ) -> Result<bool, L::Fault>
     requires { IsInRangeCommand command.now }
-    ensures ok { IfOk result (λ quit. Answers (transcript.respond (Ok command.now)) quit (Tells L.text (L.contents to.old) (L.contents to.new)) session.old session.new) }
-    ensures broken { OnErr result (BreaksOff (transcript.respond (Ok command.now)) (Tells L.text (L.contents to.old) (L.contents to.new)) session.old session.new) }
+    ensures ok { IfOk result (λ quit.
+        Answers (transcript.respond (Ok command.now)) quit
+        (Tells L.text (L.contents to.old) (L.contents to.new)) session.old
+        session.new) }
+    ensures broken { OnErr result (BreaksOff (transcript.respond (Ok command.now))
+        (Tells L.text (L.contents to.old) (L.contents to.new)) session.old
+        session.new) }
 {
     match command {
         Command::Submit(event) => {

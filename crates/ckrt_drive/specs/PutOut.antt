@@ -36,10 +36,14 @@ pub record PutsOut {O : Type 0} (o : Ghosts O) (at : ℕ) (piece : List ℕ) (a 
   pub sync : o.sync_gives written true b
 
 -- the write failed, or the sync behind it did
-abbrev pub FailsToPutOut : {O : Type 0} → Ghosts O → (at : ℕ) → (piece : List ℕ) → (a b : O) → Type 0
-FailsToPutOut {O} o at piece a b = o.write_gives a at piece false b ⊎ ((written : O) × o.write_gives a at piece true written × o.sync_gives written false b)
+abbrev pub FailsToPutOut : {O : Type 0} → Ghosts O → (at : ℕ) → (piece : List ℕ) → (a b : O)
+    → Type 0
+FailsToPutOut {O} o at piece a b =
+    o.write_gives a at piece false b
+    ⊎ ((written : O) × o.write_gives a at piece true written × o.sync_gives written false b)
 
-abbrev pub PutsOrFails : {O : Type 0} → Ghosts O → (at : ℕ) → (piece : List ℕ) → (a b : O) → (failed : Bool) → Type 0
+abbrev pub PutsOrFails : {O : Type 0} → Ghosts O → (at : ℕ) → (piece : List ℕ) → (a b : O)
+    → (failed : Bool) → Type 0
 PutsOrFails o at piece a b false = PutsOut o at piece a b
 PutsOrFails o at piece a b true = FailsToPutOut o at piece a b
 
@@ -48,7 +52,8 @@ PutsOrFails o at piece a b true = FailsToPutOut o at piece a b
 -- from a to b these pieces were put out, the first at an offset, and each where the one before it ended
 abbrev pub PutsAllOut : {O : Type 0} → Ghosts O → (at : ℕ) → List (List ℕ) → (a b : O) → Type 0
 PutsAllOut o at [] a b = b ≡ a
-PutsAllOut {O} o at (piece ∷ more) a b = (mid : O) × PutsOut o at piece a mid × PutsAllOut o (at + length piece) more mid b
+PutsAllOut {O} o at (piece ∷ more) a b =
+    (mid : O) × PutsOut o at piece a mid × PutsAllOut o (at + length piece) more mid b
 
 -- the bytes from one offset up to another
 abbrev pub between : (from to : ℕ) → List ℕ → List ℕ
@@ -62,7 +67,8 @@ EndsOrFails o v a b true = FailsToPutOut o v.recovered.confirmed (released_outpu
 
 -- From s to t a session took these events, and its output went from a to b, whether it failed a call or not: what was put out is the plain
 -- fold's output of acknowledged events, from the offset that was confirmed in s up to the one that is confirmed in t.
-pub record PutsOutput {D O : Type 0} {g : Ghosts D} (o : Ghosts O) (accepted : List Event) (s t : Session D g) (a b : O) (failed : Bool) : Type 0 where
+pub record PutsOutput {D O : Type 0} {g : Ghosts D} (o : Ghosts O) (accepted : List Event)
+    (s t : Session D g) (a b : O) (failed : Bool) : Type 0 where
   -- what was put out well, up to this state of the output
   pub pieces : List (List ℕ)
   pub last : O
@@ -71,5 +77,7 @@ pub record PutsOutput {D O : Type 0} {g : Ghosts D} (o : Ghosts O) (accepted : L
   pub reach : s.progress.confirmed + length (concat pieces) ≡ t.progress.confirmed
   -- and the fold's
   pub are : g.is_honest t.disk → (p : Program) (events : List Event) → Represents p events s
-      → concat pieces ≡ between s.progress.confirmed t.progress.confirmed (acknowledged_output p (events ++ accepted) t)
+      → concat pieces
+      ≡ between s.progress.confirmed t.progress.confirmed
+      (acknowledged_output p (events ++ accepted) t)
   pub rest : EndsOrFails o (view_of t) last b failed

@@ -37,21 +37,26 @@ abbrev pub HasBroken : {W : Type 0} → StreamOutput W → Type 0
 HasBroken stream = 0 < stream.failures
 
 -- A write of these bytes at an offset, from old to new: ok is whether it answered Ok.
-pub record HandsOn {W : Type 0} (contents : W → Option (List ℕ)) (old : StreamOutput W) (at : ℕ) (bytes : List ℕ) (ok : Bool) (new : StreamOutput W) : Type 0 where
+pub record HandsOn {W : Type 0} (contents : W → Option (List ℕ)) (old : StreamOutput W) (at : ℕ)
+    (bytes : List ℕ) (ok : Bool) (new : StreamOutput W) : Type 0 where
   -- where it did, all were handed on that hadn't been
-  pub whole : ok ≡ true → Appends (contents (writer_of old)) (contents (writer_of new)) (news_of old at bytes)
+  pub whole : ok ≡ true
+      → Appends (contents (writer_of old)) (contents (writer_of new)) (news_of old at bytes)
   -- and it has got to their end
   pub moved : ok ≡ true → got_to new ≡ max (got_to old) (at + length bytes)
   -- where it didn't, a beginning of them was
-  pub part : ok ≡ false → AppendsPart (contents (writer_of old)) (contents (writer_of new)) (news_of old at bytes)
+  pub part : ok ≡ false
+      → AppendsPart (contents (writer_of old)) (contents (writer_of new)) (news_of old at bytes)
   -- and it has broken
   pub breaks : ok ≡ false → HasBroken new
   -- after that nothing more is handed on
-  pub broken : HasBroken old → (ok ≡ false) × (writer_of new ≡ writer_of old) × (got_to new ≡ got_to old)
+  pub broken : HasBroken old
+      → (ok ≡ false) × (writer_of new ≡ writer_of old) × (got_to new ≡ got_to old)
   pub lent : HasSameWriter old new
 
 -- a read or a sync, which hands nothing on
-pub record HandsNothingOn {W : Type 0} (old : StreamOutput W) (ok : Bool) (new : StreamOutput W) : Type 0 where
+pub record HandsNothingOn {W : Type 0} (old : StreamOutput W) (ok : Bool) (new : StreamOutput W)
+    : Type 0 where
   pub writer : writer_of new ≡ writer_of old
   pub next : got_to new ≡ got_to old
   -- one that fails breaks it
@@ -59,26 +64,33 @@ pub record HandsNothingOn {W : Type 0} (old : StreamOutput W) (ok : Bool) (new :
   pub lent : HasSameWriter old new
 
 -- a sync, which fails only where it had broken
-abbrev pub SyncsNothing : {W : Type 0} → (old : StreamOutput W) → (ok : Bool) → (new : StreamOutput W) → Type 0
+abbrev pub SyncsNothing : {W : Type 0} → (old : StreamOutput W) → (ok : Bool)
+    → (new : StreamOutput W) → Type 0
 SyncsNothing old ok new = HandsNothingOn old ok new × (ok ≡ false → HasBroken old)
 
 -- A WHOLE RUN OF A DRIVE
 
 -- From a to b a stream handed on these bytes, from an offset up to another, but for those below the offset that it had got to; and where it
 -- failed a call, also a beginning of what is behind.
-abbrev pub HandsBetween : {W : Type 0} → (contents : W → Option (List ℕ)) → (from to : ℕ) → (out : List ℕ) → (a b : StreamOutput W) → (failed : Bool) → Type 0
-HandsBetween contents from to out a b false = Appends (contents (writer_of a)) (contents (writer_of b)) (between (max (got_to a) from) to out)
+abbrev pub HandsBetween : {W : Type 0} → (contents : W → Option (List ℕ)) → (from to : ℕ)
+    → (out : List ℕ) → (a b : StreamOutput W) → (failed : Bool) → Type 0
+HandsBetween contents from to out a b false =
+    Appends (contents (writer_of a)) (contents (writer_of b)) (between (max (got_to a) from) to out)
 HandsBetween contents from to out a b true =
     (front : List ℕ) × IsBeginningOf front (drop (max (got_to a) to) out) × Appends (contents (writer_of a)) (contents (writer_of b)) (between (max (got_to a) from) to out ++ front)
 
 -- From s to t a session took these events, and its stream went from a to b, whether it failed a call or not.
-pub record StreamsOutput {D W : Type 0} {g : Ghosts D} (contents : W → Option (List ℕ)) (accepted : List Event) (s t : Session D g) (a b : StreamOutput W) (failed : Bool) : Type 0 where
+pub record StreamsOutput {D W : Type 0} {g : Ghosts D} (contents : W → Option (List ℕ))
+    (accepted : List Event) (s t : Session D g) (a b : StreamOutput W) (failed : Bool)
+    : Type 0 where
   -- what it handed on is the plain fold's output of acknowledged events, from the offset that it had got to, or that was confirmed in s if
   -- that is higher, up to the one that is confirmed in t
   pub hands : g.is_honest t.disk → (p : Program) (events : List Event) → Represents p events s
-      → HandsBetween contents s.progress.confirmed t.progress.confirmed (acknowledged_output p (events ++ accepted) t) a b failed
+      → HandsBetween contents s.progress.confirmed t.progress.confirmed
+      (acknowledged_output p (events ++ accepted) t) a b failed
   -- it leaves out as much of what is behind as before
-  pub left_out : failed ≡ false → max (got_to b) t.progress.confirmed ≡ max (got_to a) t.progress.confirmed
+  pub left_out : failed ≡ false
+      → max (got_to b) t.progress.confirmed ≡ max (got_to a) t.progress.confirmed
   -- it has broken where it failed a call
   pub breaks : failed ≡ true → HasBroken b
   -- and hands nothing on where it had broken before
@@ -86,6 +98,9 @@ pub record StreamsOutput {D W : Type 0} {g : Ghosts D} (contents : W → Option 
   pub lent : HasSameWriter a b
 
 -- whatever run of a drive led from s to t, and its stream from a to b
-abbrev pub GetsTheOutput : {D W : Type 0} {g : Ghosts D} → Ghosts (StreamOutput W) → (contents : W → Option (List ℕ)) → (s t : Session D g) → (a b : StreamOutput W) → Type 0
-GetsTheOutput o contents s t a b = (options : Options) (steps first last : ℕ) (result : Result (Option Ending) DriveFault)
-    → (runs : Runs o options steps first last s t a b result) → StreamsOutput contents runs.accepted s t a b (is_output_fault result)
+abbrev pub GetsTheOutput : {D W : Type 0} {g : Ghosts D} → Ghosts (StreamOutput W)
+    → (contents : W → Option (List ℕ)) → (s t : Session D g) → (a b : StreamOutput W) → Type 0
+GetsTheOutput o contents s t a b =
+    (options : Options) (steps first last : ℕ) (result : Result (Option Ending) DriveFault)
+    → (runs : Runs o options steps first last s t a b result)
+    → StreamsOutput contents runs.accepted s t a b (is_output_fault result)

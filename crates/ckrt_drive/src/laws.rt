@@ -3,7 +3,7 @@ ghost use Rattle.std.specs.Prelude.{◌≡◌, Err};
 ghost use Rattle.ckrt_drive.specs.declared.fault.DriveFault.TheVariants.{Refused};
 ghost use Rattle.ckrt_drive.specs.Plan.{plan};
 ghost use Rattle.ckrt_drive.specs.declared.supply.Supply.{Supply};
-ghost use Rattle.ckrt_drive.specs.Settled.{FindsAllAcknowledged, FindsNothingPending};
+ghost use Rattle.ckrt_drive.specs.Settled.{FindsAllAcknowledged, FindsNothingPending, NoneIsNext};
 ghost use Rattle.ckrt_drive.specs.Streams.{GetsTheOutput};
 ghost use Rattle.ckrt_recovery.specs.View.{View, view_of};
 ghost use Rattle.ckrt_recovery.specs.declared.fault.SubmitFault.TheVariants.{NeedsCheckpoint};
@@ -24,7 +24,8 @@ pub fn stream_gets_the_output<'a, D: Disk, W: Write>(
     stream: &StreamOutput<'a, W>,
     end: &StreamOutput<'a, W>,
 )
-    ensures { GetsTheOutput ⟦<StreamOutput<'a, W> as Disk>⟧ W.contents before.now after.now stream.now end.now }
+    ensures { GetsTheOutput ⟦<StreamOutput<'a, W> as Disk>⟧ W.contents before.now after.now
+        stream.now end.now }
 {}
 
 /// A drive hands in no event that its session refuses as `NeedsCheckpoint`: where the area is of version 1, it has been checkpointed
@@ -38,4 +39,9 @@ pub fn plans_suit_the_version(options: &Options)
 pub fn checkpoints_find_nothing_pending<D: Disk>(options: &Options, session: &Session<D>)
     ensures acknowledged { FindsAllAcknowledged options.now (view_of session.now) }
     ensures pending { FindsNothingPending options.now session.now }
+{}
+
+/// Behind a checkpoint a drive plans none: the journal is empty, and takes each event of a plan.
+pub fn no_checkpoint_behind_a_checkpoint<D: Disk>(options: &Options, session: &Session<D>)
+    ensures { NoneIsNext options.now session.now }
 {}

@@ -18,7 +18,10 @@ mod supply;
 pub use drive::Drive;
 pub use fault::DriveFault;
 pub use feed::{Feed, FromDisk, Nothing};
-pub use laws::{checkpoints_find_nothing_pending, plans_suit_the_version, stream_gets_the_output};
+pub use laws::{
+    checkpoints_find_nothing_pending, no_checkpoint_behind_a_checkpoint, plans_suit_the_version,
+    stream_gets_the_output,
+};
 pub use onlooker::{Nobody, Onlooker};
 pub use options::Options;
 pub use progress::{Ending, Progress};

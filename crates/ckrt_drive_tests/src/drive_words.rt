@@ -90,7 +90,7 @@ const OTHER_ENDS: &[Step] = &[
     Ends(
         "drive drive_b.disk --output drive_b.out --turn 1 --rounds-per-commit 1",
         "",
-        "ended: fault 1 00001000 Illegal\n",
+        "`guest/where PROGRAM.elf 00001000` says where that is; so does `addr2line -e PROGRAM.elf 00001000`\nended: fault 1 00001000 Illegal\n",
         6,
     ),
     Remove("drive_b.disk"),
@@ -102,12 +102,12 @@ fn each_end_has_its_line_and_status(rt: HostRuntime) {
     play(&rt, OTHER_ENDS);
 }
 
-/// A file of three bytes for a disk that has put none out, and one of two for a disk that has put one.
+/// A file of three bytes for a disk that has put none out, and one of two for a disk that has put one, as its last checkpoint knows.
 const LONGER: &str =
     "the output drive_c.out: it has 3 bytes, and this disk wants 0 to 0: it may be another run's: give a new file; if the disk is an older copy, `truncate -s` to the last number goes on\nckrt: OutputDiffers\n";
 
 const LONGER_BY_ONE: &str =
-    "the output drive_c.out: it has 2 bytes, and this disk wants 0 to 1: it may be another run's: give a new file; if the disk is an older copy, `truncate -s` to the last number goes on\nckrt: OutputDiffers\n";
+    "the output drive_c.out: it has 2 bytes, and this disk wants 1 to 1: it may be another run's: give a new file; if the disk is an older copy, `truncate -s` to the last number goes on\nckrt: OutputDiffers\n";
 
 /// A guest that waits for input, is given some, and is driven on. A file that is longer than its output is refused, and stays.
 const FED: &[Step] = &[
@@ -153,13 +153,14 @@ fn a_guest_that_waits_for_input_is_driven_on(rt: HostRuntime) {
     play(&rt, FED);
 }
 
-/// A guest whose output is printed: what isn't confirmed on the disk yet comes again, but for what lies below an offset.
+/// A guest whose output is printed: what isn't confirmed on the disk yet comes again, but for what lies below an offset. The journal
+/// has room for more than a batch, so no checkpoint confirms it.
 const STREAMED: &[Step] = &[
     Write("drive_e.img", &IMAGE),
     Prints(
-        "format drive_e.disk drive_e.img --pages 16 --journal 4096",
+        "format drive_e.disk drive_e.img --pages 16 --journal 8192",
         "",
-        "formatted 348160\n",
+        "formatted 356352\n",
     ),
     Remove("drive_e.img"),
     Ends("drive drive_e.disk", "A", "ended: exit 0\n", 0),

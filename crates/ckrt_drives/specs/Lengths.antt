@@ -5,4 +5,5 @@ use Rattle.std.specs.Prelude.{ℕ, ◌+◌, max, List, [], ◌∷◌, length}
 -- the file as long as it reaches, and never shorter (POSIX.1-2017, pwrite).
 abbrev pub size_after : (size at : ℕ) → List (List ℕ) → ℕ
 size_after size at [] = size
-size_after size at (piece ∷ more) = size_after (max size (at + length piece)) (at + length piece) more
+size_after size at (piece ∷ more) =
+    size_after (max size (at + length piece)) (at + length piece) more

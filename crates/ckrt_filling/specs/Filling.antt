@@ -17,8 +17,10 @@ abbrev pub FillsAt : (length : ℕ) → ℕ → Type 0
 FillsAt length i = (length < smallest_disk) ⊎ (length ≤ i)
 
 -- a disk was written, read and synced, and written only in a region; the number of its writes and syncs isn't said
-abbrev pub WritesOnly : {D X E : Type 0} → Ghosts D → (region : ℕ → Type 0) → (old new : D) → Result X E → Type 0
-WritesOnly d region old new result = WritesWithin d region (d.calls new - d.calls old) old new (is_err result)
+abbrev pub WritesOnly : {D X E : Type 0} → Ghosts D → (region : ℕ → Type 0) → (old new : D)
+    → Result X E → Type 0
+WritesOnly d region old new result =
+    WritesWithin d region (d.calls new - d.calls old) old new (is_err result)
 
 -- there are zeros from one offset on
 abbrev pub IsZeroFrom : (from : ℕ) → List ℕ → Type 0

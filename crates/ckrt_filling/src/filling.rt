@@ -19,7 +19,8 @@ fn write_zeros<D: Disk>(disk: &mut D, at: usize, count: usize) -> Result<(), Dev
     requires inside { at + count ≤ D.size disk.old }
     requires few { count ≤ block }
     ensures within { WritesWithin D.Disk (IsWithin at count) 1 disk.old disk.new (is_err result) }
-    ensures zeros { OnOk result (D.is_honest disk.new → (i : ℕ) → IsWithin at count i → slice_index (D.content disk.new) i ≡ 0) }
+    ensures zeros { OnOk result (D.is_honest disk.new → (i : ℕ) → IsWithin at count i
+        → slice_index (D.content disk.new) i ≡ 0) }
 {
     let zeros = [0; BLOCK];
     write_part(disk, at, &zeros[..count])
@@ -28,8 +29,10 @@ fn write_zeros<D: Disk>(disk: &mut D, at: usize, count: usize) -> Result<(), Dev
 /// Fills the first block, durably.
 fn begin<D: Disk>(disk: &mut D) -> Result<(), DeviceFault>
     ensures within { WritesWithin D.Disk (λ i. i < block) 2 disk.old disk.new (is_err result) }
-    ensures zeros { OnOk result (D.is_honest disk.new → (i : ℕ) → i < block → slice_index (D.content disk.new) i ≡ 0) }
-    ensures nothing_pending { OnOk result (D.is_honest disk.new → (i : ℕ) → ¬ D.pending disk.new i) }
+    ensures zeros { OnOk result
+        (D.is_honest disk.new → (i : ℕ) → i < block → slice_index (D.content disk.new) i ≡ 0) }
+    ensures nothing_pending { OnOk result
+        (D.is_honest disk.new → (i : ℕ) → ¬ D.pending disk.new i) }
 {
     let zeros = [0; BLOCK];
     let count = disk.size().min(BLOCK);
@@ -40,7 +43,8 @@ fn begin<D: Disk>(disk: &mut D) -> Result<(), DeviceFault>
 fn has_open_gate<D: Disk>(disk: &mut D) -> Result<bool, DeviceFault>
     requires { 1 ≤ D.size disk.old }
     ensures read { IsOnlyRead D.Disk disk.old disk.new (is_err result) }
-    ensures exact { IfOk result (λ found. D.is_honest disk.new → found ≡ is_open (D.content disk.old)) }
+    ensures exact { IfOk result
+        (λ found. D.is_honest disk.new → found ≡ is_open (D.content disk.old)) }
 {
     let mut gate = [0];
     disk.read(0, &mut gate)?;
@@ -67,7 +71,8 @@ fn settle_gate<D: Disk>(disk: &mut D) -> Result<(), DeviceFault>
     ensures within { WritesOnly D.Disk Nowhere disk.old disk.new result }
     ensures any_moment { AtAnyMoment D.Disk disk.old disk.new (MayBeLeft D.Disk disk.old) }
     ensures content { OnOk result (D.is_honest disk.new → D.content disk.new ≡ D.content disk.old) }
-    ensures durable { OnOk result (D.is_honest disk.new → is_open (D.content disk.old) ≡ false → (i : ℕ) → ¬ D.pending disk.new i) }
+    ensures durable { OnOk result (D.is_honest disk.new → is_open (D.content disk.old) ≡ false
+        → (i : ℕ) → ¬ D.pending disk.new i) }
 {
     if has_open_gate(disk)? {
         return Ok(());
@@ -91,7 +96,8 @@ fn fill_behind<D: Disk>(disk: &mut D, length: usize) -> Result<(), DeviceFault>
     requires room { length ≤ D.size disk.old }
     ensures within { WritesOnly D.Disk (λ i. length ≤ i) disk.old disk.new result }
     ensures zeros { OnOk result (D.is_honest disk.new → IsZeroFrom length (D.content disk.new)) }
-    ensures closed { is_open (D.content disk.old) ≡ false → AtAnyMoment D.Disk disk.old disk.new (IsClosed D.Disk disk.old) }
+    ensures closed { is_open (D.content disk.old) ≡ false
+        → AtAnyMoment D.Disk disk.old disk.new (IsClosed D.Disk disk.old) }
 {
     settle_gate(disk)?;
     fill(disk, length)
@@ -104,8 +110,10 @@ pub fn fill_up<D: Disk>(disk: &mut D, length: usize) -> Result<(), DeviceFault>
     requires { length ≤ D.size disk.old }
     ensures within { WritesOnly D.Disk (FillsAt length) disk.old disk.new result }
     ensures zeros { OnOk result (D.is_honest disk.new → IsFilled length (D.content disk.new)) }
-    ensures begun { length < smallest_disk → AtAnyMoment D.Disk disk.old disk.new (IsBegun D.Disk disk.old) }
-    ensures closed { smallest_disk ≤ length → is_open (D.content disk.old) ≡ false → AtAnyMoment D.Disk disk.old disk.new (IsClosed D.Disk disk.old) }
+    ensures begun { length < smallest_disk
+        → AtAnyMoment D.Disk disk.old disk.new (IsBegun D.Disk disk.old) }
+    ensures closed { smallest_disk ≤ length → is_open (D.content disk.old) ≡ false
+        → AtAnyMoment D.Disk disk.old disk.new (IsClosed D.Disk disk.old) }
 {
     if length < SMALLEST_DISK {
         fill_whole(disk)

@@ -15,7 +15,15 @@ FRESH_TABLES_SIZE = 176
 
 -- the header of area 0 before the first event
 abbrev pub fresh_header : Header
-fresh_header = record { is_open = true; generation = 1; count = 0; offset = 0; tables = FRESH_TABLES_SIZE; version = VERSION }
+fresh_header =
+    record {
+      is_open = true;
+      generation = 1;
+      count = 0;
+      offset = 0;
+      tables = FRESH_TABLES_SIZE;
+      version = VERSION;
+    }
 
 -- the guest's memory before the first event: the image, and zeros behind it
 abbrev pub fresh_memory : Config → List ℕ → List ℕ
@@ -37,4 +45,6 @@ pub record IsFresh (c : Config) (memory content : List ℕ) : Type 0 where
 
 -- a disk whose area 0 has some memory and no event has all of it now
 abbrev pub BecomesFresh : Config → List ℕ → List ℕ → Type 0
-BecomesFresh c old new = (memory : List ℕ) → length memory ≡ memory_size c → HasFreshArea c memory old → IsFresh c memory new
+BecomesFresh c old new =
+    (memory : List ℕ) → length memory ≡ memory_size c → HasFreshArea c memory old
+    → IsFresh c memory new

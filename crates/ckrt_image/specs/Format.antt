@@ -34,7 +34,8 @@ IsFormatted c guest image = RecoversToStart (formatted_program c guest) image
 
 -- What a stop of formatting may leave: an image that was possible before it, one that isn't formatted, or one that is and has no event.
 abbrev pub IsFormatting : {D : Type 0} → Config → List ℕ → Ghosts D → D → List ℕ → Type 0
-IsFormatting c guest d disk image = MayBeLeft d disk image ⊎ Recovers image (Err NotFormatted) ⊎ IsFormatted c guest image
+IsFormatting c guest d disk image =
+    MayBeLeft d disk image ⊎ Recovers image (Err NotFormatted) ⊎ IsFormatted c guest image
 
 -- of an honest disk a stop at any moment since old leaves no more than that
 abbrev pub LeavesFormatting : {D : Type 0} → Config → List ℕ → Ghosts D → (old new : D) → Type 0
@@ -69,8 +70,10 @@ calls_of (Err Device) = 0
 calls_of (Err OutOfMemory) = 0
 
 -- the calls of the disk: it is written only where formatting writes, by as many writes and syncs as the answer says
-abbrev pub IsFormatWrite : {D X : Type 0} → Ghosts D → Config → (old new : D) → Result X FormatFault → Type 0
-IsFormatWrite d c old new result = WritesWithin d (FormatsAt c) (calls_of result) old new (is_device result)
+abbrev pub IsFormatWrite : {D X : Type 0} → Ghosts D → Config → (old new : D) → Result X FormatFault
+    → Type 0
+IsFormatWrite d c old new result =
+    WritesWithin d (FormatsAt c) (calls_of result) old new (is_device result)
 
 -- where there is a refusal the answer is that one, and else none of them
 abbrev pub IsRefusedBy : {X : Type 0} → Option FormatFault → Result X FormatFault → Type 0
@@ -90,7 +93,8 @@ pub record StaysFormatted {D : Type 0} (d : Ghosts D) (old new : D) : Type 0 whe
 
 -- an honest disk whose first gate was open stays as it is
 abbrev pub StaysIfFormatted : {D : Type 0} → Ghosts D → (old new : D) → Type 0
-StaysIfFormatted d old new = d.is_honest new → is_open (d.content old) ≡ true → StaysFormatted d old new
+StaysIfFormatted d old new =
+    d.is_honest new → is_open (d.content old) ≡ true → StaysFormatted d old new
 
 -- The disk had an open first gate already, and reads as before.
 pub record WasFormatted {D : Type 0} (d : Ghosts D) (old new : D) : Type 0 where
@@ -100,11 +104,14 @@ pub record WasFormatted {D : Type 0} (d : Ghosts D) (old new : D) : Type 0 where
   pub content : d.content new ≡ d.content old
 
 -- where the answer is AlreadyFormatted an honest disk had an open first gate, and reads as before
-abbrev pub TellsFormatted : {D X : Type 0} → Ghosts D → (old new : D) → Result X FormatFault → Type 0
-TellsFormatted d old new result = result ≡ Err AlreadyFormatted → d.is_honest new → WasFormatted d old new
+abbrev pub TellsFormatted : {D X : Type 0} → Ghosts D → (old new : D) → Result X FormatFault
+    → Type 0
+TellsFormatted d old new result =
+    result ≡ Err AlreadyFormatted → d.is_honest new → WasFormatted d old new
 
 -- A disk was formatted with this configuration and this guest image.
-pub record IsMade {D : Type 0} (d : Ghosts D) (c : Config) (guest : List ℕ) (old new : D) : Type 0 where
+pub record IsMade {D : Type 0} (d : Ghosts D) (c : Config) (guest : List ℕ) (old new : D)
+    : Type 0 where
   -- its first gate was closed before
   pub was_closed : is_open (d.content old) ≡ false
   -- what was written is durable

@@ -15,11 +15,14 @@ use Rattle.ckrt_image.specs.Recovery.{Recovered, Recovers, is_end_in_range, unre
 
 -- the bytes of an area and of its journal
 abbrev pub BelongsTo : Config → ℕ → ℕ → Type 0
-BelongsTo c area i = IsWithin (area_at c area) (area_size c) i ⊎ IsWithin (journal_at c area) c.journal i
+BelongsTo c area i =
+    IsWithin (area_at c area) (area_size c) i ⊎ IsWithin (journal_at c area) c.journal i
 
 -- Frame: the bytes of the area that isn't in use, and of its journal, don't matter where its gate isn't open.
 abbrev pub IsFramed : Type 0
-IsFramed = (before image : List ℕ) (r : Recovered) → Recovers before (Ok r) → IsSameOutside (BelongsTo r.config (1 - r.area)) before image
+IsFramed =
+    (before image : List ℕ) (r : Recovered) → Recovers before (Ok r)
+    → IsSameOutside (BelongsTo r.config (1 - r.area)) before image
     → (header_of r.config (1 - r.area) image).is_open ≡ false → Recovers image (Ok r)
 
 -- the offsets behind the bytes that the configuration needs
@@ -28,10 +31,13 @@ IsSpare c i = size_needed c ≤ i
 
 -- Spare: the bytes behind those that the configuration needs don't matter.
 abbrev pub IsSpareFree : Type 0
-IsSpareFree = (before image : List ℕ) (r : Recovered) → Recovers before (Ok r) → IsSameOutside (IsSpare r.config) before image → Recovers image (Ok r)
+IsSpareFree =
+    (before image : List ℕ) (r : Recovered) → Recovers before (Ok r)
+    → IsSameOutside (IsSpare r.config) before image → Recovers image (Ok r)
 
 -- An area holds a state whole, and its journal has no batch.
-pub record HoldsState (c : Config) (area : Area) (memory : List ℕ) (s : Saved) (image : List ℕ) : Type 0 where
+pub record HoldsState (c : Config) (area : Area) (memory : List ℕ) (s : Saved) (image : List ℕ)
+    : Type 0 where
   pub index : area.index ≤ 1
   -- its header is open, and its fields are in their ranges
   pub header : header_of c area.index image ≡ area.header
@@ -48,15 +54,24 @@ pub record HoldsState (c : Config) (area : Area) (memory : List ℕ) (s : Saved)
 
 -- the other area isn't open, or it is of a lower generation
 abbrev pub IsNewest : Config → Area → List ℕ → Type 0
-IsNewest c area image = (header_of c (1 - area.index) image).is_open ≡ true → (header_of c (1 - area.index) image).generation < area.header.generation
+IsNewest c area image =
+    (header_of c (1 - area.index) image).is_open ≡ true
+    → (header_of c (1 - area.index) image).generation < area.header.generation
 
 -- Switch: an image recovers to the state that its newest area holds.
 abbrev pub IsSwitched : Type 0
-IsSwitched = (c : Config) (area : Area) (memory : List ℕ) (s : Saved) (image : List ℕ) → superblock_of image ≡ Ok c → HoldsState c area memory s image → IsNewest c area image
+IsSwitched =
+    (c : Config) (area : Area) (memory : List ℕ) (s : Saved) (image : List ℕ)
+    → superblock_of image ≡ Ok c → HoldsState c area memory s image → IsNewest c area image
     → Recovers image (Ok (unreplayed c area memory s))
 
 -- CHECKPOINTS
 
 -- what was recovered, in the other area, of one generation more and the latest version, and no event is journaled behind it
 abbrev pub in_other_area : Recovered → Recovered
-in_other_area r = record r { area = 1 - r.area; generation = r.generation + 1; journal = journal_of r.config (1 - r.area) VERSION }
+in_other_area r =
+    record r {
+      area = 1 - r.area;
+      generation = r.generation + 1;
+      journal = journal_of r.config (1 - r.area) VERSION;
+    }

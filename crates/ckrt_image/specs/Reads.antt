@@ -15,5 +15,6 @@ is_device (Err Device) = true
 is_device (Err OutOfMemory) = false
 
 -- What a reading of an honest disk gives, seen by view, is what holds of its content, unless the device or the memory failed.
-abbrev pub IsReadAs : {D X Y : Type 0} → Ghosts D → (old new : D) → (X → Y) → Result X RecoverFault → (List ℕ → Result Y RecoverFault → Type 0) → Type 0
+abbrev pub IsReadAs : {D X Y : Type 0} → Ghosts D → (old new : D) → (X → Y) → Result X RecoverFault
+    → (List ℕ → Result Y RecoverFault → Type 0) → Type 0
 IsReadAs d old new view result Holds = d.is_honest new → Agrees view (λ e. e) result (Holds (d.content old))

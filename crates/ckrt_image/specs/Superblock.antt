@@ -28,4 +28,6 @@ superblock_of image = if nat_lt (length image) 32 then Err NotFormatted else sup
 
 -- bytes 8..32 of a superblock
 abbrev pub superblock_fields : Config → List ℕ
-superblock_fields c = little_bytes 8 MAGIC ++ little_bytes 4 1 ++ little_bytes 4 c.pages ++ little_bytes 4 c.harts ++ little_bytes 4 c.journal
+superblock_fields c =
+    little_bytes 8 MAGIC ++ little_bytes 4 1 ++ little_bytes 4 c.pages ++ little_bytes 4 c.harts
+    ++ little_bytes 4 c.journal

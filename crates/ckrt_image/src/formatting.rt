@@ -33,7 +33,8 @@ impl From<AllocError> for FormatFault {
 
 // Whether a disk of so many bytes can be formatted so.
 fn check(size: usize, config: &Config, image: &[u8]) -> Result<(), FormatFault>
-    ensures refused { IfErr result (λ fault. format_refusal size config.now image.now ≡ Some fault) }
+    ensures refused { IfErr result
+        (λ fault. format_refusal size config.now image.now ≡ Some fault) }
     ensures ok { OnOk result (format_refusal size config.now image.now ≡ None) }
     ensures valid { OnOk result (is_valid config.now ≡ true) }
     ensures image { OnOk result (length image.now ≤ memory_size config.now) }
@@ -69,9 +70,11 @@ fn guest_memory(alloc: Global, config: &Config, image: &[u8]) -> Result<Vec<u8>,
 fn is_formatted<D: Disk>(disk: &mut D) -> Result<bool, DeviceFault>
     requires { 1 ≤ D.size disk.old }
     ensures within { WritesWithin D.Disk Nowhere 1 disk.old disk.new (is_err result) }
-    ensures exact { IfOk result (λ found. D.is_honest disk.new → found ≡ is_open (D.content disk.old)) }
+    ensures exact { IfOk result
+        (λ found. D.is_honest disk.new → found ≡ is_open (D.content disk.old)) }
     ensures content { OnOk result (D.is_honest disk.new → D.content disk.new ≡ D.content disk.old) }
-    ensures nothing_pending { OnOk result (D.is_honest disk.new → (i : ℕ) → ¬ D.pending disk.new i) }
+    ensures nothing_pending { OnOk result
+        (D.is_honest disk.new → (i : ℕ) → ¬ D.pending disk.new i) }
     ensures calls { D.calls disk.new ≡ D.calls disk.old + 1 }
 {
     disk.sync()?;
@@ -85,8 +88,10 @@ fn write_area<D: Disk>(disk: &mut D, config: &Config, memory: &[u8]) -> Result<(
     requires valid { is_valid config.now ≡ true }
     requires memory { length memory.now ≡ memory_size config.now }
     requires room { size_needed config.now ≤ D.size disk.old }
-    ensures within { WritesWithin D.Disk (FormatsBehindGate config.now) 4 disk.old disk.new (is_err result) }
-    ensures written { OnOk result (D.is_honest disk.new → HasFreshArea config.now memory.now (D.content disk.new)) }
+    ensures within { WritesWithin D.Disk (FormatsBehindGate config.now) 4 disk.old disk.new
+        (is_err result) }
+    ensures written { OnOk result
+        (D.is_honest disk.new → HasFreshArea config.now memory.now (D.content disk.new)) }
 {
     let header = header_fields(&Header {
         is_open: true,
@@ -107,8 +112,10 @@ fn write_area<D: Disk>(disk: &mut D, config: &Config, memory: &[u8]) -> Result<(
 fn write_blocks<D: Disk>(disk: &mut D, config: &Config) -> Result<(), DeviceFault>
     requires valid { is_valid config.now ≡ true }
     requires room { size_needed config.now ≤ D.size disk.old }
-    ensures within { WritesWithin D.Disk (FormatsBehindGate config.now) 3 disk.old disk.new (is_err result) }
-    ensures written { OnOk result (D.is_honest disk.new → BecomesFresh config.now (D.content disk.old) (D.content disk.new)) }
+    ensures within { WritesWithin D.Disk (FormatsBehindGate config.now) 3 disk.old disk.new
+        (is_err result) }
+    ensures written { OnOk result (D.is_honest disk.new
+        → BecomesFresh config.now (D.content disk.old) (D.content disk.new)) }
 {
     let superblock = superblock_fields(config);
     write_part(disk, config.journal_at(0), &[CLOSED])?;
@@ -125,9 +132,12 @@ fn write_behind_gate<D: Disk>(
     requires valid { is_valid config.now ≡ true }
     requires memory { length memory.now ≡ memory_size config.now }
     requires room { size_needed config.now ≤ D.size disk.old }
-    ensures within { WritesWithin D.Disk (FormatsBehindGate config.now) 8 disk.old disk.new (is_err result) }
-    ensures written { OnOk result (D.is_honest disk.new → IsFresh config.now memory.now (D.content disk.new)) }
-    ensures nothing_pending { OnOk result (D.is_honest disk.new → (i : ℕ) → ¬ D.pending disk.new i) }
+    ensures within { WritesWithin D.Disk (FormatsBehindGate config.now) 8 disk.old disk.new
+        (is_err result) }
+    ensures written { OnOk result
+        (D.is_honest disk.new → IsFresh config.now memory.now (D.content disk.new)) }
+    ensures nothing_pending { OnOk result
+        (D.is_honest disk.new → (i : ℕ) → ¬ D.pending disk.new i) }
 {
     write_area(disk, config, memory)?;
     write_blocks(disk, config)?;

@@ -41,26 +41,38 @@ IsNext (RunLong h n) next = Unit {0}
 -- From a state on, where these bytes of a file are left, each Input and each end of input among events is what is next at its turn.
 abbrev pub AreGiven : List Event → (rest : List ℕ) → State → Type 0
 AreGiven [] rest s = Unit {0}
-AreGiven (e ∷ es) rest s = IsNext e (next_input s.tables rest) × AreGiven es (drop (length (bytes_of e)) rest) (step e s).state
+AreGiven (e ∷ es) rest s =
+    IsNext e (next_input s.tables rest)
+    × AreGiven es (drop (length (bytes_of e)) rest) (step e s).state
 
 -- WHAT FOLLOWS
 
 -- the Inputs, joined, are a beginning of the file: nothing is given twice, and nothing is left out
 abbrev pub GivesBeginning : Type 0
-GivesBeginning = (events : List Event) (file : List ℕ) (s : State) → AreGiven events file s → (rest : List ℕ) × (file ≡ input_of events ++ rest)
+GivesBeginning =
+    (events : List Event) (file : List ℕ) (s : State) → AreGiven events file s
+    → (rest : List ℕ) × (file ≡ input_of events ++ rest)
 
 -- the end comes only behind all of the file
 abbrev pub EndsBehindAll : Type 0
-EndsBehindAll = (front back : List Event) (file : List ℕ) (s : State) → AreGiven (front ++ Eof ∷ back) file s → input_of front ≡ file
+EndsBehindAll =
+    (front back : List Event) (file : List ℕ) (s : State) → AreGiven (front ++ Eof ∷ back) file s
+    → input_of front ≡ file
 
 -- events behind others are given from the offset on that those before them left
 abbrev pub GoesOnGiven : Type 0
-GoesOnGiven = (front back : List Event) (file : List ℕ) (s : State) → AreGiven front file s → AreGiven back (drop (taken_by front) file) (fold front s).state → AreGiven (front ++ back) file s
+GoesOnGiven =
+    (front back : List Event) (file : List ℕ) (s : State) → AreGiven front file s
+    → AreGiven back (drop (taken_by front) file) (fold front s).state
+    → AreGiven (front ++ back) file s
 
 -- what is next is in its range, and refused for no reason, however much output is held
 abbrev pub IsAlwaysTaken : Type 0
-IsAlwaysTaken = (s : State) (rest : List ℕ) (e : Event) → next_input s.tables rest ≡ Some e → IsInRange e × ((held : ℕ) → refusal_of held e s ≡ None)
+IsAlwaysTaken =
+    (s : State) (rest : List ℕ) (e : Event) → next_input s.tables rest ≡ Some e
+    → IsInRange e × ((held : ℕ) → refusal_of held e s ≡ None)
 
 -- it hangs on the next 64 bytes alone
 abbrev pub HangsOnNext : Type 0
-HangsOnNext = (s : Tables) (rest : List ℕ) (n : ℕ) → 64 ≤ n → next_input s (take n rest) ≡ next_input s rest
+HangsOnNext =
+    (s : Tables) (rest : List ℕ) (n : ℕ) → 64 ≤ n → next_input s (take n rest) ≡ next_input s rest

@@ -26,4 +26,6 @@ address_behind pc n = (pc + n) % 2 ^ 32
 
 -- the four instructions from a pc on
 abbrev pub code_lines : List ℕ → ℕ → List ℕ
-code_lines memory pc = code_line memory (address_behind pc 0) ++ code_line memory (address_behind pc 4) ++ code_line memory (address_behind pc 8) ++ code_line memory (address_behind pc 12)
+code_lines memory pc =
+    code_line memory (address_behind pc 0) ++ code_line memory (address_behind pc 4)
+    ++ code_line memory (address_behind pc 8) ++ code_line memory (address_behind pc 12)

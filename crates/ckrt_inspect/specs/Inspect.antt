@@ -54,7 +54,8 @@ AgreesAt at image (Ok p) = RecoversAt at image (recovered_of p)
 AgreesAt at image (Err e) = IsFaultOf at image e
 
 -- the image recovers and was listed, or the fault is what it says
-abbrev pub Tells : {X : Type 0} → Shown → List ℕ → Option (List ℕ) → Option (List ℕ) → Result X InspectFault → Type 0
+abbrev pub Tells : {X : Type 0} → Shown → List ℕ → Option (List ℕ) → Option (List ℕ)
+    → Result X InspectFault → Type 0
 Tells shown image old new (Ok x) = IsListed shown image old new
 Tells shown image old new (Err e) = IsFaultOf shown.at image e
 
@@ -70,7 +71,8 @@ is_device (Err Write) = false
 is_device (Err Range) = false
 
 -- The disk that was handed in was only read, and is gone; what was answered and written is what its content tells, if it was honest to its end.
-pub record IsInspected {D X : Type 0} (d : Ghosts D) (disk : D) (shown : Shown) (old new : Option (List ℕ)) (result : Result X InspectFault) : Type 0 where
+pub record IsInspected {D X : Type 0} (d : Ghosts D) (disk : D) (shown : Shown)
+    (old new : Option (List ℕ)) (result : Result X InspectFault) : Type 0 where
   -- the disk as it was let go
   pub end : D
   pub read : IsOnlyRead d disk end (is_device result)

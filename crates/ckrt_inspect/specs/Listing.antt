@@ -148,11 +148,15 @@ all_key_lines s = keys_lines s.keys ++ flat_map value_lines (thread_rows s)
 
 -- the lines of the program's objects
 abbrev pub object_lines : Tables → List ℕ
-object_lines t = flat_map mutex_line t.mutexes ++ flat_map barrier_line t.barriers ++ flat_map rwlock_line t.rwlocks
+object_lines t =
+    flat_map mutex_line t.mutexes ++ flat_map barrier_line t.barriers
+    ++ flat_map rwlock_line t.rwlocks
 
 -- the lines of harts, threads and waits
 abbrev pub all_thread_lines : (with_code : Bool) (memory : List ℕ) → threads.State → List ℕ
-all_thread_lines with_code memory s = hart_lines s ++ flat_map (thread_lines with_code memory s) (thread_rows s) ++ flat_map wait_line s.waits
+all_thread_lines with_code memory s =
+    hart_lines s ++ flat_map (thread_lines with_code memory s) (thread_rows s)
+    ++ flat_map wait_line s.waits
 
 -- the first three lines
 abbrev pub head_lines : ℕ → Tables → List ℕ

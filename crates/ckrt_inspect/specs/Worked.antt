@@ -22,15 +22,34 @@ use Rattle.ckrt_inspect.specs.Code.{code_line, word_line}
 
 -- a thread that can be joined and cancelled, at a pc, with these registers
 abbrev pub plain : ℕ → List ℕ → Thread
-plain pc x = thread.Live (record { regs = record { pc = pc; x = x }; initial = false; detached = false; cancellation = at_the_start; handlers = record { items = [] }; specific = no_data })
+plain pc x =
+    thread.Live (record {
+      regs = record { pc = pc; x = x };
+      initial = false;
+      detached = false;
+      cancellation = at_the_start;
+      handlers = record { items = [] };
+      specific = no_data;
+    })
 
 -- one hart, idle, and these threads and waits
 abbrev pub off_harts : List (Option Thread) → List Wait → threads.State
-off_harts slots waits = record { threads = slots; waits = waits; harts = replicate 8 None; hart_count = 1; keys = no_keys }
+off_harts slots waits =
+    record {
+      threads = slots;
+      waits = waits;
+      harts = replicate 8 None;
+      hart_count = 1;
+      keys = no_keys;
+    }
 
 -- a program that runs, with no object and no input
 abbrev pub running : List ℕ → threads.State → State
-running memory s = record { bytes = memory; tables = record { threads = s; mutexes = []; barriers = []; rwlocks = []; clock = 0; input = []; closed = false; status = status.Running } }
+running memory s =
+    record {
+      bytes = memory;
+      tables = record { threads = s; mutexes = []; barriers = []; rwlocks = []; clock = 0; input = []; closed = false; status = status.Running };
+    }
 
 abbrev pub waits_for_input : Wait
 waits_for_input = record { thread = 1; reason = reason.Input; deadline = None }
@@ -40,11 +59,15 @@ waits_for_2 = record { thread = 1; reason = reason.Join 2; deadline = None }
 
 -- thread 1 waits for input behind its second instruction
 abbrev pub reading : List ℕ → List ℕ → State
-reading memory x = running memory (off_harts (slice_set (replicate 65 None) 1 (Some (plain 0x1008 x))) (waits_for_input ∷ []))
+reading memory x =
+    running memory
+    (off_harts (slice_set (replicate 65 None) 1 (Some (plain 0x1008 x))) (waits_for_input ∷ []))
 
 -- thread 1 waits for the end of thread 2
 abbrev pub joining : List ℕ → List ℕ → List ℕ → State
-joining memory x y = running memory (off_harts (slice_set (slice_set (replicate 65 None) 1 (Some (plain 0x1020 x))) 2 (Some (plain 0x1028 y))) (waits_for_2 ∷ []))
+joining memory x y =
+    running memory (off_harts (slice_set (slice_set (replicate 65 None) 1 (Some (plain 0x1020 x))) 2
+    (Some (plain 0x1028 y))) (waits_for_2 ∷ []))
 
 pub record WorkedListings : Type 0 where
   pub input : (memory x : List ℕ) → listing_by false 2 (reading memory x) ≡ codes "events 2\nclock 0\nstatus running\nhart 0 idle\nthread 1 joinable blocked pc 00001008 enabled deferred none handlers 0\nwait 1 input\n"
@@ -69,7 +92,15 @@ requested = record {
 
 -- cancelled
 abbrev pub unwinding : Live
-unwinding = record { regs = record { pc = 0x1000; x = [] }; initial = false; detached = false; cancellation = acted_on at_the_start; handlers = record { items = [] }; specific = no_data }
+unwinding =
+    record {
+      regs = record { pc = 0x1000; x = [] };
+      initial = false;
+      detached = false;
+      cancellation = acted_on at_the_start;
+      handlers = record { items = [] };
+      specific = no_data;
+    }
 
 pub record WorkedLines : Type 0 where
   pub exited : status_line (status.Exited 7) ≡ codes "status exit 7\n"

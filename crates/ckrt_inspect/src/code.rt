@@ -12,7 +12,8 @@ use std::alloc::AllocError;
 
 /// The text of the instruction that a word encodes.
 fn push_instruction(out: &mut Vec<u8>, word: u32) -> Result<(), AllocError>
-    ensures { OnOk result (out.new.items ≡ out.old.items ++ instruction_text (instruction_of word)) }
+    ensures { OnOk result
+        (out.new.items ≡ out.old.items ++ instruction_text (instruction_of word)) }
 {
     match decode(word) {
         Some(instr) => push(out, instr_text(&instr).as_bytes()),
@@ -53,7 +54,8 @@ fn push_line_behind(
 ) -> Result<(), AllocError>
     requires pc { pc % 4 ≡ 0 }
     requires bytes { bytes % 4 ≡ 0 }
-    ensures { OnOk result (out.new.items ≡ out.old.items ++ code_line memory.now.bytes (address_behind pc bytes)) }
+    ensures { OnOk result (out.new.items
+        ≡ out.old.items ++ code_line memory.now.bytes (address_behind pc bytes)) }
 {
     push_code_line(out, memory, pc.wrapping_add(bytes))
 }

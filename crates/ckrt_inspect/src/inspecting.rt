@@ -73,7 +73,8 @@ pub fn inspect_with<D: Disk, W: Write>(
     writer: &mut W,
 ) -> Result<(), InspectFault>
     ensures read { IsOnlyRead D.Disk disk.old disk.new (is_device result) }
-    ensures tells { D.is_honest disk.new → Tells shown (D.content disk.old) (W.contents writer.old) (W.contents writer.new) result }
+    ensures tells { D.is_honest disk.new
+        → Tells shown (D.content disk.old) (W.contents writer.old) (W.contents writer.new) result }
     ensures unwritten { IfErr result (λ e. e ≢ Writing → writer.new ≡ writer.old) }
     ensures range { shown.at ≡ None → IfErr result (λ e. e ≢ Range) }
 {
@@ -98,7 +99,8 @@ pub fn inspect<D: Disk + Drop, W: Write>(
     disk: D,
     writer: &mut W,
 ) -> Result<(), InspectFault>
-    ensures inspected { IsInspected D.Disk disk (record { at = None; with_code = false }) (W.contents writer.old) (W.contents writer.new) result }
+    ensures inspected { IsInspected D.Disk disk (record { at = None; with_code = false })
+        (W.contents writer.old) (W.contents writer.new) result }
     ensures unwritten { IfErr result (λ e. e ≢ Writing → writer.new ≡ writer.old) }
     ensures range { IfErr result (λ e. e ≢ Range) }
 {

@@ -22,7 +22,8 @@ fn push_mark(out: &mut Vec<u8>, is_on: bool) -> Result<(), AllocError>
 
 /// A key with its destructor, if there is such a key.
 fn push_key(out: &mut Vec<u8>, key: u32, destructor: Option<u32>) -> Result<(), AllocError>
-    ensures { OnOk result (out.new.items ≡ out.old.items ++ flat_map key_line (word_at key destructor)) }
+    ensures { OnOk result
+        (out.new.items ≡ out.old.items ++ flat_map key_line (word_at key destructor)) }
 {
     let Some(address) = destructor else {
         return Ok(());
@@ -37,7 +38,8 @@ fn push_key(out: &mut Vec<u8>, key: u32, destructor: Option<u32>) -> Result<(), 
 /// The keys by rising number.
 fn push_destructors(out: &mut Vec<u8>, destructors: &[Option<u32>]) -> Result<(), AllocError>
     requires { length destructors.now ≡ 32 }
-    ensures { OnOk result (out.new.items ≡ out.old.items ++ flat_map key_line (words_from 0 destructors.now)) }
+    ensures { OnOk result
+        (out.new.items ≡ out.old.items ++ flat_map key_line (words_from 0 destructors.now)) }
 {
     for key in 0..MAX_KEYS {
         push_key(out, key as u32, destructors[key])?;
@@ -55,7 +57,8 @@ fn push_keys(out: &mut Vec<u8>, keys: &Keys) -> Result<(), AllocError>
 
 /// A thread's value under a key, where it isn't 0.
 fn push_value(out: &mut Vec<u8>, thread: ThreadId, key: u32, value: u32) -> Result<(), AllocError>
-    ensures { OnOk result (out.new.items ≡ out.old.items ++ flat_map (value_line thread) (word_at key (if_not_0 value))) }
+    ensures { OnOk result (out.new.items
+        ≡ out.old.items ++ flat_map (value_line thread) (word_at key (if_not_0 value))) }
 {
     if value == 0 {
         return Ok(());
@@ -75,7 +78,9 @@ fn push_values(
     thread: ThreadId,
     values: &[u32; MAX_KEYS],
 ) -> Result<(), AllocError>
-    ensures { OnOk result (out.new.items ≡ out.old.items ++ flat_map (value_line thread) (words_from 0 (map if_not_0 values.now))) }
+    ensures { OnOk result (out.new.items
+        ≡ out.old.items
+        ++ flat_map (value_line thread) (words_from 0 (map if_not_0 values.now))) }
 {
     for key in 0..MAX_KEYS {
         push_value(out, thread, key as u32, values[key])?;
@@ -85,7 +90,8 @@ fn push_values(
 
 /// The values of what stands for an id.
 fn push_slot_values(out: &mut Vec<u8>, threads: &Threads, id: ThreadId) -> Result<(), AllocError>
-    ensures { OnOk result (out.new.items ≡ out.old.items ++ flat_map value_lines (rows_of id (thread_of threads.now id))) }
+    ensures { OnOk result (out.new.items
+        ≡ out.old.items ++ flat_map value_lines (rows_of id (thread_of threads.now id))) }
 {
     match threads.thread(u32::from(id)) {
         Some(Thread::Live(live)) => push_values(out, id, &live.specific.values),
@@ -96,7 +102,8 @@ fn push_slot_values(out: &mut Vec<u8>, threads: &Threads, id: ThreadId) -> Resul
 
 /// The values of all threads, by rising id.
 fn push_all_values(out: &mut Vec<u8>, threads: &Threads) -> Result<(), AllocError>
-    ensures { OnOk result (out.new.items ≡ out.old.items ++ flat_map value_lines (thread_rows threads.now)) }
+    ensures { OnOk result
+        (out.new.items ≡ out.old.items ++ flat_map value_lines (thread_rows threads.now)) }
 {
     threads.known();
     for id in 0..65u8 {

@@ -85,7 +85,8 @@ pub(crate) fn write_listing_by<W: Write>(
     machine: &Machine,
     writer: &mut W,
 ) -> Result<(), InspectFault>
-    ensures ok { OnOk result (Appends (W.contents writer.old) (W.contents writer.new) (listing_by with_code count machine.now.state)) }
+    ensures ok { OnOk result (Appends (W.contents writer.old) (W.contents writer.new)
+        (listing_by with_code count machine.now.state)) }
     ensures fault { IfErr result (λ e. (e ≡ OutOfMemory) ⊎ (e ≡ Writing)) }
     ensures unwritten { IfErr result (λ e. e ≢ Writing → writer.new ≡ writer.old) }
 {
@@ -105,7 +106,8 @@ pub fn write_listing<W: Write>(
     machine: &Machine,
     writer: &mut W,
 ) -> Result<(), InspectFault>
-    ensures ok { OnOk result (Appends (W.contents writer.old) (W.contents writer.new) (listing_by false count machine.now.state)) }
+    ensures ok { OnOk result (Appends (W.contents writer.old) (W.contents writer.new)
+        (listing_by false count machine.now.state)) }
     ensures fault { IfErr result (λ e. (e ≡ OutOfMemory) ⊎ (e ≡ Writing)) }
     ensures unwritten { IfErr result (λ e. e ≢ Writing → writer.new ≡ writer.old) }
 {
@@ -123,7 +125,8 @@ pub fn write_listing_with_code<W: Write>(
     machine: &Machine,
     writer: &mut W,
 ) -> Result<(), InspectFault>
-    ensures ok { OnOk result (Appends (W.contents writer.old) (W.contents writer.new) (listing_by true count machine.now.state)) }
+    ensures ok { OnOk result (Appends (W.contents writer.old) (W.contents writer.new)
+        (listing_by true count machine.now.state)) }
     ensures fault { IfErr result (λ e. (e ≡ OutOfMemory) ⊎ (e ≡ Writing)) }
     ensures unwritten { IfErr result (λ e. e ≢ Writing → writer.new ≡ writer.old) }
 {

@@ -59,7 +59,8 @@ const PLACES: usize = MAX_THREADS + 1;
 
 /// A reader, where it has read locks.
 fn push_reader(out: &mut Vec<u8>, id: usize, count: u16) -> Result<(), AllocError>
-    ensures { OnOk result (out.new.items ≡ out.old.items ++ flat_map reader_text (reader_at id count)) }
+    ensures { OnOk result
+        (out.new.items ≡ out.old.items ++ flat_map reader_text (reader_at id count)) }
 {
     if count == 0 {
         return Ok(());
@@ -72,7 +73,8 @@ fn push_reader(out: &mut Vec<u8>, id: usize, count: u16) -> Result<(), AllocErro
 
 /// The readers by rising id.
 fn push_readers(out: &mut Vec<u8>, counts: &[u16; PLACES]) -> Result<(), AllocError>
-    ensures { OnOk result (out.new.items ≡ out.old.items ++ flat_map reader_text (readers_from 0 counts.now)) }
+    ensures { OnOk result
+        (out.new.items ≡ out.old.items ++ flat_map reader_text (readers_from 0 counts.now)) }
 {
     for id in 0..PLACES {
         push_reader(out, id, counts[id])?;
@@ -88,7 +90,9 @@ fn push_writer(out: &mut Vec<u8>, thread: ThreadId) -> Result<(), AllocError>
 }
 
 fn push_all_readers(out: &mut Vec<u8>, counts: &[u16; PLACES]) -> Result<(), AllocError>
-    ensures { OnOk result (out.new.items ≡ out.old.items ++ (codes " readers" ++ flat_map reader_text (readers_from 0 counts.now))) }
+    ensures { OnOk result (out.new.items
+        ≡ out.old.items
+        ++ (codes " readers" ++ flat_map reader_text (readers_from 0 counts.now))) }
 {
     push(out, b" readers")?;
     push_readers(out, counts)
@@ -100,7 +104,8 @@ fn push_holders(
     writer: Option<ThreadId>,
     counts: &[u16; PLACES],
 ) -> Result<(), AllocError>
-    ensures { OnOk result (out.new.items ≡ out.old.items ++ holders_text writer (readers_from 0 counts.now)) }
+    ensures { OnOk result
+        (out.new.items ≡ out.old.items ++ holders_text writer (readers_from 0 counts.now)) }
 {
     match writer {
         Some(thread) => push_writer(out, thread),

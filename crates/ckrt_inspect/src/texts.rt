@@ -64,7 +64,8 @@ fn push_exit(out: &mut Vec<u8>, code: u32) -> Result<(), AllocError>
 }
 
 fn push_fault(out: &mut Vec<u8>, thread: ThreadId, pc: u32, cause: Cause) -> Result<(), AllocError>
-    ensures { OnOk result (out.new.items ≡ out.old.items ++ status_text (status.Faulted thread pc cause)) }
+    ensures { OnOk result
+        (out.new.items ≡ out.old.items ++ status_text (status.Faulted thread pc cause)) }
 {
     push(out, b"fault ")?;
     push_number(out, u64::from(thread))?;
@@ -135,7 +136,8 @@ fn push_join(out: &mut Vec<u8>, thread: ThreadId) -> Result<(), AllocError>
 }
 
 fn push_retake(out: &mut Vec<u8>, address: u32, retake: RetakeResult) -> Result<(), AllocError>
-    ensures { OnOk result (out.new.items ≡ out.old.items ++ reason_text (reason.Retake address retake)) }
+    ensures { OnOk result
+        (out.new.items ≡ out.old.items ++ reason_text (reason.Retake address retake)) }
 {
     push_at(out, b"retake ", address)?;
     push(out, b" ")?;
@@ -143,7 +145,8 @@ fn push_retake(out: &mut Vec<u8>, address: u32, retake: RetakeResult) -> Result<
 }
 
 fn push_condition(out: &mut Vec<u8>, condition: u32, mutex: u32) -> Result<(), AllocError>
-    ensures { OnOk result (out.new.items ≡ out.old.items ++ reason_text (reason.Condition condition mutex)) }
+    ensures { OnOk result
+        (out.new.items ≡ out.old.items ++ reason_text (reason.Condition condition mutex)) }
 {
     push_at(out, b"cond ", condition)?;
     push(out, b" ")?;

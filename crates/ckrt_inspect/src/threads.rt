@@ -127,7 +127,8 @@ fn push_thread_code(
     thread: &Thread,
 ) -> Result<(), AllocError>
     requires { is_proper_slot (Some thread.now) ≡ true }
-    ensures { OnOk result (out.new.items ≡ out.old.items ++ thread_code with_code memory.now.bytes thread.now) }
+    ensures { OnOk result
+        (out.new.items ≡ out.old.items ++ thread_code with_code memory.now.bytes thread.now) }
 {
     match thread {
         Thread::Live(live) if with_code => push_code(out, memory, live.regs.pc()),
@@ -156,7 +157,10 @@ fn push_thread_lines(
     thread: &Thread,
 ) -> Result<(), AllocError>
     requires { is_proper_slot (Some thread.now) ≡ true }
-    ensures { OnOk result (out.new.items ≡ out.old.items ++ thread_lines with_code memory.now.bytes threads.now (record { id = id; thread = thread.now })) }
+    ensures { OnOk result (out.new.items
+        ≡ out.old.items
+        ++ thread_lines with_code memory.now.bytes threads.now
+        (record { id = id; thread = thread.now })) }
 {
     push(out, b"thread ")?;
     push_number(out, u64::from(id))?;
@@ -173,7 +177,10 @@ fn push_slot(
     threads: &Threads,
     id: ThreadId,
 ) -> Result<(), AllocError>
-    ensures { OnOk result (out.new.items ≡ out.old.items ++ flat_map (thread_lines with_code memory.now.bytes threads.now) (rows_of id (thread_of threads.now id))) }
+    ensures { OnOk result (out.new.items
+        ≡ out.old.items
+        ++ flat_map (thread_lines with_code memory.now.bytes threads.now)
+        (rows_of id (thread_of threads.now id))) }
 {
     threads.known();
     match threads.thread(u32::from(id)) {
@@ -189,7 +196,10 @@ fn push_threads(
     memory: &Memory,
     threads: &Threads,
 ) -> Result<(), AllocError>
-    ensures { OnOk result (out.new.items ≡ out.old.items ++ flat_map (thread_lines with_code memory.now.bytes threads.now) (thread_rows threads.now)) }
+    ensures { OnOk result (out.new.items
+        ≡ out.old.items
+        ++ flat_map (thread_lines with_code memory.now.bytes threads.now)
+        (thread_rows threads.now)) }
 {
     threads.known();
     for id in 0..65u8 {
@@ -237,7 +247,8 @@ pub fn push_all_threads(
     memory: &Memory,
     threads: &Threads,
 ) -> Result<(), AllocError>
-    ensures { OnOk result (out.new.items ≡ out.old.items ++ all_thread_lines with_code memory.now.bytes threads.now) }
+    ensures { OnOk result (out.new.items
+        ≡ out.old.items ++ all_thread_lines with_code memory.now.bytes threads.now) }
 {
     push_harts(out, threads)?;
     push_threads(out, with_code, memory, threads)?;

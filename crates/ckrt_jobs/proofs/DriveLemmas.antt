@@ -1,6 +1,6 @@
 -- The drive of a disk, where less is known of the outputs.
 use Rattle.std.proofs.Common.{◌≡◌, ℕ, true, refl, sym, subst, List, Option, Some, None, Result, Ok, Err, IfErr, inl, inr}
-use Rattle.ckrt_state.specs.declared.table.Status.{Status}
+use Rattle.ckrt_machine.specs.Steps.{State}
 use Rattle.ckrt_checkpoint.specs.declared.config.Config.{Config}
 use Rattle.ckrt_disk.specs.declared.disk.DeviceFault.{DeviceFault}
 use Rattle.ckrt_disk.specs.declared.disk.Disk.{Ghosts}
@@ -19,9 +19,9 @@ use Rattle.ckrt_jobs.specs.declared.fault.JobFault.{JobFault}
 use Rattle.ckrt_jobs.specs.declared.output.OpenedOutput.{OpenedOutput}
 
 -- what is true of a run's fault is true of the drive's
-pub err_kept : (status : Status) (r : Result (Option Ending) DriveFault) (P : DriveFault → Type 0) → IfErr r P → IfErr (driven_of status r) P
-err_kept status (Ok ending) P h = tt
-err_kept status (Err fault) P h = h
+pub err_kept : (s : State) (r : Result (Option Ending) DriveFault) (P : DriveFault → Type 0) → IfErr r P → IfErr (driven_of s r) P
+err_kept s (Ok ending) P h = tt
+err_kept s (Err fault) P h = h
 
 module _ {D W : Type 0} (d : Ghosts D) (o : Ghosts (StreamOutput W)) (Lent : (stream end : StreamOutput W) → Type 0) (Outputs Weaker : List ℕ → OpenedOutput D → Type 0) (are : (path : List ℕ) (it : OpenedOutput D) → Outputs path it → Weaker path it)
     (from : ℕ) (options : Options) (old new : Openings D) (result : Result Driven JobFault) where

@@ -10,4 +10,5 @@ fits l = nat_le l.confirmed l.length && nat_le l.length l.released
 
 -- a file of so many bytes, beside a session
 abbrev pub lengths_of : {D : Type 0} {g : Ghosts D} → (length : ℕ) → Session D g → OutputLengths
-lengths_of length s = record { length = length; confirmed = s.progress.confirmed; released = s.released }
+lengths_of length s =
+    record { length = length; confirmed = s.progress.confirmed; released = s.released }

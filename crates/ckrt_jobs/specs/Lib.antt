@@ -1,3 +1,4 @@
+pub mod Addresses
 pub mod Lengths
 pub mod Driving
 pub mod Ends

@@ -42,7 +42,18 @@ pub record Openings (D : Type 0) : Type 0 where
 
 -- nothing was asked for
 abbrev pub unopened : {D : Type 0} → Openings D
-unopened = record { image = []; disk = []; output = []; making = []; naming = []; named = []; closed = []; closed_output = []; abandoned = [] }
+unopened =
+    record {
+      image = [];
+      disk = [];
+      output = [];
+      making = [];
+      naming = [];
+      named = [];
+      closed = [];
+      closed_output = [];
+      abandoned = [];
+    }
 
 -- one opening more, of an image, of a disk, of an output, and of a disk in the making
 abbrev pub with_image : {D : Type 0} → Openings D → Opening → Openings D

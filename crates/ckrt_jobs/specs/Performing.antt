@@ -65,12 +65,15 @@ ServesStored a b r s (Ok done) = Served a b r s (fresh CONFIG IMAGE)
 ServesStored a b r s (Err e) = EndsStored a b r s e
 
 -- the line of a disk that was made; nothing is written where none was
-abbrev pub SaysMade : (a b : Option (List ℕ)) → List ℕ → (made result : Result (Unit {0}) JobFault) → Type 0
+abbrev pub SaysMade : (a b : Option (List ℕ)) → List ℕ → (made result : Result (Unit {0}) JobFault)
+    → Type 0
 SaysMade a b line (Ok done) result = SaysLine a b line result
 SaysMade a b line (Err e) result = (result ≡ Err e) × (b ≡ a)
 
 -- the disk of the job's path was made with the image of the job's path, or why it wasn't
-pub record MakesPath {D : Type 0} (d : Ghosts D) (f : Formatting) (known : Option (List ℕ)) (Fills : D → Type 0) (old new : Openings D) (a b : Option (List ℕ)) (result : Result (Unit {0}) JobFault) : Type 0 where
+pub record MakesPath {D : Type 0} (d : Ghosts D) (f : Formatting) (known : Option (List ℕ))
+    (Fills : D → Type 0) (old new : Openings D) (a b : Option (List ℕ))
+    (result : Result (Unit {0}) JobFault) : Type 0 where
   pub made : Result (Unit {0}) JobFault
   pub makes : Makes d (config_of f) known Fills f.image f.disk old new made
   pub says : SaysMade a b (made_line f) made result
@@ -81,7 +84,8 @@ outcome_of (Ok disk) = Ok tt
 outcome_of (Err u) = Err u.fault
 
 -- a disk that was opened was run, and closed as the run left it; the openings go from asked to new
-pub record RunsOpened {D : Type 0} (d : Ghosts D) (Opens : D → Type 0) (asked new : Openings D) (a b r s : Option (List ℕ)) (result : Result (Unit {0}) JobFault) : Type 0 where
+pub record RunsOpened {D : Type 0} (d : Ghosts D) (Opens : D → Type 0) (asked new : Openings D)
+    (a b r s : Option (List ℕ)) (result : Result (Unit {0}) JobFault) : Type 0 where
   pub start : D
   pub is_opened : Opens start
   pub ran : Result D (Unserved D)
@@ -90,15 +94,23 @@ pub record RunsOpened {D : Type 0} (d : Ghosts D) (Opens : D → Type 0) (asked 
   pub closes : new ≡ with_closed asked (disk_of ran)
 
 -- the disk of this path was asked for and can't be opened
-abbrev pub IsRefused : {D : Type 0} → (path : List ℕ) → (old new : Openings D) → (a b r s : Option (List ℕ)) → Result (Unit {0}) JobFault → Type 0
-IsRefused path old new a b r s result = (why : FileFault) × (result ≡ Err (job.File file.Disk why)) × (new ≡ with_disk old (refused path why)) × (b ≡ a) × (s ≡ r)
+abbrev pub IsRefused : {D : Type 0} → (path : List ℕ) → (old new : Openings D)
+    → (a b r s : Option (List ℕ)) → Result (Unit {0}) JobFault → Type 0
+IsRefused path old new a b r s result =
+    (why : FileFault) × (result ≡ Err (job.File file.Disk why))
+    × (new ≡ with_disk old (refused path why)) × (b ≡ a) × (s ≡ r)
 
 -- the disk of this path was run, or can't be opened
-abbrev pub RunsPath : {D : Type 0} → Ghosts D → (path : List ℕ) → (D → Type 0) → (old new : Openings D) → (a b r s : Option (List ℕ)) → Result (Unit {0}) JobFault → Type 0
-RunsPath d path Opens old new a b r s result = IsRefused path old new a b r s result ⊎ RunsOpened d Opens (with_disk old (opened path)) new a b r s result
+abbrev pub RunsPath : {D : Type 0} → Ghosts D → (path : List ℕ) → (D → Type 0)
+    → (old new : Openings D) → (a b r s : Option (List ℕ)) → Result (Unit {0}) JobFault → Type 0
+RunsPath d path Opens old new a b r s result =
+    IsRefused path old new a b r s result
+    ⊎ RunsOpened d Opens (with_disk old (opened path)) new a b r s result
 
 -- a disk that was opened to be looked at was shown, and closed as it was then
-pub record ShowsOpened {D : Type 0} (d : Ghosts D) (Opens : D → Type 0) (i : Inspection) (asked new : Openings D) (a b r s : Option (List ℕ)) (result : Result (Unit {0}) JobFault) : Type 0 where
+pub record ShowsOpened {D : Type 0} (d : Ghosts D) (Opens : D → Type 0) (i : Inspection)
+    (asked new : Openings D) (a b r s : Option (List ℕ)) (result : Result (Unit {0}) JobFault)
+    : Type 0 where
   pub start : D
   pub is_opened : Opens start
   pub end : D
@@ -107,8 +119,11 @@ pub record ShowsOpened {D : Type 0} (d : Ghosts D) (Opens : D → Type 0) (i : I
   pub unread : s ≡ r
 
 -- the disk of the inspection's path was shown, or can't be opened
-abbrev pub ShowsPath : {D : Type 0} → Ghosts D → (D → Type 0) → Inspection → (old new : Openings D) → (a b r s : Option (List ℕ)) → Result (Unit {0}) JobFault → Type 0
-ShowsPath d Opens i old new a b r s result = IsRefused i.disk old new a b r s result ⊎ ShowsOpened d Opens i (with_disk old (opened i.disk)) new a b r s result
+abbrev pub ShowsPath : {D : Type 0} → Ghosts D → (D → Type 0) → Inspection → (old new : Openings D)
+    → (a b r s : Option (List ℕ)) → Result (Unit {0}) JobFault → Type 0
+ShowsPath d Opens i old new a b r s result =
+    IsRefused i.disk old new a b r s result
+    ⊎ ShowsOpened d Opens i (with_disk old (opened i.disk)) new a b r s result
 
 -- the outcome of a job that has no end of its own
 abbrev pub outcome_without_end : Result (Unit {0}) JobFault → Result (Option Driven) JobFault
@@ -117,7 +132,8 @@ outcome_without_end (Err fault) = Err fault
 
 -- such a job was done, or why it wasn't
 abbrev pub Does : (Result (Unit {0}) JobFault → Type 0) → Result (Option Driven) JobFault → Type 0
-Does Holds outcome = (result : Result (Unit {0}) JobFault) × (outcome ≡ outcome_without_end result) × Holds result
+Does Holds outcome =
+    (result : Result (Unit {0}) JobFault) × (outcome ≡ outcome_without_end result) × Holds result
 
 -- what a drive came to is its outcome
 abbrev pub outcome_with_end : Result Driven JobFault → Result (Option Driven) JobFault
@@ -125,28 +141,44 @@ outcome_with_end (Ok driven) = Ok (Some driven)
 outcome_with_end (Err fault) = Err fault
 
 abbrev pub Comes : (Result Driven JobFault → Type 0) → Result (Option Driven) JobFault → Type 0
-Comes Holds outcome = (result : Result Driven JobFault) × (outcome ≡ outcome_with_end result) × Holds result
+Comes Holds outcome =
+    (result : Result Driven JobFault) × (outcome ≡ outcome_with_end result) × Holds result
 
 -- What the program does for a request, where its sources give these bytes for the path of an image, these disks for that of a disk, these
 -- once it is filled, and these outputs for that of an output; the openings go from old to new: what asks for no file opens none.
-abbrev pub Performs : {D W : Type 0} → Ghosts D → Ghosts (StreamOutput W) → (contents : W → Option (List ℕ)) → Request → (List ℕ → Option (List ℕ)) → (List ℕ → D → Type 0) → (List ℕ → ℕ → D → Type 0) → (List ℕ → OpenedOutput D → Type 0)
-    → (old new : Openings D) → (a b r s : Option (List ℕ)) → Result (Option Driven) JobFault → Type 0
-Performs d o contents stored known Opens Fills Outputs old new a b r s outcome = Does (ServesStored a b r s) outcome × (new ≡ old)
-Performs d o contents version known Opens Fills Outputs old new a b r s outcome = Does (SaysLine a b version_line) outcome × (s ≡ r) × (new ≡ old)
-Performs d o contents (format f) known Opens Fills Outputs old new a b r s outcome = Does (MakesPath d f (known f.image) (Fills f.disk (size_needed (config_of f))) old new a b) outcome × (s ≡ r)
-Performs d o contents (run disk) known Opens Fills Outputs old new a b r s outcome = Does (RunsPath d disk (Opens disk) old new a b r s) outcome
-Performs d o contents (inspect i) known Opens Fills Outputs old new a b r s outcome = Does (ShowsPath d (Opens i.disk) i old new a b r s) outcome
-Performs d o contents (drive j) known Opens Fills Outputs old new a b r s outcome = Comes (DrivesPath d o (IsLent contents a b) known (Opens j.disk) (Fills j.disk (size_needed (config_for j.sizes))) Outputs j old new) outcome × IsUnwritten j.output a b × (s ≡ r)
+abbrev pub Performs : {D W : Type 0} → Ghosts D → Ghosts (StreamOutput W)
+    → (contents : W → Option (List ℕ)) → Request → (List ℕ → Option (List ℕ))
+    → (List ℕ → D → Type 0) → (List ℕ → ℕ → D → Type 0) → (List ℕ → OpenedOutput D → Type 0)
+    → (old new : Openings D) → (a b r s : Option (List ℕ)) → Result (Option Driven) JobFault
+    → Type 0
+Performs d o contents stored known Opens Fills Outputs old new a b r s outcome =
+    Does (ServesStored a b r s) outcome × (new ≡ old)
+Performs d o contents version known Opens Fills Outputs old new a b r s outcome =
+    Does (SaysLine a b version_line) outcome × (s ≡ r) × (new ≡ old)
+Performs d o contents (format f) known Opens Fills Outputs old new a b r s outcome =
+    Does (MakesPath d f (known f.image) (Fills f.disk (size_needed (config_of f))) old new a b)
+    outcome × (s ≡ r)
+Performs d o contents (run disk) known Opens Fills Outputs old new a b r s outcome =
+    Does (RunsPath d disk (Opens disk) old new a b r s) outcome
+Performs d o contents (inspect i) known Opens Fills Outputs old new a b r s outcome =
+    Does (ShowsPath d (Opens i.disk) i old new a b r s) outcome
+Performs d o contents (drive j) known Opens Fills Outputs old new a b r s outcome =
+    Comes (DrivesPath d o (IsLent contents a b) known (Opens j.disk)
+    (Fills j.disk (size_needed (config_for j.sizes))) Outputs j old new) outcome
+    × IsUnwritten j.output a b × (s ≡ r)
 
 -- a reporter said this text behind what it had said, unless it has failed
 abbrev pub Reports : (before after : Option (List ℕ)) → Bool → List ℕ → Type 0
 Reports before after has_failed text = has_failed ≡ false → Appends before after text
 
 -- what a reporter said of an outcome: the line of what a drive came to, the lines of a fault, and else nothing
-abbrev pub ReportsOutcome : Request → Result (Option Driven) JobFault → (before after : Option (List ℕ)) → Bool → Type 0
+abbrev pub ReportsOutcome : Request → Result (Option Driven) JobFault
+    → (before after : Option (List ℕ)) → Bool → Type 0
 ReportsOutcome q (Ok None) before after has_failed = after ≡ before
-ReportsOutcome q (Ok (Some driven)) before after has_failed = Reports before after has_failed (end_line driven)
-ReportsOutcome q (Err fault) before after has_failed = Reports before after has_failed (report_of q fault)
+ReportsOutcome q (Ok (Some driven)) before after has_failed =
+    Reports before after has_failed (end_line driven)
+ReportsOutcome q (Err fault) before after has_failed =
+    Reports before after has_failed (report_of q fault)
 
 -- the program's words ask for something: what was done, what was said of it, and the status
 pub record RunsRequest {D W : Type 0} (d : Ghosts D) (o : Ghosts (StreamOutput W)) (contents : W → Option (List ℕ)) (q : Request) (known : List ℕ → Option (List ℕ)) (Opens : List ℕ → D → Type 0) (Fills : List ℕ → ℕ → D → Type 0)
@@ -157,7 +189,9 @@ pub record RunsRequest {D W : Type 0} (d : Ghosts D) (o : Ghosts (StreamOutput W
   pub gives : status ≡ status_of outcome
 
 -- they ask for nothing, or couldn't be read for want of memory: nothing was opened, written or read
-pub record RefusesWords {D : Type 0} (ws : List (List ℕ)) (old new : Openings D) (a b r s said_before said_after : Option (List ℕ)) (has_failed : Bool) (status : ℕ) : Type 0 where
+pub record RefusesWords {D : Type 0} (ws : List (List ℕ)) (old new : Openings D)
+    (a b r s said_before said_after : Option (List ℕ)) (has_failed : Bool) (status : ℕ)
+    : Type 0 where
   pub fault : WordsFault
   pub reports : Reports said_before said_after has_failed (words_report_of fault)
   pub unasked : new ≡ old
@@ -168,13 +202,18 @@ pub record RefusesWords {D : Type 0} (ws : List (List ℕ)) (old new : Openings 
   pub gives : status ≡ status_of_words fault
 
 -- what the program does for its words
-abbrev pub RunsWords : {D W : Type 0} → Ghosts D → Ghosts (StreamOutput W) → (contents : W → Option (List ℕ)) → (ws : List (List ℕ)) → (List ℕ → Option (List ℕ)) → (List ℕ → D → Type 0) → (List ℕ → ℕ → D → Type 0)
-    → (List ℕ → OpenedOutput D → Type 0) → (old new : Openings D) → (a b r s said_before said_after : Option (List ℕ)) → Bool → ℕ → Type 0
+abbrev pub RunsWords : {D W : Type 0} → Ghosts D → Ghosts (StreamOutput W)
+    → (contents : W → Option (List ℕ)) → (ws : List (List ℕ)) → (List ℕ → Option (List ℕ))
+    → (List ℕ → D → Type 0) → (List ℕ → ℕ → D → Type 0)
+    → (List ℕ → OpenedOutput D → Type 0) → (old new : Openings D)
+    → (a b r s said_before said_after : Option (List ℕ)) → Bool → ℕ → Type 0
 RunsWords d o contents ws known Opens Fills Outputs old new a b r s said_before said_after has_failed status =
     ((q : Request) × (request_of_words ws ≡ Some q) × RunsRequest d o contents q known Opens Fills Outputs old new a b r s said_before said_after has_failed status)
     ⊎ RefusesWords ws old new a b r s said_before said_after has_failed status
 
 -- the same with files of the system, of which nothing is known but what was asked for, and how that was opened
-abbrev pub RunsOnFiles : {D W : Type 0} → Ghosts D → Ghosts (StreamOutput W) → (contents : W → Option (List ℕ)) → (ws : List (List ℕ)) → (old new : Openings D) → (a b r s said_before said_after : Option (List ℕ)) → Bool → ℕ → Type 0
+abbrev pub RunsOnFiles : {D W : Type 0} → Ghosts D → Ghosts (StreamOutput W)
+    → (contents : W → Option (List ℕ)) → (ws : List (List ℕ)) → (old new : Openings D)
+    → (a b r s said_before said_after : Option (List ℕ)) → Bool → ℕ → Type 0
 RunsOnFiles d o contents ws old new a b r s said_before said_after has_failed status =
     RunsWords d o contents ws (λ _. None) (λ _ _. Unit {0}) (λ _ _ _. Unit {0}) (λ _ _. Unit {0}) old new a b r s said_before said_after has_failed status

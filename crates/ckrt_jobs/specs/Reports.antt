@@ -134,7 +134,7 @@ advice_of_look look.Range = codes "it has no state after so many events: any mor
 
 abbrev pub advice_of_drive : DriveFault → List ℕ
 advice_of_drive drive.Device = device_advice
-advice_of_drive drive.Output = device_advice
+advice_of_drive drive.Output = codes "a write or sync failed: no space is left, the pipe is broken, or its device fails; mend that, then the same command goes on (docs/OPERATING.md)"
 advice_of_drive drive.OutputFull = codes "it can't have so many bytes"
 advice_of_drive drive.GenerationsUsed = codes "it has made as many checkpoints as there can be; make another"
 advice_of_drive (drive.Refused why) = codes "it can't take another event: its counters are used up"
@@ -209,7 +209,8 @@ fault_line f = codes "ckrt: " ++ (name_of f ++ 10 ∷ [])
 
 -- all that is printed for a fault of what the words ask for
 abbrev pub report_of : Request → JobFault → List ℕ
-report_of asked f = subject_of (file_of f) asked ++ (numbers_of f ++ (advice_of f ++ (10 ∷ [] ++ fault_line f)))
+report_of asked f =
+    subject_of (file_of f) asked ++ (numbers_of f ++ (advice_of f ++ (10 ∷ [] ++ fault_line f)))
 
 -- all that is printed for words that name no job
 abbrev pub words_report_of : WordsFault → List ℕ

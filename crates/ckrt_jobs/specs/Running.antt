@@ -23,13 +23,16 @@ use Rattle.ckrt_jobs.specs.declared.fault.JobFault.TheVariants as job
 use Rattle.ckrt_jobs.specs.declared.running.Unserved.{Unserved}
 
 -- The disk keeps these events, those that were recovered: all of them are the recovered ones and the accepted ones behind them.
-pub record KeepsEvents {D : Type 0} (d : Ghosts D) (start end : D) (p : Program) (recovered acknowledged all : List Event) (limit : ℕ) : Type 0 where
+pub record KeepsEvents {D : Type 0} (d : Ghosts D) (start end : D) (p : Program)
+    (recovered acknowledged all : List Event) (limit : ℕ) : Type 0 where
   -- the recovered ones are acknowledged
   pub more : IsBeginningOf recovered acknowledged
   -- what a stop left since the start was possible at the start, or recovers to a list between the recovered events and all
-  pub since_start : (image : List ℕ) → d.left_since end (d.moment start) image → MayBeLeft d start image ⊎ RecoversBetween p recovered all limit image
+  pub since_start : (image : List ℕ) → d.left_since end (d.moment start) image
+      → MayBeLeft d start image ⊎ RecoversBetween p recovered all limit image
   -- and what a stop may leave of the disk that comes back, to one between the acknowledged events and all
-  pub left : (image : List ℕ) → MayBeLeft d end image → RecoversBetween p acknowledged all limit image
+  pub left : (image : List ℕ) → MayBeLeft d end image
+      → RecoversBetween p acknowledged all limit image
 
 -- The device failed no call, or the commit or checkpoint that the fate names.
 pub record IsFated {D : Type 0} (d : Ghosts D) (start end : D) (fate : Fate) : Type 0 where
@@ -38,7 +41,8 @@ pub record IsFated {D : Type 0} (d : Ghosts D) (start end : D) (fate : Fate) : T
 
 -- The disk recovered, and was served. What was written is a beginning of the transcript of what was recovered; no more was acknowledged and
 -- accepted than the disk keeps, and no more confirmed than was written.
-pub record Serves {D : Type 0} (d : Ghosts D) (start end : D) (a b r s : Option (List ℕ)) : Type 0 where
+pub record Serves {D : Type 0} (d : Ghosts D) (start end : D) (a b r s : Option (List ℕ))
+    : Type 0 where
   pub recovered : Recovered
   pub recovers : d.is_honest end → Recovers (d.content start) (Ok recovered)
   -- what was read
@@ -61,13 +65,18 @@ pub record Serves {D : Type 0} (d : Ghosts D) (start end : D) (a b r s : Option 
   pub answered : oks_of (shows.replies ++ shows.broken) ≡ length accepted
   pub some : IsBeginningOf accepted (transcript fate (opened recovered) read).events
   -- the disk keeps the events that it recovered to, with those, and each line of output is the plain fold's of the acknowledged ones
-  pub keeps : d.is_honest end → (p : Program) (events : List Event) (limit : ℕ) → RecoversTo p events limit (d.content start)
-      → KeepsEvents d start end p events (take acknowledged (events ++ accepted)) (events ++ accepted) confirmed
-  pub outs : d.is_honest end → (p : Program) (events : List Event) (limit : ℕ) → RecoversTo p events limit (d.content start)
-      → AllByRecursion (StandsIn (output_after p (take acknowledged (events ++ accepted)))) (outs_of (shows.replies ++ shows.broken))
+  pub keeps : d.is_honest end → (p : Program) (events : List Event) (limit : ℕ)
+      → RecoversTo p events limit (d.content start)
+      → KeepsEvents d start end p events (take acknowledged (events ++ accepted))
+      (events ++ accepted) confirmed
+  pub outs : d.is_honest end → (p : Program) (events : List Event) (limit : ℕ)
+      → RecoversTo p events limit (d.content start)
+      → AllByRecursion (StandsIn (output_after p (take acknowledged (events ++ accepted))))
+      (outs_of (shows.replies ++ shows.broken))
 
 -- It was served to the end: what was read ends the input or has a line quit, and the whole transcript was written.
-pub record ServesAll {D : Type 0} (d : Ghosts D) (start end : D) (a b r s : Option (List ℕ)) : Type 0 where
+pub record ServesAll {D : Type 0} (d : Ghosts D) (start end : D) (a b r s : Option (List ℕ))
+    : Type 0 where
   pub recovered : Recovered
   pub recovers : d.is_honest end → Recovers (d.content start) (Ok recovered)
   pub read : List ℕ
@@ -78,7 +87,8 @@ pub record ServesAll {D : Type 0} (d : Ghosts D) (start end : D) (a b r s : Opti
   pub written : Appends a b (text_of (transcript fate (opened recovered) read).replies)
 
 -- Nothing was recovered, before a byte was read or written: the fault is the content's, or the device failed a call, or memory was refused.
-pub record IsUnrecovered {D : Type 0} (d : Ghosts D) (start end : D) (a b r s : Option (List ℕ)) (fault : JobFault) : Type 0 where
+pub record IsUnrecovered {D : Type 0} (d : Ghosts D) (start end : D) (a b r s : Option (List ℕ))
+    (fault : JobFault) : Type 0 where
   pub why : RecoverFault
   pub is : fault ≡ job.Recover why
   pub content : d.is_honest end → AgreesOnFault why (Recovers (d.content start))
@@ -92,12 +102,16 @@ abbrev pub IsOfStream : JobFault → Type 0
 IsOfStream fault = (fault ≡ job.Serve serve.Read) ⊎ (fault ≡ job.Serve serve.Write)
 
 -- how a run ended
-abbrev pub EndsRun : {D : Type 0} → Ghosts D → D → (a b r s : Option (List ℕ)) → Result D (Unserved D) → Type 0
+abbrev pub EndsRun : {D : Type 0} → Ghosts D → D → (a b r s : Option (List ℕ))
+    → Result D (Unserved D) → Type 0
 EndsRun d start a b r s (Ok end) = Serves d start end a b r s × ServesAll d start end a b r s
-EndsRun d start a b r s (Err u) = IsUnrecovered d start u.disk a b r s u.fault ⊎ (Serves d start u.disk a b r s × IsOfStream u.fault)
+EndsRun d start a b r s (Err u) =
+    IsUnrecovered d start u.disk a b r s u.fault
+    ⊎ (Serves d start u.disk a b r s × IsOfStream u.fault)
 
 -- a run
-pub record RunsDisk {D : Type 0} (d : Ghosts D) (start : D) (a b r s : Option (List ℕ)) (result : Result D (Unserved D)) : Type 0 where
+pub record RunsDisk {D : Type 0} (d : Ghosts D) (start : D) (a b r s : Option (List ℕ))
+    (result : Result D (Unserved D)) : Type 0 where
   -- size, named stop, and no more honest than before
   pub same : IsSameDisk d start (disk_of result)
   pub ends : EndsRun d start a b r s result

@@ -18,7 +18,8 @@ answer_of (Ok done) = Ok done
 answer_of (Err f) = Err (job.Inspect f)
 
 -- From disk to end the disk was only read. What it tells was written, if it was honest to that end, or the fault is what it says.
-pub record Shows {D : Type 0} (d : Ghosts D) (disk end : D) (shown : Shown) (a b : Option (List ℕ)) (result : Result (Unit {0}) JobFault) : Type 0 where
+pub record Shows {D : Type 0} (d : Ghosts D) (disk end : D) (shown : Shown) (a b : Option (List ℕ))
+    (result : Result (Unit {0}) JobFault) : Type 0 where
   pub answer : Result (Unit {0}) InspectFault
   pub gives : result ≡ answer_of answer
   pub read : IsOnlyRead d disk end (is_device answer)

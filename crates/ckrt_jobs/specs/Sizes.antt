@@ -6,7 +6,12 @@ use Rattle.ckrt_words.specs.declared.job.Sizes.{Sizes}
 
 -- what a disk is made with: what `format` takes, where a size isn't given
 abbrev pub config_for : Sizes → Config
-config_for s = record { pages = unwrap_or s.pages 64; harts = unwrap_or s.harts 1; journal = unwrap_or s.journal 65536 }
+config_for s =
+    record {
+      pages = unwrap_or s.pages 64;
+      harts = unwrap_or s.harts 1;
+      journal = unwrap_or s.journal 65536;
+    }
 
 -- a size is the one that is asked for, or none is
 abbrev pub is_asked : Option ℕ → ℕ → Bool
@@ -18,7 +23,12 @@ agrees s c = is_asked s.pages c.pages && (is_asked s.harts c.harts && is_asked s
 
 -- the sizes in the first 32 bytes of a superblock
 abbrev pub config_in : List ℕ → Config
-config_in block = record { pages = number_at 4 20 block; harts = number_at 4 24 block; journal = number_at 4 28 block }
+config_in block =
+    record {
+      pages = number_at 4 20 block;
+      harts = number_at 4 24 block;
+      journal = number_at 4 28 block;
+    }
 
 -- the sizes of a superblock with an open gate, where they are in their ranges, and aren't those that are asked for
 abbrev pub other_in : Sizes → List ℕ → Option Config

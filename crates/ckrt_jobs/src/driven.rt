@@ -12,6 +12,8 @@ pub struct Driven {
     pub ending: Option<Ending>,
     /// How the program stands.
     pub status: Status,
+    /// The address that its fault is about, where one ended it and there is one.
+    pub address: Option<u32>,
 }
 
 /// The program's status for a guest that ended.

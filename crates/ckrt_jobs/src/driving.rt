@@ -7,6 +7,7 @@ ghost use Rattle.ckrt_jobs.specs.Driving.{DrivesInto, DrivesOnto, DrivesOpened, 
 ghost use Rattle.ckrt_jobs.specs.Openings.{opened, refused};
 ghost use Rattle.ckrt_drive.specs.Streams.{HasSameWriter};
 
+use crate::address::fault_address;
 use crate::driven::Driven;
 use crate::fault::JobFault;
 use crate::file::JobFile;
@@ -18,8 +19,8 @@ use crate::sources::Sources;
 use ckrt_disk::Disk;
 use ckrt_drive::{Drive, DriveFault, Ending, Options, StreamOutput};
 use ckrt_events::LONG_RUN_LIMIT;
+use ckrt_machine::Machine;
 use ckrt_recovery::{RecoverFault, Session, recover};
-use ckrt_state::Status;
 use ckrt_words::DriveJob;
 use std::alloc::Global;
 use std::io::{Read, Write};
@@ -62,15 +63,19 @@ fn options_of(job: &DriveJob<'_>) -> Options
     }
 }
 
-/// What a drive came to where its run answered so, and the program stands so.
+/// What a drive came to where its run answered so, and the machine stands so.
 fn driven_of(
-    status: Status,
+    machine: &Machine,
     answer: Result<Option<Ending>, DriveFault>,
 ) -> Result<Driven, DriveFault>
-    ensures { result ≡ driven_of status answer }
+    ensures { result ≡ driven_of machine.now.state answer }
 {
     match answer {
-        Ok(ending) => Ok(Driven { ending, status }),
+        Ok(ending) => Ok(Driven {
+            ending,
+            status: machine.status(),
+            address: fault_address(machine),
+        }),
         Err(fault) => Err(fault),
     }
 }
@@ -82,13 +87,13 @@ fn drive_session<D: Disk, O: Disk, M: Meter>(
     options: Options,
     meter: &mut M,
 ) -> Undertaken<D, O>
-    ensures { DrivesSession O.Disk options session result.session output result.output result.driven }
+    ensures { DrivesSession O.Disk options session result.session output result.output
+        result.driven }
 {
     let mut drive = Drive::new(session, output, options);
     let answer = drive.run(u64::MAX, meter);
-    let status = drive.session().machine().status();
+    let driven = driven_of(drive.session().machine(), answer);
     let (session, output) = drive.into_parts();
-    let driven = driven_of(status, answer);
     Undertaken {
         session,
         output,
@@ -114,7 +119,8 @@ fn drive_onto<'a, I: Read, D: Disk, S: Sources<'a, I, D>, M: Meter>(
     sources: &mut S,
     meter: &mut M,
 ) -> Result<Driven, JobFault>
-    ensures { DrivesOnto D.Disk options session output (S.openings sources.old) (S.openings sources.new) result }
+    ensures { DrivesOnto D.Disk options session output (S.openings sources.old)
+        (S.openings sources.new) result }
 {
     let undertaken = drive_session(session, output, options, meter);
     sources.close_output(undertaken.output);
@@ -130,7 +136,8 @@ fn drive_onto_opened<'a, I: Read, D: Disk, S: Sources<'a, I, D>, M: Meter>(
     sources: &mut S,
     meter: &mut M,
 ) -> Result<Driven, JobFault>
-    ensures { DrivesOpenedOutput D.Disk opened options session (S.openings sources.old) (S.openings sources.new) result }
+    ensures { DrivesOpenedOutput D.Disk opened options session (S.openings sources.old)
+        (S.openings sources.new) result }
 {
     let lengths = OutputLengths {
         length: opened.length,
@@ -153,7 +160,8 @@ fn drive_into_file<'a, I: Read, D: Disk, S: Sources<'a, I, D>, M: Meter>(
     sources: &mut S,
     meter: &mut M,
 ) -> Result<Driven, JobFault>
-    ensures { DrivesInto D.Disk (S.outputs sources.old path.now) path.now options session (S.openings sources.old) (S.openings sources.new) result }
+    ensures { DrivesInto D.Disk (S.outputs sources.old path.now) path.now options session
+        (S.openings sources.old) (S.openings sources.new) result }
 {
     match sources.open_output(path) {
         Ok(opened) => drive_onto_opened::<I, D, S, M>(session, opened, options, sources, meter),
@@ -171,7 +179,8 @@ fn drive_streamed<'a, D: Disk, W: Write, M: Meter>(
     options: Options,
     meter: &mut M,
 ) -> Undertaken<D, StreamOutput<'a, W>>
-    ensures drives { DrivesSession ⟦<StreamOutput<'a, W> as Disk>⟧ options session result.session stream.entry result.output result.driven }
+    ensures drives { DrivesSession ⟦<StreamOutput<'a, W> as Disk>⟧ options session result.session
+        stream.entry result.output result.driven }
     ensures lent { HasSameWriter stream.entry result.output }
 {
     drive_session(session, stream, options, meter)
@@ -186,7 +195,9 @@ fn drive_onto_stream<'a, I: Read, D: Disk, S: Sources<'a, I, D>, W: Write + 'a, 
     writer: &mut W,
     meter: &mut M,
 ) -> Result<Driven, JobFault>
-    ensures { DrivesStream D.Disk ⟦<StreamOutput<'a, W> as Disk>⟧ (IsLent W.contents (W.contents writer.old) (W.contents writer.new)) from options session (S.openings sources.old) (S.openings sources.new) result }
+    ensures { DrivesStream D.Disk ⟦<StreamOutput<'a, W> as Disk>⟧
+        (IsLent W.contents (W.contents writer.old) (W.contents writer.new)) from options session
+        (S.openings sources.old) (S.openings sources.new) result }
 {
     let Undertaken {
         session,
@@ -220,8 +231,12 @@ fn drive_recovered<'a, I: Read, D: Disk, S: Sources<'a, I, D>, W: Write + 'a, M:
     writer: &mut W,
     meter: &mut M,
 ) -> Result<Driven, JobFault>
-    ensures drives { DrivesRecovered D.Disk ⟦<StreamOutput<'a, W> as Disk>⟧ (IsLent W.contents (W.contents writer.old) (W.contents writer.new)) (S.outputs sources.old) (driving_of job.now).output (offset_of job.now.from) options session (S.openings sources.old) (S.openings sources.new) result }
-    ensures unwritten { IsUnwritten (driving_of job.now).output (W.contents writer.old) (W.contents writer.new) }
+    ensures drives { DrivesRecovered D.Disk ⟦<StreamOutput<'a, W> as Disk>⟧
+        (IsLent W.contents (W.contents writer.old) (W.contents writer.new))
+        (S.outputs sources.old) (driving_of job.now).output (offset_of job.now.from) options
+        session (S.openings sources.old) (S.openings sources.new) result }
+    ensures unwritten { IsUnwritten (driving_of job.now).output (W.contents writer.old)
+        (W.contents writer.new) }
 {
     match job.output {
         Some(path) => drive_into_file::<I, D, S, M>(session, path, options, sources, meter),
@@ -246,8 +261,12 @@ fn drive_opened<'a, I: Read, D: Disk, S: Sources<'a, I, D>, W: Write + 'a, M: Me
     writer: &mut W,
     meter: &mut M,
 ) -> Result<Driven, JobFault>
-    ensures drives { DrivesOpened D.Disk ⟦<StreamOutput<'a, W> as Disk>⟧ (IsLent W.contents (W.contents writer.old) (W.contents writer.new)) (S.outputs sources.old) (driving_of job.now).output (offset_of job.now.from) options disk (S.openings sources.old) (S.openings sources.new) result }
-    ensures unwritten { IsUnwritten (driving_of job.now).output (W.contents writer.old) (W.contents writer.new) }
+    ensures drives { DrivesOpened D.Disk ⟦<StreamOutput<'a, W> as Disk>⟧
+        (IsLent W.contents (W.contents writer.old) (W.contents writer.new))
+        (S.outputs sources.old) (driving_of job.now).output (offset_of job.now.from) options
+        disk (S.openings sources.old) (S.openings sources.new) result }
+    ensures unwritten { IsUnwritten (driving_of job.now).output (W.contents writer.old)
+        (W.contents writer.new) }
 {
     match recover(alloc, disk) {
         Ok(session) => {
@@ -270,8 +289,12 @@ fn drive_sized<'a, I: Read, D: Disk, S: Sources<'a, I, D>, W: Write + 'a, M: Met
     writer: &mut W,
     meter: &mut M,
 ) -> Result<Driven, JobFault>
-    ensures drives { DrivesSized D.Disk ⟦<StreamOutput<'a, W> as Disk>⟧ (IsLent W.contents (W.contents writer.old) (W.contents writer.new)) (S.outputs sources.old) (driving_of job.now) options disk (S.openings sources.old) (S.openings sources.new) result }
-    ensures unwritten { IsUnwritten (driving_of job.now).output (W.contents writer.old) (W.contents writer.new) }
+    ensures drives { DrivesSized D.Disk ⟦<StreamOutput<'a, W> as Disk>⟧
+        (IsLent W.contents (W.contents writer.old) (W.contents writer.new))
+        (S.outputs sources.old) (driving_of job.now) options disk (S.openings sources.old)
+        (S.openings sources.new) result }
+    ensures unwritten { IsUnwritten (driving_of job.now).output (W.contents writer.old)
+        (W.contents writer.new) }
 {
     let mut disk = disk;
     let found = other_sizes(&mut disk, &job.sizes);
@@ -312,8 +335,14 @@ pub(crate) fn drive_path<
     writer: &mut W,
     meter: &mut M,
 ) -> Result<Driven, JobFault>
-    ensures drives { DrivesPath D.Disk ⟦<StreamOutput<'a, W> as Disk>⟧ (IsLent W.contents (W.contents writer.old) (W.contents writer.new)) (S.image_bytes sources.old) (S.opens sources.old job.now.disk.now) (S.fills sources.old job.now.disk.now (size_needed (config_for job.now.sizes))) (S.outputs sources.old) (driving_of job.now) (S.openings sources.old) (S.openings sources.new) result }
-    ensures unwritten { IsUnwritten (driving_of job.now).output (W.contents writer.old) (W.contents writer.new) }
+    ensures drives { DrivesPath D.Disk ⟦<StreamOutput<'a, W> as Disk>⟧
+        (IsLent W.contents (W.contents writer.old) (W.contents writer.new))
+        (S.image_bytes sources.old) (S.opens sources.old job.now.disk.now)
+        (S.fills sources.old job.now.disk.now (size_needed (config_for job.now.sizes)))
+        (S.outputs sources.old) (driving_of job.now) (S.openings sources.old)
+        (S.openings sources.new) result }
+    ensures unwritten { IsUnwritten (driving_of job.now).output (W.contents writer.old)
+        (W.contents writer.new) }
 {
     if !is_in_range(job) {
         return Err(JobFault::Range);

@@ -38,6 +38,10 @@ pub enum JobFault {
 const DEVICE_ADVICE: &str =
     "a read, write or sync failed; look after the device, then run this again (docs/OPERATING.md)";
 
+/// What is said where the output failed a write or a sync.
+const OUTPUT_ADVICE: &str =
+    "a write or sync failed: no space is left, the pipe is broken, or its device fails; mend that, then the same command goes on (docs/OPERATING.md)";
+
 /// What is said of a fault of formatting.
 fn format_advice(fault: FormatFault) -> &'static str
     ensures { result.now ≡ advice_of_format fault }
@@ -122,7 +126,8 @@ fn drive_advice(fault: DriveFault) -> &'static str
     ensures { result.now ≡ advice_of_drive fault }
 {
     match fault {
-        DriveFault::Device | DriveFault::Output => DEVICE_ADVICE,
+        DriveFault::Device => DEVICE_ADVICE,
+        DriveFault::Output => OUTPUT_ADVICE,
         DriveFault::OutputFull => "it can't have so many bytes",
         DriveFault::GenerationsUsed =>
             "it has made as many checkpoints as there can be; make another",

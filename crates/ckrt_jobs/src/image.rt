@@ -15,7 +15,9 @@ pub(crate) fn read_image<I: Read + Drop>(
     limit: usize,
 ) -> Result<Vec<u8>, JobFault>
     requires { limit < 2 ^ 32 }
-    ensures bytes { IfOk result (λ read. (bytes : List ℕ) → I.remaining image ≡ Some bytes → read.items ≡ take (limit + 1) bytes) }
+    ensures bytes { IfOk result (λ read.
+        (bytes : List ℕ) → I.remaining image ≡ Some bytes
+        → read.items ≡ take (limit + 1) bytes) }
     ensures fault { IfErr result (λ e. IsUnreadable e ⊎ (e ≡ OutOfMemory)) }
 {
     let mut bytes = Vec::new(alloc);

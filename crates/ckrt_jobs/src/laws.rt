@@ -15,6 +15,12 @@ use ckrt_disk::Disk;
 /// acknowledged ones again, for the next run; where nothing is recovered nothing is printed, and it holds what it held. A
 /// stop within a run is a disk that fails each call from there on, behind which the run ends.
 pub fn printed_bytes_stay<D: Disk>(start: &D, end: &D)
-    ensures served { (a b r s : Option (List ℕ)) (run : Serves D.Disk start.now end.now a b r s) → D.is_honest end.now → (p : Program) (before : List Event) → HoldsEvents D.Disk p before start.now → PrintsOn D.Disk p before (outs_of (run.shows.replies ++ run.shows.broken)) end.now }
-    ensures unrecovered { (a b r s : Option (List ℕ)) (fault : JobFault) → IsUnrecovered D.Disk start.now end.now a b r s fault → D.is_honest end.now → (p : Program) (before : List Event) → HoldsEvents D.Disk p before start.now → HoldsEvents D.Disk p before end.now }
+    ensures served { (a b r s : Option (List ℕ)) (run : Serves D.Disk start.now end.now a b r s)
+        → D.is_honest end.now → (p : Program) (before : List Event)
+        → HoldsEvents D.Disk p before start.now
+        → PrintsOn D.Disk p before (outs_of (run.shows.replies ++ run.shows.broken)) end.now }
+    ensures unrecovered { (a b r s : Option (List ℕ)) (fault : JobFault)
+        → IsUnrecovered D.Disk start.now end.now a b r s fault → D.is_honest end.now
+        → (p : Program) (before : List Event) → HoldsEvents D.Disk p before start.now
+        → HoldsEvents D.Disk p before end.now }
 {}

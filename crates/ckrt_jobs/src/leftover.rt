@@ -21,7 +21,8 @@ const FRONT: usize = 8;
 /// Whether a file is empty, or begins as a disk that isn't formatted.
 fn is_unformatted<D: Disk>(disk: &mut D) -> Result<bool, DeviceFault>
     ensures read { IsOnlyRead D.Disk disk.old disk.new (is_err result) }
-    ensures exact { IfOk result (λ found. D.is_honest disk.new → found ≡ is_unformatted (D.content disk.old)) }
+    ensures exact { IfOk result
+        (λ found. D.is_honest disk.new → found ≡ is_unformatted (D.content disk.old)) }
 {
     if disk.size() < FRONT {
         return Ok(disk.size() == 0);
@@ -33,7 +34,8 @@ fn is_unformatted<D: Disk>(disk: &mut D) -> Result<bool, DeviceFault>
 
 /// Whether a session is that of a program that hasn't begun.
 fn is_at_start<D: Disk>(session: &Session<D>) -> bool
-    ensures { IsTrue result ↔ ((session.now.acknowledged ≡ 0) × (session.now.progress.generation ≡ 1)) }
+    ensures { IsTrue result
+        ↔ ((session.now.acknowledged ≡ 0) × (session.now.progress.generation ≡ 1)) }
 {
     session.acknowledged() == 0 && session.generation() == 1
 }
@@ -51,7 +53,8 @@ fn no_start(fault: RecoverFault) -> Result<bool, RecoverFault>
 /// Whether the program of a disk hasn't begun.
 fn has_not_begun<D: Disk>(alloc: Global, disk: D) -> Looked<D>
     ensures same { IsSameDisk D.Disk disk result.disk }
-    ensures found { IfOk result.is_in_making (λ found. D.is_honest result.disk → (IsTrue found ↔ HasNotBegun (D.content disk))) }
+    ensures found { IfOk result.is_in_making
+        (λ found. D.is_honest result.disk → (IsTrue found ↔ HasNotBegun (D.content disk))) }
 {
     match recover(alloc, disk) {
         Ok(session) => {
@@ -73,7 +76,8 @@ fn has_not_begun<D: Disk>(alloc: Global, disk: D) -> Looked<D>
 
 /// Whether a file is a disk in the making.
 pub(crate) fn look_at_leftover<D: Disk>(alloc: Global, disk: D) -> Looked<D>
-    ensures { IfOk result.is_in_making (λ found. D.is_honest result.disk → (IsTrue found ↔ IsInMaking (D.content disk))) }
+    ensures { IfOk result.is_in_making
+        (λ found. D.is_honest result.disk → (IsTrue found ↔ IsInMaking (D.content disk))) }
 {
     let mut disk = disk;
     match is_unformatted(&mut disk) {

@@ -26,6 +26,10 @@
 //! Damaged and Range are the content's, Device comes only where a read failed; the disk is only read, at every moment, and
 //! nothing is written with a fault but Write.
 //!
+//! Proved of a disk that `drive` makes since it is missing: it is asked for only with an image that fits; it gets the path's name
+//! only once it is formatted, whole and durable, and else is given up; and it is the disk that is driven then. Sizes of the words
+//! that aren't those of a disk that is there are the fault SizesDiffer, with the disk's own.
+//!
 //! Proved of `drive`: numbers out of their ranges are the fault Range, before anything is opened; the output is asked for
 //! only once the disk is recovered; the session that its content recovers to was driven as `ckrt_drive` says, step by step
 //! from the first round up to an end, with the options of the words; the program's status is the session's; and disk and
@@ -52,10 +56,11 @@
 //! ([`printed_bytes_stay`]).
 //!
 //! What a drive hands on to its stream is the output of acknowledged events: `stream_gets_the_output` of `ckrt_drive`. Only
-//! tested: the lines on how far a drive is, what a path opens, that a file is filled and locked and its folder synced, that
-//! what is printed is flushed, that faults on standard error reach it.
+//! tested: the lines on how far a drive is, what a path opens, that a file is filled and locked and its folder synced, that a
+//! disk in the making takes no other file's name, that what is printed is flushed, that faults on standard error reach it.
 #![tactic(auto)]
 
+mod address;
 mod driven;
 mod driving;
 mod fault;

@@ -22,10 +22,17 @@ fn open_image<'a, I: Read, D: Disk, S: Sources<'a, I, D>>(
     sources: &mut S,
     path: &'a str,
 ) -> Result<I, JobFault>
-    ensures bytes { IfOk result (λ reader. I.remaining reader ≡ S.image_bytes sources.old path.now) }
-    ensures opened { OnOk result (S.openings sources.new ≡ with_image (S.openings sources.old) (opened path.now)) }
-    ensures refused { IfErr result (λ e. (why : FileFault) × (e ≡ File file.Image why) × (S.openings sources.new ≡ with_image (S.openings sources.old) (refused path.now why))) }
-    ensures same { GivesSame (S.image_bytes sources.old) (S.image_bytes sources.new) (S.fills sources.old) (S.fills sources.new) (S.outputs sources.old) (S.outputs sources.new) }
+    ensures bytes { IfOk result
+        (λ reader. I.remaining reader ≡ S.image_bytes sources.old path.now) }
+    ensures opened { OnOk result
+        (S.openings sources.new ≡ with_image (S.openings sources.old) (opened path.now)) }
+    ensures refused { IfErr result (λ e.
+        (why : FileFault) × (e ≡ File file.Image why)
+        × (S.openings sources.new
+        ≡ with_image (S.openings sources.old) (refused path.now why))) }
+    ensures same { GivesSame (S.image_bytes sources.old) (S.image_bytes sources.new)
+        (S.fills sources.old) (S.fills sources.new) (S.outputs sources.old)
+        (S.outputs sources.new) }
 {
     match sources.open_image(path) {
         Ok(reader) => Ok(reader),
@@ -41,12 +48,19 @@ pub(crate) fn fitting_image<'a, I: Read + Drop, D: Disk, S: Sources<'a, I, D>>(
     config: Config,
 ) -> Result<Vec<u8>, JobFault>
     requires { is_valid config ≡ true }
-    ensures bytes { IfOk result (λ image. (bytes : List ℕ) → S.image_bytes sources.old path.now ≡ Some bytes → image.items ≡ bytes) }
-    ensures fits { IfOk result (λ image. (length image.items ≤ memory_size config) × (is_elf image.items ≡ false)) }
+    ensures bytes { IfOk result (λ image.
+        (bytes : List ℕ) → S.image_bytes sources.old path.now ≡ Some bytes
+        → image.items ≡ bytes) }
+    ensures fits { IfOk result
+        (λ image. (length image.items ≤ memory_size config) × (is_elf image.items ≡ false)) }
     ensures known { OnOk result (IsFit config (S.image_bytes sources.old path.now)) }
-    ensures opened { OnOk result (S.openings sources.new ≡ with_image (S.openings sources.old) (opened path.now)) }
-    ensures unfit { IfErr result (EndsOnImage config (S.image_bytes sources.old path.now) path.now (S.openings sources.old) (S.openings sources.new)) }
-    ensures same { GivesSame (S.image_bytes sources.old) (S.image_bytes sources.new) (S.fills sources.old) (S.fills sources.new) (S.outputs sources.old) (S.outputs sources.new) }
+    ensures opened { OnOk result
+        (S.openings sources.new ≡ with_image (S.openings sources.old) (opened path.now)) }
+    ensures unfit { IfErr result (EndsOnImage config (S.image_bytes sources.old path.now) path.now
+        (S.openings sources.old) (S.openings sources.new)) }
+    ensures same { GivesSame (S.image_bytes sources.old) (S.image_bytes sources.new)
+        (S.fills sources.old) (S.fills sources.new) (S.outputs sources.old)
+        (S.outputs sources.new) }
 {
     let reader = open_image(sources, path)?;
     let image = read_image(alloc, reader, config.memory_size())?;
@@ -66,8 +80,12 @@ fn filled_disk<'a, I: Read, D: Disk, S: Sources<'a, I, D>>(
     size: usize,
 ) -> Result<D, JobFault>
     ensures disk { IfOk result (S.fills sources.old path.now size) }
-    ensures opened { OnOk result (S.openings sources.new ≡ with_disk (S.openings sources.old) (opened path.now)) }
-    ensures refused { IfErr result (λ e. (why : FileFault) × (e ≡ File file.Disk why) × (S.openings sources.new ≡ with_disk (S.openings sources.old) (refused path.now why))) }
+    ensures opened { OnOk result
+        (S.openings sources.new ≡ with_disk (S.openings sources.old) (opened path.now)) }
+    ensures refused { IfErr result (λ e.
+        (why : FileFault) × (e ≡ File file.Disk why)
+        × (S.openings sources.new
+        ≡ with_disk (S.openings sources.old) (refused path.now why))) }
 {
     match sources.open_filled(path, size) {
         Ok(disk) => Ok(disk),
@@ -90,7 +108,8 @@ fn format_opened<'a, I: Read, D: Disk, S: Sources<'a, I, D>>(
     config: Config,
     image: &[u8],
 ) -> Result<(), JobFault>
-    ensures formats { FormatsOpened D.Disk config image.now disk (S.openings sources.old) (S.openings sources.new) result }
+    ensures formats { FormatsOpened D.Disk config image.now disk (S.openings sources.old)
+        (S.openings sources.new) result }
 {
     let mut disk = disk;
     let answer = ckrt_recovery::format(alloc, &mut disk, config, image);
@@ -121,7 +140,9 @@ pub fn make_disk<'a, I: Read + Drop, D: Disk, S: Sources<'a, I, D>>(
     disk_path: &'a str,
     config: Config,
 ) -> Result<(), JobFault>
-    ensures makes { Makes D.Disk config (S.image_bytes sources.old image_path.now) (S.fills sources.old disk_path.now (size_needed config)) image_path.now disk_path.now (S.openings sources.old) (S.openings sources.new) result }
+    ensures makes { Makes D.Disk config (S.image_bytes sources.old image_path.now)
+        (S.fills sources.old disk_path.now (size_needed config)) image_path.now disk_path.now
+        (S.openings sources.old) (S.openings sources.new) result }
     ensures unopened { is_valid config ≡ false → sources.new ≡ sources.old }
 {
     if !config.is_valid() {

@@ -20,8 +20,8 @@ impl Meter for Nobody {
 /// The clock is looked at once in so many steps of a drive.
 const STEPS_PER_LOOK: u32 = 64;
 
-/// Prints a line on standard error from time to time: events and guest steps since the drive began, guest steps a second
-/// since the last line, bytes of output of acknowledged events, generation, and the room that the journal has left in bytes.
+/// Prints a line on standard error from time to time: events of the disk since its first one, guest steps since the drive began,
+/// guest steps a second since the last line, bytes of output of acknowledged events, generation, and the room that the journal has left in bytes.
 /// Where the clock or standard error fails there is no line.
 #[derive(Drop)]
 pub struct SystemMeter<'a, R> {
@@ -29,6 +29,8 @@ pub struct SystemMeter<'a, R> {
     interval: Option<Duration>,
     last_line: Option<Instant>,
     unlooked: u32,
+    /// How many events the disk had before the drive began, once that is known.
+    earlier_events: Option<u64>,
     events: u64,
     steps: u64,
     steps_at_last_line: u64,
@@ -42,6 +44,7 @@ impl<'a, R: Clock + Eprint> SystemMeter<'a, R> {
             interval: None,
             last_line: None,
             unlooked: 0,
+            earlier_events: None,
             events: 0,
             steps: 0,
             steps_at_last_line: 0,
@@ -77,7 +80,7 @@ impl<'a, R: Clock + Eprint> SystemMeter<'a, R> {
         let steps = u128::from(self.steps.saturating_sub(self.steps_at_last_line));
         let _ = eprintln!(self.rt;
             "progress: {} events, {} steps, {} steps a second, {} bytes of output, generation {}, room {}",
-            self.events,
+            self.earlier_events.unwrap_or(0).saturating_add(self.events),
             self.steps,
             1_000 * steps / since.as_millis().max(1),
             session.released(),
@@ -91,6 +94,10 @@ impl<'a, R: Clock + Eprint> SystemMeter<'a, R> {
 
 impl<'a, R: Clock + Eprint> Onlooker for SystemMeter<'a, R> {
     fn look<D: Disk>(&mut self, did: &Progress, session: &Session<D>) {
+        // no event of the drive is acknowledged before it first looks on
+        if self.earlier_events.is_none() {
+            self.earlier_events = Some(session.acknowledged());
+        }
         if let Progress::Submitted(_, answer) = did {
             self.count(answer);
         }

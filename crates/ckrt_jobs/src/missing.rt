@@ -27,8 +27,11 @@ fn name_made<'a, I: Read, D: Disk, S: Sources<'a, I, D>>(
     sources: &mut S,
     path: &'a str,
 ) -> Result<D, JobFault>
-    ensures ends { EndsNaming path.now disk (S.openings sources.old) (S.openings sources.new) (Ok tt) result }
-    ensures same { OnOk result (GivesSame (S.image_bytes sources.old) (S.image_bytes sources.new) (S.fills sources.old) (S.fills sources.new) (S.outputs sources.old) (S.outputs sources.new)) }
+    ensures ends { EndsNaming path.now disk (S.openings sources.old) (S.openings sources.new)
+        (Ok tt) result }
+    ensures same { OnOk result (GivesSame (S.image_bytes sources.old) (S.image_bytes sources.new)
+        (S.fills sources.old) (S.fills sources.new) (S.outputs sources.old)
+        (S.outputs sources.new)) }
 {
     match sources.name_disk(path, &disk) {
         Ok(()) => Ok(disk),
@@ -48,8 +51,11 @@ fn make_named<'a, I: Read, D: Disk, S: Sources<'a, I, D>>(
     config: Config,
     image: &[u8],
 ) -> Result<D, JobFault>
-    ensures makes { MakesNamed D.Disk config image.now path.now disk (S.openings sources.old) (S.openings sources.new) result }
-    ensures same { OnOk result (GivesSame (S.image_bytes sources.old) (S.image_bytes sources.new) (S.fills sources.old) (S.fills sources.new) (S.outputs sources.old) (S.outputs sources.new)) }
+    ensures makes { MakesNamed D.Disk config image.now path.now disk (S.openings sources.old)
+        (S.openings sources.new) result }
+    ensures same { OnOk result (GivesSame (S.image_bytes sources.old) (S.image_bytes sources.new)
+        (S.fills sources.old) (S.fills sources.new) (S.outputs sources.old)
+        (S.outputs sources.new)) }
 {
     let mut disk = disk;
     let answer = ckrt_recovery::format(alloc, &mut disk, config, image);
@@ -70,9 +76,15 @@ fn disk_in_making<'a, I: Read, D: Disk, S: Sources<'a, I, D>>(
     size: usize,
 ) -> Result<D, JobFault>
     ensures disk { IfOk result (S.fills sources.old path.now size) }
-    ensures opened { OnOk result (S.openings sources.new ≡ with_making (S.openings sources.old) (opened path.now)) }
-    ensures refused { IfErr result (λ e. (why : FileFault) × (e ≡ File file.Making why) × (S.openings sources.new ≡ with_making (S.openings sources.old) (refused path.now why))) }
-    ensures same { GivesSame (S.image_bytes sources.old) (S.image_bytes sources.new) (S.fills sources.old) (S.fills sources.new) (S.outputs sources.old) (S.outputs sources.new) }
+    ensures opened { OnOk result
+        (S.openings sources.new ≡ with_making (S.openings sources.old) (opened path.now)) }
+    ensures refused { IfErr result (λ e.
+        (why : FileFault) × (e ≡ File file.Making why)
+        × (S.openings sources.new
+        ≡ with_making (S.openings sources.old) (refused path.now why))) }
+    ensures same { GivesSame (S.image_bytes sources.old) (S.image_bytes sources.new)
+        (S.fills sources.old) (S.fills sources.new) (S.outputs sources.old)
+        (S.outputs sources.new) }
 {
     match sources.open_making(alloc, path, size) {
         Ok(disk) => Ok(disk),
@@ -93,8 +105,12 @@ fn make_missing<'a, I: Read + Drop, D: Disk, S: Sources<'a, I, D>>(
     disk_path: &'a str,
     config: Config,
 ) -> Result<D, JobFault>
-    ensures makes { MakesMissing D.Disk config (S.image_bytes sources.old image_path.now) (S.fills sources.old disk_path.now (size_needed config)) image_path.now disk_path.now (S.openings sources.old) (S.openings sources.new) result }
-    ensures same { OnOk result (GivesSame (S.image_bytes sources.old) (S.image_bytes sources.new) (S.fills sources.old) (S.fills sources.new) (S.outputs sources.old) (S.outputs sources.new)) }
+    ensures makes { MakesMissing D.Disk config (S.image_bytes sources.old image_path.now)
+        (S.fills sources.old disk_path.now (size_needed config)) image_path.now disk_path.now
+        (S.openings sources.old) (S.openings sources.new) result }
+    ensures same { OnOk result (GivesSame (S.image_bytes sources.old) (S.image_bytes sources.new)
+        (S.fills sources.old) (S.fills sources.new) (S.outputs sources.old)
+        (S.outputs sources.new)) }
 {
     if !config.is_valid() {
         return Err(JobFault::Format(FormatFault::BadConfig));
@@ -124,8 +140,14 @@ pub(crate) fn find_disk<'a, I: Read + Drop, D: Disk, S: Sources<'a, I, D>>(
     job: &DriveJob<'a>,
     sources: &mut S,
 ) -> Result<D, JobFault>
-    ensures finds { FindsDisk D.Disk (config_for job.now.sizes) (S.image_bytes sources.old) (S.opens sources.old job.now.disk.now) (S.fills sources.old job.now.disk.now (size_needed (config_for job.now.sizes))) job.now.disk.now (driving_of job.now).image (S.openings sources.old) (S.openings sources.new) result }
-    ensures same { OnOk result (GivesSame (S.image_bytes sources.old) (S.image_bytes sources.new) (S.fills sources.old) (S.fills sources.new) (S.outputs sources.old) (S.outputs sources.new)) }
+    ensures finds { FindsDisk D.Disk (config_for job.now.sizes) (S.image_bytes sources.old)
+        (S.opens sources.old job.now.disk.now)
+        (S.fills sources.old job.now.disk.now (size_needed (config_for job.now.sizes)))
+        job.now.disk.now (driving_of job.now).image (S.openings sources.old)
+        (S.openings sources.new) result }
+    ensures same { OnOk result (GivesSame (S.image_bytes sources.old) (S.image_bytes sources.new)
+        (S.fills sources.old) (S.fills sources.new) (S.outputs sources.old)
+        (S.outputs sources.new)) }
 {
     let fault = match sources.open_disk(job.disk) {
         Ok(disk) => return Ok(disk),

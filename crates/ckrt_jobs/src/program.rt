@@ -38,7 +38,11 @@ fn make<'a, I: Read + Drop, D: Disk, S: Sources<'a, I, D>, W: Write>(
     sources: &mut S,
     writer: &mut W,
 ) -> Result<(), JobFault>
-    ensures makes { MakesPath D.Disk (formatting_of job.now) (S.image_bytes sources.old job.now.image.now) (S.fills sources.old job.now.disk.now (size_needed (config_of (formatting_of job.now)))) (S.openings sources.old) (S.openings sources.new) (W.contents writer.old) (W.contents writer.new) result }
+    ensures makes { MakesPath D.Disk (formatting_of job.now)
+        (S.image_bytes sources.old job.now.image.now)
+        (S.fills sources.old job.now.disk.now (size_needed (config_of (formatting_of job.now))))
+        (S.openings sources.old) (S.openings sources.new) (W.contents writer.old)
+        (W.contents writer.new) result }
 {
     let config = Config {
         pages: job.pages,
@@ -59,7 +63,9 @@ fn run_opened<'a, I: Read, D: Disk + Drop, S: Sources<'a, I, D>, R: Read, W: Wri
     reader: &mut R,
     writer: &mut W,
 ) -> Result<(), JobFault>
-    ensures runs { RunsOpened D.Disk (λ start. start ≡ disk) (S.openings sources.old) (S.openings sources.new) (W.contents writer.old) (W.contents writer.new) (R.remaining reader.old) (R.remaining reader.new) result }
+    ensures runs { RunsOpened D.Disk (λ start. start ≡ disk) (S.openings sources.old)
+        (S.openings sources.new) (W.contents writer.old) (W.contents writer.new)
+        (R.remaining reader.old) (R.remaining reader.new) result }
 {
     match run_disk(alloc, disk, reader, writer) {
         Ok(disk) => {
@@ -81,7 +87,9 @@ fn run<'a, I: Read, D: Disk + Drop, S: Sources<'a, I, D>, R: Read, W: Write>(
     reader: &mut R,
     writer: &mut W,
 ) -> Result<(), JobFault>
-    ensures runs { RunsPath D.Disk path.now (S.opens sources.old path.now) (S.openings sources.old) (S.openings sources.new) (W.contents writer.old) (W.contents writer.new) (R.remaining reader.old) (R.remaining reader.new) result }
+    ensures runs { RunsPath D.Disk path.now (S.opens sources.old path.now) (S.openings sources.old)
+        (S.openings sources.new) (W.contents writer.old) (W.contents writer.new)
+        (R.remaining reader.old) (R.remaining reader.new) result }
 {
     match sources.open_disk(path) {
         Ok(disk) => run_opened::<I, D, S, R, W>(alloc, disk, sources, reader, writer),
@@ -97,7 +105,10 @@ fn show_opened<'a, I: Read, D: Disk, S: Sources<'a, I, D>, W: Write>(
     sources: &mut S,
     writer: &mut W,
 ) -> Result<(), JobFault>
-    ensures shows { (left : Option (List ℕ)) → ShowsOpened D.Disk (λ start. start ≡ disk) (inspection_of job.now) (S.openings sources.old) (S.openings sources.new) (W.contents writer.old) (W.contents writer.new) left left result }
+    ensures shows { (left : Option (List ℕ))
+        → ShowsOpened D.Disk (λ start. start ≡ disk) (inspection_of job.now)
+        (S.openings sources.old) (S.openings sources.new) (W.contents writer.old)
+        (W.contents writer.new) left left result }
 {
     let mut disk = disk;
     let answer = inspect_disk(alloc, &mut disk, job, writer);
@@ -112,7 +123,10 @@ fn inspect_path<'a, I: Read, D: Disk, S: Sources<'a, I, D>, W: Write>(
     sources: &mut S,
     writer: &mut W,
 ) -> Result<(), JobFault>
-    ensures shows { (left : Option (List ℕ)) → ShowsPath D.Disk (S.opens sources.old job.now.disk.now) (inspection_of job.now) (S.openings sources.old) (S.openings sources.new) (W.contents writer.old) (W.contents writer.new) left left result }
+    ensures shows { (left : Option (List ℕ))
+        → ShowsPath D.Disk (S.opens sources.old job.now.disk.now) (inspection_of job.now)
+        (S.openings sources.old) (S.openings sources.new) (W.contents writer.old)
+        (W.contents writer.new) left left result }
 {
     match sources.look_at_disk(job.disk) {
         Ok(disk) => show_opened::<I, D, S, W>(alloc, disk, job, sources, writer),
@@ -126,7 +140,8 @@ fn serve_stored<R: Read, W: Write>(
     reader: &mut R,
     writer: &mut W,
 ) -> Result<(), JobFault>
-    ensures serves { ServesStored (W.contents writer.old) (W.contents writer.new) (R.remaining reader.old) (R.remaining reader.new) result }
+    ensures serves { ServesStored (W.contents writer.old) (W.contents writer.new)
+        (R.remaining reader.old) (R.remaining reader.new) result }
 {
     match serve_image(alloc, &stored::IMAGE, stored::CONFIG, reader, writer) {
         Ok(()) => Ok(()),
@@ -171,7 +186,11 @@ fn perform<
     writer: &mut W,
     meter: &mut M,
 ) -> Result<Option<Driven>, JobFault>
-    ensures performs { Performs D.Disk ⟦<StreamOutput<'a, W> as Disk>⟧ W.contents (request_of job.now) (S.image_bytes sources.old) (S.opens sources.old) (S.fills sources.old) (S.outputs sources.old) (S.openings sources.old) (S.openings sources.new) (W.contents writer.old) (W.contents writer.new) (R.remaining reader.old) (R.remaining reader.new) result }
+    ensures performs { Performs D.Disk ⟦<StreamOutput<'a, W> as Disk>⟧ W.contents
+        (request_of job.now) (S.image_bytes sources.old) (S.opens sources.old)
+        (S.fills sources.old) (S.outputs sources.old) (S.openings sources.old)
+        (S.openings sources.new) (W.contents writer.old) (W.contents writer.new)
+        (R.remaining reader.old) (R.remaining reader.new) result }
 {
     match job {
         Job::Stored => without_end(serve_stored(alloc, reader, writer)),
@@ -212,12 +231,22 @@ pub fn run_words_with<
     meter: &mut M,
 ) -> u8
     ensures bound { result ≤ 7 }
-    ensures asked { result ≡ 0 → (r : Request) × (request_of_words (map (λ s. s.now) words.entry.now) ≡ Some r) }
-    ensures made { result ≡ 0 → (f : Formatting) → request_of_words (map (λ s. s.now) words.entry.now) ≡ Some (format f) → Appends (W.contents writer.old) (W.contents writer.new) (made_line f) }
-    ensures version { result ≡ 0 → request_of_words (map (λ s. s.now) words.entry.now) ≡ Some version → Appends (W.contents writer.old) (W.contents writer.new) version_line }
+    ensures asked { result ≡ 0
+        → (r : Request) × (request_of_words (map (λ s. s.now) words.entry.now) ≡ Some r) }
+    ensures made { result ≡ 0 → (f : Formatting)
+        → request_of_words (map (λ s. s.now) words.entry.now) ≡ Some (format f)
+        → Appends (W.contents writer.old) (W.contents writer.new) (made_line f) }
+    ensures version { result ≡ 0
+        → request_of_words (map (λ s. s.now) words.entry.now) ≡ Some version
+        → Appends (W.contents writer.old) (W.contents writer.new) version_line }
     ensures usage { result ≡ 2 → takes ckrt_app (map (λ s. s.now) words.entry.now) ≢ true }
     ensures stored { result ≡ 2 → words.entry.now ≢ [] }
-    ensures outcome { RunsWords D.Disk ⟦<StreamOutput<'a, W> as Disk>⟧ W.contents (map (λ s. s.now) words.entry.now) (S.image_bytes sources.old) (S.opens sources.old) (S.fills sources.old) (S.outputs sources.old) (S.openings sources.old) (S.openings sources.new) (W.contents writer.old) (W.contents writer.new) (R.remaining reader.old) (R.remaining reader.new) (E.said reporter.old) (E.said reporter.new) (E.has_failed reporter.new) result }
+    ensures outcome { RunsWords D.Disk ⟦<StreamOutput<'a, W> as Disk>⟧ W.contents
+        (map (λ s. s.now) words.entry.now) (S.image_bytes sources.old) (S.opens sources.old)
+        (S.fills sources.old) (S.outputs sources.old) (S.openings sources.old)
+        (S.openings sources.new) (W.contents writer.old) (W.contents writer.new)
+        (R.remaining reader.old) (R.remaining reader.new) (E.said reporter.old)
+        (E.said reporter.new) (E.has_failed reporter.new) result }
 {
     match read_words(alloc, words) {
         Ok(job) => {
@@ -240,12 +269,21 @@ pub fn run_words<'a, F: Files<File = File>, R: Read, W: Write + 'a, E: Reporter,
     meter: &mut M,
 ) -> u8
     ensures bound { result ≤ 7 }
-    ensures asked { result ≡ 0 → (r : Request) × (request_of_words (map (λ s. s.now) words.entry.now) ≡ Some r) }
-    ensures made { result ≡ 0 → (f : Formatting) → request_of_words (map (λ s. s.now) words.entry.now) ≡ Some (format f) → Appends (W.contents writer.old) (W.contents writer.new) (made_line f) }
-    ensures version { result ≡ 0 → request_of_words (map (λ s. s.now) words.entry.now) ≡ Some version → Appends (W.contents writer.old) (W.contents writer.new) version_line }
+    ensures asked { result ≡ 0
+        → (r : Request) × (request_of_words (map (λ s. s.now) words.entry.now) ≡ Some r) }
+    ensures made { result ≡ 0 → (f : Formatting)
+        → request_of_words (map (λ s. s.now) words.entry.now) ≡ Some (format f)
+        → Appends (W.contents writer.old) (W.contents writer.new) (made_line f) }
+    ensures version { result ≡ 0
+        → request_of_words (map (λ s. s.now) words.entry.now) ≡ Some version
+        → Appends (W.contents writer.old) (W.contents writer.new) version_line }
     ensures usage { result ≡ 2 → takes ckrt_app (map (λ s. s.now) words.entry.now) ≢ true }
     ensures stored { result ≡ 2 → words.entry.now ≢ [] }
-    ensures outcome { RunsOnFiles ⟦<SystemDisk as Disk>⟧ ⟦<StreamOutput<'a, W> as Disk>⟧ W.contents (map (λ s. s.now) words.entry.now) (openings_of sources.old) (openings_of sources.new) (W.contents writer.old) (W.contents writer.new) (R.remaining reader.old) (R.remaining reader.new) (E.said reporter.old) (E.said reporter.new) (E.has_failed reporter.new) result }
+    ensures outcome { RunsOnFiles ⟦<SystemDisk as Disk>⟧ ⟦<StreamOutput<'a, W> as Disk>⟧ W.contents
+        (map (λ s. s.now) words.entry.now) (openings_of sources.old) (openings_of sources.new)
+        (W.contents writer.old) (W.contents writer.new) (R.remaining reader.old)
+        (R.remaining reader.new) (E.said reporter.old) (E.said reporter.new)
+        (E.has_failed reporter.new) result }
 {
     run_words_with::<File, SystemDisk, SystemSources<'a, F, SystemDisk>, R, W, E, M>(
         alloc, words, sources, reader, writer, reporter, meter,

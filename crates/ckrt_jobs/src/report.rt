@@ -6,7 +6,7 @@ ghost use Rattle.ckrt_words.specs.Jobs.{request_of};
 ghost use Rattle.ckrt_state.specs.declared.table.Status.TheVariants.{Exited, Faulted};
 ghost use Rattle.ckrt_inspect.specs.Texts.{hex_text, status_text};
 ghost use Rattle.ckrt_rv32i.specs.Names.{cause_name};
-ghost use Rattle.ckrt_jobs.specs.Ends.{end_line, end_text};
+ghost use Rattle.ckrt_jobs.specs.Ends.{address_text, end_line, end_text, ended_text, hex_between, hint_text, place_text};
 ghost use Rattle.ckrt_jobs.specs.Outcomes.{formatted_line, status_of, status_of_words, version_line};
 ghost use Rattle.ckrt_jobs.specs.Performing.{ReportsOutcome, SaysLine};
 ghost use Rattle.ckrt_jobs.specs.Reports.{lengths_text, numbers_of, path_of, range_text, size_text, sizes_text, report_of, subject_of, words_report_of};
@@ -56,7 +56,8 @@ fn line_of(word: &[u8], text: &[u8]) -> Line
 /// Writes a word with its text behind it and a line feed, and flushes it.
 fn write_line<W: Write>(writer: &mut W, word: &[u8], text: &[u8]) -> Result<(), JobFault>
     requires { length word.now + length text.now < 80 }
-    ensures { SaysLine (W.contents writer.old) (W.contents writer.new) (word.now ++ (text.now ++ 10 ∷ [])) result }
+    ensures { SaysLine (W.contents writer.old) (W.contents writer.new)
+        (word.now ++ (text.now ++ 10 ∷ [])) result }
 {
     match write_reply(writer, &line_of(word, text)) {
         Ok(()) => Ok(()),
@@ -90,7 +91,8 @@ fn say_subject<E: Reporter>(
     job: &Job<'_>,
     file: Option<JobFile>,
 ) -> Result<(), Unsaid>
-    ensures said { OnOk result (Appends (E.said reporter.old) (E.said reporter.new) (subject_of file (request_of job.now))) }
+    ensures said { OnOk result (Appends (E.said reporter.old) (E.said reporter.new)
+        (subject_of file (request_of job.now))) }
     ensures failed { OnErr result (E.has_failed reporter.new ≡ true) }
 {
     let Some(file) = file else {
@@ -104,7 +106,8 @@ fn say_subject<E: Reporter>(
 
 /// Says a word with its text behind it and a line feed.
 fn say_line<E: Reporter>(reporter: &mut E, word: &[u8], text: &[u8]) -> Result<(), Unsaid>
-    ensures said { OnOk result (Appends (E.said reporter.old) (E.said reporter.new) (word.now ++ (text.now ++ 10 ∷ []))) }
+    ensures said { OnOk result (Appends (E.said reporter.old) (E.said reporter.new)
+        (word.now ++ (text.now ++ 10 ∷ []))) }
     ensures failed { OnErr result (E.has_failed reporter.new ≡ true) }
 {
     reporter.say(word)?;
@@ -114,7 +117,8 @@ fn say_line<E: Reporter>(reporter: &mut E, word: &[u8], text: &[u8]) -> Result<(
 
 /// Says two ends of a range, and a colon.
 fn say_range<E: Reporter>(reporter: &mut E, from: u64, to: u64) -> Result<(), Unsaid>
-    ensures said { OnOk result (Appends (E.said reporter.old) (E.said reporter.new) (range_text from to)) }
+    ensures said { OnOk result
+        (Appends (E.said reporter.old) (E.said reporter.new) (range_text from to)) }
     ensures failed { OnErr result (E.has_failed reporter.new ≡ true) }
 {
     say_number(reporter, from)?;
@@ -125,7 +129,8 @@ fn say_range<E: Reporter>(reporter: &mut E, from: u64, to: u64) -> Result<(), Un
 
 /// Says how many bytes an output has, and how many its disk wants there.
 fn say_lengths<E: Reporter>(reporter: &mut E, lengths: OutputLengths) -> Result<(), Unsaid>
-    ensures said { OnOk result (Appends (E.said reporter.old) (E.said reporter.new) (lengths_text lengths)) }
+    ensures said { OnOk result
+        (Appends (E.said reporter.old) (E.said reporter.new) (lengths_text lengths)) }
     ensures failed { OnErr result (E.has_failed reporter.new ≡ true) }
 {
     reporter.say(b"it has ")?;
@@ -141,7 +146,8 @@ fn say_size<E: Reporter>(
     size: u32,
     behind: &[u8],
 ) -> Result<(), Unsaid>
-    ensures said { OnOk result (Appends (E.said reporter.old) (E.said reporter.new) (size_text before.now size behind.now)) }
+    ensures said { OnOk result (Appends (E.said reporter.old) (E.said reporter.new)
+        (size_text before.now size behind.now)) }
     ensures failed { OnErr result (E.has_failed reporter.new ≡ true) }
 {
     reporter.say(before)?;
@@ -151,7 +157,8 @@ fn say_size<E: Reporter>(
 
 /// Says the sizes of a disk.
 fn say_sizes<E: Reporter>(reporter: &mut E, sizes: Config) -> Result<(), Unsaid>
-    ensures said { OnOk result (Appends (E.said reporter.old) (E.said reporter.new) (sizes_text sizes)) }
+    ensures said { OnOk result
+        (Appends (E.said reporter.old) (E.said reporter.new) (sizes_text sizes)) }
     ensures failed { OnErr result (E.has_failed reporter.new ≡ true) }
 {
     say_size(reporter, b"it has --pages ", sizes.pages, b"")?;
@@ -161,7 +168,8 @@ fn say_sizes<E: Reporter>(reporter: &mut E, sizes: Config) -> Result<(), Unsaid>
 
 /// Says the numbers of a fault, where it has some.
 fn say_numbers<E: Reporter>(reporter: &mut E, fault: JobFault) -> Result<(), Unsaid>
-    ensures said { OnOk result (Appends (E.said reporter.old) (E.said reporter.new) (numbers_of fault)) }
+    ensures said { OnOk result
+        (Appends (E.said reporter.old) (E.said reporter.new) (numbers_of fault)) }
     ensures failed { OnErr result (E.has_failed reporter.new ≡ true) }
 {
     match fault {
@@ -173,7 +181,8 @@ fn say_numbers<E: Reporter>(reporter: &mut E, fault: JobFault) -> Result<(), Uns
 
 /// Says what is wrong in plain words, and then the line with the fault's name.
 fn say_fault<E: Reporter>(reporter: &mut E, job: &Job<'_>, fault: JobFault) -> Result<(), Unsaid>
-    ensures said { OnOk result (Appends (E.said reporter.old) (E.said reporter.new) (report_of (request_of job.now) fault)) }
+    ensures said { OnOk result (Appends (E.said reporter.old) (E.said reporter.new)
+        (report_of (request_of job.now) fault)) }
     ensures failed { OnErr result (E.has_failed reporter.new ≡ true) }
 {
     say_subject(reporter, job, fault.file())?;
@@ -201,7 +210,8 @@ fn cause_name(cause: Cause) -> &'static str
 
 /// Says a number in decimal.
 fn say_number<E: Reporter>(reporter: &mut E, number: u64) -> Result<(), Unsaid>
-    ensures said { OnOk result (Appends (E.said reporter.old) (E.said reporter.new) (decimal number)) }
+    ensures said { OnOk result
+        (Appends (E.said reporter.old) (E.said reporter.new) (decimal number)) }
     ensures failed { OnErr result (E.has_failed reporter.new ≡ true) }
 {
     let mut buffer = itoa::Buffer::new();
@@ -210,7 +220,8 @@ fn say_number<E: Reporter>(reporter: &mut E, number: u64) -> Result<(), Unsaid>
 
 /// Says a pc in eight hexadecimal digits.
 fn say_hex<E: Reporter>(reporter: &mut E, number: u32) -> Result<(), Unsaid>
-    ensures said { OnOk result (Appends (E.said reporter.old) (E.said reporter.new) (hex_text number)) }
+    ensures said { OnOk result
+        (Appends (E.said reporter.old) (E.said reporter.new) (hex_text number)) }
     ensures failed { OnErr result (E.has_failed reporter.new ≡ true) }
 {
     let bytes = number.to_be_bytes();
@@ -228,7 +239,8 @@ fn say_program_fault<E: Reporter>(
     pc: u32,
     cause: Cause,
 ) -> Result<(), Unsaid>
-    ensures said { OnOk result (Appends (E.said reporter.old) (E.said reporter.new) (status_text (Faulted thread pc cause))) }
+    ensures said { OnOk result (Appends (E.said reporter.old) (E.said reporter.new)
+        (status_text (Faulted thread pc cause))) }
     ensures failed { OnErr result (E.has_failed reporter.new ≡ true) }
 {
     reporter.say(b"fault ")?;
@@ -241,7 +253,8 @@ fn say_program_fault<E: Reporter>(
 
 /// Says with which status the program ended.
 fn say_exit<E: Reporter>(reporter: &mut E, code: u32) -> Result<(), Unsaid>
-    ensures said { OnOk result (Appends (E.said reporter.old) (E.said reporter.new) (status_text (Exited code))) }
+    ensures said { OnOk result
+        (Appends (E.said reporter.old) (E.said reporter.new) (status_text (Exited code))) }
     ensures failed { OnErr result (E.has_failed reporter.new ≡ true) }
 {
     reporter.say(b"exit ")?;
@@ -250,7 +263,8 @@ fn say_exit<E: Reporter>(reporter: &mut E, code: u32) -> Result<(), Unsaid>
 
 /// Says how the program stands.
 fn say_status<E: Reporter>(reporter: &mut E, status: Status) -> Result<(), Unsaid>
-    ensures said { OnOk result (Appends (E.said reporter.old) (E.said reporter.new) (status_text status)) }
+    ensures said { OnOk result
+        (Appends (E.said reporter.old) (E.said reporter.new) (status_text status)) }
     ensures failed { OnErr result (E.has_failed reporter.new ≡ true) }
 {
     match status {
@@ -260,26 +274,89 @@ fn say_status<E: Reporter>(reporter: &mut E, status: Status) -> Result<(), Unsai
     }
 }
 
-/// Says that the program ended, and how.
-fn say_ended<E: Reporter>(reporter: &mut E, status: Status) -> Result<(), Unsaid>
-    ensures said { OnOk result (Appends (E.said reporter.old) (E.said reporter.new) (codes "ended: " ++ status_text status)) }
+/// Says the address that a fault is about.
+fn say_address<E: Reporter>(reporter: &mut E, address: Option<u32>) -> Result<(), Unsaid>
+    ensures said { OnOk result
+        (Appends (E.said reporter.old) (E.said reporter.new) (address_text address)) }
     ensures failed { OnErr result (E.has_failed reporter.new ≡ true) }
 {
+    match address {
+        Some(address) => {
+            reporter.say(b" ")?;
+            say_hex(reporter, address)
+        }
+        None => reporter.say(b""),
+    }
+}
+
+/// Says a word in eight hexadecimal digits between two texts.
+fn say_hex_between<E: Reporter>(
+    reporter: &mut E,
+    before: &[u8],
+    word: u32,
+    behind: &[u8],
+) -> Result<(), Unsaid>
+    ensures said { OnOk result (Appends (E.said reporter.old) (E.said reporter.new)
+        (hex_between before.now word behind.now)) }
+    ensures failed { OnErr result (E.has_failed reporter.new ≡ true) }
+{
+    reporter.say(before)?;
+    say_hex(reporter, word)?;
+    reporter.say(behind)
+}
+
+/// Says which commands name the place of a fault.
+fn say_place<E: Reporter>(reporter: &mut E, pc: u32, address: Option<u32>) -> Result<(), Unsaid>
+    ensures said { OnOk result
+        (Appends (E.said reporter.old) (E.said reporter.new) (place_text pc address)) }
+    ensures failed { OnErr result (E.has_failed reporter.new ≡ true) }
+{
+    let other = b"` says where that is; so does `addr2line -e PROGRAM.elf ";
+    say_hex_between(reporter, b"`guest/where PROGRAM.elf ", pc, b"")?;
+    say_address(reporter, address)?;
+    say_hex_between(reporter, other, pc, b"`\n")
+}
+
+/// Says what to do about a fault of the program, if that ended it.
+fn say_hint<E: Reporter>(
+    reporter: &mut E,
+    status: Status,
+    address: Option<u32>,
+) -> Result<(), Unsaid>
+    ensures said { OnOk result
+        (Appends (E.said reporter.old) (E.said reporter.new) (hint_text status address)) }
+    ensures failed { OnErr result (E.has_failed reporter.new ≡ true) }
+{
+    match status {
+        Status::Faulted(_, pc, _) => say_place(reporter, pc, address),
+        _ => reporter.say(b""),
+    }
+}
+
+/// Says that the program ended, and how.
+fn say_ended<E: Reporter>(
+    reporter: &mut E,
+    status: Status,
+    address: Option<u32>,
+) -> Result<(), Unsaid>
+    ensures said { OnOk result
+        (Appends (E.said reporter.old) (E.said reporter.new) (ended_text status address)) }
+    ensures failed { OnErr result (E.has_failed reporter.new ≡ true) }
+{
+    say_hint(reporter, status, address)?;
     reporter.say(b"ended: ")?;
-    say_status(reporter, status)
+    say_status(reporter, status)?;
+    say_address(reporter, address)
 }
 
 /// Says an end in words.
-fn say_end_text<E: Reporter>(
-    reporter: &mut E,
-    ending: Option<Ending>,
-    status: Status,
-) -> Result<(), Unsaid>
-    ensures said { OnOk result (Appends (E.said reporter.old) (E.said reporter.new) (end_text ending status)) }
+fn say_end_text<E: Reporter>(reporter: &mut E, driven: Driven) -> Result<(), Unsaid>
+    ensures said { OnOk result (Appends (E.said reporter.old) (E.said reporter.new)
+        (end_text driven.ending driven.status driven.address)) }
     ensures failed { OnErr result (E.has_failed reporter.new ≡ true) }
 {
-    match ending {
-        Some(Ending::Ended) => say_ended(reporter, status),
+    match driven.ending {
+        Some(Ending::Ended) => say_ended(reporter, driven.status, driven.address),
         Some(Ending::WaitsForInput) => reporter.say(b"waits for input"),
         Some(Ending::Deadlock) => reporter.say(b"deadlock"),
         Some(Ending::Enough) | None => reporter.say(b"enough"),
@@ -288,16 +365,18 @@ fn say_end_text<E: Reporter>(
 
 /// Says what a drive came to.
 fn say_end<E: Reporter>(reporter: &mut E, driven: Driven) -> Result<(), Unsaid>
-    ensures said { OnOk result (Appends (E.said reporter.old) (E.said reporter.new) (end_line driven)) }
+    ensures said { OnOk result
+        (Appends (E.said reporter.old) (E.said reporter.new) (end_line driven)) }
     ensures failed { OnErr result (E.has_failed reporter.new ≡ true) }
 {
-    say_end_text(reporter, driven.ending, driven.status)?;
+    say_end_text(reporter, driven)?;
     reporter.say(b"\n")
 }
 
 /// Writes the line of a disk that was made.
 pub(crate) fn write_formatted<W: Write>(writer: &mut W, size: u64) -> Result<(), JobFault>
-    ensures { SaysLine (W.contents writer.old) (W.contents writer.new) (formatted_line size) result }
+    ensures { SaysLine (W.contents writer.old) (W.contents writer.new) (formatted_line size)
+        result }
 {
     let mut buffer = itoa::Buffer::new();
     write_line(writer, b"formatted ", buffer.format(size).as_bytes())
@@ -317,7 +396,8 @@ pub(crate) fn report<E: Reporter>(
     outcome: Result<Option<Driven>, JobFault>,
 ) -> u8
     ensures status { result ≡ status_of outcome }
-    ensures reports { ReportsOutcome (request_of job.now) outcome (E.said reporter.old) (E.said reporter.new) (E.has_failed reporter.new) }
+    ensures reports { ReportsOutcome (request_of job.now) outcome (E.said reporter.old)
+        (E.said reporter.new) (E.has_failed reporter.new) }
 {
     match outcome {
         Ok(None) => 0,
@@ -335,7 +415,8 @@ pub(crate) fn report<E: Reporter>(
 /// Says why words name no job: the text on usage as it is, or that memory was refused. The answer is the program's status.
 pub(crate) fn report_words<E: Reporter>(reporter: &mut E, fault: WordsFault) -> u8
     ensures status { result ≡ status_of_words fault }
-    ensures said { E.has_failed reporter.new ≡ false → Appends (E.said reporter.old) (E.said reporter.new) (words_report_of fault) }
+    ensures said { E.has_failed reporter.new ≡ false
+        → Appends (E.said reporter.old) (E.said reporter.new) (words_report_of fault) }
 {
     match fault {
         WordsFault::Usage(text) => {

@@ -33,12 +33,18 @@ pub fn run_disk<D: Disk + Drop, R: Read, W: Write>(
     reader: &mut R,
     writer: &mut W,
 ) -> Result<D, Unserved<D>>
-    ensures served { IfOk result (λ end. D.is_honest end → ¬ HasFailed (D.failures disk) (D.failures end) → (r : Recovered) → Recovers (D.content disk) (Ok r) → Served (W.contents writer.old) (W.contents writer.new) (R.remaining reader.old) (R.remaining reader.new) (opened r)) }
-    ensures unrecovered { IfErr result (λ u. D.is_honest u.disk → AgreesOnJob u.fault (Recovers (D.content disk))) }
+    ensures served { IfOk result (λ end.
+        D.is_honest end → ¬ HasFailed (D.failures disk) (D.failures end)
+        → (r : Recovered) → Recovers (D.content disk) (Ok r)
+        → Served (W.contents writer.old) (W.contents writer.new)
+        (R.remaining reader.old) (R.remaining reader.new) (opened r)) }
+    ensures unrecovered { IfErr result
+        (λ u. D.is_honest u.disk → AgreesOnJob u.fault (Recovers (D.content disk))) }
     ensures unread { IfErr result (λ u. IsBeforeService u.fault → reader.new ≡ reader.old) }
     ensures unwritten { IfErr result (λ u. IsBeforeService u.fault → writer.new ≡ writer.old) }
     ensures disk { IsSameDisk D.Disk disk (disk_of result) }
-    ensures runs { RunsDisk D.Disk disk (W.contents writer.old) (W.contents writer.new) (R.remaining reader.old) (R.remaining reader.new) result }
+    ensures runs { RunsDisk D.Disk disk (W.contents writer.old) (W.contents writer.new)
+        (R.remaining reader.old) (R.remaining reader.new) result }
 {
     let mut session = match recover(alloc, disk) {
         Ok(session) => session,

@@ -33,7 +33,8 @@ pub fn inspect_disk<D: Disk, W: Write>(
     job: &InspectJob<'_>,
     writer: &mut W,
 ) -> Result<(), JobFault>
-    ensures shows { Shows D.Disk disk.old disk.new (shown_of job.now.at job.now.code) (W.contents writer.old) (W.contents writer.new) result }
+    ensures shows { Shows D.Disk disk.old disk.new (shown_of job.now.at job.now.code)
+        (W.contents writer.old) (W.contents writer.new) result }
     ensures unwritten { IfErr result (λ e. e ≢ Inspect Writing → writer.new ≡ writer.old) }
 {
     match inspect_with(alloc, disk, shown(job), writer) {

@@ -72,7 +72,8 @@ pub(crate) fn other_sizes<D: Disk>(
     sizes: &Sizes,
 ) -> Result<Option<Config>, DeviceFault>
     ensures read { IsOnlyRead D.Disk disk.old disk.new (is_err result) }
-    ensures exact { IfOk result (λ found. D.is_honest disk.new → found ≡ other_sizes sizes.now (D.content disk.old)) }
+    ensures exact { IfOk result
+        (λ found. D.is_honest disk.new → found ≡ other_sizes sizes.now (D.content disk.old)) }
 {
     if disk.size() < SUPERBLOCK_BYTES {
         return Ok(None);

@@ -46,41 +46,52 @@ pub trait Sources<'a, I: Read, D: Disk>: Closes<D> {
     /// A reader of an image, at its beginning.
     fn open_image(&mut self, path: &'a str) -> Result<I, FileFault>
         ensures bytes { IfOk result (λ reader. I.remaining reader ≡ image_bytes self.old path.now) }
-        ensures asked { Self.openings self.new ≡ with_image (Self.openings self.old) (opening_of path.now result) }
-        ensures same { GivesSame (image_bytes self.old) (image_bytes self.new) (fills self.old) (fills self.new) (outputs self.old) (outputs self.new) };
+        ensures asked { Self.openings self.new
+            ≡ with_image (Self.openings self.old) (opening_of path.now result) }
+        ensures same { GivesSame (image_bytes self.old) (image_bytes self.new) (fills self.old)
+            (fills self.new) (outputs self.old) (outputs self.new) };
 
     /// The disk of a path.
     fn open_disk(&mut self, path: &'a str) -> Result<D, FileFault>
         ensures disk { IfOk result (opens self.old path.now) }
-        ensures asked { Self.openings self.new ≡ with_disk (Self.openings self.old) (opening_of path.now result) }
-        ensures same { GivesSame (image_bytes self.old) (image_bytes self.new) (fills self.old) (fills self.new) (outputs self.old) (outputs self.new) };
+        ensures asked { Self.openings self.new
+            ≡ with_disk (Self.openings self.old) (opening_of path.now result) }
+        ensures same { GivesSame (image_bytes self.old) (image_bytes self.new) (fills self.old)
+            (fills self.new) (outputs self.old) (outputs self.new) };
 
     /// The disk of a path, to be looked at only.
     fn look_at_disk(&mut self, path: &'a str) -> Result<D, FileFault>
         ensures disk { IfOk result (opens self.old path.now) }
-        ensures asked { Self.openings self.new ≡ with_disk (Self.openings self.old) (opening_of path.now result) };
+        ensures asked { Self.openings self.new
+            ≡ with_disk (Self.openings self.old) (opening_of path.now result) };
 
     /// The disk of a path, which is made where it is missing. What is shorter than `size` bytes is filled with zero bytes up
     /// to them first; nothing else is changed.
     fn open_filled(&mut self, path: &'a str, size: usize) -> Result<D, FileFault>
         ensures disk { IfOk result (fills self.old path.now size) }
-        ensures asked { Self.openings self.new ≡ with_disk (Self.openings self.old) (opening_of path.now result) };
+        ensures asked { Self.openings self.new
+            ≡ with_disk (Self.openings self.old) (opening_of path.now result) };
 
     /// A disk in the making, for a path that nothing has: a file beside it, made anew with so many zero bytes. What lies there
     /// and is no disk in the making is refused.
     fn open_making(&mut self, alloc: Global, path: &'a str, size: usize) -> Result<D, FileFault>
         ensures disk { IfOk result (fills self.old path.now size) }
-        ensures asked { Self.openings self.new ≡ with_making (Self.openings self.old) (opening_of path.now result) }
-        ensures same { GivesSame (image_bytes self.old) (image_bytes self.new) (fills self.old) (fills self.new) (outputs self.old) (outputs self.new) };
+        ensures asked { Self.openings self.new
+            ≡ with_making (Self.openings self.old) (opening_of path.now result) }
+        ensures same { GivesSame (image_bytes self.old) (image_bytes self.new) (fills self.old)
+            (fills self.new) (outputs self.old) (outputs self.new) };
 
     /// Gives a disk in the making the path that it was made for, if nothing has that yet. Its name is durable then.
     fn name_disk(&mut self, path: &'a str, disk: &D) -> Result<(), FileFault>
-        ensures named { Self.openings self.new ≡ with_named (Self.openings self.old) (opening_of path.now result) disk.now }
-        ensures same { GivesSame (image_bytes self.old) (image_bytes self.new) (fills self.old) (fills self.new) (outputs self.old) (outputs self.new) };
+        ensures named { Self.openings self.new
+            ≡ with_named (Self.openings self.old) (opening_of path.now result) disk.now }
+        ensures same { GivesSame (image_bytes self.old) (image_bytes self.new) (fills self.old)
+            (fills self.new) (outputs self.old) (outputs self.new) };
 
     /// The output of a path, which is made where it is missing, and never shortened: what it holds stays, and bytes behind
     /// its end are zeros. It comes with the length of its file.
     fn open_output(&mut self, path: &'a str) -> Result<OpenedOutput<D>, FileFault>
         ensures output { IfOk result (outputs self.old path.now) }
-        ensures asked { Self.openings self.new ≡ with_output (Self.openings self.old) (opening_of path.now result) };
+        ensures asked { Self.openings self.new
+            ≡ with_output (Self.openings self.old) (opening_of path.now result) };
 }

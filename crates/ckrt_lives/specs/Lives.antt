@@ -44,7 +44,8 @@ pub record IsUnbroken (t : Transcript) (accepted : List Event) (report : LifeRep
   pub left : IsLeftBy t.view report.left.items
 
 -- A life that recovered from an image: `before` is the list of the last life before it that recovered, and `events` its own.
-pub record HasRecovered (p : Program) (life : Life) (report : LifeReport) (image : List ℕ) (before events : List Event) : Type 0 where
+pub record HasRecovered (p : Program) (life : Life) (report : LifeReport) (image : List ℕ)
+    (before events : List Event) : Type 0 where
   -- what the image recovers to
   pub opening : Recovered
   pub recovers : Recovers image (Ok opening)
@@ -61,7 +62,8 @@ pub record HasRecovered (p : Program) (life : Life) (report : LifeReport) (image
   pub at_least : opening.count ≤ report.acknowledged
   pub acknowledged : report.acknowledged ≤ length events
   -- it released the output of its acknowledged events from that offset on
-  pub released : report.released.items ≡ drop report.released_from (output_after p (acknowledged_in report events))
+  pub released : report.released.items
+      ≡ drop report.released_from (output_after p (acknowledged_in report events))
   pub within : report.released_from ≤ length (output_after p (acknowledged_in report events))
   -- what it left recovers to a beginning of its list that has its acknowledged events, with output held from an offset on that it reached
   pub many : ℕ
@@ -69,10 +71,12 @@ pub record HasRecovered (p : Program) (life : Life) (report : LifeReport) (image
   pub no_more : many ≤ length events
   pub left : RecoversTo p (take many events) (released_to report) report.left.items
   -- a life without a stop does all that its commands say
-  pub unbroken : life.stop_at ≡ 0 → IsUnbroken (commands_of_life life.commands.items (opened opening)) accepted report
+  pub unbroken : life.stop_at ≡ 0
+      → IsUnbroken (commands_of_life life.commands.items (opened opening)) accepted report
 
 -- A life that was stopped before it recovered: it leaves the image as it was, and the list of the life before stays.
-pub record HasNotRecovered (report : LifeReport) (image : List ℕ) (before events : List Event) : Type 0 where
+pub record HasNotRecovered (report : LifeReport) (image : List ℕ) (before events : List Event)
+    : Type 0 where
   pub recovered : report.recovered ≡ None
   pub acknowledged : report.acknowledged ≡ 0
   pub released_from : report.released_from ≡ 0
@@ -88,8 +92,11 @@ IsLife p life report image before events =
 -- ONE AFTER ANOTHER
 
 -- each life begins with the image that the one before left, and each has its list
-abbrev pub AreLivesFrom : Program → List ℕ → List Event → List Life → List LifeReport → List (List Event) → Type 0
-AreLivesFrom p image before (life ∷ lives) (report ∷ reports) (events ∷ lists) = IsLife p life report image before events × AreLivesFrom p report.left.items events lives reports lists
+abbrev pub AreLivesFrom : Program → List ℕ → List Event → List Life → List LifeReport
+    → List (List Event) → Type 0
+AreLivesFrom p image before (life ∷ lives) (report ∷ reports) (events ∷ lists) =
+    IsLife p life report image before events
+    × AreLivesFrom p report.left.items events lives reports lists
 AreLivesFrom p image before [] [] [] = Unit {0}
 AreLivesFrom p image before (life ∷ lives) [] lists = ⊥
 AreLivesFrom p image before [] (report ∷ reports) lists = ⊥
@@ -99,8 +106,10 @@ AreLivesFrom p image before [] [] (events ∷ lists) = ⊥
 -- what a life acknowledged every later one that recovered has, as the beginning of its list
 abbrev pub AreDurable : List LifeReport → List (List Event) → Type 0
 AreDurable reports lists = (i j n : ℕ) (earlier later : LifeReport) (few more : List Event) → i < j
-    → slice_get reports i ≡ Some earlier → slice_get lists i ≡ Some few → slice_get reports j ≡ Some later → slice_get lists j ≡ Some more
-    → later.recovered ≡ Some n → (earlier.acknowledged ≤ n) × IsBeginningOf (acknowledged_in earlier few) more
+    → slice_get reports i ≡ Some earlier → slice_get lists i ≡ Some few
+    → slice_get reports j ≡ Some later → slice_get lists j ≡ Some more
+    → later.recovered ≡ Some n
+    → (earlier.acknowledged ≤ n) × IsBeginningOf (acknowledged_in earlier few) more
 
 -- lives over a disk that was formatted with the program
 pub record AreLives (p : Program) (lives : List Life) (reports : List LifeReport) : Type 0 where
@@ -120,4 +129,6 @@ pub record Releases (report : LifeReport) (offset byte : ℕ) : Type 0 where
 
 -- lives that released a byte at one offset released the same byte
 abbrev pub AreSameBytes : List LifeReport → Type 0
-AreSameBytes reports = (i j offset x y : ℕ) (a b : LifeReport) → slice_get reports i ≡ Some a → slice_get reports j ≡ Some b → Releases a offset x → Releases b offset y → x ≡ y
+AreSameBytes reports =
+    (i j offset x y : ℕ) (a b : LifeReport) → slice_get reports i ≡ Some a
+    → slice_get reports j ≡ Some b → Releases a offset x → Releases b offset y → x ≡ y

@@ -28,15 +28,18 @@ IsConfirmed s = s.progress.confirmed ≡ s.released
 
 -- A part of a life from old to new, in which the bytes that were taken grew from a to b: of the events of a transcript the session took a
 -- beginning, and all of them unless it has failed.
-pub record Does {D : Type 0} {g : Ghosts D} (t : Transcript) (a b : List ℕ) (old new : Session D g) : Type 0 where
+pub record Does {D : Type 0} {g : Ghosts D} (t : Transcript) (a b : List ℕ) (old new : Session D g)
+    : Type 0 where
   pub accepted : List Event
   pub part : IsBeginningOf accepted t.events
   -- it goes on from the events that it represents
-  pub goes_on : g.is_honest new.disk → (p : Program) (events : List Event) (from : ℕ) → HasTaken p events from a old → HasTaken p (events ++ accepted) from b new
+  pub goes_on : g.is_honest new.disk → (p : Program) (events : List Event) (from : ℕ)
+      → HasTaken p events from a old → HasTaken p (events ++ accepted) from b new
   pub acknowledged : old.acknowledged ≤ new.acknowledged
   pub run : new.failed ≡ false → IsWhole t accepted (view_of new)
   -- once failed it stays as it is
-  pub after_failure : old.failed ≡ true → (accepted ≡ []) × (new.failed ≡ true) × (new.disk ≡ old.disk)
+  pub after_failure : old.failed ≡ true
+      → (accepted ≡ []) × (new.failed ≡ true) × (new.disk ≡ old.disk)
   pub well : new.failed ≡ false → old.failed ≡ false
   -- it fails by its disk alone
   pub failed : new.failed ≡ true → (old.failed ≡ true) ⊎ (0 < g.failures new.disk)
@@ -44,7 +47,8 @@ pub record Does {D : Type 0} {g : Ghosts D} (t : Transcript) (a b : List ℕ) (o
   pub named_stop : g.named_stop new.disk ≡ g.named_stop old.disk
 
 -- A whole life: what it reports of its session, from the beginning to the end.
-pub record HasRun {D : Type 0} {g : Ghosts D} (commands : List Command) (report : LifeReport) (old new : Session D g) : Type 0 where
+pub record HasRun {D : Type 0} {g : Ghosts D} (commands : List Command) (report : LifeReport)
+    (old new : Session D g) : Type 0 where
   pub recovered : report.recovered ≡ Some old.acknowledged
   pub released_from : report.released_from ≡ old.progress.confirmed
   pub acknowledged : report.acknowledged ≡ new.acknowledged
@@ -52,7 +56,8 @@ pub record HasRun {D : Type 0} {g : Ghosts D} (commands : List Command) (report 
   pub does : Does (commands_of_life commands (view_of old)) [] report.released.items old new
   pub confirmed : IsConfirmed new
   -- what is left recovers to what the session represents, or to its acknowledged part
-  pub recovers : g.is_honest new.disk → (p : Program) (events : List Event) → Represents p events new → RecoversToEither p events new (g.content new.disk)
+  pub recovers : g.is_honest new.disk → (p : Program) (events : List Event)
+      → Represents p events new → RecoversToEither p events new (g.content new.disk)
   -- without a stop the disk never fails
   pub never : g.named_stop new.disk ≡ Some 0 → ¬ (0 < g.failures new.disk)
 
@@ -75,7 +80,8 @@ last_list before [] = before
 last_list before (events ∷ lists) = last_list events lists
 
 -- the lives so far
-pub record LivedSoFar (p : Program) (formatted : List ℕ) (lives : List Life) (reports : List LifeReport) (image : List ℕ) : Type 0 where
+pub record LivedSoFar (p : Program) (formatted : List ℕ) (lives : List Life)
+    (reports : List LifeReport) (image : List ℕ) : Type 0 where
   pub lists : List (List Event)
   pub each : AreLivesFrom p formatted [] lives reports lists
   pub left : image ≡ last_left formatted reports

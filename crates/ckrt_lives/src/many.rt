@@ -24,7 +24,8 @@ use std::alloc::{AllocError, Global};
 /// A disk of zeros that has as many bytes as the configuration needs.
 fn blank_disk(alloc: Global, config: &Config) -> Result<MemoryDisk, AllocError>
     requires { is_valid config.now ≡ true }
-    ensures content { IfOk result (λ disk. ⟦<MemoryDisk as Disk>⟧.content disk ≡ replicate (size_needed config.now) 0) }
+    ensures content { IfOk result
+        (λ disk. ⟦<MemoryDisk as Disk>⟧.content disk ≡ replicate (size_needed config.now) 0) }
 {
     let bytes = vec![in alloc; 0; config.size_needed()]?;
     MemoryDisk::new(alloc, bytes)
@@ -54,7 +55,9 @@ fn run(
     commands: &[Command],
 ) -> Result<LifeReport, AllocError>
     requires { All IsInRangeCommand commands.now }
-    ensures { IfOk result (λ report. (end : Session StoppingDisk ⟦<StoppingDisk as Disk>⟧) × HasRun commands.now report session end) }
+    ensures { IfOk result (λ report.
+        (end : Session StoppingDisk ⟦<StoppingDisk as Disk>⟧)
+        × HasRun commands.now report session end) }
 {
     let recovered = session.acknowledged();
     let released_from = session.confirmed();
@@ -91,7 +94,9 @@ fn stopped(alloc: Global, disk: StoppingDisk) -> LifeReport
 fn live(alloc: Global, image: Vec<u8>, life: &Life) -> Result<LifeReport, AllocError>
     requires in_range { IsInRangeLife life.now }
     requires recovers { (r : Recovered) × Recovers image.items (Ok r) }
-    ensures { IfOk result (λ report. (p : Program) (before : List Event) → Stands p image.items before → (events : List Event) × IsLife p life.now report image.items before events) }
+    ensures { IfOk result (λ report.
+        (p : Program) (before : List Event) → Stands p image.items before
+        → (events : List Event) × IsLife p life.now report image.items before events) }
 {
     let fill = life.fill.to_vec(alloc)?;
     let disk = StoppingDisk::new(alloc, image, life.stop_at, fill)?;
@@ -114,7 +119,10 @@ fn live_on(
 ) -> Result<Vec<u8>, AllocError>
     requires in_range { IsInRangeLife life.now }
     requires recovers { (r : Recovered) × Recovers image.items (Ok r) }
-    ensures { IfOk result (λ left. (p : Program) (formatted : List ℕ) (before : List Life) → LivedSoFar p formatted before reports.old.items image.items → LivedSoFar p formatted (before ++ life.now ∷ []) reports.new.items left.items) }
+    ensures { IfOk result (λ left.
+        (p : Program) (formatted : List ℕ) (before : List Life)
+        → LivedSoFar p formatted before reports.old.items image.items
+        → LivedSoFar p formatted (before ++ life.now ∷ []) reports.new.items left.items) }
 {
     let report = live(alloc, image, life)?;
     let left = report.left.to_vec(alloc)?;
@@ -135,7 +143,8 @@ pub fn lives(
     list: &[Life],
 ) -> Result<Vec<LifeReport>, LivesFault>
     requires { All IsInRangeLife list.now }
-    ensures lived { IfOk result (λ reports. AreLives (formatted_program config image.now) list.now reports.items) }
+    ensures lived { IfOk result
+        (λ reports. AreLives (formatted_program config image.now) list.now reports.items) }
     ensures same_bytes { IfOk result (λ reports. AreSameBytes reports.items) }
     ensures format { IsErrOf result LivesFault.Format ↔ (is_refused config image.now ≡ true) }
 {

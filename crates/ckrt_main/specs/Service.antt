@@ -56,7 +56,8 @@ IsStartFault Format = Unit {0}
 
 -- A service, whatever it answered and whatever failed: what was written is a beginning of the transcript of the bytes read, of a fate that is
 -- none exactly where the session hasn't failed, and no more was acknowledged, confirmed or accepted than the session says then.
-pub record Processes {D : Type 0} {g : Ghosts D} (a b r s : Option (List ℕ)) (old new : Session D g) : Type 0 where
+pub record Processes {D : Type 0} {g : Ghosts D} (a b r s : Option (List ℕ)) (old new : Session D g)
+    : Type 0 where
   -- what was read, from r to s
   pub read : List ℕ
   pub consumed : Consumes r s read
@@ -77,13 +78,18 @@ pub record Processes {D : Type 0} {g : Ghosts D} (a b r s : Option (List ℕ)) (
   pub part : IsBeginningOf accepted (accepted_events (view_of old) read)
   pub accepts : Accepts accepted old new
   -- each line of output is the plain fold's
-  pub outs : g.is_honest new.disk → (p : Program) (events : List Event) → Represents p events old → AreOutput p (events ++ accepted) new (shows.replies ++ shows.broken)
+  pub outs : g.is_honest new.disk → (p : Program) (events : List Event) → Represents p events old
+      → AreOutput p (events ++ accepted) new (shows.replies ++ shows.broken)
   -- every image that a stop left since the start
-  pub since_start : g.is_honest new.disk → (p : Program) (events : List Event) → Represents p events old
-      → (image : List ℕ) → g.left_since new.disk (g.moment old.disk) image → RecoversBetween p (acknowledged_of events old) (events ++ accepted) new.progress.confirmed image
+  pub since_start : g.is_honest new.disk → (p : Program) (events : List Event)
+      → Represents p events old
+      → (image : List ℕ) → g.left_since new.disk (g.moment old.disk) image
+      → RecoversBetween p (acknowledged_of events old) (events ++ accepted) new.progress.confirmed
+      image
 
 -- a service that came to its end: what was read ends the input or has a line quit, and the transcript is all that was written, accepted and left
-pub record Completes {D : Type 0} {g : Ghosts D} (a b r s : Option (List ℕ)) (old new : Session D g) : Type 0 where
+pub record Completes {D : Type 0} {g : Ghosts D} (a b r s : Option (List ℕ)) (old new : Session D g)
+    : Type 0 where
   pub read : List ℕ
   pub consumed : Consumes r s read
   pub fate : Fate
@@ -107,23 +113,31 @@ is_open [] = true
 is_open (b ∷ bs) = not (b == 10) && is_open bs
 
 -- what is left of a transcript: nothing after quit, and else what the lines get that begin with `line`
-abbrev pub rest_of : {D : Type 0} {g : Ghosts D} → Bool → Session D g → List ℕ → List ℕ → Fate → Transcript
+abbrev pub rest_of : {D : Type 0} {g : Ghosts D} → Bool → Session D g → List ℕ → List ℕ → Fate
+    → Transcript
 rest_of quit s line more f = unless_quit quit f (view_of s) (respond_all (lines (line ++ more)))
 
 -- what these bytes get behind a line's first bytes, and then others
-abbrev pub lines_behind : {D : Type 0} {g : Ghosts D} → Session D g → (line bytes : List ℕ) → List ℕ → Fate → Transcript
+abbrev pub lines_behind : {D : Type 0} {g : Ghosts D} → Session D g → (line bytes : List ℕ) → List ℕ
+    → Fate → Transcript
 lines_behind s line bytes more f = respond_all (lines (line ++ (bytes ++ more))) f (view_of s)
 
 -- bytes of input, behind a line's first bytes, whatever bytes follow
-abbrev pub Processed : {D : Type 0} {g : Ghosts D} → Option (List ℕ) → Option (List ℕ) → (line bytes : List ℕ) → Session D g → Session D g → List ℕ → Bool → Type 0
-Processed a b line bytes old new rest quit = Responds (lines_behind old line bytes) (rest_of quit new rest) (Writes a b) old new
+abbrev pub Processed : {D : Type 0} {g : Ghosts D} → Option (List ℕ) → Option (List ℕ)
+    → (line bytes : List ℕ) → Session D g → Session D g → List ℕ → Bool → Type 0
+Processed a b line bytes old new rest quit =
+    Responds (lines_behind old line bytes) (rest_of quit new rest) (Writes a b) old new
 
 -- and where a fault of the writer ended the service
-abbrev pub ProcessedPart : {D : Type 0} {g : Ghosts D} → Option (List ℕ) → Option (List ℕ) → (line bytes : List ℕ) → Session D g → Session D g → Type 0
-ProcessedPart a b line bytes old new = Interrupted (lines_behind old line bytes) (Writes a b) old new
+abbrev pub ProcessedPart : {D : Type 0} {g : Ghosts D} → Option (List ℕ) → Option (List ℕ)
+    → (line bytes : List ℕ) → Session D g → Session D g → Type 0
+ProcessedPart a b line bytes old new =
+    Interrupted (lines_behind old line bytes) (Writes a b) old new
 
 -- all bytes so far
-pub record ProcessedSoFar {D : Type 0} {g : Ghosts D} (a b r s : Option (List ℕ)) (old new : Session D g) (rest : List ℕ) (quit : Bool) : Type 0 where
+pub record ProcessedSoFar {D : Type 0} {g : Ghosts D} (a b r s : Option (List ℕ))
+    (old new : Session D g) (rest : List ℕ) (quit : Bool) : Type 0 where
   pub read : List ℕ
   pub consumed : Consumes r s read
-  pub responds : Responds (λ more f. transcript f (view_of old) (read ++ more)) (rest_of quit new rest) (Writes a b) old new
+  pub responds : Responds (λ more f. transcript f (view_of old) (read ++ more))
+      (rest_of quit new rest) (Writes a b) old new

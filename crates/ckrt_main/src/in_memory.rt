@@ -25,7 +25,8 @@ impl From<AllocError> for ServeFault {
 /// A disk of zeros that has as many bytes as the configuration needs.
 fn blank_disk(alloc: Global, config: &Config) -> Result<MemoryDisk, AllocError>
     requires { is_valid config.now ≡ true }
-    ensures content { IfOk result (λ disk. ⟦<MemoryDisk as Disk>⟧.content disk ≡ replicate (size_needed config.now) 0) }
+    ensures content { IfOk result
+        (λ disk. ⟦<MemoryDisk as Disk>⟧.content disk ≡ replicate (size_needed config.now) 0) }
 {
     let bytes = vec![in alloc; 0; config.size_needed()]?;
     MemoryDisk::new(alloc, bytes)
@@ -33,7 +34,8 @@ fn blank_disk(alloc: Global, config: &Config) -> Result<MemoryDisk, AllocError>
 
 /// Formats a blank disk of the size that the configuration needs.
 fn formatted_disk(alloc: Global, image: &[u8], config: Config) -> Result<MemoryDisk, ServeFault>
-    ensures formatted { IfOk result (λ disk. IsFormatted config image.now (⟦<MemoryDisk as Disk>⟧.content disk)) }
+    ensures formatted { IfOk result
+        (λ disk. IsFormatted config image.now (⟦<MemoryDisk as Disk>⟧.content disk)) }
     ensures refused { IsErrOf result ServeFault.Format ↔ (is_refused config image.now ≡ true) }
     ensures errors { IfErr result (λ e. (e ≡ ServeFault.Format) ⊎ (e ≡ ServeFault.OutOfMemory)) }
 {
@@ -80,8 +82,10 @@ pub fn serve_image<R: Read, W: Write>(
     reader: &mut R,
     writer: &mut W,
 ) -> Result<(), ServeFault>
-    ensures ok { OnOk result (Served (W.contents writer.old) (W.contents writer.new) (R.remaining reader.old) (R.remaining reader.new) (fresh config image.now)) }
-    ensures processed { ServedPart (W.contents writer.old) (W.contents writer.new) (R.remaining reader.old) (R.remaining reader.new) (fresh config image.now) }
+    ensures ok { OnOk result (Served (W.contents writer.old) (W.contents writer.new)
+        (R.remaining reader.old) (R.remaining reader.new) (fresh config image.now)) }
+    ensures processed { ServedPart (W.contents writer.old) (W.contents writer.new)
+        (R.remaining reader.old) (R.remaining reader.new) (fresh config image.now) }
     ensures format { IsErrOf result ServeFault.Format ↔ (is_refused config image.now ≡ true) }
     ensures unread { IfErr result (λ e. IsStartFault e → reader.new ≡ reader.old) }
     ensures unwritten { IfErr result (λ e. IsStartFault e → writer.new ≡ writer.old) }

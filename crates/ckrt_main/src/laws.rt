@@ -16,8 +16,12 @@ use ckrt_recovery::Session;
 /// The accepted events of a transcript are all that happened to the machine: the session goes on from
 /// their plain fold, and has counted each of them once.
 pub fn transcript_folds_events()
-    ensures state { (fate : Fate) (v : View) (bytes : List ℕ) → (transcript fate v bytes).view.recovered.state ≡ (fold (transcript fate v bytes).events v.recovered.state).state }
-    ensures count { (fate : Fate) (v : View) (bytes : List ℕ) → (transcript fate v bytes).view.recovered.count ≡ v.recovered.count + length (transcript fate v bytes).events }
+    ensures state { (fate : Fate) (v : View) (bytes : List ℕ)
+        → (transcript fate v bytes).view.recovered.state
+        ≡ (fold (transcript fate v bytes).events v.recovered.state).state }
+    ensures count { (fate : Fate) (v : View) (bytes : List ℕ)
+        → (transcript fate v bytes).view.recovered.count
+        ≡ v.recovered.count + length (transcript fate v bytes).events }
 {}
 
 /// What a reader of the lines is told is durable: for each `ack K` that a service wrote, and whatever it answered, every image
@@ -33,16 +37,21 @@ pub fn told_is_durable<D: Disk>(before: &Session<D>, after: &Session<D>, later: 
 /// answers, the same events, and again sessions that are alike, as far as neither refuses by its own room, batch, held output,
 /// counts, disk or journal's version.
 pub fn answers_alike()
-    ensures { (f g : Fate) (v w : View) (bytes : List ℕ) → IsAlike v w → NoneIsLocal (transcript f v bytes).replies → NoneIsLocal (transcript g w bytes).replies → AnswerAlike (transcript f v bytes) (transcript g w bytes) }
+    ensures { (f g : Fate) (v w : View) (bytes : List ℕ) → IsAlike v w
+        → NoneIsLocal (transcript f v bytes).replies → NoneIsLocal (transcript g w bytes).replies
+        → AnswerAlike (transcript f v bytes) (transcript g w bytes) }
 {}
 
 /// Sessions that represent the same events have the same state and count, over whatever disks and after whatever stops.
 pub fn same_events_are_alike<D: Disk, E: Disk>(one: &Session<D>, other: &Session<E>)
-    ensures { (p : Program) (events : List Event) → Represents p events one.now → Represents p events other.now → IsAlike (view_of one.now) (view_of other.now) }
+    ensures { (p : Program) (events : List Event) → Represents p events one.now
+        → Represents p events other.now → IsAlike (view_of one.now) (view_of other.now) }
 {}
 
 /// The output of more events goes on behind that of the first, so that lines of both have the same byte at the same offset.
 pub fn output_goes_on()
-    ensures output { (events more : List Event) (s : State) → output_of (events ++ more) s ≡ output_of events s ++ output_of more (fold events s).state }
+    ensures output { (events more : List Event) (s : State)
+        → output_of (events ++ more) s
+        ≡ output_of events s ++ output_of more (fold events s).state }
     ensures lines { (out more : List ℕ) → LinesAgree out more }
 {}

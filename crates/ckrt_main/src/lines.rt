@@ -13,8 +13,10 @@ use std::io::Write;
 /// Writes output as lines of at most 64 bytes, from its offset on.
 fn write_lines<W: Write>(writer: &mut W, offset: u64, bytes: &[u8]) -> Result<(), WriteFault>
     requires { offset + length bytes.now < 2 ^ 64 }
-    ensures ok { OnOk result (Writes (W.contents writer.old) (W.contents writer.new) (outputs offset bytes.now) []) }
-    ensures broken { OnErr result (TellsPart line_of (W.contents writer.old) (W.contents writer.new) (outputs offset bytes.now)) }
+    ensures ok { OnOk result
+        (Writes (W.contents writer.old) (W.contents writer.new) (outputs offset bytes.now) []) }
+    ensures broken { OnErr result (TellsPart line_of (W.contents writer.old) (W.contents writer.new)
+        (outputs offset bytes.now)) }
 {
     let mut at = offset;
     let mut rest = bytes;

@@ -31,7 +31,8 @@ type Line = ArrayVec<u8, 162>;
 /// `Write` where the writer failed, or took nothing.
 pub fn write_reply<W: Write>(writer: &mut W, text: &[u8]) -> Result<(), ServeFault>
     ensures ok { OnOk result (Appends (W.contents writer.old) (W.contents writer.new) text.now) }
-    ensures part { OnErr result (AppendsPart (W.contents writer.old) (W.contents writer.new) text.now) }
+    ensures part { OnErr result
+        (AppendsPart (W.contents writer.old) (W.contents writer.new) text.now) }
     ensures err { IfErr result (λ e. e ≡ ServeFault.Write) }
 {
     write_text(writer, text)?;
@@ -45,8 +46,13 @@ fn answer<W: Write, D: Disk>(
     command: Result<Command, LineFault>,
 ) -> Result<bool, ServeFault>
     requires { IfOk command IsInRangeCommand }
-    ensures ok { IfOk result (λ quit. Answers (transcript.respond command) quit (Writes (W.contents writer.old) (W.contents writer.new)) session.old session.new) }
-    ensures broken { OnErr result (BreaksOff (transcript.respond command) (Writes (W.contents writer.old) (W.contents writer.new)) session.old session.new) }
+    ensures ok { IfOk result (λ quit.
+        Answers (transcript.respond command) quit
+        (Writes (W.contents writer.old) (W.contents writer.new)) session.old
+        session.new) }
+    ensures broken { OnErr result (BreaksOff (transcript.respond command)
+        (Writes (W.contents writer.old) (W.contents writer.new)) session.old
+        session.new) }
     ensures err { IfErr result (λ e. e ≡ ServeFault.Write) }
 {
     match command {
@@ -64,8 +70,13 @@ fn respond<W: Write, D: Disk>(
     writer: &mut W,
     line: &[u8],
 ) -> Result<bool, ServeFault>
-    ensures ok { IfOk result (λ quit. Answers (transcript.respond (command_of line.now)) quit (Writes (W.contents writer.old) (W.contents writer.new)) session.old session.new) }
-    ensures broken { OnErr result (BreaksOff (transcript.respond (command_of line.now)) (Writes (W.contents writer.old) (W.contents writer.new)) session.old session.new) }
+    ensures ok { IfOk result (λ quit.
+        Answers (transcript.respond (command_of line.now)) quit
+        (Writes (W.contents writer.old) (W.contents writer.new)) session.old
+        session.new) }
+    ensures broken { OnErr result (BreaksOff (transcript.respond (command_of line.now))
+        (Writes (W.contents writer.old) (W.contents writer.new)) session.old
+        session.new) }
     ensures err { IfErr result (λ e. e ≡ ServeFault.Write) }
 {
     answer(session, writer, parse_command(line))
@@ -90,8 +101,11 @@ fn take_byte<W: Write, D: Disk>(
 ) -> Result<bool, ServeFault>
     requires { is_open line.old.items ≡ true }
     ensures open { OnOk result (is_open line.new.items ≡ true) }
-    ensures processed { IfOk result (λ quit. Processed (W.contents writer.old) (W.contents writer.new) line.old.items (byte ∷ []) session.old session.new line.new.items quit) }
-    ensures broken { OnErr result (ProcessedPart (W.contents writer.old) (W.contents writer.new) line.old.items (byte ∷ []) session.old session.new) }
+    ensures processed { IfOk result (λ quit.
+        Processed (W.contents writer.old) (W.contents writer.new) line.old.items
+        (byte ∷ []) session.old session.new line.new.items quit) }
+    ensures broken { OnErr result (ProcessedPart (W.contents writer.old) (W.contents writer.new)
+        line.old.items (byte ∷ []) session.old session.new) }
     ensures err { IfErr result (λ e. e ≡ ServeFault.Write) }
 {
     if byte == b'\n' {
@@ -115,8 +129,11 @@ fn take_bytes<W: Write, D: Disk>(
 ) -> Result<bool, ServeFault>
     requires { is_open line.old.items ≡ true }
     ensures open { OnOk result (is_open line.new.items ≡ true) }
-    ensures processed { IfOk result (λ quit. Processed (W.contents writer.old) (W.contents writer.new) line.old.items bytes.now session.old session.new line.new.items quit) }
-    ensures broken { OnErr result (ProcessedPart (W.contents writer.old) (W.contents writer.new) line.old.items bytes.now session.old session.new) }
+    ensures processed { IfOk result (λ quit.
+        Processed (W.contents writer.old) (W.contents writer.new) line.old.items
+        bytes.now session.old session.new line.new.items quit) }
+    ensures broken { OnErr result (ProcessedPart (W.contents writer.old) (W.contents writer.new)
+        line.old.items bytes.now session.old session.new) }
     ensures err { IfErr result (λ e. e ≡ ServeFault.Write) }
 {
     for byte in bytes {
@@ -134,8 +151,13 @@ fn take_end<W: Write, D: Disk>(
     line: &[u8],
 ) -> Result<(), ServeFault>
     requires { is_open line.now ≡ true }
-    ensures ok { OnOk result ((quit : Bool) × Answers (transcript.respond_all (lines line.now)) quit (Writes (W.contents writer.old) (W.contents writer.new)) session.old session.new) }
-    ensures broken { OnErr result (BreaksOff (transcript.respond_all (lines line.now)) (Writes (W.contents writer.old) (W.contents writer.new)) session.old session.new) }
+    ensures ok { OnOk result ((quit : Bool)
+        × Answers (transcript.respond_all (lines line.now)) quit
+        (Writes (W.contents writer.old) (W.contents writer.new)) session.old
+        session.new) }
+    ensures broken { OnErr result (BreaksOff (transcript.respond_all (lines line.now))
+        (Writes (W.contents writer.old) (W.contents writer.new)) session.old
+        session.new) }
     ensures err { IfErr result (λ e. e ≡ ServeFault.Write) }
 {
     if line.is_empty() {
@@ -151,8 +173,10 @@ fn serve_lines<R: Read, W: Write, D: Disk>(
     writer: &mut W,
     session: &mut Session<D>,
 ) -> Result<(), ServeFault>
-    ensures whole { OnOk result (Completes (W.contents writer.old) (W.contents writer.new) (R.remaining reader.old) (R.remaining reader.new) session.old session.new) }
-    ensures processed { Processes (W.contents writer.old) (W.contents writer.new) (R.remaining reader.old) (R.remaining reader.new) session.old session.new }
+    ensures whole { OnOk result (Completes (W.contents writer.old) (W.contents writer.new)
+        (R.remaining reader.old) (R.remaining reader.new) session.old session.new) }
+    ensures processed { Processes (W.contents writer.old) (W.contents writer.new)
+        (R.remaining reader.old) (R.remaining reader.new) session.old session.new }
     ensures err { IfErr result (λ e. (e ≡ ServeFault.Read) ⊎ (e ≡ ServeFault.Write)) }
 {
     release::<Lines, W, D>(session, writer)?;
@@ -189,10 +213,19 @@ pub fn serve<R: Read, W: Write, D: Disk>(
     writer: &mut W,
     session: &mut Session<D>,
 ) -> Result<(), ServeFault>
-    ensures ok { OnOk result (session.old.failed ≡ false → ¬ HasFailed (D.failures session.old.disk) (D.failures session.new.disk) → (served : Served (W.contents writer.old) (W.contents writer.new) (R.remaining reader.old) (R.remaining reader.new) (view_of session.old)) × (view_of session.new ≡ view_after (view_of session.old) served.read)) }
-    ensures whole { OnOk result (Completes (W.contents writer.old) (W.contents writer.new) (R.remaining reader.old) (R.remaining reader.new) session.old session.new) }
-    ensures processed { Processes (W.contents writer.old) (W.contents writer.new) (R.remaining reader.old) (R.remaining reader.new) session.old session.new }
-    ensures failed { session.new.failed ≡ true → (session.old.failed ≡ true) ⊎ HasFailed (D.failures session.old.disk) (D.failures session.new.disk) }
+    ensures ok { OnOk result (session.old.failed ≡ false
+        → ¬ HasFailed (D.failures session.old.disk) (D.failures session.new.disk)
+        → (served : Served (W.contents writer.old) (W.contents writer.new)
+        (R.remaining reader.old) (R.remaining reader.new)
+        (view_of session.old))
+        × (view_of session.new ≡ view_after (view_of session.old) served.read)) }
+    ensures whole { OnOk result (Completes (W.contents writer.old) (W.contents writer.new)
+        (R.remaining reader.old) (R.remaining reader.new) session.old session.new) }
+    ensures processed { Processes (W.contents writer.old) (W.contents writer.new)
+        (R.remaining reader.old) (R.remaining reader.new) session.old session.new }
+    ensures failed { session.new.failed ≡ true
+        → (session.old.failed ≡ true)
+        ⊎ HasFailed (D.failures session.old.disk) (D.failures session.new.disk) }
     ensures honest { D.is_honest session.new.disk → D.is_honest session.old.disk }
     ensures size { D.size session.new.disk ≡ D.size session.old.disk }
     ensures named_stop { D.named_stop session.new.disk ≡ D.named_stop session.old.disk }

@@ -35,7 +35,8 @@ is_value (Some m) n = m == n
 
 -- whether two bytes are the digits of the checksum of a payload
 abbrev pub is_checksum : ℕ → ℕ → List ℕ → Bool
-is_checksum high low payload = is_value (two_digits (hex_digit_value high) (hex_digit_value low)) (checksum payload)
+is_checksum high low payload =
+    is_value (two_digits (hex_digit_value high) (hex_digit_value low)) (checksum payload)
 
 -- a byte within a payload: its end, or one more where there is room
 abbrev pub with_byte : ℕ → Line → Line

@@ -26,7 +26,8 @@ hear (b ∷ bytes) line = onto (arrival_of b line) (hear bytes (line_after b lin
 
 -- a packet with this payload, and nothing else
 abbrev pub packet_heard : List ℕ → Heard
-packet_heard payload = record { line = record { stage = Outside; payload = payload }; arrivals = Packet ∷ [] }
+packet_heard payload =
+    record { line = record { stage = Outside; payload = payload }; arrivals = Packet ∷ [] }
 
 -- a byte that neither begins a frame nor ends a payload
 abbrev pub is_plain_byte : ℕ → Bool

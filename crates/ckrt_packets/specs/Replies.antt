@@ -57,7 +57,8 @@ part_sign size from count = if nat_le size (from + part_count count) then codes 
 
 -- the part of a text that begins at an offset, with so many bytes at most
 abbrev pub part_text : List ℕ → ℕ → ℕ → List ℕ
-part_text text from count = part_sign (length text) from count ++ escaped (take (part_count count) (drop from text))
+part_text text from count =
+    part_sign (length text) from count ++ escaped (take (part_count count) (drop from text))
 
 -- what the stub has: a packet's limit of 4,096 bytes, no acknowledgements where gdb wants none, a description of the target, and both
 -- ways of going back

@@ -265,4 +265,5 @@ named name args = or_else (command_of name) (or_else (query_of name) (with_argum
 
 -- what a payload asks
 abbrev pub request_of : List ℕ → Request
-request_of packet = unwrap_or (named (before is_separator packet) (behind is_separator packet)) Malformed
+request_of packet =
+    unwrap_or (named (before is_separator packet) (behind is_separator packet)) Malformed

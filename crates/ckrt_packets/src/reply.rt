@@ -81,7 +81,8 @@ pub fn write_reply(reply: &Reply<'_>, out: &mut Payload) -> Result<(), Full>
 // A sign, and bytes in two digits each.
 fn push_hex_behind(out: &mut Payload, sign: &[u8], bytes: &[u8]) -> Result<(), Full>
     ensures done { OnOk result (out.new.items ≡ out.old.items ++ (sign.now ++ hex_text bytes.now)) }
-    ensures fits { array_vec_len out.old + length (sign.now ++ hex_text bytes.now) ≤ 4096 → IsOk result }
+    ensures fits { array_vec_len out.old + length (sign.now ++ hex_text bytes.now) ≤ 4096
+        → IsOk result }
 {
     push(out, sign)?;
     push_hex(out, bytes)
@@ -90,7 +91,8 @@ fn push_hex_behind(out: &mut Payload, sign: &[u8], bytes: &[u8]) -> Result<(), F
 // A sign, and a byte in two digits.
 fn push_byte_behind(out: &mut Payload, sign: &[u8], byte: u8) -> Result<(), Full>
     ensures done { OnOk result (out.new.items ≡ out.old.items ++ (sign.now ++ byte_text byte)) }
-    ensures fits { array_vec_len out.old + length (sign.now ++ byte_text byte) ≤ 4096 → IsOk result }
+    ensures fits { array_vec_len out.old + length (sign.now ++ byte_text byte) ≤ 4096
+        → IsOk result }
 {
     push(out, sign)?;
     push_digits(out, byte)
@@ -123,7 +125,8 @@ fn push_ids(out: &mut Payload, ids: &[u8]) -> Result<(), Full>
 // A word, an address, and the sign that ends them.
 fn push_address(out: &mut Payload, word: &[u8], address: u32) -> Result<(), Full>
     ensures done { OnOk result (out.new.items ≡ out.old.items ++ address_text word.now address) }
-    ensures fits { array_vec_len out.old + length (address_text word.now address) ≤ 4096 → IsOk result }
+    ensures fits { array_vec_len out.old + length (address_text word.now address) ≤ 4096
+        → IsOk result }
 {
     push(out, word)?;
     push_number(out, address)?;
@@ -146,7 +149,8 @@ fn push_cause(out: &mut Payload, cause: Cause) -> Result<(), Full>
 
 fn push_stop(out: &mut Payload, signal: u8, cause: Cause, thread: u8) -> Result<(), Full>
     ensures done { OnOk result (out.new.items ≡ out.old.items ++ stop_text signal cause thread) }
-    ensures fits { array_vec_len out.old + length (stop_text signal cause thread) ≤ 4096 → IsOk result }
+    ensures fits { array_vec_len out.old + length (stop_text signal cause thread) ≤ 4096
+        → IsOk result }
 {
     push_byte_behind(out, b"T", signal)?;
     push_why(out, cause, thread)
@@ -162,7 +166,8 @@ fn push_why(out: &mut Payload, cause: Cause, thread: u8) -> Result<(), Full>
 
 fn push_part(out: &mut Payload, text: &[u8], from: u32, count: u32) -> Result<(), Full>
     ensures done { OnOk result (out.new.items ≡ out.old.items ++ part_text text.now from count) }
-    ensures fits { array_vec_len out.old + length (part_text text.now from count) ≤ 4096 → IsOk result }
+    ensures fits { array_vec_len out.old + length (part_text text.now from count) ≤ 4096
+        → IsOk result }
 {
     let count = count.min(PART_LIMIT) as usize;
     let rest = text.get(from as usize..).unwrap_or_default();
@@ -176,7 +181,8 @@ fn push_part(out: &mut Payload, text: &[u8], from: u32, count: u32) -> Result<()
 // A sign, and bytes, the special ones escaped.
 fn push_part_behind(out: &mut Payload, sign: &[u8], part: &[u8]) -> Result<(), Full>
     ensures done { OnOk result (out.new.items ≡ out.old.items ++ (sign.now ++ escaped part.now)) }
-    ensures fits { array_vec_len out.old + length (sign.now ++ escaped part.now) ≤ 4096 → IsOk result }
+    ensures fits { array_vec_len out.old + length (sign.now ++ escaped part.now) ≤ 4096
+        → IsOk result }
 {
     push(out, sign)?;
     push_escaped(out, part)

@@ -35,7 +35,9 @@ RecoversFed p events limit image = RecoversTo p events limit image × IsFed even
 
 -- the offset of such an image is what its events took
 abbrev pub TellsOffset : Type 0
-TellsOffset = (events : List Event) (image : List ℕ) → IsFed events image → offset_of image ≡ Ok (Some (taken_by events))
+TellsOffset =
+    (events : List Event) (image : List ℕ) → IsFed events image
+    → offset_of image ≡ Ok (Some (taken_by events))
 
 -- a freshly formatted disk keeps that no event took any
 abbrev pub BeginsFed : Type 0
@@ -43,4 +45,6 @@ BeginsFed = (p : Program) (image : List ℕ) → RecoversToStart p image → IsF
 
 -- it is so of one list only, as far as an image recovers to it: of two that begin each other
 abbrev pub FedAsRecovered : Type 0
-FedAsRecovered = (p : Program) (xs ys : List Event) (limit : ℕ) (image : List ℕ) → RecoversTo p xs limit image → IsFed ys image → length xs ≡ length ys
+FedAsRecovered =
+    (p : Program) (xs ys : List Event) (limit : ℕ) (image : List ℕ) → RecoversTo p xs limit image
+    → IsFed ys image → length xs ≡ length ys

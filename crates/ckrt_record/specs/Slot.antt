@@ -26,7 +26,9 @@ TAKEN_LIMIT = 2 ^ 62
 
 -- a slot as bytes
 abbrev pub slot_bytes : Slot → List ℕ
-slot_bytes s = little_bytes 8 MAGIC ++ little_bytes 8 VERSION ++ little_bytes 8 s.generation ++ little_bytes 8 s.count ++ little_bytes 8 s.taken
+slot_bytes s =
+    little_bytes 8 MAGIC ++ little_bytes 8 VERSION ++ little_bytes 8 s.generation
+    ++ little_bytes 8 s.count ++ little_bytes 8 s.taken
 
 -- the slot that 40 bytes are, if they are one: those that no drive wrote have another magic number
 abbrev pub slot_in : List ℕ → Option Slot

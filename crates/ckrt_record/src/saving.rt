@@ -16,7 +16,8 @@ pub const RECORD_BYTES: usize = 4_096;
 /// Saves a session in the disk's other area, as its checkpoint does, and before that the number of bytes of input that its events
 /// took, in the slot of that area. A stop at any moment leaves an area in use with its slot.
 pub fn checkpoint<D: Disk>(session: &mut Session<D>, taken: u64) -> Result<u64, CommitFault>
-    requires room { size_needed session.old.progress.config + RECORD_BYTES ≤ D.size session.old.disk }
+    requires room { size_needed session.old.progress.config + RECORD_BYTES
+        ≤ D.size session.old.disk }
     requires taken { taken < TAKEN_LIMIT }
     ensures any_moment { RecoversAtAnyMoment session.old session.new }
     ensures saves { SavesInput taken session.old session.new }

@@ -9,7 +9,8 @@ IsBeginningOf {A} front all = (rest : List A) × (all ≡ front ++ rest)
 
 -- The image recovers to events that begin with the acknowledged ones and are a beginning of all, with output held from an offset on that is
 -- at most the limit.
-pub record RecoversBetween (p : Program) (acknowledged all : List Event) (limit : ℕ) (image : List ℕ) : Type 0 where
+pub record RecoversBetween (p : Program) (acknowledged all : List Event) (limit : ℕ)
+    (image : List ℕ) : Type 0 where
   pub events : List Event
   pub begins : IsBeginningOf acknowledged events
   pub within : IsBeginningOf events all
@@ -17,4 +18,5 @@ pub record RecoversBetween (p : Program) (acknowledged all : List Event) (limit 
 
 -- an offset and bytes: these bytes stand at that offset of the output
 abbrev pub StandsIn : List ℕ → ℕ × List ℕ → Type 0
-StandsIn out line = (front : List ℕ) × (rest : List ℕ) × (length front ≡ line.0) × (out ≡ front ++ (line.1 ++ rest))
+StandsIn out line =
+    (front : List ℕ) × (rest : List ℕ) × (length front ≡ line.0) × (out ≡ front ++ (line.1 ++ rest))

@@ -11,7 +11,8 @@ use Rattle.ckrt_recovery.specs.declared.session.Session.{Session}
 
 -- These events fit the session: those behind the acknowledged ones are pending, the machine is the plain fold over them, and whatever a stop
 -- leaves of the disk recovers to the acknowledged ones; where the session has failed, to these or to all. (Represents has two facts more.)
-pub record Fits {D : Type 0} {g : Ghosts D} (p : Program) (events : List Event) (s : Session D g) : Type 0 where
+pub record Fits {D : Type 0} {g : Ghosts D} (p : Program) (events : List Event) (s : Session D g)
+    : Type 0 where
   pub config : s.progress.config ≡ p.config
   pub acknowledged : s.acknowledged ≤ length events
   pub count : s.progress.count ≡ length events
@@ -20,8 +21,10 @@ pub record Fits {D : Type 0} {g : Ghosts D} (p : Program) (events : List Event) 
   pub state : s.progress.machine.state ≡ state_after p events
   pub released : s.released ≡ length (output_after p (acknowledged_of events s))
   pub held : s.progress.held.items ≡ drop s.progress.confirmed (output_after p events)
-  pub images : s.failed ≡ false → (image : List ℕ) → IsImage (g.content s.disk) (g.pending s.disk) image → RecoversLike p events s image
-  pub failed : s.failed ≡ true → (image : List ℕ) → IsImage (g.content s.disk) (g.pending s.disk) image → RecoversToEither p events s image
+  pub images : s.failed ≡ false → (image : List ℕ)
+      → IsImage (g.content s.disk) (g.pending s.disk) image → RecoversLike p events s image
+  pub failed : s.failed ≡ true → (image : List ℕ)
+      → IsImage (g.content s.disk) (g.pending s.disk) image → RecoversToEither p events s image
 
 -- A public call of a session: the event that it accepted, if it is a submit that did, and the session after it.
 pub record Call {D : Type 0} (g : Ghosts D) : Type 0 where
@@ -54,7 +57,8 @@ accepted_by (c ∷ calls) = event_and c.event (accepted_by calls)
 
 -- The public calls make the session, with these events: recovery gave a session for a disk that recovers to the first of them, and calls of
 -- that session accepted the others.
-pub record IsReached {D : Type 0} {g : Ghosts D} (p : Program) (events : List Event) (s : Session D g) : Type 0 where
+pub record IsReached {D : Type 0} {g : Ghosts D} (p : Program) (events : List Event)
+    (s : Session D g) : Type 0 where
   -- the disk that was recovered, to these events
   pub disk : D
   pub recovered : List Event
@@ -72,7 +76,8 @@ pub record IsReached {D : Type 0} {g : Ghosts D} (p : Program) (events : List Ev
 
 -- whatever events the public calls make the session with, it represents them
 abbrev pub RepresentsItsCalls : {D : Type 0} {g : Ghosts D} → Session D g → Type 0
-RepresentsItsCalls s = (p : Program) (events : List Event) → IsReached p events s → Represents p events s
+RepresentsItsCalls s =
+    (p : Program) (events : List Event) → IsReached p events s → Represents p events s
 
 -- and they fit it
 abbrev pub FitsItsCalls : {D : Type 0} {g : Ghosts D} → Session D g → Type 0

@@ -87,4 +87,7 @@ bare_app = record {
 }
 
 abbrev pub ckrt_app : App
-ckrt_app = with_subcommand (with_subcommand (with_subcommand (with_subcommand bare_app format_app.top) run_app.top) inspect_app.top) drive_app.top
+ckrt_app =
+    with_subcommand (with_subcommand
+    (with_subcommand (with_subcommand bare_app format_app.top) run_app.top)
+    inspect_app.top) drive_app.top

@@ -52,7 +52,14 @@ pub data Request : Type 0 where
   drive : Driving → Request
 
 abbrev pub formatting_of : FormatJob → Formatting
-formatting_of f = record { disk = f.disk.now; image = f.image.now; pages = f.pages; harts = f.harts; journal = f.journal }
+formatting_of f =
+    record {
+      disk = f.disk.now;
+      image = f.image.now;
+      pages = f.pages;
+      harts = f.harts;
+      journal = f.journal;
+    }
 
 abbrev pub inspection_of : InspectJob → Inspection
 inspection_of i = record { disk = i.disk.now; at = i.at; code = i.code }

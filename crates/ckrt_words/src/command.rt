@@ -88,7 +88,9 @@ fn format_command<'a>(alloc: Global) -> Result<Command<'a>, AllocError>
 
 /// What `format` is given.
 fn format_arguments<'a>(alloc: Global) -> Result<Vec<Arg<'a>>, AllocError>
-    ensures app { IfOk result (λ arguments. fold with_rule (new_app (codes "format")) (map rule_of arguments.items) ≡ format_app) }
+    ensures app { IfOk result (λ arguments.
+        fold with_rule (new_app (codes "format")) (map rule_of arguments.items)
+        ≡ format_app) }
     ensures local { IfOk result (λ arguments. list_all (λ a. not a.global) arguments.items ≡ true) }
 {
     let arguments = vec![in alloc;
@@ -135,7 +137,9 @@ fn inspect_command<'a>(alloc: Global) -> Result<Command<'a>, AllocError>
 
 /// What `inspect` is given.
 fn inspect_arguments<'a>(alloc: Global) -> Result<Vec<Arg<'a>>, AllocError>
-    ensures app { IfOk result (λ arguments. fold with_rule (new_app (codes "inspect")) (map rule_of arguments.items) ≡ inspect_app) }
+    ensures app { IfOk result (λ arguments.
+        fold with_rule (new_app (codes "inspect")) (map rule_of arguments.items)
+        ≡ inspect_app) }
     ensures local { IfOk result (λ arguments. list_all (λ a. not a.global) arguments.items ≡ true) }
 {
     let arguments = vec![in alloc;
@@ -166,7 +170,9 @@ fn drive_command<'a>(alloc: Global) -> Result<Command<'a>, AllocError>
 
 /// What `drive` is given.
 fn drive_arguments<'a>(alloc: Global) -> Result<Vec<Arg<'a>>, AllocError>
-    ensures app { IfOk result (λ arguments. fold with_rule (new_app (codes "drive")) (map rule_of arguments.items) ≡ drive_app) }
+    ensures app { IfOk result (λ arguments.
+        fold with_rule (new_app (codes "drive")) (map rule_of arguments.items)
+        ≡ drive_app) }
     ensures local { IfOk result (λ arguments. list_all (λ a. not a.global) arguments.items ≡ true) }
 {
     let arguments = vec![in alloc;
@@ -255,7 +261,9 @@ fn with_command<'a>(
     made: Result<Command<'a>, AllocError>,
 ) -> Result<Command<'a>, AllocError>
     requires local { IfOk made (λ c. (out-Command c).has_globals ≡ false) }
-    ensures { IfOk result (λ r. (app : App) → IfOk made.entry (λ c. app_of c ≡ app) → app_of r ≡ with_subcommand (app_of whole.entry) app.top) }
+    ensures { IfOk result (λ r.
+        (app : App) → IfOk made.entry (λ c. app_of c ≡ app)
+        → app_of r ≡ with_subcommand (app_of whole.entry) app.top) }
 {
     match made {
         Ok(command) => whole.subcommand(command),
@@ -268,7 +276,9 @@ fn with_command<'a>(
 
 /// The program with the commands that begin a disk and serve it, `format` and `run`.
 fn command_on_disks<'a>(alloc: Global) -> Result<Command<'a>, AllocError>
-    ensures { IfOk result (λ c. app_of c ≡ with_subcommand (with_subcommand bare_app format_app.top) run_app.top) }
+    ensures { IfOk result (λ c.
+        app_of c
+        ≡ with_subcommand (with_subcommand bare_app format_app.top) run_app.top) }
 {
     let bare = bare_command(alloc)?;
     let with_format = with_command(bare, format_command(alloc))?;

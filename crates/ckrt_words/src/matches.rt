@@ -92,35 +92,40 @@ fn formatting<'a>(matches: &ArgMatches<'a>) -> Option<FormatJob<'a>>
 
 /// The command that was named, and its own matches.
 fn command_named<'m, 'a>(matches: &'m ArgMatches<'a>) -> Option<(&'a str, &'m ArgMatches<'a>)>
-    ensures { option_map (λ p. (p.0.now, rows_of (found_of p.1.now))) result ≡ subcommand_rows_of matches.now }
+    ensures { option_map (λ p. (p.0.now, rows_of (found_of p.1.now))) result
+        ≡ subcommand_rows_of matches.now }
 {
     matches.subcommand()
 }
 
 /// The job of `format` with these matches.
 fn format_named<'a>(given: &ArgMatches<'a>) -> Option<Job<'a>>
-    ensures { option_map request_of result ≡ option_map format (formatting_in (rows_of (found_of given.now))) }
+    ensures { option_map request_of result
+        ≡ option_map format (formatting_in (rows_of (found_of given.now))) }
 {
     Some(Job::Format(formatting(given)?))
 }
 
 /// The job of `run` with these matches.
 fn run_named<'a>(given: &ArgMatches<'a>) -> Option<Job<'a>>
-    ensures { option_map request_of result ≡ option_map run (first_of (codes "disk") (rows_of (found_of given.now))) }
+    ensures { option_map request_of result
+        ≡ option_map run (first_of (codes "disk") (rows_of (found_of given.now))) }
 {
     Some(Job::Run(text(given, "disk")?))
 }
 
 /// The job of `inspect` with these matches.
 fn inspect_named<'a>(given: &ArgMatches<'a>) -> Option<Job<'a>>
-    ensures { option_map request_of result ≡ option_map inspect (inspection_in (rows_of (found_of given.now))) }
+    ensures { option_map request_of result
+        ≡ option_map inspect (inspection_in (rows_of (found_of given.now))) }
 {
     Some(Job::Inspect(inspection(given)?))
 }
 
 /// The job of `drive` with these matches.
 fn drive_named<'a>(given: &ArgMatches<'a>) -> Option<Job<'a>>
-    ensures { option_map request_of result ≡ option_map drive (driving_in (rows_of (found_of given.now))) }
+    ensures { option_map request_of result
+        ≡ option_map drive (driving_in (rows_of (found_of given.now))) }
 {
     Some(Job::Drive(driving(given)?))
 }
@@ -146,7 +151,8 @@ fn job_of<'a>(name: &str, given: &ArgMatches<'a>) -> Option<Job<'a>>
 
 /// The job that the matches name.
 pub(crate) fn job_named<'a>(matches: &ArgMatches<'a>) -> Option<Job<'a>>
-    ensures { option_map request_of result ≡ option_and_then request_in (subcommand_rows_of matches.now) }
+    ensures { option_map request_of result
+        ≡ option_and_then request_in (subcommand_rows_of matches.now) }
 {
     let (name, given) = command_named(matches)?;
     job_of(name, given)

@@ -12,9 +12,14 @@ use std::alloc::{AllocError, Global};
 
 /// What the words match in the program's command line.
 fn matches_of<'a>(alloc: Global, words: &'a [&'a str]) -> Result<ArgMatches<'a>, Error>
-    ensures entered { IfOk result (λ m. subcommand_rows_of m ≡ subcommand_of ckrt_app (map (λ s. s.now) words.entry.now)) }
-    ensures faultless { IfOk result (λ _. fault_of ckrt_app (map (λ s. s.now) words.entry.now) ≡ []) }
-    ensures taken { IfErr result (λ e. takes ckrt_app (map (λ s. s.now) words.entry.now) ≡ true → kind_of e ≡ ErrorKind.OutOfMemory) }
+    ensures entered { IfOk result (λ m.
+        subcommand_rows_of m
+        ≡ subcommand_of ckrt_app (map (λ s. s.now) words.entry.now)) }
+    ensures faultless { IfOk result
+        (λ _. fault_of ckrt_app (map (λ s. s.now) words.entry.now) ≡ []) }
+    ensures taken { IfErr result (λ e.
+        takes ckrt_app (map (λ s. s.now) words.entry.now) ≡ true
+        → kind_of e ≡ ErrorKind.OutOfMemory) }
 {
     let command = command::command(alloc)?;
     command.try_get_matches_from(words)
@@ -77,9 +82,15 @@ fn no_job(alloc: Global) -> WordsFault {
 
 /// The job that `clap` makes of the words, if they name one.
 fn job_of<'a>(alloc: Global, words: &'a [&'a str]) -> Result<Option<Job<'a>>, WordsFault>
-    ensures named { IfOk result (λ job. option_map request_of job ≡ option_and_then request_in (subcommand_of ckrt_app (map (λ s. s.now) words.entry.now))) }
-    ensures faultless { IfOk result (λ _. fault_of ckrt_app (map (λ s. s.now) words.entry.now) ≡ []) }
-    ensures taken { IfErr result (λ e. takes ckrt_app (map (λ s. s.now) words.entry.now) ≡ true → e ≡ WordsFault.OutOfMemory) }
+    ensures named { IfOk result (λ job.
+        option_map request_of job
+        ≡ option_and_then request_in
+        (subcommand_of ckrt_app (map (λ s. s.now) words.entry.now))) }
+    ensures faultless { IfOk result
+        (λ _. fault_of ckrt_app (map (λ s. s.now) words.entry.now) ≡ []) }
+    ensures taken { IfErr result (λ e.
+        takes ckrt_app (map (λ s. s.now) words.entry.now) ≡ true
+        → e ≡ WordsFault.OutOfMemory) }
 {
     match matches_of(alloc, words) {
         Ok(matches) => Ok(matches::job_named(&matches)),
@@ -106,10 +117,15 @@ fn is_version(words: &[&str]) -> bool
 /// [`WordsFault::Usage`] where the words aren't a command's, or ask for help, with the text for the user;
 /// [`WordsFault::OutOfMemory`] where memory is refused.
 pub fn read_words<'a>(alloc: Global, words: &'a [&'a str]) -> Result<Job<'a>, WordsFault>
-    ensures job { IfOk result (λ j. request_of_words (map (λ s. s.now) words.entry.now) ≡ Some (request_of j)) }
-    ensures faultless { IfOk result (λ _. words.entry.now ≢ [] → asks_version (map (λ s. s.now) words.entry.now) ≡ false → fault_of ckrt_app (map (λ s. s.now) words.entry.now) ≡ []) }
+    ensures job { IfOk result
+        (λ j. request_of_words (map (λ s. s.now) words.entry.now) ≡ Some (request_of j)) }
+    ensures faultless { IfOk result (λ _.
+        words.entry.now ≢ [] → asks_version (map (λ s. s.now) words.entry.now) ≡ false
+        → fault_of ckrt_app (map (λ s. s.now) words.entry.now) ≡ []) }
     ensures stored { IfErr result (λ _. words.entry.now ≢ []) }
-    ensures taken { IfErr result (λ e. takes ckrt_app (map (λ s. s.now) words.entry.now) ≡ true → e ≡ WordsFault.OutOfMemory) }
+    ensures taken { IfErr result (λ e.
+        takes ckrt_app (map (λ s. s.now) words.entry.now) ≡ true
+        → e ≡ WordsFault.OutOfMemory) }
 {
     if words.is_empty() {
         return Ok(Job::Stored);
