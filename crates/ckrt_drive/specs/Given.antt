@@ -20,7 +20,7 @@ record_of file taken = option_map (λ bytes. taken) file
 -- A step is supplied from a file of which the program has taken so many bytes.
 pub record IsSupplied (file : Option (List ℕ)) (taken : ℕ) (s : Tables) (w : Supply) : Type 0 where
   pub given : w.given ≡ given_in file taken s
-  pub recorded : w.record ≡ record_of file taken
+  pub recorded : w.recorded ≡ record_of file taken
 
 -- the count of failed reads grew where that is the fault, and where there is none it didn't
 abbrev pub CountsRead : {X : Type 0} → (before now : ℕ) → Result X DriveFault → Type 0

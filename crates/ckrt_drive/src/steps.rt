@@ -31,8 +31,8 @@ use ckrt_recovery::{CommitFault, Session, SubmitFault};
 const LONGEST_BATCH: usize = 4_099;
 
 /// Acknowledges the events so far by a commit.
-fn commit<D: Disk>(session: &mut Session<D>, record: Option<u64>) -> Result<Progress, DriveFault>
-    ensures { Advances (aim (Ok Committed) record) session.old session.new result }
+fn commit<D: Disk>(session: &mut Session<D>, recorded: Option<u64>) -> Result<Progress, DriveFault>
+    ensures { Advances (aim (Ok Committed) recorded) session.old session.new result }
 {
     match session.commit() {
         Ok(_) => Ok(Progress::Committed),
@@ -73,11 +73,11 @@ fn checkpoint_recorded<D: Disk>(
 /// Acknowledges the events so far by a checkpoint.
 fn checkpoint<D: Disk>(
     session: &mut Session<D>,
-    record: Option<u64>,
+    recorded: Option<u64>,
 ) -> Result<Progress, DriveFault>
-    ensures { Advances (aim (Ok Checkpointed) record) session.old session.new result }
+    ensures { Advances (aim (Ok Checkpointed) recorded) session.old session.new result }
 {
-    match record {
+    match recorded {
         Some(taken) => checkpoint_recorded(session, taken),
         None => checkpoint_alone(session),
     }
@@ -130,15 +130,15 @@ fn is_commit_due<D: Disk>(session: &Session<D>, options: &Options) -> bool
 /// Makes room: by a commit where something is pending, and else by a checkpoint.
 fn make_room<D: Disk>(
     session: &mut Session<D>,
-    record: Option<u64>,
+    recorded: Option<u64>,
 ) -> Result<Progress, DriveFault>
-    ensures { Advances (aim (Ok (make_room (view_of session.old))) record)
+    ensures { Advances (aim (Ok (make_room (view_of session.old))) recorded)
         session.old session.new result }
 {
     if is_settled(session) {
-        checkpoint(session, record)
+        checkpoint(session, recorded)
     } else {
-        commit(session, record)
+        commit(session, recorded)
     }
 }
 
@@ -158,17 +158,17 @@ fn is_shortage(fault: SubmitFault) -> bool
 fn offer<D: Disk>(
     session: &mut Session<D>,
     event: Event,
-    record: Option<u64>,
+    recorded: Option<u64>,
 ) -> Result<Progress, DriveFault>
     requires { IsInRange event }
     ensures { Advances (aim (offered (view_of session.old) event
-        (refusal_of (view_of session.old) event)) record) session.old session.new result }
+        (refusal_of (view_of session.old) event)) recorded) session.old session.new result }
 {
     match session.submit(&event) {
         Ok((_, answer)) => Ok(Progress::Submitted(event, answer)),
         Err(fault) => {
             if is_shortage(fault) {
-                return make_room(session, record);
+                return make_room(session, recorded);
             }
             Err(DriveFault::Refused(fault))
         }
@@ -191,9 +191,9 @@ fn put_out<O: Disk>(output: &mut O, at: usize, bytes: &[u8]) -> Result<(), Devic
 fn release<D: Disk, O: Disk>(
     session: &mut Session<D>,
     output: &mut O,
-    record: Option<u64>,
+    recorded: Option<u64>,
 ) -> Result<Progress, DriveFault>
-    ensures { Steps O.Disk (aim (Ok Released) record) session.old session.new
+    ensures { Steps O.Disk (aim (Ok Released) recorded) session.old session.new
         output.old output.new result }
 {
     let released = session.released();
@@ -215,16 +215,16 @@ fn do_next<D: Disk>(
     supply: Supply,
 ) -> Result<Progress, DriveFault>
     requires { IfSome supply.given IsInRange }
-    ensures { Advances (aim (plan_next options.now supply (view_of session.old)) supply.record)
+    ensures { Advances (aim (plan_next options.now supply (view_of session.old)) supply.recorded)
         session.old session.new result }
 {
     let behind = session.count();
-    let record = supply.record;
+    let recorded = supply.recorded;
     match next_for(session.machine(), options, supply, behind) {
-        Next::Submit(event) => offer(session, event, record),
+        Next::Submit(event) => offer(session, event, recorded),
         Next::End(ending) => {
             if !is_settled(session) {
-                return commit(session, record);
+                return commit(session, recorded);
             }
             Ok(Progress::Stopped(ending))
         }
@@ -238,14 +238,14 @@ fn go_on<D: Disk>(
     supply: Supply,
 ) -> Result<Progress, DriveFault>
     requires { IfSome supply.given IsInRange }
-    ensures { Advances (aim (plan_onward options.now supply (view_of session.old)) supply.record)
+    ensures { Advances (aim (plan_onward options.now supply (view_of session.old)) supply.recorded)
         session.old session.new result }
 {
     if is_checkpoint_due(session) {
-        return checkpoint(session, supply.record);
+        return checkpoint(session, supply.recorded);
     }
     if is_commit_due(session, options) {
-        return commit(session, supply.record);
+        return commit(session, supply.recorded);
     }
     do_next(session, options, supply)
 }
@@ -262,7 +262,7 @@ fn advance<D: Disk, O: Disk>(
         output.old output.new result }
 {
     if session.confirmed() < session.released() {
-        return release(session, output, supply.record);
+        return release(session, output, supply.recorded);
     }
     go_on(session, options, supply)
 }
@@ -308,11 +308,11 @@ fn supply_from<D: Disk, F: Feed>(
     ensures failures { CountsFault (F.failures feed.old) (F.failures feed.new) result }
 {
     let given = feed.next(session.machine().tables(), taken)?;
-    let record = feed.is_recorded().then_some(taken);
+    let recorded = feed.is_recorded().then_some(taken);
     Ok(Supply {
         left,
         given,
-        record,
+        recorded,
     })
 }
 

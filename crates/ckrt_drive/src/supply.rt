@@ -9,5 +9,5 @@ pub struct Supply {
     /// What the program is given of its input, if it is given something.
     pub given: Option<Event>,
     /// How many bytes of its input the program has taken, where checkpoints record it.
-    pub record: Option<u64>,
+    pub recorded: Option<u64>,
 }
