@@ -1,6 +1,6 @@
 -- What a program is given, and that the schedule gives nothing.
 use Rattle.std.proofs.Common.{◌≡◌, ◌⊎◌, inl, inr, ⊎_elim, ℕ, ◌+◌, ◌-◌, ◌^◌, ◌<◌, ◌≤◌, min, nat_le, Bool, true, false, if◌then◌else◌, Option, Some, None, List, [], ◌∷◌, ◌++◌, length, take, drop, Result, Ok, Err, refl, sym, ◌∙◌, ap, subst, arith, append-nil}
-use Rattle.std.specs.Prelude.{◌==◌, ◌*◌, IfSome, is_some, option_map, unwrap_or}
+use Rattle.std.specs.Prelude.{◌==◌, ◌*◌, IfSome, is_none, is_some, option_map, unwrap_or}
 use Rattle.std.specs.Bool.{then_some}
 use Rattle.std.proofs.lemmas.Bool.{cases_lt}
 use Rattle.std.proofs.lemmas.Bool.Decides.{nat_tests}
@@ -72,21 +72,21 @@ by_schedule None turn s = by_idle (earliest_deadline s.threads.waits) s
 
 -- an event that is next is given, or no input
 next_or_given : (b : Bool) (given : Option Event) (n : Next) (e : Event) → IsNoInputNext n → (if b then or_scheduled given n else End Ended) ≡ Submit e → (given ≡ Some e) ⊎ IsNoInput e
-next_or_given true (Some f) n e no is = inl (let same : f ≡ e = cc in ap (λ (x : Event). Some x) same)
-next_or_given true None n e no is = inr (subst IsNoInputNext is no)
-next_or_given false given n e no is = absurd (cc)
+next_or_given true (Some f) n e never is = inl (let same : f ≡ e = cc in ap (λ (x : Event). Some x) same)
+next_or_given true None n e never is = inr (subst IsNoInputNext is never)
+next_or_given false given n e never is = absurd (cc)
 
 pub given_or_none : (u : Schedule) (given : Option Event) (n : ℕ) (s : Tables) (e : Event) → next_event u given n s ≡ Submit e → (given ≡ Some e) ⊎ IsNoInput e
 given_or_none u given n s e is = next_or_given (is_running s.status) given (next_by (next_sought Busy 0 s) (turn_at u n s) s) e (by_schedule (next_sought Busy 0 s) (turn_at u n s) s) is
 
--- without a file nothing is given
+-- such an event takes nothing
 pub none_taken : (e : Event) → IsNoInput e → taken_by (e ∷ []) ≡ 0
-none_taken (Place h t) no = refl
-none_taken (Run h n) no = refl
-none_taken (Input bytes) no = absurd no
-none_taken Eof no = absurd no
-none_taken (Tick k) no = refl
-none_taken (RunLong h n) no = refl
+none_taken (Place h t) never = refl
+none_taken (Run h n) never = refl
+none_taken (Input bytes) never = absurd never
+none_taken Eof never = absurd never
+none_taken (Tick k) never = refl
+none_taken (RunLong h n) never = refl
 
 -- the count of what is taken stays within 64 bits
 few_given : (given : Option Event) (taken : ℕ) (e : Event) → IfSome given (λ e. taken + taken_by (e ∷ []) < 2 ^ 64) → given ≡ Some e → taken + taken_by (e ∷ []) < 2 ^ 64
@@ -130,9 +130,25 @@ window_bytes s content taken size long =
     let front : take (min (size - min taken size) 64) rest ≡ next_bytes rest = ap (λ n. take (min n 64) rest) (sym left) ∙ next_slice rest in
     ap (next_input s) front ∙ (hangs_on_next s rest 64 (omega arith) ∙ ap (next_input s) (rest_at content taken size long))
 
-pub window_size : (content zeros : List ℕ) (taken size : ℕ) → length content ≡ size → length zeros ≡ min (size - min taken size) 64 → length (next_bytes zeros) ≡ length (next_bytes (drop taken content))
-window_size content zeros taken size long many =
-    omega (arith, length-take 64 zeros, length-take 64 (drop taken content), length-drop taken content, long, many)
+-- where nothing is given of a window of so many bytes, nothing is given of what is there
+none_is : {A : Type 0} (o : Option A) → is_none o ≡ true → o ≡ None
+none_is None is = refl
+none_is (Some x) is = absurd (cc)
+
+pub none_window : (s : Tables) (content window : List ℕ) (at size : ℕ) (o : Option Event) → o ≡ next_input s window → is_none o ≡ true → at + length window ≤ size → length content ≡ size
+    → None ≡ next_input s (take (length window) (drop at content))
+none_window s content window at size o same none room long =
+    let there = take (length window) (drop at content) in
+    let count : length (next_bytes window) ≡ length (next_bytes there) =
+    omega (arith, length-take 64 window, length-take 64 there, length-take (length window) (drop at content), length-drop at content, long, room) in
+    sym (none_given s window there count (sym same ∙ none_is o none))
+
+pub sum_small : (taken size at n : ℕ) → at ≡ min taken size → n ≡ min (size - at) 64 → taken < 2 ^ 64 → size < 2 ^ 64 → taken + n < 2 ^ 64
+sum_small taken size at n place many low small = grind (arith, nat_tests, place, many, low, small)
+
+pub fewer : (o : Option Event) (taken n : ℕ) → IfSome o (λ e. taken_by (e ∷ []) ≤ n) → taken + n < 2 ^ 64 → IfSome o (λ e. taken + taken_by (e ∷ []) < 2 ^ 64)
+fewer (Some e) taken n few small = omega (arith, few, small)
+fewer None taken n few small = tt
 
 -- WHAT IS GIVEN OF IT
 
@@ -143,15 +159,15 @@ in_range s rest = by (next_input s rest) refl
     by (Some e) is = (always_taken (record { bytes = []; tables = s }) rest e is).0
     by None is = tt
 
-pub few_next : (s : Tables) (rest : List ℕ) (taken : ℕ) → taken + length rest < 2 ^ 64 → IfSome (next_input s rest) (λ e. taken + taken_by (e ∷ []) < 2 ^ 64)
-few_next s rest taken few = by (next_input s rest) refl
+pub few_next : (s : Tables) (rest : List ℕ) → IfSome (next_input s rest) (λ e. taken_by (e ∷ []) ≤ length rest)
+few_next s rest = by (next_input s rest) refl
   where
-    by : (o : Option Event) → next_input s rest ≡ o → IfSome o (λ e. taken + taken_by (e ∷ []) < 2 ^ 64)
+    by : (o : Option Event) → next_input s rest ≡ o → IfSome o (λ e. taken_by (e ∷ []) ≤ length rest)
     by (Some e) is =
         let bytes : bytes_of e ≡ next_bytes rest = ap bytes_of (sym (next_is s rest e is).1) ∙ given_bytes (next_bytes rest) in
         let one : taken_by (e ∷ []) ≡ length (bytes_of e) = ap length (append-nil (bytes_of e)) in
         let long = ap length bytes in
-        omega (arith, one, long, length-take 64 rest, few)
+        omega (arith, one, long, length-take 64 rest)
     by None is = tt
 
 -- THE RECORD

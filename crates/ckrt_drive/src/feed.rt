@@ -1,7 +1,8 @@
 //! What a drive gives its program as input.
-ghost use Rattle.std.specs.Prelude.{◌≡◌, ◌+◌, ◌<◌, ◌^◌, ℕ, List, [], ◌∷◌, Option, Some, None, is_some, IfOk, IfSome, refl, true, false};
+ghost use Rattle.std.specs.Prelude.{◌≡◌, ◌+◌, ◌<◌, ◌≤◌, ◌^◌, ℕ, List, [], ◌∷◌, Option, Some, None, is_some, length, take, drop, IfOk, IfSome};
 ghost use Rattle.ckrt_disk.specs.Disk.{CountsFault};
 ghost use Rattle.ckrt_events.specs.Bytes.{IsInRange};
+ghost use Rattle.ckrt_input.specs.Next.{next_input};
 ghost use Rattle.ckrt_input.specs.Taken.{taken_by};
 ghost use Rattle.ckrt_drive.specs.Given.{given_in};
 
@@ -38,7 +39,7 @@ pub trait Feed {
 }
 
 /// No input at all: events give a program what it reads, if anybody does.
-#[derive(Clone, Copy, Debug, Drop, PartialEq, Eq)]
+#[derive(Clone, Copy, Debug, PartialEq, Eq)]
 pub struct Nothing;
 
 impl Feed for Nothing {
@@ -79,6 +80,33 @@ impl<I: Disk> FromDisk<I> {
     }
 }
 
+/// What is given of the bytes at a place, as many as the window has. Nothing is read where nothing is given: that hangs on their
+/// number alone.
+fn given_at<I: Disk>(
+    disk: &mut I,
+    tables: &Tables,
+    at: usize,
+    window: &mut [u8],
+    count: usize,
+) -> Result<Option<Event>, DeviceFault>
+    requires room { at + count ≤ I.size disk.old }
+    requires long { length window.old ≡ count }
+    ensures given { IfOk result (λ given. I.is_honest disk.new
+        → given ≡ next_input tables.now (take count (drop at (I.content disk.old)))) }
+    ensures in_range { IfOk result (λ given. IfSome given IsInRange) }
+    ensures few { IfOk result (λ given. IfSome given (λ e. taken_by (e ∷ []) ≤ count)) }
+    ensures content { I.is_honest disk.new → I.content disk.new ≡ I.content disk.old }
+    ensures honest { I.is_honest disk.new → I.is_honest disk.old }
+    ensures failures { CountsFault (I.failures disk.old) (I.failures disk.new) result }
+{
+    prove!(window.len() == count);
+    if next_input(tables, window).is_none() {
+        return Ok(None);
+    }
+    disk.read(at, window)?;
+    Ok(next_input(tables, window))
+}
+
 impl<I: Disk> Feed for FromDisk<I> {
     ghost file = { λ feed. Some (I.content feed.disk) };
 
@@ -90,16 +118,12 @@ impl<I: Disk> Feed for FromDisk<I> {
         true
     }
 
-    /// Nothing is read where nothing is given: that hangs on the number of the bytes alone.
     fn next(&mut self, tables: &Tables, taken: u64) -> Result<Option<Event>, DeviceFault> {
         let size = self.disk.size();
         let at = (taken as usize).min(size);
+        let count = (size - at).min(PIECE);
         let mut window = [0; PIECE];
-        let bytes = &mut window[..(size - at).min(PIECE)];
-        if next_input(tables, bytes).is_none() {
-            return Ok(None);
-        }
-        self.disk.read(at, bytes)?;
-        Ok(next_input(tables, bytes))
+        let given = given_at(&mut self.disk, tables, at, &mut window[..count], count)?;
+        Ok(given)
     }
 }

@@ -1,10 +1,11 @@
 //! Steps of a drive.
-ghost use Rattle.std.specs.Prelude.{◌≡◌, ◌≤◌, ◌<◌, ◌+◌, ◌-◌, ◌*◌, ◌^◌, ℕ, [], ◌∷◌, length, is_err, true, Err, None, Ok, Option, Some, OnErr, OnOk, IfOk, IfSome};
+ghost use Rattle.std.specs.Prelude.{◌≡◌, ◌≤◌, ◌<◌, ◌+◌, ◌-◌, ◌*◌, ◌^◌, ℕ, [], ◌∷◌, length, is_err, true, Err, None, Ok, Option, Some, OnErr, OnOk, IfErr, IfOk, IfSome};
 ghost use Rattle.ckrt_disk.specs.Disk.{IsOverwritten, IsWithin};
 ghost use Rattle.ckrt_disk.specs.Frame.{WritesWithin};
 ghost use Rattle.ckrt_events.specs.Bytes.{IsInRange};
 ghost use Rattle.ckrt_recovery.specs.declared.fault.SubmitFault.{SubmitFault};
 ghost use Rattle.ckrt_recovery.specs.View.{view_of, refusal_of};
+ghost use Rattle.ckrt_drive.specs.declared.fault.DriveFault.TheVariants.{Input};
 ghost use Rattle.ckrt_drive.specs.declared.progress.Progress.TheVariants.{Committed, Checkpointed, Released};
 ghost use Rattle.ckrt_disk.specs.Disk.{CountsFault};
 ghost use Rattle.ckrt_drive.specs.Plan.{is_checkpoint_due, is_commit_due, is_filled, is_old, is_settled, is_shortage, left_after, make_room, offered, places_of, plan, plan_for, plan_next, plan_onward};
@@ -193,8 +194,9 @@ fn release<D: Disk, O: Disk>(
     output: &mut O,
     recorded: Option<u64>,
 ) -> Result<Progress, DriveFault>
-    ensures { Steps O.Disk (aim (Ok Released) recorded) session.old session.new
+    ensures steps { Steps O.Disk (aim (Ok Released) recorded) session.old session.new
         output.old output.new result }
+    ensures unread { IfErr result (λ fault. fault ≡ Input → ⊥) }
 {
     let released = session.released();
     if output.size() < released as usize {
@@ -258,8 +260,9 @@ fn advance<D: Disk, O: Disk>(
     supply: Supply,
 ) -> Result<Progress, DriveFault>
     requires { IfSome supply.given IsInRange }
-    ensures { Steps O.Disk (aim_of options.now supply (view_of session.old)) session.old session.new
+    ensures steps { Steps O.Disk (aim_of options.now supply (view_of session.old)) session.old session.new
         output.old output.new result }
+    ensures unread { IfErr result (λ fault. fault ≡ Input → ⊥) }
 {
     if session.confirmed() < session.released() {
         return release(session, output, supply.recorded);
@@ -280,8 +283,7 @@ fn left_after(did: &Progress, left: u64) -> u64
 
 /// How many bytes of input the program took by what the drive did.
 fn taken_in(did: &Progress) -> u64
-    ensures value { result ≡ input.taken_by (accepted_by did.now) }
-    ensures few { result ≤ 64 }
+    ensures { result ≡ input.taken_by (accepted_by did.now) }
 {
     match did {
         Progress::Submitted(event, _) => taken_by(event) as u64,
@@ -303,6 +305,7 @@ fn supply_from<D: Disk, F: Feed>(
     ensures in_range { IfOk result (λ w. IfSome w.given IsInRange) }
     ensures few { IfOk result (λ w.
         IfSome w.given (λ e. taken + input.taken_by (e ∷ []) < 2 ^ 64)) }
+    ensures small { taken < 2 ^ 64 }
     ensures file { F.is_honest feed.new → F.file feed.new ≡ F.file feed.old }
     ensures honest { F.is_honest feed.new → F.is_honest feed.old }
     ensures failures { CountsFault (F.failures feed.old) (F.failures feed.new) result }

@@ -19,9 +19,9 @@ is_next : (e : Event) (next : Option Event) → (next ≡ Some e) ⊎ IsNoInput 
 is_next (Place h t) next is = tt
 is_next (Run h n) next is = tt
 is_next (Input bytes) next (inl is) = is
-is_next (Input bytes) next (inr no) = absurd no
+is_next (Input bytes) next (inr never) = absurd never
 is_next Eof next (inl is) = is
-is_next Eof next (inr no) = absurd no
+is_next Eof next (inr never) = absurd never
 is_next (Tick k) next is = tt
 is_next (RunLong h n) next is = tt
 
