@@ -84,7 +84,8 @@ places_of s = 2 * s.threads.hart_count + 1
 -- a turn at the place behind n events: the hart that is looked at first, and how many steps a run has
 abbrev pub turn_by : (seed : Option ℕ) → (most place n harts : ℕ) → Turn
 turn_by None most place n harts = record { place = place; first = place / 2; steps = most }
-turn_by (Some seed) most place n harts = record { place = place; first = lot_of seed n % harts; steps = lot_of seed n / 8 % most + 1 }
+turn_by (Some seed) most place n harts =
+    record { place = place; first = lot_of seed n % harts; steps = lot_of seed n / 8 % most + 1 }
 
 -- the turn behind n events
 abbrev pub turn_at : Schedule → (n : ℕ) → Tables → Turn
@@ -134,7 +135,10 @@ or_scheduled None scheduled = scheduled
 
 -- the event that is next behind n others, or why there is none
 abbrev pub next_event : Schedule → (given : Option Event) → (n : ℕ) → Tables → Next
-next_event u given n s = if is_running s.status then or_scheduled given (next_by (next_sought Busy 0 s) (turn_at u n s) s) else End Ended
+next_event u given n s =
+    if is_running s.status
+    then or_scheduled given (next_by (next_sought Busy 0 s) (turn_at u n s) s)
+    else End Ended
 
 -- the same for a drive with this supply
 abbrev pub next : Schedule → Supply → (n : ℕ) → Tables → Next
@@ -156,7 +160,8 @@ is_old v = nat_lt (version_of v) 2
 
 -- the journal has a batch, and might have no room for another
 abbrev pub is_filled : View → Bool
-is_filled v = nat_lt 0 v.recovered.journal.next_gate && nat_lt (room_of v.recovered.journal) LONGEST_BATCH
+is_filled v =
+    nat_lt 0 v.recovered.journal.next_gate && nat_lt (room_of v.recovered.journal) LONGEST_BATCH
 
 -- a checkpoint comes first: with nothing pending, so the last batch stands in the journal that it leaves
 abbrev pub is_checkpoint_due : View → Bool
@@ -164,7 +169,9 @@ is_checkpoint_due v = is_settled v && (is_old v || is_filled v)
 
 -- a commit does: what is pending has as many events as the rounds between two commits, or keeps a checkpoint waiting
 abbrev pub is_commit_due : Options → View → Bool
-is_commit_due o v = is_old v || nat_le (o.rounds * places_of v.recovered.state.tables) (v.recovered.count - v.acknowledged)
+is_commit_due o v =
+    is_old v
+    || nat_le (o.rounds * places_of v.recovered.state.tables) (v.recovered.count - v.acknowledged)
 
 -- room for an event that the session has no place for
 abbrev pub make_room : View → Progress

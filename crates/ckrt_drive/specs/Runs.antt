@@ -73,7 +73,8 @@ IsOnward (Stopped ending) = ⊥
 -- From one stand to another a drive did these things, each as planned, and none of them was an end.
 abbrev pub FollowsPlan : Options → List Progress → (x y : Stand) → Type 0
 FollowsPlan o [] x y = y ≡ x
-FollowsPlan o (did ∷ more) x y = IsPlanned o x (Ok did) × IsOnward did × FollowsPlan o more (stand_after did x) y
+FollowsPlan o (did ∷ more) x y = IsPlanned o x (Ok did) × IsOnward did
+    × FollowsPlan o more (stand_after did x) y
 
 -- the events among them
 abbrev pub events_in : List Progress → List Event
@@ -92,13 +93,16 @@ IsFault o x y (Refused why) = IsPlanned o x (Err (Refused why)) × (y ≡ x)
 
 -- Why a drive that may make so many steps makes no more than these, behind which it stood at x: it made them all, an end is planned, or it
 -- couldn't do what is planned.
-abbrev pub IsWhyNoMore : Options → (steps made : ℕ) → (x y : Stand) → Result (Option Ending) DriveFault → Type 0
+abbrev pub IsWhyNoMore : Options → (steps made : ℕ) → (x y : Stand)
+    → Result (Option Ending) DriveFault → Type 0
 IsWhyNoMore o steps made x y (Ok None) = (made ≡ steps) × (y ≡ x)
-IsWhyNoMore o steps made x y (Ok (Some ending)) = IsPlanned o x (Ok (Stopped ending)) × (y ≡ x) × IsAtEnd y.left y.view ending
+IsWhyNoMore o steps made x y (Ok (Some ending)) =
+    IsPlanned o x (Ok (Stopped ending)) × (y ≡ x) × IsAtEnd y.left y.view ending
 IsWhyNoMore o steps made x y (Err fault) = (made < steps) × IsFault o x y fault
 
 -- From x to y a drive took these events, in at most so many steps.
-pub record GoesByPlan (o : Options) (steps : ℕ) (accepted : List Event) (x y : Stand) (result : Result (Option Ending) DriveFault) : Type 0 where
+pub record GoesByPlan (o : Options) (steps : ℕ) (accepted : List Event) (x y : Stand)
+    (result : Result (Option Ending) DriveFault) : Type 0 where
   pub did : List Progress
   pub last : Stand
   pub follows : FollowsPlan o did x last
@@ -111,7 +115,9 @@ pub record GoesByPlan (o : Options) (steps : ℕ) (accepted : List Event) (x y :
 -- WHAT IS LEFT
 
 -- From s to t, with the output from a to b, a drive made at most so many steps by its plan, whatever they answered.
-pub record Runs {D O : Type 0} {g : Ghosts D} (o : Ghosts O) (options : Options) (steps left left' : ℕ) (s t : Session D g) (a b : O) (result : Result (Option Ending) DriveFault) : Type 0 where
+pub record Runs {D O : Type 0} {g : Ghosts D} (o : Ghosts O) (options : Options)
+    (steps left left' : ℕ) (s t : Session D g) (a b : O)
+    (result : Result (Option Ending) DriveFault) : Type 0 where
   -- the events that the session took
   pub accepted : List Event
   pub accepts : Accepts accepted s t
@@ -122,8 +128,12 @@ pub record Runs {D O : Type 0} {g : Ghosts D} (o : Ghosts O) (options : Options)
   -- it has no room for the released bytes where that is the fault
   pub full : result ≡ Err OutputFull → o.size a < t.released
   -- every image that a stop left of the disk since the start
-  pub since_start : g.is_honest t.disk → (p : Program) (events : List Event) → Represents p events s
-      → (image : List ℕ) → g.left_since t.disk (g.moment s.disk) image → RecoversBetween p (acknowledged_of events s) (events ++ accepted) t.progress.confirmed image
+  pub since_start : g.is_honest t.disk → (p : Program) (events : List Event)
+      → Represents p events s → (image : List ℕ) → g.left_since t.disk (g.moment s.disk) image
+      → RecoversBetween p (acknowledged_of events s) (events ++ accepted) t.progress.confirmed image
   -- and of the output
-  pub output_since_start : g.is_honest t.disk → o.is_honest b → (p : Program) (events : List Event) (from : ℕ) → Represents p events s → HoldsOutput o from s.progress.confirmed (acknowledged_output p events s) a
-      → (image : List ℕ) → o.left_since b (o.moment a) image → HasOutput from s.progress.confirmed (acknowledged_output p events s) image
+  pub output_since_start : g.is_honest t.disk → o.is_honest b
+      → (p : Program) (events : List Event) (from : ℕ) → Represents p events s
+      → HoldsOutput o from s.progress.confirmed (acknowledged_output p events s) a
+      → (image : List ℕ) → o.left_since b (o.moment a) image
+      → HasOutput from s.progress.confirmed (acknowledged_output p events s) image

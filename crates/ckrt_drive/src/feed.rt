@@ -31,7 +31,8 @@ pub trait Feed {
         ensures given { IfOk result (λ given. is_honest self.new
             → given ≡ given_in (file self.old) taken tables.now) }
         ensures in_range { IfOk result (λ given. IfSome given IsInRange) }
-        ensures few { IfOk result (λ given. IfSome given (λ e. taken + taken_by (e ∷ []) < 2 ^ 64)) }
+        ensures few { IfOk result (λ given.
+            IfSome given (λ e. taken + taken_by (e ∷ []) < 2 ^ 64)) }
         ensures file { is_honest self.new → file self.new ≡ file self.old }
         ensures kind { is_some (file self.new) ≡ is_some (file self.old) }
         ensures honest { is_honest self.new → is_honest self.old }

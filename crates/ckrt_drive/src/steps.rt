@@ -179,9 +179,12 @@ fn offer<D: Disk>(
 /// Writes the bytes from the offset `at` on, and syncs the output.
 fn put_out<O: Disk>(output: &mut O, at: usize, bytes: &[u8]) -> Result<(), DeviceFault>
     requires { at + length bytes.now ≤ O.size output.old }
-    ensures within { WritesWithin O.Disk (IsWithin at (length bytes.now)) 2 output.old output.new (is_err result) }
-    ensures written { OnOk result (O.is_honest output.new → IsOverwritten (O.content output.old) at bytes.now (O.content output.new)) }
-    ensures nothing_pending { OnOk result (O.is_honest output.new → (i : ℕ) → ¬ O.pending output.new i) }
+    ensures within { WritesWithin O.Disk (IsWithin at (length bytes.now)) 2 output.old output.new
+        (is_err result) }
+    ensures written { OnOk result (O.is_honest output.new
+        → IsOverwritten (O.content output.old) at bytes.now (O.content output.new)) }
+    ensures nothing_pending { OnOk result
+        (O.is_honest output.new → (i : ℕ) → ¬ O.pending output.new i) }
     ensures puts { PutsOrFails O.Disk at bytes.now output.old output.new (is_err result) }
 {
     output.write(at, bytes)?;
@@ -260,8 +263,8 @@ fn advance<D: Disk, O: Disk>(
     supply: Supply,
 ) -> Result<Progress, DriveFault>
     requires { IfSome supply.given IsInRange }
-    ensures steps { Steps O.Disk (aim_of options.now supply (view_of session.old)) session.old session.new
-        output.old output.new result }
+    ensures steps { Steps O.Disk (aim_of options.now supply (view_of session.old)) session.old
+        session.new output.old output.new result }
     ensures unread { IfErr result (λ fault. fault ≡ Input → ⊥) }
 {
     if session.confirmed() < session.released() {
