@@ -11,7 +11,7 @@ returns-clause-given g c = λ honest.
     let is : size ≡ g.I.Disk.size disk = search rules in
     let place : c.min-at.result ≡ min c.args.taken size = search rules in
     let many : c.min-count.result ≡ min (size - c.min-at.result) 64 = search rules in
-    let long = g.met.I.Disk.whole disk (c.given_at-given.ensures.honest honest) ∙ is in
+    let long = g.met.I.Disk.whole disk (c.given_at.ensures.honest honest) ∙ is in
     c.in_ok-given.ensures.given honest
     ∙ (ap (λ n. next_input c.args.tables.now (take n (drop c.min-at.result content))) many
     ∙ (ap (λ n. next_input c.args.tables.now (take (min (size - n) 64) (drop n content))) place ∙ window_bytes c.args.tables.now content c.args.taken size long))
@@ -22,4 +22,4 @@ returns-clause-few g c =
     let place : c.min-at.result ≡ min c.args.taken size = search rules in
     let many : c.min-count.result ≡ min (size - c.min-at.result) 64 = search rules in
     let small : size < 2 ^ 64 = search rules in
-    fewer c.in_ok-given.field-0 c.args.taken c.min-count.result c.in_ok-given.ensures.few (sum_small c.args.taken size c.min-at.result c.min-count.result place many c.ranges.taken.fits small)
+    fewer c.in_ok-given.given c.args.taken c.min-count.result c.in_ok-given.ensures.few (sum_small c.args.taken size c.min-at.result c.min-count.result place many c.ranges.taken.fits small)
