@@ -1,4 +1,4 @@
-use Rattle.std.proofs.Common.{rules, ◌≡◌, ◌+◌, ◌-◌, ◌<◌, ◌^◌, ◌∙◌, min, take, drop, ap, arith}
+use Rattle.std.proofs.Common.{rules, ◌≡◌, ◌+◌, ◌-◌, ◌<◌, ◌^◌, ◌∙◌, min, take, drop, ap, sym, arith}
 use Rattle.ckrt_input.specs.Next.{next_input}
 use Rattle.ckrt_drive.proofs.GivenLemmas.{fewer, sum_small, window_bytes}
 use Rattle.ckrt_drive.proofs.feed.FromDiskFeed.next.Goals as goal
@@ -11,7 +11,7 @@ returns-clause-given g c = λ honest.
     let is : size ≡ g.I.Disk.size disk = search rules in
     let place : c.min-at.result ≡ min c.args.taken size = search rules in
     let many : c.min-count.result ≡ min (size - c.min-at.result) 64 = search rules in
-    let long = g.met.I.Disk.whole disk (c.given_at.ensures.honest honest) ∙ is in
+    let long = g.met.I.Disk.whole disk (c.given_at.ensures.honest honest) ∙ sym is in
     c.in_ok-given.ensures.given honest
     ∙ (ap (λ n. next_input c.args.tables.now (take n (drop c.min-at.result content))) many
     ∙ (ap (λ n. next_input c.args.tables.now (take (min (size - n) 64) (drop n content))) place ∙ window_bytes c.args.tables.now content c.args.taken size long))
