@@ -1,13 +1,13 @@
 -- Behind a checkpoint no checkpoint is planned: the journal is empty, and takes every event of a plan.
 use Rattle.std.proofs.Common.{◌≡◌, ℕ, ◌+◌, ◌-◌, ◌≤◌, nat_lt, nat_le, Bool, true, false, if◌then◌else◌, Option, Some, None, length, Result, Ok, Err, refl, sym, subst, arith}
-use Rattle.std.specs.Prelude.{◌&&◌, ◌==◌, ◌*◌, ◌^◌, is_none, not, unwrap_or}
+use Rattle.std.specs.Prelude.{◌&&◌, ◌==◌, ◌*◌, ◌^◌, IfSome, is_none, not, unwrap_or}
 use Rattle.std.proofs.lemmas.Bool.Decides.{nat_tests}
 use Rattle.ckrt_disk.specs.declared.disk.Disk.{Ghosts}
 use Rattle.ckrt_thread.specs.State as threads
 use Rattle.ckrt_state.specs.declared.table.Tables.{Tables}
 use Rattle.ckrt_checkpoint.specs.Layout.{is_valid}
 use Rattle.ckrt_checkpoint.specs.declared.config.Config.{Config}
-use Rattle.ckrt_events.specs.Bytes.{encoding_of, is_known_in}
+use Rattle.ckrt_events.specs.Bytes.{IsInRange, encoding_of, is_known_in}
 use Rattle.ckrt_events.specs.declared.event.Event.{Event}
 use Rattle.ckrt_events.specs.declared.event.Event.TheVariants.{Place, Run, Tick, Input, Eof, RunLong}
 use Rattle.ckrt_image.specs.Recovery.{are_counters_used}
@@ -31,13 +31,14 @@ use Rattle.ckrt_drive.specs.declared.plan.Turn.{Turn}
 use Rattle.ckrt_drive.specs.declared.progress.Ending.TheVariants.{Ended, Enough}
 use Rattle.ckrt_drive.specs.declared.progress.Progress.{Progress}
 use Rattle.ckrt_drive.specs.declared.progress.Progress.TheVariants.{Checkpointed, Committed, Released, Stopped}
-use Rattle.ckrt_drive.specs.Plan.{RUN_LIMIT, Schedule, earliest_deadline, event_at, idle_until, is_commit_due, is_settled, is_shortage, make_room, next, next_by, next_event, next_sought, of_runner, offered, on_hart, plan, plan_for, plan_next, plan_onward, run_by, runner_at, schedule_of, turn_at}
+use Rattle.ckrt_drive.specs.declared.supply.Supply.{Supply}
+use Rattle.ckrt_drive.specs.Plan.{RUN_LIMIT, Schedule, earliest_deadline, event_at, idle_until, is_commit_due, is_settled, is_shortage, make_room, next, next_by, next_event, next_sought, of_runner, offered, on_hart, or_scheduled, plan, plan_for, plan_next, plan_onward, run_by, runner_at, schedule_of, turn_at}
 use Rattle.ckrt_drive.proofs.Choices.{either}
 
 -- THE EVENTS OF A PLAN ARE SHORT
 
 abbrev IsShort : Event → Type 0
-IsShort e = length (encoding_of e) ≤ 6
+IsShort e = length (encoding_of e) ≤ 66
 
 abbrev IsShortNext : Next → Type 0
 IsShortNext (Submit e) = IsShort e
@@ -65,9 +66,22 @@ short_least : (least : Option ℕ) (turn : Turn) (s : Tables) → IsShortNext (n
 short_least (Some h) turn s = short_event turn h s
 short_least None turn s = short_idle (earliest_deadline s.threads.waits) s
 
-short_next : (u : Schedule) (left n : ℕ) (s : Tables) → IsShortNext (next u left n s)
-short_next u left n s = either IsShortNext (is_running s.status && (left == 0)) (End Enough) (next_event u n s) tt
-    (either IsShortNext (is_running s.status) (next_by (next_sought Busy 0 s) (turn_at u n s) s) (End Ended) (short_least (next_sought Busy 0 s) (turn_at u n s) s) tt)
+short_given : (e : Event) → IsInRange e → IsShort e
+short_given (Place h t) inside = omega arith
+short_given (Run h n) inside = omega arith
+short_given (Input bytes) inside = omega (arith, inside.1)
+short_given Eof inside = omega arith
+short_given (Tick k) inside = omega arith
+short_given (RunLong h n) inside = omega arith
+
+short_or : (given : Option Event) (n : Next) → IfSome given IsInRange → IsShortNext n → IsShortNext (or_scheduled given n)
+short_or (Some e) n inside h = short_given e inside
+short_or None n inside h = h
+
+short_next : (u : Schedule) (w : Supply) (n : ℕ) (s : Tables) → IfSome w.given IsInRange → IsShortNext (next u w n s)
+short_next u w n s inside = either IsShortNext (is_running s.status && (w.left == 0)) (End Enough) (next_event u w.given n s) tt
+    (either IsShortNext (is_running s.status) (or_scheduled w.given (next_by (next_sought Busy 0 s) (turn_at u n s) s)) (End Ended)
+    (short_or w.given (next_by (next_sought Busy 0 s) (turn_at u n s) s) inside (short_least (next_sought Busy 0 s) (turn_at u n s) s)) tt)
 
 -- WITH NO OUTPUT HELD
 
@@ -122,10 +136,10 @@ known_by : (b : Bool) (o : Option SubmitFault) → IsNoShortage o → IsNoShorta
 known_by true o h = h
 known_by false o h = λ why is short. let same : why ≡ submit.NeedsCheckpoint = cc in absurd (let no : false ≡ true = subst (λ w. is_shortage w ≡ true) same short in cc)
 
-few : (n : ℕ) → n ≤ 6 → nat_lt 4096 (0 + n) ≡ false
+few : (n : ℕ) → n ≤ 66 → nat_lt 4096 (0 + n) ≡ false
 few n le = grind (arith, nat_tests, le)
 
-fits : (n journal : ℕ) → n ≤ 6 → 4096 ≤ journal → nat_lt (journal - 1 - 0) (3 + 0 + n) ≡ false
+fits : (n journal : ℕ) → n ≤ 66 → 4096 ≤ journal → nat_lt (journal - 1 - 0) (3 + 0 + n) ≡ false
 fits n journal le long = grind (arith, nat_tests, le, long)
 
 long_journal : (c : Config) → is_valid c ≡ true → 4096 ≤ c.journal
@@ -164,14 +178,14 @@ module _ {D : Type 0} {g : Ghosts D} (s : Session D g) where
   none_for (Submit e) le none = let w = checkpointed (view_of s) in none_offered w e (refusal_of w e) (no_shortage e le none)
   none_for (End ending) le none = either IsNone (is_settled (checkpointed (view_of s))) (Ok (Stopped ending)) (Ok Committed) (λ is. absurd (cc)) (λ is. absurd (cc))
 
-  none_by : (b : Bool) (o : Options) (left : ℕ) → nat_lt s.progress.confirmed (s.progress.confirmed + length s.progress.held.items) ≡ b → IsNone (if b then Ok Released else plan_onward o left (checkpointed (view_of s)))
-  none_by true o left e = λ is. absurd (cc)
-  none_by false o left e =
-      let w = checkpointed (view_of s) in
+  none_by : (b : Bool) (o : Options) (w : Supply) → IfSome w.given IsInRange → nat_lt s.progress.confirmed (s.progress.confirmed + length s.progress.held.items) ≡ b → IsNone (if b then Ok Released else plan_onward o w (checkpointed (view_of s)))
+  none_by true o w inside e = λ is. absurd (cc)
+  none_by false o w inside e =
+      let v = checkpointed (view_of s) in
       let u = schedule_of o in
-      let rest = none_for (next u left w.recovered.count w.recovered.state.tables) (short_next u left w.recovered.count w.recovered.state.tables) (none_held s.progress.confirmed (length s.progress.held.items) e) in
-      subst (λ b. IsNone (if b then Ok Checkpointed else if is_commit_due o w then Ok Committed else plan_next o left w)) (sym (and_false (is_settled w)))
-      (either IsNone (is_commit_due o w) (Ok Committed) (plan_next o left w) (λ is. absurd (cc)) rest)
+      let rest = none_for (next u w v.recovered.count v.recovered.state.tables) (short_next u w v.recovered.count v.recovered.state.tables inside) (none_held s.progress.confirmed (length s.progress.held.items) e) in
+      subst (λ b. IsNone (if b then Ok Checkpointed else if is_commit_due o v then Ok Committed else plan_next o w v)) (sym (and_false (is_settled v)))
+      (either IsNone (is_commit_due o v) (Ok Committed) (plan_next o w v) (λ is. absurd (cc)) rest)
 
-  pub none_behind : (o : Options) (left : ℕ) → plan o left (checkpointed (view_of s)) ≡ Ok Checkpointed → ⊥
-  none_behind o left is = none_by (nat_lt s.progress.confirmed (s.progress.confirmed + length s.progress.held.items)) o left refl is
+  pub none_behind : (o : Options) (w : Supply) → IfSome w.given IsInRange → plan o w (checkpointed (view_of s)) ≡ Ok Checkpointed → ⊥
+  none_behind o w inside is = none_by (nat_lt s.progress.confirmed (s.progress.confirmed + length s.progress.held.items)) o w inside refl is

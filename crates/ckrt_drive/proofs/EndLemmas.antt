@@ -2,6 +2,7 @@
 use Rattle.std.proofs.Common.{◌≡◌, ℕ, zero, suc, ◌+◌, ◌-◌, ◌<◌, ◌≤◌, ◌==◌, ◌&&◌, nat_lt, Bool, true, false, if◌then◌else◌, Option, Some, None, is_some, find, All, List, [], ◌∷◌, refl, sym, ap, subst, arith}
 use Rattle.std.proofs.lemmas.Bool.Decides.{nat_tests}
 use Rattle.std.proofs.lemmas.List.Elements.{All-nil, All-cons}
+use Rattle.ckrt_events.specs.declared.event.Event.{Event}
 use Rattle.ckrt_thread.specs.declared.records.Wait.{Wait}
 use Rattle.ckrt_thread.specs.declared.records.Object.TheVariants.{Input}
 use Rattle.ckrt_thread.specs.State as threads
@@ -12,11 +13,13 @@ use Rattle.ckrt_machine.specs.Runs.{is_running}
 use Rattle.ckrt_machine.specs.Steps.{hart_of}
 use Rattle.ckrt_drive.specs.declared.progress.Ending.{Ending}
 use Rattle.ckrt_drive.specs.declared.progress.Ending.TheVariants.{Ended, WaitsForInput, Deadlock, Enough}
+use Rattle.ckrt_drive.specs.declared.plan.Next.{Next}
 use Rattle.ckrt_drive.specs.declared.plan.Next.TheVariants.{End}
 use Rattle.ckrt_drive.specs.declared.plan.Sought.TheVariants.{Busy}
 use Rattle.ckrt_drive.specs.declared.plan.Turn.{Turn}
+use Rattle.ckrt_drive.specs.declared.supply.Supply.{Supply}
 use Rattle.ckrt_drive.specs.Ends.{IsStuck, IsRead, IsUnread, IsEnd}
-use Rattle.ckrt_drive.specs.Plan.{Schedule, is_sought, sought_among, next_sought, sooner, earliest_deadline, idle_until, next_by, next_event, next, turn_at}
+use Rattle.ckrt_drive.specs.Plan.{Schedule, is_sought, sought_among, next_sought, sooner, earliest_deadline, idle_until, next_by, next_event, next, or_scheduled, turn_at}
 use Rattle.ckrt_drive.proofs.Choices.{neither, both, both_are, same_number}
 
 -- SEARCHES THAT FIND NOTHING
@@ -133,19 +136,24 @@ end_idle turn left s ending running e =
     let idle = at_idle (earliest_deadline s.threads.waits) s ending none.1 in
     waits_or_not (is_some (threads.first_waiter Input s.threads)) left s ending (stuck s running none.0 idle.0) refl idle.1
 
-end_running : (b : Bool) (turn : Turn) (left : ℕ) (s : Tables) (ending : Ending) → is_running s.status ≡ b → (if b then next_by (next_sought Busy 0 s) turn s else End Ended) ≡ End ending → IsEnd ending left s
-end_running true turn left s ending running e = end_idle turn left s ending running e
-end_running false turn left s ending running e =
+-- an end isn't given: it is the schedule's
+end_scheduled : (given : Option Event) (n : Next) (ending : Ending) → or_scheduled given n ≡ End ending → n ≡ End ending
+end_scheduled (Some e) n ending is = absurd (cc)
+end_scheduled None n ending is = is
+
+end_running : (b : Bool) (given : Option Event) (turn : Turn) (left : ℕ) (s : Tables) (ending : Ending) → is_running s.status ≡ b → (if b then or_scheduled given (next_by (next_sought Busy 0 s) turn s) else End Ended) ≡ End ending → IsEnd ending left s
+end_running true given turn left s ending running e = end_idle turn left s ending running (end_scheduled given (next_by (next_sought Busy 0 s) turn s) ending e)
+end_running false given turn left s ending running e =
     let is : Ended ≡ ending = cc in
     subst (λ x. IsEnd x left s) is running
 
-end_by : (b : Bool) (u : Schedule) (left n : ℕ) (s : Tables) (ending : Ending) → (is_running s.status && (left == 0)) ≡ b → (if b then End Enough else next_event u n s) ≡ End ending → IsEnd ending left s
-end_by true u left n s ending none e =
+end_by : (b : Bool) (u : Schedule) (w : Supply) (n : ℕ) (s : Tables) (ending : Ending) → (is_running s.status && (w.left == 0)) ≡ b → (if b then End Enough else next_event u w.given n s) ≡ End ending → IsEnd ending w.left s
+end_by true u w n s ending none e =
     let is : Enough ≡ ending = cc in
-    let parts = both_are (is_running s.status) (left == 0) none in
-    subst (λ x. IsEnd x left s) is (parts.0, same_number left 0 parts.1)
-end_by false u left n s ending some e = end_running (is_running s.status) (turn_at u n s) left s ending refl e
+    let parts = both_are (is_running s.status) (w.left == 0) none in
+    subst (λ x. IsEnd x w.left s) is (parts.0, same_number w.left 0 parts.1)
+end_by false u w n s ending some e = end_running (is_running s.status) w.given (turn_at u n s) w.left s ending refl e
 
 -- an end that is next is what it says
-pub end_of : (u : Schedule) (left n : ℕ) (s : Tables) (ending : Ending) → next u left n s ≡ End ending → IsEnd ending left s
-end_of u left n s ending e = end_by (is_running s.status && (left == 0)) u left n s ending refl e
+pub end_of : (u : Schedule) (w : Supply) (n : ℕ) (s : Tables) (ending : Ending) → next u w n s ≡ End ending → IsEnd ending w.left s
+end_of u w n s ending e = end_by (is_running s.status && (w.left == 0)) u w n s ending refl e

@@ -18,6 +18,7 @@ use Rattle.ckrt_drive.specs.declared.plan.Next.{Next}
 use Rattle.ckrt_drive.specs.declared.plan.Next.TheVariants.{Submit, End}
 use Rattle.ckrt_drive.specs.declared.progress.Progress.{Progress}
 use Rattle.ckrt_drive.specs.declared.progress.Progress.TheVariants.{Checkpointed, Committed, Released, Stopped}
+use Rattle.ckrt_drive.specs.declared.supply.Supply.{Supply}
 use Rattle.ckrt_drive.specs.Plan.{is_checkpoint_due, is_commit_due, is_old, is_settled, is_shortage, make_room, next, offered, places_of, plan, plan_for, plan_next, plan_onward, schedule_of}
 use Rattle.ckrt_drive.proofs.Choices.{either, neither}
 
@@ -77,12 +78,12 @@ well_for : (n : Next) (v : View) → is_old v ≡ false → IsWell (plan_for n v
 well_for (Submit e) v new = well_offered v e (refusal_of v e) (other v e (known (version_of v) e new))
 well_for (End ending) v new = either IsWell (is_settled v) (Ok (Stopped ending)) (Ok Committed) (λ is. absurd (cc)) (λ is. absurd (cc))
 
-well_next : (b : Bool) (o : Options) (left : ℕ) (v : View) → is_commit_due o v ≡ b → IsWell (if b then Ok Committed else plan_next o left v)
-well_next true o left v due = λ is. absurd (cc)
-well_next false o left v due =
+well_next : (b : Bool) (o : Options) (w : Supply) (v : View) → is_commit_due o v ≡ b → IsWell (if b then Ok Committed else plan_next o w v)
+well_next true o w v due = λ is. absurd (cc)
+well_next false o w v due =
     let new = neither (is_old v) (nat_le (o.rounds * places_of v.recovered.state.tables) (v.recovered.count - v.acknowledged)) due in
-    well_for (next (schedule_of o) left v.recovered.count v.recovered.state.tables) v new.0
+    well_for (next (schedule_of o) w v.recovered.count v.recovered.state.tables) v new.0
 
-pub no_need : (o : Options) (left : ℕ) (v : View) → IsWell (plan o left v)
-no_need o left v = either IsWell (nat_lt v.recovered.confirmed v.released) (Ok Released) (plan_onward o left v) (λ is. absurd (cc))
-    (either IsWell (is_checkpoint_due v) (Ok Checkpointed) (if is_commit_due o v then Ok Committed else plan_next o left v) (λ is. absurd (cc)) (well_next (is_commit_due o v) o left v refl))
+pub no_need : (o : Options) (w : Supply) (v : View) → IsWell (plan o w v)
+no_need o w v = either IsWell (nat_lt v.recovered.confirmed v.released) (Ok Released) (plan_onward o w v) (λ is. absurd (cc))
+    (either IsWell (is_checkpoint_due v) (Ok Checkpointed) (if is_commit_due o v then Ok Committed else plan_next o w v) (λ is. absurd (cc)) (well_next (is_commit_due o v) o w v refl))

@@ -22,6 +22,7 @@ use Rattle.ckrt_drive.specs.declared.progress.Ending.{Ending}
 use Rattle.ckrt_drive.specs.declared.progress.Ending.TheVariants.{Ended, Enough}
 use Rattle.ckrt_drive.specs.declared.progress.Progress.{Progress}
 use Rattle.ckrt_drive.specs.declared.progress.Progress.TheVariants.{Submitted, Committed, Checkpointed, Released, Stopped}
+use Rattle.ckrt_drive.specs.declared.supply.Supply.{Supply}
 use Rattle.ckrt_drive.specs.Plan.{Schedule, is_checkpoint_due, is_commit_due, is_filled, is_old, is_settled, is_shortage, make_room, next, next_event, offered, plan, plan_for, plan_next, plan_onward, schedule_of}
 use Rattle.ckrt_drive.proofs.Choices.{both_are, same_number, not_zero}
 
@@ -40,15 +41,15 @@ unless true did save planned is never e = let same : did ≡ save = cc in absurd
 unless false did save planned is never e = (refl, e)
 
 -- then nothing is due before it
-pub record IsPlannedNext (o : Options) (left : ℕ) (v : View) (did : Progress) : Type 0 where
+pub record IsPlannedNext (o : Options) (w : Supply) (v : View) (did : Progress) : Type 0 where
   pub confirmed : nat_lt v.recovered.confirmed v.released ≡ false
-  pub planned : plan_next o left v ≡ Ok did
+  pub planned : plan_next o w v ≡ Ok did
 
-planned_next : (o : Options) (left : ℕ) (v : View) (did : Progress) → IsNext did → plan o left v ≡ Ok did → IsPlannedNext o left v did
-planned_next o left v did is e =
-    let out = unless (nat_lt v.recovered.confirmed v.released) did Released (plan_onward o left v) is (λ no. no) e in
-    let checkpoint = unless (is_checkpoint_due v) did Checkpointed (if is_commit_due o v then Ok Committed else plan_next o left v) is (λ no. no) out.1 in
-    let commit = unless (is_commit_due o v) did Committed (plan_next o left v) is (λ no. no) checkpoint.1 in
+planned_next : (o : Options) (w : Supply) (v : View) (did : Progress) → IsNext did → plan o w v ≡ Ok did → IsPlannedNext o w v did
+planned_next o w v did is e =
+    let out = unless (nat_lt v.recovered.confirmed v.released) did Released (plan_onward o w v) is (λ no. no) e in
+    let checkpoint = unless (is_checkpoint_due v) did Checkpointed (if is_commit_due o v then Ok Committed else plan_next o w v) is (λ no. no) out.1 in
+    let commit = unless (is_commit_due o v) did Committed (plan_next o w v) is (λ no. no) checkpoint.1 in
     record { confirmed = out.0; planned = commit.1 }
 
 -- AN EVENT
@@ -74,16 +75,16 @@ event_for (Submit x) v e answer is = ap Submit (offered_event v x e answer (refu
 event_for (End why) v e answer is = absurd (stop_is_none (is_settled v) why e answer is)
 
 -- some event is left, and it is the program's next
-event_left : (b : Bool) (u : Schedule) (left n : ℕ) (s : Tables) (e : Event) → (is_running s.status && (left == 0)) ≡ b → (if b then End Enough else next_event u n s) ≡ Submit e → ((is_running s.status && (left == 0)) ≡ false) × (next_event u n s ≡ Submit e)
-event_left true u left n s e both is = absurd (cc)
-event_left false u left n s e both is = (both, is)
+event_left : (b : Bool) (u : Schedule) (w : Supply) (n : ℕ) (s : Tables) (e : Event) → (is_running s.status && (w.left == 0)) ≡ b → (if b then End Enough else next_event u w.given n s) ≡ Submit e → ((is_running s.status && (w.left == 0)) ≡ false) × (next_event u w.given n s ≡ Submit e)
+event_left true u w n s e both is = absurd (cc)
+event_left false u w n s e both is = (both, is)
 
-pub planned_event : (o : Options) (left : ℕ) (v : View) (e : Event) (answer : Answer) → plan o left v ≡ Ok (Submitted e answer) → next_event (schedule_of o) v.recovered.count v.recovered.state.tables ≡ Submit e
-planned_event o left v e answer is =
+pub planned_event : (o : Options) (w : Supply) (v : View) (e : Event) (answer : Answer) → plan o w v ≡ Ok (Submitted e answer) → next_event (schedule_of o) w.given v.recovered.count v.recovered.state.tables ≡ Submit e
+planned_event o w v e answer is =
     let s = v.recovered.state.tables in
     let u = schedule_of o in
-    let planned = planned_next o left v (Submitted e answer) tt is in
-    (event_left (is_running s.status && (left == 0)) u left v.recovered.count s e refl (event_for (next u left v.recovered.count s) v e answer planned.planned)).1
+    let planned = planned_next o w v (Submitted e answer) tt is in
+    (event_left (is_running s.status && (w.left == 0)) u w v.recovered.count s e refl (event_for (next u w v.recovered.count s) v e answer planned.planned)).1
 
 -- while the program runs; and it does where an event is next
 left_by : (b c : Bool) (left : ℕ) → b ≡ true → (b && c) ≡ false → c ≡ false
@@ -94,13 +95,13 @@ runs_by : (b : Bool) (n : Next) (e : Event) → (if b then n else End Ended) ≡
 runs_by true n e is = refl
 runs_by false n e is = absurd (cc)
 
-pub some_left : (o : Options) (left : ℕ) (v : View) (e : Event) (answer : Answer) → plan o left v ≡ Ok (Submitted e answer) → 0 < left
-some_left o left v e answer is =
+pub some_left : (o : Options) (w : Supply) (v : View) (e : Event) (answer : Answer) → plan o w v ≡ Ok (Submitted e answer) → 0 < w.left
+some_left o w v e answer is =
     let s = v.recovered.state.tables in
     let u = schedule_of o in
-    let planned = planned_next o left v (Submitted e answer) tt is in
-    let h = event_left (is_running s.status && (left == 0)) u left v.recovered.count s e refl (event_for (next u left v.recovered.count s) v e answer planned.planned) in
-    not_zero left (left_by (is_running s.status) (left == 0) left (runs_by (is_running s.status) _ e h.1) h.0)
+    let planned = planned_next o w v (Submitted e answer) tt is in
+    let h = event_left (is_running s.status && (w.left == 0)) u w v.recovered.count s e refl (event_for (next u w v.recovered.count s) v e answer planned.planned) in
+    not_zero w.left (left_by (is_running s.status) (w.left == 0) w.left (runs_by (is_running s.status) _ e h.1) h.0)
 
 -- AN END
 
@@ -125,15 +126,15 @@ end_for (Submit e) v ending is = absurd (offered_no_end v e ending (refusal_of v
 end_for (End why) v ending is = let h = end_by (is_settled v) why ending is in (h.0, ap End h.1)
 
 -- an end is planned where it is next, and all is acknowledged and confirmed
-pub record IsPlannedEnd (o : Options) (left : ℕ) (v : View) (ending : Ending) : Type 0 where
+pub record IsPlannedEnd (o : Options) (w : Supply) (v : View) (ending : Ending) : Type 0 where
   pub confirmed : nat_lt v.recovered.confirmed v.released ≡ false
   pub settled : v.acknowledged ≡ v.recovered.count
-  pub planned : next (schedule_of o) left v.recovered.count v.recovered.state.tables ≡ End ending
+  pub planned : next (schedule_of o) w v.recovered.count v.recovered.state.tables ≡ End ending
 
-pub planned_end : (o : Options) (left : ℕ) (v : View) (ending : Ending) → plan o left v ≡ Ok (Stopped ending) → IsPlannedEnd o left v ending
-planned_end o left v ending is =
-    let planned = planned_next o left v (Stopped ending) tt is in
-    let h = end_for (next (schedule_of o) left v.recovered.count v.recovered.state.tables) v ending planned.planned in
+pub planned_end : (o : Options) (w : Supply) (v : View) (ending : Ending) → plan o w v ≡ Ok (Stopped ending) → IsPlannedEnd o w v ending
+planned_end o w v ending is =
+    let planned = planned_next o w v (Stopped ending) tt is in
+    let h = end_for (next (schedule_of o) w v.recovered.count v.recovered.state.tables) v ending planned.planned in
     record { confirmed = planned.confirmed; settled = same_number v.acknowledged v.recovered.count h.0; planned = h.1 }
 
 -- A CHECKPOINT
@@ -162,22 +163,22 @@ settled_for : (n : Next) (v : View) → IsSettledFor v (plan_for n v)
 settled_for (Submit e) v is = settled_offered v e (refusal_of v e) is
 settled_for (End ending) v is = settled_end (is_settled v) v ending is
 
-settled_commit : (b : Bool) (o : Options) (left : ℕ) (v : View) → IsSettledFor v (if b then Ok Committed else plan_next o left v)
-settled_commit true o left v is = absurd (cc)
-settled_commit false o left v is = settled_for (next (schedule_of o) left v.recovered.count v.recovered.state.tables) v is
+settled_commit : (b : Bool) (o : Options) (w : Supply) (v : View) → IsSettledFor v (if b then Ok Committed else plan_next o w v)
+settled_commit true o w v is = absurd (cc)
+settled_commit false o w v is = settled_for (next (schedule_of o) w v.recovered.count v.recovered.state.tables) v is
 
-settled_checkpoint : (b : Bool) (o : Options) (left : ℕ) (v : View) → is_checkpoint_due v ≡ b → IsSettledFor v (if b then Ok Checkpointed else if is_commit_due o v then Ok Committed else plan_next o left v)
-settled_checkpoint true o left v due is = (both_are (is_settled v) (is_old v || is_filled v) due).0
-settled_checkpoint false o left v due is = settled_commit (is_commit_due o v) o left v is
+settled_checkpoint : (b : Bool) (o : Options) (w : Supply) (v : View) → is_checkpoint_due v ≡ b → IsSettledFor v (if b then Ok Checkpointed else if is_commit_due o v then Ok Committed else plan_next o w v)
+settled_checkpoint true o w v due is = (both_are (is_settled v) (is_old v || is_filled v) due).0
+settled_checkpoint false o w v due is = settled_commit (is_commit_due o v) o w v is
 
-settled_release : (b : Bool) (o : Options) (left : ℕ) (v : View) → IsSettledFor v (if b then Ok Released else plan_onward o left v)
-settled_release true o left v is = absurd (cc)
-settled_release false o left v is = settled_checkpoint (is_checkpoint_due v) o left v refl is
+settled_release : (b : Bool) (o : Options) (w : Supply) (v : View) → IsSettledFor v (if b then Ok Released else plan_onward o w v)
+settled_release true o w v is = absurd (cc)
+settled_release false o w v is = settled_checkpoint (is_checkpoint_due v) o w v refl is
 
-pub all_acknowledged : (o : Options) (left : ℕ) (v : View) → plan o left v ≡ Ok Checkpointed → v.acknowledged ≡ v.recovered.count
-all_acknowledged o left v is = same_number v.acknowledged v.recovered.count (settled_release (nat_lt v.recovered.confirmed v.released) o left v is)
+pub all_acknowledged : (o : Options) (w : Supply) (v : View) → plan o w v ≡ Ok Checkpointed → v.acknowledged ≡ v.recovered.count
+all_acknowledged o w v is = same_number v.acknowledged v.recovered.count (settled_release (nat_lt v.recovered.confirmed v.released) o w v is)
 
-pub nothing_pending : {D : Type 0} {g : Ghosts D} (o : Options) (left : ℕ) (s : Session D g) (p : Program) (events : List Event) → Represents p events s → plan o left (view_of s) ≡ Ok Checkpointed → s.pending.items ≡ []
-nothing_pending o left s p events reps is =
-    let all = all_acknowledged o left (view_of s) is ∙ reps.count in
+pub nothing_pending : {D : Type 0} {g : Ghosts D} (o : Options) (w : Supply) (s : Session D g) (p : Program) (events : List Event) → Represents p events s → plan o w (view_of s) ≡ Ok Checkpointed → s.pending.items ≡ []
+nothing_pending o w s p events reps is =
+    let all = all_acknowledged o w (view_of s) is ∙ reps.count in
     reps.pending ∙ ap encodings_of (drop_all s.acknowledged events (omega (arith, all)))

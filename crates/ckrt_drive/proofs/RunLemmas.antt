@@ -12,16 +12,17 @@ use Rattle.ckrt_commands.specs.Accepts.{Accepts}
 use Rattle.ckrt_commands.proofs.AcceptLemmas.{accepts_kept, accepts_more, since_start}
 use Rattle.ckrt_drive.specs.declared.options.Options.{Options}
 use Rattle.ckrt_drive.specs.declared.fault.DriveFault.{DriveFault}
-use Rattle.ckrt_drive.specs.declared.fault.DriveFault.TheVariants.{Device, Output, OutputFull, GenerationsUsed, Refused}
+use Rattle.ckrt_drive.specs.declared.fault.DriveFault.TheVariants.{Device, Input, NoRecord, Output, OutputFull, GenerationsUsed, Refused}
 use Rattle.ckrt_drive.specs.declared.progress.Ending.{Ending}
 use Rattle.ckrt_drive.specs.declared.progress.Ending.TheVariants.{Enough}
 use Rattle.ckrt_drive.specs.declared.progress.Progress.{Progress}
 use Rattle.ckrt_drive.specs.declared.progress.Progress.TheVariants.{Submitted, Committed, Checkpointed, Released, Stopped}
+use Rattle.ckrt_drive.specs.declared.supply.Supply.{Supply}
 use Rattle.ckrt_drive.specs.Plan.{left_after, plan, schedule_of}
 use Rattle.ckrt_drive.specs.Output.{HasOutput, HoldsOutput, Writes, acknowledged_output}
-use Rattle.ckrt_drive.specs.Runs.{FollowsPlan, GoesByPlan, IsAtEnd, IsFault, IsOnward, Runs, Stand, StopsRightly, events_in, stand, stand_after, stand_of}
+use Rattle.ckrt_drive.specs.Runs.{FollowsPlan, GoesByPlan, IsAtEnd, IsFault, IsOnward, IsPlanned, Runs, Stand, StopsRightly, events_in, stand, stand_after, stand_of}
 use Rattle.ckrt_drive.specs.PutOut.{PutsOutput, output_failed, is_output_fault}
-use Rattle.ckrt_drive.specs.Steps.{IsWhyStep, Steps, accepted_by, view_after}
+use Rattle.ckrt_drive.specs.Steps.{IsWhyStep, Steps, accepted_by, aim_of, view_after}
 use Rattle.ckrt_drive.proofs.EndLemmas.{end_of}
 use Rattle.ckrt_drive.proofs.PlannedLemmas.{planned_end, some_left}
 use Rattle.ckrt_drive.proofs.PutLemmas.{puts_nothing, puts_output_more}
@@ -33,12 +34,12 @@ reached : (n m : ℕ) → nat_lt n m ≡ false → n ≤ m → n ≡ m
 reached n m e le = grind (arith, nat_tests)
 
 -- an end is planned only where all is saved, and it is what it says
-pub at_end : (o : Options) (left : ℕ) (v : View) (ending : Ending) → v.recovered.confirmed ≤ v.released → plan o left v ≡ Ok (Stopped ending) → IsAtEnd left v ending
-at_end o left v ending le is =
-    let h = planned_end o left v ending is in
+pub at_end : (o : Options) (w : Supply) (v : View) (ending : Ending) → v.recovered.confirmed ≤ v.released → plan o w v ≡ Ok (Stopped ending) → IsAtEnd w.left v ending
+at_end o w v ending le is =
+    let h = planned_end o w v ending is in
     record {
       saved = record { acknowledged = h.settled; confirmed = reached v.recovered.confirmed v.released h.confirmed le };
-      is = end_of (schedule_of o) left v.recovered.count v.recovered.state.tables ending h.planned;
+      is = end_of (schedule_of o) w v.recovered.count v.recovered.state.tables ending h.planned;
     }
 
 -- EVENTS
@@ -48,7 +49,7 @@ counted : (o : Options) (did : List Progress) (x y : Stand) → FollowsPlan o di
 counted o [] x y h = let same = ap (λ (q : Stand). q.left) h in omega (arith, same)
 counted o (Submitted e answer ∷ more) x y h =
     let rest = counted o more (stand_after (Submitted e answer) x) y h.2 in
-    omega (arith, rest, some_left o x.left x.view e answer h.0)
+    omega (arith, rest, h.0.1, some_left o h.0.0 x.view e answer h.0.2)
 counted o (Committed ∷ more) x y h = counted o more (stand_after Committed x) y h.2
 counted o (Checkpointed ∷ more) x y h = counted o more (stand_after Checkpointed x) y h.2
 counted o (Released ∷ more) x y h = counted o more (stand_after Released x) y h.2
@@ -62,8 +63,8 @@ onward Checkpointed no_stop = tt
 onward Released no_stop = tt
 onward (Stopped ending) no_stop = no_stop ending refl
 
-follows_more : (o : Options) (xs : List Progress) (did : Progress) (x y : Stand) → FollowsPlan o xs x y → plan o y.left y.view ≡ Ok did → IsOnward did → FollowsPlan o (xs ++ did ∷ []) x (stand_after did y)
-follows_more o [] did x y h is on = (subst (λ (q : Stand). plan o q.left q.view ≡ Ok did) h is, on, ap (stand_after did) h)
+follows_more : (o : Options) (xs : List Progress) (did : Progress) (x y : Stand) → FollowsPlan o xs x y → IsPlanned o y (Ok did) → IsOnward did → FollowsPlan o (xs ++ did ∷ []) x (stand_after did y)
+follows_more o [] did x y h is on = (subst (λ (q : Stand). IsPlanned o q (Ok did)) h is, on, ap (stand_after did) h)
 follows_more o (first ∷ xs) did x y h is on = (h.0, h.1, follows_more o xs did (stand_after first x) y h.2 is on)
 
 events_more : (xs : List Progress) (did : Progress) → events_in (xs ++ did ∷ []) ≡ events_in xs ++ accepted_by did
@@ -83,27 +84,29 @@ no_room : (fault : DriveFault) (result : Result (Option Ending) DriveFault) → 
 no_room fault result is full = cc
 
 module _ {D O : Type 0} {g : Ghosts D} (o : Ghosts O) where
-  pub stops_rightly : (options : Options) (c c' : ℕ) (s t : Session D g) (a b : O) (r : Result Progress DriveFault) → Steps o (plan options c (view_of s)) s t a b r
+  pub stops_rightly : (options : Options) (w : Supply) (c c' : ℕ) (s t : Session D g) (a b : O) (r : Result Progress DriveFault) → w.left ≡ c → Steps o (aim_of options w (view_of s)) s t a b r
       → IfOk r (λ did. c' ≡ left_after did c) → IfOk r (StopsRightly c' (view_of t))
-  stops_rightly options c c' s t a b (Ok (Submitted e answer)) h turned = tt
-  stops_rightly options c c' s t a b (Ok Committed) h turned = tt
-  stops_rightly options c c' s t a b (Ok Checkpointed) h turned = tt
-  stops_rightly options c c' s t a b (Ok Released) h turned = tt
-  stops_rightly options c c' s t a b (Ok (Stopped ending)) h turned = subst (λ (q : Stand). IsAtEnd q.left q.view ending) (sym (same_stand c' c (view_of t) (view_of s) turned h.done.1)) (at_end options c (view_of s) ending s.released_from h.done.0)
-  stops_rightly options c c' s t a b (Err e) h turned = tt
+  stops_rightly options w c c' s t a b (Ok (Submitted e answer)) same h turned = tt
+  stops_rightly options w c c' s t a b (Ok Committed) same h turned = tt
+  stops_rightly options w c c' s t a b (Ok Checkpointed) same h turned = tt
+  stops_rightly options w c c' s t a b (Ok Released) same h turned = tt
+  stops_rightly options w c c' s t a b (Ok (Stopped ending)) same h turned = subst (λ (q : Stand). IsAtEnd q.left q.view ending) (sym (same_stand c' w.left (view_of t) (view_of s) (turned ∙ sym same) h.done.1)) (at_end options w (view_of s) ending s.released_from h.done.0)
+  stops_rightly options w c c' s t a b (Err e) same h turned = tt
 
   -- how a step's fault leaves where it stands
-  fault_stands : (options : Options) (c c' : ℕ) (s t : Session D g) (a b : O) (fault : DriveFault) → c' ≡ c → IsWhyStep o (plan options c (view_of s)) s t a b fault → IsFault options (stand_of c s) (stand_of c' t) fault
-  fault_stands options c c' s t a b Device same h = same_stand c' c (view_of t) (record (view_of s) { failed = true }) same h
-  fault_stands options c c' s t a b Output same h = (h.0, same_stand c' c (view_of t) (view_of s) same h.2)
-  fault_stands options c c' s t a b OutputFull same h = (h.0, same_stand c' c (view_of t) (view_of s) same (ap view_of h.2))
-  fault_stands options c c' s t a b GenerationsUsed same h = (h.0, same_stand c' c (view_of t) (view_of s) same (ap view_of h.1))
-  fault_stands options c c' s t a b (Refused why) same h = (h.0, same_stand c' c (view_of t) (view_of s) same (ap view_of h.1))
+  fault_stands : (options : Options) (w : Supply) (c c' : ℕ) (s t : Session D g) (a b : O) (fault : DriveFault) → w.left ≡ c → c' ≡ c → IsWhyStep o (aim_of options w (view_of s)) s t a b fault → IsFault options (stand_of c s) (stand_of c' t) fault
+  fault_stands options w c c' s t a b Device left same h = same_stand c' c (view_of t) (record (view_of s) { failed = true }) same h
+  fault_stands options w c c' s t a b Input left same h = same_stand c' c (view_of t) (view_of s) same (ap view_of h.0)
+  fault_stands options w c c' s t a b NoRecord left same h = ((w, left, h.0), same_stand c' c (view_of t) (view_of s) same (ap view_of h.2))
+  fault_stands options w c c' s t a b Output left same h = ((w, left, h.0), same_stand c' c (view_of t) (view_of s) same h.2)
+  fault_stands options w c c' s t a b OutputFull left same h = ((w, left, h.0), same_stand c' c (view_of t) (view_of s) same (ap view_of h.2))
+  fault_stands options w c c' s t a b GenerationsUsed left same h = (h.0, same_stand c' c (view_of t) (view_of s) same (ap view_of h.1))
+  fault_stands options w c c' s t a b (Refused why) left same h = ((w, left, h.0), same_stand c' c (view_of t) (view_of s) same (ap view_of h.1))
 
   -- where the output has no room it had none at first
-  full_by : (options : Options) (c : ℕ) (s t : Session D g) (x a b : O) (fault : DriveFault) → o.size x ≡ o.size a → IsWhyStep o (plan options c (view_of s)) s t a b fault → fault ≡ OutputFull → o.size x < t.released
-  full_by options c s t x a b fault same h is =
-      let why = subst (λ f. IsWhyStep o (plan options c (view_of s)) s t a b f) is h in
+  full_by : (options : Options) (w : Supply) (s t : Session D g) (x a b : O) (fault : DriveFault) → o.size x ≡ o.size a → IsWhyStep o (aim_of options w (view_of s)) s t a b fault → fault ≡ OutputFull → o.size x < t.released
+  full_by options w s t x a b fault same h is =
+      let why = subst (λ f. IsWhyStep o (aim_of options w (view_of s)) s t a b f) is h in
       let released = ap (λ (v : Session D g). v.released) why.2 in
       omega (arith, same, why.1, released)
 
@@ -142,12 +145,12 @@ module _ {D O : Type 0} {g : Ghosts D} (o : Ghosts O) where
   pub so_far_nothing : (options : Options) (c : ℕ) (s : Session D g) (a : O) → SoFar options 0 c c s s a a
   so_far_nothing options c s a = let accepts = accepts_kept s s refl refl in record { did = []; follows = refl; count = refl; accepts = accepts; writes = writes_kept o [] s s a accepts refl; puts = puts_nothing o [] s s a refl; well = refl }
 
-  pub so_far_more : (options : Options) (made : ℕ) (c d e : ℕ) (did : Progress) (s m u : Session D g) (x y z : O) → SoFar options made c d s m x y → IsOnward did → Steps o (plan options d (view_of m)) m u y z (Ok did)
+  pub so_far_more : (options : Options) (w : Supply) (made : ℕ) (c d e : ℕ) (did : Progress) (s m u : Session D g) (x y z : O) → SoFar options made c d s m x y → IsOnward did → w.left ≡ d → Steps o (aim_of options w (view_of m)) m u y z (Ok did)
       → e ≡ left_after did d → o.failures z ≡ o.failures y → SoFar options (made + 1) c e s u x z
-  so_far_more options made c d e did s m u x y z h on k turned well = record {
+  so_far_more options w made c d e did s m u x y z h on left k turned well = record {
     did = h.did ++ did ∷ [];
     follows = subst (λ q. FollowsPlan options (h.did ++ did ∷ []) (stand_of c s) q) (sym (same_stand e (left_after did d) (view_of u) (view_after did (view_of m)) turned k.done.1))
-        (follows_more options h.did did (stand_of c s) (stand_of d m) h.follows k.done.0 on);
+        (follows_more options h.did did (stand_of c s) (stand_of d m) h.follows (w, left, k.done.0) on);
     count = length-append h.did (did ∷ []) ∙ ap (λ n. n + 1) h.count;
     accepts = subst (λ (l : List Event). Accepts l s u) (sym (events_more h.did did)) (accepts_more (events_in h.did) (accepted_by did) s m u h.accepts k.accepts);
     writes = subst (λ (l : List Event). Writes o l s u x z) (sym (events_more h.did did)) (writes_more (events_in h.did) (accepted_by did) s m u x y z h.accepts k.accepts h.writes k.writes);
@@ -187,9 +190,9 @@ module _ {D O : Type 0} {g : Ghosts D} (o : Ghosts O) where
     })
 
     -- steps so far, and then an end
-    pub runs_to_end : (made : ℕ) (c d e : ℕ) (ending : Ending) (s m u : Session D g) (x y z : O) → made < steps → SoFar options made c d s m x y → Steps o (plan options d (view_of m)) m u y z (Ok (Stopped ending))
+    pub runs_to_end : (w : Supply) (made : ℕ) (c d e : ℕ) (ending : Ending) (s m u : Session D g) (x y z : O) → made < steps → SoFar options made c d s m x y → w.left ≡ d → Steps o (aim_of options w (view_of m)) m u y z (Ok (Stopped ending))
         → e ≡ d → IsAtEnd e (view_of u) ending → Runs o options steps c e s u x z (Ok (Some ending))
-    runs_to_end made c d e ending s m u x y z some h k same at =
+    runs_to_end w made c d e ending s m u x y z some h left k same at =
         let there = same_stand e d (view_of u) (view_of m) same k.done.1 in
         let none = append-nil (events_in h.did) in
         runs_by (events_in h.did) c e s u x z (Ok (Some ending))
@@ -203,27 +206,27 @@ module _ {D O : Type 0} {g : Ghosts D} (o : Ghosts O) where
           follows = h.follows;
           few = omega (arith, h.count, some);
           took = refl;
-          why = (k.done.0, there, at);
+          why = ((w, left, k.done.0), there, at);
           enough = enough_by options h.did (stand_of c s) (stand_of d m) ending h.follows (subst (λ (q : Stand). IsAtEnd q.left q.view ending) there at) (Ok (Some ending)) refl;
         })
 
     -- steps so far, and then one that failed
-    pub runs_to_fault : (made : ℕ) (c d e : ℕ) (fault : DriveFault) (s m u : Session D g) (x y z : O) → made < steps → SoFar options made c d s m x y → Steps o (plan options d (view_of m)) m u y z (Err fault)
+    pub runs_to_fault : (w : Supply) (made : ℕ) (c d e : ℕ) (fault : DriveFault) (s m u : Session D g) (x y z : O) → made < steps → SoFar options made c d s m x y → w.left ≡ d → Steps o (aim_of options w (view_of m)) m u y z (Err fault)
         → e ≡ d → Runs o options steps c e s u x z (Err fault)
-    runs_to_fault made c d e fault s m u x y z some h k same =
+    runs_to_fault w made c d e fault s m u x y z some h left k same =
         let none = append-nil (events_in h.did) in
         let count : length h.did < steps = omega (arith, h.count, some) in
         runs_by (events_in h.did) c e s u x z (Err fault)
         (subst (λ (l : List Event). Accepts l s u) none (accepts_more (events_in h.did) [] s m u h.accepts k.accepts))
         (subst (λ (l : List Event). Writes o l s u x z) none (writes_more (events_in h.did) [] s m u x y z h.accepts k.accepts h.writes k.writes))
         (subst (λ (l : List Event). PutsOutput o l s u x z (output_failed fault)) none (puts_output_more o (events_in h.did) [] s m u x y z (output_failed fault) h.accepts k.accepts h.puts k.puts))
-        (λ is. full_by options d m u x y z fault (sym h.writes.size) k.why (no_room fault (Err fault) refl is))
+        (λ is. full_by options w m u x y z fault (sym h.writes.size) k.why (no_room fault (Err fault) refl is))
         (record {
           did = h.did;
           last = stand_of d m;
           follows = h.follows;
           few = omega (arith, count);
           took = refl;
-          why = (count, fault_stands options d e m u y z fault same k.why);
+          why = (count, fault_stands options w d e m u y z fault left same k.why);
           enough = λ is. absurd (cc);
         })

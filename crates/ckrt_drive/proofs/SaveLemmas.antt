@@ -14,16 +14,18 @@ use Rattle.ckrt_recovery.specs.declared.fault.CommitFault.TheVariants as commit
 use Rattle.ckrt_recovery.specs.declared.fault.SubmitFault.{SubmitFault}
 use Rattle.ckrt_recovery.specs.declared.fault.SubmitFault.TheVariants as submit
 use Rattle.ckrt_recovery.specs.declared.session.Session.{Session}
-use Rattle.ckrt_recovery.specs.Calls.{Checkpoints, Commits, WritesOtherArea, checkpoint_refusal, is_device}
+use Rattle.ckrt_recovery.specs.Calls.{Checkpoints, Commits, checkpoint_refusal, is_device}
 use Rattle.ckrt_recovery.specs.Represents.{Represents, RecoversToEither}
 use Rattle.ckrt_recovery.specs.View.{View, view_of, refusal_of, refusal_when_running, after_event}
-use Rattle.ckrt_commands.proofs.AcceptLemmas.{accepts_kept, accepts_still, accepts_commit, accepts_checkpoint}
+use Rattle.ckrt_commands.proofs.AcceptLemmas.{accepts_all, accepts_commit, accepts_kept, accepts_still, acknowledges_checkpoint}
 use Rattle.ckrt_drive.specs.declared.fault.DriveFault.{DriveFault}
-use Rattle.ckrt_drive.specs.declared.fault.DriveFault.TheVariants.{Device, GenerationsUsed, Refused}
+use Rattle.ckrt_drive.specs.declared.fault.DriveFault.TheVariants.{Device, GenerationsUsed, NoRecord, Refused}
 use Rattle.ckrt_drive.specs.declared.progress.Progress.{Progress}
 use Rattle.ckrt_drive.specs.declared.progress.Progress.TheVariants.{Submitted, Committed, Checkpointed}
 use Rattle.ckrt_drive.specs.Plan.{make_room, is_shortage, offered}
-use Rattle.ckrt_drive.specs.Steps.{Advances}
+use Rattle.ckrt_drive.specs.Feeding.{FeedsIfRecorded, LacksRecord}
+use Rattle.ckrt_drive.specs.Steps.{Advances, aim}
+use Rattle.ckrt_drive.proofs.FeedLemmas.{event_feeds, still_feeds}
 
 pub at_ok : {A E : Type 0} (r : Result A E) (P : Type 0) (x : A) → r ≡ Ok x → OnOk r P → P
 at_ok r P x is h = subst (λ q. OnOk q P) is h
@@ -74,45 +76,57 @@ running false o e = refl
 abbrev submitted : Event → Answer → Result Progress DriveFault
 submitted e answer = Ok (Submitted e answer)
 
-module _ {D : Type 0} {g : Ghosts D} where
+module _ {D : Type 0} {g : Ghosts D} (recorded : Option ℕ) where
   -- COMMITS
 
-  pub advances_commit : (region : ℕ → Type 0) (n x : ℕ) (old new : Session D g) (r : Result ℕ CommitFault) → r ≡ Ok x
+  pub advances_commit : (region : ℕ → Type 0) (n x : ℕ) (old new : Session D g) (r : Result ℕ CommitFault) → r ≡ Ok x → FeedsIfRecorded [] old new recorded
       → (g.is_honest new.disk → (p : Program) (events : List Event) → Represents p events old → LeavesOnly g.moment g.left_since old.disk new.disk (RecoversToEither p events old))
       → (g.is_honest new.disk → (p : Program) (events : List Event) → Represents p events old → Represents p events new)
       → WritesWithin g region n old.disk new.disk (is_device r)
       → Commits old r new
-      → Advances (Ok Committed) old new (Ok Committed)
-  advances_commit region n x old new r is any_moment represents disk commits = record {
+      → Advances (aim (Ok Committed) recorded) old new (Ok Committed)
+  advances_commit region n x old new r is feeds any_moment represents disk commits = record {
     done = (refl, at_ok r _ x is commits.ok);
     why = tt;
     accepts = accepts_commit region n old new r any_moment represents disk commits;
+    feeds = feeds;
   }
 
-  pub advances_failed : (region : ℕ → Type 0) (n : ℕ) (fault : CommitFault) (old new : Session D g) (r : Result ℕ CommitFault) → r ≡ Err fault
+  pub advances_failed : (region : ℕ → Type 0) (n : ℕ) (fault : CommitFault) (old new : Session D g) (r : Result ℕ CommitFault) → r ≡ Err fault → FeedsIfRecorded [] old new recorded
       → (g.is_honest new.disk → (p : Program) (events : List Event) → Represents p events old → LeavesOnly g.moment g.left_since old.disk new.disk (RecoversToEither p events old))
       → (g.is_honest new.disk → (p : Program) (events : List Event) → Represents p events old → Represents p events new)
       → WritesWithin g region n old.disk new.disk (is_device r)
       → Commits old r new
-      → Advances (Ok Committed) old new (Err Device)
-  advances_failed region n fault old new r is any_moment represents disk commits = record {
+      → Advances (aim (Ok Committed) recorded) old new (Err Device)
+  advances_failed region n fault old new r is feeds any_moment represents disk commits = record {
     done = tt;
     why = at_err r _ fault is commits.err;
     accepts = accepts_commit region n old new r any_moment represents disk commits;
+    feeds = feeds;
   }
 
   -- CHECKPOINTS
 
-  pub advances_checkpoint : (x : ℕ) (old new : Session D g) (r : Result ℕ CommitFault) → r ≡ Ok x
+  pub advances_checkpoint : (region : ℕ → Type 0) (n x : ℕ) (old new : Session D g) (r : Result ℕ CommitFault) → r ≡ Ok x → FeedsIfRecorded [] old new recorded
       → (g.is_honest new.disk → (p : Program) (events : List Event) → Represents p events old → LeavesOnly g.moment g.left_since old.disk new.disk (RecoversToEither p events old))
       → (g.is_honest new.disk → (p : Program) (events : List Event) → Represents p events old → Represents p events new)
-      → WritesOtherArea old r new
+      → WritesWithin g region n old.disk new.disk (is_device r)
       → Checkpoints old r new
-      → Advances (Ok Checkpointed) old new (Ok Checkpointed)
-  advances_checkpoint x old new r is any_moment represents disk k = record {
+      → Advances (aim (Ok Checkpointed) recorded) old new (Ok Checkpointed)
+  advances_checkpoint region n x old new r is feeds any_moment represents disk k = record {
     done = (refl, at_ok r _ x is k.ok);
     why = tt;
-    accepts = accepts_checkpoint old new r any_moment represents disk k;
+    accepts = accepts_all region n old new r any_moment represents disk (acknowledges_checkpoint old new r k);
+    feeds = feeds;
+  }
+
+  -- there is no place for the record
+  pub advances_unrecorded : (s : Session D g) → LacksRecord s recorded → Advances (aim (Ok Checkpointed) recorded) s s (Err NoRecord)
+  advances_unrecorded s lacks = record {
+    done = tt;
+    why = (refl, lacks, refl);
+    accepts = accepts_kept s s refl refl;
+    feeds = still_feeds recorded s s refl;
   }
 
   -- a checkpoint that a reason refuses: which reason it is
@@ -123,13 +137,14 @@ module _ {D : Type 0} {g : Ghosts D} where
       by None h u = absurd (other (subst (λ q. IfErr q (λ e. e ≡ commit.Device)) is h))
       by (Some f) h u = (let same : f ≡ fault = cc in ap (λ (x : CommitFault). Some x) same, u)
 
-  pub advances_used : (old new : Session D g) (r : Result ℕ CommitFault) → r ≡ Err commit.GenerationsUsed → Checkpoints old r new → Advances (Ok Checkpointed) old new (Err GenerationsUsed)
+  pub advances_used : (old new : Session D g) (r : Result ℕ CommitFault) → r ≡ Err commit.GenerationsUsed → Checkpoints old r new → Advances (aim (Ok Checkpointed) recorded) old new (Err GenerationsUsed)
   advances_used old new r is k =
       let why = reason old new r commit.GenerationsUsed is (λ no. absurd (cc)) k in
       record {
         done = tt;
         why = (equal old.progress.generation (2 ^ 64 - 1) (used_by old.failed (nat_eq old.progress.generation (2 ^ 64 - 1)) why.0), why.1);
         accepts = accepts_kept old new (ap view_of why.1) (ap (λ (s : Session D g). s.disk) why.1);
+        feeds = still_feeds recorded old new why.1;
       }
 
   -- of a session that had failed nothing changes
@@ -143,42 +158,48 @@ module _ {D : Type 0} {g : Ghosts D} where
       still_failed old new (failed_by old.failed (nat_eq old.progress.generation (2 ^ 64 - 1)) why.0) why.1
   unsaved commit.GenerationsUsed old new r is other k = absurd (other refl)
 
-  pub advances_unsaved : (fault : CommitFault) (old new : Session D g) (r : Result ℕ CommitFault) → r ≡ Err fault → (fault ≡ commit.GenerationsUsed → ⊥)
+  pub advances_unsaved : (region : ℕ → Type 0) (n : ℕ) (fault : CommitFault) (old new : Session D g) (r : Result ℕ CommitFault) → r ≡ Err fault → (fault ≡ commit.GenerationsUsed → ⊥) → FeedsIfRecorded [] old new recorded
       → (g.is_honest new.disk → (p : Program) (events : List Event) → Represents p events old → LeavesOnly g.moment g.left_since old.disk new.disk (RecoversToEither p events old))
       → (g.is_honest new.disk → (p : Program) (events : List Event) → Represents p events old → Represents p events new)
-      → WritesOtherArea old r new
+      → WritesWithin g region n old.disk new.disk (is_device r)
       → Checkpoints old r new
-      → Advances (Ok Checkpointed) old new (Err Device)
-  advances_unsaved fault old new r is other any_moment represents disk k = record {
+      → Advances (aim (Ok Checkpointed) recorded) old new (Err Device)
+  advances_unsaved region n fault old new r is other feeds any_moment represents disk k = record {
     done = tt;
     why = unsaved fault old new r is other k;
-    accepts = accepts_checkpoint old new r any_moment represents disk k;
+    accepts = accepts_all region n old new r any_moment represents disk (acknowledges_checkpoint old new r k);
+    feeds = feeds;
   }
 
   -- EVENTS
 
   pub advances_taken : (e : Event) (answer : Answer) (old new : Session D g) → answer ≡ (step e old.progress.machine.state).answer → refusal_of (view_of old) e ≡ None → view_of new ≡ after_event (view_of old) e → new.disk ≡ old.disk
       → ((p : Program) (events : List Event) → Represents p events old → Represents p (events ++ e ∷ []) new)
-      → Advances (offered (view_of old) e (refusal_of (view_of old) e)) old new (Ok (Submitted e answer))
+      → Advances (aim (offered (view_of old) e (refusal_of (view_of old) e)) recorded) old new (Ok (Submitted e answer))
   advances_taken e answer old new is none view disk represents =
       let confirmed : new.progress.confirmed ≡ old.progress.confirmed = ap (λ (v : View). v.recovered.confirmed) view in
       let runs : old.failed ≡ false = running old.failed (refusal_when_running (view_of old) e) none in
+      let failed = ap (λ (v : View). v.failed) view in
+      let acknowledged = ap (λ (v : View). v.acknowledged) view in
+      let accepts = accepts_still (e ∷ []) old new disk failed acknowledged (omega (arith, confirmed)) (λ was. let no : true ≡ false = sym was ∙ runs in absurd (cc)) represents in
       record {
         done = (ap (offered (view_of old) e) none ∙ ap (submitted e) (sym is), view);
         why = tt;
-        accepts = accepts_still (e ∷ []) old new disk (ap (λ (v : View). v.failed) view) (ap (λ (v : View). v.acknowledged) view) (omega (arith, confirmed)) (λ was. let no : true ≡ false = sym was ∙ runs in absurd (cc)) represents;
+        accepts = accepts;
+        feeds = event_feeds old new recorded e accepts acknowledged failed runs disk;
       }
 
   pub advances_short : (e : Event) (why : SubmitFault) (old mid new : Session D g) (r : Result Progress DriveFault) → refusal_of (view_of old) e ≡ Some why → mid ≡ old → is_shortage why ≡ true
-      → Advances (Ok (make_room (view_of mid))) mid new r → Advances (offered (view_of old) e (refusal_of (view_of old) e)) old new r
+      → Advances (aim (Ok (make_room (view_of mid))) recorded) mid new r → Advances (aim (offered (view_of old) e (refusal_of (view_of old) e)) recorded) old new r
   advances_short e why old mid new r is same short saved =
       let planned = ap (offered (view_of old) e) is ∙ choice (is_shortage why) (Ok (make_room (view_of old))) (Err (Refused why)) true short in
-      subst (λ (q : Result Progress DriveFault). Advances q old new r) (sym planned) (subst (λ (s : Session D g). Advances (Ok (make_room (view_of s))) s new r) same saved)
+      subst (λ (q : Result Progress DriveFault). Advances (aim q recorded) old new r) (sym planned) (subst (λ (s : Session D g). Advances (aim (Ok (make_room (view_of s))) recorded) s new r) same saved)
 
   pub advances_refused : (e : Event) (why : SubmitFault) (old new : Session D g) → refusal_of (view_of old) e ≡ Some why → new ≡ old → is_shortage why ≡ false
-      → Advances (offered (view_of old) e (refusal_of (view_of old) e)) old new (Err (Refused why))
+      → Advances (aim (offered (view_of old) e (refusal_of (view_of old) e)) recorded) old new (Err (Refused why))
   advances_refused e why old new is same long = record {
     done = tt;
     why = (ap (offered (view_of old) e) is ∙ choice (is_shortage why) (Ok (make_room (view_of old))) (Err (Refused why)) false long, same);
     accepts = accepts_kept old new (ap view_of same) (ap (λ (s : Session D g). s.disk) same);
+    feeds = still_feeds recorded old new same;
   }

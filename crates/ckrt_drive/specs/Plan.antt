@@ -1,6 +1,6 @@
--- What a drive does next (this project's choice). Which event comes next is a function of the schedule, of how many events were accepted since
--- the disk was formatted, and of the tables; what is saved when is one of what is pending and of the journal's room. A drive remembers nothing
--- of it but how many events are left to it.
+-- What a drive does next (this project's choice). Which event comes next is a function of what the input gives, of the schedule, of how many
+-- events were accepted since the disk was formatted, and of the tables; what is saved when is one of what is pending and of the journal's room.
+-- A drive remembers nothing of it but how many events are left to it, and how many bytes of its input the program has taken.
 use Rattle.std.specs.Prelude.{ℕ, zero, suc, ◌+◌, ◌-◌, ◌*◌, ◌/◌, ◌%◌, ◌==◌, ◌||◌, ◌&&◌, nat_lt, nat_le, min, max, Bool, true, false, if◌then◌else◌, Option, Some, None, is_some, unwrap_or, List, [], ◌∷◌, Result, Ok, Err}
 use Rattle.ckrt_thread.specs.declared.records.Wait.{Wait}
 use Rattle.ckrt_thread.specs.declared.records.Object.TheVariants.{Input}
@@ -30,6 +30,7 @@ use Rattle.ckrt_drive.specs.declared.plan.Next.TheVariants.{Submit, End}
 use Rattle.ckrt_drive.specs.declared.plan.Sought.{Sought}
 use Rattle.ckrt_drive.specs.declared.plan.Sought.TheVariants.{Busy, Occupied}
 use Rattle.ckrt_drive.specs.declared.plan.Turn.{Turn}
+use Rattle.ckrt_drive.specs.declared.supply.Supply.{Supply}
 
 -- how many steps a Run may have; a RunLong has more
 abbrev pub RUN_LIMIT : ℕ
@@ -127,13 +128,21 @@ abbrev pub next_by : (least : Option ℕ) → Turn → Tables → Next
 next_by (Some h) turn s = Submit (event_at turn h s)
 next_by None turn s = idle_until (earliest_deadline s.threads.waits) s
 
--- the event that is next behind n others, or why there is none
-abbrev pub next_event : Schedule → (n : ℕ) → Tables → Next
-next_event u n s = if is_running s.status then next_by (next_sought Busy 0 s) (turn_at u n s) s else End Ended
+-- what the input gives comes first
+abbrev pub or_scheduled : (given : Option Event) → Next → Next
+or_scheduled (Some e) scheduled = Submit e
+or_scheduled None scheduled = scheduled
 
--- the same for a drive to which so many events are left
-abbrev pub next : Schedule → (left n : ℕ) → Tables → Next
-next u left n s = if is_running s.status && (left == 0) then End Enough else next_event u n s
+-- the event that is next behind n others, or why there is none
+abbrev pub next_event : Schedule → (given : Option Event) → (n : ℕ) → Tables → Next
+next_event u given n s =
+    if is_running s.status
+    then or_scheduled given (next_by (next_sought Busy 0 s) (turn_at u n s) s)
+    else End Ended
+
+-- the same for a drive with this supply
+abbrev pub next : Schedule → Supply → (n : ℕ) → Tables → Next
+next u w n s = if is_running s.status && (w.left == 0) then End Enough else next_event u w.given n s
 
 -- SAVING
 
@@ -191,17 +200,16 @@ plan_for (Submit e) v = offered v e (refusal_of v e)
 plan_for (End ending) v = if is_settled v then Ok (Stopped ending) else Ok Committed
 
 -- what is planned where nothing has to be saved first
-abbrev pub plan_next : Options → (left : ℕ) → View → Result Progress DriveFault
-plan_next o left v =
-    plan_for (next (schedule_of o) left v.recovered.count v.recovered.state.tables) v
+abbrev pub plan_next : Options → Supply → View → Result Progress DriveFault
+plan_next o w v = plan_for (next (schedule_of o) w v.recovered.count v.recovered.state.tables) v
 
 -- what is planned where all released output is confirmed
-abbrev pub plan_onward : Options → (left : ℕ) → View → Result Progress DriveFault
-plan_onward o left v = if is_checkpoint_due v then Ok Checkpointed else if is_commit_due o v then Ok Committed else plan_next o left v
+abbrev pub plan_onward : Options → Supply → View → Result Progress DriveFault
+plan_onward o w v = if is_checkpoint_due v then Ok Checkpointed else if is_commit_due o v then Ok Committed else plan_next o w v
 
 -- released output goes out first
-abbrev pub plan : Options → (left : ℕ) → View → Result Progress DriveFault
-plan o left v = if nat_lt v.recovered.confirmed v.released then Ok Released else plan_onward o left v
+abbrev pub plan : Options → Supply → View → Result Progress DriveFault
+plan o w v = if nat_lt v.recovered.confirmed v.released then Ok Released else plan_onward o w v
 
 -- how many events are left behind what the drive did
 abbrev pub left_after : Progress → (left : ℕ) → ℕ

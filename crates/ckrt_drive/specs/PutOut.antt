@@ -9,12 +9,14 @@ use Rattle.ckrt_recovery.specs.declared.session.Session.{Session}
 use Rattle.ckrt_recovery.specs.Represents.{Represents}
 use Rattle.ckrt_recovery.specs.View.{View, view_of, released_output}
 use Rattle.ckrt_drive.specs.declared.fault.DriveFault.{DriveFault}
-use Rattle.ckrt_drive.specs.declared.fault.DriveFault.TheVariants.{Device, Output, OutputFull, GenerationsUsed, Refused}
+use Rattle.ckrt_drive.specs.declared.fault.DriveFault.TheVariants.{Device, Input, NoRecord, Output, OutputFull, GenerationsUsed, Refused}
 use Rattle.ckrt_drive.specs.Output.{acknowledged_output}
 
 -- whether the fault is that the output failed a call
 abbrev pub output_failed : DriveFault → Bool
 output_failed Device = false
+output_failed Input = false
+output_failed NoRecord = false
 output_failed Output = true
 output_failed OutputFull = false
 output_failed GenerationsUsed = false

@@ -9,12 +9,13 @@ use Rattle.ckrt_recovery.specs.Represents.{Represents, acknowledged_of}
 use Rattle.ckrt_recovery.specs.View.{View, view_of}
 use Rattle.ckrt_commands.specs.Accepts.{Accepts}
 use Rattle.ckrt_drive.specs.declared.fault.DriveFault.{DriveFault}
-use Rattle.ckrt_drive.specs.declared.fault.DriveFault.TheVariants.{Device, Output, OutputFull, GenerationsUsed, Refused}
+use Rattle.ckrt_drive.specs.declared.fault.DriveFault.TheVariants.{Device, Input, NoRecord, Output, OutputFull, GenerationsUsed, Refused}
 use Rattle.ckrt_drive.specs.declared.options.Options.{Options}
 use Rattle.ckrt_drive.specs.declared.progress.Ending.{Ending}
 use Rattle.ckrt_drive.specs.declared.progress.Ending.TheVariants.{Enough}
 use Rattle.ckrt_drive.specs.declared.progress.Progress.{Progress}
 use Rattle.ckrt_drive.specs.declared.progress.Progress.TheVariants.{Submitted, Committed, Checkpointed, Released, Stopped}
+use Rattle.ckrt_drive.specs.declared.supply.Supply.{Supply}
 use Rattle.ckrt_drive.specs.Ends.{IsEnd}
 use Rattle.ckrt_drive.specs.Output.{HasOutput, HoldsOutput, Writes, acknowledged_output}
 use Rattle.ckrt_drive.specs.Plan.{left_after, plan}
@@ -57,6 +58,10 @@ stand_of left s = stand left (view_of s)
 abbrev pub stand_after : Progress → Stand → Stand
 stand_after did x = record { left = left_after did x.left; view = view_after did x.view }
 
+-- this is planned there, by what the input gave then
+abbrev pub IsPlanned : Options → Stand → Result Progress DriveFault → Type 0
+IsPlanned o x planned = (w : Supply) × (w.left ≡ x.left) × (plan o w x.view ≡ planned)
+
 -- it isn't an end
 abbrev pub IsOnward : Progress → Type 0
 IsOnward (Submitted e answer) = Unit {0}
@@ -68,8 +73,8 @@ IsOnward (Stopped ending) = ⊥
 -- From one stand to another a drive did these things, each as planned, and none of them was an end.
 abbrev pub FollowsPlan : Options → List Progress → (x y : Stand) → Type 0
 FollowsPlan o [] x y = y ≡ x
-FollowsPlan o (did ∷ more) x y =
-    (plan o x.left x.view ≡ Ok did) × IsOnward did × FollowsPlan o more (stand_after did x) y
+FollowsPlan o (did ∷ more) x y = IsPlanned o x (Ok did) × IsOnward did
+    × FollowsPlan o more (stand_after did x) y
 
 -- the events among them
 abbrev pub events_in : List Progress → List Event
@@ -79,10 +84,12 @@ events_in (did ∷ more) = accepted_by did ++ events_in more
 -- how a drive stands at y that couldn't do what is planned at x
 abbrev pub IsFault : Options → (x y : Stand) → DriveFault → Type 0
 IsFault o x y Device = y ≡ record x { view = record x.view { failed = true } }
-IsFault o x y Output = (plan o x.left x.view ≡ Ok Released) × (y ≡ x)
-IsFault o x y OutputFull = (plan o x.left x.view ≡ Ok Released) × (y ≡ x)
+IsFault o x y Input = y ≡ x
+IsFault o x y NoRecord = IsPlanned o x (Ok Checkpointed) × (y ≡ x)
+IsFault o x y Output = IsPlanned o x (Ok Released) × (y ≡ x)
+IsFault o x y OutputFull = IsPlanned o x (Ok Released) × (y ≡ x)
 IsFault o x y GenerationsUsed = (x.view.recovered.generation ≡ 2 ^ 64 - 1) × (y ≡ x)
-IsFault o x y (Refused why) = (plan o x.left x.view ≡ Err (Refused why)) × (y ≡ x)
+IsFault o x y (Refused why) = IsPlanned o x (Err (Refused why)) × (y ≡ x)
 
 -- Why a drive that may make so many steps makes no more than these, behind which it stood at x: it made them all, an end is planned, or it
 -- couldn't do what is planned.
@@ -90,7 +97,7 @@ abbrev pub IsWhyNoMore : Options → (steps made : ℕ) → (x y : Stand)
     → Result (Option Ending) DriveFault → Type 0
 IsWhyNoMore o steps made x y (Ok None) = (made ≡ steps) × (y ≡ x)
 IsWhyNoMore o steps made x y (Ok (Some ending)) =
-    (plan o x.left x.view ≡ Ok (Stopped ending)) × (y ≡ x) × IsAtEnd y.left y.view ending
+    IsPlanned o x (Ok (Stopped ending)) × (y ≡ x) × IsAtEnd y.left y.view ending
 IsWhyNoMore o steps made x y (Err fault) = (made < steps) × IsFault o x y fault
 
 -- From x to y a drive took these events, in at most so many steps.
@@ -121,8 +128,8 @@ pub record Runs {D O : Type 0} {g : Ghosts D} (o : Ghosts O) (options : Options)
   -- it has no room for the released bytes where that is the fault
   pub full : result ≡ Err OutputFull → o.size a < t.released
   -- every image that a stop left of the disk since the start
-  pub since_start : g.is_honest t.disk → (p : Program) (events : List Event) → Represents p events s
-      → (image : List ℕ) → g.left_since t.disk (g.moment s.disk) image
+  pub since_start : g.is_honest t.disk → (p : Program) (events : List Event)
+      → Represents p events s → (image : List ℕ) → g.left_since t.disk (g.moment s.disk) image
       → RecoversBetween p (acknowledged_of events s) (events ++ accepted) t.progress.confirmed image
   -- and of the output
   pub output_since_start : g.is_honest t.disk → o.is_honest b

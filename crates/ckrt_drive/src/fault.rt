@@ -7,6 +7,12 @@ pub enum DriveFault {
     /// The disk failed a commit or a checkpoint: the session has to be recovered.
     #[error("Device")]
     Device,
+    /// The input's file failed a read.
+    #[error("Input")]
+    Input,
+    /// The disk has no room for the record of the input, or more input was taken than the record can tell.
+    #[error("NoRecord")]
+    NoRecord,
     /// The output failed a call.
     #[error("Output")]
     Output,

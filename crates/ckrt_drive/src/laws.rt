@@ -1,7 +1,8 @@
 //! Laws of drives. Each is the contract of a function with an empty body.
-ghost use Rattle.std.specs.Prelude.{◌≡◌, ℕ, Err};
+ghost use Rattle.std.specs.Prelude.{◌≡◌, Err};
 ghost use Rattle.ckrt_drive.specs.declared.fault.DriveFault.TheVariants.{Refused};
 ghost use Rattle.ckrt_drive.specs.Plan.{plan};
+ghost use Rattle.ckrt_drive.specs.declared.supply.Supply.{Supply};
 ghost use Rattle.ckrt_drive.specs.Settled.{FindsAllAcknowledged, FindsNothingPending, NoneIsNext};
 ghost use Rattle.ckrt_drive.specs.Streams.{GetsTheOutput};
 ghost use Rattle.ckrt_recovery.specs.View.{View, view_of};
@@ -30,7 +31,7 @@ pub fn stream_gets_the_output<'a, D: Disk, W: Write>(
 /// A drive hands in no event that its session refuses as `NeedsCheckpoint`: where the area is of version 1, it has been checkpointed
 /// before.
 pub fn plans_suit_the_version(options: &Options)
-    ensures { (left : ℕ) (v : View) → plan options.now left v ≡ Err (Refused NeedsCheckpoint) → ⊥ }
+    ensures { (w : Supply) (v : View) → plan options.now w v ≡ Err (Refused NeedsCheckpoint) → ⊥ }
 {}
 
 /// A checkpoint of a drive finds nothing pending: the last batch stands in the journal. So the older area with its journal leads

@@ -1,9 +1,10 @@
-//! Unattended runs: a drive runs a program on all its harts to its end, commits and checkpoints by itself, and puts each
-//! byte of output at its offset of a disk of its own, or hands it on ([`StreamOutput`]).
+//! Unattended runs: a drive runs a program on all its harts to its end, gives it its input ([`Feed`]), commits and checkpoints
+//! by itself, and puts each byte of output at its offset of a disk of its own, or hands it on ([`StreamOutput`]).
 #![tactic(auto)]
 
 mod drive;
 mod fault;
+mod feed;
 mod laws;
 mod lot;
 mod onlooker;
@@ -12,9 +13,11 @@ mod plan;
 mod progress;
 mod steps;
 mod stream;
+mod supply;
 
 pub use drive::Drive;
 pub use fault::DriveFault;
+pub use feed::{Feed, FromDisk, Nothing};
 pub use laws::{
     checkpoints_find_nothing_pending, no_checkpoint_behind_a_checkpoint, plans_suit_the_version,
     stream_gets_the_output,
@@ -23,3 +26,4 @@ pub use onlooker::{Nobody, Onlooker};
 pub use options::Options;
 pub use progress::{Ending, Progress};
 pub use stream::StreamOutput;
+pub use supply::Supply;

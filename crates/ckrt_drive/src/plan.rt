@@ -5,11 +5,13 @@ ghost use Rattle.ckrt_events.specs.declared.event.TheConstants.{LONG_RUN_LIMIT};
 ghost use Rattle.ckrt_thread.specs.declared.records.Object.TheVariants.{Input};
 ghost use Rattle.ckrt_machine.specs.Plans.{planned};
 ghost use Rattle.ckrt_machine.specs.Runs.{is_running};
-ghost use Rattle.ckrt_drive.specs.Plan.{IsInRangeNext, earliest_deadline, event_at, idle_until, is_sought, next, next_event, next_sought, of_busy, run_by, runner_at, schedule_of, sooner, ticks_to, turn_at, turn_by};
+ghost use Rattle.ckrt_drive.specs.declared.plan.Sought.TheVariants.{Busy};
+ghost use Rattle.ckrt_drive.specs.Plan.{IsInRangeNext, earliest_deadline, event_at, idle_until, is_sought, next, next_by, next_event, next_sought, of_busy, run_by, runner_at, schedule_of, sooner, ticks_to, turn_at, turn_by};
 
 use crate::lot::lot_of;
 use crate::options::Options;
 use crate::progress::Ending;
+use crate::supply::Supply;
 use ckrt_events::{Event, LONG_RUN_LIMIT, RUN_LIMIT};
 use ckrt_machine::Machine;
 use ckrt_state::{Status, Tables};
@@ -223,14 +225,13 @@ fn event_at(machine: &Machine, turn: Turn, least: u8) -> Event
     }
 }
 
-/// The event that is next behind so many others, or why there is none.
-fn next_event(machine: &Machine, options: &Options, behind: u64) -> Next
-    ensures next { result ≡ next_event (schedule_of options.now) behind machine.now.state.tables }
+/// The event that the schedule has next for a program that runs, or why there is none.
+fn next_scheduled(machine: &Machine, options: &Options, behind: u64) -> Next
+    ensures next { result ≡ next_by (next_sought Busy 0 machine.now.state.tables)
+        (turn_at (schedule_of options.now) behind machine.now.state.tables)
+        machine.now.state.tables }
     ensures in_range { IsInRangeNext result }
 {
-    if !matches!(machine.status(), Status::Running) {
-        return Next::End(Ending::Ended);
-    }
     let Some(least) = next_sought(machine, Sought::Busy, 0) else {
         return idle(machine.tables());
     };
@@ -238,13 +239,31 @@ fn next_event(machine: &Machine, options: &Options, behind: u64) -> Next
     Next::Submit(event_at(machine, turn, least))
 }
 
-/// The same for a drive to which so many events are left.
-pub(crate) fn next_for(machine: &Machine, options: &Options, left: u64, behind: u64) -> Next
-    ensures next { result ≡ next (schedule_of options.now) left behind machine.now.state.tables }
+/// The event that is next behind so many others, or why there is none: what is given, and else what the schedule has.
+fn next_event(machine: &Machine, options: &Options, given: Option<Event>, behind: u64) -> Next
+    requires { IfSome given IsInRange }
+    ensures next { result ≡ next_event (schedule_of options.now) given behind
+        machine.now.state.tables }
     ensures in_range { IsInRangeNext result }
 {
-    if matches!(machine.status(), Status::Running) && left == 0 {
+    if !matches!(machine.status(), Status::Running) {
+        return Next::End(Ending::Ended);
+    }
+    match given {
+        Some(event) => Next::Submit(event),
+        None => next_scheduled(machine, options, behind),
+    }
+}
+
+/// The same for a drive with this supply.
+pub(crate) fn next_for(machine: &Machine, options: &Options, supply: Supply, behind: u64) -> Next
+    requires { IfSome supply.given IsInRange }
+    ensures next { result ≡ next (schedule_of options.now) supply behind
+        machine.now.state.tables }
+    ensures in_range { IsInRangeNext result }
+{
+    if matches!(machine.status(), Status::Running) && supply.left == 0 {
         return Next::End(Ending::Enough);
     }
-    next_event(machine, options, behind)
+    next_event(machine, options, supply.given, behind)
 }

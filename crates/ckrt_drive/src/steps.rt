@@ -1,30 +1,39 @@
 //! Steps of a drive.
-ghost use Rattle.std.specs.Prelude.{◌≡◌, ◌≤◌, ◌+◌, ◌-◌, ◌*◌, ℕ, length, is_err, true, Ok, OnErr, OnOk, IfOk};
+ghost use Rattle.std.specs.Prelude.{◌≡◌, ◌≤◌, ◌<◌, ◌+◌, ◌-◌, ◌*◌, ◌^◌, ℕ, [], ◌∷◌, length, is_err, true, Err, None, Ok, Option, Some, OnErr, OnOk, IfErr, IfOk, IfSome};
 ghost use Rattle.ckrt_disk.specs.Disk.{IsOverwritten, IsWithin};
 ghost use Rattle.ckrt_disk.specs.Frame.{WritesWithin};
 ghost use Rattle.ckrt_events.specs.Bytes.{IsInRange};
 ghost use Rattle.ckrt_recovery.specs.declared.fault.SubmitFault.{SubmitFault};
 ghost use Rattle.ckrt_recovery.specs.View.{view_of, refusal_of};
+ghost use Rattle.ckrt_drive.specs.declared.fault.DriveFault.TheVariants.{Input};
 ghost use Rattle.ckrt_drive.specs.declared.progress.Progress.TheVariants.{Committed, Checkpointed, Released};
+ghost use Rattle.ckrt_disk.specs.Disk.{CountsFault};
 ghost use Rattle.ckrt_drive.specs.Plan.{is_checkpoint_due, is_commit_due, is_filled, is_old, is_settled, is_shortage, left_after, make_room, offered, places_of, plan, plan_for, plan_next, plan_onward};
 ghost use Rattle.ckrt_drive.specs.PutOut.{PutsOrFails};
-ghost use Rattle.ckrt_drive.specs.Steps.{Advances, Steps};
+ghost use Rattle.ckrt_drive.specs.Given.{CountsRead, IsSupplied};
+ghost use Rattle.ckrt_drive.specs.Stages.{TakesStep, stage};
+ghost use Rattle.ckrt_drive.specs.Steps.{Advances, Steps, accepted_by, aim, aim_of};
+ghost use Rattle.ckrt_input.specs.Taken as input;
 
 use crate::fault::DriveFault;
+use crate::feed::Feed;
 use crate::options::Options;
 use crate::plan::{Next, next_for};
 use crate::progress::Progress;
+use crate::supply::Supply;
 use ckrt_disk::{DeviceFault, Disk};
 use ckrt_events::Event;
+use ckrt_input::taken_by;
 use ckrt_machine::Refusal;
+use ckrt_record::{RECORD_BYTES, TAKEN_LIMIT};
 use ckrt_recovery::{CommitFault, Session, SubmitFault};
 
 /// How many bytes of the journal a full batch takes.
 const LONGEST_BATCH: usize = 4_099;
 
 /// Acknowledges the events so far by a commit.
-fn commit<D: Disk>(session: &mut Session<D>) -> Result<Progress, DriveFault>
-    ensures { Advances (Ok Committed) session.old session.new result }
+fn commit<D: Disk>(session: &mut Session<D>, recorded: Option<u64>) -> Result<Progress, DriveFault>
+    ensures { Advances (aim (Ok Committed) recorded) session.old session.new result }
 {
     match session.commit() {
         Ok(_) => Ok(Progress::Committed),
@@ -32,15 +41,46 @@ fn commit<D: Disk>(session: &mut Session<D>) -> Result<Progress, DriveFault>
     }
 }
 
-/// Acknowledges the events so far by a checkpoint.
-fn checkpoint<D: Disk>(session: &mut Session<D>) -> Result<Progress, DriveFault>
-    ensures { Advances (Ok Checkpointed) session.old session.new result }
+/// Acknowledges the events so far by a checkpoint that has no record.
+fn checkpoint_alone<D: Disk>(session: &mut Session<D>) -> Result<Progress, DriveFault>
+    ensures { Advances (aim (Ok Checkpointed) None) session.old session.new result }
 {
     match session.checkpoint() {
         Ok(_) => Ok(Progress::Checkpointed),
         Err(CommitFault::GenerationsUsed) => Err(DriveFault::GenerationsUsed),
         Err(CommitFault::Failed) => Err(DriveFault::Device),
         Err(CommitFault::Device) => Err(DriveFault::Device),
+    }
+}
+
+/// Acknowledges the events so far by a checkpoint that records how much of its input the program has taken.
+fn checkpoint_recorded<D: Disk>(
+    session: &mut Session<D>,
+    taken: u64,
+) -> Result<Progress, DriveFault>
+    ensures { Advances (aim (Ok Checkpointed) (Some taken)) session.old session.new result }
+{
+    if session.spare_room() < RECORD_BYTES || taken >= TAKEN_LIMIT {
+        return Err(DriveFault::NoRecord);
+    }
+    match ckrt_record::checkpoint(session, taken) {
+        Ok(_) => Ok(Progress::Checkpointed),
+        Err(CommitFault::GenerationsUsed) => Err(DriveFault::GenerationsUsed),
+        Err(CommitFault::Failed) => Err(DriveFault::Device),
+        Err(CommitFault::Device) => Err(DriveFault::Device),
+    }
+}
+
+/// Acknowledges the events so far by a checkpoint.
+fn checkpoint<D: Disk>(
+    session: &mut Session<D>,
+    recorded: Option<u64>,
+) -> Result<Progress, DriveFault>
+    ensures { Advances (aim (Ok Checkpointed) recorded) session.old session.new result }
+{
+    match recorded {
+        Some(taken) => checkpoint_recorded(session, taken),
+        None => checkpoint_alone(session),
     }
 }
 
@@ -89,13 +129,17 @@ fn is_commit_due<D: Disk>(session: &Session<D>, options: &Options) -> bool
 }
 
 /// Makes room: by a commit where something is pending, and else by a checkpoint.
-fn make_room<D: Disk>(session: &mut Session<D>) -> Result<Progress, DriveFault>
-    ensures { Advances (Ok (make_room (view_of session.old))) session.old session.new result }
+fn make_room<D: Disk>(
+    session: &mut Session<D>,
+    recorded: Option<u64>,
+) -> Result<Progress, DriveFault>
+    ensures { Advances (aim (Ok (make_room (view_of session.old))) recorded)
+        session.old session.new result }
 {
     if is_settled(session) {
-        checkpoint(session)
+        checkpoint(session, recorded)
     } else {
-        commit(session)
+        commit(session, recorded)
     }
 }
 
@@ -112,17 +156,20 @@ fn is_shortage(fault: SubmitFault) -> bool
 }
 
 /// Hands an event in; where there is no room for it, makes some.
-fn offer<D: Disk>(session: &mut Session<D>, event: Event) -> Result<Progress, DriveFault>
+fn offer<D: Disk>(
+    session: &mut Session<D>,
+    event: Event,
+    recorded: Option<u64>,
+) -> Result<Progress, DriveFault>
     requires { IsInRange event }
-    ensures { Advances
-        (offered (view_of session.old) event (refusal_of (view_of session.old) event))
-        session.old session.new result }
+    ensures { Advances (aim (offered (view_of session.old) event
+        (refusal_of (view_of session.old) event)) recorded) session.old session.new result }
 {
     match session.submit(&event) {
         Ok((_, answer)) => Ok(Progress::Submitted(event, answer)),
         Err(fault) => {
             if is_shortage(fault) {
-                return make_room(session);
+                return make_room(session, recorded);
             }
             Err(DriveFault::Refused(fault))
         }
@@ -148,8 +195,11 @@ fn put_out<O: Disk>(output: &mut O, at: usize, bytes: &[u8]) -> Result<(), Devic
 fn release<D: Disk, O: Disk>(
     session: &mut Session<D>,
     output: &mut O,
+    recorded: Option<u64>,
 ) -> Result<Progress, DriveFault>
-    ensures { Steps O.Disk (Ok Released) session.old session.new output.old output.new result }
+    ensures steps { Steps O.Disk (aim (Ok Released) recorded) session.old session.new
+        output.old output.new result }
+    ensures unread { IfErr result (λ fault. fault ≡ Input → ⊥) }
 {
     let released = session.released();
     if output.size() < released as usize {
@@ -167,17 +217,19 @@ fn release<D: Disk, O: Disk>(
 fn do_next<D: Disk>(
     session: &mut Session<D>,
     options: &Options,
-    left: u64,
+    supply: Supply,
 ) -> Result<Progress, DriveFault>
-    ensures { Advances (plan_next options.now left (view_of session.old)) session.old session.new
-        result }
+    requires { IfSome supply.given IsInRange }
+    ensures { Advances (aim (plan_next options.now supply (view_of session.old)) supply.recorded)
+        session.old session.new result }
 {
     let behind = session.count();
-    match next_for(session.machine(), options, left, behind) {
-        Next::Submit(event) => offer(session, event),
+    let recorded = supply.recorded;
+    match next_for(session.machine(), options, supply, behind) {
+        Next::Submit(event) => offer(session, event, recorded),
         Next::End(ending) => {
             if !is_settled(session) {
-                return commit(session);
+                return commit(session, recorded);
             }
             Ok(Progress::Stopped(ending))
         }
@@ -188,18 +240,19 @@ fn do_next<D: Disk>(
 fn go_on<D: Disk>(
     session: &mut Session<D>,
     options: &Options,
-    left: u64,
+    supply: Supply,
 ) -> Result<Progress, DriveFault>
-    ensures { Advances (plan_onward options.now left (view_of session.old)) session.old session.new
-        result }
+    requires { IfSome supply.given IsInRange }
+    ensures { Advances (aim (plan_onward options.now supply (view_of session.old)) supply.recorded)
+        session.old session.new result }
 {
     if is_checkpoint_due(session) {
-        return checkpoint(session);
+        return checkpoint(session, supply.recorded);
     }
     if is_commit_due(session, options) {
-        return commit(session);
+        return commit(session, supply.recorded);
     }
-    do_next(session, options, left)
+    do_next(session, options, supply)
 }
 
 /// Does what is planned.
@@ -207,15 +260,17 @@ fn advance<D: Disk, O: Disk>(
     session: &mut Session<D>,
     output: &mut O,
     options: &Options,
-    left: u64,
+    supply: Supply,
 ) -> Result<Progress, DriveFault>
-    ensures { Steps O.Disk (plan options.now left (view_of session.old)) session.old session.new
-        output.old output.new result }
+    requires { IfSome supply.given IsInRange }
+    ensures steps { Steps O.Disk (aim_of options.now supply (view_of session.old)) session.old
+        session.new output.old output.new result }
+    ensures unread { IfErr result (λ fault. fault ≡ Input → ⊥) }
 {
     if session.confirmed() < session.released() {
-        return release(session, output);
+        return release(session, output, supply.recorded);
     }
-    go_on(session, options, left)
+    go_on(session, options, supply)
 }
 
 /// How many events are left behind what the drive did.
@@ -229,19 +284,67 @@ fn left_after(did: &Progress, left: u64) -> u64
     }
 }
 
-/// Does what is planned, and counts the events that are left.
-pub(crate) fn step<D: Disk, O: Disk>(
+/// How many bytes of input the program took by what the drive did.
+fn taken_in(did: &Progress) -> u64
+    ensures { result ≡ input.taken_by (accepted_by did.now) }
+{
+    match did {
+        Progress::Submitted(event, _) => taken_by(event) as u64,
+        Progress::Committed | Progress::Checkpointed | Progress::Released | Progress::Stopped(_) =>
+            0,
+    }
+}
+
+/// What the next step goes by: the feed is asked what the program is given.
+fn supply_from<D: Disk, F: Feed>(
+    feed: &mut F,
+    session: &Session<D>,
+    left: u64,
+    taken: u64,
+) -> Result<Supply, DeviceFault>
+    ensures left { IfOk result (λ w. w.left ≡ left) }
+    ensures supplied { IfOk result (λ w. F.is_honest feed.new
+        → IsSupplied (F.file feed.old) taken session.now.progress.machine.state.tables w) }
+    ensures in_range { IfOk result (λ w. IfSome w.given IsInRange) }
+    ensures few { IfOk result (λ w.
+        IfSome w.given (λ e. taken + input.taken_by (e ∷ []) < 2 ^ 64)) }
+    ensures small { taken < 2 ^ 64 }
+    ensures file { F.is_honest feed.new → F.file feed.new ≡ F.file feed.old }
+    ensures honest { F.is_honest feed.new → F.is_honest feed.old }
+    ensures failures { CountsFault (F.failures feed.old) (F.failures feed.new) result }
+{
+    let given = feed.next(session.machine().tables(), taken)?;
+    let recorded = feed.is_recorded().then_some(taken);
+    Ok(Supply {
+        left,
+        given,
+        recorded,
+    })
+}
+
+/// Does what is planned, and counts the events that are left and the bytes of input that are taken.
+pub(crate) fn step<D: Disk, O: Disk, F: Feed>(
     session: &mut Session<D>,
     output: &mut O,
+    feed: &mut F,
     options: &Options,
     left: &mut u64,
+    taken: &mut u64,
 ) -> Result<Progress, DriveFault>
-    ensures steps { Steps O.Disk (plan options.now left.old (view_of session.old)) session.old
-        session.new output.old output.new result }
+    ensures steps { TakesStep options.now (F.is_honest feed.new) (F.file feed.old)
+        (stage O.Disk left.old taken.old session.old output.old)
+        (stage O.Disk left.new taken.new session.new output.new) result }
     ensures left { IfOk result (λ did. left.new ≡ left_after did left.old) }
     ensures kept { OnErr result (left.new ≡ left.old) }
+    ensures file { F.is_honest feed.new → F.file feed.new ≡ F.file feed.old }
+    ensures honest { F.is_honest feed.new → F.is_honest feed.old }
+    ensures reads { CountsRead (F.failures feed.old) (F.failures feed.new) result }
 {
-    let did = advance(session, output, options, *left)?;
+    let Ok(supply) = supply_from(feed, session, *left, *taken) else {
+        return Err(DriveFault::Input);
+    };
+    let did = advance(session, output, options, supply)?;
     *left = left_after(&did, *left);
+    *taken += taken_in(&did);
     Ok(did)
 }

@@ -7,7 +7,9 @@ use crate::sessions::submitted;
 use crate::small_disk::{SMALL, format_outcome, recovered_in_memory, recovery_outcome};
 use arrayvec::ArrayVec;
 use ckrt_disk::{Disk, MemoryDisk, StoppingDisk};
-use ckrt_drive::{Drive, DriveFault, Ending, Nobody, Onlooker, Options, Progress, StreamOutput};
+use ckrt_drive::{
+    Drive, DriveFault, Ending, Nobody, Nothing, Onlooker, Options, Progress, StreamOutput,
+};
 use ckrt_events::Event;
 use ckrt_machine::{Answer, RunEnd};
 use ckrt_recovery::{Config, Session};
@@ -131,7 +133,8 @@ fn ended<R: Abort, D: Disk, O: Disk>(
 ) -> (Session<D>, O) {
     let mut drive = Drive::new(session, output, options);
     expect_eq(rt, drive.run(1_000_000, &mut Nobody), Ok(Some(ending)));
-    drive.into_parts()
+    let (session, output, Nothing) = drive.into_parts();
+    (session, output)
 }
 
 /// The output holds these bytes from its beginning on, and zeros behind them.
@@ -183,7 +186,7 @@ impl Onlooker for Listener<'_> {
 /// What a drive tells an onlooker in all its steps.
 fn expect_told<R: Abort, D: Disk, O: Disk>(
     rt: &R,
-    drive: &mut Drive<D, O>,
+    drive: &mut Drive<D, O, Nothing>,
     ending: Ending,
     awaited: &[Progress],
 ) {
@@ -311,7 +314,7 @@ fn output_without_room(rt: HostRuntime) {
         drive.run(1_000, &mut Nobody),
         Err(DriveFault::OutputFull),
     );
-    let (session, output) = drive.into_parts();
+    let (session, output, Nothing) = drive.into_parts();
     expect_eq(&rt, session.confirmed(), 0);
     expect_held(&rt, output, b"");
 }
@@ -326,7 +329,7 @@ fn output_that_fails(rt: HostRuntime) {
         drive.run(1_000_000, &mut Nobody),
         Err(DriveFault::Output),
     );
-    let (session, output) = drive.into_parts();
+    let (session, output, Nothing) = drive.into_parts();
     expect_eq(&rt, session.confirmed(), 0);
     let (_, output) = ended(
         &rt,
@@ -359,7 +362,7 @@ fn left_by_stop<R: Abort + AllocGlobal>(
             );
             let again = drive.run(1_000_000, &mut Nobody);
             expect_eq_at(rt, at_call, again.is_err(), true);
-            let (session, output) = drive.into_parts();
+            let (session, output, Nothing) = drive.into_parts();
             (session.into_disk().into_image(), output)
         }
         Err(unrecovered) => (unrecovered.disk.into_image(), output),
@@ -512,7 +515,7 @@ fn left_by_drive<R: Abort + AllocGlobal, O: Disk + Drop>(
                 drive.run(1_000_000, &mut Nobody),
                 Err(DriveFault::Device),
             );
-            let (session, _output) = drive.into_parts();
+            let (session, _output, Nothing) = drive.into_parts();
             session.into_disk().into_image()
         }
         Err(unrecovered) => unrecovered.disk.into_image(),

@@ -1,10 +1,11 @@
 -- Lists by plan: there is one, whichever of its beginnings a stop leaves.
-use Rattle.std.proofs.Common.{◌≡◌, ◌⊎◌, inl, inr, ⊎_elim, ℕ, suc, ◌+◌, ◌≤◌, ◌==◌, ◌&&◌, Bool, true, false, if◌then◌else◌, List, [], ◌∷◌, ◌++◌, length, take, Result, Ok, Err, refl, sym, ◌∙◌, ap, subst, arith, append_assoc, append-nil, length-append}
+use Rattle.std.proofs.Common.{◌≡◌, ◌⊎◌, inl, inr, ⊎_elim, ℕ, ◌+◌, ◌==◌, ◌&&◌, Bool, true, false, if◌then◌else◌, Option, Some, None, List, [], ◌∷◌, ◌++◌, length, take, Result, Ok, Err, refl, sym, ◌∙◌, ap, subst, arith, append_assoc, append-nil, length-append}
 use Rattle.std.proofs.lemmas.List.{append_cancel_left}
-use Rattle.ckrt_drive.specs.Plan.{Schedule, next, next_event, plan, schedule_of}
+use Rattle.ckrt_drive.specs.Given.{IsSupplied, given_in}
+use Rattle.ckrt_drive.specs.Plan.{Schedule, next, next_event, schedule_of}
 use Rattle.ckrt_disk.specs.declared.disk.Disk.{Ghosts}
 use Rattle.ckrt_drive.specs.Output.{HoldsOutput}
-use Rattle.ckrt_drive.specs.Steps.{Steps, accepted_in}
+use Rattle.ckrt_drive.specs.Steps.{Steps, accepted_in, aim_of}
 use Rattle.ckrt_drive.specs.declared.fault.DriveFault.{DriveFault}
 use Rattle.ckrt_drive.specs.declared.options.Options.{Options}
 use Rattle.ckrt_drive.specs.declared.plan.Next.{Next}
@@ -13,11 +14,13 @@ use Rattle.ckrt_drive.specs.declared.progress.Ending.{Ending}
 use Rattle.ckrt_drive.specs.declared.progress.Ending.TheVariants.{Enough}
 use Rattle.ckrt_drive.specs.declared.progress.Progress.{Progress}
 use Rattle.ckrt_drive.specs.declared.progress.Progress.TheVariants.{Submitted, Committed, Checkpointed, Released, Stopped}
+use Rattle.ckrt_drive.specs.declared.supply.Supply.{Supply}
 use Rattle.ckrt_drive.proofs.PlannedLemmas.{planned_event}
 use Rattle.ckrt_events.specs.declared.event.Event.{Event}
-use Rattle.ckrt_image.specs.Programs.{Program, output_after, start_of, state_after}
-use Rattle.ckrt_image.proofs.ReplayLemmas.{state-append}
-use Rattle.ckrt_machine.specs.Events.{fold, step}
+use Rattle.ckrt_image.specs.Programs.{Program, output_after, state_after}
+use Rattle.ckrt_input.specs.Taken.{taken_by}
+use Rattle.ckrt_record.proofs.FedLemmas.{taken-append}
+use Rattle.ckrt_state.specs.declared.table.Tables.{Tables}
 use Rattle.ckrt_machine.specs.Runs.{is_running}
 use Rattle.ckrt_machine.specs.Steps.{State}
 use Rattle.ckrt_recovery.specs.Between.{IsBeginningOf}
@@ -25,8 +28,8 @@ use Rattle.ckrt_recovery.specs.Represents.{Represents}
 use Rattle.ckrt_recovery.specs.View.{view_of}
 use Rattle.ckrt_recovery.specs.declared.session.Session.{Session}
 use Rattle.ckrt_commands.proofs.ReplyLemmas.{begins_behind, begins_through}
-use Rattle.ckrt_drives.specs.ByPlan.{AreByPlan, IsByPlanFrom, IsUnbroken}
-use Rattle.ckrt_drives.specs.Drives.{AllByPlan, AllBySchedule, AllKeep, ComeBehind, HasEnded, Keeps, OneDrive, past_behind}
+use Rattle.ckrt_drives.specs.ByPlan.{AreByPlan, Course, IsByPlanFrom, IsUnbroken, course, next_behind}
+use Rattle.ckrt_drives.specs.Drives.{AllByPlan, AllKeep, AllOnCourse, AllTold, ComeBehind, HasEnded, IsTold, Keeps, OneDrive, course_of, past_behind}
 use Rattle.ckrt_drives.specs.Together.{Past}
 
 same_event : (n : Next) (x y : Event) → n ≡ Submit x → n ≡ Submit y → y ≡ x
@@ -38,68 +41,56 @@ no_event_at_end n x ending is ends = absurd (cc)
 begins_both : (x : Event) (xs ys : List Event) → IsBeginningOf xs ys → IsBeginningOf (x ∷ xs) (x ∷ ys)
 begins_both x xs ys h = (h.0, ap (λ (l : List Event). x ∷ l) h.1)
 
--- FROM A STATE ON
+module _ (u : Course) (p : Program) where
+  -- BEHIND SOME EVENTS
 
-module _ (u : Schedule) where
   -- these, and then others
-  are_more : (n : ℕ) (s : State) (xs ys : List Event) → AreByPlan u n s xs → AreByPlan u (n + length xs) (fold xs s).state ys → AreByPlan u n s (xs ++ ys)
-  are_more n s [] ys h k = let none : n + 0 ≡ n = omega arith in subst (λ m. AreByPlan u m s ys) none k
-  are_more n s (x ∷ xs) ys h k =
-      let count : n + suc (length xs) ≡ n + 1 + length xs = omega arith in
-      let next = (step x s).state in
-      (h.0, are_more (n + 1) next xs ys h.1 (subst (λ m. AreByPlan u m (fold xs next).state ys) count k))
+  are_more : (b xs ys : List Event) → AreByPlan u p b xs → AreByPlan u p (b ++ xs) ys → AreByPlan u p b (xs ++ ys)
+  are_more b [] ys h k = subst (λ (l : List Event). AreByPlan u p l ys) (append-nil b) k
+  are_more b (x ∷ xs) ys h k = (h.0, are_more (b ++ x ∷ []) xs ys h.1 (subst (λ (l : List Event). AreByPlan u p l ys) (sym (append_assoc b (x ∷ []) xs)) k))
 
-  are_fewer : (n : ℕ) (s : State) (xs ys : List Event) → AreByPlan u n s (xs ++ ys) → AreByPlan u n s xs
-  are_fewer n s [] ys h = tt
-  are_fewer n s (x ∷ xs) ys h = (h.0, are_fewer (n + 1) (step x s).state xs ys h.1)
+  are_fewer : (b xs ys : List Event) → AreByPlan u p b (xs ++ ys) → AreByPlan u p b xs
+  are_fewer b [] ys h = tt
+  are_fewer b (x ∷ xs) ys h = (h.0, are_fewer (b ++ x ∷ []) xs ys h.1)
 
-  next_behind : (n : ℕ) (s : State) (xs : List Event) (y : Event) (ys : List Event) → AreByPlan u n s (xs ++ y ∷ ys) → next_event u (n + length xs) (fold xs s).state.tables ≡ Submit y
-  next_behind n s [] y ys h = let none : n ≡ n + 0 = omega arith in subst (λ m. next_event u m s.tables ≡ Submit y) none h.0
-  next_behind n s (x ∷ xs) y ys h =
-      let count : n + 1 + length xs ≡ n + suc (length xs) = omega arith in
-      let next = (step x s).state in
-      subst (λ m. next_event u m (fold xs next).state.tables ≡ Submit y) count (next_behind (n + 1) next xs y ys h.1)
+  next_at : (b xs : List Event) (y : Event) (ys : List Event) → AreByPlan u p b (xs ++ y ∷ ys) → next_behind u p (b ++ xs) ≡ Submit y
+  next_at b [] y ys h = subst (λ (l : List Event). next_behind u p l ≡ Submit y) (sym (append-nil b)) h.0
+  next_at b (x ∷ xs) y ys h = subst (λ (l : List Event). next_behind u p l ≡ Submit y) (append_assoc b (x ∷ []) xs) (next_at (b ++ x ∷ []) xs y ys h.1)
 
   -- one is a beginning of the other
-  are_one : (n : ℕ) (s : State) (xs ys : List Event) → AreByPlan u n s xs → AreByPlan u n s ys → IsBeginningOf xs ys ⊎ IsBeginningOf ys xs
-  are_one n s [] ys h k = inl (ys, refl)
-  are_one n s (x ∷ xs) [] h k = inr (x ∷ xs, refl)
-  are_one n s (x ∷ xs) (y ∷ ys) h k =
-      let same = same_event (next_event u n s.tables) x y h.0 k.0 in
-      let rest = subst (λ (e : Event). AreByPlan u (n + 1) (step e s).state ys) same k.1 in
+  are_one : (b xs ys : List Event) → AreByPlan u p b xs → AreByPlan u p b ys → IsBeginningOf xs ys ⊎ IsBeginningOf ys xs
+  are_one b [] ys h k = inl (ys, refl)
+  are_one b (x ∷ xs) [] h k = inr (x ∷ xs, refl)
+  are_one b (x ∷ xs) (y ∷ ys) h k =
+      let same = same_event (next_behind u p b) x y h.0 k.0 in
+      let rest = subst (λ (e : Event). AreByPlan u p (b ++ e ∷ []) ys) same k.1 in
       subst (λ (e : Event). IsBeginningOf (x ∷ xs) (e ∷ ys) ⊎ IsBeginningOf (e ∷ ys) (x ∷ xs)) (sym same)
-      (⊎_elim (λ (h : _). inl (begins_both x xs ys h)) (λ (h : _). inr (begins_both x ys xs h)) (are_one (n + 1) (step x s).state xs ys h.1 rest))
+      (⊎_elim (λ (h : _). inl (begins_both x xs ys h)) (λ (h : _). inr (begins_both x ys xs h)) (are_one (b ++ x ∷ []) xs ys h.1 rest))
 
   -- nothing goes on behind an end
-  ends_by : (n : ℕ) (s : State) (xs ys rest : List Event) (ending : Ending) → AreByPlan u n s ys → next_event u (n + length xs) (fold xs s).state.tables ≡ End ending → ys ≡ xs ++ rest → ys ≡ xs
-  ends_by n s xs ys [] ending h over is = is ∙ append-nil xs
-  ends_by n s xs ys (z ∷ zs) ending h over is =
-      let goes = next_behind n s xs z zs (subst (AreByPlan u n s) is h) in
-      absurd (no_event_at_end (next_event u (n + length xs) (fold xs s).state.tables) z ending goes over)
+  ends_by : (b xs ys rest : List Event) (ending : Ending) → AreByPlan u p b ys → next_behind u p (b ++ xs) ≡ End ending → ys ≡ xs ++ rest → ys ≡ xs
+  ends_by b xs ys [] ending h over is = is ∙ append-nil xs
+  ends_by b xs ys (z ∷ zs) ending h over is =
+      let goes = next_at b xs z zs (subst (AreByPlan u p b) is h) in
+      absurd (no_event_at_end (next_behind u p (b ++ xs)) z ending goes over)
 
-  of_whole : (n : ℕ) (s : State) (xs ys : List Event) (ending : Ending) → AreByPlan u n s xs → AreByPlan u n s ys → next_event u (n + length xs) (fold xs s).state.tables ≡ End ending → IsBeginningOf ys xs
-  of_whole n s xs ys ending h k over = ⊎_elim
-      (λ (longer : _). ([], sym (ends_by n s xs ys longer.0 ending k over longer.1) ∙ sym (append-nil ys)))
+  of_whole : (b xs ys : List Event) (ending : Ending) → AreByPlan u p b xs → AreByPlan u p b ys → next_behind u p (b ++ xs) ≡ End ending → IsBeginningOf ys xs
+  of_whole b xs ys ending h k over = ⊎_elim
+      (λ (longer : _). ([], sym (ends_by b xs ys longer.0 ending k over longer.1) ∙ sym (append-nil ys)))
       (λ (shorter : _). shorter)
-      (are_one n s xs ys h k)
+      (are_one b xs ys h k)
 
--- FROM A LIST ON
+  -- FROM A LIST ON
 
-module _ (u : Schedule) (p : Program) where
   pub by_plan_itself : (events : List Event) → IsByPlanFrom u p events events
   by_plan_itself events = record { rest = []; is = sym (append-nil events); by_plan = tt }
 
-  behind_both : (first more : List Event) (P : ℕ → State → Type 0) → P (length (first ++ more)) (state_after p (first ++ more)) → P (length first + length more) (fold more (state_after p first)).state
-  behind_both first more P h = subst (λ s. P (length first + length more) s) (state-append first more (start_of p)) (subst (λ n. P n (state_after p (first ++ more))) (length-append first more) h)
-
   pub by_plan_through : (first mid all : List Event) → IsByPlanFrom u p first mid → IsByPlanFrom u p mid all → IsByPlanFrom u p first all
-  by_plan_through first mid all h k =
-      let there = subst (λ (l : List Event). AreByPlan u (length l) (state_after p l) k.rest) h.is k.by_plan in
-      record {
-        rest = h.rest ++ k.rest;
-        is = k.is ∙ (ap (λ (l : List Event). l ++ k.rest) h.is ∙ append_assoc first h.rest k.rest);
-        by_plan = are_more u (length first) (state_after p first) h.rest k.rest h.by_plan (behind_both first h.rest (λ n s. AreByPlan u n s k.rest) there);
-      }
+  by_plan_through first mid all h k = record {
+    rest = h.rest ++ k.rest;
+    is = k.is ∙ (ap (λ (l : List Event). l ++ k.rest) h.is ∙ append_assoc first h.rest k.rest);
+    by_plan = are_more first h.rest k.rest h.by_plan (subst (λ (l : List Event). AreByPlan u p l k.rest) h.is k.by_plan);
+  }
 
   -- so is a list between
   pub by_plan_between : (first mid all : List Event) → IsBeginningOf first mid → IsBeginningOf mid all → IsByPlanFrom u p first all → IsByPlanFrom u p first mid
@@ -109,7 +100,7 @@ module _ (u : Schedule) (p : Program) where
       record {
         rest = begins.0;
         is = begins.1;
-        by_plan = are_fewer u (length first) (state_after p first) begins.0 within.0 (subst (λ (l : List Event). AreByPlan u (length first) (state_after p first) l) rest h.by_plan);
+        by_plan = are_fewer first begins.0 within.0 (subst (λ (l : List Event). AreByPlan u p first l) rest h.by_plan);
       }
 
   lists_begin : (first xs ys events others : List Event) → events ≡ first ++ xs → others ≡ first ++ ys → IsBeginningOf xs ys → IsBeginningOf events others
@@ -119,14 +110,13 @@ module _ (u : Schedule) (p : Program) where
   one_list first events others h k = ⊎_elim
       (λ (b : _). inl (lists_begin first h.rest k.rest events others h.is k.is b))
       (λ (b : _). inr (lists_begin first k.rest h.rest others events k.is h.is b))
-      (are_one u (length first) (state_after p first) h.rest k.rest h.by_plan k.by_plan)
+      (are_one first h.rest k.rest h.by_plan k.by_plan)
 
   pub of_unbroken : (first events whole : List Event) → IsByPlanFrom u p first events → IsUnbroken u p first whole → IsBeginningOf events whole
   of_unbroken first events whole h k =
       let w = k.by_plan in
-      let over = subst (λ (l : List Event). next_event u (length l) (state_after p l).tables ≡ End k.over.0) w.is k.over.1 in
-      lists_begin first h.rest w.rest events whole h.is w.is
-      (of_whole u (length first) (state_after p first) w.rest h.rest k.over.0 w.by_plan h.by_plan (behind_both first w.rest (λ n s. next_event u n s.tables ≡ End k.over.0) over))
+      let over = subst (λ (l : List Event). next_behind u p l ≡ End k.over.0) w.is k.over.1 in
+      lists_begin first h.rest w.rest events whole h.is w.is (of_whole first w.rest h.rest k.over.0 w.by_plan h.by_plan over)
 
   nothing_more : (xs ys rest others : List Event) → ys ≡ xs ++ rest → xs ≡ ys ++ others → xs ≡ ys
   nothing_more xs ys [] others is are = sym (is ∙ append-nil xs)
@@ -143,19 +133,34 @@ module _ (u : Schedule) (p : Program) where
 
 -- WHAT A STEP ADDS
 
-module _ {D O : Type 0} {d : Ghosts D} (o : Ghosts O) (options : Options) (left : ℕ) (s t : Session D d) (a b : O) (p : Program) (events : List Event) (reps : Represents p events s) where
-  nothing_added : IsByPlanFrom (schedule_of options) p events (events ++ [])
+-- what is given hangs on what the events took
+pub told_given : (file : Option (List ℕ)) (taken : ℕ) (events : List Event) (s : Tables) → IsTold file taken events → given_in file taken s ≡ given_in file (taken_by events) s
+told_given (Some bytes) taken events s told = ap (λ n. given_in (Some bytes) n s) told
+told_given None taken events s told = refl
+
+pub told_more : (file : Option (List ℕ)) (n m : ℕ) (events more : List Event) → m ≡ n + taken_by more → IsTold file n events → IsTold file m (events ++ more)
+told_more (Some bytes) n m events more is told = omega (arith, is, told, taken-append events more)
+told_more None n m events more is told = tt
+
+module _ {D O : Type 0} {d : Ghosts D} (o : Ghosts O) (options : Options) (file : Option (List ℕ)) (w : Supply) (taken : ℕ) (s t : Session D d) (a b : O) (p : Program) (events : List Event) (reps : Represents p events s)
+    (supplied : IsSupplied file taken s.progress.machine.state.tables w) (told : IsTold file taken events) where
+  abbrev u : Course
+  u = course (schedule_of options) file
+
+  nothing_added : IsByPlanFrom u p events (events ++ [])
   nothing_added = record { rest = []; is = refl; by_plan = tt }
 
-  event_added : (e : Event) → next_event (schedule_of options) s.progress.count s.progress.machine.state.tables ≡ Submit e → IsByPlanFrom (schedule_of options) p events (events ++ e ∷ [])
+  event_added : (e : Event) → next_event (schedule_of options) w.given s.progress.count s.progress.machine.state.tables ≡ Submit e → IsByPlanFrom u p events (events ++ e ∷ [])
   event_added e is =
-      let at = subst (λ (q : State). next_event (schedule_of options) s.progress.count q.tables ≡ Submit e) reps.state is in
-      let there = subst (λ n. next_event (schedule_of options) n (state_after p events).tables ≡ Submit e) reps.count at in
-      record { rest = e ∷ []; is = refl; by_plan = (there, tt) }
+      let given = subst (λ g. next_event (schedule_of options) g s.progress.count s.progress.machine.state.tables ≡ Submit e) supplied.given is in
+      let at = subst (λ (q : State). next_event (schedule_of options) (given_in file taken q.tables) s.progress.count q.tables ≡ Submit e) reps.state given in
+      let there = subst (λ n. next_event (schedule_of options) (given_in file taken (state_after p events).tables) n (state_after p events).tables ≡ Submit e) reps.count at in
+      let next = subst (λ g. next_event (schedule_of options) g (length events) (state_after p events).tables ≡ Submit e) (told_given file taken events (state_after p events).tables told) there in
+      record { rest = e ∷ []; is = refl; by_plan = (next, tt) }
 
   -- an event that is taken is the plan's next one
-  pub step_by_plan : (r : Result Progress DriveFault) → Steps o (plan options left (view_of s)) s t a b r → IsByPlanFrom (schedule_of options) p events (events ++ accepted_in r)
-  step_by_plan (Ok (Submitted e answer)) h = event_added e (planned_event options left (view_of s) e answer h.done.0)
+  pub step_by_plan : (r : Result Progress DriveFault) → Steps o (aim_of options w (view_of s)) s t a b r → IsByPlanFrom (course (schedule_of options) file) p events (events ++ accepted_in r)
+  step_by_plan (Ok (Submitted e answer)) h = event_added e (planned_event options w (view_of s) e answer h.done.0)
   step_by_plan (Ok Committed) h = nothing_added
   step_by_plan (Ok Checkpointed) h = nothing_added
   step_by_plan (Ok Released) h = nothing_added
@@ -169,28 +174,31 @@ not_enough true n ending is other = let same : ending ≡ Enough = cc in absurd 
 not_enough false n ending is other = is
 
 module _ {D O : Type 0} {d : Ghosts D} {o : Ghosts O} where
-  list_by_plan : (u : Schedule) (first : List Event) (h : Past) (v : OneDrive d o) (k : Keeps h v) → IsBeginningOf first h.acknowledged → IsByPlanFrom u h.program first h.accepted → schedule_of v.options ≡ u → IsByPlanFrom u h.program first k.all
-  list_by_plan u first h v k begins by_plan same =
+  list_by_plan : (u : Course) (first : List Event) (h : Past) (v : OneDrive d o) (k : Keeps h v) → IsBeginningOf first h.acknowledged → IsByPlanFrom u h.program first h.accepted → course_of v ≡ u → IsTold v.file v.first.taken k.opened → IsByPlanFrom u h.program first k.all
+  list_by_plan u first h v k begins by_plan same told =
       let opened = by_plan_between u h.program first k.opened h.accepted (begins_through first h.acknowledged k.opened begins k.begins) k.within by_plan in
-      by_plan_through u h.program first k.opened k.all opened (subst (λ q. IsByPlanFrom q h.program k.opened k.all) same k.by_plan)
+      by_plan_through u h.program first k.opened k.all opened (subst (λ q. IsByPlanFrom q h.program k.opened k.all) same (k.by_plan told))
 
-  pub go_by_plan : (u : Schedule) (first : List Event) (h : Past) (v : OneDrive d o) (more : List (OneDrive d o)) → IsBeginningOf first h.acknowledged → IsByPlanFrom u h.program first h.accepted → AllBySchedule u (v ∷ more) → ComeBehind v more
-      → (keep : AllKeep h (v ∷ more)) → AllByPlan u first h (v ∷ more) keep
-  go_by_plan u first h v [] begins by_plan same behind keep = (list_by_plan u first h v keep.0 begins by_plan same.0, tt)
-  go_by_plan u first h v (w ∷ more) begins by_plan same behind keep =
+  pub go_by_plan : (u : Course) (first : List Event) (h : Past) (v : OneDrive d o) (more : List (OneDrive d o)) → IsBeginningOf first h.acknowledged → IsByPlanFrom u h.program first h.accepted → AllOnCourse u (v ∷ more) → ComeBehind v more
+      → (keep : AllKeep h (v ∷ more)) → AllTold h (v ∷ more) keep → AllByPlan u first h (v ∷ more) keep
+  go_by_plan u first h v [] begins by_plan same behind keep told = (list_by_plan u first h v keep.0 begins by_plan same.0 told.0, tt)
+  go_by_plan u first h v (w ∷ more) begins by_plan same behind keep told =
       let k = keep.0 in
-      let all = list_by_plan u first h v k begins by_plan same.0 in
+      let all = list_by_plan u first h v k begins by_plan same.0 told.0 in
       let still = begins_through first h.acknowledged (take v.at.session.acknowledged k.all) begins (k.still v.at w.start w.first.output behind.0) in
-      (all, go_by_plan u first (past_behind v k) w more still all same.1 behind.2 keep.1)
+      (all, go_by_plan u first (past_behind v k) w more still all same.1 behind.2 keep.1 told.1)
 
-  pub end_unbroken : (first whole : List Event) (h : Past) (v : OneDrive d o) (k : Keeps h v) → IsByPlanFrom (schedule_of v.options) h.program first k.all → HasEnded v → IsUnbroken (schedule_of v.options) h.program first whole
+  pub end_unbroken : (first whole : List Event) (h : Past) (v : OneDrive d o) (k : Keeps h v) → IsByPlanFrom (course_of v) h.program first k.all → IsTold v.file v.first.taken k.opened → HasEnded v → IsUnbroken (course_of v) h.program first whole
       → (k.all ≡ whole) × HoldsOutput o 0 (length (output_after h.program whole)) (output_after h.program whole) v.last.output
-  end_unbroken first whole h v k by_plan ended unbroken =
-      let u = schedule_of v.options in
+  end_unbroken first whole h v k by_plan told ended unbroken =
+      let u = course_of v in
       let s = v.last.session in
+      let w = ended.over.supply in
       let reps = k.represents in
-      let planned = not_enough (is_running s.progress.machine.state.tables.status && (v.last.left == 0)) (next_event u s.progress.count s.progress.machine.state.tables) ended.ending ended.planned ended.other in
-      let at = subst (λ (q : State). next_event u s.progress.count q.tables ≡ End ended.ending) reps.state planned in
-      let there = subst (λ n. next_event u n (state_after h.program k.all).tables ≡ End ended.ending) reps.count at in
-      let same = unbroken_once u h.program first k.all whole (record { by_plan = by_plan; over = (ended.ending, there) }) unbroken in
+      let planned = not_enough (is_running s.progress.machine.state.tables.status && (w.left == 0)) (next_event u.schedule w.given s.progress.count s.progress.machine.state.tables) ended.ending ended.over.planned ended.other in
+      let given = subst (λ g. next_event u.schedule g s.progress.count s.progress.machine.state.tables ≡ End ended.ending) ended.over.supplied.given planned in
+      let at = subst (λ (q : State). next_event u.schedule (given_in v.file v.last.taken q.tables) s.progress.count q.tables ≡ End ended.ending) reps.state given in
+      let there = subst (λ n. next_event u.schedule (given_in v.file v.last.taken (state_after h.program k.all).tables) n (state_after h.program k.all).tables ≡ End ended.ending) reps.count at in
+      let over = subst (λ g. next_event u.schedule g (length k.all) (state_after h.program k.all).tables ≡ End ended.ending) (told_given v.file v.last.taken k.all (state_after h.program k.all).tables (k.taken told)) there in
+      let same = unbroken_once u h.program first k.all whole (record { by_plan = by_plan; over = (ended.ending, over) }) unbroken in
       (same, subst (λ (l : List Event). HoldsOutput o 0 (length (output_after h.program l)) (output_after h.program l) v.last.output) same (k.whole ended.saved).0)

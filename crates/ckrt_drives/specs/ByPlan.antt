@@ -1,37 +1,51 @@
 -- Lists of events by plan: each event is the one that the plan has next where it stands.
-use Rattle.std.specs.Prelude.{◌≡◌, ◌⊎◌, ◌+◌, ℕ, List, [], ◌∷◌, ◌++◌, length}
+use Rattle.std.specs.Prelude.{◌≡◌, ◌⊎◌, ℕ, List, [], ◌∷◌, ◌++◌, length, Option}
+use Rattle.ckrt_drive.specs.Given.{given_in}
 use Rattle.ckrt_drive.specs.Plan.{Schedule, next_event}
+use Rattle.ckrt_drive.specs.declared.plan.Next.{Next}
 use Rattle.ckrt_drive.specs.declared.plan.Next.TheVariants.{Submit, End}
 use Rattle.ckrt_drive.specs.declared.progress.Ending.{Ending}
 use Rattle.ckrt_events.specs.declared.event.Event.{Event}
 use Rattle.ckrt_image.specs.Programs.{Program, state_after}
-use Rattle.ckrt_machine.specs.Events.{step}
-use Rattle.ckrt_machine.specs.Steps.{State}
+use Rattle.ckrt_input.specs.Taken.{taken_by}
 use Rattle.ckrt_recovery.specs.Between.{IsBeginningOf}
 
--- from a state behind n events on each of these is the next one, where those before it led
-abbrev pub AreByPlan : Schedule → (n : ℕ) → State → List Event → Type 0
-AreByPlan u n s [] = Unit {0}
-AreByPlan u n s (e ∷ es) =
-    (next_event u n s.tables ≡ Submit e) × AreByPlan u (n + 1) (step e s).state es
+-- by what the events of drives are chosen: their schedule, and the bytes of their input, where they have one
+pub record Course : Type 0 where
+  pub schedule : Schedule
+  pub file : Option (List ℕ)
+
+abbrev pub course : Schedule → (file : Option (List ℕ)) → Course
+course u file = record { schedule = u; file = file }
+
+-- what is next behind these events of a program: what the input gives behind those that they took, and else what the schedule has
+abbrev pub next_behind : Course → Program → List Event → Next
+next_behind u p events =
+    next_event u.schedule (given_in u.file (taken_by events) (state_after p events).tables)
+    (length events) (state_after p events).tables
+
+-- behind some events each of these is the next one
+abbrev pub AreByPlan : Course → Program → (behind : List Event) → List Event → Type 0
+AreByPlan u p behind [] = Unit {0}
+AreByPlan u p behind (e ∷ es) =
+    (next_behind u p behind ≡ Submit e) × AreByPlan u p (behind ++ e ∷ []) es
 
 -- a list goes on by plan behind its first events
-pub record IsByPlanFrom (u : Schedule) (p : Program) (first events : List Event) : Type 0 where
+pub record IsByPlanFrom (u : Course) (p : Program) (first events : List Event) : Type 0 where
   pub rest : List Event
   pub is : events ≡ first ++ rest
-  pub by_plan : AreByPlan u (length first) (state_after p first) rest
+  pub by_plan : AreByPlan u p first rest
 
 -- the whole of it is by plan
-abbrev pub IsByPlan : Schedule → Program → List Event → Type 0
+abbrev pub IsByPlan : Course → Program → List Event → Type 0
 IsByPlan u p events = IsByPlanFrom u p [] events
 
 -- nothing is next behind these events
-abbrev pub IsOver : Schedule → Program → List Event → Type 0
-IsOver u p events =
-    (ending : Ending) × (next_event u (length events) (state_after p events).tables ≡ End ending)
+abbrev pub IsOver : Course → Program → List Event → Type 0
+IsOver u p events = (ending : Ending) × (next_behind u p events ≡ End ending)
 
 -- the list of a drive that nothing stops
-pub record IsUnbroken (u : Schedule) (p : Program) (first events : List Event) : Type 0 where
+pub record IsUnbroken (u : Course) (p : Program) (first events : List Event) : Type 0 where
   pub by_plan : IsByPlanFrom u p first events
   pub over : IsOver u p events
 
@@ -40,17 +54,17 @@ pub record IsUnbroken (u : Schedule) (p : Program) (first events : List Event) :
 -- of two lists that go on by plan behind the same events, one is a beginning of the other
 abbrev pub AreOneList : Type 0
 AreOneList =
-    (u : Schedule) (p : Program) (first events others : List Event) → IsByPlanFrom u p first events
+    (u : Course) (p : Program) (first events others : List Event) → IsByPlanFrom u p first events
     → IsByPlanFrom u p first others → IsBeginningOf events others ⊎ IsBeginningOf others events
 
 -- each is a beginning of the unbroken one
 abbrev pub AreOfTheUnbroken : Type 0
 AreOfTheUnbroken =
-    (u : Schedule) (p : Program) (first events whole : List Event) → IsByPlanFrom u p first events
+    (u : Course) (p : Program) (first events whole : List Event) → IsByPlanFrom u p first events
     → IsUnbroken u p first whole → IsBeginningOf events whole
 
 -- and two unbroken ones are the same
 abbrev pub IsUnbrokenOnce : Type 0
 IsUnbrokenOnce =
-    (u : Schedule) (p : Program) (first events whole : List Event) → IsUnbroken u p first events
+    (u : Course) (p : Program) (first events whole : List Event) → IsUnbroken u p first events
     → IsUnbroken u p first whole → events ≡ whole

@@ -1,5 +1,5 @@
 -- The drive of a disk, with its output in a disk of its own or on the standard output: from the words' options to the ending.
-use Rattle.std.specs.Prelude.{◌≡◌, ◌⊎◌, ◌-◌, ◌^◌, ◌&&◌, ℕ, nat_lt, nat_le, Bool, true, false, List, Option, Some, None, Result, Ok, Err, IfErr, IfOk, is_err}
+use Rattle.std.specs.Prelude.{◌≡◌, ◌⊎◌, ◌-◌, ◌^◌, ◌&&◌, ℕ, nat_lt, nat_le, Bool, true, false, List, Option, Some, None, Result, Ok, Err, IfErr, IfOk, IfSome, is_err}
 use Rattle.ckrt_checkpoint.specs.declared.config.Config.{Config}
 use Rattle.ckrt_disk.specs.Disk.{HasFailed}
 use Rattle.ckrt_disk.specs.Frame.{IsOnlyRead}
@@ -18,7 +18,7 @@ use Rattle.ckrt_recovery.specs.View.{opened as opened_view, view_of}
 use Rattle.ckrt_recovery.specs.declared.session.Session.{Session}
 use Rattle.ckrt_machine.specs.Steps.{State}
 use Rattle.ckrt_drive.specs.Runs.{Runs}
-use Rattle.ckrt_drive.specs.Stages.{GoesBySteps, stage}
+use Rattle.ckrt_drive.specs.Stages.{GoesBySteps, IsOver, stage}
 use Rattle.ckrt_drive.specs.Streams.{got_to, writer_of}
 use Rattle.ckrt_drive.specs.declared.fault.DriveFault.{DriveFault}
 use Rattle.ckrt_drive.specs.declared.fault.DriveFault.TheVariants.{Output}
@@ -87,12 +87,15 @@ driven_of s (Err fault) = Err fault
 pub record DrivesSession {D O : Type 0} {g : Ghosts D} (o : Ghosts O) (options : Options)
     (s t : Session D g) (a b : O) (answer : Result Driven DriveFault) : Type 0 where
   pub ran : Result (Option Ending) DriveFault
-  -- how many events are left in the end
+  -- how many events are left in the end, and how many bytes of input the program has taken
   pub left : ℕ
+  pub taken : ℕ
   -- what it did, what every stop left, what was acknowledged, and what the output holds
   pub runs : Runs o options (2 ^ 64 - 1) options.events left s t a b ran
   -- step by step
-  pub by_steps : GoesBySteps options (stage o options.events s a) (stage o left t b)
+  pub by_steps : GoesBySteps options (Unit {0}) None (stage o options.events 0 s a) (stage o left taken t b)
+  -- and nothing is next at an end
+  pub over : IfOk ran (λ ended. IfSome ended (IsOver options None (stage o left taken t b)))
   -- the program stands as it says
   pub gives : answer ≡ driven_of t.progress.machine.state ran
   pub output : IfErr answer (λ fault. fault ≡ Output → HasFailed (o.failures a) (o.failures b))

@@ -46,6 +46,8 @@ name_of_look look.Range = codes "Range"
 
 abbrev pub name_of_drive : DriveFault → List ℕ
 name_of_drive drive.Device = codes "Device"
+name_of_drive drive.Input = codes "Input"
+name_of_drive drive.NoRecord = codes "NoRecord"
 name_of_drive drive.Output = codes "Output"
 name_of_drive drive.OutputFull = codes "OutputFull"
 name_of_drive drive.GenerationsUsed = codes "GenerationsUsed"

@@ -46,6 +46,7 @@ memory_advice = codes "the system refused memory"
 abbrev pub file_text : JobFile → List ℕ
 file_text file.Image = codes "the image "
 file_text file.Disk = codes "the disk "
+file_text file.Input = codes "the input "
 file_text file.Output = codes "the output "
 file_text file.Making = codes "the disk in the making "
 
@@ -75,6 +76,8 @@ file_fault_text fault.Other = codes "it can't be opened, read or filled"
 -- the file that a fault of a drive is of
 abbrev pub file_of_drive : DriveFault → JobFile
 file_of_drive drive.Device = file.Disk
+file_of_drive drive.Input = file.Input
+file_of_drive drive.NoRecord = file.Disk
 file_of_drive drive.Output = file.Output
 file_of_drive drive.OutputFull = file.Output
 file_of_drive drive.GenerationsUsed = file.Disk
@@ -134,6 +137,8 @@ advice_of_look look.Range = codes "it has no state after so many events: any mor
 
 abbrev pub advice_of_drive : DriveFault → List ℕ
 advice_of_drive drive.Device = device_advice
+advice_of_drive drive.Input = codes "a read failed; look after its device, then the same command goes on"
+advice_of_drive drive.NoRecord = codes "it has no room for the record of the input; make it 4096 bytes longer"
 advice_of_drive drive.Output = codes "a write or sync failed: no space is left, the pipe is broken, or its device fails; mend that, then the same command goes on (docs/OPERATING.md)"
 advice_of_drive drive.OutputFull = codes "it can't have so many bytes"
 advice_of_drive drive.GenerationsUsed = codes "it has made as many checkpoints as there can be; make another"

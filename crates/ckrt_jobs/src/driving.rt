@@ -17,7 +17,7 @@ use crate::output::{OpenedOutput, OutputLengths};
 use crate::sizes::other_sizes;
 use crate::sources::Sources;
 use ckrt_disk::Disk;
-use ckrt_drive::{Drive, DriveFault, Ending, Options, StreamOutput};
+use ckrt_drive::{Drive, DriveFault, Ending, Nothing, Options, StreamOutput};
 use ckrt_events::LONG_RUN_LIMIT;
 use ckrt_machine::Machine;
 use ckrt_recovery::{RecoverFault, Session, recover};
@@ -93,7 +93,7 @@ fn drive_session<D: Disk, O: Disk, M: Meter>(
     let mut drive = Drive::new(session, output, options);
     let answer = drive.run(u64::MAX, meter);
     let driven = driven_of(drive.session().machine(), answer);
-    let (session, output) = drive.into_parts();
+    let (session, output, Nothing) = drive.into_parts();
     Undertaken {
         session,
         output,

@@ -38,6 +38,12 @@ pub enum JobFault {
 const DEVICE_ADVICE: &str =
     "a read, write or sync failed; look after the device, then run this again (docs/OPERATING.md)";
 
+/// What is said of an input whose file failed a read.
+const INPUT_ADVICE: &str = "a read failed; look after its device, then the same command goes on";
+
+/// What is said of a disk that has no place for the record of the input.
+const RECORD_ADVICE: &str = "it has no room for the record of the input; make it 4096 bytes longer";
+
 /// What is said where the output failed a write or a sync.
 const OUTPUT_ADVICE: &str =
     "a write or sync failed: no space is left, the pipe is broken, or its device fails; mend that, then the same command goes on (docs/OPERATING.md)";
@@ -127,6 +133,8 @@ fn drive_advice(fault: DriveFault) -> &'static str
 {
     match fault {
         DriveFault::Device => DEVICE_ADVICE,
+        DriveFault::Input => INPUT_ADVICE,
+        DriveFault::NoRecord => RECORD_ADVICE,
         DriveFault::Output => OUTPUT_ADVICE,
         DriveFault::OutputFull => "it can't have so many bytes",
         DriveFault::GenerationsUsed =>
@@ -141,6 +149,8 @@ fn drive_name(fault: DriveFault) -> &'static str
 {
     match fault {
         DriveFault::Device => "Device",
+        DriveFault::Input => "Input",
+        DriveFault::NoRecord => "NoRecord",
         DriveFault::Output => "Output",
         DriveFault::OutputFull => "OutputFull",
         DriveFault::GenerationsUsed => "GenerationsUsed",
@@ -171,8 +181,12 @@ fn drive_file(fault: DriveFault) -> JobFile
     ensures { result ≡ file_of_drive fault }
 {
     match fault {
+        DriveFault::Input => JobFile::Input,
         DriveFault::Output | DriveFault::OutputFull => JobFile::Output,
-        DriveFault::Device | DriveFault::GenerationsUsed | DriveFault::Refused(_) => JobFile::Disk,
+        DriveFault::Device
+        | DriveFault::NoRecord
+        | DriveFault::GenerationsUsed
+        | DriveFault::Refused(_) => JobFile::Disk,
     }
 }
 

@@ -16,6 +16,8 @@ pub enum JobFile {
     Image,
     /// The disk.
     Disk,
+    /// The file of the input.
+    Input,
     /// The file of the output.
     Output,
     /// The disk in the making, beside the path that it is made for.
@@ -91,6 +93,7 @@ impl JobFile {
         match self {
             JobFile::Image => "the image ",
             JobFile::Disk => "the disk ",
+            JobFile::Input => "the input ",
             JobFile::Output => "the output ",
             JobFile::Making => "the disk in the making ",
         }
@@ -102,7 +105,7 @@ impl JobFile {
     {
         match self {
             JobFile::Making => MAKING,
-            JobFile::Image | JobFile::Disk | JobFile::Output => "",
+            JobFile::Image | JobFile::Disk | JobFile::Input | JobFile::Output => "",
         }
     }
 }

@@ -12,7 +12,7 @@ returns-in-Ok g c =
     let is = taken c.submit.result (refusal_of (view_of s) e) (c.in-Ok.field-0-0, c.in-Ok.answer) (s.progress.count + 1, (machine.step e s.progress.machine.state).answer) c.in-Ok.is f.answer in
     let told : c.submit.result ≡ Ok (s.progress.count + 1, (machine.step e s.progress.machine.state).answer) = at_none (refusal_of (view_of s) e) _ _ is f.answer in
     let answer : c.in-Ok.answer ≡ (machine.step e s.progress.machine.state).answer = search rules in
-    advances_taken e c.in-Ok.answer s c.submit.new.self answer is (at_none (refusal_of (view_of s) e) _ _ is f.view) f.disk (λ p events reps. at_ok c.submit.result _ (c.in-Ok.field-0-0, c.in-Ok.answer) c.in-Ok.is (f.represents p events reps))
+    advances_taken c.args.recorded e c.in-Ok.answer s c.submit.new.self answer is (at_none (refusal_of (view_of s) e) _ _ is f.view) f.disk (λ p events reps. at_ok c.submit.result _ (c.in-Ok.field-0-0, c.in-Ok.answer) c.in-Ok.is (f.represents p events reps))
 
 pub returns-then-is_shortage : goal.returns-then-is_shortage
 returns-then-is_shortage g c =
@@ -20,7 +20,7 @@ returns-then-is_shortage g c =
     let e = c.args.event in
     let f = c.submit.ensures in
     let is = refused c.submit.result (refusal_of (view_of s) e) c.in-Err.fault (s.progress.count + 1, (machine.step e s.progress.machine.state).answer) c.in-Err.is f.answer in
-    advances_short e c.in-Err.fault s c.submit.new.self c.make_room.new.session c.make_room.result is (at_some (refusal_of (view_of s) e) _ _ c.in-Err.fault is f.view) (sym c.is_shortage.ensures ∙ c.if-is_shortage.true) c.make_room.ensures
+    advances_short c.args.recorded e c.in-Err.fault s c.submit.new.self c.make_room.new.session c.make_room.result is (at_some (refusal_of (view_of s) e) _ _ c.in-Err.fault is f.view) (sym c.is_shortage.ensures ∙ c.if-is_shortage.true) c.make_room.ensures
 
 pub returns-else-is_shortage : goal.returns-else-is_shortage
 returns-else-is_shortage g c =
@@ -28,4 +28,4 @@ returns-else-is_shortage g c =
     let e = c.args.event in
     let f = c.submit.ensures in
     let is = refused c.submit.result (refusal_of (view_of s) e) c.in-Err.fault (s.progress.count + 1, (machine.step e s.progress.machine.state).answer) c.in-Err.is f.answer in
-    advances_refused e c.in-Err.fault s c.submit.new.self is (at_some (refusal_of (view_of s) e) _ _ c.in-Err.fault is f.view) (sym c.is_shortage.ensures ∙ c.if-is_shortage.false)
+    advances_refused c.args.recorded e c.in-Err.fault s c.submit.new.self is (at_some (refusal_of (view_of s) e) _ _ c.in-Err.fault is f.view) (sym c.is_shortage.ensures ∙ c.if-is_shortage.false)

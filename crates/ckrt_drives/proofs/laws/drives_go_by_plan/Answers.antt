@@ -11,7 +11,7 @@ pub returns-clause-once : goal.returns-clause-once
 returns-clause-once g c = λ u p first events whole h k. unbroken_once u p first events whole h k
 
 pub returns-clause-drives : goal.returns-clause-drives
-returns-clause-drives g c = λ u first h v more begins by_plan same behind keep. go_by_plan u first h v more begins by_plan same behind keep
+returns-clause-drives g c = λ u first h v more begins by_plan same behind keep told. go_by_plan u first h v more begins by_plan same behind keep told
 
 pub returns-clause-ends : goal.returns-clause-ends
-returns-clause-ends g c = λ first whole h v k by_plan ended unbroken. end_unbroken first whole h v k by_plan ended unbroken
+returns-clause-ends g c = λ first whole h v k by_plan told ended unbroken. end_unbroken first whole h v k by_plan told ended unbroken

@@ -4,4 +4,5 @@ use Rattle.ckrt_drive.proofs.drive.Drive.step.Goals as goal
 pub returns-clause-ends : goal.returns-clause-ends
 returns-clause-ends g c =
     let d = c.args.self.now in
-    stops_rightly g.O.Disk d.options d.left c.step.new.left d.session c.step.new.session d.output c.step.new.output c.step.result c.step.ensures.steps c.step.ensures.left
+    let k = c.step.ensures.steps in
+    stops_rightly g.O.Disk d.options k.supply d.left c.step.new.left d.session c.step.new.session d.output c.step.new.output c.step.result k.left k.steps c.step.ensures.left

@@ -1,0 +1,28 @@
+-- What a drive gives its program as input (this project's choice).
+use Rattle.std.specs.Prelude.{◌≡◌, ℕ, List, drop, Option, Some, None, option_map, Result, Ok, Err}
+use Rattle.ckrt_disk.specs.Disk.{HasFailed}
+use Rattle.ckrt_events.specs.declared.event.Event.{Event}
+use Rattle.ckrt_input.specs.Next.{next_input}
+use Rattle.ckrt_state.specs.declared.table.Tables.{Tables}
+use Rattle.ckrt_drive.specs.declared.fault.DriveFault.{DriveFault}
+use Rattle.ckrt_drive.specs.declared.fault.DriveFault.TheVariants.{Input}
+use Rattle.ckrt_drive.specs.declared.supply.Supply.{Supply}
+
+-- what a program is given next of a file's bytes, where it has taken so many of them; without a file nothing
+abbrev pub given_in : (file : Option (List ℕ)) → (taken : ℕ) → Tables → Option Event
+given_in None taken s = None
+given_in (Some bytes) taken s = next_input s (drop taken bytes)
+
+-- how many bytes a program has taken, where there is a file, and so a record of it
+abbrev pub record_of : (file : Option (List ℕ)) → (taken : ℕ) → Option ℕ
+record_of file taken = option_map (λ bytes. taken) file
+
+-- A step is supplied from a file of which the program has taken so many bytes.
+pub record IsSupplied (file : Option (List ℕ)) (taken : ℕ) (s : Tables) (w : Supply) : Type 0 where
+  pub given : w.given ≡ given_in file taken s
+  pub recorded : w.recorded ≡ record_of file taken
+
+-- the count of failed reads grew where that is the fault, and where there is none it didn't
+abbrev pub CountsRead : {X : Type 0} → (before now : ℕ) → Result X DriveFault → Type 0
+CountsRead before now (Ok x) = now ≡ before
+CountsRead before now (Err fault) = fault ≡ Input → HasFailed before now
