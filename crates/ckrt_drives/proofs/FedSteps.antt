@@ -33,11 +33,11 @@ all_of : (n : ℕ) (events : List Event) → length (take n events) ≡ length e
 all_of n events same = take_all n events (omega (arith, same, length-take n events))
 
 -- a list has one beginning of a length
-front_is : (xs all : List Event) → IsBeginningOf xs all → take (length xs) all ≡ xs
-front_is xs all h = begins_same xs all (length xs) (omega arith) h ∙ take_all (length xs) xs (omega arith)
+beginning_is : (xs all : List Event) → IsBeginningOf xs all → take (length xs) all ≡ xs
+beginning_is xs all h = begins_same xs all (length xs) (omega arith) h ∙ take_all (length xs) xs (omega arith)
 
 pub begins_once : (xs ys all : List Event) → IsBeginningOf xs all → IsBeginningOf ys all → length xs ≡ length ys → xs ≡ ys
-begins_once xs ys all h k same = sym (front_is xs all h) ∙ (ap (λ n. take n all) same ∙ front_is ys all k)
+begins_once xs ys all h k same = sym (beginning_is xs all h) ∙ (ap (λ n. take n all) same ∙ beginning_is ys all k)
 
 -- A SESSION
 
@@ -59,14 +59,24 @@ module _ {D : Type 0} {g : Ghosts D} (p : Program) (events : List Event) (s : Se
   now_fed false is reps keeps image left = inl ((reps.images is image left).to, keeps.running is image left)
 
   -- lies between what is acknowledged and a list that goes on behind
+  front_same : (all : List Event) (n : ℕ) → Represents p events s → IsBeginningOf events all → n ≡ s.acknowledged → take n all ≡ acknowledged_of events s
+  front_same all n reps more same = ap (λ k. take k all) same ∙ begins_same events all s.acknowledged reps.acknowledged more
+
   between_fed : (old : List ℕ) (all : List Event) (n : ℕ) → Represents p events s → IsBeginningOf events all → n ≡ s.acknowledged → (image : List ℕ) → RecoversFedEither p events s image → KeepsFed (past p old (take n all) all) image
-  between_fed old all n reps more same image fed =
-      let front : take n all ≡ acknowledged_of events s = ap (λ k. take k all) same ∙ begins_same events all s.acknowledged reps.acknowledged more in
-      let few = take_begins s.acknowledged events in
-      ⊎_elim
-      (λ (is : _). record { all = acknowledged_of events s; begins = subst (λ (l : List Event). IsBeginningOf l (acknowledged_of events s)) (sym front) (begins_itself (acknowledged_of events s)); within = begins_through (acknowledged_of events s) events all few more; to = s.progress.confirmed; fed = is })
-      (λ (is : _). record { all = events; begins = subst (λ (l : List Event). IsBeginningOf l events) (sym front) few; within = more; to = s.progress.confirmed; fed = is })
-      fed
+  between_fed old all n reps more same image (inl is) = record {
+    all = acknowledged_of events s;
+    begins = subst (λ (l : List Event). IsBeginningOf l (acknowledged_of events s)) (sym (front_same all n reps more same)) (begins_itself (acknowledged_of events s));
+    within = begins_through (acknowledged_of events s) events all (take_begins s.acknowledged events) more;
+    to = s.progress.confirmed;
+    fed = is;
+  }
+  between_fed old all n reps more same image (inr is) = record {
+    all = events;
+    begins = subst (λ (l : List Event). IsBeginningOf l events) (sym (front_same all n reps more same)) (take_begins s.acknowledged events);
+    within = more;
+    to = s.progress.confirmed;
+    fed = is;
+  }
 
 -- A STEP
 
