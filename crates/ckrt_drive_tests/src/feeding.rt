@@ -1,6 +1,8 @@
 //! Drives with an input, stopped and given again.
 
-use crate::expect::{expect_bytes, expect_eq, expect_eq_at, filled, image_of, memory_disk, stopping_disk};
+use crate::expect::{
+    expect_bytes, expect_eq, expect_eq_at, filled, image_of, memory_disk, stopping_disk,
+};
 use crate::small_disk::{SMALL, format_outcome, recovered};
 use ckrt_disk::{Disk, MemoryDisk};
 use ckrt_drive::{Drive, DriveFault, Ending, FromDisk, Nobody, Options};
@@ -24,7 +26,8 @@ const ECHO: [u32; 10] = [
 ];
 
 /// The bytes of the input.
-const TEXT: &[u8] = b"The input of a program is given in pieces of 64 bytes, each once and in order, whatever is stopped when. \
+const TEXT: &[u8] =
+    b"The input of a program is given in pieces of 64 bytes, each once and in order, whatever is stopped when. \
 Behind the last byte comes its end, and not before.";
 
 /// More calls than a drive of this guest makes before its end.
