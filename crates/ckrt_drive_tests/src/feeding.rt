@@ -31,7 +31,7 @@ const TEXT: &[u8] =
 Behind the last byte comes its end, and not before.";
 
 /// More calls than a drive of this guest makes before its end.
-const CALLS: u64 = 60;
+const CALLS: u64 = 200;
 
 /// A disk with room for a record, formatted with the guest.
 fn formatted<R: Abort + AllocGlobal>(rt: &R) -> Vec<u8> {
@@ -65,7 +65,7 @@ fn driven<R: Abort + AllocGlobal, D: Disk>(
     let taken = offset(rt, &mut disk);
     let session = recovered(rt, disk);
     let feed = FromDisk::new(memory_disk(rt, copied(rt, TEXT)));
-    let mut drive = Drive::with_feed(session, output, Options::new(100, 1, u64::MAX), feed, taken);
+    let mut drive = Drive::with_feed(session, output, Options::new(300, 1, u64::MAX), feed, taken);
     let answer = drive.run(1_000_000, &mut Nobody);
     let (session, output, _) = drive.into_parts();
     (answer, session.into_disk(), output)
