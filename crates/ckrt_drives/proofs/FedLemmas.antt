@@ -29,6 +29,22 @@ formatted_fed d (Some bytes) p old disk made = λ image may.
     record { all = []; begins = ([], refl); within = ([], refl); to = 0; fed = (starts_formatted p image (made image may), begins p image (made image may)) }
 formatted_fed d None p old disk made = tt
 
+-- WHAT IS GIVEN
+
+-- a beginning of what is given is given
+given_front : (xs ys : List Event) (file : List ℕ) (s : State) → AreGiven (xs ++ ys) file s → AreGiven xs file s
+given_front [] ys file s h = tt
+given_front (x ∷ xs) ys file s h = (h.0, given_front xs ys (drop (length (bytes_of x)) file) (step x s).state h.1)
+
+gives : (file : List ℕ) (events : List Event) (p : Program) → AreGiven events file (start_of p) → GiveFile events file
+gives file events p given =
+    let b = beginning events file (start_of p) given in
+    record {
+      rest = b.0;
+      beginning = b.1;
+      end = λ front back is. end_behind front back file (start_of p) (subst (λ (l : List Event). AreGiven l file (start_of p)) is given);
+    }
+
 -- WHAT A DRIVE IS TOLD
 
 same_offset : (n m : ℕ) (o : Result (Option ℕ) RecoverFault) → o ≡ Ok (Some n) → o ≡ Ok (Some m) → n ≡ m
@@ -68,21 +84,7 @@ module _ {D O : Type 0} {d : Ghosts D} {o : Ghosts O} where
   one_input u [] same = tt
   one_input u (v ∷ more) same = (ap (λ (c : Course). c.file) same.0, one_input u more same.1)
 
-  -- WHAT THEY GIVE
-
-  -- a beginning of what is given is given
-  given_front : (xs ys : List Event) (file : List ℕ) (s : State) → AreGiven (xs ++ ys) file s → AreGiven xs file s
-  given_front [] ys file s h = tt
-  given_front (x ∷ xs) ys file s h = (h.0, given_front xs ys (drop (length (bytes_of x)) file) (step x s).state h.1)
-
-  gives : (file : List ℕ) (events : List Event) (p : Program) → AreGiven events file (start_of p) → GiveFile events file
-  gives file events p given =
-      let b = beginning events file (start_of p) given in
-      record {
-        rest = b.0;
-        beginning = b.1;
-        end = λ front back is. end_behind front back file (start_of p) (subst (λ (l : List Event). AreGiven l file (start_of p)) is given);
-      }
+  -- WHAT DRIVES GIVE
 
   -- the events of a drive are given behind those that it recovered
   drive_given : (file : List ℕ) (h : Past) (v : OneDrive d o) (k : Keeps h v) → v.file ≡ Some file → IsTold v.file v.first.taken k.opened → AreGiven h.accepted file (start_of h.program) → AreGiven k.all file (start_of h.program)
