@@ -49,7 +49,7 @@ fn copied<R: Abort + AllocGlobal>(rt: &R, bytes: &[u8]) -> Vec<u8> {
 
 /// How much of its input the program of a disk has taken.
 fn offset<R: Abort, D: Disk>(rt: &R, disk: &mut D) -> u64 {
-    match read_offset(disk) {
+    match read_offset(disk, None) {
         Ok(offset) => offset,
         Err(fault) => panic!(rt; "{fault}"),
     }

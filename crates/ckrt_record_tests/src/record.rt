@@ -77,7 +77,12 @@ fn save<R: Abort, D: Disk>(
 
 /// How much of its input the program of a disk has taken.
 fn offset<R: Abort + AllocGlobal>(rt: &R, image: Vec<u8>) -> Result<u64, OffsetFault> {
-    read_offset(&mut memory_disk(rt, image))
+    read_offset(&mut memory_disk(rt, image), None)
+}
+
+/// The same where so much is said to have been taken up to the state of the area.
+fn offset_from<R: Abort + AllocGlobal>(rt: &R, image: Vec<u8>) -> Result<u64, OffsetFault> {
+    read_offset(&mut memory_disk(rt, image), Some(10))
 }
 
 #[test]
@@ -113,10 +118,25 @@ fn a_fresh_disk_has_taken_nothing(rt: HostRuntime) {
 
 #[test]
 fn a_checkpoint_without_a_record_is_told(rt: HostRuntime) {
-    let mut session = recovered(&rt, memory_disk(&rt, formatted(&rt, RECORD_BYTES)));
-    feed(&rt, &mut session, b"abc");
+    let image = saved_by_hand(&rt);
+    assert!(rt; offset(&rt, image) == Err(OffsetFault::NotRecorded));
+}
+
+/// A disk whose area was saved without a record, with two bytes of input in the journal behind it.
+fn saved_by_hand<R: Abort + AllocGlobal>(rt: &R) -> Vec<u8> {
+    let mut session = recovered(rt, memory_disk(rt, formatted(rt, RECORD_BYTES)));
+    feed(rt, &mut session, b"abc");
     assert!(rt; session.checkpoint() == Ok(1));
-    assert!(rt; offset(&rt, session.into_disk().into_image()) == Err(OffsetFault::NotRecorded));
+    feed(rt, &mut session, b"de");
+    assert!(rt; session.commit() == Ok(2));
+    session.into_disk().into_image()
+}
+
+/// What is said counts only where the record doesn't say it, and the journal's bytes come behind it.
+#[test]
+fn what_is_said_counts_without_a_record(rt: HostRuntime) {
+    assert!(rt; offset_from(&rt, saved_by_hand(&rt)) == Ok(12));
+    assert!(rt; offset_from(&rt, formatted(&rt, 0)) == Ok(0));
 }
 
 /// A disk with a record, by two checkpoints, that stops at a call and then lays a fill over its pending bytes. What it leaves.
