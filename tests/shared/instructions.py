@@ -6,7 +6,7 @@ import struct
 
 START = 0x1000  # the address of a guest's first word
 EXIT, PUTC, GETC, SLEEP_UNTIL, CREATE, JOIN, THREAD_EXIT, LOCK, UNLOCK = 1, 2, 3, 5, 10, 11, 13, 22, 25  # the numbers of calls
-NOT_EQUAL, LESS = 1, 4  # what a branch compares
+EQUAL, NOT_EQUAL = 0, 1  # what a branch compares
 ECALL = 0x73
 
 
@@ -77,6 +77,9 @@ class Program:
     def add(self, rd, rs1, rs2):
         self.emit(register_form(0, 0, rd, rs1, rs2))
 
+    def sub(self, rd, rs1, rs2):
+        self.emit(register_form(0x20, 0, rd, rs1, rs2))
+
     def sltu(self, rd, rs1, rs2):
         self.emit(register_form(0, 3, rd, rs1, rs2))
 
@@ -96,11 +99,11 @@ class Program:
     def store_word(self, rs2, rs1):
         self.emit(store_form(2, rs2, rs1, 0))
 
+    def beq(self, rs1, rs2, name):
+        self.branch(EQUAL, rs1, rs2, name)
+
     def bne(self, rs1, rs2, name):
         self.branch(NOT_EQUAL, rs1, rs2, name)
-
-    def blt(self, rs1, rs2, name):
-        self.branch(LESS, rs1, rs2, name)
 
     def branch(self, funct3, rs1, rs2, name):
         self.emit(lambda at: branch_form(funct3, rs1, rs2, self.offset(at, name)))
