@@ -24,7 +24,8 @@ def run(*words):
 
 def add_program(parser, name="ckrt"):
     """Adds the option that names a program, as --ckrt FILE; `read_words` fills it in where it isn't given."""
-    parser.add_argument(f"--{name.removeprefix('ckrt_')}", metavar="FILE", type=absolute, help=f"{name}, in place of the one that `./build --program` finds")
+    option = f"--{name.removeprefix('ckrt_')}"
+    parser.add_argument(option, metavar="FILE", type=absolute, help=f"{name}, in place of the one that `./build --program` finds")
 
 
 def add_seed(parser, default=1):
