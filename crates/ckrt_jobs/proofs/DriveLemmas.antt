@@ -38,7 +38,7 @@ module _ {D : Type 0} (d : Ghosts D) (before after : Gives D) (are : GivesNoMore
   makes_room_weaker : (disk : D) (old new : Openings D) (made : Result D (Unready D)) → MakesRoom d after.Longer disk old new made → MakesRoom d before.Longer disk old new made
   makes_room_weaker disk old new made makes = record { disk = makes.disk; size = makes.size; read = makes.read; exact = makes.exact; ends = room_weaker makes.disk old new made makes.size makes.ends }
 
-  input_weaker : (disk : D) (it : Intake D) (old new : Openings D) (found : Result (Supplied D) JobFault)
+  pub input_weaker : (disk : D) (it : Intake D) (old new : Openings D) (found : Result (Supplied D) JobFault)
       → SuppliesOpened d after.Longer disk it old new found → SuppliesOpened d before.Longer disk it old new found
   input_weaker disk it old new found (inl refuses) = inl refuses
   input_weaker disk it old new found (inr takes) =

@@ -26,6 +26,7 @@ use Rattle.ckrt_drive.specs.declared.fault.DriveFault.TheVariants.{Output}
 use Rattle.ckrt_drive.specs.declared.options.Options.{Options}
 use Rattle.ckrt_drive.specs.declared.progress.Ending.{Ending}
 use Rattle.ckrt_drive.specs.declared.stream.StreamOutput.{StreamOutput}
+use Rattle.ckrt_record.specs.Slot.{TAKEN_LIMIT}
 use Rattle.ckrt_words.specs.Jobs.{Driving}
 use Rattle.ckrt_words.specs.declared.job.Sizes.{Sizes}
 use Rattle.ckrt_jobs.specs.Addresses.{fault_address}
@@ -57,10 +58,10 @@ is_target None from = true
 is_target (Some path) None = true
 is_target (Some path) (Some from) = false
 
--- an offset of the input goes with a file of it alone
+-- an offset of the input goes with a file of it alone, and is one that a record may have
 abbrev pub is_intake : Option (List ℕ) → Option ℕ → Bool
-is_intake (Some path) from = true
-is_intake None None = true
+is_intake input None = true
+is_intake (Some path) (Some from) = nat_lt from TAKEN_LIMIT
 is_intake None (Some from) = false
 
 -- a turn has 1 to 1,000,000 steps, and there is a round or more between two commits

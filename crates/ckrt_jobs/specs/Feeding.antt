@@ -1,12 +1,12 @@
 -- The input of a drive: where it goes on, and the room for the record of it on the disk.
-use Rattle.std.specs.Prelude.{◌≡◌, ◌⊎◌, ◌≤◌, ◌<◌, ◌+◌, ℕ, nat_eq, nat_le, Bool, if◌then◌else◌, List, Option, Some, None, option_map, Result, Ok, Err}
+use Rattle.std.specs.Prelude.{◌≡◌, ◌⊎◌, ◌≤◌, ◌<◌, ◌+◌, ℕ, nat_le, Bool, if◌then◌else◌, List, Option, Some, None, option_map, Result, Ok, Err}
 use Rattle.ckrt_checkpoint.specs.Layout.{size_needed}
 use Rattle.ckrt_disk.specs.Frame.{IsOnlyRead}
 use Rattle.ckrt_disk.specs.declared.disk.Disk.{Ghosts}
 use Rattle.ckrt_image.specs.Reads.{is_device}
 use Rattle.ckrt_image.specs.Recovery.{◌>>=◌, Agrees, Is, in_use}
 use Rattle.ckrt_image.specs.declared.fault.RecoverFault.{RecoverFault}
-use Rattle.ckrt_record.specs.Offset.{Tells, fails_by_device, offset_of}
+use Rattle.ckrt_record.specs.Offset.{Tells, fails_by_device, offset_from}
 use Rattle.ckrt_record.specs.Slot.{RECORD_BYTES}
 use Rattle.ckrt_record.specs.declared.fault.OffsetFault.{OffsetFault}
 use Rattle.ckrt_record.specs.declared.fault.OffsetFault.TheVariants.{Unrecovered, NotRecorded}
@@ -25,22 +25,21 @@ use Rattle.ckrt_jobs.specs.declared.input.InputLengths.{InputLengths}
 
 -- WHERE IT GOES ON
 
--- How many bytes of its input the program has taken: what the disk tells. Only where the disk can't tell is it what the words say.
+-- How many bytes of its input the program has taken: what the disk tells, to which the words are told where it can't tell alone. Words that
+-- say more than that are refused.
 abbrev pub taken_by_words : (from : Option ℕ) → Result ℕ OffsetFault → Result ℕ JobFault
 taken_by_words None (Ok taken) = Ok taken
 taken_by_words (Some from) (Ok taken) =
-    if nat_eq from taken then Ok taken else Err (job.OffsetDiffers taken)
-taken_by_words None (Err NotRecorded) = Err job.NotRecorded
-taken_by_words (Some from) (Err NotRecorded) = Ok from
-taken_by_words None (Err (Unrecovered fault)) = Err (job.Recover fault)
-taken_by_words (Some from) (Err (Unrecovered fault)) = Err (job.Recover fault)
+    if nat_le from taken then Ok taken else Err (job.OffsetDiffers taken)
+taken_by_words from (Err NotRecorded) = Err job.NotRecorded
+taken_by_words from (Err (Unrecovered fault)) = Err (job.Recover fault)
 
 -- from start to disk it was read, and only read, how many these are
 pub record LooksUp {D : Type 0} (d : Ghosts D) (from : Option ℕ) (start disk : D)
     (taken : Result ℕ JobFault) : Type 0 where
   pub told : Result ℕ OffsetFault
   pub read : IsOnlyRead d start disk (fails_by_device told)
-  pub exact : d.is_honest disk → Tells told (offset_of (d.content start))
+  pub exact : d.is_honest disk → Tells told (offset_from from (d.content start))
   pub says : taken ≡ taken_by_words from told
 
 -- the file has the bytes that the program has taken

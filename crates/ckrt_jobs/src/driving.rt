@@ -18,6 +18,7 @@ use ckrt_disk::Disk;
 use ckrt_drive::{Drive, DriveFault, Ending, Feed, FromDisk, Nothing, Options, StreamOutput};
 use ckrt_events::LONG_RUN_LIMIT;
 use ckrt_machine::Machine;
+use ckrt_record::TAKEN_LIMIT;
 use ckrt_recovery::{RecoverFault, Session, recover};
 use ckrt_words::DriveJob;
 use std::alloc::Global;
@@ -39,11 +40,14 @@ fn is_target(output: Option<&str>, from: Option<u64>) -> bool
     output.is_none() || from.is_none()
 }
 
-/// Whether an offset goes with what the input is: with a file alone.
+/// Whether an offset goes with what the input is: with a file alone, and below where a record ends.
 fn is_intake(input: Option<&str>, from: Option<u64>) -> bool
     ensures { result ≡ is_intake (option_map (λ path. path.now) input.entry) from }
 {
-    input.is_some() || from.is_none()
+    match from {
+        Some(from) => input.is_some() && from < TAKEN_LIMIT,
+        None => true,
+    }
 }
 
 /// Whether the job's numbers are in their ranges.
@@ -383,6 +387,7 @@ fn drive_fed_by_words<'a, I: Read, D: Disk, S: Sources<'a, I, D>, W: Write + 'a,
     writer: &mut W,
     meter: &mut M,
 ) -> Result<Driven, JobFault>
+    requires { is_in_range (driving_of job.now) ≡ true }
     ensures drives { DrivesFed {d = D.Disk} (setting_of ⟦<StreamOutput<'a, W> as Disk>⟧
         (IsLent W.contents (W.contents writer.old) (W.contents writer.new)) (S.gives sources.old)
         (driving_of job.now) options) disk (S.openings sources.old) (S.openings sources.new)
@@ -404,6 +409,7 @@ fn drive_sized<'a, I: Read, D: Disk, S: Sources<'a, I, D>, W: Write + 'a, M: Met
     writer: &mut W,
     meter: &mut M,
 ) -> Result<Driven, JobFault>
+    requires { is_in_range (driving_of job.now) ≡ true }
     ensures drives { DrivesSized {d = D.Disk} (setting_of ⟦<StreamOutput<'a, W> as Disk>⟧
         (IsLent W.contents (W.contents writer.old) (W.contents writer.new)) (S.gives sources.old)
         (driving_of job.now) options) job.now.sizes disk (S.openings sources.old)

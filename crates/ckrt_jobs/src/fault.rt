@@ -167,14 +167,14 @@ fn drive_name(fault: DriveFault) -> &'static str
 
 /// What is said of numbers of a drive that are out of their ranges.
 const RANGE_ADVICE: &str =
-    "--turn is 1 to 1000000, --rounds-per-commit and --progress 1 or more, --from goes without --output, and --input-from with --input";
+    "--turn is 1 to 1000000, --rounds-per-commit and --progress 1 or more, --from goes without --output, and --input-from, below 2^62, with --input";
 
 /// What is said of a disk with other sizes than those that were asked for, behind its own.
 const SIZES_ADVICE: &str = "these stay; give them, or leave them out";
 
 /// What is said of a disk that can't tell how much of its input its program has taken.
 const NOT_RECORDED_ADVICE: &str =
-    "it was saved without its input, as `ckrt run` does; --input-from OFFSET says how many bytes its program has taken";
+    "it can't tell how much of the input its program has read, since it was saved by hand: `--input-from` says how many bytes that were when it was saved";
 
 /// What is said of words with another offset than that of the disk, behind that.
 const OFFSET_ADVICE: &str = "leave --input-from out";

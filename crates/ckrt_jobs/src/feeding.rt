@@ -1,12 +1,14 @@
 //! The input of a drive: where it goes on, and the room for the record of it on the disk.
-ghost use Rattle.std.specs.Prelude.{◌≡◌, ◌≤◌, Ok, OnOk, option_map};
+ghost use Rattle.std.specs.Prelude.{◌≡◌, ◌≤◌, ◌<◌, IfSome, Ok, OnOk, option_map, true};
 ghost use Rattle.ckrt_disk.specs.Frame.{IsOnlyRead};
 ghost use Rattle.ckrt_words.specs.Jobs.{driving_of};
 ghost use Rattle.ckrt_image.specs.Reads.{is_device};
 ghost use Rattle.ckrt_image.specs.Recovery.{Agrees, Is};
+ghost use Rattle.ckrt_jobs.specs.Driving.{is_in_range};
 ghost use Rattle.ckrt_jobs.specs.Feeding.{EndsWithRoom, LooksUp, MakesRoom, Supplies, SuppliesFrom, SuppliesOpened, SuppliesTaken, TakesInput, file_of, size_wanted, spare_for, taken_by_words};
 ghost use Rattle.ckrt_jobs.specs.Openings.{with_both_closed};
 ghost use Rattle.ckrt_jobs.specs.Sources.{GivesNoMore};
+ghost use Rattle.ckrt_record.specs.Slot.{TAKEN_LIMIT};
 
 use crate::fault::JobFault;
 use crate::file::JobFile;
@@ -44,28 +46,28 @@ pub struct Unready<D> {
     pub fault: JobFault,
 }
 
-/// How many bytes of its input the program has taken, where its disk told so and the words say so.
+/// How many bytes of its input the program has taken, where its disk told so and the words don't say more.
 fn taken_by_words(
     told: Result<u64, OffsetFault>,
     from: Option<u64>,
 ) -> Result<u64, JobFault>
     ensures { result ≡ taken_by_words from told }
 {
-    match (told, from) {
-        (Ok(taken), Some(from)) if from != taken => Err(JobFault::OffsetDiffers(taken)),
-        (Ok(taken), _) => Ok(taken),
-        (Err(OffsetFault::NotRecorded), Some(from)) => Ok(from),
-        (Err(OffsetFault::NotRecorded), None) => Err(JobFault::NotRecorded),
-        (Err(OffsetFault::Unrecovered(fault)), _) => Err(JobFault::Recover(fault)),
+    match told {
+        Ok(taken) if from.unwrap_or(0) > taken => Err(JobFault::OffsetDiffers(taken)),
+        Ok(taken) => Ok(taken),
+        Err(OffsetFault::NotRecorded) => Err(JobFault::NotRecorded),
+        Err(OffsetFault::Unrecovered(fault)) => Err(JobFault::Recover(fault)),
     }
 }
 
-/// How many bytes of its input the program of a disk has taken, which is only read. Where the disk can't tell, it is what the
-/// words say.
+/// How many bytes of its input the program of a disk has taken, which is only read. Where the disk can't tell how many these were when
+/// it was saved, the words say so.
 pub(crate) fn look_up_taken<D: Disk>(disk: &mut D, from: Option<u64>) -> Result<u64, JobFault>
+    requires { IfSome from (λ n. n < TAKEN_LIMIT) }
     ensures { LooksUp D.Disk from disk.old disk.new result }
 {
-    let told = read_offset(disk);
+    let told = read_offset(disk, from);
     taken_by_words(told, from)
 }
 
@@ -162,7 +164,7 @@ fn with_input<'a, I: Read, D: Disk, S: Sources<'a, I, D>>(
     requires long { intake.taken ≤ D.size intake.file }
     ensures takes { TakesInput D.Disk (S.gives sources.old).Longer disk intake
         (S.openings sources.old) (S.openings sources.new) result }
-    ensures same { GivesNoMore (S.gives sources.old) (S.gives sources.new) }
+    ensures same { OnOk result (GivesNoMore (S.gives sources.old) (S.gives sources.new)) }
 {
     match with_room::<I, D, S>(disk, sources) {
         Ok(disk) => Ok(Supplied {
@@ -224,6 +226,7 @@ fn with_path<'a, I: Read, D: Disk, S: Sources<'a, I, D>>(
     from: Option<u64>,
     sources: &mut S,
 ) -> Result<Supplied<D>, JobFault>
+    requires { IfSome from (λ n. n < TAKEN_LIMIT) }
     ensures ends { SuppliesFrom D.Disk (S.gives sources.old) path.now from disk
         (S.openings sources.old) (S.openings sources.new) result }
     ensures same { OnOk result (GivesNoMore (S.gives sources.old) (S.gives sources.new)) }
@@ -245,13 +248,14 @@ fn with_path<'a, I: Read, D: Disk, S: Sources<'a, I, D>>(
 /// # Errors
 ///
 /// The first that applies: `Recover` of the disk; `NotRecorded` where it can't tell how much its program has taken, and the words
-/// don't say so; `OffsetDiffers` where they say another number than the disk; `File` of the input; `InputTooShort` where that has
+/// don't say so; `OffsetDiffers` where they say more than the disk; `File` of the input; `InputTooShort` where that has
 /// fewer bytes than the program has taken; `File` of the disk, where it can't be made longer for the record.
 pub(crate) fn supply<'a, I: Read, D: Disk, S: Sources<'a, I, D>>(
     disk: D,
     job: &DriveJob<'a>,
     sources: &mut S,
 ) -> Result<Supplied<D>, JobFault>
+    requires { is_in_range (driving_of job.now) ≡ true }
     ensures supplies { Supplies D.Disk (S.gives sources.old) (driving_of job.now).input
         job.now.input_from disk (S.openings sources.old) (S.openings sources.new) result }
     ensures same { OnOk result (GivesNoMore (S.gives sources.old) (S.gives sources.new)) }

@@ -141,20 +141,34 @@ fn say_lengths<E: Reporter>(reporter: &mut E, lengths: OutputLengths) -> Result<
     say_range(reporter, lengths.confirmed, lengths.released)
 }
 
+/// Says a number between two texts.
+fn say_number_between<E: Reporter>(
+    reporter: &mut E,
+    before: &[u8],
+    number: u64,
+    behind: &[u8],
+) -> Result<(), Unsaid>
+    ensures said { OnOk result (Appends (E.said reporter.old) (E.said reporter.new)
+        (size_text before.now number behind.now)) }
+    ensures failed { OnErr result (E.has_failed reporter.new ≡ true) }
+{
+    reporter.say(before)?;
+    say_number(reporter, number)?;
+    reporter.say(behind)
+}
+
 /// Says a size between two texts.
 fn say_size<E: Reporter>(
     reporter: &mut E,
     before: &[u8],
-    size: u64,
+    size: u32,
     behind: &[u8],
 ) -> Result<(), Unsaid>
     ensures said { OnOk result (Appends (E.said reporter.old) (E.said reporter.new)
         (size_text before.now size behind.now)) }
     ensures failed { OnErr result (E.has_failed reporter.new ≡ true) }
 {
-    reporter.say(before)?;
-    say_number(reporter, size)?;
-    reporter.say(behind)
+    say_number_between(reporter, before, u64::from(size), behind)
 }
 
 /// Says the sizes of a disk.
@@ -163,9 +177,9 @@ fn say_sizes<E: Reporter>(reporter: &mut E, sizes: Config) -> Result<(), Unsaid>
         (Appends (E.said reporter.old) (E.said reporter.new) (sizes_text sizes)) }
     ensures failed { OnErr result (E.has_failed reporter.new ≡ true) }
 {
-    say_size(reporter, b"it has --pages ", u64::from(sizes.pages), b"")?;
-    say_size(reporter, b" --harts ", u64::from(sizes.harts), b"")?;
-    say_size(reporter, b" --journal ", u64::from(sizes.journal), b": ")
+    say_size(reporter, b"it has --pages ", sizes.pages, b"")?;
+    say_size(reporter, b" --harts ", sizes.harts, b"")?;
+    say_size(reporter, b" --journal ", sizes.journal, b": ")
 }
 
 /// Says how many bytes of its input a program has taken.
@@ -174,7 +188,8 @@ fn say_taken<E: Reporter>(reporter: &mut E, taken: u64) -> Result<(), Unsaid>
         (Appends (E.said reporter.old) (E.said reporter.new) (taken_text taken)) }
     ensures failed { OnErr result (E.has_failed reporter.new ≡ true) }
 {
-    say_size(reporter, b"its program has taken ", taken, b" bytes of the input: ")
+    let before = b"its program has taken ";
+    say_number_between(reporter, before, taken, b" bytes of the input: ")
 }
 
 /// Says how many bytes an input has, and how many of them the program has taken.
@@ -184,8 +199,8 @@ fn say_input<E: Reporter>(reporter: &mut E, lengths: InputLengths) -> Result<(),
     ensures failed { OnErr result (E.has_failed reporter.new ≡ true) }
 {
     let taken = b" bytes, and the program has taken ";
-    say_size(reporter, b"it has ", lengths.length, b"")?;
-    say_size(reporter, taken, lengths.taken, b": ")
+    say_number_between(reporter, b"it has ", lengths.length, b"")?;
+    say_number_between(reporter, taken, lengths.taken, b": ")
 }
 
 /// Says the numbers of a fault, where it has some.
