@@ -4,17 +4,32 @@ use ckrt_disk::Disk;
 use ckrt_drive::{Nobody, Onlooker, Progress};
 use ckrt_machine::Answer;
 use ckrt_recovery::Session;
+use std::alloc::Global;
 use std::rt::Clock;
 use std::time::{Duration, Instant};
 
+/// How a drive is watched.
+#[derive(Clone, Copy, Debug, PartialEq, Eq)]
+pub struct Watch<'a> {
+    /// At most each how many seconds a line tells how far it is; this isn't given where no line does.
+    pub progress: Option<u64>,
+    /// The path of the file that tells how far it is; this isn't given where none does.
+    pub status: Option<&'a str>,
+}
+
 /// Tells how far a drive is, while it looks on.
 pub trait Meter: Onlooker {
-    /// A drive begins, of which it tells at most each so many seconds; none: never.
-    fn begin(&mut self, seconds: Option<u64>);
+    /// A drive begins, which is watched so.
+    fn begin(&mut self, alloc: Global, watch: Watch<'_>);
+
+    /// The drive has an input, of which its program has taken so many bytes.
+    fn fed(&mut self, taken: u64);
 }
 
 impl Meter for Nobody {
-    fn begin(&mut self, _seconds: Option<u64>) {}
+    fn begin(&mut self, _alloc: Global, _watch: Watch<'_>) {}
+
+    fn fed(&mut self, _taken: u64) {}
 }
 
 /// The clock is looked at once in so many steps of a drive.
@@ -108,8 +123,10 @@ impl<'a, R: Clock + Eprint> Onlooker for SystemMeter<'a, R> {
 }
 
 impl<'a, R: Clock + Eprint> Meter for SystemMeter<'a, R> {
-    fn begin(&mut self, seconds: Option<u64>) {
-        self.interval = seconds.map(Duration::from_secs);
+    fn begin(&mut self, _alloc: Global, watch: Watch<'_>) {
+        self.interval = watch.progress.map(Duration::from_secs);
         self.last_line = self.moment();
     }
+
+    fn fed(&mut self, _taken: u64) {}
 }
