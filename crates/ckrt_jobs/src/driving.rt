@@ -11,7 +11,7 @@ use crate::address::fault_address;
 use crate::driven::Driven;
 use crate::fault::JobFault;
 use crate::file::JobFile;
-use crate::meter::Meter;
+use crate::meter::{Meter, Watch};
 use crate::missing::find_disk;
 use crate::output::{OpenedOutput, OutputLengths};
 use crate::sizes::other_sizes;
@@ -349,6 +349,12 @@ pub(crate) fn drive_path<
     }
     let options = options_of(job);
     let disk = find_disk::<I, D, S>(alloc, job, sources)?;
-    meter.begin(job.progress);
+    meter.begin(
+        alloc,
+        Watch {
+            progress: job.progress,
+            status: None,
+        },
+    );
     drive_sized::<I, D, S, W, M>(alloc, disk, job, options, sources, writer, meter)
 }
