@@ -80,11 +80,14 @@ abbrev pub doing_text : (is_ready : Bool) → Option Wait → Thread → List �
 doing_text is_ready wait (thread.Ended value) = codes "ended"
 doing_text is_ready wait (thread.Live l) = does_text is_ready wait
 
+abbrev pub doing_of : threads.State → ThreadRow → List ℕ
+doing_of s r = doing_text (threads.is_ready s r.id) (find (is_of r.id) s.waits) r.thread
+
+abbrev pub thread_label : (id : ℕ) → List ℕ
+thread_label id = codes "ckrt_thread{thread=\"" ++ decimal id ++ codes "\",does=\""
+
 abbrev pub thread_line : threads.State → ThreadRow → List ℕ
-thread_line s r =
-    codes "ckrt_thread{thread=\"" ++ decimal r.id ++ codes "\",does=\""
-    ++ doing_text (threads.is_ready s r.id) (find (is_of r.id) s.waits) r.thread
-    ++ codes "\"} 1\n"
+thread_line s r = thread_label r.id ++ doing_of s r ++ codes "\"} 1\n"
 
 -- ALL
 

@@ -3,7 +3,7 @@ ghost use Rattle.std.specs.Prelude.{◌≡◌, ◌++◌, Bool, List, ℕ, Option
 ghost use Rattle.std.specs.List.{find, flat_map};
 ghost use Rattle.ckrt_thread.specs.Contents.{rows_of, thread_rows};
 ghost use Rattle.ckrt_thread.specs.State.{thread_of};
-ghost use Rattle.ckrt_inspect.specs.Metrics.{all_metrics, disk_lines, does_text, doing_text, event_lines, head_lines, help_line, help_of, kind_of, metric_lines, name_of, optional_lines, program_lines, thread_line, type_line};
+ghost use Rattle.ckrt_inspect.specs.Metrics.{all_metrics, disk_lines, does_text, doing_of, doing_text, event_lines, head_lines, help_line, help_of, kind_of, metric_lines, name_of, optional_lines, program_lines, thread_label, thread_line, type_line};
 
 use crate::texts::{push, push_number, push_reason};
 use ckrt_state::Tables;
@@ -185,6 +185,28 @@ fn push_doing(
     }
 }
 
+/// What stands before what a thread does.
+fn push_label(out: &mut Vec<u8>, id: ThreadId) -> Result<(), AllocError>
+    ensures { OnOk result (out.new.items ≡ out.old.items ++ thread_label id) }
+{
+    push(out, b"ckrt_thread{thread=\"")?;
+    push_number(out, u64::from(id))?;
+    push(out, b"\",does=\"")
+}
+
+/// What the thread of a number does.
+fn push_doing_of(
+    out: &mut Vec<u8>,
+    threads: &Threads,
+    id: ThreadId,
+    thread: &Thread,
+) -> Result<(), AllocError>
+    ensures { OnOk result (out.new.items
+        ≡ out.old.items ++ doing_of threads.now (record { id = id; thread = thread.now })) }
+{
+    push_doing(out, threads.is_ready(id), threads.wait_of(id), thread)
+}
+
 fn push_thread(
     out: &mut Vec<u8>,
     threads: &Threads,
@@ -194,10 +216,8 @@ fn push_thread(
     ensures { OnOk result (out.new.items
         ≡ out.old.items ++ thread_line threads.now (record { id = id; thread = thread.now })) }
 {
-    push(out, b"ckrt_thread{thread=\"")?;
-    push_number(out, u64::from(id))?;
-    push(out, b"\",does=\"")?;
-    push_doing(out, threads.is_ready(id), threads.wait_of(id), thread)?;
+    push_label(out, id)?;
+    push_doing_of(out, threads, id, thread)?;
     push(out, b"\"} 1\n")
 }
 
