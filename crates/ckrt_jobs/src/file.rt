@@ -41,6 +41,8 @@ pub enum FileFault {
     IsADirectory,
     /// What has this path is no plain file: a terminal, say, or a pipe.
     NotAFile,
+    /// What has the path of an input is no plain file: a pipe, say, or a terminal.
+    NotAnInput,
     /// The user may not open it so.
     PermissionDenied,
     /// Another program holds its lock.
@@ -127,6 +129,8 @@ impl FileFault {
             FileFault::IsADirectory => "it is a directory",
             FileFault::NotAFile =>
                 "it isn't a plain file, and can't be written by offset; without --output the bytes are printed",
+            FileFault::NotAnInput =>
+                "it isn't a plain file, and can't be read by offset; put its bytes into a file, and give that",
             FileFault::PermissionDenied => "permission denied",
             FileFault::InUse => "another program has it locked",
             FileFault::StorageFull => "no space is left for it",
