@@ -84,7 +84,8 @@ abbrev pub doing_of : threads.State → ThreadRow → List ℕ
 doing_of s r = doing_text (threads.is_ready s r.id) (find (is_of r.id) s.waits) r.thread
 
 abbrev pub thread_label : (id : ℕ) → List ℕ
-thread_label id = codes "ckrt_thread{thread=\"" ++ decimal id ++ codes "\",does=\""
+thread_label id =
+    name_of Threads ++ codes "{thread=\"" ++ decimal id ++ codes "\",does=\""
 
 abbrev pub thread_line : threads.State → ThreadRow → List ℕ
 thread_line s r = thread_label r.id ++ doing_of s r ++ codes "\"} 1\n"

@@ -189,7 +189,8 @@ fn push_doing(
 fn push_label(out: &mut Vec<u8>, id: ThreadId) -> Result<(), AllocError>
     ensures { OnOk result (out.new.items ≡ out.old.items ++ thread_label id) }
 {
-    push(out, b"ckrt_thread{thread=\"")?;
+    push(out, name_of(Metric::Threads))?;
+    push(out, b"{thread=\"")?;
     push_number(out, u64::from(id))?;
     push(out, b"\",does=\"")
 }
