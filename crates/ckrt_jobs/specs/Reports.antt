@@ -70,6 +70,7 @@ file_fault_text fault.InUse = codes "another program has it locked"
 file_fault_text fault.StorageFull = codes "no space is left for it"
 file_fault_text fault.ReadOnly = codes "its file system is read-only"
 file_fault_text fault.NotInMaking = codes "it is no disk in the making, and is unchanged; move it away, then give the command again"
+file_fault_text fault.NotAStatus = codes "it is no status of a drive, and is unchanged; move it away, or give another path"
 file_fault_text fault.IsThere = codes "something has the disk's path meanwhile; look at it, then give the command again"
 file_fault_text fault.OutOfMemory = memory_advice
 file_fault_text fault.StreamClosed = codes "a standard stream is closed"

@@ -53,6 +53,8 @@ pub enum FileFault {
     ReadOnly,
     /// It holds something else than a disk in the making.
     NotInMaking,
+    /// It holds something else than a status.
+    NotAStatus,
     /// Something has got the path that was free.
     IsThere,
     /// The system refused memory.
@@ -135,6 +137,8 @@ impl FileFault {
             FileFault::ReadOnly => "its file system is read-only",
             FileFault::NotInMaking =>
                 "it is no disk in the making, and is unchanged; move it away, then give the command again",
+            FileFault::NotAStatus =>
+                "it is no status of a drive, and is unchanged; move it away, or give another path",
             FileFault::IsThere =>
                 "something has the disk's path meanwhile; look at it, then give the command again",
             FileFault::OutOfMemory => MEMORY_ADVICE,

@@ -90,6 +90,7 @@ mod running;
 mod showing;
 mod sizes;
 mod sources;
+mod status;
 mod stored;
 mod system;
 mod version;
