@@ -112,8 +112,12 @@ fn undertake<D: Disk, O: Disk, F: Feed, M: Meter>(
     options: Options,
     meter: &mut M,
 ) -> Undertaken<D, O, F>
-    ensures { DrivesWay O.Disk (record { options = options; IsRead = F.is_honest result.input;
-        file = F.file feed; taken = taken })
+    ensures { DrivesWay O.Disk (record {
+      options = options;
+      IsRead = F.is_honest result.input;
+      file = F.file feed;
+      taken = taken;
+    })
         session result.session output result.output result.driven }
 {
     let mut drive = Drive::with_feed(session, output, options, feed, taken);

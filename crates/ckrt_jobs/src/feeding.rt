@@ -47,10 +47,7 @@ pub struct Unready<D> {
 }
 
 /// How many bytes of its input the program has taken, where its disk told so and the words don't say more.
-fn taken_by_words(
-    told: Result<u64, OffsetFault>,
-    from: Option<u64>,
-) -> Result<u64, JobFault>
+fn taken_by_words(told: Result<u64, OffsetFault>, from: Option<u64>) -> Result<u64, JobFault>
     ensures { result ≡ taken_by_words from told }
 {
     match told {
