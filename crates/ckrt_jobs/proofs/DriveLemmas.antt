@@ -1,5 +1,5 @@
 -- The drive of a disk, where less is known of what sources may give.
-use Rattle.std.proofs.Common.{◌≡◌, ℕ, true, refl, sym, subst, List, Option, Some, None, Result, Ok, Err, IfErr, inl, inr}
+use Rattle.std.proofs.Common.{◌≡◌, ℕ, true, sym, subst, List, Option, Some, None, Result, Ok, Err, IfErr, inl, inr}
 use Rattle.ckrt_machine.specs.Steps.{State}
 use Rattle.ckrt_checkpoint.specs.declared.config.Config.{Config}
 use Rattle.ckrt_disk.specs.declared.disk.DeviceFault.{DeviceFault}

@@ -38,8 +38,8 @@
 //! printed. An offset beside a file is the fault Range too.
 //!
 //! Proved of the input of a drive: it is asked for only once the disk has told how many bytes the program has taken, and goes on behind
-//! just these. Where the disk can't tell it is the words' number, or the fault NotRecorded; where it can, another number is
-//! OffsetDiffers. A file with fewer bytes is InputTooShort. A disk that is driven with an input has room for the record, and is made
+//! just these. Where the disk can't tell how many these were when it was saved, the words say so, or NotRecorded comes; where it
+//! can, words that say more are OffsetDiffers. A file with fewer bytes is InputTooShort. A disk that is driven with an input has room for the record, and is made
 //! longer where it hasn't. The steps of the drive were supplied from the bytes of that file, where they read the same to the
 //! end. Where the input can't be used both are closed as they were, and no output is asked for. Without an input the steps are
 //! supplied from none.

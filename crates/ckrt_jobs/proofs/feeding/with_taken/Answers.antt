@@ -14,5 +14,5 @@ returns-in-Ok-clause-ends g c =
       input = c.in-Ok.file;
       is_opened = e.input;
       ends = subst (λ x. SuppliesOpened g.D.Disk gives.Longer c.args.disk it x (g.S.Closes.openings c.with_opened.new.sources) c.with_opened.result) e.asked
-          (input_weaker g.D.Disk gives (g.S.Sources.gives c.open_input.new.self) e.same c.args.disk it _ _ _ c.with_opened.ensures.ends);
+          (input_weaker g.D.Disk gives (g.S.Sources.gives c.open_input.new.self) e.same c.args.disk it (g.S.Closes.openings c.open_input.new.self) (g.S.Closes.openings c.with_opened.new.sources) c.with_opened.result c.with_opened.ensures.ends);
     })

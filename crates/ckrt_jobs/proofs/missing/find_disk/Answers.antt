@@ -1,4 +1,4 @@
-use Rattle.std.proofs.Common.{rules, ◌≡◌, ◌∙◌, ◌+◌, Option, Some, ap, subst, inr}
+use Rattle.std.proofs.Common.{rules, ◌≡◌, ◌+◌, ap, subst, inr}
 use Rattle.std.specs.Option.{option_map}
 use Rattle.ckrt_checkpoint.specs.Layout.{size_needed}
 use Rattle.ckrt_words.specs.Jobs.{driving_of}
