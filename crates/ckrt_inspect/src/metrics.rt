@@ -225,7 +225,8 @@ fn push_thread(
 /// What stands for a number: a thread, or nothing.
 fn push_slot(out: &mut Vec<u8>, threads: &Threads, id: ThreadId) -> Result<(), AllocError>
     ensures { OnOk result (out.new.items
-        ≡ out.old.items ++ flat_map (thread_line threads.now) (rows_of id (thread_of threads.now id))) }
+        ≡ out.old.items
+        ++ flat_map (thread_line threads.now) (rows_of id (thread_of threads.now id))) }
 {
     match threads.thread(u32::from(id)) {
         Some(thread) => push_thread(out, threads, id, thread),
