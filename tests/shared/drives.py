@@ -22,13 +22,14 @@ class Drives:
     image: Path
     options: list  # that each life has
     chance: random.Random
+    longest: float = LONGEST_LIFE  # seconds
     held: bytes = b""
 
     def __post_init__(self):
         self.disk, self.output = self.folder / "disk", self.folder / "output"
         for file in (self.disk, self.output):
             file.unlink(missing_ok=True)
-        self.moments = lives.moments(self.chance, SHORTEST_LIFE, LONGEST_LIFE, KILLS)
+        self.moments = lives.moments(self.chance, SHORTEST_LIFE, self.longest, KILLS)
 
     def drive(self, *target):
         """One life: whether it came to its end, and what it printed. It raises Failure where it ended otherwise."""
