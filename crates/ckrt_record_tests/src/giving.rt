@@ -33,7 +33,7 @@ fn a_file_is_given_in_pieces_and_then_its_end(rt: HostRuntime) {
     let mut offset = 0;
     for size in PIECES {
         assert!(rt; give(&rt, &mut machine, &file, offset) == Some(size));
-        offset += size;
+        offset = offset.saturating_add(size);
     }
     assert!(rt; give(&rt, &mut machine, &file, offset).is_none());
     assert!(rt; machine.tables().closed);
