@@ -31,7 +31,7 @@ pub appends_more : {X : Type 0} (each : X → List ℕ) (xs : List X) (i : ℕ) 
 appends_more each xs i d a b c lt p q =
     let x = get_or xs i d in
     let one : flat_map each (take i xs ++ x ∷ []) ≡ flat_map each (take i xs) ++ each x =
-        flat_map-append each (take i xs) (x ∷ []) ∙ ap (λ l. flat_map each (take i xs) ++ l) (append-nil (each x)) in
+    flat_map-append each (take i xs) (x ∷ []) ∙ ap (λ l. flat_map each (take i xs) ++ l) (append-nil (each x)) in
     subst (Appends a c) (sym (ap (flat_map each) (take_more xs i d lt) ∙ one)) (appends_both a b c (flat_map each (take i xs)) (each x) p q)
 
 -- all pieces

@@ -6,6 +6,7 @@ ghost use Rattle.ckrt_core.specs.Elf.{elf_header, halves, program_header, words}
 use std::io::{Result, Write};
 
 const ET_CORE: u16 = 4;
+
 const EM_RISCV: u16 = 243;
 
 /// The kind of a segment that is in memory.

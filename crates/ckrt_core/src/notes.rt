@@ -22,8 +22,11 @@ const PRSTATUS_SIZE: u32 = 204;
 const NOTE_SIZE: u32 = 224;
 
 const SIGILL: u32 = 4;
+
 const SIGTRAP: u32 = 5;
+
 const SIGBUS: u32 = 7;
+
 const SIGSEGV: u32 = 11;
 
 /// The signal that a fault would be to a thread of Linux.
@@ -76,7 +79,9 @@ fn write_status<W: Write>(out: &mut W, signal: u32, id: ThreadId, regs: &Regs) -
     let number = u32::from(id);
     write_words(
         out,
-        &[signal, 0, 0, signal, 0, 0, number, 0, 0, 0, 0, 0, 0, 0, 0, 0, 0, 0],
+        &[
+            signal, 0, 0, signal, 0, 0, number, 0, 0, 0, 0, 0, 0, 0, 0, 0, 0, 0,
+        ],
     )?;
     write_registers(out, regs)?;
     write_words(out, &[0])
@@ -94,12 +99,7 @@ fn write_note<W: Write>(out: &mut W, signal: u32, id: ThreadId, regs: &Regs) -> 
 
 /// The note of a thread that has registers: it hasn't ended.
 #[tactic(auto, using(crate::proofs::AppendLemmas::appends_none))]
-fn write_note_of<W: Write>(
-    out: &mut W,
-    signal: u32,
-    id: ThreadId,
-    regs: Option<Regs>,
-) -> Result<()>
+fn write_note_of<W: Write>(out: &mut W, signal: u32, id: ThreadId, regs: Option<Regs>) -> Result<()>
     ensures { OnOk result
         (Appends (W.contents out.old) (W.contents out.new) (notes_at signal id regs)) }
 {
@@ -157,7 +157,12 @@ fn write_faulted<W: Write>(out: &mut W, tables: &Tables) -> Result<()>
 {
     match tables.status {
         Status::Faulted(thread, _, cause) => {
-            write_note_of(out, cause_signal(cause), thread, tables.threads.regs(thread))
+            write_note_of(
+                out,
+                cause_signal(cause),
+                thread,
+                tables.threads.regs(thread),
+            )
         }
         Status::Running | Status::Exited(_) => Ok(()),
     }

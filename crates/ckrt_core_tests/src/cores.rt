@@ -2,15 +2,22 @@
 //! `struct elf_prstatus` of 32-bit RISC-V, and the registers from the guests' instructions.
 
 use crate::expect::{
-    core_of, expect_eq, expect_part, expect_words, expect_zeros, machine_of, run,
+    Noted, core_of, expect_eq, expect_note, expect_part, expect_words, expect_zeros, machine_of,
+    run,
 };
 use ckrt_core::write_core;
 use std::io::{self, ErrorKind, Write};
 
-/// Where the program headers, the notes and, behind one note or two, the memory begin.
-const PROGRAM_HEADERS: usize = 52;
+/// Where the program headers begin.
+const NOTES_HEADER: usize = 52;
+
+const MEMORY_HEADER: usize = 84;
+
+/// Where the notes begin, and what is behind one or two of them.
 const NOTES: usize = 116;
+
 const BEHIND_ONE: usize = 340;
+
 const BEHIND_TWO: usize = 564;
 
 /// How many bytes 15 pages have.
@@ -52,17 +59,6 @@ const FAULTS: [u32; 12] = [
     0x00002303, // lw x6, 0(x0)
 ];
 
-/// A note of 204 bytes of NT_PRSTATUS, by the name `CORE`.
-const NOTE_HEAD: [u32; 5] = [5, 204, 1, 0x4552_4f43, 0];
-
-/// What a note says of a thread of a program that no signal ended: no error, no signals, and the thread's id.
-const READY_1: [u32; 18] = [0, 0, 0, 0, 0, 0, 1, 0, 0, 0, 0, 0, 0, 0, 0, 0, 0, 0];
-
-/// Of two threads of a program that SIGSEGV ended.
-const FAULTED_1: [u32; 18] = [11, 0, 0, 11, 0, 0, 1, 0, 0, 0, 0, 0, 0, 0, 0, 0, 0, 0];
-
-const FAULTED_2: [u32; 18] = [11, 0, 0, 11, 0, 0, 2, 0, 0, 0, 0, 0, 0, 0, 0, 0, 0, 0];
-
 #[test]
 fn core_of_a_program_that_begins(rt: HostRuntime) {
     let core = core_of(&rt, &machine_of(&rt, &PUTS));
@@ -71,20 +67,22 @@ fn core_of_a_program_that_begins(rt: HostRuntime) {
     expect_words(
         &rt,
         core.as_slice(),
-        PROGRAM_HEADERS,
-        &[4, 116, 0, 0, 224, 0, 0, 4, 1, 340, 0x1000, 0, 61_440, 61_440, 7, 4],
+        NOTES_HEADER,
+        &[4, 116, 0, 0, 224, 0, 0, 4],
     );
-    expect_words(&rt, core.as_slice(), NOTES, &NOTE_HEAD);
-    expect_words(&rt, core.as_slice(), NOTES + 20, &READY_1);
     expect_words(
         &rt,
         core.as_slice(),
-        NOTES + 20 + 72,
-        &[
-            0x1000, 0xffff_fff0, 0x1_0000, 0, 0, 0, 0, 0, 0, 0, 0, 0, 0, 0, 0, 0, 0, 0, 0, 0, 0, 0, 0,
-            0, 0, 0, 0, 0, 0, 0, 0, 0, 0,
-        ],
+        MEMORY_HEADER,
+        &[1, 340, 0x1000, 0, 61_440, 61_440, 7, 4],
     );
+    let first = Noted {
+        signal: 0,
+        id: 1,
+        pc: 0x1000,
+        registers: &[(1, 0xffff_fff0), (2, 0x1_0000)],
+    };
+    expect_note(&rt, core.as_slice(), NOTES, &first);
     expect_words(&rt, core.as_slice(), BEHIND_ONE, &PUTS);
     expect_zeros(&rt, core.as_slice(), BEHIND_ONE + 12);
 }
@@ -100,31 +98,29 @@ fn who_faulted_comes_first(rt: HostRuntime) {
     expect_words(
         &rt,
         core.as_slice(),
-        PROGRAM_HEADERS,
-        &[4, 116, 0, 0, 448, 0, 0, 4, 1, 564, 0x1000, 0, 61_440, 61_440, 7, 4],
+        NOTES_HEADER,
+        &[4, 116, 0, 0, 448, 0, 0, 4],
     );
-    expect_words(&rt, core.as_slice(), NOTES, &NOTE_HEAD);
-    expect_words(&rt, core.as_slice(), NOTES + 20, &FAULTED_2);
     expect_words(
         &rt,
         core.as_slice(),
-        NOTES + 20 + 72,
-        &[
-            0x102c, 0xffff_fff0, 0, 0, 0, 7, 0, 0, 0, 0, 66, 0, 0, 0, 0, 0, 0, 0, 0, 0, 0, 0, 0, 0, 0, 0,
-            0, 0, 0, 0, 0, 0, 0,
-        ],
+        MEMORY_HEADER,
+        &[1, 564, 0x1000, 0, 61_440, 61_440, 7, 4],
     );
-    expect_words(&rt, core.as_slice(), BEHIND_ONE, &NOTE_HEAD);
-    expect_words(&rt, core.as_slice(), BEHIND_ONE + 20, &FAULTED_1);
-    expect_words(
-        &rt,
-        core.as_slice(),
-        BEHIND_ONE + 20 + 72,
-        &[
-            0x1020, 0xffff_fff0, 0x1_0000, 0, 0, 0, 0, 0, 0, 0, 2, 2, 0, 0, 0, 0, 0, 11, 0, 0, 0, 0, 0, 0,
-            0, 0, 0, 0, 0, 0, 0, 0, 0,
-        ],
-    );
+    let faulted = Noted {
+        signal: 11,
+        id: 2,
+        pc: 0x102c,
+        registers: &[(1, 0xffff_fff0), (5, 7), (10, 66)],
+    };
+    expect_note(&rt, core.as_slice(), NOTES, &faulted);
+    let joining = Noted {
+        signal: 11,
+        id: 1,
+        pc: 0x1020,
+        registers: &[(1, 0xffff_fff0), (2, 0x1_0000), (10, 2), (11, 2), (17, 11)],
+    };
+    expect_note(&rt, core.as_slice(), BEHIND_ONE, &joining);
     expect_words(&rt, core.as_slice(), BEHIND_TWO, &FAULTS);
     expect_zeros(&rt, core.as_slice(), BEHIND_TWO + 48);
 }

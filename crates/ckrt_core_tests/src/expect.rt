@@ -31,6 +31,45 @@ pub fn expect_words<R: Abort>(rt: &R, bytes: &[u8], at: usize, words: &[u32]) {
     }
 }
 
+/// What a note is to say of a thread. Registers that aren't named are 0.
+#[derive(Drop)]
+pub struct Noted {
+    pub signal: u32,
+    pub id: u32,
+    pub pc: u32,
+    pub registers: &'static [(usize, u32)],
+}
+
+impl Noted {
+    /// What a register is to hold.
+    fn value(&self, register: usize) -> u32 {
+        for (named, value) in self.registers {
+            if *named == register {
+                return *value;
+            }
+        }
+        0
+    }
+}
+
+/// A note of 204 bytes of NT_PRSTATUS, by the name `CORE`, from an offset on.
+pub fn expect_note<R: Abort>(rt: &R, bytes: &[u8], at: usize, want: &Noted) {
+    let (_, note) = bytes.split_at_checked(at).unwrap_or((&[], &[]));
+    expect_words(rt, note, 0, &[5, 204, 1, 0x4552_4f43, 0]);
+    expect_words(
+        rt,
+        note,
+        20,
+        &[want.signal, 0, 0, want.signal, 0, 0, want.id],
+    );
+    expect_words(rt, note, 48, &[0, 0, 0, 0, 0, 0, 0, 0, 0, 0, 0]);
+    expect_words(rt, note, 92, &[want.pc]);
+    for register in 1..32 {
+        expect_words(rt, note, 92 + 4 * register, &[want.value(register)]);
+    }
+    expect_words(rt, note, 220, &[0]);
+}
+
 /// Zeros from an offset on, up to the end.
 pub fn expect_zeros<R: Abort>(rt: &R, bytes: &[u8], at: usize) {
     let (_, rest) = bytes.split_at_checked(at).unwrap_or((&[], &[]));

@@ -15,7 +15,7 @@ returns g c =
     let notes = program_header (note_segment c.args.notes) in
     let memory = program_header (memory_segment c.args.notes c.args.memory) in
     on_ok_weaker c.write_program_header-2.result (λ last.
-        appends_both (has c.args.out.now) first end elf_header (notes ++ memory) c.in_ok-write_elf_header.ensures
-        (appends_both first second end notes memory
-        (subst (λ s. Appends first second (program_header s)) c.note_segment.ensures c.in_ok-write_program_header.ensures)
-        (subst (λ s. Appends second end (program_header s)) c.memory_segment.ensures last))) c.write_program_header-2.ensures
+    appends_both (has c.args.out.now) first end elf_header (notes ++ memory) c.in_ok-write_elf_header.ensures
+    (appends_both first second end notes memory
+    (subst (λ s. Appends first second (program_header s)) c.note_segment.ensures c.in_ok-write_program_header.ensures)
+    (subst (λ s. Appends second end (program_header s)) c.memory_segment.ensures last))) c.write_program_header-2.ensures
