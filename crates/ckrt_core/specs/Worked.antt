@@ -1,5 +1,5 @@
 -- Parts of a core, written down by hand from the standards that they come from: what the definitions must give.
-use Rattle.std.specs.Prelude.{◌≡◌, ◌++◌, ℕ, false, List, [], ◌∷◌, Option, Some, None, replicate, slice_set, length, take, drop}
+use Rattle.std.specs.Prelude.{◌≡◌, ◌++◌, ℕ, false, List, [], ◌∷◌, Some, None, replicate, slice_set, length, take, drop}
 use Rattle.std.specs.List.{range_with_len}
 use Rattle.ckrt_registers.specs.Registers.{Registers}
 use Rattle.ckrt_rv32i.specs.declared.execution.Cause.TheVariants as cause

@@ -1,5 +1,5 @@
 //! Headers of an ELF file, and the numbers in it.
-ghost use Rattle.std.specs.Prelude.{◌≡◌, OnOk};
+ghost use Rattle.std.specs.Prelude.{OnOk};
 ghost use Rattle.std.specs.Io.KnownBytes.{Appends};
 ghost use Rattle.ckrt_core.specs.Elf.{elf_header, halves, program_header, words};
 

@@ -1,4 +1,4 @@
-use Rattle.std.proofs.Common.{[], ◌∷◌, ◌++◌, replicate, subst}
+use Rattle.std.proofs.Common.{◌∷◌, ◌++◌, replicate, subst}
 use Rattle.std.proofs.lemmas.Result.{on_ok_weaker}
 use Rattle.std.specs.Io.KnownBytes.{Appends}
 use Rattle.ckrt_core.specs.Elf.{word, words}

@@ -1,4 +1,4 @@
-use Rattle.std.proofs.Common.{ap, ◌∙◌}
+use Rattle.std.proofs.Common.{ap}
 use Rattle.ckrt_memory.specs.Marks.{Memory}
 use Rattle.ckrt_core.proofs.AppendLemmas.{on_ok}
 use Rattle.ckrt_core.proofs.MemoryLemmas.{appends_core}
