@@ -125,20 +125,19 @@ fn who_faulted_comes_first(rt: HostRuntime) {
     expect_zeros(&rt, core.as_slice(), BEHIND_TWO + 48);
 }
 
-/// Counts bytes, and fails where it has so many.
+/// Takes so many bytes more, and then fails.
 #[derive(Drop)]
 struct Narrow {
-    taken: usize,
-    fails_at: usize,
+    room: usize,
 }
 
 impl Write for Narrow {
     fn write(&mut self, buf: &[u8]) -> io::Result<usize> {
-        if self.taken == self.fails_at {
+        if self.room == 0 {
             return Err(io::Error::from(ErrorKind::BrokenPipe));
         }
-        let count = buf.len().min(self.fails_at - self.taken);
-        self.taken += count;
+        let count = buf.len().min(self.room);
+        self.room -= count;
         Ok(count)
     }
 
@@ -150,10 +149,10 @@ impl Write for Narrow {
 #[test]
 fn failing_write_is_answered(rt: HostRuntime) {
     let machine = machine_of(&rt, &PUTS);
-    for fails_at in [0, 1, 51, 52, 115, 116, 339, 340, 4_436, 61_779, 61_780] {
-        let mut writer = Narrow { taken: 0, fails_at };
+    for room in [0, 1, 51, 52, 115, 116, 339, 340, 4_436, 61_779, 61_780] {
+        let mut writer = Narrow { room };
         let written = write_core(&machine, &mut writer);
-        expect_eq(&rt, written.is_ok(), fails_at == BEHIND_ONE + MEMORY);
-        expect_eq(&rt, writer.taken, fails_at);
+        expect_eq(&rt, written.is_ok(), room == BEHIND_ONE + MEMORY);
+        expect_eq(&rt, writer.room, 0);
     }
 }

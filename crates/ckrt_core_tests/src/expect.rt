@@ -89,12 +89,18 @@ pub fn machine_of<R: Abort + AllocGlobal>(rt: &R, words: &[u32]) -> Machine {
     }
 }
 
+/// An event.
+fn step<R: Abort>(rt: &R, machine: &mut Machine, event: &Event) {
+    assert!(rt; event.in_range());
+    let accepted = machine.accept(0, event);
+    assert!(rt; accepted.is_ok());
+    machine.step(event);
+}
+
 /// A thread runs on a hart until it has to stop.
 pub fn run<R: Abort>(rt: &R, machine: &mut Machine, hart: u8, thread: u8) {
-    for event in [Event::Place(hart, thread), Event::Run(hart, 100)] {
-        assert!(rt; machine.accept(0, &event).is_ok(), "{event:?} is refused");
-        machine.step(&event);
-    }
+    step(rt, machine, &Event::Place(hart, thread));
+    step(rt, machine, &Event::Run(hart, 100));
 }
 
 /// The core of a machine's state.
