@@ -1,0 +1,4 @@
+mod AppendLemmas
+mod NoteLemmas
+mod MemoryLemmas
+mod WorkedLemmas

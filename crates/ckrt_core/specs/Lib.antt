@@ -1,0 +1,4 @@
+pub mod Elf
+pub mod Notes
+pub mod Core
+pub mod Worked
