@@ -14,6 +14,7 @@ from abi import KEY_CALLS, Call
 from cases import KINDS, case_of
 from drive_cases import DrivesCase, difference_of_drives
 from formats import FormatCase
+from halts import HaltsCase, difference_of_halts
 from layout import Geometry, format_disk
 from lines import serve_disk
 from listing import OutOfRange, listing
@@ -182,6 +183,8 @@ def first_difference(ckrt, case, folder, tally, count_life):
             return difference_of_format(ckrt, case, folder, tally)
         case WordsCase():
             return difference_of_words(ckrt, case, folder, tally)
+        case HaltsCase():
+            return difference_of_halts(ckrt, case, folder, tally, count_life)
         case DrivesCase():
             return difference_of_drives(ckrt, case, folder, tally, count_life)
         case ListingsCase():

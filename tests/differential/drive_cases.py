@@ -1,31 +1,74 @@
 """Cases of drives: several of one disk, one behind the other, and then all their events by one drive of a fresh disk."""
 import subprocess
-from dataclasses import dataclass, replace
+from dataclasses import dataclass, field, replace
 
 from devices import MemoryDisk
+from feeding import COUNTERS, SLOTS_APART, Slot, Unsupplied
 from layout import Geometry, format_disk
 from plans import Drive, Options
+from readers import READERS, READS_ALL, sleeps
 
 TIME_LIMIT = 60
+LENGTHS = [0, 1, 63, 64, 65, 4096, 4097]
+LONG_LENGTHS = range(19_000, 21_001)
+OFFSETS = [0, 1, 64, 192, 4096, COUNTERS - 1, COUNTERS]
+EVENTS_OF_LOOPS = 600
+
+
+@dataclass(frozen=True)
+class Feeding:
+    """What a drive is told of the input: whether it has it, how many bytes lack at its end, and how many were taken already."""
+    is_fed: bool = True
+    lacking: int = 0
+    said: int | None = None
+
+    def data(self, whole):
+        return whole[:max(0, len(whole) - self.lacking)] if self.is_fed else None
+
+    def words(self, path):
+        words = ["--input", path] if self.is_fed else []
+        return words + ([] if self.said is None else ["--input-from", str(self.said)])
+
+
+UNFED = Feeding(is_fed=False)
 
 
 @dataclass
 class DrivesCase:
-    """A disk that is formatted with an image, and the options of each drive."""
+    """A disk that is formatted with an image and some bytes behind it, the options of each drive, the bytes of an input, and
+    what each drive is told of that."""
     geometry: Geometry
     image: bytes
     version: int | None
     drives: list
+    behind: bytes = b""
+    data: bytes = b""
+    feedings: list = field(default_factory=list)
+
+    def __post_init__(self):
+        self.feedings = self.feedings or [UNFED] * len(self.drives)
+
+    @property
+    def is_alike(self):
+        """Whether all drives are told the same, so that they come to what one comes to."""
+        return len(set(self.feedings)) == 1 and self.feedings[0].said is None
 
     def disk(self):
-        return bytearray(format_disk(self.geometry, self.image, self.version))
+        return bytearray(format_disk(self.geometry, self.image, self.version) + self.behind)
 
     def unbroken(self):
         """One drive that has as many events as all."""
-        return replace(self.drives[0], events=sum(options.events for options in self.drives))
+        counts = [options.events for options in self.drives]
+        return replace(self.drives[0], events=None if None in counts else sum(counts))
 
 
 def drives_case(chance, case):
+    """Three of five with an input."""
+    unfed = unfed_case(chance, case)
+    return fed_case(chance, unfed) if chance.random() < 0.6 else unfed
+
+
+def unfed_case(chance, case):
     """Short turns and few rounds, so that threads meet and the journal fills."""
     options = Options(chance.choice([1, 3, 10, 40, 200]), chance.choice([1, 2, 5, 50]), chance.choice([None, None, 0, 1, 2 ** 64 - 1, 77]))
     drives = [replace(options, rounds=chance.choice([options.rounds, 1, 9]), events=chance.choice([0, 1, 7, 40, 150]))
@@ -33,10 +76,64 @@ def drives_case(chance, case):
     return DrivesCase(case.geometry, case.image, case.version, drives)
 
 
-def drive_of_program(ckrt, disk, output, options):
-    """The status."""
-    words = ["drive", disk, "--output", output, *options.words()]
-    return subprocess.run([ckrt, *words], stdin=subprocess.DEVNULL, capture_output=True, timeout=TIME_LIMIT).returncode
+def fed_case(chance, unfed):
+    """With an input, mostly for a guest that reads; half of the disks have some bytes behind them already."""
+    reader = chance.choice([None, *READERS])
+    length = chance.choice(LENGTHS[:5] if reader is sleeps else [*LENGTHS, chance.choice(LONG_LENGTHS)])
+    fed = replace(unfed, behind=bytes_behind(chance), data=chance.randbytes(length))
+    if reader is not None:
+        fed.geometry = Geometry(16, chance.choice([1, 1, 2, 3]), chance.choice([4096, 4096, 8192, 65536]))
+        fed.image, fed.version = reader(chance), None
+    fed.drives = drives_of_reader(chance, unfed.drives, length, reader in READS_ALL)
+    fed.feedings = [Feeding()] * len(fed.drives)
+    return careless(chance, fed) if chance.random() < 0.35 else fed
+
+
+def careless(chance, fed):
+    """Each drive is told something else. Of the shortest journal each commit comes to a checkpoint, so one without the input makes
+    it unknown how much was taken."""
+    fed.geometry = replace(fed.geometry, journal=4096)
+    fed.drives = [fed.drives[0]] + fed.drives
+    fed.feedings = [feeding(chance, len(fed.data)) for _ in fed.drives]
+    return fed
+
+
+def drives_of_reader(chance, drives, length, ends):
+    """The last one of a guest that ends has as many events as it takes."""
+    turn = chance.choice([50, 1000, 70_000]) if length > 100 else drives[0].turn
+    drives = [replace(options, turn=turn, events=chance.choice([options.events, 3, 64, 65, 90])) for options in drives]
+    return drives + [replace(drives[0], events=None if ends else EVENTS_OF_LOOPS)]
+
+
+def feeding(chance, length):
+    """Often without the input, at times with a file that lost bytes or an offset that isn't the disk's."""
+    if chance.random() < 0.35:
+        return chance.choice([UNFED] * 5 + [Feeding(is_fed=False, said=0)])
+    return Feeding(lacking=chance.choice([0] * 5 + [1, 64, length]), said=chance.choice([None] * 8 + OFFSETS))
+
+
+def bytes_behind(chance):
+    """None, too few or enough for the record, at times with a slot for a generation that needs none."""
+    drawn = chance.randbytes(chance.choice([0, 0, 1, 40, 4095, 4096, 5000]))
+    forged = Slot(1, 0, 7).encoding() + bytes(SLOTS_APART - 40) + Slot(2, 0, 7).encoding() + bytes(2 * SLOTS_APART)
+    return chance.choice([drawn, drawn, drawn, forged])
+
+
+def drive_of_model(disk, output, options, tally, feeding, whole):
+    """The status, and the name of a fault where that is known."""
+    if feeding.said is not None and not (feeding.is_fed and feeding.said < COUNTERS):
+        return 1, "Range"
+    try:
+        return Drive(MemoryDisk(disk), output, options, tally, feeding.data(whole), feeding.said).run(), None
+    except Unsupplied as fault:
+        return 1, str(fault)
+
+
+def drive_of_program(ckrt, disk, output, options, words=()):
+    """The status, and the name of a fault."""
+    words = ["drive", disk, "--output", output, *options.words(), *words]
+    done = subprocess.run([ckrt, *words], stdin=subprocess.DEVNULL, capture_output=True, timeout=TIME_LIMIT)
+    return done.returncode, done.stderr.decode().splitlines()[-1].removeprefix("ckrt: ") if done.returncode == 1 else None
 
 
 def contents(path):
@@ -45,27 +142,42 @@ def contents(path):
 
 def difference_of_drives(ckrt, case, folder, tally, count_life):
     """None, or in a few words where the two differ."""
-    difference = (difference_of_list(ckrt, case.disk(), [case.unbroken()], folder, "unbroken", tally, count_life)
-                  or difference_of_list(ckrt, case.disk(), case.drives, folder, "several", tally, count_life))
+    drives = list(zip(case.drives, case.feedings))
+    difference = difference_of_list(ckrt, case, drives, folder, "several", tally, count_life)
+    if difference is not None or not case.is_alike:
+        return difference
+    difference = difference_of_list(ckrt, case, [(case.unbroken(), case.feedings[0])], folder, "unbroken", tally, count_life)
     if difference is None and contents(folder / "several.out") != contents(folder / "unbroken.out"):
         return "several drives have another output than one"
     return difference
 
 
-def difference_of_list(ckrt, disk, drives, folder, name, tally, count_life):
-    path, out = folder / f"{name}.disk", folder / f"{name}.out"
+def difference_of_list(ckrt, case, drives, folder, name, tally, count_life, begun=None):
+    """On the case's disk, or on one that is begun, with the bytes of its output."""
+    path, out, file = (folder / f"{name}.{end}" for end in ("disk", "out", "in"))
+    disk, output = begun or (case.disk(), bytearray())
     path.write_bytes(disk)
     out.unlink(missing_ok=True)
-    output = bytearray()
-    for number, options in enumerate(drives, 1):
-        expected = Drive(MemoryDisk(disk), output, options, tally).run()
-        tally["drive", f"status {expected}"] += 1
+    if output:
+        out.write_bytes(output)
+    for number, (options, feeding) in enumerate(drives, 1):
+        expected = drive_of_model(disk, output, options, tally, feeding, case.data)
+        tally["drive", expected[1] or f"status {expected[0]}"] += 1
         count_life(1)
-        shown = drive_of_program(ckrt, path, out, options)
+        file.write_bytes(feeding.data(case.data) or b"")
+        shown = drive_of_program(ckrt, path, out, options, feeding.words(file))
+        where = f"{name}, drive {number} ({options}, {feeding})"
         if shown != expected:
-            return f"{name}, drive {number} ({options}): status {expected} of the model, {shown} of the program"
+            return f"{where}: {expected} of the model, {shown} of the program"
         if contents(out) != output:
-            return f"{name}, drive {number} ({options}): the output's bytes"
+            return f"{where}: the output's bytes"
         if path.read_bytes() != disk:
-            return f"{name}, drive {number} ({options}): the disk's bytes"
+            (folder / f"{name}.model").write_bytes(disk)
+            return f"{where}: the disk's bytes, first at {first_other(path.read_bytes(), disk)}"
     return None
+
+
+def first_other(shown, expected):
+    """Where two disks differ first: of one that is longer at the end of the other."""
+    pairs = enumerate(zip(shown, expected))
+    return next((at for at, (left, right) in pairs if left != right), min(len(shown), len(expected)))

@@ -13,8 +13,9 @@ HERE = Path(__file__).parent
 TIME_LIMIT = 900
 # That of the module first, then the quick ones.
 FIRST = {"lives.py": "test_lives", "foreseen.py": "test_lives", "ledger.py": "test_fates", "devices.py": "test_fates",
-         "key_calls.py": "test_keys", "events.py": "test_long_runs", "plans.py": "test_plans"}
-TESTS = ["test_plans", "test_calls", "test_keys", "test_long_runs", "test_listings", "test_rows", "test_tables", "test_texts", "test_fates", "test_lives", "test_stops"]
+         "key_calls.py": "test_keys", "events.py": "test_long_runs", "plans.py": "test_plans",
+         "feeding.py": "test_feeding"}
+TESTS = ["test_plans", "test_feeding", "test_calls", "test_keys", "test_long_runs", "test_listings", "test_rows", "test_tables", "test_texts", "test_fates", "test_lives", "test_stops"]
 MUTATIONS = [
     ("plans.py", "place = count % round_length(machine)", "place = 0"),
     ("plans.py", "if place == 2 * machine.hart_count:", "if place == 2 * machine.hart_count - 1:"),
@@ -23,6 +24,28 @@ MUTATIONS = [
     ("plans.py", "        count //= 2\n", "        count = 0\n"),
     ("plans.py", "or not self.unacknowledged and self.is_crowded", "or self.is_crowded"),
     ("plans.py", "self.unacknowledged >= self.options.rounds", "self.unacknowledged > self.options.rounds"),
+    ("plans.py", "event = self.given() or next_event(", "event = next_event("),
+    ("plans.py", "                self.supply.count(event)\n", "                pass\n"),
+    ("plans.py", "            self.supply.record(self.session)\n        return self.session.checkpoint()", "            pass\n        return self.session.checkpoint()"),
+    ("feeding.py", "return slot if (name, version) == (SLOT_NAME, SLOT_VERSION) and", "return slot if name == SLOT_NAME and"),
+    ("feeding.py", "(name, version) == (SLOT_NAME, SLOT_VERSION)", "version == SLOT_VERSION"),
+    ("feeding.py", " and slot.taken < COUNTERS", ""),
+    ("feeding.py", "(slot.generation, slot.events) == (header.generation, header.events)", "slot.generation == header.generation"),
+    ("feeding.py", "(slot.generation, slot.events) == (header.generation, header.events)", "slot.events == header.events"),
+    ("feeding.py", "(header.generation, header.events) == (1, 0)", "False"),
+    ("feeding.py", "return said + by_journal", "return said"),
+    ("feeding.py", "    return recorded + by_journal", "    return recorded"),
+    ("feeding.py", "said > recorded + by_journal", "said > recorded"),
+    ("feeding.py", "said > recorded + by_journal", "said >= recorded + by_journal"),
+    ("feeding.py", "or machine.is_input_closed", ""),
+    ("feeding.py", "len(machine.input) + len(piece) <= INPUT_QUEUE", "len(machine.input) + INPUT_LIMIT <= INPUT_QUEUE"),
+    ("feeding.py", "len(machine.input) + len(piece) <= INPUT_QUEUE", "len(machine.input) < INPUT_QUEUE"),
+    ("feeding.py", "if self.taken > len(data):", "if self.taken >= len(data):"),
+    ("feeding.py", "max(0, missing)", "RECORD_LENGTH"),
+    ("feeding.py", "1 - session.recovered.area", "session.recovered.area"),
+    ("feeding.py", "session.recovered.generation + 1, session.events", "session.recovered.generation, session.events"),
+    ("feeding.py", "SLOTS_APART = 2048", "SLOTS_APART = 512"),
+    ("feeding.py", "        session.disk.sync()\n", "        pass\n"),
     ("tables.py", "for wait in state.waits]),", "for wait in sorted(state.waits, key=lambda wait: wait.thread)]),"),
     ("tables.py", "value = thread.value if thread.is_unwinding else 0", "value = thread.value"),
     ("tables.py", "HALF.pack(len(held)) + bytes(held)", "HALF.pack(0)"),

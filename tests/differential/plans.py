@@ -2,6 +2,7 @@
 from dataclasses import dataclass
 
 from events import LONG_RUN, Place, Run, RunLong, Tick, VERSION_OF_LONG_RUNS
+from feeding import Supply
 from layout import BATCH_LIMIT
 from session import Session
 from threads import Status
@@ -88,11 +89,15 @@ def next_event(options, count, machine):
 
 
 class Drive:
-    """A drive of a disk; `output` are the bytes of its file."""
+    """A drive of a disk; `output` are the bytes of its file, and `data` those of its input, if it has one.
 
-    def __init__(self, disk, output, options, tally):
+    `said` is how much of that the words say that the program had taken.
+    """
+
+    def __init__(self, disk, output, options, tally, data=None, said=None):
         self.session, self.output, self.options = Session(disk, tally), output, options
         self.acknowledged, self.left = self.session.events, options.events
+        self.supply = None if data is None else Supply(self.session, data, said)
 
     def run(self):
         """The status of the program."""
@@ -113,7 +118,7 @@ class Drive:
         if session.confirmed < session.released:
             return self.confirm()
         if session.recovered.version < VERSION_OF_LONG_RUNS or not self.unacknowledged and self.is_crowded:
-            return self.save(session.checkpoint)
+            return self.save(self.checkpoint)
         if self.unacknowledged >= self.options.rounds * round_length(session.machine):
             return self.save(session.commit)
         return self.go_on()
@@ -124,17 +129,23 @@ class Drive:
             return self.end(self.status())
         if self.left == 0:
             return self.end(ENDS["enough"])
-        event = next_event(self.options, self.session.events, machine)
+        event = self.given() or next_event(self.options, self.session.events, machine)
         return self.end(ENDS[event]) if isinstance(event, str) else self.offer(event)
+
+    def given(self):
+        """What comes of the input, before all that the schedule has; None where nothing does."""
+        return None if self.supply is None else self.supply.next(self.session.machine)
 
     def offer(self, event):
         refusal = self.session.refusal_of(event)
         if refusal is None:
             self.session.submit(event)
+            if self.supply is not None:
+                self.supply.count(event)
             self.left = None if self.left is None else self.left - 1
             return None
         if refusal[1] in SHORTAGES:
-            return self.save(self.session.commit if self.unacknowledged else self.session.checkpoint)
+            return self.save(self.session.commit if self.unacknowledged else self.checkpoint)
         return 1
 
     def end(self, status):
@@ -145,6 +156,12 @@ class Drive:
         if machine.status is Status.FAULTED:
             return 6
         return 7 if machine.status_word else 0
+
+    def checkpoint(self):
+        """With an input, how much of it is taken is recorded first."""
+        if self.supply is not None:
+            self.supply.record(self.session)
+        return self.session.checkpoint()
 
     def save(self, call):
         """None, unless the session can't."""
