@@ -5,11 +5,12 @@ ghost use Rattle.ckrt_memory.specs.declared.MemoryError.TheVariants.{ImageTooLon
 ghost use Rattle.ckrt_state.specs.WellFormed.{IsWellFormed};
 ghost use Rattle.ckrt_events.specs.Bytes.{IsInRange};
 ghost use Rattle.ckrt_machine.specs.Events.{fresh, memory_in, step, refusal_of, planned};
-ghost use Rattle.ckrt_machine.specs.Stores.{stored_in_event};
+ghost use Rattle.ckrt_machine.specs.Runs.{run_on, stop_of};
+ghost use Rattle.ckrt_machine.specs.Stores.{stored_in_event, stored_in_run};
 
 use crate::accept::refusal;
-use crate::event::{Answer, Refusal};
-use crate::hart::{answer_run, place};
+use crate::event::{Answer, Refusal, RunEnd};
+use crate::hart::{answer_run, place, run};
 use crate::plan::plan;
 use arrayvec::ArrayVec;
 use ckrt_calls::{Status, Tables, close_input, take_input, tick};
@@ -18,6 +19,7 @@ use ckrt_memory::{Memory, MemoryError};
 use ckrt_rv32i::Bus;
 use std::alloc::Global;
 use std::marker::Model;
+use std::mem;
 
 /// A program that runs: its memory, its threads on the harts, and what else its calls work on. It
 /// changes by events alone. All room is taken by [`Machine::new`].
@@ -184,6 +186,45 @@ impl Machine {
             }
             Event::Tick(ticks) => Answer::Ticked(tick(&mut self.tables, *ticks)),
         }
+    }
+
+    /// Goes on with a run that was cut: so many steps more at most of the thread on the hart, behind the bytes that the run has
+    /// put. The result is how many of them are left, and how the run ended. A page whose mark is changed was stored to.
+    pub fn go_on(&mut self, hart: u8, limit: u32) -> (u32, RunEnd)
+        requires { stop_of hart self.old.state.tables self.old.output ≡ None }
+        ensures within { result.0 ≤ limit }
+        ensures run { record {
+          left = result.0;
+          how = result.1;
+          state = self.new.state;
+          output = self.new.output;
+        } ≡ run_on limit hart self.old.state self.old.output }
+        ensures follows { Follows (memory_in self.old) (memory_in self.new) }
+        ensures only { MarksOnly (stored_in_run limit hart self.old.state self.old.output)
+            self.old.marks self.new.marks }
+    {
+        let hart = usize::from(hart);
+        run(
+            &mut self.memory,
+            &mut self.tables,
+            &mut self.output,
+            hart,
+            limit,
+        )
+    }
+
+    /// The machine gets this memory and these tables, and gives its own for them. No event has put a byte then.
+    pub fn exchange(&mut self, memory: &mut Memory, tables: &mut Tables)
+        requires { IsWellFormed tables.old }
+        ensures memory { memory_in self.new ≡ memory.old }
+        ensures tables { self.new.state.tables ≡ tables.old }
+        ensures output { self.new.output ≡ [] }
+        ensures given { memory.new ≡ memory_in self.old }
+        ensures given_tables { tables.new ≡ self.old.state.tables }
+    {
+        mem::swap(&mut self.memory, memory);
+        mem::swap(&mut self.tables, tables);
+        self.output.clear();
     }
 
     /// The thread to put onto the hart next, if there is one: the least ready id on no hart that is

@@ -1,0 +1,2 @@
+pub mod EmptyingLemmas
+pub mod RowLemmas
