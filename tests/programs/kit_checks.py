@@ -146,7 +146,7 @@ def endings(ckrt, folder):
     for name, options, pages, ending, printed in ENDED:
         image = folder / "ending.bin"
         said = call(BUILD, ENDINGS / name, "-o", image, *options)
-        needed, stack = (re.search(text, said)[1] for text in (r"(\d+) pages at least", r"first thread's stack takes (\d+)"))
+        needed, stack = (re.search(text, said)[1] for text in (r"(\d+) pages at least", r"first new thread's stack takes (\d+)"))
         found = driven(ckrt, image, folder, pages=pages)
         wanted = (f"ended: {ending}", printed.format(pages=needed, stack=stack))
         if found != wanted:
