@@ -58,7 +58,7 @@ REFUSED_SOURCES = [
 REFUSED_WORDS = [
     ([BUILD, "{c}", "-o", "{folder}/none/program.bin"], "there is no folder"),
     ([BUILD, "{c}", "-o", "{folder}"], "that is a folder"),
-    ([BUILD, "{c}", "-o"], "-o wants the name"),
+    ([BUILD, "{c}", "-o"], "-o needs the name"),
     ([BUILD, "{c}", "nonsense", "-o", "{folder}/p.bin"], "nonsense is neither an option nor a file"),
     ([BUILD, "{folder}/none.c", "-o", "{folder}/p.bin"], "none.c is neither an option nor a file"),
     ([BUILD, "-c", "{c}", "-o", "{folder}/p.bin"], "guest/cc takes it"),
