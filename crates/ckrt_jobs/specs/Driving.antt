@@ -143,11 +143,6 @@ pub record DrivesWay {D O : Type 0} {g : Ghosts D} (o : Ghosts O) (way : Way) (s
   pub gives : answer ≡ driven_of t.progress.machine.state ran
   pub output : IfErr answer (λ fault. fault ≡ Output → HasFailed (o.failures a) (o.failures b))
 
--- the same without an input
-abbrev pub DrivesSession : {D O : Type 0} {g : Ghosts D} (o : Ghosts O) → Options
-    → (s t : Session D g) → (a b : O) → Result Driven DriveFault → Type 0
-DrivesSession o options s t a b answer = DrivesWay o (unfed options) s t a b answer
-
 -- THE FILES
 
 -- what a job answers where its drive answered so; of an output that failed it says why
