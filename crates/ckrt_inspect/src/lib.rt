@@ -18,5 +18,5 @@ pub use fault::InspectFault;
 pub use inspecting::{inspect, inspect_with};
 pub use laws::{worked_instructions, worked_lines, worked_listings};
 pub use listing::{write_listing, write_listing_with_code};
-pub use metrics::{Metric, Readings, push_metrics};
+pub use metrics::{Metric, Readings, Standing, push_metrics};
 pub use shown::Shown;

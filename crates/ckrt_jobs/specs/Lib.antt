@@ -12,6 +12,7 @@ pub mod Files
 pub mod Outcomes
 pub mod Performing
 pub mod Printing
+pub mod Reasons
 pub mod Reports
 pub mod Running
 pub mod Showing

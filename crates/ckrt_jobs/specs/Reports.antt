@@ -4,6 +4,7 @@ use Rattle.std.specs.declared.io.ErrorKind.{ErrorKind}
 use Rattle.std.specs.declared.io.ErrorKind.TheVariants as kind
 use Rattle.ckrt_checkpoint.specs.declared.config.Config.{Config}
 use Rattle.ckrt_jobs.specs.Names.{name_of}
+use Rattle.ckrt_jobs.specs.Reasons.{reason_text}
 use Rattle.ckrt_jobs.specs.declared.fault.JobFault.{JobFault}
 use Rattle.ckrt_jobs.specs.declared.fault.JobFault.TheVariants as job
 use Rattle.ckrt_jobs.specs.declared.file.FileFault.{FileFault}
@@ -12,6 +13,7 @@ use Rattle.ckrt_jobs.specs.declared.file.JobFile.{JobFile}
 use Rattle.ckrt_jobs.specs.declared.file.JobFile.TheVariants as file
 use Rattle.ckrt_jobs.specs.declared.input.InputLengths.{InputLengths}
 use Rattle.ckrt_jobs.specs.declared.output.OutputLengths.{OutputLengths}
+use Rattle.ckrt_jobs.specs.declared.reason.OutputReason.TheVariants as reason
 use Rattle.ckrt_image.specs.declared.fault.FormatFault.{FormatFault}
 use Rattle.ckrt_image.specs.declared.fault.FormatFault.TheVariants as format
 use Rattle.ckrt_image.specs.declared.fault.RecoverFault.{RecoverFault}
@@ -107,6 +109,7 @@ file_of (job.OutputDiffers l) = Some file.Output
 file_of job.NotRecorded = Some file.Disk
 file_of (job.OffsetDiffers taken) = Some file.Disk
 file_of (job.InputTooShort l) = Some file.Input
+file_of (job.OutputFailed why) = Some file.Output
 file_of (job.Drive f) = Some (file_of_drive f)
 file_of _ = None
 
@@ -145,7 +148,7 @@ abbrev pub advice_of_drive : DriveFault → List ℕ
 advice_of_drive drive.Device = device_advice
 advice_of_drive drive.Input = codes "a read failed; look after its device, then the same command goes on"
 advice_of_drive drive.NoRecord = codes "it has no room for the record of the input; make it 4096 bytes longer"
-advice_of_drive drive.Output = codes "a write or sync failed: no space is left, the pipe is broken, or its device fails; mend that, then the same command goes on (docs/OPERATING.md)"
+advice_of_drive drive.Output = reason_text reason.Other
 advice_of_drive drive.OutputFull = codes "it can't have so many bytes"
 advice_of_drive drive.GenerationsUsed = codes "it has made as many checkpoints as there can be; make another"
 advice_of_drive (drive.Refused why) = codes "it can't take another event: its counters are used up"
@@ -198,6 +201,7 @@ advice_of (job.OutputDiffers l) = advice_of_lengths l
 advice_of job.NotRecorded = codes "it can't tell how much of the input its program has read, since it was saved by hand: `--input-from` says how many bytes that were when it was saved"
 advice_of (job.OffsetDiffers taken) = codes "leave --input-from out"
 advice_of (job.InputTooShort l) = codes "give the file that it had before, whole"
+advice_of (job.OutputFailed why) = reason_text why
 advice_of (job.Drive f) = advice_of_drive f
 
 -- the path of an output, or what stands for it where it is printed

@@ -7,10 +7,13 @@ use crate::file::{FileFault, MAKING};
 use crate::growing::GrowingFile;
 use crate::leftover::look_at_leftover;
 use crate::output::OpenedOutput;
+use crate::reason::OutputReason;
+use crate::told::{RealDisk, Teller, ToldFile};
 use ckrt_disk::{FileDisk, Holds, SystemFile};
 use ckrt_filling::fill_up;
 use ckrt_recovery::RecoverFault;
 use std::alloc::Global;
+use std::cell::Cell;
 use std::fs::{File, Files, OpenOptions};
 use std::io;
 use std::marker::Brand;
@@ -146,12 +149,12 @@ fn open_or_make<R: Files<File = File>>(rt: &R, path: &str) -> Result<Claimed, Fi
 }
 
 /// The disk of an open file, with as many bytes as the file. A directory, which may be opened to be read, is none.
-pub(crate) fn disk_of<H: Holds>(file: File) -> Result<FileDisk<SystemFile<H>>, FileFault> {
+pub(crate) fn disk_of<'a, H: Holds>(file: File) -> Result<RealDisk<'a, H>, FileFault> {
     let told = file.metadata()?;
     if told.is_dir() {
         return Err(FileFault::IsADirectory);
     }
-    Ok(FileDisk::new(SystemFile::new(file), told.len() as usize))
+    Ok(FileDisk::new(ToldFile::untold(SystemFile::new(file)), told.len() as usize))
 }
 
 /// Fills a file that is shorter than so many bytes up to them. What is no regular file isn't filled.
@@ -274,24 +277,32 @@ pub(crate) fn open_disk_file<R: Files<File = File>>(rt: &R, path: &str) -> Resul
 /// How many bytes an output has: more than any file. Those behind the end of its file count as zeros until they are written.
 const OUTPUT_SIZE: usize = i64::MAX as usize;
 
-/// The output of an open file, which grows as it is written. What isn't a plain file, as a terminal, has no offsets.
-fn output_of<H: Holds>(file: File) -> Result<OpenedOutput<FileDisk<SystemFile<H>>>, FileFault> {
+/// The output of an open file, which grows as it is written, and tells why it fails. What isn't a plain file, as a terminal, has no
+/// offsets.
+fn output_of<'a, H: Holds>(
+    file: File,
+    why: &'a Cell<OutputReason>,
+) -> Result<OpenedOutput<RealDisk<'a, H>>, FileFault> {
     let told = file.metadata()?;
     if !told.is_file() {
         return Err(FileFault::NotAFile);
     }
+    let teller = Teller::new(file.try_clone()?, why);
+    let file = ToldFile::told_by(SystemFile::new(file), teller);
     Ok(OpenedOutput {
-        output: FileDisk::new(SystemFile::new(file), OUTPUT_SIZE),
+        output: FileDisk::new(file, OUTPUT_SIZE),
         length: told.len(),
     })
 }
 
 /// The output of a path.
-pub(crate) fn open_system_output<R: Files<File = File>, H: Holds>(
+pub(crate) fn open_system_output<'a, R: Files<File = File>, H: Holds>(
     rt: &R,
     path: &str,
-) -> Result<OpenedOutput<FileDisk<SystemFile<H>>>, FileFault> {
-    output_of(open_or_make(rt, path)?.file)
+    why: &'a Cell<OutputReason>,
+) -> Result<OpenedOutput<RealDisk<'a, H>>, FileFault> {
+    let opened = open_or_make(rt, path)?;
+    output_of(opened.file, why)
 }
 
 /// Whether a path is that of a plain file. Nothing is opened: a pipe that nobody writes to would keep its opener waiting.
@@ -307,38 +318,41 @@ fn is_plain_file<R: Files>(rt: &R, path: &str) -> Result<(), FileFault> {
 }
 
 /// The input of a path: a plain file, which is only read.
-pub(crate) fn open_system_input<R: Files<File = File>, H: Holds>(
+pub(crate) fn open_system_input<'a, R: Files<File = File>, H: Holds>(
     rt: &R,
     path: &str,
-) -> Result<FileDisk<SystemFile<H>>, FileFault> {
+) -> Result<RealDisk<'a, H>, FileFault> {
     is_plain_file(rt, path)?;
     let file = open_read(rt, path)?;
     let told = file.metadata()?;
     if !told.is_file() {
         return Err(FileFault::NotAnInput);
     }
-    Ok(FileDisk::new(SystemFile::new(file), told.len() as usize))
+    Ok(FileDisk::new(ToldFile::untold(SystemFile::new(file)), told.len() as usize))
 }
 
 /// The disk of an open file once zero bytes stand behind its own, up to so many bytes.
-pub(crate) fn longer_disk<H: Holds>(
+pub(crate) fn longer_disk<'a, H: Holds>(
     file: &File,
     size: usize,
-) -> Result<FileDisk<SystemFile<H>>, FileFault> {
+) -> Result<RealDisk<'a, H>, FileFault> {
     fill_file(file, size)?;
     let longer = file.try_clone()?;
     let told = longer.metadata()?;
     if (told.len() as usize) < size {
         return Err(FileFault::Other);
     }
-    Ok(FileDisk::new(SystemFile::new(longer), told.len() as usize))
+    Ok(FileDisk::new(
+        ToldFile::untold(SystemFile::new(longer)),
+        told.len() as usize,
+    ))
 }
 
 /// The disk of a path, to be looked at.
-pub(crate) fn look_at_system_disk<R: Files<File = File>, H: Holds>(
+pub(crate) fn look_at_system_disk<'a, R: Files<File = File>, H: Holds>(
     rt: &R,
     path: &str,
-) -> Result<FileDisk<SystemFile<H>>, FileFault> {
+) -> Result<RealDisk<'a, H>, FileFault> {
     let file = open_shared(rt, path)?;
     disk_of(file)
 }

@@ -63,8 +63,9 @@
 //! ([`printed_bytes_stay`]).
 //!
 //! What a drive hands on to its stream is the output of acknowledged events: `stream_gets_the_output` of `ckrt_drive`. Only
-//! tested: the lines on how far a drive is, what a path opens, that a file is filled and locked and its folder synced, that a
-//! disk in the making takes no other file's name, that what is printed is flushed, that faults on standard error reach it.
+//! tested: the lines on how far a drive is, which reason of a failed output is told, what a path opens, that a file is filled
+//! and locked and its folder synced, that a disk in the making takes no other file's name, that what is printed is flushed, that
+//! faults on standard error reach it.
 #![tactic(auto)]
 
 mod address;
@@ -84,6 +85,7 @@ mod meter;
 mod missing;
 mod output;
 mod program;
+mod reason;
 mod report;
 mod reporter;
 mod running;
@@ -93,6 +95,7 @@ mod sources;
 mod status;
 mod stored;
 mod system;
+mod told;
 mod version;
 
 pub use driven::Driven;
@@ -105,8 +108,10 @@ pub use making::make_disk;
 pub use meter::{Meter, SystemMeter, Watch};
 pub use output::{OpenedOutput, OutputLengths};
 pub use program::{run_words, run_words_with};
+pub use reason::OutputReason;
 pub use reporter::{Reporter, Unsaid, WrittenReport};
 pub use running::{Unserved, run_disk};
 pub use showing::inspect_disk;
 pub use sources::{Closes, Sources, Unlengthened};
 pub use system::{SystemDisk, SystemSources};
+pub use told::{RealDisk, ToldFile, ToldWriter};

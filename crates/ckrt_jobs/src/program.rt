@@ -262,7 +262,7 @@ pub fn run_words_with<
 pub fn run_words<'a, F: Files<File = File>, R: Read, W: Write + 'a, E: Reporter, M: Meter>(
     alloc: Global,
     words: &'a [&'a str],
-    sources: &mut SystemSources<'a, F, SystemDisk>,
+    sources: &mut SystemSources<'a, F, SystemDisk<'a>>,
     reader: &mut R,
     writer: &mut W,
     reporter: &mut E,
@@ -279,13 +279,13 @@ pub fn run_words<'a, F: Files<File = File>, R: Read, W: Write + 'a, E: Reporter,
         → Appends (W.contents writer.old) (W.contents writer.new) version_line }
     ensures usage { result ≡ 2 → takes ckrt_app (map (λ s. s.now) words.entry.now) ≢ true }
     ensures stored { result ≡ 2 → words.entry.now ≢ [] }
-    ensures outcome { RunsOnFiles ⟦<SystemDisk as Disk>⟧ ⟦<StreamOutput<'a, W> as Disk>⟧ W.contents
-        (map (λ s. s.now) words.entry.now) (openings_of sources.old) (openings_of sources.new)
-        (W.contents writer.old) (W.contents writer.new) (R.remaining reader.old)
-        (R.remaining reader.new) (E.said reporter.old) (E.said reporter.new)
-        (E.has_failed reporter.new) result }
+    ensures outcome { RunsOnFiles ⟦<SystemDisk<'a> as Disk>⟧ ⟦<StreamOutput<'a, W> as Disk>⟧
+        W.contents (map (λ s. s.now) words.entry.now) (openings_of sources.old)
+        (openings_of sources.new) (W.contents writer.old) (W.contents writer.new)
+        (R.remaining reader.old) (R.remaining reader.new) (E.said reporter.old)
+        (E.said reporter.new) (E.has_failed reporter.new) result }
 {
-    run_words_with::<File, SystemDisk, SystemSources<'a, F, SystemDisk>, R, W, E, M>(
+    run_words_with::<File, SystemDisk<'a>, SystemSources<'a, F, SystemDisk<'a>>, R, W, E, M>(
         alloc, words, sources, reader, writer, reporter, meter,
     )
 }

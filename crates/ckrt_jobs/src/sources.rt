@@ -4,6 +4,7 @@ ghost use Rattle.ckrt_jobs.specs.Sources.{Gives, GivesNoMore, GivesSame};
 
 use crate::file::FileFault;
 use crate::output::OpenedOutput;
+use crate::reason::OutputReason;
 use ckrt_disk::Disk;
 use std::alloc::Global;
 use std::io::Read;
@@ -112,6 +113,10 @@ pub trait Sources<'a, I: Read, D: Disk>: Closes<D> {
         ensures asked { Self.openings self.new
             ≡ with_input (Self.openings self.old) (opening_of path.now result) }
         ensures same { GivesNoMore (gives self.old) (gives self.new) };
+
+    /// Why the last call of an output that failed did so, where nothing else was asked for meanwhile. Of what was opened no clause can
+    /// say this.
+    fn last_reason(&self) -> OutputReason;
 
     /// A disk that was opened, made so many bytes long with zero bytes behind its own, durably. Its own bytes stay.
     fn lengthen(&mut self, disk: D, size: usize) -> Result<D, Unlengthened<D>>
