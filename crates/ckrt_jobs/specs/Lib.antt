@@ -1,5 +1,6 @@
 pub mod Addresses
 pub mod Lengths
+pub mod CoreFiles
 pub mod Driving
 pub mod Feeding
 pub mod Ends

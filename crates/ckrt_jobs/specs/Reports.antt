@@ -26,7 +26,7 @@ use Rattle.ckrt_inspect.specs.declared.fault.InspectFault.{InspectFault}
 use Rattle.ckrt_inspect.specs.declared.fault.InspectFault.TheVariants as look
 use Rattle.ckrt_words.specs.declared.job.WordsFault.{WordsFault}
 use Rattle.ckrt_words.specs.declared.job.WordsFault.TheVariants as words
-use Rattle.ckrt_words.specs.Jobs.{Request, format as asks_format, run as asks_run, inspect as asks_inspect, drive as asks_drive, stored}
+use Rattle.ckrt_words.specs.Jobs.{Request, format as asks_format, run as asks_run, inspect as asks_inspect, drive as asks_drive, core as asks_core, stored}
 
 -- what the system's error says of a file (POSIX.1-2017, open, read, write: ENOENT, EISDIR, EACCES and EPERM, ENOSPC, EROFS, ENOMEM; EWOULDBLOCK of
 -- a lock that is held)
@@ -52,6 +52,7 @@ file_text file.Disk = codes "the disk "
 file_text file.Input = codes "the input "
 file_text file.Output = codes "the output "
 file_text file.Making = codes "the disk in the making "
+file_text file.Core = codes "the core "
 
 -- what stands behind the path that the words give: a disk in the making lies beside its path
 abbrev pub file_ending : JobFile → List ℕ
@@ -63,7 +64,7 @@ file_fault_text fault.NotFound = codes "there is no such file"
 file_fault_text fault.NoFolder = codes "its folder is missing"
 file_fault_text fault.IsImage = codes "the image has this path too"
 file_fault_text fault.IsElf = codes "it is an ELF file: guest/image, or objcopy -O binary, makes an image of it"
-file_fault_text fault.IsDisk = codes "the disk has this path too; give the output another"
+file_fault_text fault.IsDisk = codes "the disk has this path too; give another"
 file_fault_text fault.IsADirectory = codes "it is a directory"
 file_fault_text fault.NotAFile = codes "it isn't a plain file, and can't be written by offset; without --output the bytes are printed"
 file_fault_text fault.NotAnInput = codes "it isn't a plain file, and can't be read by offset; put its bytes into a file, and give that"
@@ -73,6 +74,9 @@ file_fault_text fault.StorageFull = codes "no space is left for it"
 file_fault_text fault.ReadOnly = codes "its file system is read-only"
 file_fault_text fault.NotInMaking = codes "it is no disk in the making, and is unchanged; move it away, then give the command again"
 file_fault_text fault.NotAStatus = codes "it is no status of a drive, and is unchanged; move it away, or give another path"
+file_fault_text fault.NotACore = codes "it is no core, and is unchanged; move it away, or give another path"
+file_fault_text fault.NotInWriting = codes "what has this path with .making behind it is no core, and is unchanged; move it away, then give the command again"
+file_fault_text fault.Unwritten = codes "a write or sync of it failed; look after its device, then give the command again"
 file_fault_text fault.IsThere = codes "something has the disk's path meanwhile; look at it, then give the command again"
 file_fault_text fault.OutOfMemory = memory_advice
 file_fault_text fault.StreamClosed = codes "a standard stream is closed"
@@ -225,6 +229,8 @@ path_of file.Output (asks_drive j) = output_text j.output
 path_of file.Making (asks_drive j) = j.disk
 path_of file.Image (asks_drive j) = path_text j.image
 path_of file.Input (asks_drive j) = path_text j.input
+path_of file.Disk (asks_core c) = c.disk
+path_of file.Core (asks_core c) = c.file
 path_of _ _ = []
 
 -- the file that is spoken of, with its path

@@ -16,7 +16,7 @@ use ckrt_recovery::{Config, FormatFault, RecoverFault};
 pub enum JobFault {
     /// This file can't be opened, read, locked or filled.
     File(JobFile, FileFault),
-    /// There was no memory for the image.
+    /// There was no memory for the image, or for the core.
     OutOfMemory,
     /// The disk wasn't formatted.
     Format(FormatFault),
@@ -24,7 +24,7 @@ pub enum JobFault {
     Recover(RecoverFault),
     /// The service ended early.
     Serve(ServeFault),
-    /// The disk wasn't shown.
+    /// The disk wasn't shown, or its program wasn't found for a core.
     Inspect(InspectFault),
     /// The numbers of a drive are out of their ranges.
     Range,

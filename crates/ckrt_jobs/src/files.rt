@@ -59,7 +59,7 @@ fn open_locked<R: Files<File = File>>(rt: &R, path: &str, is_new: bool) -> Resul
 }
 
 /// Opens a file to read it, and locks it with other readers: a file that a program may write is refused at once.
-fn open_shared<R: Files<File = File>>(rt: &R, path: &str) -> Result<File, FileFault>
+pub(crate) fn open_shared<R: Files<File = File>>(rt: &R, path: &str) -> Result<File, FileFault>
     ensures { IfOk result IsBesideStreams }
 {
     let file = open_read(rt, path)?;
@@ -80,7 +80,7 @@ fn folder_of(path: &str) -> &str
 }
 
 /// Makes the names of a path's folder durable.
-fn sync_folder<R: Files<File = File>>(rt: &R, path: &str) -> Result<(), FileFault> {
+pub(crate) fn sync_folder<R: Files<File = File>>(rt: &R, path: &str) -> Result<(), FileFault> {
     let folder = open_read(rt, folder_of(path))?;
     folder.sync_all()?;
     Ok(())
@@ -109,7 +109,7 @@ pub(crate) fn remove<R: Files>(rt: &R, path: &str) {
 }
 
 /// The file, where this went well; else what was made is removed.
-fn keep<R: Files>(
+pub(crate) fn keep<R: Files>(
     rt: &R,
     path: &str,
     claimed: Claimed,
@@ -131,7 +131,7 @@ fn keep<R: Files>(
 
 /// The file of a path, which is made where there is none. Its name is durable then, also where the file was there: who made
 /// it may have been killed before that.
-fn open_or_make<R: Files<File = File>>(rt: &R, path: &str) -> Result<Claimed, FileFault>
+pub(crate) fn open_or_make<R: Files<File = File>>(rt: &R, path: &str) -> Result<Claimed, FileFault>
     ensures { IfOk result (λ it. IsBesideStreams it.file) }
 {
     let claimed = match open_locked(rt, path, false) {
@@ -158,7 +158,7 @@ pub(crate) fn disk_of<'a, H: Holds>(file: File) -> Result<RealDisk<'a, H>, FileF
 }
 
 /// Fills a file that is shorter than so many bytes up to them. What is no regular file isn't filled.
-fn fill_file(file: &File, size: usize) -> Result<(), FileFault> {
+pub(crate) fn fill_file(file: &File, size: usize) -> Result<(), FileFault> {
     let told = file.metadata()?;
     let length = told.len() as usize;
     if !told.is_file() || length >= size {
@@ -184,7 +184,7 @@ pub(crate) fn open_filled_file<R: Files<File = File>>(
     keep(rt, path, claimed, filled)
 }
 
-/// The path of the disk in the making for a path: beside that, so that it can get its name.
+/// The path of the disk or core in the making for a path: beside that, so that it can get its name.
 pub(crate) fn beside(alloc: Global, path: &str) -> Result<String, FileFault> {
     match format!(in alloc; "{}{}", path, MAKING) {
         Ok(name) => Ok(name),
@@ -346,13 +346,4 @@ pub(crate) fn longer_disk<'a, H: Holds>(
         ToldFile::untold(SystemFile::new(longer)),
         told.len() as usize,
     ))
-}
-
-/// The disk of a path, to be looked at.
-pub(crate) fn look_at_system_disk<'a, R: Files<File = File>, H: Holds>(
-    rt: &R,
-    path: &str,
-) -> Result<RealDisk<'a, H>, FileFault> {
-    let file = open_shared(rt, path)?;
-    disk_of(file)
 }

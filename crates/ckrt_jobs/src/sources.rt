@@ -75,7 +75,9 @@ pub trait Sources<'a, I: Read, D: Disk>: Closes<D> {
     fn look_at_disk(&mut self, path: &'a str) -> Result<D, FileFault>
         ensures disk { IfOk result (opens self.old path.now) }
         ensures asked { Self.openings self.new
-            ≡ with_disk (Self.openings self.old) (opening_of path.now result) };
+            ≡ with_disk (Self.openings self.old) (opening_of path.now result) }
+        ensures same { GivesSame (image_bytes self.old) (image_bytes self.new) (fills self.old)
+            (fills self.new) (gives self.old) (gives self.new) };
 
     /// The disk of a path, which is made where it is missing. What is shorter than `size` bytes is filled with zero bytes up
     /// to them first; nothing else is changed.
@@ -99,6 +101,18 @@ pub trait Sources<'a, I: Read, D: Disk>: Closes<D> {
             ≡ with_named (Self.openings self.old) (opening_of path.now result) disk.now }
         ensures same { GivesSame (image_bytes self.old) (image_bytes self.new) (fills self.old)
             (fills self.new) (gives self.old) (gives self.new) };
+
+    /// A core in the making, for a path that nothing has, or a core, or an empty file: a file beside it, made anew with so many
+    /// zero bytes. What else has the path is refused, the disk too, and so is what lies there and is no core in the making.
+    fn open_core(&mut self, alloc: Global, path: &'a str, size: usize) -> Result<D, FileFault>
+        ensures core { IfOk result (fills self.old path.now size) }
+        ensures asked { Self.openings self.new
+            ≡ with_making (Self.openings self.old) (opening_of path.now result) };
+
+    /// Gives a core in the making the path that it was made for, in place of what may have that. Its name is durable then.
+    fn name_core(&mut self, path: &'a str, core: &D) -> Result<(), FileFault>
+        ensures named { Self.openings self.new
+            ≡ with_named (Self.openings self.old) (opening_of path.now result) core.now };
 
     /// The output of a path, which is made where it is missing, and never shortened: what it holds stays, and bytes behind
     /// its end are zeros. It comes with the length of its file.

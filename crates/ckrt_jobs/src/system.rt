@@ -4,10 +4,11 @@ ghost use Rattle.ckrt_jobs.specs.Files.{openings_of};
 ghost use Rattle.ckrt_jobs.specs.Openings.{unopened};
 ghost use Rattle.ckrt_jobs.specs.Sources.{anything};
 
+use crate::core_paths::{open_core_file, replace_core};
 use crate::file::{FileFault, FileOpening};
 use crate::files::{
-    beside, disk_of, give_name, longer_disk, look_at_system_disk, open_disk_file, open_filled_file,
-    open_making_file, open_read, open_system_input, open_system_output, remove,
+    beside, disk_of, give_name, longer_disk, open_disk_file, open_filled_file, open_making_file,
+    open_read, open_shared, open_system_input, open_system_output, remove,
 };
 use crate::output::OpenedOutput;
 use crate::reason::OutputReason;
@@ -42,7 +43,7 @@ impl FileId {
 enum MadeFile<'a> {
     /// That of a path.
     Itself(&'a str),
-    /// A disk in the making, by its own name.
+    /// A disk or a core in the making, by its own name.
     Beside(String),
 }
 
@@ -82,7 +83,7 @@ pub struct SystemSources<'a, R, D> {
     disk_id: Option<FileId>,
     /// And that file once more, by which it can be made longer.
     disk_file: Option<File>,
-    /// The file that was made for a disk that isn't formatted yet.
+    /// The file that was made for a disk that isn't formatted yet, or for a core that isn't written.
     made: Option<MadeFile<'a>>,
 }
 
@@ -145,6 +146,15 @@ impl<'a, R: Files<File = File>, D> SystemSources<'a, R, D> {
         Ok(file)
     }
 
+    /// The file of a disk that is looked at, which is remembered.
+    fn look_at_file(&mut self, path: &str) -> Result<File, FileFault>
+        ensures { openings_of self.new ≡ openings_of self.old }
+    {
+        let file = open_shared(self.rt, path)?;
+        self.remember(&file);
+        Ok(file)
+    }
+
     /// The file of a disk that is made where it is missing, and filled up to so many bytes.
     fn open_filled_file(&mut self, path: &'a str, size: usize) -> Result<File, FileFault>
         ensures { openings_of self.new ≡ openings_of self.old }
@@ -178,6 +188,33 @@ impl<'a, R: Files<File = File>, D> SystemSources<'a, R, D> {
     {
         let named = match &self.made {
             Some(made) => give_name(self.rt, made.path(), path),
+            None => Err(FileFault::Other),
+        };
+        if named.is_ok() {
+            self.made = None;
+        }
+        named
+    }
+
+    /// The file of a core in the making. The disk is never taken for a core.
+    fn open_core_file(&mut self, alloc: Global, path: &str, size: usize) -> Result<File, FileFault>
+        ensures { openings_of self.new ≡ openings_of self.old }
+    {
+        if self.is_disk(path) {
+            return Err(FileFault::IsDisk);
+        }
+        let name = beside(alloc, path)?;
+        let file = open_core_file(self.rt, path, &name, size)?;
+        self.made = Some(MadeFile::Beside(name));
+        Ok(file)
+    }
+
+    /// Gives the core in the making a path.
+    fn give_core_name(&mut self, path: &str) -> Result<(), FileFault>
+        ensures { openings_of self.new ≡ openings_of self.old }
+    {
+        let named = match &self.made {
+            Some(made) => replace_core(self.rt, made.path(), path),
             None => Err(FileFault::Other),
         };
         if named.is_ok() {
@@ -258,7 +295,10 @@ impl<'a, R: Files<File = File>, H: Holds> Sources<'a, File, RealDisk<'a, H>>
     }
 
     fn look_at_disk(&mut self, path: &'a str) -> Result<RealDisk<'a, H>, FileFault> {
-        let opened = look_at_system_disk(self.rt, path);
+        let opened = match self.look_at_file(path) {
+            Ok(file) => disk_of(file),
+            Err(fault) => Err(fault),
+        };
         self.disk = self.disk.with(&FileOpening::of(path, &opened));
         opened
     }
@@ -290,6 +330,27 @@ impl<'a, R: Files<File = File>, H: Holds> Sources<'a, File, RealDisk<'a, H>>
         let named = self.give_name(path);
         self.naming = self.naming.with(&FileOpening::of(path, &named));
         self.named = self.named.with(disk);
+        named
+    }
+
+    fn open_core(
+        &mut self,
+        alloc: Global,
+        path: &'a str,
+        size: usize,
+    ) -> Result<RealDisk<'a, H>, FileFault> {
+        let opened = match self.open_core_file(alloc, path, size) {
+            Ok(file) => disk_of(file),
+            Err(fault) => Err(fault),
+        };
+        self.making = self.making.with(&FileOpening::of(path, &opened));
+        opened
+    }
+
+    fn name_core(&mut self, path: &'a str, core: &RealDisk<'a, H>) -> Result<(), FileFault> {
+        let named = self.give_core_name(path);
+        self.naming = self.naming.with(&FileOpening::of(path, &named));
+        self.named = self.named.with(core);
         named
     }
 

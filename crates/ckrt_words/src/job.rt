@@ -15,6 +15,8 @@ pub enum Job<'a> {
     Inspect(InspectJob<'a>),
     /// Drive a disk to its end: `drive DISK`.
     Drive(DriveJob<'a>),
+    /// Write what a disk holds as a core for a debugger: `core DISK FILE`.
+    Core(CoreJob<'a>),
 }
 
 /// What `format` makes. The numbers are as they were given, and may be out of a disk's ranges.
@@ -41,6 +43,17 @@ pub struct InspectJob<'a> {
     pub at: Option<u64>,
     /// Whether each thread's next instructions are shown too.
     pub code: bool,
+}
+
+/// What `core` writes, and where.
+#[derive(Clone, Copy, Debug, PartialEq, Eq)]
+pub struct CoreJob<'a> {
+    /// The path of the disk.
+    pub disk: &'a str,
+    /// The path of the core.
+    pub file: &'a str,
+    /// After how many events the program is written; after the last one where this isn't given.
+    pub at: Option<u64>,
 }
 
 /// The sizes that a disk is asked to have. The numbers are as they were given, and may be out of a disk's ranges.
