@@ -6,3 +6,4 @@ pub mod AtLemmas
 pub mod OrderLemmas
 pub mod SearchLemmas
 pub mod WatchLemmas
+pub mod SnapshotLemmas

@@ -61,6 +61,19 @@ not_before p q none = by_events p q (cases_order p.events q.events) none
 pub same_position : (p q : Position) → p.events ≡ q.events → p.steps ≡ q.steps → p ≡ q
 same_position p q events steps = λ i. record { events = events i; steps = steps i }
 
+reach_by : (p q : Position) → p.events ≡ q.events → (p.steps ≡ q.steps) ⊎ ((p.steps < q.steps) ⊎ (q.steps < p.steps)) → IsUpTo p q ⊎ IsBefore q p
+reach_by p q same (inl a) = inl (inr (same, omega (arith, a)))
+reach_by p q same (inr (inl a)) = inl (inr (same, omega (arith, a)))
+reach_by p q same (inr (inr a)) = inr (inr (sym same, a))
+
+reach : (p q : Position) → (p.events ≡ q.events) ⊎ ((p.events < q.events) ⊎ (q.events < p.events)) → IsUpTo p q ⊎ IsBefore q p
+reach p q (inl same) = reach_by p q same (cases_order p.steps q.steps)
+reach p q (inr (inl a)) = inl (inl a)
+reach p q (inr (inr a)) = inr (inl a)
+
+pub up_or_behind : (p q : Position) → IsUpTo p q ⊎ IsBefore q p
+up_or_behind p q = reach p q (cases_order p.events q.events)
+
 -- there, or before it
 pub before_or_there : (p q : Position) → IsUpTo p q → IsBefore p q ⊎ (p ≡ q)
 before_or_there p q (inl a) = inl (inl a)

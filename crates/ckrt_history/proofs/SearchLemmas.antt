@@ -1,5 +1,5 @@
 -- A walk from one position to another, with a look at each position on the way.
-use Rattle.std.proofs.Common.{◌≡◌, ◌⊎◌, ℕ, ◌<◌, List, length, Option, Some, None, refl, sym, ap, ◌∙◌, subst, inl, inr, arith}
+use Rattle.std.proofs.Common.{◌≡◌, ◌⊎◌, ◌+◌, min, ℕ, ◌<◌, List, length, Option, Some, None, refl, sym, ap, ◌∙◌, subst, inl, inr, arith}
 use Rattle.ckrt_events.specs.declared.event.Event.{Event}
 use Rattle.ckrt_machine.specs.Steps.{State}
 use Rattle.ckrt_machine.specs.Events.{AllAccepted}
@@ -9,7 +9,7 @@ use Rattle.ckrt_history.specs.declared.stop.Watch.{Watch}
 use Rattle.ckrt_history.specs.Positions.{History, IsBefore, IsGreatest, IsLastOnWay, IsLeast, IsPosition, IsUpTo, NoneBefore, NoneBehind, next_position, previous_position}
 use Rattle.ckrt_history.specs.Stops.{HasChanged, IsStop, watched_at}
 use Rattle.ckrt_history.proofs.AtLemmas.{inside}
-use Rattle.ckrt_history.proofs.OrderLemmas.{fewer_left, next_of_previous, previous_first, previous_inside, steps_left, before_is_up_to, before_or_there, next_is_behind, next_up_to, none_between, not_both, previous_of_next, there, up_to_before, up_to_itself, up_to_up_to}
+use Rattle.ckrt_history.proofs.OrderLemmas.{up_or_behind, fewer_left, next_of_previous, previous_first, previous_inside, steps_left, before_is_up_to, before_or_there, next_is_behind, next_up_to, none_between, not_both, previous_of_next, there, up_to_before, up_to_itself, up_to_up_to}
 
 -- where it stands, with the bytes that it has seen there
 pub record IsOnWay (stops : Stops) (h : History) (end : Position) (z : History) (seen : List ℕ) : Type 0 where
@@ -186,46 +186,68 @@ pub none_from : (Holds : Position → Type 0) (p end here : Position) (h : Histo
 none_from Holds p end here h None never last = last
 none_from Holds p end here h (Some q) never last = absurd (never q refl)
 
-module _ (stops : Stops) (h z : History) (first here : Position) (here_is : here ≡ h.position) (gone : z ≡ record h { position = first }) where
-  of_last : (r : Option Position) → IsLastOnWay (IsStop stops z) z.position here here z r → IsLastOnWay (IsStop stops h) first h.position h.position (record h { position = first }) r
-  of_last r last =
-      subst (λ q. IsLastOnWay (IsStop stops h) first q q (record h { position = first }) r) here_is
-      (subst (λ (x : History). IsLastOnWay (IsStop stops x) x.position here here x r) gone last)
+-- none behind p and before `here` has a reason to stop
+abbrev pub NonePast : Stops → History → (p here : Position) → Type 0
+NonePast stops h p here = (r : Position) → IsPosition r h.events h.start → IsBefore p r → IsBefore r here → IsStop stops h r → ⊥
 
-  greatest_of : (q : Position) → IsLastOnWay (IsStop stops h) first h.position h.position (record h { position = first }) (Some q) → IsGreatest (IsStop stops h) first h.position q h
-  greatest_of q last = record {
+pub none_yet : (stops : Stops) (h : History) (here : Position) → NonePast stops h here here
+none_yet stops h here = λ r is less before holds. not_both here r less (before_is_up_to r here before)
+
+-- from a position to the end of what isn't looked at yet
+module _ (stops : Stops) (h z : History) (from end here : Position) (gone : z ≡ record h { position = from }) (past : NonePast stops h end here) where
+  of_last : (r : Option Position) → IsLastOnWay (IsStop stops z) z.position end here z r → IsLastOnWay (IsStop stops h) from end here (record h { position = from }) r
+  of_last r last = subst (λ (x : History). IsLastOnWay (IsStop stops x) x.position end here x r) gone last
+
+  none_up_to : (q r : Position) → (IsUpTo r end → ⊥) → IsPosition r h.events h.start → IsBefore r here → IsStop stops h r → IsUpTo r end ⊎ IsBefore end r → ⊥
+  none_up_to q r none is before holds (inl up) = none up
+  none_up_to q r none is before holds (inr behind) = past r is behind before holds
+
+  greatest_of : (first q : Position) → here ≡ h.position → IsUpTo first from → IsLastOnWay (IsStop stops h) from end here (record h { position = from }) (Some q) → IsGreatest (IsStop stops h) first h.position q h
+  greatest_of first q here_is up last = record {
     is_one = last.is_one;
-    before = last.before;
-    within = before_is_up_to first q last.behind;
+    before = subst (λ p. IsBefore q p) here_is last.before;
+    within = before_is_up_to first q (up_to_before first from q up last.behind);
     holds = last.holds;
-    none_between = λ r is less before. last.none_between r is less (before_is_up_to r h.position before) before;
+    none_between = λ r is less more holds.
+        let before = subst (λ p. IsBefore r p) (sym here_is) more in
+        none_up_to q r (λ reach. last.none_between r is less reach before holds) is before holds (up_or_behind r end);
   }
 
-  pub greatest : (q : Position) → IsLastOnWay (IsStop stops z) z.position here here z (Some q) → IsGreatest (IsStop stops h) first h.position q h
-  greatest q last = greatest_of q (of_last (Some q) last)
+  pub greatest : (first q : Position) → here ≡ h.position → IsUpTo first from → IsLastOnWay (IsStop stops z) z.position end here z (Some q) → IsGreatest (IsStop stops h) first h.position q h
+  greatest first q here_is up last = greatest_of first q here_is up (of_last (Some q) last)
 
-  none_behind : IsLastOnWay (IsStop stops z) z.position here here z None → (r : Position) → IsPosition r h.events h.start → IsBefore first r → IsBefore r h.position → IsStop stops h r → ⊥
-  none_behind last = λ r is less before holds. of_last None last r is less (before_is_up_to r h.position before) before holds
+  pub none_further : IsLastOnWay (IsStop stops z) z.position end here z None → NonePast stops h from here
+  none_further last = λ r is less before holds. none_up_to r r (λ reach. of_last None last r is less reach before holds) is before holds (up_or_behind r end)
 
-  pub first_is_greatest : IsLastOnWay (IsStop stops z) z.position here here z None → IsPosition first h.events h.start → IsBefore first here → IsStop stops h first → IsGreatest (IsStop stops h) first h.position first h
-  first_is_greatest last is before holds = record {
+-- where nothing behind the first has one
+module _ (stops : Stops) (h : History) (first here : Position) (here_is : here ≡ h.position) (none : NonePast stops h first here) where
+  pub first_is_greatest : IsPosition first h.events h.start → IsBefore first here → IsStop stops h first → IsGreatest (IsStop stops h) first h.position first h
+  first_is_greatest is before holds = record {
     is_one = is;
     before = subst (λ q. IsBefore first q) here_is before;
     within = up_to_itself first;
     holds = holds;
-    none_between = λ r one less more hit. none_behind last r one less more hit;
+    none_between = λ r one less more hit. none r one less (subst (λ p. IsBefore r p) (sym here_is) more) hit;
   }
 
-  none_or_first : IsLastOnWay (IsStop stops z) z.position here here z None → (IsStop stops h first → ⊥) → (r : Position) → IsPosition r h.events h.start → IsBefore r h.position → IsStop stops h r → IsBefore first r ⊎ (first ≡ r) → ⊥
-  none_or_first last never r is before holds (inl less) = none_behind last r is less before holds
-  none_or_first last never r is before holds (inr same) = never (subst (λ q. IsStop stops h q) (sym same) holds)
+  none_or_first : (IsStop stops h first → ⊥) → (r : Position) → IsPosition r h.events h.start → IsBefore r h.position → IsStop stops h r → IsBefore first r ⊎ (first ≡ r) → ⊥
+  none_or_first never r is before holds (inl less) = none r is less (subst (λ p. IsBefore r p) (sym here_is) before) holds
+  none_or_first never r is before holds (inr same) = never (subst (λ q. IsStop stops h q) (sym same) holds)
 
-  pub none_at_all : IsLastOnWay (IsStop stops z) z.position here here z None → (IsStop stops h first → ⊥) → NoneBefore (IsStop stops h) first h.position h
-  none_at_all last never = λ r is up before holds. none_or_first last never r is before holds (before_or_there first r up)
+  pub none_at_all : (IsStop stops h first → ⊥) → NoneBefore (IsStop stops h) first h.position h
+  none_at_all never = λ r is up before holds. none_or_first never r is before holds (before_or_there first r up)
 
   -- where nothing is between
   pub none_before : first ≡ here → NoneBefore (IsStop stops h) first h.position h
   none_before same = λ r is up before holds. not_both r h.position before (subst (λ q. IsUpTo q r) (same ∙ here_is) up)
+
+-- a number that falls from position to kept position
+abbrev pub kept_left : Position → ℕ
+kept_left p = p.events + min 1 p.steps
+
+pub fewer_kept : (p q : Position) → p.steps ≡ 0 → IsBefore p q → kept_left p < kept_left q
+fewer_kept p q none (inl less) = omega (arith, none, less)
+fewer_kept p q none (inr a) = (let same = a.0 in let less = a.1 in omega (arith, none, same, less))
 
 -- THE END
 

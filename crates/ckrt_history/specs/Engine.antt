@@ -1,12 +1,13 @@
 -- What holds of a machine that goes through events.
-use Rattle.std.specs.Prelude.{◌≡◌, ◌<◌, ℕ, List, [], ◌∷◌, length}
+use Rattle.std.specs.Prelude.{◌≡◌, ◌<◌, ◌≤◌, ℕ, List, [], ◌∷◌, length}
 use Rattle.ckrt_events.specs.declared.event.Event.{Event}
 use Rattle.ckrt_state.specs.WellFormed.{IsWellFormed}
 use Rattle.ckrt_machine.specs.Steps.{State}
 use Rattle.ckrt_machine.specs.Events.{AllAccepted, IsAccepted, Machine, step}
 use Rattle.ckrt_history.specs.declared.position.Position.{Position}
 use Rattle.ckrt_history.specs.declared.kept.Kept.{Kept}
-use Rattle.ckrt_history.specs.Positions.{History, IsPosition, into_run, run_in, state_at, steps_of}
+use Rattle.ckrt_history.specs.declared.kept.Snapshot.{Snapshot}
+use Rattle.ckrt_history.specs.Positions.{History, IsPosition, into_run, run_in, state_at, state_before, steps_of}
 
 -- in how many steps each of the events is done
 abbrev pub steps_through : List Event → State → List ℕ
@@ -38,10 +39,29 @@ pub record IsAlike (r s : State) : Type 0 where
   pub size : length r.bytes ≡ length s.bytes
   pub harts : r.tables.threads.hart_count ≡ s.tables.threads.hart_count
 
--- a history's parts between two calls: its machine, the steps of each event, and room for a state
-pub record IsWhole (h : History) (m : Machine) (steps : List ℕ) (room : State) : Type 0 where
+-- a machine is before an event, or behind the last
+pub record IsBeforeEvent (k : ℕ) (m : Machine) (es : List Event) (s : State) : Type 0 where
+  pub events : k ≤ length es
+  pub state : m.state ≡ state_before k es s
+  pub size : length m.state.bytes ≡ length s.bytes
+
+-- what is kept is the state before an event
+pub record IsSnapshot (k : Snapshot) (es : List Event) (s : State) : Type 0 where
+  pub events : k.events ≤ length es
+  pub state : kept_state k.kept ≡ state_before k.events es s
+  pub well_formed : IsWellFormed k.kept.tables
+  pub alike : IsAlike (kept_state k.kept) s
+
+abbrev pub AreSnapshots : List Snapshot → List Event → State → Type 0
+AreSnapshots [] es s = Unit {0}
+AreSnapshots (k ∷ ks) es s = IsSnapshot k es s × AreSnapshots ks es s
+
+-- a history's parts between two calls: its machine, the steps of each event, what is kept, and room for a state
+pub record IsWhole (h : History) (m : Machine) (steps : List ℕ) (kept : List Snapshot) (room : State)
+    : Type 0 where
   pub well_formed : IsWellFormed h.start.tables
   pub at : IsAt m h.position h.events h.start
   pub size : length m.state.bytes ≡ length h.start.bytes
   pub steps_are : steps ≡ steps_through h.events h.start
+  pub kept_are : AreSnapshots kept h.events h.start
   pub spare : IsAlike room h.start

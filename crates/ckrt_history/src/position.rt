@@ -1,6 +1,6 @@
 //! Where somebody stands in a history.
 ghost use Rattle.std.specs.Prelude.{◌≡◌, ◌↔◌, IsTrue};
-ghost use Rattle.ckrt_history.specs.Positions.{IsBefore, at_event};
+ghost use Rattle.ckrt_history.specs.Positions.{IsBefore, IsUpTo, at_event};
 
 /// So many events are done, and so many steps of the next one.
 #[derive(Clone, Copy, Debug, Drop, PartialEq, Eq)]
@@ -24,6 +24,16 @@ impl Position {
     {
         if self.events == other.events {
             return self.steps < other.steps;
+        }
+        self.events < other.events
+    }
+
+    /// Whether the other is further on, or the same.
+    pub fn is_up_to(self, other: Position) -> bool
+        ensures { IsTrue result ↔ IsUpTo self other }
+    {
+        if self.events == other.events {
+            return self.steps <= other.steps;
         }
         self.events < other.events
     }

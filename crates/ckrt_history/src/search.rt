@@ -113,13 +113,22 @@ impl History {
             × NoneBefore (IsStop stops.now self.old) first self.old.position self.old }
     {
         let here = self.position();
-        self.go_to(first);
-        if let Some(position) = self.last_on_way(stops, here, here) {
-            self.go_to(position);
-            return true;
-        }
         if !first.is_before(here) {
             return false;
+        }
+        let mut end = here;
+        'kept: while let Some(from) = self.kept_between(first, end) {
+            self.go_to(from);
+            if let Some(position) = self.last_on_way(stops, end, here) {
+                self.go_to(position);
+                return true;
+            }
+            end = from;
+        }
+        self.go_to(first);
+        if let Some(position) = self.last_on_way(stops, end, here) {
+            self.go_to(position);
+            return true;
         }
         self.look_at(stops, first)
     }

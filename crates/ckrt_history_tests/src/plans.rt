@@ -49,9 +49,15 @@ pub fn plan<R: Abort + AllocGlobal>(rt: &R, words: &[u32], steps: u32) -> Vec<Ev
     events
 }
 
-/// The history of a guest by its schedule.
-pub fn history_of<R: Abort + AllocGlobal>(rt: &R, words: &[u32], steps: u32) -> History {
-    match History::new(rt.alloc(), machine_of(rt, words), plan(rt, words, steps)) {
+/// The history of a guest by its schedule, with so many states kept.
+pub fn history_of<R: Abort + AllocGlobal>(rt: &R, words: &[u32], steps: u32, kept: u32) -> History {
+    assert!(rt; kept >= 1);
+    match History::new(
+        rt.alloc(),
+        machine_of(rt, words),
+        plan(rt, words, steps),
+        kept,
+    ) {
         Ok(history) => history,
         Err(error) => panic!(rt; "{error}"),
     }

@@ -38,8 +38,8 @@ fn look<R: Abort>(rt: &R, history: &mut History, position: Position, machine: &M
 }
 
 /// Each 61st position of a guest.
-fn compare<R: Abort + AllocGlobal>(rt: &R, words: &[u32], steps: u32) {
-    let mut history = history_of(rt, words, steps);
+fn compare<R: Abort + AllocGlobal>(rt: &R, words: &[u32], steps: u32, kept: u32) {
+    let mut history = history_of(rt, words, steps, kept);
     let mut machine = machine_of(rt, words);
     let mut time = 0u64;
     for (events, event) in plan(rt, words, steps).as_slice().iter().enumerate() {
@@ -67,12 +67,12 @@ fn compare<R: Abort + AllocGlobal>(rt: &R, words: &[u32], steps: u32) {
 
 #[test]
 fn positions_are_those_of_single_steps(rt: HostRuntime) {
-    for steps in [1, 2, 7, 30, 1_000] {
-        compare(&rt, &COUNTERS, steps);
-        compare(&rt, &BOUNDED, steps);
-        compare(&rt, &SLEEPERS, steps);
-        compare(&rt, &ROUNDS, steps);
-        compare(&rt, &PAIR, steps);
-        compare(&rt, &SIX_WORDS, steps);
+    for (steps, kept) in [(1, 1), (2, 9), (7, 40), (30, 2), (1_000, 1_000)] {
+        compare(&rt, &COUNTERS, steps, kept);
+        compare(&rt, &BOUNDED, steps, kept);
+        compare(&rt, &SLEEPERS, steps, kept);
+        compare(&rt, &ROUNDS, steps, kept);
+        compare(&rt, &PAIR, steps, kept);
+        compare(&rt, &SIX_WORDS, steps, kept);
     }
 }

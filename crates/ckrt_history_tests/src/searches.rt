@@ -10,6 +10,7 @@ use std::process::Abort;
 struct Case {
     words: &'static [u32],
     steps: u32,
+    kept: u32,
     breakpoint: Option<Breakpoint>,
     watch: Option<Watch>,
     event_ends: bool,
@@ -86,6 +87,22 @@ fn greatest(all: &[(Position, bool)], first: usize, from: usize) -> Option<Posit
     found
 }
 
+/// The search forward, which has to be one.
+fn forward<R: Abort>(rt: &R, history: &mut History, stops: &Stops, last: Position) -> bool {
+    assert!(rt; stops.width() <= 256);
+    assert!(rt; history.has(last));
+    assert!(rt; history.position().is_up_to(last));
+    history.forward(stops, last)
+}
+
+/// The search backward, which has to be one.
+fn backward<R: Abort>(rt: &R, history: &mut History, stops: &Stops, first: Position) -> bool {
+    assert!(rt; stops.width() <= 256);
+    assert!(rt; history.has(first));
+    assert!(rt; first.is_up_to(history.position()));
+    history.backward(stops, first)
+}
+
 /// Both searches between two places.
 fn search<R: Abort>(
     rt: &R,
@@ -99,14 +116,12 @@ fn search<R: Abort>(
         return;
     };
     go_to(rt, history, *first);
-    assert!(rt; !last.is_before(*first) && history.has(*last));
-    let found = history.forward(stops, *last);
+    let found = forward(rt, history, stops, *last);
     let want = least(all, low, high);
     expect_eq(rt, found, want.is_some());
     expect_eq(rt, history.position(), want.unwrap_or(*last));
     go_to(rt, history, *last);
-    assert!(rt; history.has(*first));
-    let found = history.backward(stops, *first);
+    let found = backward(rt, history, stops, *first);
     let want = greatest(all, low, high);
     expect_eq(rt, found, want.is_some());
     expect_eq(rt, history.position(), want.unwrap_or(*first));
@@ -127,14 +142,13 @@ fn stops_of<R: Abort>(rt: &R, case: &Case) -> Stops {
 
 /// Searches between many pairs of positions of a case.
 fn compare<R: Abort + AllocGlobal>(rt: &R, case: &Case) {
-    let mut history = history_of(rt, case.words, case.steps);
+    let mut history = history_of(rt, case.words, case.steps, case.kept);
     let all = look(rt, &mut history, case);
     let stops = stops_of(rt, case);
-    assert!(rt; stops.width() <= 256);
     let count = all.len() as u64;
     assert!(rt; count > 0);
     let mut seed = 12_345u64;
-    for _ in 0..60 {
+    for _ in 0..70 {
         seed = seed
             .wrapping_mul(6_364_136_223_846_793_005)
             .wrapping_add(1_442_695_040_888_963_407);
@@ -160,9 +174,10 @@ const COUNTER: Watch = Watch {
 
 #[test]
 fn searches_find_what_a_look_at_each_finds(rt: HostRuntime) {
-    let case = |words, steps, breakpoint, watch, event_ends| Case {
+    let case = |words, steps, kept, breakpoint, watch, event_ends| Case {
         words,
         steps,
+        kept,
         breakpoint,
         watch,
         event_ends,
@@ -175,38 +190,22 @@ fn searches_find_what_a_look_at_each_finds(rt: HostRuntime) {
         address: 0x1078,
         thread: Some(2),
     };
-    compare(&rt, &case(&COUNTERS, 13, Some(worker), None, false));
-    compare(&rt, &case(&COUNTERS, 13, Some(of_two), None, false));
-    compare(&rt, &case(&COUNTERS, 5, None, Some(COUNTER), false));
+    let two_pages = Watch {
+        first: 0xfff,
+        last: 0x1003,
+    };
+    let outside = Watch {
+        first: 0xffff_ffff,
+        last: 0xffff_ffff,
+    };
+    compare(&rt, &case(&COUNTERS, 13, 1, Some(worker), None, false));
+    compare(&rt, &case(&COUNTERS, 13, 20, Some(of_two), None, false));
+    compare(&rt, &case(&COUNTERS, 5, 7, None, Some(COUNTER), false));
     compare(
         &rt,
-        &case(&COUNTERS, 50, Some(of_two), Some(COUNTER), false),
+        &case(&COUNTERS, 50, 3, Some(of_two), Some(COUNTER), false),
     );
-    compare(&rt, &case(&BOUNDED, 9, None, None, true));
-    compare(
-        &rt,
-        &case(
-            &PAIR,
-            9,
-            None,
-            Some(Watch {
-                first: 0xfff,
-                last: 0x1003,
-            }),
-            false,
-        ),
-    );
-    compare(
-        &rt,
-        &case(
-            &PAIR,
-            9,
-            None,
-            Some(Watch {
-                first: 0xffff_ffff,
-                last: 0xffff_ffff,
-            }),
-            false,
-        ),
-    );
+    compare(&rt, &case(&BOUNDED, 9, 50, None, None, true));
+    compare(&rt, &case(&PAIR, 9, 1_000, None, Some(two_pages), false));
+    compare(&rt, &case(&PAIR, 9, 5, None, Some(outside), false));
 }
