@@ -82,7 +82,9 @@ fn format_command<'a>(alloc: Global) -> Result<Command<'a>, AllocError>
 {
     let arguments = format_arguments(alloc)?;
     Command::new(alloc, "format")
-        .about("Makes a disk with a guest program that hasn't begun")
+        .about(
+            "Makes a disk with a guest that hasn't begun, as `ckrt format pi.disk pi.bin --pages 256`",
+        )
         .args(arguments)
 }
 
@@ -120,7 +122,9 @@ fn run_command<'a>(alloc: Global) -> Result<Command<'a>, AllocError>
 {
     let disk = needed(alloc, "disk", "DISK", "A disk that `format` made");
     Command::new(alloc, "run")
-        .about("Recovers a disk and answers the lines of the standard input")
+        .about(
+            "Recovers a disk and answers the lines of the standard input, as `echo 'tick 1' | ckrt run pi.disk`",
+        )
         .arg(disk)
 }
 
@@ -131,7 +135,7 @@ fn inspect_command<'a>(alloc: Global) -> Result<Command<'a>, AllocError>
 {
     let arguments = inspect_arguments(alloc)?;
     Command::new(alloc, "inspect")
-        .about("Shows a stopped program, and changes nothing")
+        .about("Shows a stopped guest, and changes nothing, as `ckrt inspect pi.disk --at 50`")
         .args(arguments)
 }
 
@@ -163,7 +167,7 @@ fn drive_command<'a>(alloc: Global) -> Result<Command<'a>, AllocError>
     let arguments = drive_arguments(alloc)?;
     Command::new(alloc, "drive")
         .about(
-            "Recovers a disk and runs its program to its end, with its input from a file, and its output in a file or on the standard output",
+            "Runs a guest to its end; killed, the same command goes on, as `ckrt drive pi.disk --image pi.bin --output pi.txt`",
         )
         .args(arguments)
 }
@@ -234,25 +238,25 @@ fn drive_arguments<'a>(alloc: Global) -> Result<Vec<Arg<'a>>, AllocError>
             alloc,
             "seed",
             "S",
-            "Draw harts and turns by lot, with this seed"
+            "Draw the hart and the steps of each turn at random, by this seed"
         ),
         place(
             alloc,
             "progress",
             "SECONDS",
-            "Tell how far it is at most each so many seconds, 1 or more"
+            "Tell how far it is, at most once in so many seconds, 1 or more"
         ),
         option(
             alloc,
             "status",
             "FILE",
-            "Rewrite FILE at most each 10 seconds with how far the drive is, in the text format of Prometheus"
+            "Rewrite FILE at most every 10 seconds with how far the drive is, in the text format of Prometheus"
         ),
         place(
             alloc,
             "from",
             "OFFSET",
-            "Leave out the bytes below it, on the standard output"
+            "Leave out the output below this offset, on the standard output"
         ),
     ]?;
     Ok(arguments)

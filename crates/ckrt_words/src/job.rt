@@ -75,9 +75,9 @@ pub struct DriveJob<'a> {
     pub rounds: u32,
     /// After how many events it ends; this isn't given where it has no limit.
     pub events: Option<u64>,
-    /// The seed of the lots by which harts and turns are drawn; this isn't given where they go in their fixed order.
+    /// The seed by which the hart and the steps of each turn are drawn at random; this isn't given where they go in their fixed order.
     pub seed: Option<u64>,
-    /// At most each how many seconds a line tells how far it is; this isn't given where no line does.
+    /// How many seconds lie at least between two lines that tell how far it is; this isn't given where no line does.
     pub progress: Option<u64>,
     /// The path of the file that tells how far it is; this isn't given where none does.
     pub status: Option<&'a str>,
