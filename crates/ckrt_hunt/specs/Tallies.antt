@@ -1,0 +1,40 @@
+-- What seeds came to, counted (this project's choice): each outcome once, with how often it came, and the first seed that came to it.
+use Rattle.std.specs.Prelude.{◌≡◌, ◌≢◌, ◌≤◌, ◌<◌, ℕ, ◌+◌, min, Some, List, [], ◌∷◌, ◌++◌, length, take, slice_get, slice_set}
+use Rattle.ckrt_machine.specs.Events.{fresh}
+use Rattle.ckrt_hunt.specs.declared.hunt.Shape.{Shape}
+use Rattle.ckrt_hunt.specs.declared.run.Told.{Told}
+use Rattle.ckrt_hunt.specs.declared.tally.Row.{Row}
+use Rattle.ckrt_hunt.specs.declared.tally.Tally.{Tally}
+use Rattle.ckrt_hunt.specs.declared.tally.TheConstants.{TALLY_ROWS}
+use Rattle.ckrt_hunt.specs.Plans.{plan_of}
+use Rattle.ckrt_hunt.specs.Runs.{ComesTo}
+
+-- one more, as far as 64 bits count
+abbrev pub one_more : ℕ → ℕ
+one_more n = min (n + 1) 18446744073709551615
+
+-- the row of a seed that came to this first
+abbrev pub first_row : (seed : ℕ) → Told → Row
+first_row seed told = record { told = told; count = 1; first = seed }
+
+-- no row has the outcome
+abbrev pub HasNone : Told → List Row → Type 0
+HasNone told rows = (k : ℕ) (r : Row) → slice_get rows k ≡ Some r → r.told ≢ told
+
+-- the place is that of the first row with the outcome, and this is its row
+pub record IsFirst (told : Told) (rows : List Row) (k : ℕ) (r : Row) : Type 0 where
+  pub row : slice_get rows k ≡ Some r
+  pub same : r.told ≡ told
+  pub before : HasNone told (take k rows)
+
+-- one more run was noted, whose seed came to this
+pub record IsNoted (seed : ℕ) (told : Told) (old new : Tally) : Type 0 where
+  -- where its outcome has a row, the row counts it
+  pub again : (k : ℕ) (r : Row) → IsFirst told old.rows.items k r
+      → new.rows.items ≡ slice_set old.rows.items k (record r { count = one_more r.count })
+  -- where it has none, it gets one
+  pub first : HasNone told old.rows.items → length old.rows.items < TALLY_ROWS
+      → new.rows.items ≡ old.rows.items ++ first_row seed told ∷ []
+  -- as long as there is one left
+  pub full : HasNone told old.rows.items → TALLY_ROWS ≤ length old.rows.items
+      → (new.rows.items ≡ old.rows.items) × (new.others ≡ one_more old.others)
