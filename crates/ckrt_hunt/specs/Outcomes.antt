@@ -1,5 +1,5 @@
 -- What a run comes to (this project's choice).
-use Rattle.std.specs.Prelude.{ℕ, zero, suc, ◌+◌, Option, Some, None, List, [], ◌∷◌, ◌++◌}
+use Rattle.std.specs.Prelude.{ℕ, zero, suc, Option, Some, None, List, [], ◌∷◌, ◌++◌}
 use Rattle.std.specs.List.{find}
 use Rattle.ckrt_thread.specs.State as threads
 use Rattle.ckrt_thread.specs.Waits.{is_of}
@@ -37,7 +37,7 @@ waiting_by t (Some w) = record { thread = t; awaited = awaited_by w.reason } ∷
 -- which of the threads 1 to n wait, and for what
 unfoldable pub waiting_among : threads.State → (n : ℕ) → List Waiting
 waiting_among s zero = []
-waiting_among s (suc n) = waiting_among s n ++ waiting_by (n + 1) (find (is_of (n + 1)) s.waits)
+waiting_among s (suc n) = waiting_among s n ++ waiting_by (suc n) (find (is_of (suc n)) s.waits)
 
 -- how the program has ended
 abbrev pub by_status : Status → Outcome

@@ -1,6 +1,6 @@
 -- Which event comes next (this project's choice): a function of the plan of the seed, of what the run has made so far, and of the tables.
 -- A turn is a run, or a tick. Before the run of a thread that is on no hart, it goes onto one, which ends no turn.
-use Rattle.std.specs.Prelude.{ℕ, zero, suc, ◌+◌, ◌-◌, ◌%◌, ◌==◌, ◌||◌, ◌&&◌, nat_le, nat_lt, min, Bool, true, false, is_none, if◌then◌else◌, Option, Some, None}
+use Rattle.std.specs.Prelude.{◌≡◌, ◌≤◌, ◌<◌, ℕ, zero, suc, ◌+◌, ◌-◌, ◌%◌, ◌==◌, ◌||◌, ◌&&◌, nat_le, nat_lt, min, Bool, true, false, is_none, if◌then◌else◌, Option, Some, None}
 use Rattle.std.specs.List.{find}
 use Rattle.ckrt_thread.specs.State as threads
 use Rattle.ckrt_thread.specs.Waits.{is_of}
@@ -53,6 +53,10 @@ rank_of p m t =
 abbrev pub ranked : Plan → Made → ℕ → Ranked
 ranked p m t = record { thread = t; rank = rank_of p m t }
 
+-- a thread's number is 1 to 64
+abbrev pub IsNumbered : Ranked → Type 0
+IsNumbered r = (1 ≤ r.thread) × (r.thread ≤ 64)
+
 -- the better of two; of the same rank the one before
 abbrev pub better : Option Ranked → Ranked → Option Ranked
 better None b = Some b
@@ -66,7 +70,7 @@ considered false b best = best
 unfoldable pub best_among : Plan → Made → threads.State → (n : ℕ) → Option Ranked
 best_among p m s zero = None
 best_among p m s (suc n) =
-    considered (may_run s (n + 1)) (ranked p m (n + 1)) (best_among p m s n)
+    considered (may_run s (suc n)) (ranked p m (suc n)) (best_among p m s n)
 
 -- HOW LONG
 
@@ -157,7 +161,19 @@ runner_of (Run h n) s = hart_of s h
 runner_of (RunLong h n) s = hart_of s h
 runner_of _ s = None
 
--- an event in its range, that may have no more steps than are left; or an end
+-- an event in its range, that is accepted, while events are left and steps enough for it
+pub record IsFit (p : Plan) (m : Made) (s : Tables) (e : Event) : Type 0 where
+  pub in_range : IsInRange e
+  pub accepted : refusal_in 0 e s ≡ None
+  pub events : m.events < p.limit
+  pub steps : m.steps + steps_in e ≤ p.limit
+
+-- a next event is fit
+abbrev pub IsFitNext : Plan → Made → Tables → Next → Type 0
+IsFitNext p m s (Submit e) = IsFit p m s e
+IsFitNext p m s (End ending) = Unit {0}
+
+-- the same of an event before it is offered
 abbrev pub IsWithin : Plan → Made → Next → Type 0
 IsWithin p m (Submit e) = IsInRange e × (m.steps + steps_in e ≤ p.limit)
 IsWithin p m (End ending) = Unit {0}

@@ -4,38 +4,21 @@ ghost use Rattle.ckrt_memory.specs.declared.MemoryError.TheVariants.{ImageTooLon
 ghost use Rattle.ckrt_machine.specs.Events.{fresh};
 ghost use Rattle.ckrt_hunt.specs.Plans.{plan_of};
 ghost use Rattle.ckrt_hunt.specs.Runs.{ComesTo};
-ghost use Rattle.ckrt_hunt.specs.Tallies.{HasCounted};
+ghost use Rattle.ckrt_hunt.specs.Tallies.{IsTallyOf};
 
 use crate::plan::Plan;
 use crate::run::{Told, run};
+use crate::shape::Shape;
 use crate::tally::Tally;
 use ckrt_machine::Machine;
 use ckrt_memory::MemoryError;
 use std::alloc::Global;
 
-/// What a program is run with: the pages of its memory, page 0 counted, its harts, and how many steps and events a run has
-/// at most.
-#[derive(Clone, Copy, Debug, PartialEq, Eq)]
-pub struct Shape {
-    pub pages: u32,
-    pub harts: usize,
-    pub limit: u32,
-    ghost some_pages: { 16 ≤ pages },
-    ghost few_pages: { pages ≤ 1024 },
-    ghost some_harts: { 1 ≤ harts },
-    ghost few_harts: { harts ≤ 8 },
-}
-
 /// What a seed comes to, from the beginning of a program. All memory is taken before its first event.
 ///
 /// `ImageTooLong` where the image has more bytes than the pages from page 1 on, and else `OutOfMemory` where the allocator
 /// refuses the machine.
-pub fn hunt_seed(
-    alloc: Global,
-    image: &[u8],
-    shape: Shape,
-    seed: u64,
-) -> Result<Told, MemoryError>
+pub fn hunt_seed(alloc: Global, image: &[u8], shape: Shape, seed: u64) -> Result<Told, MemoryError>
     ensures comes { IfOk result (λ told.
         ComesTo (plan_of shape.limit seed) (fresh shape.pages shape.harts image.now) told) }
     ensures too_long { IsErrOf result ImageTooLong
@@ -53,8 +36,8 @@ pub fn hunt(
     first: u64,
     end: u64,
 ) -> Result<Tally, MemoryError>
-    ensures counted { IfOk result (λ tally.
-        HasCounted (record { shape = shape; image = image.now }) first end tally) }
+    ensures tally { IfOk result (λ tally.
+        IsTallyOf (record { shape = shape; image = image.now }) first (end - first) tally) }
 {
     let mut tally = Tally::new(alloc)?;
     for seed in first..end {

@@ -2,20 +2,25 @@
 //! comes to is counted.
 #![tactic(auto)]
 
+mod drawn;
 mod hunt;
 mod laws;
 mod lots;
 mod made;
 mod outcome;
 mod plan;
+mod row;
 mod run;
+mod shape;
 mod tally;
 mod turn;
 
-pub use hunt::{Shape, hunt, hunt_seed};
+pub use hunt::{hunt, hunt_seed};
 pub use laws::seed_repeats;
 pub use made::{Lowered, Made};
 pub use outcome::{Awaited, Outcome, Waiting};
 pub use plan::Plan;
+pub use row::Row;
 pub use run::{Told, run};
-pub use tally::{Row, TALLY_ROWS, Tally};
+pub use shape::Shape;
+pub use tally::{TALLY_ROWS, Tally};

@@ -1,12 +1,12 @@
 //! What a run comes to.
-ghost use Rattle.std.specs.Prelude.{◌≡◌};
-ghost use Rattle.ckrt_hunt.specs.Outcomes.{awaited_by, by_status, outcome_of, waiting_among};
+ghost use Rattle.std.specs.Prelude.{◌≡◌, ◌≤◌, ◌<◌, ◌+◌, ◌++◌, length};
+ghost use Rattle.ckrt_hunt.specs.Outcomes.{awaited_by, by_status, outcome_of, waiting_among, waiting_by};
 
 use arrayvec::ArrayVec;
 use ckrt_drive::Ending;
 use ckrt_rv32i::Cause;
 use ckrt_state::{Status, Tables};
-use ckrt_thread::{MAX_THREADS, Reason, ThreadId, Threads};
+use ckrt_thread::{MAX_THREADS, Reason, ThreadId, Threads, Wait};
 
 /// What a thread waits for.
 #[derive(Clone, Copy, Debug, Default, Drop, PartialEq, Eq)]
@@ -38,7 +38,7 @@ pub struct Waiting {
 }
 
 /// What a run comes to.
-#[derive(Clone, Debug, Drop, PartialEq, Eq)]
+#[derive(Debug, Drop, PartialEq, Eq)]
 pub enum Outcome {
     /// The program ended with this status.
     Exited(u32),
@@ -68,16 +68,25 @@ fn awaited_by(reason: Reason) -> Awaited
     }
 }
 
+/// The thread goes behind the others, with what it waits for, if it waits.
+fn push_waiting(waiting: &mut ArrayVec<Waiting, 64>, thread: ThreadId, wait: Option<Wait>)
+    requires { length waiting.old.items < 64 }
+    ensures items { waiting.new.items ≡ waiting.old.items ++ waiting_by thread wait }
+    ensures few { length waiting.new.items ≤ length waiting.old.items + 1 }
+{
+    if let Some(wait) = wait {
+        let awaited = awaited_by(wait.reason);
+        waiting.push(Waiting { thread, awaited });
+    }
+}
+
 /// Which threads wait, and for what.
 fn waiting(threads: &Threads) -> ArrayVec<Waiting, 64>
     ensures { result.items ≡ waiting_among threads.now 64 }
 {
     let mut waiting = ArrayVec::new();
     for thread in 1..MAX_THREADS as ThreadId + 1 {
-        if let Some(wait) = threads.wait_of(thread) {
-            let awaited = awaited_by(wait.reason);
-            waiting.push(Waiting { thread, awaited });
-        }
+        push_waiting(&mut waiting, thread, threads.wait_of(thread));
     }
     waiting
 }

@@ -1,9 +1,8 @@
 //! What a seed has drawn before its run begins.
-ghost use Rattle.std.specs.Prelude.{◌≡◌, ◌≤◌, ◌+◌};
-ghost use Rattle.ckrt_hunt.specs.Lots.{scale_of};
-ghost use Rattle.ckrt_hunt.specs.Plans.{by_lot, by_priorities, is_early, plan_of, point_of};
+ghost use Rattle.std.specs.Prelude.{◌≡◌, ◌≤◌};
 
-use crate::lots::{CHANGES, CLOCK, POINTS, SCALE, lot_at, scale_of};
+use crate::drawn::{is_early, point_of};
+use crate::lots::{SCALE, lot_at, scale_of};
 
 /// The plan of a seed: what it has drawn before its run begins.
 #[derive(Clone, Copy, Debug, PartialEq, Eq)]
@@ -22,28 +21,9 @@ pub struct Plan {
     ghost near: { horizon ≤ 1000000 },
 }
 
-/// Whether ticks come early for a seed.
-fn is_early(seed: u64) -> bool
-    ensures { result ≡ is_early seed }
-{
-    lot_at(seed, 0, CLOCK) % 2 == 0
-}
-
-/// A change point of a seed, of those among so many steps.
-fn point_of(seed: u64, steps: u32, point: u8) -> u32
-    requires some { 1 ≤ steps }
-    requires few { steps ≤ 1000000 }
-    requires point { point ≤ 2 }
-    ensures { result ≡ point_of seed steps point }
-{
-    if u32::from(point) < lot_at(seed, 0, CHANGES) % 4 {
-        lot_at(seed, 0, POINTS + point) % steps + 1
-    } else {
-        steps
-    }
-}
-
 impl Plan {
+    ghost use Rattle.ckrt_hunt.specs.Plans.{by_lot, by_priorities, plan_of};
+
     /// The plan of a seed, for a run of at most so many steps, and as many events.
     pub fn new(limit: u32, seed: u64) -> Plan
         ensures { result ≡ plan_of limit seed }

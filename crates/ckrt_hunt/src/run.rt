@@ -2,12 +2,10 @@
 ghost use Rattle.std.specs.Prelude.{◌≡◌, ◌≤◌, ◌<◌, ◌+◌, ℕ, List};
 ghost use Rattle.sha2.specs.Hashers.{Holds256};
 ghost use Rattle.sha2.specs.Sha256.{sha256};
-ghost use Rattle.ckrt_events.specs.Bytes.{IsInRange};
-ghost use Rattle.ckrt_events.specs.declared.event.Event.{Event};
 ghost use Rattle.ckrt_machine.specs.Steps.{State};
 ghost use Rattle.ckrt_drive.specs.declared.plan.Next.TheVariants.{Submit};
 ghost use Rattle.ckrt_hunt.specs.Outcomes.{outcome_of};
-ghost use Rattle.ckrt_hunt.specs.Turns.{next, steps_in};
+ghost use Rattle.ckrt_hunt.specs.Turns.{IsFit, next};
 ghost use Rattle.ckrt_hunt.specs.Runs.{ComesTo, HasComeTo};
 
 use crate::made::Made;
@@ -20,7 +18,7 @@ use ckrt_machine::Machine;
 use sha2::{Digest, Sha256};
 
 /// What is told of a run.
-#[derive(Clone, Debug, Drop, PartialEq, Eq)]
+#[derive(Debug, Drop, PartialEq, Eq)]
 pub struct Told {
     pub outcome: Outcome,
     /// The SHA-256 digest of its output.
@@ -30,9 +28,8 @@ pub struct Told {
 /// One event on.
 fn go_on(machine: &mut Machine, plan: &Plan, made: &mut Made, hasher: &mut Sha256, event: &Event)
     requires scheduled { next plan.now made.old machine.old.state.tables ≡ Submit event.now }
-    requires in_range { IsInRange event.now }
+    requires fit { IsFit plan.now made.old machine.old.state.tables event.now }
     requires turns { made.old.turns ≤ made.old.events }
-    requires steps { made.old.steps + steps_in event.now ≤ plan.now.limit }
     ensures come { (start : State)
         → HasComeTo plan.now start made.old machine.old.state hasher.old
         → HasComeTo plan.now start made.new machine.new.state hasher.new }
@@ -65,14 +62,10 @@ pub fn run(machine: &mut Machine, plan: &Plan) -> Told
 {
     let mut made = Made::nothing();
     let mut hasher = Sha256::new();
-    for _ in 0..plan.limit {
+    loop {
         match next(machine, plan, &made) {
             Next::Submit(event) => go_on(machine, plan, &mut made, &mut hasher, &event),
             Next::End(ending) => return tell(machine, ending, hasher),
         }
-    }
-    match next(machine, plan, &made) {
-        Next::Submit(_) => unreachable!(),
-        Next::End(ending) => tell(machine, ending, hasher),
     }
 }

@@ -1,20 +1,12 @@
 //! Outcomes, counted.
-ghost use Rattle.std.specs.Prelude.{◌≡◌, [], IfOk};
-ghost use Rattle.ckrt_hunt.specs.Tallies.{IsNoted, HasNoted};
+ghost use Rattle.std.specs.Prelude.{◌≡◌, ◌≤◌, [], vec_capacity, IfOk};
 
+use crate::row::{Row, count_again, place_of};
 use crate::run::Told;
 use std::alloc::{AllocError, Global};
 
 /// How many outcomes a tally tells apart.
 pub const TALLY_ROWS: usize = 64;
-
-/// An outcome: how often it came, and the first seed that came to it.
-#[derive(Debug, Drop, PartialEq, Eq)]
-pub struct Row {
-    pub told: Told,
-    pub count: u64,
-    pub first: u64,
-}
 
 /// What seeds came to: each outcome once, with how often it came, and how many runs had an outcome for which there was no
 /// row left.
@@ -22,15 +14,12 @@ pub struct Row {
 pub struct Tally {
     pub(crate) rows: Vec<Row>,
     pub(crate) others: u64,
-}
-
-/// Where the row of an outcome is.
-fn place_of(rows: &[Row], told: &Told) -> Option<usize>
-{
-    rows.iter().position(|row| row.told == *told)
+    ghost room: { TALLY_ROWS ≤ vec_capacity rows },
 }
 
 impl Tally {
+    ghost use Rattle.ckrt_hunt.specs.Tallies.{IsNoted};
+
     /// No outcome yet, and room for [`TALLY_ROWS`] of them.
     pub fn new(alloc: Global) -> Result<Tally, AllocError>
         ensures rows { IfOk result (λ tally. tally.rows.items ≡ []) }
@@ -61,10 +50,7 @@ impl Tally {
         ensures { IsNoted seed told self.old self.new }
     {
         match place_of(&self.rows, &told) {
-            Some(place) => {
-                let row = &mut self.rows[place];
-                row.count = row.count.saturating_add(1);
-            }
+            Some(place) => count_again(&mut self.rows, place),
             None if self.rows.len() < TALLY_ROWS => {
                 let row = Row {
                     told,

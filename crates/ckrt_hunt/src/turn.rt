@@ -1,9 +1,11 @@
 //! Which event comes next.
 ghost use Rattle.std.specs.Prelude.{◌≡◌, ◌≤◌, ◌<◌, ◌+◌, IfSome, false};
+ghost use Rattle.ckrt_thread.specs.State.{holds};
 ghost use Rattle.ckrt_events.specs.Bytes.{IsInRange};
+ghost use Rattle.ckrt_machine.specs.Steps.{hart_of};
 ghost use Rattle.ckrt_machine.specs.Runs.{is_running};
 ghost use Rattle.ckrt_drive.specs.Plan.{IsInRangeNext};
-ghost use Rattle.ckrt_hunt.specs.Turns.{IsWithin, best_among, better, event_for, has_priorities, hart_from, is_clocks, is_enough, length_of, may_run, nearer, next, next_for, next_point, on_or_onto, or_a_tick, or_enough, rank_of, ranked, runner_of, steps_in, steps_of, tick_by};
+ghost use Rattle.ckrt_hunt.specs.Turns.{IsFitNext, IsNumbered, IsWithin, best_among, better, considered, event_for, has_priorities, hart_from, is_clocks, is_enough, length_of, may_run, nearer, next, next_for, next_point, on_or_onto, or_a_tick, or_enough, rank_of, ranked, runner_of, steps_in, steps_of, tick_by};
 
 use crate::lots::{CLOCK, HART, LENGTH, SCALE, lot_at, shorter_of};
 use crate::made::Made;
@@ -59,25 +61,48 @@ fn rank_of(plan: &Plan, made: &Made, thread: ThreadId) -> u64
 
 /// The better of two; of the same rank the one before.
 fn better(best: Option<Ranked>, other: Ranked) -> Ranked
-    ensures { Some result ≡ better best other }
+    requires best { IfSome best IsNumbered }
+    requires other { IsNumbered other }
+    ensures better { Some result ≡ better best other }
+    ensures number { IsNumbered result }
 {
     match best {
-        Some(best) if best.rank >= other.rank => best,
-        _ => other,
+        None => other,
+        Some(best) if best.rank < other.rank => other,
+        Some(best) => best,
+    }
+}
+
+/// The better one of the best so far and a thread, where that may run.
+fn consider(
+    plan: &Plan,
+    made: &Made,
+    threads: &Threads,
+    thread: ThreadId,
+    best: Option<Ranked>,
+) -> Option<Ranked>
+    requires number { (1 ≤ thread) × (thread ≤ 64) }
+    requires best { IfSome best IsNumbered }
+    ensures best { result
+        ≡ considered (may_run threads.now thread) (ranked plan.now made.now thread) best }
+    ensures number { IfSome result IsNumbered }
+{
+    if may_run(threads, thread) {
+        let rank = rank_of(plan, made, thread);
+        Some(better(best, Ranked { thread, rank }))
+    } else {
+        best
     }
 }
 
 /// Of the threads that may run, the one with the highest rank.
 fn best(plan: &Plan, made: &Made, threads: &Threads) -> Option<Ranked>
     ensures best { result ≡ best_among plan.now made.now threads.now 64 }
-    ensures number { IfSome result (λ best. (1 ≤ best.thread) × (best.thread ≤ 64)) }
+    ensures number { IfSome result IsNumbered }
 {
     let mut best = None;
     for thread in 1..MAX_THREADS as ThreadId + 1 {
-        if may_run(threads, thread) {
-            let rank = rank_of(plan, made, thread);
-            best = Some(better(best, Ranked { thread, rank }));
-        }
+        best = consider(plan, made, threads, thread, best);
     }
     best
 }
@@ -137,13 +162,23 @@ fn steps_of(plan: &Plan, made: &Made) -> u32
 
 // What it is.
 
+/// Whether the thread is on the hart.
+fn is_on(tables: &Tables, hart: usize, thread: ThreadId) -> bool
+    ensures { result ≡ holds thread (hart_of tables.now hart) }
+{
+    match tables.threads.on_hart(hart) {
+        Some(other) => thread == other,
+        None => false,
+    }
+}
+
 /// The hart that the thread is on.
-fn hart_of(tables: &Tables, thread: ThreadId) -> Option<u8>
+fn hart_with(tables: &Tables, thread: ThreadId) -> Option<u8>
     ensures hart { result ≡ hart_from 0 thread tables.now }
     ensures small { IfSome result (λ hart. hart ≤ 7) }
 {
     for hart in 0..MAX_HARTS {
-        if tables.threads.on_hart(hart) == Some(thread) {
+        if is_on(tables, hart, thread) {
             return Some(hart as u8);
         }
     }
@@ -161,7 +196,7 @@ fn on_or_onto(plan: &Plan, made: &Made, tables: &Tables, thread: ThreadId) -> Ev
     ensures in_range { IsInRange result }
     ensures within { made.now.steps + steps_in result ≤ plan.now.limit }
 {
-    if let Some(hart) = hart_of(tables, thread) {
+    if let Some(hart) = hart_with(tables, thread) {
         return run_by(hart, steps_of(plan, made));
     }
     let harts = tables.threads.hart_count() as u32;
@@ -226,7 +261,8 @@ fn next_for(plan: &Plan, made: &Made, tables: &Tables) -> Next
 /// Whether as many events or steps are made as there may be.
 fn is_enough(plan: &Plan, made: &Made) -> bool
     ensures enough { result ≡ is_enough plan.now made.now }
-    ensures left { result ≡ false → made.now.steps < plan.now.limit }
+    ensures steps { result ≡ false → made.now.steps < plan.now.limit }
+    ensures events { result ≡ false → made.now.events < plan.now.limit }
 {
     plan.limit <= made.events || plan.limit <= made.steps
 }
@@ -234,18 +270,23 @@ fn is_enough(plan: &Plan, made: &Made) -> bool
 /// A tick that the clock has no room for ends a run.
 fn or_enough(machine: &Machine, next: Next) -> Next
     ensures next { result ≡ or_enough next machine.now.state.tables }
+    ensures fit { (p : Plan) (m : Made) → m.events < p.limit → IsWithin p m next
+        → IsFitNext p m machine.now.state.tables result }
 {
     match next {
-        Next::Submit(event) if machine.accept(0, &event).is_err() => Next::End(Ending::Enough),
-        next => next,
+        Next::Submit(event) => match machine.accept(0, &event) {
+            Ok(()) => Next::Submit(event),
+            Err(_) => Next::End(Ending::Enough),
+        },
+        Next::End(ending) => Next::End(ending),
     }
 }
 
 /// The event that is next, or why there is none.
 pub fn next(machine: &Machine, plan: &Plan, made: &Made) -> Next
-    requires { 1 ≤ machine.now.state.tables.threads.hart_count }
+    requires harts { 1 ≤ machine.now.state.tables.threads.hart_count }
     ensures next { result ≡ next plan.now made.now machine.now.state.tables }
-    ensures within { IsWithin plan.now made.now result }
+    ensures fit { IsFitNext plan.now made.now machine.now.state.tables result }
 {
     if !matches!(machine.status(), Status::Running) {
         return Next::End(Ending::Ended);
@@ -263,6 +304,6 @@ pub fn runner_of(tables: &Tables, event: &Event) -> Option<ThreadId>
 {
     match event {
         Event::Run(hart, _) | Event::RunLong(hart, _) => tables.threads.on_hart(usize::from(*hart)),
-        _ => None,
+        Event::Place(_, _) | Event::Input(_) | Event::Eof | Event::Tick(_) => None,
     }
 }

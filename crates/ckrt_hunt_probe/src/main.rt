@@ -22,7 +22,11 @@ fn main(rt: HostRuntime) -> Result<()> {
     if pages < 16 || pages > 1024 || harts < 1 || harts > 8 {
         bail!(USAGE);
     }
-    let shape = Shape { pages, harts, limit };
+    let shape = Shape {
+        pages,
+        harts,
+        limit,
+    };
     let bytes = fs::read(&rt, image)?;
     let tally = hunt(rt.alloc(), &bytes, shape, 0, u64::from(number(seeds)?))?;
     for row in tally.rows() {
