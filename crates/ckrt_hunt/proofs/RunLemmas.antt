@@ -1,5 +1,6 @@
 -- Runs go on event by event, and a plan has one from each state.
 use Rattle.std.proofs.Common.{◌≡◌, ◌∙◌, ℕ, List, [], ◌∷◌, ◌++◌, ap, sym, subst, refl}
+use Rattle.sha2.specs.Sha256.{sha256}
 use Rattle.sha2.specs.Hashers.{Holds256}
 use Rattle.sha2.specs.declared.Sha256.{Sha256}
 use Rattle.ckrt_events.specs.declared.event.Event.{Event}
@@ -10,14 +11,15 @@ use Rattle.ckrt_drive.specs.declared.plan.Next.TheVariants.{Submit, End}
 use Rattle.ckrt_drive.specs.declared.progress.Ending.{Ending}
 use Rattle.ckrt_hunt.specs.declared.plan.Plan.{Plan}
 use Rattle.ckrt_hunt.specs.declared.made.Made.{Made}
+use Rattle.ckrt_hunt.specs.declared.outcome.Outcome.{Outcome}
 use Rattle.ckrt_hunt.specs.declared.run.Told.{Told}
 use Rattle.ckrt_hunt.specs.Plans.{made_with, nothing_made}
 use Rattle.ckrt_hunt.specs.Turns.{next, runner_of}
 use Rattle.ckrt_hunt.specs.Outcomes.{outcome_of}
-use Rattle.ckrt_hunt.specs.Runs.{AreScheduled, ComesTo, HasCome, HasComeTo, Point, beginning, behind, on}
+use Rattle.ckrt_hunt.specs.Runs.{AreScheduled, ComesTo, HasCome, HasComeTo, Point, beginning, behind, next_at, on}
 
 module _ (p : Plan) where
-  scheduled_on : (es : List Event) (e : Event) (x : Point) → AreScheduled p es x → next p (behind p es x).made (behind p es x).state.tables ≡ Submit e → AreScheduled p (es ++ e ∷ []) x
+  scheduled_on : (es : List Event) (e : Event) (x : Point) → AreScheduled p es x → next_at p (behind p es x) ≡ Submit e → AreScheduled p (es ++ e ∷ []) x
   scheduled_on [] e x a n = (n, tt)
   scheduled_on (f ∷ es) e x a n = (a.0, scheduled_on es e (on p f x) a.1 n)
 
@@ -33,7 +35,7 @@ module _ (p : Plan) where
       record {
         events = es ++ e ∷ [];
         come = record {
-          scheduled = scheduled_on es e (beginning start) c.scheduled (subst (λ (x : Point). next p x.made x.state.tables ≡ Submit e) c.point n);
+          scheduled = scheduled_on es e (beginning start) c.scheduled (subst (λ (x : Point). next_at p x ≡ Submit e) c.point n);
           accepted = accepted_on es e start c.accepted (subst (λ (t : State). IsAccepted e t) c.folded a);
           point = ap (λ (x : Point). on p e x) c.point ∙ sym (behind_on es e (beginning start));
           folded = ap (λ (t : State). (step e t).state) c.folded ∙ sym (state_on es e start);
@@ -42,15 +44,20 @@ module _ (p : Plan) where
       }
 
   -- a run has one list of events
-  same_events : (es fs : List Event) (x : Point) (a b : Ending) → AreScheduled p es x → next p (behind p es x).made (behind p es x).state.tables ≡ End a → AreScheduled p fs x → next p (behind p fs x).made (behind p fs x).state.tables ≡ End b → es ≡ fs
+  same_events : (es fs : List Event) (x : Point) (a b : Ending) → AreScheduled p es x → next_at p (behind p es x) ≡ End a → AreScheduled p fs x → next_at p (behind p fs x) ≡ End b → es ≡ fs
   same_events [] [] x a b s n t m = refl
   same_events [] (f ∷ fs) x a b s n t m = let h = t.0 in cc
   same_events (e ∷ es) [] x a b s n t m = let h = s.0 in cc
   same_events (e ∷ es) (f ∷ fs) x a b s n t m =
       let same : e ≡ f = (let h = s.0 in let k = t.0 in cc) in
-      let rest : es ≡ fs = same_events es fs (on p e x) a b s.1 n (subst (λ g. AreScheduled p fs (on p g x)) (sym same) t.1) (subst (λ g. next p (behind p fs (on p g x)).made (behind p fs (on p g x)).state.tables ≡ End b) (sym same) m) in
+      let rest : es ≡ fs = same_events es fs (on p e x) a b s.1 n (subst (λ g. AreScheduled p fs (on p g x)) (sym same) t.1) (subst (λ g. next_at p (behind p fs (on p g x)) ≡ End b) (sym same) m) in
       cc
 
   -- and comes to one outcome
   pub same_told : (start : State) (a b : Told) → ComesTo p start a → ComesTo p start b → a ≡ b
-  same_told start a b c d = ?
+  same_told start a b c d =
+      let es : c.events ≡ d.events = same_events c.events d.events (beginning start) c.ending d.ending c.scheduled c.ended d.scheduled d.ended in
+      let ends : End c.ending ≡ End d.ending = sym c.ended ∙ ap (λ (es : List Event). next_at p (behind p es (beginning start))) es ∙ d.ended in
+      let outcome : a.outcome ≡ b.outcome = c.outcome ∙ (cc) ∙ sym d.outcome in
+      let digest : a.digest ≡ b.digest = c.digest ∙ ap (λ (es : List Event). sha256 (output_of es start)) es ∙ sym d.digest in
+      ap (λ (o : Outcome). let t : Told = record { outcome = o; digest = a.digest } in t) outcome ∙ ap (λ (g : List ℕ). let t : Told = record { outcome = b.outcome; digest = g } in t) digest

@@ -6,6 +6,7 @@ use Rattle.sha2.specs.declared.Sha256.{Sha256}
 use Rattle.ckrt_events.specs.declared.event.Event.{Event}
 use Rattle.ckrt_machine.specs.Steps.{State}
 use Rattle.ckrt_machine.specs.Events.{AllAccepted, fold, output_of, step}
+use Rattle.ckrt_drive.specs.declared.plan.Next.{Next}
 use Rattle.ckrt_drive.specs.declared.plan.Next.TheVariants.{Submit, End}
 use Rattle.ckrt_drive.specs.declared.progress.Ending.{Ending}
 use Rattle.ckrt_hunt.specs.declared.plan.Plan.{Plan}
@@ -36,11 +37,14 @@ abbrev pub behind : Plan → List Event → Point → Point
 behind p [] x = x
 behind p (e ∷ es) x = behind p es (on p e x)
 
+-- what the schedule has at a point
+abbrev pub next_at : Plan → Point → Next
+next_at p x = next p x.made x.state.tables
+
 -- each event is the one that the schedule has at its turn
 abbrev pub AreScheduled : Plan → List Event → Point → Type 0
 AreScheduled p [] x = Unit {0}
-AreScheduled p (e ∷ es) x =
-    (next p x.made x.state.tables ≡ Submit e) × AreScheduled p es (on p e x)
+AreScheduled p (e ∷ es) x = (next_at p x ≡ Submit e) × AreScheduled p es (on p e x)
 
 -- A run by this plan has come to a point by these events, and the hasher holds what they put.
 pub record HasCome (p : Plan) (start : State) (events : List Event) (x : Point) (hasher : Sha256) : Type 0 where
@@ -56,7 +60,7 @@ pub record ComesTo (p : Plan) (start : State) (told : Told) : Type 0 where
   pub events : List Event
   pub ending : Ending
   pub scheduled : AreScheduled p events (beginning start)
-  pub ended : (let x = behind p events (beginning start) in next p x.made x.state.tables ≡ End ending)
+  pub ended : next_at p (behind p events (beginning start)) ≡ End ending
   pub accepted : AllAccepted events start
   pub outcome : told.outcome ≡ outcome_of ending (fold events start).state.tables
   pub digest : told.digest ≡ sha256 (output_of events start)

@@ -249,7 +249,8 @@ fn next_for(plan: &Plan, made: &Made, tables: &Tables) -> Next
     requires left { made.now.steps < plan.now.limit }
     requires harts { (1 ≤ tables.now.threads.hart_count) × (tables.now.threads.hart_count ≤ 8) }
     ensures next { result
-        ≡ next_for (best_among plan.now made.now tables.now.threads 64) plan.now made.now tables.now }
+        ≡ next_for (best_among plan.now made.now tables.now.threads 64)
+        plan.now made.now tables.now }
     ensures within { IsWithin plan.now made.now result }
 {
     match best(plan, made, &tables.threads) {
