@@ -1,15 +1,16 @@
 """Runs two programs on the same guests, alternating, and prints the best rate of each and their ratio.
 
 Then how long the guests that have C sources take, here, by qemu-user where it is installed, and as programs of the host. At
-the end, without names of guests: what a call costs.
+the end, without names of guests: what a call costs. Words: names of guests of bench/guests (all, if none).
 """
-import os
 import re
 import statistics
 import subprocess
 import sys
 
 import same_sources
+from common import GUESTS, found, guest, plain
+from processes import timed
 from results import note
 
 ROUNDS = 7
@@ -43,7 +44,7 @@ def rate_of(command):
 
 def pages_of(path):
     """How many pages a guest runs on."""
-    return "1024" if "scattered" in path else "64"
+    return "1024" if "scattered" in path.name else "64"
 
 
 def machine_rate(machine, path, harts):
@@ -51,11 +52,11 @@ def machine_rate(machine, path, harts):
     return rate_of([machine, "run", path, pages_of(path), str(harts), "65535"])
 
 
-def compare(plain, machine, path):
+def compare(interpreter, machine, path):
     """The best rates of both on a guest of one thread, alternating."""
     plain_rates, machine_rates = [], []
     for _ in range(ROUNDS):
-        said, rate = rate_of([plain, path, pages_of(path)])
+        said, rate = rate_of([interpreter, path, pages_of(path)])
         plain_rates.append(rate)
         put, rate = machine_rate(machine, path, 1)
         machine_rates.append(rate)
@@ -69,26 +70,26 @@ def seconds_of(machine, path, steps):
     return steps / max(machine_rate(machine, path, 4)[1] for _ in range(ROUNDS))
 
 
-def calls(machine, guests):
+def calls(machine):
     """What a lock or an unlock costs, in plain instructions of the same run."""
     steps = 4 * 400_000 * 16
-    plain = seconds_of(machine, os.path.join(guests, "plain-4.bin"), steps)
-    print(f"a plain instruction: {plain / steps * 1e9:.1f} ns")
+    alone = seconds_of(machine, guest("plain-4"), steps)
+    print(f"a plain instruction: {alone / steps * 1e9:.1f} ns")
     for name in ("locks-4", "locks-crowded"):
-        cost = (seconds_of(machine, os.path.join(guests, name + ".bin"), steps) - plain) / CALLS
-        note("run", f"a call in {name}", "ns", cost * 1e9, plain / steps * 1e9)
-        print(f"a call in {name}: {cost * 1e9:.0f} ns, {cost * steps / plain:.0f} plain instructions")
+        cost = (seconds_of(machine, guest(name), steps) - alone) / CALLS
+        note("run", f"a call in {name}", "ns", cost * 1e9, alone / steps * 1e9)
+        print(f"a call in {name}: {cost * 1e9:.0f} ns, {cost * steps / alone:.0f} plain instructions")
 
 
 def least_seconds(words, console):
     """The least processor time of runs that put this console, without that of starting a process; nothing without words."""
     if not words:
         return None
-    runs = [same_sources.seconds_of(words) for _ in range(ROUNDS)]
-    if any(put.strip() != console.strip() for put, _ in runs):
+    runs = [timed(words, capture_output=True) for _ in range(ROUNDS)]
+    if any(done.stdout.strip() != console.strip() for done, _ in runs):
         sys.exit(f"{words[-1]}: the consoles differ")
-    start = min(same_sources.seconds_of(["true"])[1] for _ in range(ROUNDS))
-    return max(min(seconds for _, seconds in runs) - start, 1e-6)
+    start = min(timed(["true"])[1].processor for _ in range(ROUNDS))
+    return max(min(spent.processor for _, spent in runs) - start, 1e-6)
 
 
 def shown(seconds):
@@ -96,11 +97,11 @@ def shown(seconds):
     return "-" if seconds is None else f"{seconds * 1e3:.1f}"
 
 
-def same_programs(machine, guests, names):
+def same_programs(machine, names):
     """How long guests with C sources take, beside the same sources by qemu-user and as programs of the host."""
     print(f"{'guest':16} {'Msteps':>8} {'machine ms':>11} {'qemu ms':>9} {'host ms':>9} {'times host':>11}")
     for name in names:
-        command = [machine, "run", os.path.join(guests, name + ".bin"), "64", "1", "65535"]
+        command = [machine, "run", guest(name), "64", "1", "65535"]
         runs = [run_of(command) for _ in range(ROUNDS)]
         console, steps, ours = runs[0][0], runs[0][1], min(seconds for _, _, seconds in runs)
         qemu = least_seconds(same_sources.on_qemu(name), console)
@@ -119,18 +120,18 @@ def mean(what, ratios):
 
 
 def main():
-    plain, machine, guests = sys.argv[1:4]
-    stored = sorted(name[:-4] for name in os.listdir(guests) if name.endswith(".bin"))
-    names = sys.argv[4:] or [name for name in stored if name not in ENDLESS]
+    interpreter, (machine,) = plain("interpreter"), found("ckrt_probe")
+    stored = sorted(file.stem for file in GUESTS.glob("*.bin"))
+    names = sys.argv[1:] or [name for name in stored if name not in ENDLESS]
     print(f"{'guest':16} {'plain Msteps/s':>15} {'machine Msteps/s':>17} {'ratio':>6}")
     ratios, numeric = [], []
     for name in names:
-        path = os.path.join(guests, name + ".bin")
+        path = guest(name)
         if name in THREADED:
             rate = max(machine_rate(machine, path, THREADED[name])[1] for _ in range(ROUNDS))
             print(f"{name:16} {'-':>15} {rate / 1e6:17.0f} {'-':>6}")
             continue
-        base, ours = compare(plain, machine, path)
+        base, ours = compare(interpreter, machine, path)
         if name in NUMERIC:
             numeric.append(ours / base)
         elif name not in STORING:
@@ -139,9 +140,10 @@ def main():
         print(f"{name:16} {base / 1e6:15.0f} {ours / 1e6:17.0f} {ours / base:6.2f}")
     mean("", ratios)
     mean(" of guests that multiply and divide", numeric)
-    same_programs(machine, guests, [name for name in names if name in NUMERIC])
-    if not sys.argv[4:]:
-        calls(machine, guests)
+    same_programs(machine, [name for name in names if name in NUMERIC])
+    if not sys.argv[1:]:
+        calls(machine)
 
 
-main()
+if __name__ == "__main__":
+    main()

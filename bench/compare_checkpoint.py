@@ -1,7 +1,7 @@
 """Measures checkpoints and recoveries of real disks, alternating with what they are measured beside, and prints ratios.
 
-Words: the plain program, `ckrt`, `ckrt_probe`, the folder of the guests, the folder of the disks, and jobs (`checkpoints`,
-`changed`, `recovery`, `power-on`, `resident`, `inspect`; all, if none is named).
+Words: the folder of the disks (the present one, if none), and jobs (`checkpoints`, `changed`, `recovery`, `power-on`, `resident`,
+`inspect`; all, if none is named).
 
 checkpoints: on disks of 64, 256 and 1,024 pages, of all of them, beside the same reads, writes and syncs in plain Rust. Each program has a
 disk of its own; after all rounds the two are compared byte by byte. changed: the same on a disk of 1,024 pages, of which four, or none,
@@ -13,14 +13,15 @@ checkpoints. inspect: `ckrt inspect` of disks of 1,024 pages with an empty journ
 with 64 threads, 61 waits and 201 mutexes, from the start of the process to its end, beside `ckrt run` of them without a line, which
 recovers the program and does nothing else.
 """
-import os
-import re
 import statistics
-import subprocess
 import sys
 import time
+from pathlib import Path
 
+from common import found, guest, plain, ratios_of, resident, run, steps_told, sync, turns, wait_for_ack
 from results import note
+from shared import lives
+from shared.disks import make
 
 PAGES = (64, 256, 1_024)
 ROUNDS = 31
@@ -43,24 +44,15 @@ CHANGES = 21
 MAPPED_LIMIT = 4_096 + 1_280
 
 
-def run(command, lines=""):
-    """What a run writes to standard output, and to standard error."""
-    done = subprocess.run(command, input=lines, capture_output=True, check=True, text=True)
-    return done.stdout, done.stderr
-
-
 class Bench:
-    def __init__(self, plain, ckrt, probe, guests, folder):
-        self.plain, self.ckrt, self.probe, self.folder = plain, ckrt, probe, folder
-        self.image, self.crowd, self.stores = (os.path.join(guests, name + ".bin") for name in (GUEST, CROWD, STORES))
+    def __init__(self, folder):
+        self.plain, self.folder = plain("disk"), Path(folder)
+        self.ckrt, self.probe = found("ckrt", "ckrt_probe")
+        self.image, self.crowd, self.stores = guest(GUEST), guest(CROWD), guest(STORES)
 
     def format_disk(self, name, pages, journal=4_096, image=None):
         """A disk that was just formatted."""
-        path = os.path.join(self.folder, name)
-        if os.path.exists(path):
-            os.remove(path)
-        run([self.ckrt, "format", path, image or self.image, "--pages", str(pages), "--journal", str(journal)])
-        return path
+        return make(self.ckrt, self.folder / name, image or self.image, pages=pages, journal=journal)
 
     def checkpoint_times(self, program, job, path, count):
         return [int(word) for word in run([program, job, path, str(count)])[1].split()]
@@ -70,15 +62,13 @@ class Bench:
         programs, times = (self.plain, self.probe), ([], [])
         for program, disk in zip(programs, disks):
             self.checkpoint_times(program, job, disk, WARM_UP)
-        for turn in range(ROUNDS):
-            for k in (0, 1) if turn % 2 == 0 else (1, 0):
+        for turn in turns(ROUNDS):
+            for k in turn:
                 times[k].append(statistics.median(self.checkpoint_times(programs[k], job, disks[k], count)))
         self.report(what, times[1], times[0])
-        contents = []
+        contents = [disk.read_bytes() for disk in disks]
         for disk in disks:
-            with open(disk, "rb") as file:
-                contents.append(file.read())
-            os.remove(disk)
+            disk.unlink()
         if contents[0] != contents[1]:
             sys.exit("the two disks differ")
 
@@ -101,18 +91,17 @@ class Bench:
     def recovery(self):
         for pages in PAGES:
             disk = self.format_disk("recovery.disk", pages)
-            with open(disk, "rb") as file:
-                file.read()
-                os.fsync(file.fileno())
+            disk.read_bytes()
+            sync(disk)
             programs, times = (self.plain, self.probe), ([], [])
-            for turn in range(RECOVERIES):
-                for k in (0, 1) if turn % 2 == 0 else (1, 0):
+            for turn in turns(RECOVERIES):
+                for k in turn:
                     times[k].append(int(run([programs[k], "recover", disk])[1]))
-            os.remove(disk)
+            disk.unlink()
             self.report(f"recovery of {pages} pages, empty journal", times[1], times[0])
 
     def steps_of_guest(self):
-        return int(re.search(r"steps (\d+)", run([self.probe, "run", self.image, "64", "1", "65535"])[1])[1])
+        return steps_told(run([self.probe, "run", self.image, "64", "1", "65535"])[1])
 
     def full_disk(self, name, pages, journal):
         """A disk whose journal is full of Runs that make all steps of the guest, and how many steps each has at most."""
@@ -125,11 +114,9 @@ class Bench:
     def first_reply(self, disk):
         """The seconds from the start of a run to its first reply."""
         start = time.perf_counter()
-        with subprocess.Popen([self.ckrt, "run", disk], stdin=subprocess.PIPE, stdout=subprocess.PIPE, text=True) as child:
-            child.stdin.write("commit\n")
-            child.stdin.flush()
-            while not child.stdout.readline().startswith("ack"):
-                pass
+        with lives.service(self.ckrt, disk, text=True) as child:
+            lives.feed(child, ["commit"])
+            wait_for_ack(child)
             seconds = time.perf_counter() - start
             child.stdin.close()
         return seconds
@@ -137,8 +124,7 @@ class Bench:
     def bytes_and_steps(self, disk, pages, most):
         """The seconds of reading the disk's bytes and of the machine alone with such Runs."""
         start = time.perf_counter()
-        with open(disk, "rb") as file:
-            file.read()
+        disk.read_bytes()
         run([self.probe, "run", self.image, str(pages), "1", str(most)])
         return time.perf_counter() - start
 
@@ -148,14 +134,14 @@ class Bench:
         for _ in range(POWER_ONS):
             base.append(self.bytes_and_steps(disk, 64, most))
             ours.append(self.first_reply(disk))
-        os.remove(disk)
+        disk.unlink()
         self.report("power on to the first reply, full journal of 1,048,576 bytes", ours, base, "s")
 
     def crowded_disk(self, name, pages):
         """A disk that was saved when each thread of the crowd had begun."""
         disk = self.format_disk(name, pages, image=self.crowd)
         run([self.ckrt, "run", disk], "auto 0 65535\n" * TURNS + "commit\ncheckpoint\n")
-        listing = run([self.ckrt, "inspect", disk])[0]
+        listing = lives.listing(self.ckrt, disk)
         if [listing.count(f"\n{kind} ") for kind in ("thread", "wait", "mutex")] != [64, 61, 201]:
             sys.exit("the crowd isn't there")
         return disk
@@ -165,35 +151,31 @@ class Bench:
                  "64 threads, 61 waits and 201 mutexes": self.crowded_disk("inspect_1.disk", 1_024)}
         for program, disk in disks.items():
             words, times = (["run", disk], ["inspect", disk]), ([], [])
-            for turn in range(RECOVERIES):
-                for k in (0, 1) if turn % 2 == 0 else (1, 0):
+            for turn in turns(RECOVERIES):
+                for k in turn:
                     start = time.perf_counter()
                     run([self.ckrt, *words[k]])
                     times[k].append(time.perf_counter() - start)
-            os.remove(disk)
+            disk.unlink()
             self.report(f"inspect of 1024 pages, {program}", times[1], times[0], "s")
 
     def resident(self):
         """The resident KiB of a run with 1,024 pages after checkpoints: of the process alone, and with what it maps."""
         disk = self.format_disk("resident.disk", 1_024)
-        with subprocess.Popen([self.ckrt, "run", disk], stdin=subprocess.PIPE, stdout=subprocess.PIPE, text=True) as child:
-            child.stdin.write("place 0 1\nrun 0 65535\ncommit\ncheckpoint\ncheckpoint\n")
-            child.stdin.flush()
+        with lives.service(self.ckrt, disk, text=True) as child:
+            lives.feed(child, ["place 0 1", "run 0 65535", "commit", "checkpoint", "checkpoint"])
             for _ in range(3):
-                while not child.stdout.readline().startswith("ack"):
-                    pass
-            with open(f"/proc/{child.pid}/status", encoding="utf-8") as file:
-                status = file.read()
+                wait_for_ack(child)
+            alone, mapped = resident(child.pid)
             child.stdin.close()
-        os.remove(disk)
-        alone, mapped = (int(re.search(name + r":\s+(\d+) kB", status)[1]) for name in ("RssAnon", "VmHWM"))
+        disk.unlink()
         note("checkpoint", "resident after checkpoints, process alone", "KiB", alone, MAPPED_LIMIT, ("", alone / MAPPED_LIMIT, ""))
         note("checkpoint", "resident after checkpoints, with program and C library", "KiB", mapped, MAPPED_LIMIT, ("", mapped / MAPPED_LIMIT, ""))
         print(f"resident with 1,024 pages after checkpoints: {alone} KiB, with program and C library {mapped} KiB (4 MiB and 1.25 MiB: {MAPPED_LIMIT})")
 
     def report(self, what, ours, base, unit="ns"):
         """Prints the medians, and the median of the rounds' ratios with its quartiles, and notes them."""
-        ratios = statistics.quantiles([mine / plain for mine, plain in zip(ours, base)], n=4)
+        ratios = ratios_of(ours, base)
         note("checkpoint", what, unit, statistics.median(ours), statistics.median(base), ratios)
         low, middle, high = ratios
         scale, shown = (1e3, "us") if unit == "ns" else (1e-3, "ms")
@@ -206,9 +188,10 @@ JOBS = {"checkpoints": Bench.checkpoints, "changed": Bench.changed, "recovery": 
 
 
 def main():
-    bench = Bench(*sys.argv[1:6])
-    for job in sys.argv[6:] or JOBS:
+    bench = Bench(*sys.argv[1:2] or ".")
+    for job in sys.argv[2:] or JOBS:
         JOBS[job](bench)
 
 
-main()
+if __name__ == "__main__":
+    main()

@@ -1,6 +1,6 @@
 """Measures `ckrt drive` on a disk in a file, alternating with the machine alone, and prints ratios.
 
-Words: `ckrt`, `ckrt_probe`, the folder of the guests, the folder of the disks, and jobs (all, if none is named).
+Words: the folder of the disks (the present one, if none), and jobs (`steps`, `instructions`, `waits`; all, if none is named).
 
 steps: guests driven to their ends with the defaults of a drive, commits and checkpoints and an output file included, on a disk of 64
 pages, beside the machine alone with Runs of 65,535 steps; whole processes, by the clock and by processor time. A drive sleeps while the
@@ -8,15 +8,16 @@ disk syncs, the machine alone never does: where other programs want the processo
 processor time is what compares. instructions: what a step more costs each of them in host instructions, which callgrind counts: a guest of
 two lengths, so that what a process does once drops out. waits: a guest that sleeps 100 times for a year of ticks, the whole process, for each wait.
 """
-import os
 import re
 import statistics
 import subprocess
 import sys
+from pathlib import Path
 
-from make_guests import putting, sleeping
+from common import found, guest, make_disk, ratios_of, steps_told
 from processes import timed
 from results import note
+from shared.guests import putting, sleeping
 
 GUESTS = ("nqueens-big", "pi-big", "primes-big", "sha256-big")
 ROUNDS, WAIT_ROUNDS, WAITS = 25, 31, 100
@@ -27,22 +28,17 @@ JOURNAL = 1_048_576
 
 
 class Bench:
-    def __init__(self, ckrt, probe, guests, folder):
-        self.ckrt, self.probe, self.guests = ckrt, probe, guests
-        self.disk, self.output, self.image = (os.path.join(folder, f"drive.{it}") for it in ("disk", "output", "image"))
+    def __init__(self, folder):
+        self.ckrt, self.probe = found("ckrt", "ckrt_probe")
+        self.disk, self.output, self.image = (Path(folder) / f"drive.{it}" for it in ("disk", "output", "image"))
 
     def remove(self):
         for file in (self.disk, self.output, self.image):
-            if os.path.exists(file):
-                os.remove(file)
+            file.unlink(missing_ok=True)
 
     def make_disk(self, image):
-        for file in (self.disk, self.output):
-            if os.path.exists(file):
-                os.remove(file)
-        subprocess.run([self.ckrt, "format", self.disk, image, "--journal", str(JOURNAL)], check=True, stdout=subprocess.DEVNULL)
-        with open(self.disk, "rb") as file:
-            os.fsync(file.fileno())
+        self.output.unlink(missing_ok=True)
+        make_disk(self.ckrt, self.disk, image, journal=JOURNAL)
 
     def drive_words(self):
         return [self.ckrt, "drive", self.disk, "--output", self.output]
@@ -54,17 +50,16 @@ class Bench:
         """What a whole drive took, and what it put."""
         self.make_disk(image)
         spent = timed(self.drive_words(), stderr=subprocess.DEVNULL)[1]
-        with open(self.output, "rb") as file:
-            return spent, file.read()
+        return spent, self.output.read_bytes()
 
     def machine(self, image):
         """What the machine alone took, what it put and how many steps it made."""
         done, spent = timed(self.machine_words(image), capture_output=True)
-        return spent, done.stdout, int(re.search(rb"steps (\d+)", done.stderr)[1])
+        return spent, done.stdout, steps_told(done.stderr.decode())
 
     def steps(self):
         for name in GUESTS:
-            image, ours, base = os.path.join(self.guests, name + ".bin"), [], []
+            image, ours, base = guest(name), [], []
             for turn in range(ROUNDS):
                 if turn % 2 == 0:
                     mine, put = self.driven(image)
@@ -88,8 +83,7 @@ class Bench:
     def instructions(self):
         counts = []
         for between in BETWEEN:
-            with open(self.image, "wb") as file:
-                file.write(putting(1, PUT, between))
+            self.image.write_bytes(putting(1, PUT, between))
             self.make_disk(self.image)
             counts.append((self.count(self.drive_words()), self.count(self.machine_words(self.image)), self.machine(self.image)[2]))
         ours, base, steps = (more - few for few, more in zip(*counts))
@@ -97,8 +91,7 @@ class Bench:
         print(f"a step more: machine alone {base / steps:.2f} host instructions, ckrt drive {ours / steps:.2f}, ratio {base / ours:.3f}")
 
     def waits(self):
-        with open(self.image, "wb") as file:
-            file.write(sleeping(WAITS, YEAR))
+        self.image.write_bytes(sleeping(WAITS, YEAR))
         times = [self.driven(self.image)[0].clock / WAITS for _ in range(WAIT_ROUNDS)]
         low, middle, high = statistics.quantiles(times, n=4)
         note("drive", "a wait of a year", "s", middle)
@@ -107,7 +100,7 @@ class Bench:
     def report(self, what, rates, unit):
         """Prints the medians, and the median of the rounds' ratios with its quartiles, and notes them."""
         ours, base = rates
-        low, middle, high = statistics.quantiles([mine / alone for mine, alone in zip(ours, base)], n=4)
+        low, middle, high = ratios_of(ours, base)
         note("drive", what, unit, statistics.median(ours), statistics.median(base), (low, middle, high))
         print(f"{what}: machine alone {statistics.median(base) / 1e6:.0f} million a second, ckrt drive {statistics.median(ours) / 1e6:.0f}, "
               f"ratio {middle:.3f} ({low:.3f} to {high:.3f})", flush=True)
@@ -117,12 +110,13 @@ JOBS = {"steps": Bench.steps, "instructions": Bench.instructions, "waits": Bench
 
 
 def main():
-    bench = Bench(*sys.argv[1:5])
+    bench = Bench(*sys.argv[1:2] or ".")
     try:
-        for job in sys.argv[5:] or JOBS:
+        for job in sys.argv[2:] or JOBS:
             JOBS[job](bench)
     finally:
         bench.remove()
 
 
-main()
+if __name__ == "__main__":
+    main()

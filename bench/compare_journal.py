@@ -1,16 +1,17 @@
 """Runs the proved journal and its plain twin alternating, and prints medians.
 
-Appends, to a file of 1,048,576 bytes in the folder of the third word: the median of all appends of each program, and
-the ratio of the two programs' medians in each round, of which the median and the quartiles are printed. A round takes
-a few milliseconds, so that a disk that is slow for a while is slow for both. Decoding: the medians of all readings of a
-full journal in memory.
+Word: the folder of the file that is appended to (the present one, if none).
+
+Appends, to a file of 1,048,576 bytes: the median of all appends of each program, and the ratio of the two programs' medians in
+each round, of which the median and the quartiles are printed. A round takes a few milliseconds, so that a disk that is slow for
+a while is slow for both. Decoding: the medians of all readings of a full journal in memory.
 """
-import os
 import re
 import statistics
-import subprocess
 import sys
+from pathlib import Path
 
+from common import found, make_zeros, plain, ratios_of, run, turns
 from results import note
 
 ROUNDS = 60
@@ -21,46 +22,36 @@ READINGS = 5
 SIZE = 1_048_576
 
 
-def run(command):
-    """What a run writes to standard output, and to standard error."""
-    done = subprocess.run(command, capture_output=True, check=True, text=True)
-    return done.stdout, done.stderr
-
-
 def append_times(program, path, size):
     """The nanoseconds of each append to a new file, and the file's bytes after them."""
-    with open(path, "wb") as file:
-        file.write(bytes(SIZE))
-        file.flush()
-        os.fsync(file.fileno())
+    make_zeros(path, SIZE)
     text = run([program, "append", path, str(size), str(WARM_UP + APPENDS)])[1]
-    with open(path, "rb") as file:
-        held = file.read()
-    os.remove(path)
+    held = path.read_bytes()
+    path.unlink()
     return [int(word) for word in text.split()[WARM_UP:]], held
 
 
 def appends(programs, folder, size):
     """The median microseconds of an append of at most `size` bytes of events for each program, and the rounds' ratios."""
-    times = ([], [])
-    ratios = []
-    for turn in range(ROUNDS):
+    times, medians = ([], []), ([], [])
+    for turn in turns(ROUNDS):
         taken = {}
-        for k in (0, 1) if turn % 2 == 0 else (1, 0):
-            taken[k] = append_times(programs[k], os.path.join(folder, f"journal_{k}.img"), size)
+        for k in turn:
+            taken[k] = append_times(programs[k], folder / f"journal_{k}.img", size)
             times[k].extend(taken[k][0])
         if taken[0][1] != taken[1][1]:
             sys.exit("the two journals differ")
-        ratios.append(statistics.median(taken[1][0]) / statistics.median(taken[0][0]))
-    return [statistics.median(t) / 1e3 for t in times], statistics.quantiles(ratios, n=4)
+        for k in turn:
+            medians[k].append(statistics.median(taken[k][0]))
+    return [statistics.median(t) / 1e3 for t in times], ratios_of(medians[1], medians[0])
 
 
 def decoding(programs):
     """The median nanoseconds of reading and of decoding a full journal for each program, and its count of events."""
     times = [([], []), ([], [])]
     said = ["", ""]
-    for turn in range(ROUNDS):
-        for k in (0, 1) if turn % 2 == 0 else (1, 0):
+    for turn in turns(ROUNDS):
+        for k in turn:
             said[k], text = run([programs[k], "decode", str(READINGS)])
             for reading, rest in re.findall(r"reading (\d+) decoding (\d+)", text):
                 times[k][0].append(int(reading))
@@ -71,8 +62,7 @@ def decoding(programs):
 
 
 def main():
-    plain, proved, folder = sys.argv[1:4]
-    programs = [plain, proved]
+    folder, programs = Path(*sys.argv[1:2] or "."), [plain("journal"), *found("ckrt_probe")]
     for size in (7, 4096):
         (base, ours), (low, middle, high) = appends(programs, folder, size)
         note("journal", f"append of at most {size} bytes", "us", ours, base, (low, middle, high))
@@ -84,4 +74,5 @@ def main():
     print(f"both beside the plain loop: {(reading + rest) / base:.2f} times its time")
 
 
-main()
+if __name__ == "__main__":
+    main()

@@ -4,12 +4,11 @@ The tables are those of make_tables.py: a program that hasn't begun, one with 64
 longest. Each run of a program decodes them and encodes what it got some times; the first times warm it up. A round has a run
 of each; the median of its times goes into the round's ratio, and of these the median and the quartiles are printed.
 """
-import os
 import re
 import statistics
-import subprocess
-import sys
 
+import make_tables
+from common import MADE, found, plain, ratios_of, run, turns
 from results import note
 
 ROUNDS = 41
@@ -22,31 +21,33 @@ JOBS = ("decoding", "encoding")
 
 def times_of(program, path):
     """The median nanoseconds of decoding and of encoding in one run."""
-    done = subprocess.run([program, "save", path, HARTS, str(WARM_UP + TIMES)], capture_output=True, check=True, text=True)
-    pairs = re.findall(r"decoding (\d+) encoding (\d+)", done.stderr)[WARM_UP:]
+    said = run([program, "save", path, HARTS, str(WARM_UP + TIMES)])[1]
+    pairs = re.findall(r"decoding (\d+) encoding (\d+)", said)[WARM_UP:]
     return [statistics.median(int(time) for time in times) for times in zip(*pairs)]
 
 
 def compare(programs, folder, state):
-    path = os.path.join(folder, state)
+    path = folder / state
     times = ([], [])
-    for turn in range(ROUNDS):
-        for k in (0, 1) if turn % 2 == 0 else (1, 0):
+    for turn in turns(ROUNDS):
+        for k in turn:
             times[k].append(times_of(programs[k], path))
     for job, name in enumerate(JOBS):
         base, ours = ([pair[job] for pair in each] for each in times)
-        ratios = statistics.quantiles([mine / plain for mine, plain in zip(ours, base)], n=4)
+        ratios = ratios_of(ours, base)
         note("tables", f"{name} tables {STATES[state]}", "ns", statistics.median(ours), statistics.median(base), ratios)
         low, middle, high = ratios
-        size = os.path.getsize(path)
+        size = path.stat().st_size
         print(f"{name} {size} bytes of tables {STATES[state]}: plain {statistics.median(base) / 1e3:.1f} us, "
               f"proved {statistics.median(ours) / 1e3:.1f} us, ratio {middle:.3f} ({low:.3f} to {high:.3f})")
 
 
 def main():
-    plain, proved, folder = sys.argv[1:4]
+    programs, folder = [plain("tables"), *found("ckrt_probe")], MADE / "tables"
+    make_tables.make(folder)
     for state in STATES:
-        compare([plain, proved], folder, state)
+        compare(programs, folder, state)
 
 
-main()
+if __name__ == "__main__":
+    main()

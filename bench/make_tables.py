@@ -6,9 +6,9 @@ It writes `fresh`, `crowd` and `longest`, by the format alone (docs/FILE_FORMAT.
 wait for objects of each kind, and 40 objects: 100 waits and objects; and 4 keys, under two of which each thread has a value.
 All are tables of version 2, of a program with 8 harts.
 """
-import os
 import struct
 import sys
+from pathlib import Path
 
 WAIT = struct.Struct("<BBBBIIQ")
 PAGE = 4_096
@@ -89,12 +89,12 @@ def longest():
     return tables(threads, waits, mutexes, barriers, rwlocks, 32, bytes(4_096), bytes(16_384))
 
 
-def main():
-    folder = sys.argv[1]
-    for make in (fresh, crowd, longest):
-        with open(os.path.join(folder, make.__name__), "wb") as file:
-            file.write(make())
+def make(folder):
+    """Writes the three into a folder, which is made where it is missing."""
+    folder.mkdir(parents=True, exist_ok=True)
+    for it in (fresh, crowd, longest):
+        (folder / it.__name__).write_bytes(it())
 
 
 if __name__ == "__main__":
-    main()
+    make(Path(sys.argv[1]))

@@ -1,6 +1,5 @@
 """The guests of bench/guests that have C sources, as programs of the host, and of Linux on RV32I, which qemu-user runs."""
 import os
-import resource
 import shutil
 import subprocess
 
@@ -34,11 +33,3 @@ def on_qemu(name):
     """The words that run it as one of Linux on RV32I, or nothing where qemu-user isn't installed."""
     program = shutil.which(QEMU[0]) and made(name, LINUX, "linux", ["-lgcc"])
     return program and [*QEMU, program]
-
-
-def seconds_of(words):
-    """What a run of these words puts, and its processor time."""
-    before = resource.getrusage(resource.RUSAGE_CHILDREN)
-    put = subprocess.run(words, check=True, capture_output=True).stdout
-    after = resource.getrusage(resource.RUSAGE_CHILDREN)
-    return put, after.ru_utime + after.ru_stime - before.ru_utime - before.ru_stime

@@ -4,11 +4,10 @@ A run is traced, and each of its writes and syncs is made again on a copy of the
 pending. Behind each call the pending bytes are overwritten in several ways, as a power cut may leave them, and the program
 itself is asked what it recovers to. So each word on what is left is what came, and nothing stands here but names and colours.
 """
-import re
-import subprocess
 from dataclasses import dataclass, field
 from pathlib import Path
 
+from shared.lives import events_of
 from svg import Picture
 
 LINES = ["place 0 1", "run 0 3", "commit", "tick 5", "checkpoint", "tick 5", "checkpoint", "quit"]
@@ -64,8 +63,7 @@ def calls_of(traces, trace, disk):
 def recovered(program, folder, image):
     """How many events an image recovers to, as the program tells."""
     (folder / "left").write_bytes(image)
-    shown = subprocess.run([program, "inspect", folder / "left"], stdout=subprocess.PIPE, text=True, check=True).stdout
-    return int(re.match(r"events (\d+)", shown)[1])
+    return events_of(program, folder / "left")
 
 
 def what_is_left(program, folder, disk, before):

@@ -14,6 +14,8 @@ from switches import SWITCHES, switched
 HERE = Path(__file__).parent
 KINDS_WITH_KEYS = {"lists": 2, "fates": 2, "listings": 3, "lives": 2, "cuts": 2}
 KINDS = {"lists": 4, "fates": 4, "parts": 3, "listings": 3, "lives": 2, "cuts": 8}
+# Programs are started by the thousand: what they import is kept compiled, beside them, and they are started without what a site adds.
+COMPILED = tempfile.TemporaryDirectory()
 FOUND_BY = [("without a sync", "lists"), ("split", "lists"), ("late", "lists"), ("short", "parts"), ("again", "fates"),
             ("hopeful", "fates"), ("without a sync", "cuts")]
 
@@ -21,7 +23,8 @@ FOUND_BY = [("without a sync", "lists"), ("split", "lists"), ("late", "lists"), 
 def program(folder, which, **switches):
     """A file that the system starts."""
     path = Path(folder) / which.replace(" ", "_")
-    path.write_text(f"#!{os.path.realpath(sys.executable)} -B\nimport sys\nsys.path.insert(0, {str(HERE)!r})\n"
+    path.write_text(f"#!{os.path.realpath(sys.executable)} -IS\nimport sys\n"
+                    f"sys.pycache_prefix, sys.dont_write_bytecode = {COMPILED.name!r}, False\nsys.path.insert(0, {str(HERE)!r})\n"
                     f"sys.argv.insert(1, {which!r})\nimport stand_in\nstand_in.main(**{switches})\n")
     path.chmod(0o755)
     return path

@@ -1,10 +1,9 @@
 """A system of Debian's packages for a virtual machine, and what is tried on it: what is enabled there, and what watches it."""
 import shutil
-import subprocess
 from dataclasses import dataclass
-from pathlib import Path
 
-TOP = Path(__file__).resolve().parent.parent.parent
+from shared.programs import TOP, run
+
 TEXTS = TOP / "examples/cluster"
 PACKAGES = "systemd,systemd-sysv,udev,dbus,linux-image-cloud-amd64,e2fsprogs,iproute2,slurm-wlm,munge"
 RELEASE, MEBIBYTES = "bookworm", 1_600
@@ -103,10 +102,6 @@ esac""",
     end="ExitCode=0:0 JobState=COMPLETED",
 )
 MACHINES = {"unit": UNIT, "array": ARRAY}
-
-
-def run(*words):
-    return subprocess.run([str(word) for word in words], check=True, stdout=subprocess.PIPE, text=True).stdout.strip()
 
 
 class System:

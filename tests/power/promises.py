@@ -3,18 +3,14 @@
 The bytes of a file are those that were written to it. A range is pending from the call that writes it on until a sync of the
 file has answered: what a cut leaves of it is anything. All other bytes have to be there.
 """
-import contextlib
-import io
-import sys
 from dataclasses import dataclass, field, replace
-from pathlib import Path
 
 from logged_disk import NOTES
+from shared.comparing import first_difference
+from shared.guests import MASK, generator
+from shared.reading import read_disk, recovered
 
-sys.path.insert(0, str(Path(__file__).resolve().parent.parent.parent / "examples"))
-import read_disk  # noqa: E402  (a reader of disks that was written from the page on the format alone)
-
-MASK, TABLE = 0xFFFFFFFF, 0x30FC
+TABLE = 0x30FC
 
 
 class Finding(Exception):
@@ -22,12 +18,10 @@ class Finding(Exception):
 
 
 def output_of(seed, count):
-    """What the guest puts: of each number of the generator xorshift32 the sum of all so far that chose the same word of a table."""
-    number, table, put = seed, {}, bytearray()
+    """What the guest puts: of each number of the generator the sum of all so far that chose the same word of a table."""
+    numbers, table, put = generator(seed), {}, bytearray()
     for _ in range(count):
-        number ^= number << 13 & MASK
-        number ^= number >> 17
-        number ^= number << 5 & MASK
+        number = next(numbers)
         place = number & TABLE
         table[place] = table.get(place, 0) + number & MASK
         put.append(table[place] & 0xFF)
@@ -70,7 +64,7 @@ class File:
     def check(self, name, found):
         for begin, end in self.pending.settled(len(self.content)):
             if found[begin:end] != self.content[begin:end]:
-                at = next(at for at in range(begin, end) if found[at:at + 1] != self.content[at:at + 1])
+                at = begin + first_difference(found[begin:end], self.content[begin:end])
                 raise Finding(f"{name}: byte {at} was synced as {self.content[at]:02x}, and is {found[at:at + 1].hex() or 'missing'}")
 
 
@@ -97,16 +91,6 @@ class Run:
         if self.wanted[offset:offset + len(data)] != data or offset > self.printed:
             raise Finding(f"printed {data.hex()} at {offset}, behind {self.printed} bytes")
         self.printed = max(self.printed, offset + len(data))
-
-
-def recovered(disk):
-    """How many events a disk recovers to, and the offset behind the last confirmed byte of output."""
-    with contextlib.redirect_stdout(io.StringIO()):
-        config = read_disk.read_superblock(disk)
-        headers = [read_disk.read_header(disk, config.area_at(index)) for index in range(2)]
-        used = read_disk.area_in_use(headers)
-        headers[used].check()
-        return read_disk.print_journal(disk, config, used, headers[used].version, headers[used].events), headers[used].output_offset
 
 
 class State:
@@ -169,7 +153,7 @@ def check_run(folder, name, run):
     if events < run.acknowledged:
         raise Finding(f"{disk.name} recovers to {events} events, though {run.acknowledged} were acknowledged")
     held = output.read_bytes() if output.exists() else b""
-    right = next((at for at, (one, other) in enumerate(zip(held, run.wanted)) if one != other), min(len(held), len(run.wanted)))
+    right = first_difference(held, run.wanted)
     if max(right, run.printed) < confirmed:
         raise Finding(f"{disk.name} has {confirmed} bytes of output as confirmed, of which {right} are kept and {run.printed} printed")
     if right < run.kept:

@@ -4,7 +4,6 @@ import os
 import random
 import signal
 import subprocess
-import sys
 import time
 import zlib
 from dataclasses import dataclass
@@ -12,10 +11,10 @@ from pathlib import Path
 
 from logged_disk import end_with_parent
 from promises import TABLE, Finding, output_of
-
-TOP = Path(__file__).resolve().parent.parent.parent
-sys.path.insert(0, str(TOP / "bench"))
-from make_guests import Program, draw  # noqa: E402
+from shared.comparing import first_difference
+from shared.disks import shape_words
+from shared.guests import count_down, draw
+from shared.instructions import SLEEP_UNTIL, Program
 
 COUNT = 3_000  # bytes that a guest puts
 JOURNALS = [4_096, 8_192, 65_536]
@@ -38,24 +37,20 @@ def guest(seed, count, rounds=0):
     if rounds:
         program.constant(7, rounds)
         program.label("rest")
-        program.addi(7, 7, -1)
-        program.bne(7, 0, "rest")
+        count_down(program, 7, "rest")
         program.addi(19, 19, 2)
         program.addi(10, 19, 0)
         program.addi(11, 0, 0)
-        program.call(5)
+        program.call(SLEEP_UNTIL)
     draw(program)
     program.both(7, 5, 9)
     program.add(7, 7, 18)
-    program.emit(lambda at: 7 << 15 | 2 << 12 | 6 << 7 | 0x03)  # lw x6, 0(x7)
+    program.load_word(6, 7)
     program.add(6, 6, 5)
     program.store_word(6, 7)
-    program.addi(10, 6, 0)
-    program.call(2)
-    program.addi(8, 8, -1)
-    program.bne(8, 0, "round")
-    program.addi(10, 0, 0)
-    program.call(1)
+    program.put(6)
+    count_down(program, 8, "round")
+    program.exit()
     return program.image()
 
 
@@ -82,7 +77,7 @@ class Place:
         return [self.ckrt, job, self.folder / f"{name}.disk", *more]
 
     def format_words(self, name):
-        return self.words("format", name, self.image(name), "--pages", "16", "--journal", str(JOURNALS[seed_of(name) % len(JOURNALS)]))
+        return self.words("format", name, self.image(name), *shape_words(pages=16, journal=JOURNALS[seed_of(name) % len(JOURNALS)]))
 
     def drive_words(self, name, *more):
         return self.words("drive", name, "--output", self.folder / f"{name}.out", *more)
@@ -222,7 +217,7 @@ def go_on(place, name, run, chance):
         raise Finding(shown(words, done))
     held = output.read_bytes()
     if held != wanted:
-        at = next((at for at in range(len(wanted)) if held[at:at + 1] != wanted[at:at + 1]), len(wanted))
+        at = first_difference(held, wanted)
         raise Finding(f"{output.name} has {len(held)} bytes at its end, and another byte at {at}")
 
 

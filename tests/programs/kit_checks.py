@@ -2,9 +2,10 @@
 import random
 import re
 import subprocess
-from pathlib import Path
 
-TOP = Path(__file__).resolve().parent.parent.parent
+from shared import disks, lives
+from shared.programs import TOP
+
 ENDINGS = TOP / "tests/programs/endings"
 BUILD, CC, CXX, IMAGE, WHERE, NAMES = (TOP / "guest" / name for name in ("build", "cc", "c++", "image", "where", "names"))
 TOOL = "riscv64-unknown-elf-"
@@ -134,9 +135,8 @@ ENDED = [  # a program, its options, pages, how it ends and what it prints
 def driven(ckrt, image, folder, *options, pages=64):
     """Formats a disk and drives it to its end: the last line on standard error, and the output."""
     disk, output = folder / "driven.disk", folder / "driven.txt"
-    for file in (disk, output):
-        file.unlink(missing_ok=True)
-    call(ckrt, "format", disk, image, "--pages", pages, "--journal", 65_536, "--harts", 2)
+    output.unlink(missing_ok=True)
+    disks.make(ckrt, disk, image, pages=pages, journal=65_536, harts=2)
     done = subprocess.run([ckrt, "drive", disk, "--output", output, *options], capture_output=True, text=True,
                           check=False, timeout=100)
     return done.stderr.strip().rsplit("\n", 1)[-1], output.read_text() if output.exists() else ""
@@ -197,7 +197,7 @@ def tools(ckrt, folder):
     source.write_text(DEADLOCK)
     call("sh", "-c", f"cd {source.parent} && {BUILD} deadlock.c -o deadlock.bin")
     ending, _ = driven(ckrt, image, folder)
-    listing = subprocess.run([ckrt, "inspect", folder / "driven.disk"], capture_output=True, text=True, check=True).stdout
+    listing = lives.listing(ckrt, folder / "driven.disk")
     named = subprocess.run([NAMES, program], input=listing, capture_output=True, text=True, check=True).stdout
     if ending != "deadlock":
         yield f"the deadlock ends by {ending!r}"

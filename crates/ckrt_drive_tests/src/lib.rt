@@ -8,6 +8,8 @@ mod drives;
 #[cfg(test)]
 mod expect;
 #[cfg(test)]
+mod feeding;
+#[cfg(test)]
 mod filling;
 #[cfg(test)]
 mod jobs;

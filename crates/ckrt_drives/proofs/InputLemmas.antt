@@ -32,7 +32,7 @@ left_behind e behind file =
     let all : taken_by (behind ++ e ∷ []) ≡ taken_by behind + length (bytes_of e) = taken-append behind (e ∷ []) ∙ ap (λ n. taken_by behind + n) one in
     ap (λ n. drop n file) all ∙ sym (drop-drop (length (bytes_of e)) (taken_by behind) file)
 
-given_by_plan : (u : Course) (p : Program) (file : List ℕ) (behind events : List Event) → u.file ≡ Some file → AreByPlan u p behind events → AreGiven events (drop (taken_by behind) file) (state_after p behind)
+pub given_by_plan : (u : Course) (p : Program) (file : List ℕ) (behind events : List Event) → u.file ≡ Some file → AreByPlan u p behind events → AreGiven events (drop (taken_by behind) file) (state_after p behind)
 given_by_plan u p file behind [] has h = tt
 given_by_plan u p file behind (e ∷ es) has h =
     let s = state_after p behind in

@@ -1,0 +1,13 @@
+"""What the tests and the benches have in common.
+
+- `programs`: finds the program, and runs commands;
+- `disks`: where things lie on a disk, and how one is made of an image;
+- `lives`: drives and services, and when they are killed;
+- `drives`: a guest that is killed and driven on until it has ended;
+- `reading`: reads disks by the format alone;
+- `comparing`: compares outputs and disks, and tells what differs;
+- `instructions`: words of instructions, and guests with labels;
+- `guests`: guests that several tests run, and what they put.
+
+The comparing model (`tests/differential`) takes nothing of it: it has the rules, the layout and the instructions by itself.
+"""

@@ -1,0 +1,42 @@
+"""Compares outputs and disks, and tells what differs."""
+import contextlib
+import sys
+
+SHOWN, ENDS = 300, 140  # characters of a value that are shown, and of each of its ends where it is longer
+
+
+class Failure(Exception):
+    """What a test finds wrong, in words."""
+
+
+@contextlib.contextmanager
+def telling(test, *also):
+    """Ends the process with status 1 where the test finds something wrong, and tells it behind the test's name.
+
+    `also` are other exceptions that are told so.
+    """
+    try:
+        yield
+    except (Failure, *also) as failure:
+        sys.exit(f"{test}: {failure}")
+
+
+def expect(what, got, want):
+    """Two values have to be the same; else it raises Failure with both."""
+    if got != want:
+        shown = [text if len(text) < SHOWN else f"{text[:ENDS]} .. {text[-ENDS:]}" for text in (repr(got), repr(want))]
+        raise Failure(f"{what}: {shown[0]} in place of {shown[1]}")
+
+
+def expect_bytes(what, got, want):
+    """Many bytes have to be the same; else it raises Failure with their numbers and the first place that differs."""
+    if got != want:
+        raise Failure(f"{what}: {len(got)} bytes in place of {len(want)}, which differ from byte {first_difference(got, want)} on")
+
+
+def first_difference(one, other):
+    """The first place where two byte strings differ, which is the length of the shorter one where that begins the other one."""
+    shorter = min(len(one), len(other))
+    if one[:shorter] == other[:shorter]:
+        return shorter
+    return next(at for at, (a, b) in enumerate(zip(one, other)) if a != b)

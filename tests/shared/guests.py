@@ -1,0 +1,104 @@
+"""Guests that several tests run, and what they put."""
+from shared.instructions import PUTC, SLEEP_UNTIL, Program
+
+MASK = 0xFFFFFFFF
+ALPHABET = b"ABCDEFGHIJKLMNOPQRSTUVWXYZ\n"
+
+
+def generator(seed):
+    """The numbers of 32 bits that the generator xorshift32 makes of a seed other than 0."""
+    number = seed
+    while True:
+        number ^= number << 13 & MASK
+        number ^= number >> 17
+        number ^= number << 5 & MASK
+        yield number
+
+
+def draw(program):
+    """The next number of the same generator in x5; x6 is used."""
+    for shift, count in ((program.slli, 13), (program.srli, 17), (program.slli, 5)):
+        shift(6, 5, count)
+        program.xor(5, 5, 6)
+
+
+def count_down(program, register, name):
+    """Goes back to a label until a register is 0."""
+    program.addi(register, register, -1)
+    program.bne(register, 0, name)
+
+
+def putting(seed, count, between):
+    """Puts so many bytes (2^32, if none), each the least of the generator's next number, with so many rounds of two steps before each."""
+    program = Program()
+    program.constant(5, seed)
+    program.constant(8, count)
+    program.label("round")
+    program.constant(7, between)
+    program.label("between")
+    count_down(program, 7, "between")
+    draw(program)
+    program.put(5)
+    count_down(program, 8, "round")
+    program.exit()
+    return program.image()
+
+
+def put_by(seed, count):
+    """The bytes that `putting` puts."""
+    numbers = generator(seed)
+    return bytes(next(numbers) & 0xFF for _ in range(count))
+
+
+def sleeping(waits, ticks):
+    """Sleeps so often for so many ticks, and then ends."""
+    program = Program()
+    program.constant(5, ticks & MASK)
+    program.addi(6, 0, ticks >> 32)
+    program.addi(8, 0, waits)
+    # x18 and x19 are the moment of the last sleep's end
+    program.addi(18, 0, 0)
+    program.addi(19, 0, 0)
+    program.label("wait")
+    program.add(18, 18, 5)
+    program.sltu(7, 18, 5)
+    program.add(19, 19, 6)
+    program.add(19, 19, 7)
+    program.add(10, 18, 0)
+    program.add(11, 19, 0)
+    program.call(SLEEP_UNTIL)
+    count_down(program, 8, "wait")
+    program.exit()
+    return program.image()
+
+
+def alphabet():
+    """Puts ALPHABET over and over, so that each byte of its output is known by its offset."""
+    program = Program()
+    program.label("line")
+    program.addi(9, 0, ord("A"))
+    program.addi(8, 0, ord("Z") + 1)
+    program.label("letter")
+    program.put(9)
+    program.addi(9, 9, 1)
+    program.bne(9, 8, "letter")
+    program.addi(10, 0, ord("\n"))
+    program.call(PUTC)
+    program.jump("line")
+    return program.image()
+
+
+def putting_memory(pages):
+    """Puts each byte of its memory, which has so many pages, from its own first word on, and ends."""
+    program = Program()
+    program.lui(5, 1)
+    program.lui(6, pages)
+    program.label("byte")
+    program.load_byte(10, 5)
+    program.call(PUTC)
+    program.addi(5, 5, 1)
+    program.bne(5, 6, "byte")
+    program.exit()
+    program.label("end")
+    program.jump("end")
+    return program.image()

@@ -1,0 +1,45 @@
+"""Finds the programs that tests and benches run, and runs commands."""
+import os
+import subprocess
+from pathlib import Path
+
+TOP = Path(__file__).resolve().parent.parent.parent
+EXAMPLES = TOP / "guest/examples"  # guests in C, each with its image beside it
+
+
+def found(name="ckrt"):
+    """The path of a program: what the variable CKRT (of ckrt_probe CKRT_PROBE) names, else what `./build --program` finds or builds.
+
+    It raises CalledProcessError where the program can't be built; `./build` has told why by then.
+    """
+    named = os.environ.get(name.upper())
+    return Path(named or run(TOP / "build", "--program", name)).resolve()
+
+
+def run(*words):
+    """What a command prints, without the space around it. It raises CalledProcessError where the command's status isn't 0."""
+    done = subprocess.run([str(word) for word in words], check=True, stdout=subprocess.PIPE, text=True)
+    return done.stdout.strip()
+
+
+def add_program(parser, name="ckrt"):
+    """Adds the option that names a program, as --ckrt FILE; `read_words` fills it in where it isn't given."""
+    option = f"--{name.removeprefix('ckrt_')}"
+    parser.add_argument(option, metavar="FILE", type=absolute, help=f"{name}, in place of the one that `./build --program` finds")
+
+
+def add_seed(parser, default=1):
+    """Adds --seed S, the seed of all chance of a test."""
+    parser.add_argument("--seed", type=int, default=default, metavar="S", help=f"the seed of all chance ({default})")
+
+
+def read_words(parser):
+    """The words of the command line, with the path of ckrt where --ckrt wasn't given."""
+    words = parser.parse_args()
+    words.ckrt = words.ckrt or found()
+    return words
+
+
+def absolute(path):
+    """A path that holds in any folder."""
+    return Path(path).resolve()

@@ -1,0 +1,22 @@
+"""Reads disks by examples/read_disk.py, which was written from the page on the format alone."""
+import contextlib
+import io
+import sys
+
+from shared.programs import TOP
+
+sys.path.insert(0, str(TOP / "examples"))
+import read_disk  # noqa: E402
+
+
+def recovered(disk):
+    """How many events the bytes of a disk recover to, and the offset behind the last byte of output that they take for confirmed.
+
+    It raises read_disk.Fault where they recover to nothing.
+    """
+    with contextlib.redirect_stdout(io.StringIO()):
+        config = read_disk.read_superblock(disk)
+        headers = [read_disk.read_header(disk, config.area_at(index)) for index in range(2)]
+        used = read_disk.area_in_use(headers)
+        headers[used].check()
+        return read_disk.print_journal(disk, config, used, headers[used].version, headers[used].events), headers[used].output_offset
