@@ -1,11 +1,12 @@
 -- Runs go on event by event, and a plan has one from each state.
-use Rattle.std.proofs.Common.{◌≡◌, ◌∙◌, ℕ, List, [], ◌∷◌, ◌++◌, ap, sym, subst, refl}
+use Rattle.std.proofs.Common.{◌≡◌, ◌∙◌, ℕ, Option, List, [], ◌∷◌, ◌++◌, ap, sym, subst, refl}
 use Rattle.sha2.specs.Sha256.{sha256}
 use Rattle.sha2.specs.Hashers.{Holds256}
 use Rattle.sha2.specs.declared.Sha256.{Sha256}
 use Rattle.ckrt_events.specs.declared.event.Event.{Event}
 use Rattle.ckrt_machine.specs.Steps.{State}
-use Rattle.ckrt_machine.specs.Events.{AllAccepted, IsAccepted, fold, output_of, step}
+use Rattle.ckrt_machine.specs.declared.event.Answer.{Answer}
+use Rattle.ckrt_machine.specs.Events.{After, AllAccepted, IsAccepted, fold, output_of, step}
 use Rattle.ckrt_machine.proofs.FoldLaws.{state_on, output_on, accepted_on}
 use Rattle.ckrt_drive.specs.declared.plan.Next.TheVariants.{Submit, End}
 use Rattle.ckrt_drive.specs.declared.progress.Ending.{Ending}
@@ -41,6 +42,37 @@ module _ (p : Plan) where
           folded = ap (λ (t : State). (step e t).state) c.folded ∙ sym (state_on es e start);
           output = subst (λ (out : List ℕ). Holds256 hasher' out) (ap (λ (t : State). output_of es start ++ (step e t).output) c.folded ∙ sym (output_on es e start)) (more (output_of es start) c.output);
         };
+      }
+
+  -- the same of what the code has at hand
+  pub gone_on : (start : State) (m m' : Made) (s s' : State) (e : Event) (who : Option ℕ) (answer : Answer) (out : List ℕ) (hasher hasher' : Sha256) → who ≡ runner_of e s.tables → m' ≡ made_with p who answer m → (let a : After = record { state = s'; answer = answer; output = out } in a) ≡ step e s → next p m s.tables ≡ Submit e → IsAccepted e s → ((o : List ℕ) → Holds256 hasher o → Holds256 hasher' (o ++ out)) → HasComeTo p start m s hasher → HasComeTo p start m' s' hasher'
+  gone_on start m m' s s' e who answer out hasher hasher' w f r n a more h =
+      let answers : answer ≡ (step e s).answer = ap (λ (a : After). a.answer) r in
+      let states : s' ≡ (step e s).state = ap (λ (a : After). a.state) r in
+      let outputs : out ≡ (step e s).output = ap (λ (a : After). a.output) r in
+      let made : m' ≡ made_with p (runner_of e s.tables) (step e s).answer m = f ∙ ap (λ (o : Option ℕ). made_with p o answer m) w ∙ ap (λ (b : Answer). made_with p (runner_of e s.tables) b m) answers in
+      rw (made, states) (come_on start m s e hasher hasher' h n a (subst (λ (out : List ℕ). (o : List ℕ) → Holds256 hasher o → Holds256 hasher' (o ++ out)) outputs more))
+
+  -- a run that begins
+  pub comes_from : (s : State) (hasher : Sha256) → Holds256 hasher [] → HasComeTo p s nothing_made s hasher
+  comes_from s hasher h = record {
+    events = [];
+    come = record { scheduled = tt; accepted = tt; point = refl; folded = refl; output = h };
+  }
+
+  -- a run that has come to its end
+  pub comes_to : (start : State) (m : Made) (s : State) (hasher : Sha256) (ending : Ending) (told : Told) → HasComeTo p start m s hasher → next p m s.tables ≡ End ending → told.outcome ≡ outcome_of ending s.tables → ((o : List ℕ) → Holds256 hasher o → told.digest ≡ sha256 o) → ComesTo p start told
+  comes_to start m s hasher ending told h n o d =
+      let es = h.events in
+      let c = h.come in
+      record {
+        events = es;
+        ending = ending;
+        scheduled = c.scheduled;
+        ended = subst (λ (x : Point). next_at p x ≡ End ending) c.point n;
+        accepted = c.accepted;
+        outcome = o ∙ ap (λ (t : State). outcome_of ending t.tables) c.folded;
+        digest = d (output_of es start) c.output;
       }
 
   -- a run has one list of events

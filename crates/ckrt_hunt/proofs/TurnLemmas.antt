@@ -1,5 +1,5 @@
 -- The search for the thread whose turn it is, and for its hart.
-use Rattle.std.proofs.Common.{◌≡◌, ◌∷◌, ◌++◌, ℕ, suc, ◌+◌, ◌-◌, ◌<◌, ◌≤◌, Bool, true, false, Option, Some, None, List, ap, sym, arith, cond, refl}
+use Rattle.std.proofs.Common.{◌≡◌, ◌∷◌, ◌++◌, ℕ, suc, ◌+◌, ◌-◌, ◌<◌, ◌≤◌, Bool, true, false, Option, Some, None, List, ap, sym, arith, cond, nat_le, refl}
 use Rattle.std.specs.List.{find}
 use Rattle.ckrt_thread.specs.State as threads
 use Rattle.ckrt_thread.specs.Waits.{is_of}
@@ -8,6 +8,8 @@ use Rattle.ckrt_events.specs.declared.event.Event.{Event}
 use Rattle.ckrt_events.specs.declared.event.Event.TheVariants.{Place, Run, Input, Eof, Tick, RunLong}
 use Rattle.ckrt_machine.specs.Steps.{State, hart_of}
 use Rattle.ckrt_machine.specs.Events.{step}
+use Rattle.ckrt_drive.specs.Plan.{RUN_LIMIT, idle_until, run_by, ticks_to}
+use Rattle.ckrt_drive.specs.declared.plan.Next.TheVariants.{Submit, End}
 use Rattle.ckrt_hunt.specs.declared.plan.Plan.{Plan}
 use Rattle.ckrt_hunt.specs.declared.made.Made.{Made}
 use Rattle.ckrt_hunt.specs.declared.outcome.Waiting.{Waiting}
@@ -59,3 +61,12 @@ ran_within (Input bytes) s = omega arith
 ran_within Eof s = omega arith
 ran_within (Tick k) s = omega arith
 ran_within (RunLong h n) s = omega arith
+
+-- a run has the steps that it is to have, by whichever event
+pub steps_of_run : (h n : ℕ) → steps_in (run_by h n) ≡ n
+steps_of_run h n = elim (nat_le n RUN_LIMIT) as (λ b. steps_in (cond b (Run h n) (RunLong h n)) ≡ n) [ true ↦ refl | false ↦ refl ]
+
+-- where no thread may run, no steps are made
+pub no_steps : (o : Option ℕ) (s : Tables) (e : Event) → idle_until o s ≡ Submit e → steps_in e ≡ 0
+no_steps None s e h = cc
+no_steps (Some d) s e h = let same : Tick (ticks_to d s.clock) ≡ e = cc in sym (ap steps_in same)

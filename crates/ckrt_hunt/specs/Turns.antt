@@ -108,9 +108,12 @@ abbrev pub on_or_onto : Option ℕ → Plan → Made → ℕ → Tables → Even
 on_or_onto (Some h) p m t s = run_by h (steps_of p m)
 on_or_onto None p m t s = Place (lot_at p.seed (m.turns + 1) HART % s.threads.hart_count) t
 
--- one turn in 64 is the clock's, or one in 8, by lot
+-- one turn in 8 is the clock's where ticks come early, else one in 64, by lot
+abbrev pub clock_period : Plan → ℕ
+clock_period p = if p.is_early then 8 else 64
+
 abbrev pub is_clocks : Plan → Made → Bool
-is_clocks p m = lot_at p.seed (m.turns + 1) CLOCK % (if p.is_early then 8 else 64) == 0
+is_clocks p m = lot_at p.seed (m.turns + 1) CLOCK % clock_period p == 0
 
 abbrev pub or_a_tick : Next → Event
 or_a_tick (Submit e) = e
@@ -165,6 +168,7 @@ runner_of _ s = None
 pub record IsFit (p : Plan) (m : Made) (s : Tables) (e : Event) : Type 0 where
   pub in_range : IsInRange e
   pub accepted : refusal_in 0 e s ≡ None
+  pub limit : p.limit < 4294967296
   pub events : m.events < p.limit
   pub steps : m.steps + steps_in e ≤ p.limit
 

@@ -7,6 +7,6 @@ ghost use Rattle.ckrt_hunt.specs.Runs.{ComesTo};
 
 /// A plan and a state have one run, and it comes to one outcome: so a seed repeats.
 pub fn seed_repeats()
-    ensures told { (p : Plan) (start : State) (first second : Told) → ComesTo p start first
+    ensures { (p : Plan) (start : State) (first second : Told) → ComesTo p start first
         → ComesTo p start second → first ≡ second }
 {}

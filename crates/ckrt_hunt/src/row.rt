@@ -27,11 +27,10 @@ pub fn place_of(rows: &[Row], told: &Told) -> Option<usize>
 }
 
 /// A row counts one more.
-pub fn count_again(rows: &mut Vec<Row>, place: usize)
-    requires { place < length rows.old.items }
-    ensures { (r : Row) → slice_get rows.old.items place ≡ Some r
-        → rows.new.items
-        ≡ slice_set rows.old.items place (record r { count = one_more r.count }) }
+pub fn count_again(rows: &mut [Row], place: usize)
+    requires { place < length rows.old }
+    ensures { (r : Row) → slice_get rows.old place ≡ Some r
+        → rows.new ≡ slice_set rows.old place (record r { count = one_more r.count }) }
 {
     let row = &mut rows[place];
     row.count = row.count.saturating_add(1);

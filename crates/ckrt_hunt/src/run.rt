@@ -14,7 +14,7 @@ use crate::plan::Plan;
 use crate::turn::{next, runner_of};
 use ckrt_drive::{Ending, Next};
 use ckrt_events::Event;
-use ckrt_machine::Machine;
+use ckrt_machine::{Machine, events_change_neither};
 use sha2::{Digest, Sha256};
 
 /// What is told of a run.
@@ -40,6 +40,7 @@ fn go_on(machine: &mut Machine, plan: &Plan, made: &mut Made, hasher: &mut Sha25
 {
     let who = runner_of(machine.tables(), event);
     let answer = machine.step(event);
+    events_change_neither();
     hasher.update(machine.last_output());
     *made = made.with(plan, who, answer);
 }
@@ -62,7 +63,7 @@ pub fn run(machine: &mut Machine, plan: &Plan) -> Told
 {
     let mut made = Made::nothing();
     let mut hasher = Sha256::new();
-    loop {
+    'events: loop {
         match next(machine, plan, &made) {
             Next::Submit(event) => go_on(machine, plan, &mut made, &mut hasher, &event),
             Next::End(ending) => return tell(machine, ending, hasher),

@@ -35,7 +35,7 @@ impl Tally {
     pub fn rows(&self) -> &[Row]
         ensures { result.now ≡ self.now.rows.items }
     {
-        &self.rows
+        self.rows.as_slice()
     }
 
     /// How many runs had an outcome for which there was no row left.
@@ -49,8 +49,8 @@ impl Tally {
     pub fn note(&mut self, seed: u64, told: Told)
         ensures { IsNoted seed told self.old self.new }
     {
-        match place_of(&self.rows, &told) {
-            Some(place) => count_again(&mut self.rows, place),
+        match place_of(self.rows.as_slice(), &told) {
+            Some(place) => count_again(self.rows.as_mut_slice(), place),
             None if self.rows.len() < TALLY_ROWS => {
                 let row = Row {
                     told,

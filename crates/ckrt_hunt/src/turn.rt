@@ -1,11 +1,13 @@
 //! Which event comes next.
 ghost use Rattle.std.specs.Prelude.{◌≡◌, ◌≤◌, ◌<◌, ◌+◌, IfSome, false};
-ghost use Rattle.ckrt_thread.specs.State.{holds};
+ghost use Rattle.ckrt_thread.specs.State.{holds, is_live};
 ghost use Rattle.ckrt_events.specs.Bytes.{IsInRange};
 ghost use Rattle.ckrt_machine.specs.Steps.{hart_of};
 ghost use Rattle.ckrt_machine.specs.Runs.{is_running};
 ghost use Rattle.ckrt_drive.specs.Plan.{IsInRangeNext};
-ghost use Rattle.ckrt_hunt.specs.Turns.{IsFitNext, IsNumbered, IsWithin, best_among, better, considered, event_for, has_priorities, hart_from, is_clocks, is_enough, length_of, may_run, nearer, next, next_for, next_point, on_or_onto, or_a_tick, or_enough, rank_of, ranked, runner_of, steps_in, steps_of, tick_by};
+ghost use Rattle.ckrt_hunt.specs.declared.made.Made.{Made};
+ghost use Rattle.ckrt_hunt.specs.declared.plan.Plan.{Plan};
+ghost use Rattle.ckrt_hunt.specs.Turns.{IsFitNext, IsNumbered, IsWithin, best_among, better, clock_period, considered, event_for, hart_from, is_clocks, is_enough, length_of, may_run, nearer, next, next_for, next_point, on_or_onto, or_a_tick, or_enough, rank_of, ranked, runner_of, steps_in, steps_of, tick_by};
 
 use crate::lots::{CLOCK, HART, LENGTH, SCALE, lot_at, shorter_of};
 use crate::made::Made;
@@ -25,19 +27,18 @@ pub struct Ranked {
 
 // Whose turn it is.
 
+/// Whether there is such a thread, and it has not ended.
+fn is_live(threads: &Threads, thread: ThreadId) -> bool
+    ensures { result ≡ is_live threads.now thread }
+{
+    matches!(threads.thread(u32::from(thread)), Some(Thread::Live(_)))
+}
+
 /// Whether the thread has not ended, and waits for nothing.
 fn may_run(threads: &Threads, thread: ThreadId) -> bool
     ensures { result ≡ may_run threads.now thread }
 {
-    matches!(threads.thread(u32::from(thread)), Some(Thread::Live(_)))
-        && threads.wait_of(thread).is_none()
-}
-
-/// Whether the run is still one by priorities.
-fn has_priorities(plan: &Plan, made: &Made) -> bool
-    ensures { result ≡ has_priorities plan.now made.now }
-{
-    made.steps < plan.horizon
+    is_live(threads, thread) && threads.wait_of(thread).is_none()
 }
 
 /// The lots of the turn that is next.
@@ -52,7 +53,7 @@ fn turn_of(made: &Made) -> u64
 fn rank_of(plan: &Plan, made: &Made, thread: ThreadId) -> u64
     ensures { result ≡ rank_of plan.now made.now thread }
 {
-    if has_priorities(plan, made) {
+    if made.steps < plan.horizon {
         made.lowered.priority_of(plan.seed, thread)
     } else {
         u64::from(lot_at(plan.seed, turn_of(made), thread))
@@ -141,7 +142,7 @@ fn length_of(plan: &Plan, made: &Made) -> u32
     ensures some { 1 ≤ result }
     ensures few { result ≤ 1000000 }
 {
-    if has_priorities(plan, made) {
+    if made.steps < plan.horizon {
         return next_point(plan, made.steps) - made.steps;
     }
     let turn = turn_of(made);
@@ -204,12 +205,19 @@ fn on_or_onto(plan: &Plan, made: &Made, tables: &Tables, thread: ThreadId) -> Ev
     Event::Place(hart as u8, thread)
 }
 
+/// One turn in so many is the clock's.
+fn clock_period(plan: &Plan) -> u32
+    ensures period { result ≡ clock_period plan.now }
+    ensures some { 1 ≤ result }
+{
+    if plan.is_early { 8 } else { 64 }
+}
+
 /// Whether the turn is the clock's.
 fn is_clocks(plan: &Plan, made: &Made) -> bool
     ensures { result ≡ is_clocks plan.now made.now }
 {
-    let lot = lot_at(plan.seed, turn_of(made), CLOCK);
-    lot % (if plan.is_early { 8 } else { 64 }) == 0
+    lot_at(plan.seed, turn_of(made), CLOCK) % clock_period(plan) == 0
 }
 
 /// The event of a clock's turn.
@@ -264,6 +272,7 @@ fn is_enough(plan: &Plan, made: &Made) -> bool
     ensures enough { result ≡ is_enough plan.now made.now }
     ensures steps { result ≡ false → made.now.steps < plan.now.limit }
     ensures events { result ≡ false → made.now.events < plan.now.limit }
+    ensures limit { plan.now.limit < 4294967296 }
 {
     plan.limit <= made.events || plan.limit <= made.steps
 }
@@ -271,8 +280,8 @@ fn is_enough(plan: &Plan, made: &Made) -> bool
 /// A tick that the clock has no room for ends a run.
 fn or_enough(machine: &Machine, next: Next) -> Next
     ensures next { result ≡ or_enough next machine.now.state.tables }
-    ensures fit { (p : Plan) (m : Made) → m.events < p.limit → IsWithin p m next
-        → IsFitNext p m machine.now.state.tables result }
+    ensures fit { (p : Plan) (m : Made) → p.limit < 4294967296 → m.events < p.limit
+        → IsWithin p m next → IsFitNext p m machine.now.state.tables result }
 {
     match next {
         Next::Submit(event) => match machine.accept(0, &event) {
