@@ -1,5 +1,5 @@
 -- The search for the thread whose turn it is, and for its hart.
-use Rattle.std.proofs.Common.{◌≡◌, ◌∷◌, ◌++◌, ℕ, suc, ◌+◌, ◌-◌, ◌<◌, ◌≤◌, Bool, true, false, Option, Some, None, List, ap, sym, arith, cond, nat_le, refl}
+use Rattle.std.proofs.Common.{◌≡◌, [], ◌∷◌, ◌++◌, ℕ, suc, ◌+◌, ◌-◌, ◌<◌, ◌≤◌, Bool, true, false, Option, Some, None, List, ap, sym, arith, cond, nat_le, refl}
 use Rattle.std.specs.List.{find}
 use Rattle.ckrt_thread.specs.State as threads
 use Rattle.ckrt_thread.specs.Waits.{is_of}
@@ -31,6 +31,10 @@ none_best p m s = refl
 pub waiting_on : (s : threads.State) (n t : ℕ) (ws : List Waiting) → t ≡ suc n → ws ≡ waiting_among s n → ws ++ waiting_by t (find (is_of t) s.waits) ≡ waiting_among s t
 unfolding waiting_among
 waiting_on s n t ws e h = rw (e, h) refl
+
+pub none_waiting : (s : threads.State) → waiting_among s 0 ≡ []
+unfolding waiting_among
+none_waiting s = refl
 
 -- HARTS
 

@@ -3,8 +3,9 @@
 -- An even seed goes by lot alone. An odd one goes by priorities for its first k steps, and then by lot: probabilistic concurrency testing
 -- (Burckhardt, Kothari, Musuvathi, Nagarakatte: "A Randomized Scheduler with Probabilistic Guarantees of Finding Bugs", ASPLOS 2010). There d is 1 to
 -- 4, for d - 1 change points, and k is one of 10, 100, .., 1,000,000: an odd seed has each of these 24 pairs with the same probability. n is how many
--- threads the program makes. So of a run of at most k steps, a seed with this pair finds a bug of depth d with a probability of at least
--- 1 / (n k^(d-1)), as far as the lots are true ones and the clock doesn't matter.
+-- threads the program makes. A scheduler that looks at the priorities before each step finds a bug of depth d, in a run of at most k steps, with a
+-- probability of at least 1 / (n k^(d-1)). This one looks at them before each turn: so that is its bound only as far as no thread of a higher
+-- priority is woken within a turn, the clock doesn't matter, and the lots are true ones.
 use Rattle.std.specs.Prelude.{ℕ, ◌+◌, ◌%◌, ◌==◌, nat_le, nat_lt, Bool, if◌then◌else◌, Option, Some, None}
 use Rattle.ckrt_machine.specs.declared.event.Answer.{Answer}
 use Rattle.ckrt_machine.specs.declared.event.Answer.TheVariants.{Placed, Ran, Taken, Closed, Ticked}

@@ -19,7 +19,7 @@ first_row seed told = record { told = told; count = 1; first = seed }
 
 -- none of the first k rows has the outcome
 abbrev pub HasNone : Told → List Row → (k : ℕ) → Type 0
-HasNone told rows k = (j : ℕ) (r : Row) → j < k → slice_get rows j ≡ Some r → r.told ≢ told
+HasNone told rows k = (j : ℕ) → j < k → (r : Row) → slice_get rows j ≡ Some r → r.told ≢ told
 
 -- the place is that of the first row with the outcome, and this is its row
 pub record IsFirst (told : Told) (rows : List Row) (k : ℕ) (r : Row) : Type 0 where
@@ -51,10 +51,15 @@ abbrev pub SeedComesTo : Hunted → (seed : ℕ) → Told → Type 0
 SeedComesTo h seed told =
     ComesTo (plan_of h.shape.limit seed) (fresh h.shape.pages h.shape.harts h.image) told
 
+-- a tally that grew by a seed out of one of which something was so
+pub record Grew (WasSo : Tally → Type 0) (h : Hunted) (seed : ℕ) (tally : Tally) : Type 0 where
+  pub before : Tally
+  pub was_so : WasSo before
+  pub told : Told
+  pub comes : SeedComesTo h seed told
+  pub noted : IsNoted seed told before tally
+
 -- the tally of n seeds, from one on: each is noted in its turn, with what it comes to
 abbrev pub IsTallyOf : Hunted → (first n : ℕ) → Tally → Type 0
 IsTallyOf h first zero tally = (tally.rows.items ≡ []) × (tally.others ≡ 0)
-IsTallyOf h first (suc n) tally =
-    (told : Told) × (before : Tally) × IsTallyOf h first n before
-    × SeedComesTo h (first + n) told
-    × IsNoted (first + n) told before tally
+IsTallyOf h first (suc n) tally = Grew (IsTallyOf h first n) h (first + n) tally

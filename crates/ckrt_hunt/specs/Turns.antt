@@ -82,11 +82,16 @@ nearer n c ahead = if nat_lt n c && nat_lt c ahead then c else ahead
 abbrev pub next_point : Plan → (steps : ℕ) → ℕ
 next_point p n = nearer n p.first (nearer n p.second (nearer n p.third p.horizon))
 
--- how long a turn is: up to the next change point, or by lot, up to one of 10, 100, .., 1,000,000
+-- a length by lot, up to one of 10, 100, .., 1,000,000
+abbrev pub drawn_length : Plan → Made → ℕ
+drawn_length p m =
+    lot_at p.seed (m.turns + 1) LENGTH % shorter_of (lot_at p.seed (m.turns + 1) SCALE) + 1
+
+-- how long a turn is: by lot, and up to the next change point at most
 abbrev pub length_of : Plan → Made → ℕ
 length_of p m =
-    if has_priorities p m then next_point p m.steps - m.steps
-    else lot_at p.seed (m.turns + 1) LENGTH % shorter_of (lot_at p.seed (m.turns + 1) SCALE) + 1
+    if has_priorities p m then min (drawn_length p m) (next_point p m.steps - m.steps)
+    else drawn_length p m
 
 -- the steps of a turn, as many as are left
 abbrev pub steps_of : Plan → Made → ℕ

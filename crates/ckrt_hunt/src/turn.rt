@@ -7,7 +7,7 @@ ghost use Rattle.ckrt_machine.specs.Runs.{is_running};
 ghost use Rattle.ckrt_drive.specs.Plan.{IsInRangeNext};
 ghost use Rattle.ckrt_hunt.specs.declared.made.Made.{Made};
 ghost use Rattle.ckrt_hunt.specs.declared.plan.Plan.{Plan};
-ghost use Rattle.ckrt_hunt.specs.Turns.{IsFitNext, IsNumbered, IsWithin, best_among, better, clock_period, considered, event_for, hart_from, is_clocks, is_enough, length_of, may_run, nearer, next, next_for, next_point, on_or_onto, or_a_tick, or_enough, rank_of, ranked, runner_of, steps_in, steps_of, tick_by};
+ghost use Rattle.ckrt_hunt.specs.Turns.{IsFitNext, IsNumbered, IsWithin, best_among, better, clock_period, considered, drawn_length, event_for, hart_from, is_clocks, is_enough, length_of, may_run, nearer, next, next_for, next_point, on_or_onto, or_a_tick, or_enough, rank_of, ranked, runner_of, steps_in, steps_of, tick_by};
 
 use crate::lots::{CLOCK, HART, LENGTH, SCALE, lot_at, shorter_of};
 use crate::made::Made;
@@ -136,18 +136,29 @@ fn next_point(plan: &Plan, steps: u32) -> u32
     nearer(steps, plan.first, second)
 }
 
+/// A length by lot.
+fn drawn_length(plan: &Plan, made: &Made) -> u32
+    ensures length { result ≡ drawn_length plan.now made.now }
+    ensures some { 1 ≤ result }
+    ensures few { result ≤ 1000000 }
+{
+    let turn = turn_of(made);
+    let most = shorter_of(lot_at(plan.seed, turn, SCALE));
+    lot_at(plan.seed, turn, LENGTH) % most + 1
+}
+
 /// How long a turn is.
 fn length_of(plan: &Plan, made: &Made) -> u32
     ensures length { result ≡ length_of plan.now made.now }
     ensures some { 1 ≤ result }
     ensures few { result ≤ 1000000 }
 {
+    let drawn = drawn_length(plan, made);
     if made.steps < plan.horizon {
-        return next_point(plan, made.steps) - made.steps;
+        drawn.min(next_point(plan, made.steps) - made.steps)
+    } else {
+        drawn
     }
-    let turn = turn_of(made);
-    let most = shorter_of(lot_at(plan.seed, turn, SCALE));
-    lot_at(plan.seed, turn, LENGTH) % most + 1
 }
 
 /// The steps of a turn, as many as are left.
