@@ -175,7 +175,7 @@ fn output_without_a_file_is_printed(rt: HostRuntime) {
 }
 
 const OUT_OF_RANGE: &str =
-    "--turn is 1 to 1000000, --rounds-per-commit and --progress 1 or more, and --from goes without --output\nckrt: Range\n";
+    "--turn is 1 to 1000000, --rounds-per-commit and --progress 1 or more, --from goes without --output, and --input-from, below 2^62, with --input\nckrt: Range\n";
 
 const ABSENT: &str = "the disk drive_none.disk: there is no such file\nckrt: File\n";
 

@@ -73,7 +73,7 @@ const PUTS_ONCE: [u32; 6] = [
 const PUTS_FOR_EVER: [u32; 3] = [0x00200893, 0x00000073, 0xffdff06f];
 
 /// Two threads that put eight letters each, with no lock: in which order hangs on their turns.
-const RACERS: [u32; 26] = [
+pub const RACERS: [u32; 26] = [
     0x00001537, // lui x10, 1
     0x03c50513, // addi x10, x10, puts
     0x06200593, // addi x11, x0, 0x62
@@ -106,12 +106,12 @@ const RACERS: [u32; 26] = [
 ];
 
 /// Turns of the most steps, and a commit after 16 rounds.
-fn usual(events: u64) -> Options {
+pub fn usual(events: u64) -> Options {
     Options::new(65_535, 16, events)
 }
 
 /// A disk of zeros with an image formatted onto it, for so many harts.
-fn formatted_for<R: Abort + AllocGlobal>(rt: &R, words: &[u32], harts: u32) -> Vec<u8> {
+pub fn formatted_for<R: Abort + AllocGlobal>(rt: &R, words: &[u32], harts: u32) -> Vec<u8> {
     let image = image_of(rt, words);
     let mut disk = memory_disk(rt, filled(rt, 0, SIZE));
     let config = Config { harts, ..SMALL };
@@ -124,7 +124,7 @@ fn formatted_for<R: Abort + AllocGlobal>(rt: &R, words: &[u32], harts: u32) -> V
 }
 
 /// The session and the output, once a drive has come to this end.
-fn ended<R: Abort, D: Disk, O: Disk>(
+pub fn ended<R: Abort, D: Disk, O: Disk>(
     rt: &R,
     session: Session<D>,
     output: O,
@@ -138,7 +138,7 @@ fn ended<R: Abort, D: Disk, O: Disk>(
 }
 
 /// The output holds these bytes from its beginning on, and zeros behind them.
-fn expect_held<R: Abort + AllocGlobal>(rt: &R, output: MemoryDisk, want: &[u8]) {
+pub fn expect_held<R: Abort + AllocGlobal>(rt: &R, output: MemoryDisk, want: &[u8]) {
     let image = output.into_image();
     let count = want.len();
     assert!(rt; count <= image.len());
@@ -339,81 +339,6 @@ fn output_that_fails(rt: HostRuntime) {
         Ending::Ended,
     );
     expect_held(&rt, output, &[0x14]);
-}
-
-/// What is left of a disk that stops at a call, and of the output, behind a drive.
-fn left_by_stop<R: Abort + AllocGlobal>(
-    rt: &R,
-    formatted: &[u8],
-    at_call: u64,
-    options: Options,
-) -> (Vec<u8>, MemoryDisk) {
-    let bytes = formatted.to_vec(rt.alloc()).expect(rt, "memory for bytes");
-    let disk = stopping_disk(rt, bytes, at_call, &[0xa5]);
-    let output = memory_disk(rt, filled(rt, 0, 64));
-    match recovery_outcome(rt, disk) {
-        Ok(session) => {
-            let mut drive = Drive::new(session, output, options);
-            expect_eq_at(
-                rt,
-                at_call,
-                drive.run(1_000_000, &mut Nobody),
-                Err(DriveFault::Device),
-            );
-            let again = drive.run(1_000_000, &mut Nobody);
-            expect_eq_at(rt, at_call, again.is_err(), true);
-            let (session, output, Nothing) = drive.into_parts();
-            (session.into_disk().into_image(), output)
-        }
-        Err(unrecovered) => (unrecovered.disk.into_image(), output),
-    }
-}
-
-/// A drive of small turns with a commit after each round, over a disk that stops at a call, and then one to the end over
-/// what is left: the output holds each byte once.
-fn expect_whole_after_stop<R: Abort + AllocGlobal>(rt: &R, formatted: &[u8], at_call: u64) {
-    let (image, output) = left_by_stop(rt, formatted, at_call, Options::new(40, 1, u64::MAX));
-    let session = recovered_in_memory(rt, image);
-    let (_, output) = ended(rt, session, output, usual(u64::MAX), Ending::Ended);
-    expect_held(rt, output, &[0x14, 0x28, 0x3c]);
-}
-
-#[test]
-fn each_byte_once_after_a_stop_at_each_call(rt: HostRuntime) {
-    let formatted = formatted_for(&rt, &SLEEPERS, 3);
-    // recovery's sync, four commits by 4 calls each, a checkpoint of all 15 pages by 21, and three of none by 8 each: the guest
-    // stores nothing
-    for at_call in 1..63 {
-        expect_whole_after_stop(&rt, formatted.as_slice(), at_call);
-    }
-}
-
-/// The output once a drive of small turns by this seed has come to its end.
-fn raced<R: Abort + AllocGlobal>(rt: &R, image: Vec<u8>, output: MemoryDisk, seed: u64) -> Vec<u8> {
-    let session = recovered_in_memory(rt, image);
-    let options = Options::new(40, 16, u64::MAX).with_seed(seed);
-    let (_, output) = ended(rt, session, output, options, Ending::Ended);
-    output.into_image()
-}
-
-/// The same of a formatted disk that nothing stops.
-fn raced_unbroken<R: Abort + AllocGlobal>(rt: &R, formatted: &[u8], seed: u64) -> Vec<u8> {
-    let bytes = formatted.to_vec(rt.alloc()).expect(rt, "memory for bytes");
-    raced(rt, bytes, memory_disk(rt, filled(rt, 0, 64)), seed)
-}
-
-#[test]
-fn racers_end_as_unbroken_after_a_stop_at_each_call(rt: HostRuntime) {
-    let formatted = formatted_for(&rt, &RACERS, 3);
-    let wanted = raced_unbroken(&rt, formatted.as_slice(), 5);
-    let other = raced_unbroken(&rt, formatted.as_slice(), 6);
-    expect_eq(&rt, wanted.as_slice() == other.as_slice(), false);
-    for at_call in 1..40 {
-        let options = Options::new(40, 1, u64::MAX).with_seed(5);
-        let (image, output) = left_by_stop(&rt, formatted.as_slice(), at_call, options);
-        let got = raced(&rt, image, output, 5);
-        expect_bytes(&rt, got.as_slice(), wanted.as_slice());
-    }
 }
 
 /// Takes so many bytes, and no more.

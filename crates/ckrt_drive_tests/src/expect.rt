@@ -53,7 +53,7 @@ pub fn remove_file<R: Abort + Files<File = File>>(rt: &R, path: &str) {
 }
 
 /// A copy of bytes.
-fn copied<R: Abort + AllocGlobal>(rt: &R, bytes: &[u8]) -> Vec<u8> {
+pub fn copied<R: Abort + AllocGlobal>(rt: &R, bytes: &[u8]) -> Vec<u8> {
     bytes.to_vec(rt.alloc()).expect(rt, "memory for bytes")
 }
 

@@ -1,7 +1,7 @@
 //! Drives with an input, stopped and given again.
 
 use crate::expect::{
-    expect_bytes, expect_eq, expect_eq_at, filled, image_of, memory_disk, stopping_disk,
+    copied, expect_bytes, expect_eq, expect_eq_at, filled, image_of, memory_disk, stopping_disk,
 };
 use crate::small_disk::{SMALL, format_outcome, recovered};
 use ckrt_disk::{Disk, MemoryDisk};
@@ -40,11 +40,6 @@ fn formatted<R: Abort + AllocGlobal>(rt: &R) -> Vec<u8> {
     let outcome = format_outcome(rt, &mut disk, SMALL, image.as_slice());
     expect_eq(rt, outcome, Ok(()));
     disk.into_image()
-}
-
-/// A copy of bytes.
-fn copied<R: Abort + AllocGlobal>(rt: &R, bytes: &[u8]) -> Vec<u8> {
-    bytes.to_vec(rt.alloc()).expect(rt, "memory for bytes")
 }
 
 /// How much of its input the program of a disk has taken.

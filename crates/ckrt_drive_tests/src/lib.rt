@@ -24,4 +24,6 @@ mod sessions;
 #[cfg(test)]
 mod small_disk;
 #[cfg(test)]
+mod stops;
+#[cfg(test)]
 mod words;

@@ -65,12 +65,15 @@ const DRIVE: DriveJob<'static> = DriveJob {
     disk: "d",
     image: None,
     sizes: NO_SIZES,
+    input: None,
+    input_from: None,
     output: Some("o"),
     turn: 1_000_000,
     rounds: 16,
     events: None,
     seed: None,
     progress: None,
+    status: None,
     from: None,
 };
 
@@ -166,11 +169,14 @@ const EVERY_SIZE: Sizes = Sizes {
 const EVERY_DRIVE_OPTION: DriveJob<'static> = DriveJob {
     image: Some("i"),
     sizes: EVERY_SIZE,
+    input: Some("n"),
+    input_from: Some(3),
     turn: 0,
     rounds: 4_294_967_295,
     events: Some(18_446_744_073_709_551_615),
     seed: Some(7),
     progress: Some(10),
+    status: Some("t"),
     from: Some(18_446_744_073_709_551_615),
     ..DRIVE
 };
@@ -185,6 +191,9 @@ const FULL_DRIVES: &[Named] = &[(
         "--harts",
         "4294967295",
         "--journal=4096",
+        "--input",
+        "n",
+        "--input-from=3",
         "--output=o",
         "--turn=0",
         "--rounds-per-commit",
@@ -194,6 +203,7 @@ const FULL_DRIVES: &[Named] = &[(
         "--seed=7",
         "--progress",
         "10",
+        "--status=t",
         "--from=18446744073709551615",
     ],
     Job::Drive(EVERY_DRIVE_OPTION),

@@ -2,7 +2,7 @@
 use Rattle.std.proofs.Common.{◌≡◌, ◌⊎◌, inl, inr, ⊎_elim, ℕ, ◌+◌, ◌==◌, ◌&&◌, Bool, true, false, if◌then◌else◌, Option, Some, None, List, [], ◌∷◌, ◌++◌, length, take, Result, Ok, Err, refl, sym, ◌∙◌, ap, subst, arith, append_assoc, append-nil, length-append}
 use Rattle.std.proofs.lemmas.List.{append_cancel_left}
 use Rattle.ckrt_drive.specs.Given.{IsSupplied, given_in}
-use Rattle.ckrt_drive.specs.Plan.{Schedule, next, next_event, schedule_of}
+use Rattle.ckrt_drive.specs.Plan.{next_event, schedule_of}
 use Rattle.ckrt_disk.specs.declared.disk.Disk.{Ghosts}
 use Rattle.ckrt_drive.specs.Output.{HoldsOutput}
 use Rattle.ckrt_drive.specs.Steps.{Steps, accepted_in, aim_of}

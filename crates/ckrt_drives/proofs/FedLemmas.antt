@@ -1,18 +1,23 @@
 -- Drives with an input: what each is told, and what they give of it.
 use Rattle.std.proofs.Common.{◌≡◌, ℕ, Option, Some, None, List, [], ◌∷◌, ◌++◌, length, drop, Result, Ok, refl, sym, ◌∙◌, ap, subst}
 use Rattle.std.specs.Prelude.{IfSome}
+use Rattle.ckrt_checkpoint.specs.declared.area.Area.{Area}
+use Rattle.ckrt_checkpoint.specs.declared.config.Config.{Config}
 use Rattle.ckrt_disk.specs.Frame.{MayBeLeft}
 use Rattle.ckrt_disk.specs.declared.disk.Disk.{Ghosts}
 use Rattle.ckrt_events.specs.declared.event.Event.{Event}
 use Rattle.ckrt_image.specs.Programs.{Program, RecoversTo, RecoversToStart, start_of}
+use Rattle.ckrt_image.specs.Recovery.{◌>>=◌, events_of_batches}
 use Rattle.ckrt_image.specs.declared.fault.RecoverFault.{RecoverFault}
 use Rattle.ckrt_input.specs.Next.{AreGiven}
 use Rattle.ckrt_input.specs.Taken.{bytes_of, taken_by}
 use Rattle.ckrt_input.proofs.NextLemmas.{beginning, end_behind, goes_on}
+use Rattle.ckrt_journal.specs.declared.fault.JournalFault.{JournalFault}
 use Rattle.ckrt_machine.specs.Events.{step}
 use Rattle.ckrt_machine.specs.Steps.{State}
-use Rattle.ckrt_record.specs.Offset.{offset_of}
-use Rattle.ckrt_record.proofs.FedLemmas.{as_recovered, begins, tells}
+use Rattle.ckrt_record.specs.Fed.{IsFed}
+use Rattle.ckrt_record.specs.Offset.{journaled, offset_from, or_said, saved_offset, taken_in, with_saved}
+use Rattle.ckrt_record.proofs.FedLemmas.{as_recovered, begins, taken-append}
 use Rattle.ckrt_recovery.specs.Between.{IsBeginningOf}
 use Rattle.ckrt_drives.specs.ByPlan.{Course}
 use Rattle.ckrt_drives.specs.Drives.{AllHaveInput, AllKeep, AllOnCourse, AllTold, AllToldByRecord, ComeBehind, IsTold, IsToldByRecord, Keeps, OneDrive, course_of, past_behind}
@@ -47,18 +52,32 @@ gives file events p given =
 
 -- WHAT A DRIVE IS TOLD
 
+said_beside : (n : ℕ) (said : Option ℕ) → or_said (Some n) said ≡ Some n
+said_beside n None = refl
+said_beside n (Some other) = refl
+
+-- an image that keeps what its events took tells that, whatever somebody says beside
+tells_from : (said : Option ℕ) (events : List Event) (image : List ℕ) → IsFed events image → offset_from said image ≡ Ok (Some (taken_by events))
+tells_from said events image is =
+    let f = is.fed in
+    ap (λ (u : Result (Config × Area) RecoverFault). u >>= λ used. taken_in (journaled used.0 used.1 image) >>= λ more. Ok (with_saved (or_said (saved_offset used.0 used.1 image) said) more)) is.used
+    ∙ ap (λ (j : Result (List (List ℕ)) JournalFault). taken_in j >>= λ more. Ok (with_saved (or_said (saved_offset is.config is.area image) said) more)) f.chain
+    ∙ ap (λ (o : Option ℕ). Ok (with_saved (or_said o said) (taken_by (events_of_batches f.batches)))) f.known
+    ∙ ap (λ (o : Option ℕ). Ok (with_saved o (taken_by (events_of_batches f.batches)))) (said_beside (taken_by f.saved) said)
+    ∙ ap (λ n. Ok (Some n)) (sym (ap taken_by f.all ∙ taken-append f.saved (events_of_batches f.batches)))
+
 same_offset : (n m : ℕ) (o : Result (Option ℕ) RecoverFault) → o ≡ Ok (Some n) → o ≡ Ok (Some m) → n ≡ m
 same_offset n m o is are = let same : ◌≡◌ {A = Result (Option ℕ) RecoverFault} (Ok (Some n)) (Ok (Some m)) = sym is ∙ are in cc
 
 module _ {D : Type 0} (d : Ghosts D) where
   -- what the record says is what those events took that were recovered
   told_by : (file : Option (List ℕ)) (taken : ℕ) (h : Past) (start : D) (opened : List Event) (from : ℕ) → RecoversTo h.program opened from (d.content start) → IsBeginningOf opened h.accepted → StandsFed d file h start
-      → IfSome file (λ bytes. offset_of (d.content start) ≡ Ok (Some taken)) → IsTold file taken opened
+      → IfSome file (λ bytes. (said : Option ℕ) × (offset_from said (d.content start) ≡ Ok (Some taken))) → IsTold file taken opened
   told_by (Some bytes) taken h start opened from recovers within stand told =
       let image = d.content start in
       let k : KeepsFed h image = stand image (itself d start) in
       let same : opened ≡ k.all = begins_once opened k.all h.accepted within k.within (as_recovered h.program opened k.all from image recovers k.fed.1) in
-      same_offset taken (taken_by k.all) (offset_of image) told (tells k.all image k.fed.1) ∙ ap taken_by (sym same)
+      same_offset taken (taken_by k.all) (offset_from told.0 image) told.1 (tells_from told.0 k.all image k.fed.1) ∙ ap taken_by (sym same)
   told_by None taken h start opened from recovers within stand told = tt
 
 module _ {D O : Type 0} {d : Ghosts D} {o : Ghosts O} where

@@ -1,5 +1,5 @@
 -- What a list by plan gives of the input is what is next of it.
-use Rattle.std.proofs.Common.{◌≡◌, ◌⊎◌, inl, inr, ℕ, ◌+◌, Option, Some, List, [], ◌∷◌, ◌++◌, length, drop, refl, sym, ◌∙◌, ap, subst, append-nil}
+use Rattle.std.proofs.Common.{◌≡◌, ◌⊎◌, inl, inr, ℕ, ◌+◌, Option, Some, List, [], ◌∷◌, ◌++◌, length, drop, sym, ◌∙◌, ap, subst, append-nil}
 use Rattle.std.proofs.lemmas.List.{drop-drop}
 use Rattle.ckrt_events.specs.declared.event.Event.{Event}
 use Rattle.ckrt_events.specs.declared.event.Event.TheVariants.{Place, Run, Input, Eof, Tick, RunLong}
@@ -8,7 +8,6 @@ use Rattle.ckrt_image.proofs.ReplayLemmas.{state-append}
 use Rattle.ckrt_input.specs.Next.{AreGiven, IsNext, next_input}
 use Rattle.ckrt_input.specs.Taken.{bytes_of, taken_by}
 use Rattle.ckrt_input.proofs.NextLemmas.{beginning, end_behind}
-use Rattle.ckrt_machine.specs.Events.{step}
 use Rattle.ckrt_record.proofs.FedLemmas.{taken-append}
 use Rattle.ckrt_drive.specs.Given.{given_in}
 use Rattle.ckrt_drive.proofs.GivenLemmas.{IsNoInput, given_or_none}

@@ -1,5 +1,5 @@
 -- What a list by plan gives its program of the input.
-use Rattle.std.specs.Prelude.{◌≡◌, ℕ, List, [], ◌∷◌, ◌++◌, Some}
+use Rattle.std.specs.Prelude.{◌≡◌, ℕ, List, ◌∷◌, ◌++◌, Some}
 use Rattle.ckrt_events.specs.declared.event.Event.{Event}
 use Rattle.ckrt_events.specs.declared.event.Event.TheVariants.{Eof}
 use Rattle.ckrt_image.specs.Programs.{Program}

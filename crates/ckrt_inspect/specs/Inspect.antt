@@ -1,5 +1,5 @@
 -- What the inspector answers and writes.
-use Rattle.std.specs.Prelude.{◌≡◌, ℕ, Bool, true, false, List, Option, Some, None, Result, Ok, Err}
+use Rattle.std.specs.Prelude.{ℕ, Bool, true, false, List, Option, Some, None, Result, Ok, Err}
 use Rattle.std.specs.Io.KnownBytes.{Appends}
 use Rattle.ckrt_disk.specs.Frame.{IsOnlyRead}
 use Rattle.ckrt_disk.specs.declared.disk.Disk.{Ghosts}

@@ -1,5 +1,6 @@
 pub mod Texts
 pub mod Code
 pub mod Listing
+pub mod Metrics
 pub mod Worked
 pub mod Inspect

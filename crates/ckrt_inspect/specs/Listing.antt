@@ -1,6 +1,6 @@
 -- The listing of a program: its tables in plain text, row by row (this project's own format). Lines end with a line feed; addresses and pcs
 -- have eight lower-case hexadecimal digits, other numbers are decimal.
-use Rattle.std.specs.Prelude.{ℕ, suc, ◌==◌, Bool, List, [], ◌∷◌, ◌++◌, length, take, if◌then◌else◌, codes, decimal, Option, Some, None}
+use Rattle.std.specs.Prelude.{ℕ, suc, Bool, List, [], ◌∷◌, ◌++◌, length, take, if◌then◌else◌, codes, decimal, Option, Some, None}
 use Rattle.std.specs.List.{flat_map}
 use Rattle.ckrt_thread.specs.declared.records.Cancellation.{Cancellation}
 use Rattle.ckrt_thread.specs.declared.records.Live.{Live}

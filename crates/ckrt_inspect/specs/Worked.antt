@@ -1,5 +1,5 @@
 -- Worked listings and lines, written down from the format: what the definitions must give.
-use Rattle.std.specs.Prelude.{◌≡◌, ℕ, true, false, List, [], ◌∷◌, codes, Option, Some, None, replicate, slice_set, refl}
+use Rattle.std.specs.Prelude.{◌≡◌, ℕ, true, false, List, [], ◌∷◌, codes, Option, Some, None, replicate, slice_set}
 use Rattle.ckrt_rv32i.specs.declared.execution.Cause.TheVariants as cause
 use Rattle.ckrt_thread.specs.Cancellation.{acted_on, at_the_start}
 use Rattle.ckrt_thread.specs.Keys.{keys_off, no_keys, no_data}
@@ -13,7 +13,6 @@ use Rattle.ckrt_thread.specs.declared.records.Thread.TheVariants as thread
 use Rattle.ckrt_thread.specs.declared.records.Wait.{Wait}
 use Rattle.ckrt_mutex.specs.declared.records.Kind.TheVariants as kind
 use Rattle.ckrt_state.specs.declared.table.Status.TheVariants as status
-use Rattle.ckrt_state.specs.declared.table.Tables.{Tables}
 use Rattle.ckrt_machine.specs.Steps.{State}
 use Rattle.ckrt_inspect.specs.Listing.{barrier_line, hart_line, keys_lines, listing_by, mutex_line, rwlock_line, value_line, status_line, thread_lines, wait_line}
 use Rattle.ckrt_inspect.specs.Code.{code_line, word_line}

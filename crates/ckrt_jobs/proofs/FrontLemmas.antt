@@ -1,5 +1,5 @@
 -- The front of a list, read up to a limit.
-use Rattle.std.proofs.Common.{◌≡◌, ◌<◌, ◌≤◌, ◌+◌, ℕ, zero, suc, List, [], ◌∷◌, length, take, refl, ap, subst, arith, sym, ◌∙◌}
+use Rattle.std.proofs.Common.{◌≡◌, ◌<◌, ◌≤◌, ◌+◌, ℕ, zero, suc, List, [], ◌∷◌, length, take, refl, ap, subst, arith, ◌∙◌}
 use Rattle.std.proofs.lemmas.List.{take-take}
 use Rattle.ckrt_jobs.specs.Making.{is_elf}
 

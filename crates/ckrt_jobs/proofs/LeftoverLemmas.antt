@@ -1,5 +1,5 @@
 -- Whether a disk's program has begun, by what is recovered from it.
-use Rattle.std.proofs.Common.{◌≡◌, ◌∙◌, ℕ, Bool, true, false, List, Result, Ok, Err, refl, sym, ap, subst, true≢false}
+use Rattle.std.proofs.Common.{◌≡◌, ◌∙◌, ℕ, Bool, false, List, Result, Ok, Err, refl, sym, ap, subst, true≢false}
 use Rattle.std.specs.Prelude.{◌↔◌, IsTrue, is_ok}
 use Rattle.ckrt_image.specs.Recovery.{AgreesOnFault, Recovered, Recovers}
 use Rattle.ckrt_image.specs.declared.fault.RecoverFault.{RecoverFault}

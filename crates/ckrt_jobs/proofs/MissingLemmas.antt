@@ -1,5 +1,5 @@
 -- The making of a missing disk, where less is known of the disks.
-use Rattle.std.proofs.Common.{◌≡◌, ℕ, List, Option, Result, inl, inr}
+use Rattle.std.proofs.Common.{ℕ, List, Option, Result, inl, inr}
 use Rattle.ckrt_disk.specs.declared.disk.Disk.{Ghosts}
 use Rattle.ckrt_checkpoint.specs.declared.config.Config.{Config}
 use Rattle.ckrt_jobs.specs.Missing.{MakesMissing}

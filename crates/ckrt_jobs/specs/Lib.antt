@@ -1,6 +1,7 @@
 pub mod Addresses
 pub mod Lengths
 pub mod Driving
+pub mod Feeding
 pub mod Ends
 pub mod Leftovers
 pub mod Making

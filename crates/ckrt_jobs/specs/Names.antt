@@ -64,4 +64,7 @@ name_of (job.Inspect f) = name_of_look f
 name_of job.Range = codes "Range"
 name_of (job.SizesDiffer c) = codes "BadConfig"
 name_of (job.OutputDiffers l) = codes "OutputDiffers"
+name_of job.NotRecorded = codes "NotRecorded"
+name_of (job.OffsetDiffers taken) = codes "OffsetDiffers"
+name_of (job.InputTooShort l) = codes "InputTooShort"
 name_of (job.Drive f) = name_of_drive f

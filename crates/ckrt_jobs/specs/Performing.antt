@@ -16,7 +16,7 @@ use Rattle.ckrt_words.specs.Jobs.{Formatting, Request, Inspection, drive, format
 use Rattle.ckrt_words.specs.declared.job.WordsFault.{WordsFault}
 use Rattle.ckrt_words.specs.declared.job.WordsFault.TheVariants as words
 use Rattle.ckrt_drive.specs.declared.stream.StreamOutput.{StreamOutput}
-use Rattle.ckrt_jobs.specs.Driving.{DrivesPath, IsLent, IsUnwritten}
+use Rattle.ckrt_jobs.specs.Driving.{DrivesPath, IsLent, IsUnwritten, means_of}
 use Rattle.ckrt_jobs.specs.Ends.{end_line}
 use Rattle.ckrt_jobs.specs.Making.{Makes}
 use Rattle.ckrt_jobs.specs.Openings.{Openings, opened, refused, with_closed, with_disk}
@@ -24,14 +24,13 @@ use Rattle.ckrt_jobs.specs.Outcomes.{config_of, disk_of, made_line, status_of, s
 use Rattle.ckrt_jobs.specs.Reports.{report_of, words_report_of}
 use Rattle.ckrt_jobs.specs.Running.{RunsDisk}
 use Rattle.ckrt_jobs.specs.Showing.{Shows, shown_of}
-use Rattle.ckrt_jobs.specs.Sizes.{config_for}
+use Rattle.ckrt_jobs.specs.Sources.{Gives, anything}
 use Rattle.ckrt_jobs.specs.declared.driven.Driven.{Driven}
 use Rattle.ckrt_jobs.specs.declared.fault.JobFault.{JobFault}
 use Rattle.ckrt_jobs.specs.declared.fault.JobFault.TheVariants as job
 use Rattle.ckrt_jobs.specs.declared.file.FileFault.{FileFault}
 use Rattle.ckrt_jobs.specs.declared.file.JobFile.TheVariants as file
 use Rattle.ckrt_jobs.specs.declared.running.Unserved.{Unserved}
-use Rattle.ckrt_jobs.specs.declared.output.OpenedOutput.{OpenedOutput}
 
 -- the stored program: it prints the letter A, and exits with 0
 abbrev pub IMAGE : List ℕ
@@ -145,26 +144,26 @@ Comes Holds outcome =
     (result : Result Driven JobFault) × (outcome ≡ outcome_with_end result) × Holds result
 
 -- What the program does for a request, where its sources give these bytes for the path of an image, these disks for that of a disk, these
--- once it is filled, and these outputs for that of an output; the openings go from old to new: what asks for no file opens none.
+-- once it is filled, and what else they may give; the openings go from old to new: what asks for no file opens none.
 abbrev pub Performs : {D W : Type 0} → Ghosts D → Ghosts (StreamOutput W)
     → (contents : W → Option (List ℕ)) → Request → (List ℕ → Option (List ℕ))
-    → (List ℕ → D → Type 0) → (List ℕ → ℕ → D → Type 0) → (List ℕ → OpenedOutput D → Type 0)
+    → (List ℕ → D → Type 0) → (List ℕ → ℕ → D → Type 0) → Gives D
     → (old new : Openings D) → (a b r s : Option (List ℕ)) → Result (Option Driven) JobFault
     → Type 0
-Performs d o contents stored known Opens Fills Outputs old new a b r s outcome =
+Performs d o contents stored known Opens Fills others old new a b r s outcome =
     Does (ServesStored a b r s) outcome × (new ≡ old)
-Performs d o contents version known Opens Fills Outputs old new a b r s outcome =
+Performs d o contents version known Opens Fills others old new a b r s outcome =
     Does (SaysLine a b version_line) outcome × (s ≡ r) × (new ≡ old)
-Performs d o contents (format f) known Opens Fills Outputs old new a b r s outcome =
+Performs d o contents (format f) known Opens Fills others old new a b r s outcome =
     Does (MakesPath d f (known f.image) (Fills f.disk (size_needed (config_of f))) old new a b)
     outcome × (s ≡ r)
-Performs d o contents (run disk) known Opens Fills Outputs old new a b r s outcome =
+Performs d o contents (run disk) known Opens Fills others old new a b r s outcome =
     Does (RunsPath d disk (Opens disk) old new a b r s) outcome
-Performs d o contents (inspect i) known Opens Fills Outputs old new a b r s outcome =
+Performs d o contents (inspect i) known Opens Fills others old new a b r s outcome =
     Does (ShowsPath d (Opens i.disk) i old new a b r s) outcome
-Performs d o contents (drive j) known Opens Fills Outputs old new a b r s outcome =
-    Comes (DrivesPath d o (IsLent contents a b) known (Opens j.disk)
-    (Fills j.disk (size_needed (config_for j.sizes))) Outputs j old new) outcome
+Performs d o contents (drive j) known Opens Fills others old new a b r s outcome =
+    Comes (DrivesPath (means_of d o (IsLent contents a b) known Opens Fills others j) j old new)
+    outcome
     × IsUnwritten j.output a b × (s ≡ r)
 
 -- a reporter said this text behind what it had said, unless it has failed
@@ -182,9 +181,9 @@ ReportsOutcome q (Err fault) before after has_failed =
 
 -- the program's words ask for something: what was done, what was said of it, and the status
 pub record RunsRequest {D W : Type 0} (d : Ghosts D) (o : Ghosts (StreamOutput W)) (contents : W → Option (List ℕ)) (q : Request) (known : List ℕ → Option (List ℕ)) (Opens : List ℕ → D → Type 0) (Fills : List ℕ → ℕ → D → Type 0)
-    (Outputs : List ℕ → OpenedOutput D → Type 0) (old new : Openings D) (a b r s said_before said_after : Option (List ℕ)) (has_failed : Bool) (status : ℕ) : Type 0 where
+    (others : Gives D) (old new : Openings D) (a b r s said_before said_after : Option (List ℕ)) (has_failed : Bool) (status : ℕ) : Type 0 where
   pub outcome : Result (Option Driven) JobFault
-  pub performs : Performs d o contents q known Opens Fills Outputs old new a b r s outcome
+  pub performs : Performs d o contents q known Opens Fills others old new a b r s outcome
   pub reports : ReportsOutcome q outcome said_before said_after has_failed
   pub gives : status ≡ status_of outcome
 
@@ -205,10 +204,10 @@ pub record RefusesWords {D : Type 0} (ws : List (List ℕ)) (old new : Openings 
 abbrev pub RunsWords : {D W : Type 0} → Ghosts D → Ghosts (StreamOutput W)
     → (contents : W → Option (List ℕ)) → (ws : List (List ℕ)) → (List ℕ → Option (List ℕ))
     → (List ℕ → D → Type 0) → (List ℕ → ℕ → D → Type 0)
-    → (List ℕ → OpenedOutput D → Type 0) → (old new : Openings D)
+    → Gives D → (old new : Openings D)
     → (a b r s said_before said_after : Option (List ℕ)) → Bool → ℕ → Type 0
-RunsWords d o contents ws known Opens Fills Outputs old new a b r s said_before said_after has_failed status =
-    ((q : Request) × (request_of_words ws ≡ Some q) × RunsRequest d o contents q known Opens Fills Outputs old new a b r s said_before said_after has_failed status)
+RunsWords d o contents ws known Opens Fills others old new a b r s said_before said_after has_failed status =
+    ((q : Request) × (request_of_words ws ≡ Some q) × RunsRequest d o contents q known Opens Fills others old new a b r s said_before said_after has_failed status)
     ⊎ RefusesWords ws old new a b r s said_before said_after has_failed status
 
 -- the same with files of the system, of which nothing is known but what was asked for, and how that was opened
@@ -216,4 +215,4 @@ abbrev pub RunsOnFiles : {D W : Type 0} → Ghosts D → Ghosts (StreamOutput W)
     → (contents : W → Option (List ℕ)) → (ws : List (List ℕ)) → (old new : Openings D)
     → (a b r s said_before said_after : Option (List ℕ)) → Bool → ℕ → Type 0
 RunsOnFiles d o contents ws old new a b r s said_before said_after has_failed status =
-    RunsWords d o contents ws (λ _. None) (λ _ _. Unit {0}) (λ _ _ _. Unit {0}) (λ _ _. Unit {0}) old new a b r s said_before said_after has_failed status
+    RunsWords d o contents ws (λ _. None) (λ _ _. Unit {0}) (λ _ _ _. Unit {0}) anything old new a b r s said_before said_after has_failed status

@@ -10,6 +10,7 @@ use Rattle.ckrt_jobs.specs.declared.file.FileFault.{FileFault}
 use Rattle.ckrt_jobs.specs.declared.file.FileFault.TheVariants as fault
 use Rattle.ckrt_jobs.specs.declared.file.JobFile.{JobFile}
 use Rattle.ckrt_jobs.specs.declared.file.JobFile.TheVariants as file
+use Rattle.ckrt_jobs.specs.declared.input.InputLengths.{InputLengths}
 use Rattle.ckrt_jobs.specs.declared.output.OutputLengths.{OutputLengths}
 use Rattle.ckrt_image.specs.declared.fault.FormatFault.{FormatFault}
 use Rattle.ckrt_image.specs.declared.fault.FormatFault.TheVariants as format
@@ -63,11 +64,13 @@ file_fault_text fault.IsElf = codes "it is an ELF file: guest/image, or objcopy 
 file_fault_text fault.IsDisk = codes "the disk has this path too; give the output another"
 file_fault_text fault.IsADirectory = codes "it is a directory"
 file_fault_text fault.NotAFile = codes "it isn't a plain file, and can't be written by offset; without --output the bytes are printed"
+file_fault_text fault.NotAnInput = codes "it isn't a plain file, and can't be read by offset; put its bytes into a file, and give that"
 file_fault_text fault.PermissionDenied = codes "permission denied"
 file_fault_text fault.InUse = codes "another program has it locked"
 file_fault_text fault.StorageFull = codes "no space is left for it"
 file_fault_text fault.ReadOnly = codes "its file system is read-only"
 file_fault_text fault.NotInMaking = codes "it is no disk in the making, and is unchanged; move it away, then give the command again"
+file_fault_text fault.NotAStatus = codes "it is no status of a drive, and is unchanged; move it away, or give another path"
 file_fault_text fault.IsThere = codes "something has the disk's path meanwhile; look at it, then give the command again"
 file_fault_text fault.OutOfMemory = memory_advice
 file_fault_text fault.StreamClosed = codes "a standard stream is closed"
@@ -101,6 +104,9 @@ file_of (job.Inspect look.Device) = Some file.Disk
 file_of (job.Inspect look.Range) = Some file.Disk
 file_of (job.SizesDiffer c) = Some file.Disk
 file_of (job.OutputDiffers l) = Some file.Output
+file_of job.NotRecorded = Some file.Disk
+file_of (job.OffsetDiffers taken) = Some file.Disk
+file_of (job.InputTooShort l) = Some file.Input
 file_of (job.Drive f) = Some (file_of_drive f)
 file_of _ = None
 
@@ -163,10 +169,20 @@ size_text before size behind = before ++ (decimal size ++ behind)
 abbrev pub sizes_text : Config → List ℕ
 sizes_text c = size_text (codes "it has --pages ") c.pages [] ++ (size_text (codes " --harts ") c.harts [] ++ size_text (codes " --journal ") c.journal (codes ": "))
 
+-- how many bytes of its input a program has taken
+abbrev pub taken_text : ℕ → List ℕ
+taken_text taken = size_text (codes "its program has taken ") taken (codes " bytes of the input: ")
+
+-- and beside that how many the file has
+abbrev pub input_text : InputLengths → List ℕ
+input_text l = size_text (codes "it has ") l.length [] ++ size_text (codes " bytes, and the program has taken ") l.taken (codes ": ")
+
 -- the numbers of a fault, where it has some
 abbrev pub numbers_of : JobFault → List ℕ
 numbers_of (job.SizesDiffer c) = sizes_text c
 numbers_of (job.OutputDiffers l) = lengths_text l
+numbers_of (job.OffsetDiffers taken) = taken_text taken
+numbers_of (job.InputTooShort l) = input_text l
 numbers_of _ = []
 
 abbrev pub advice_of : JobFault → List ℕ
@@ -176,9 +192,12 @@ advice_of (job.Format f) = advice_of_format f
 advice_of (job.Recover f) = advice_of_recover f
 advice_of (job.Serve f) = advice_of_serve f
 advice_of (job.Inspect f) = advice_of_look f
-advice_of job.Range = codes "--turn is 1 to 1000000, --rounds-per-commit and --progress 1 or more, and --from goes without --output"
+advice_of job.Range = codes "--turn is 1 to 1000000, --rounds-per-commit and --progress 1 or more, --from goes without --output, and --input-from, below 2^62, with --input"
 advice_of (job.SizesDiffer c) = codes "these stay; give them, or leave them out"
 advice_of (job.OutputDiffers l) = advice_of_lengths l
+advice_of job.NotRecorded = codes "it can't tell how much of the input its program has read, since it was saved by hand: `--input-from` says how many bytes that were when it was saved"
+advice_of (job.OffsetDiffers taken) = codes "leave --input-from out"
+advice_of (job.InputTooShort l) = codes "give the file that it had before, whole"
 advice_of (job.Drive f) = advice_of_drive f
 
 -- the path of an output, or what stands for it where it is printed
@@ -186,10 +205,10 @@ abbrev pub output_text : Option (List ℕ) → List ℕ
 output_text None = codes "(standard output)"
 output_text (Some path) = path
 
--- the path of an image, where there is one
-abbrev pub image_text : Option (List ℕ) → List ℕ
-image_text None = []
-image_text (Some path) = path
+-- the path of an image or of an input, where there is one
+abbrev pub path_text : Option (List ℕ) → List ℕ
+path_text None = []
+path_text (Some path) = path
 
 -- the path that the words give for a file
 abbrev pub path_of : JobFile → Request → List ℕ
@@ -200,7 +219,8 @@ path_of file.Disk (asks_inspect i) = i.disk
 path_of file.Disk (asks_drive j) = j.disk
 path_of file.Output (asks_drive j) = output_text j.output
 path_of file.Making (asks_drive j) = j.disk
-path_of file.Image (asks_drive j) = image_text j.image
+path_of file.Image (asks_drive j) = path_text j.image
+path_of file.Input (asks_drive j) = path_text j.input
 path_of _ _ = []
 
 -- the file that is spoken of, with its path

@@ -1,35 +1,35 @@
 //! Driving a disk.
-ghost use Rattle.std.specs.Prelude.{◌≡◌, ◌⊎◌, IfSome, IfErr, IfOk, None, OnOk, false, option_map, true};
-ghost use Rattle.ckrt_checkpoint.specs.Layout.{size_needed};
+ghost use Rattle.std.specs.Prelude.{◌≡◌, None, Some, is_some, option_map, true};
 ghost use Rattle.ckrt_words.specs.Jobs.{driving_of};
-ghost use Rattle.ckrt_jobs.specs.Sizes.{config_for};
-ghost use Rattle.ckrt_jobs.specs.Driving.{DrivesInto, DrivesOnto, DrivesOpened, DrivesOpenedOutput, DrivesPath, DrivesRecovered, DrivesSession, DrivesSized, DrivesStream, IsAsked, IsLent, IsUnwritten, answer_of, driven_of, is_in_range, is_target, offset_of};
-ghost use Rattle.ckrt_jobs.specs.Openings.{opened, refused};
+ghost use Rattle.ckrt_jobs.specs.Driving.{DrivesFed, DrivesInto, DrivesOnto, DrivesOpened, DrivesOpenedOutput, DrivesPath, DrivesRecovered, DrivesSized, DrivesStream, DrivesWay, IsAsked, IsLent, IsUnwritten, answer_of, driven_of, is_in_range, is_intake, is_target, means_of, offset_of, ready, setting_of, way_of};
 ghost use Rattle.ckrt_drive.specs.Streams.{HasSameWriter};
 
 use crate::address::fault_address;
 use crate::driven::Driven;
 use crate::fault::JobFault;
+use crate::feeding::{Intake, Supplied, close_both, file_of, supply};
 use crate::file::JobFile;
-use crate::meter::Meter;
+use crate::meter::{Meter, Watch};
 use crate::missing::find_disk;
 use crate::output::{OpenedOutput, OutputLengths};
 use crate::sizes::other_sizes;
 use crate::sources::Sources;
 use ckrt_disk::Disk;
-use ckrt_drive::{Drive, DriveFault, Ending, Nothing, Options, StreamOutput};
+use ckrt_drive::{Drive, DriveFault, Ending, Feed, FromDisk, Nothing, Options, StreamOutput};
 use ckrt_events::LONG_RUN_LIMIT;
 use ckrt_machine::Machine;
+use ckrt_record::TAKEN_LIMIT;
 use ckrt_recovery::{RecoverFault, Session, recover};
 use ckrt_words::DriveJob;
 use std::alloc::Global;
 use std::io::{Read, Write};
 
-/// A session and its output behind a drive, and what it came to.
+/// A session, its output and its input behind a drive, and what it came to.
 #[derive(Drop)]
-pub(crate) struct Undertaken<D: Disk, O> {
+pub(crate) struct Undertaken<D: Disk, O, F> {
     pub(crate) session: Session<D>,
     pub(crate) output: O,
+    pub(crate) input: F,
     pub(crate) driven: Result<Driven, DriveFault>,
 }
 
@@ -38,6 +38,16 @@ fn is_target(output: Option<&str>, from: Option<u64>) -> bool
     ensures { result ≡ is_target (option_map (λ path. path.now) output.entry) from }
 {
     output.is_none() || from.is_none()
+}
+
+/// Whether an offset goes with what the input is: with a file alone, and below where a record ends.
+fn is_intake(input: Option<&str>, from: Option<u64>) -> bool
+    ensures { result ≡ is_intake (option_map (λ path. path.now) input.entry) from }
+{
+    match from {
+        Some(from) => input.is_some() && from < TAKEN_LIMIT,
+        None => true,
+    }
 }
 
 /// Whether the job's numbers are in their ranges.
@@ -49,6 +59,7 @@ fn is_in_range(job: &DriveJob<'_>) -> bool
         && job.rounds > 0
         && job.progress != Some(0)
         && is_target(job.output, job.from)
+        && is_intake(job.input, job.input_from)
 }
 
 /// How the drive goes that the words ask for.
@@ -60,6 +71,17 @@ fn options_of(job: &DriveJob<'_>) -> Options
     match job.seed {
         Some(seed) => options.with_seed(seed),
         None => options,
+    }
+}
+
+/// How the drive is watched that the words ask for.
+fn watch_of<'a>(job: &DriveJob<'a>) -> Watch<'a>
+    ensures progress { result.progress ≡ job.now.progress }
+    ensures status { result.status ≡ job.now.status }
+{
+    Watch {
+        progress: job.progress,
+        status: job.status,
     }
 }
 
@@ -80,24 +102,94 @@ fn driven_of(
     }
 }
 
-/// Drives a session, with its output in a disk of its own.
-fn drive_session<D: Disk, O: Disk, M: Meter>(
+/// Drives a session, with its output in a disk of its own and its input from a feed, of which the program has taken so many
+/// bytes.
+fn undertake<D: Disk, O: Disk, F: Feed, M: Meter>(
+    session: Session<D>,
+    output: O,
+    feed: F,
+    taken: u64,
+    options: Options,
+    meter: &mut M,
+) -> Undertaken<D, O, F>
+    ensures { DrivesWay O.Disk (record {
+      options = options;
+      IsRead = F.is_honest result.input;
+      file = F.file feed;
+      taken = taken;
+    })
+        session result.session output result.output result.driven }
+{
+    let mut drive = Drive::with_feed(session, output, options, feed, taken);
+    let answer = drive.run(u64::MAX, meter);
+    let driven = driven_of(drive.session().machine(), answer);
+    let (session, output, input) = drive.into_parts();
+    Undertaken {
+        session,
+        output,
+        input,
+        driven,
+    }
+}
+
+/// Drives a session without an input, with its output in a disk of its own.
+fn drive_unfed<D: Disk, O: Disk, M: Meter>(
     session: Session<D>,
     output: O,
     options: Options,
     meter: &mut M,
-) -> Undertaken<D, O>
-    ensures { DrivesSession O.Disk options session result.session output result.output
-        result.driven }
+) -> Undertaken<D, O, Option<D>>
+    ensures drives { DrivesWay O.Disk (way_of D.Disk options None result.input) session
+        result.session output result.output result.driven }
+    ensures unfed { result.input ≡ None }
 {
-    let mut drive = Drive::new(session, output, options);
-    let answer = drive.run(u64::MAX, meter);
-    let driven = driven_of(drive.session().machine(), answer);
-    let (session, output, Nothing) = drive.into_parts();
+    let undertaken = undertake(session, output, Nothing, 0, options, meter);
     Undertaken {
-        session,
-        output,
-        driven,
+        session: undertaken.session,
+        output: undertaken.output,
+        input: None,
+        driven: undertaken.driven,
+    }
+}
+
+/// Drives a session with an input, and with its output in a disk of its own.
+fn drive_fed<D: Disk, O: Disk, M: Meter>(
+    session: Session<D>,
+    output: O,
+    intake: Intake<D>,
+    options: Options,
+    meter: &mut M,
+) -> Undertaken<D, O, Option<D>>
+    ensures drives { DrivesWay O.Disk (way_of D.Disk options (Some intake) result.input) session
+        result.session output result.output result.driven }
+    ensures fed { is_some result.input ≡ true }
+{
+    meter.fed(intake.taken);
+    let feed = FromDisk::new(intake.file);
+    let undertaken = undertake(session, output, feed, intake.taken, options, meter);
+    Undertaken {
+        session: undertaken.session,
+        output: undertaken.output,
+        input: Some(undertaken.input.into_disk()),
+        driven: undertaken.driven,
+    }
+}
+
+/// Drives a session, with an input, where there is one, and with its output in a disk of its own.
+fn drive_session<D: Disk, O: Disk, M: Meter>(
+    session: Session<D>,
+    output: O,
+    intake: Option<Intake<D>>,
+    options: Options,
+    meter: &mut M,
+) -> Undertaken<D, O, Option<D>>
+    ensures drives { DrivesWay O.Disk (way_of D.Disk options intake result.input) session
+        result.session output result.output result.driven }
+    ensures kept { is_some result.input ≡ is_some intake }
+{
+    match intake {
+        Some(intake) => drive_fed(session, output, intake, options, meter),
+        None => drive_unfed(session, output, options, meter),
     }
 }
 
@@ -111,33 +203,35 @@ fn answer_of(driven: Result<Driven, DriveFault>) -> Result<Driven, JobFault>
     }
 }
 
-/// Drives a session onto an output that was opened, and closes both.
+/// Drives a session onto an output that was opened, and closes all.
 fn drive_onto<'a, I: Read, D: Disk, S: Sources<'a, I, D>, M: Meter>(
     session: Session<D>,
     output: D,
+    intake: Option<Intake<D>>,
     options: Options,
     sources: &mut S,
     meter: &mut M,
 ) -> Result<Driven, JobFault>
-    ensures { DrivesOnto D.Disk options session output (S.openings sources.old)
-        (S.openings sources.new) result }
+    ensures { DrivesOnto {d = D.Disk} options (ready session intake) output
+        (S.openings sources.old) (S.openings sources.new) result }
 {
-    let undertaken = drive_session(session, output, options, meter);
+    let undertaken = drive_session(session, output, intake, options, meter);
     sources.close_output(undertaken.output);
-    sources.close(undertaken.session.into_disk());
+    close_both::<D, S>(undertaken.session.into_disk(), undertaken.input, sources);
     answer_of(undertaken.driven)
 }
 
-/// Drives a session onto an output that was opened, if the length of its file fits the disk; else closes both as they are.
+/// Drives a session onto an output that was opened, if the length of its file fits the disk; else closes all as they are.
 fn drive_onto_opened<'a, I: Read, D: Disk, S: Sources<'a, I, D>, M: Meter>(
     session: Session<D>,
     opened: OpenedOutput<D>,
+    intake: Option<Intake<D>>,
     options: Options,
     sources: &mut S,
     meter: &mut M,
 ) -> Result<Driven, JobFault>
-    ensures { DrivesOpenedOutput D.Disk opened options session (S.openings sources.old)
-        (S.openings sources.new) result }
+    ensures { DrivesOpenedOutput {d = D.Disk} opened options (ready session intake)
+        (S.openings sources.old) (S.openings sources.new) result }
 {
     let lengths = OutputLengths {
         length: opened.length,
@@ -145,10 +239,10 @@ fn drive_onto_opened<'a, I: Read, D: Disk, S: Sources<'a, I, D>, M: Meter>(
         released: session.released(),
     };
     if lengths.fits() {
-        return drive_onto::<I, D, S, M>(session, opened.output, options, sources, meter);
+        return drive_onto::<I, D, S, M>(session, opened.output, intake, options, sources, meter);
     }
     sources.close_output(opened.output);
-    sources.close(session.into_disk());
+    close_both::<D, S>(session.into_disk(), file_of(intake), sources);
     Err(JobFault::OutputDiffers(lengths))
 }
 
@@ -156,17 +250,20 @@ fn drive_onto_opened<'a, I: Read, D: Disk, S: Sources<'a, I, D>, M: Meter>(
 fn drive_into_file<'a, I: Read, D: Disk, S: Sources<'a, I, D>, M: Meter>(
     session: Session<D>,
     path: &'a str,
+    intake: Option<Intake<D>>,
     options: Options,
     sources: &mut S,
     meter: &mut M,
 ) -> Result<Driven, JobFault>
-    ensures { DrivesInto D.Disk (S.outputs sources.old path.now) path.now options session
-        (S.openings sources.old) (S.openings sources.new) result }
+    ensures { DrivesInto {d = D.Disk} ((S.gives sources.old).Outputs path.now) path.now options
+        (ready session intake) (S.openings sources.old) (S.openings sources.new) result }
 {
     match sources.open_output(path) {
-        Ok(opened) => drive_onto_opened::<I, D, S, M>(session, opened, options, sources, meter),
+        Ok(opened) => {
+            drive_onto_opened::<I, D, S, M>(session, opened, intake, options, sources, meter)
+        }
         Err(fault) => {
-            sources.close(session.into_disk());
+            close_both::<D, S>(session.into_disk(), file_of(intake), sources);
             Err(JobFault::File(JobFile::Output, fault))
         }
     }
@@ -176,36 +273,42 @@ fn drive_into_file<'a, I: Read, D: Disk, S: Sources<'a, I, D>, M: Meter>(
 fn drive_streamed<'a, D: Disk, W: Write, M: Meter>(
     session: Session<D>,
     stream: StreamOutput<'a, W>,
+    intake: Option<Intake<D>>,
     options: Options,
     meter: &mut M,
-) -> Undertaken<D, StreamOutput<'a, W>>
-    ensures drives { DrivesSession ⟦<StreamOutput<'a, W> as Disk>⟧ options session result.session
-        stream.entry result.output result.driven }
+) -> Undertaken<D, StreamOutput<'a, W>, Option<D>>
+    ensures drives { DrivesWay ⟦<StreamOutput<'a, W> as Disk>⟧
+        (way_of D.Disk options intake result.input) session result.session stream.entry
+        result.output result.driven }
+    ensures kept { is_some result.input ≡ is_some intake }
     ensures lent { HasSameWriter stream.entry result.output }
 {
-    drive_session(session, stream, options, meter)
+    drive_session(session, stream, intake, options, meter)
 }
 
-/// Drives a session, with its output on a writer but for the bytes below an offset, and closes its disk.
+/// Drives a session, with its output on a writer but for the bytes below an offset, and closes disk and input.
 fn drive_onto_stream<'a, I: Read, D: Disk, S: Sources<'a, I, D>, W: Write + 'a, M: Meter>(
     session: Session<D>,
-    from: u64,
+    intake: Option<Intake<D>>,
+    job: &DriveJob<'a>,
     options: Options,
     sources: &mut S,
     writer: &mut W,
     meter: &mut M,
 ) -> Result<Driven, JobFault>
-    ensures { DrivesStream D.Disk ⟦<StreamOutput<'a, W> as Disk>⟧
-        (IsLent W.contents (W.contents writer.old) (W.contents writer.new)) from options session
-        (S.openings sources.old) (S.openings sources.new) result }
+    ensures { DrivesStream {d = D.Disk} (setting_of ⟦<StreamOutput<'a, W> as Disk>⟧
+        (IsLent W.contents (W.contents writer.old) (W.contents writer.new)) (S.gives sources.old)
+        (driving_of job.now) options) (ready session intake) (S.openings sources.old)
+        (S.openings sources.new) result }
 {
+    let stream = StreamOutput::new(writer, offset_of(job.from));
     let Undertaken {
         session,
         output,
+        input,
         driven,
-    } = drive_streamed(session, StreamOutput::new(writer, from), options, meter);
-    let disk = session.into_disk();
-    sources.close(disk);
+    } = drive_streamed(session, stream, intake, options, meter);
+    close_both::<D, S>(session.into_disk(), input, sources);
     let writer = output.into_writer();
     // This does nothing at run time: clauses learn here what the writer holds once the stream has it no more.
     let _ = &*writer;
@@ -225,34 +328,61 @@ fn offset_of(from: Option<u64>) -> u64
 /// Drives a session, with its output in the job's file, or on the writer where the words name none.
 fn drive_recovered<'a, I: Read, D: Disk, S: Sources<'a, I, D>, W: Write + 'a, M: Meter>(
     session: Session<D>,
+    intake: Option<Intake<D>>,
     job: &DriveJob<'a>,
     options: Options,
     sources: &mut S,
     writer: &mut W,
     meter: &mut M,
 ) -> Result<Driven, JobFault>
-    ensures drives { DrivesRecovered D.Disk ⟦<StreamOutput<'a, W> as Disk>⟧
-        (IsLent W.contents (W.contents writer.old) (W.contents writer.new))
-        (S.outputs sources.old) (driving_of job.now).output (offset_of job.now.from) options
-        session (S.openings sources.old) (S.openings sources.new) result }
+    ensures drives { DrivesRecovered {d = D.Disk} (setting_of ⟦<StreamOutput<'a, W> as Disk>⟧
+        (IsLent W.contents (W.contents writer.old) (W.contents writer.new)) (S.gives sources.old)
+        (driving_of job.now) options) (ready session intake) (S.openings sources.old)
+        (S.openings sources.new) result }
     ensures unwritten { IsUnwritten (driving_of job.now).output (W.contents writer.old)
         (W.contents writer.new) }
 {
     match job.output {
-        Some(path) => drive_into_file::<I, D, S, M>(session, path, options, sources, meter),
+        Some(path) => {
+            drive_into_file::<I, D, S, M>(session, path, intake, options, sources, meter)
+        }
         None => drive_onto_stream::<I, D, S, W, M>(
-            session,
-            offset_of(job.from),
-            options,
-            sources,
-            writer,
-            meter,
+            session, intake, job, options, sources, writer, meter,
         ),
     }
 }
 
-/// Recovers a disk that was opened, and drives it.
+/// Recovers a disk that was opened, and drives it, with its input, where there is one.
 fn drive_opened<'a, I: Read, D: Disk, S: Sources<'a, I, D>, W: Write + 'a, M: Meter>(
+    alloc: Global,
+    supplied: Supplied<D>,
+    job: &DriveJob<'a>,
+    options: Options,
+    sources: &mut S,
+    writer: &mut W,
+    meter: &mut M,
+) -> Result<Driven, JobFault>
+    ensures drives { DrivesOpened {d = D.Disk} (setting_of ⟦<StreamOutput<'a, W> as Disk>⟧
+        (IsLent W.contents (W.contents writer.old) (W.contents writer.new)) (S.gives sources.old)
+        (driving_of job.now) options) supplied (S.openings sources.old) (S.openings sources.new)
+        result }
+    ensures unwritten { IsUnwritten (driving_of job.now).output (W.contents writer.old)
+        (W.contents writer.new) }
+{
+    let Supplied { disk, intake } = supplied;
+    match recover(alloc, disk) {
+        Ok(session) => drive_recovered::<I, D, S, W, M>(
+            session, intake, job, options, sources, writer, meter,
+        ),
+        Err(unrecovered) => {
+            close_both::<D, S>(unrecovered.disk, file_of(intake), sources);
+            Err(JobFault::Recover(unrecovered.fault))
+        }
+    }
+}
+
+/// Drives a disk with the input of the words, where they name one.
+fn drive_fed_by_words<'a, I: Read, D: Disk, S: Sources<'a, I, D>, W: Write + 'a, M: Meter>(
     alloc: Global,
     disk: D,
     job: &DriveJob<'a>,
@@ -261,22 +391,16 @@ fn drive_opened<'a, I: Read, D: Disk, S: Sources<'a, I, D>, W: Write + 'a, M: Me
     writer: &mut W,
     meter: &mut M,
 ) -> Result<Driven, JobFault>
-    ensures drives { DrivesOpened D.Disk ⟦<StreamOutput<'a, W> as Disk>⟧
-        (IsLent W.contents (W.contents writer.old) (W.contents writer.new))
-        (S.outputs sources.old) (driving_of job.now).output (offset_of job.now.from) options
-        disk (S.openings sources.old) (S.openings sources.new) result }
+    requires { is_in_range (driving_of job.now) ≡ true }
+    ensures drives { DrivesFed {d = D.Disk} (setting_of ⟦<StreamOutput<'a, W> as Disk>⟧
+        (IsLent W.contents (W.contents writer.old) (W.contents writer.new)) (S.gives sources.old)
+        (driving_of job.now) options) disk (S.openings sources.old) (S.openings sources.new)
+        result }
     ensures unwritten { IsUnwritten (driving_of job.now).output (W.contents writer.old)
         (W.contents writer.new) }
 {
-    match recover(alloc, disk) {
-        Ok(session) => {
-            drive_recovered::<I, D, S, W, M>(session, job, options, sources, writer, meter)
-        }
-        Err(unrecovered) => {
-            sources.close(unrecovered.disk);
-            Err(JobFault::Recover(unrecovered.fault))
-        }
-    }
+    let supplied = supply::<I, D, S>(disk, job, sources)?;
+    drive_opened::<I, D, S, W, M>(alloc, supplied, job, options, sources, writer, meter)
 }
 
 /// Drives a disk that was found, if it has the sizes that are asked for; else closes it as it is.
@@ -289,9 +413,10 @@ fn drive_sized<'a, I: Read, D: Disk, S: Sources<'a, I, D>, W: Write + 'a, M: Met
     writer: &mut W,
     meter: &mut M,
 ) -> Result<Driven, JobFault>
-    ensures drives { DrivesSized D.Disk ⟦<StreamOutput<'a, W> as Disk>⟧
-        (IsLent W.contents (W.contents writer.old) (W.contents writer.new))
-        (S.outputs sources.old) (driving_of job.now) options disk (S.openings sources.old)
+    requires { is_in_range (driving_of job.now) ≡ true }
+    ensures drives { DrivesSized {d = D.Disk} (setting_of ⟦<StreamOutput<'a, W> as Disk>⟧
+        (IsLent W.contents (W.contents writer.old) (W.contents writer.new)) (S.gives sources.old)
+        (driving_of job.now) options) job.now.sizes disk (S.openings sources.old)
         (S.openings sources.new) result }
     ensures unwritten { IsUnwritten (driving_of job.now).output (W.contents writer.old)
         (W.contents writer.new) }
@@ -300,7 +425,7 @@ fn drive_sized<'a, I: Read, D: Disk, S: Sources<'a, I, D>, W: Write + 'a, M: Met
     let found = other_sizes(&mut disk, &job.sizes);
     match found {
         Ok(None) => {
-            drive_opened::<I, D, S, W, M>(alloc, disk, job, options, sources, writer, meter)
+            drive_fed_by_words::<I, D, S, W, M>(alloc, disk, job, options, sources, writer, meter)
         }
         Ok(Some(other)) => {
             sources.close(disk);
@@ -314,13 +439,14 @@ fn drive_sized<'a, I: Read, D: Disk, S: Sources<'a, I, D>, W: Write + 'a, M: Met
 }
 
 /// Drives the disk of a path to an end, with its output in the file of another, which is asked for once the disk is
-/// recovered, or on the writer where the words name none. A disk that is missing is made, where the words have an image for it.
+/// recovered, or on the writer where the words name none. Its program's input is the job's file, where the words name one. A disk
+/// that is missing is made, where the words have an image for it.
 ///
 /// # Errors
 ///
 /// The first that applies: `Range`, before anything is opened; `File` of the disk, or what making it answers; `BadConfig` where
-/// it has other sizes than those of the words; `Recover`, before the output is asked for; `File` of the output; then what the
-/// drive answers.
+/// it has other sizes than those of the words; what the input's fault is, before a byte of the disk is changed; `Recover`, before
+/// the output is asked for; `File` of the output; then what the drive answers.
 pub(crate) fn drive_path<
     'a,
     I: Read + Drop,
@@ -335,12 +461,11 @@ pub(crate) fn drive_path<
     writer: &mut W,
     meter: &mut M,
 ) -> Result<Driven, JobFault>
-    ensures drives { DrivesPath D.Disk ⟦<StreamOutput<'a, W> as Disk>⟧
+    ensures drives { DrivesPath (means_of D.Disk ⟦<StreamOutput<'a, W> as Disk>⟧
         (IsLent W.contents (W.contents writer.old) (W.contents writer.new))
-        (S.image_bytes sources.old) (S.opens sources.old job.now.disk.now)
-        (S.fills sources.old job.now.disk.now (size_needed (config_for job.now.sizes)))
-        (S.outputs sources.old) (driving_of job.now) (S.openings sources.old)
-        (S.openings sources.new) result }
+        (S.image_bytes sources.old) (S.opens sources.old) (S.fills sources.old)
+        (S.gives sources.old) (driving_of job.now)) (driving_of job.now)
+        (S.openings sources.old) (S.openings sources.new) result }
     ensures unwritten { IsUnwritten (driving_of job.now).output (W.contents writer.old)
         (W.contents writer.new) }
 {
@@ -349,6 +474,6 @@ pub(crate) fn drive_path<
     }
     let options = options_of(job);
     let disk = find_disk::<I, D, S>(alloc, job, sources)?;
-    meter.begin(job.progress);
+    meter.begin(alloc, watch_of(job));
     drive_sized::<I, D, S, W, M>(alloc, disk, job, options, sources, writer, meter)
 }

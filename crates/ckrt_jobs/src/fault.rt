@@ -3,6 +3,7 @@ ghost use Rattle.ckrt_jobs.specs.Names.{name_of, name_of_drive, name_of_look};
 ghost use Rattle.ckrt_jobs.specs.Reports.{advice_of, advice_of_drive, advice_of_format, advice_of_lengths, advice_of_look, advice_of_recover, advice_of_serve, device_advice, file_of, file_of_drive, memory_advice};
 
 use crate::file::{FileFault, JobFile, MEMORY_ADVICE};
+use crate::input::InputLengths;
 use crate::output::OutputLengths;
 use ckrt_drive::DriveFault;
 use ckrt_inspect::InspectFault;
@@ -30,6 +31,12 @@ pub enum JobFault {
     SizesDiffer(Config),
     /// The file of the output has another length than that of the disk.
     OutputDiffers(OutputLengths),
+    /// The disk can't tell how much of its input its program has taken.
+    NotRecorded,
+    /// The program has taken so many bytes of its input, which aren't those that the words say.
+    OffsetDiffers(u64),
+    /// The file of the input has fewer bytes than the program has taken.
+    InputTooShort(InputLengths),
     /// The drive ended early.
     Drive(DriveFault),
 }
@@ -160,10 +167,20 @@ fn drive_name(fault: DriveFault) -> &'static str
 
 /// What is said of numbers of a drive that are out of their ranges.
 const RANGE_ADVICE: &str =
-    "--turn is 1 to 1000000, --rounds-per-commit and --progress 1 or more, and --from goes without --output";
+    "--turn is 1 to 1000000, --rounds-per-commit and --progress 1 or more, --from goes without --output, and --input-from, below 2^62, with --input";
 
 /// What is said of a disk with other sizes than those that were asked for, behind its own.
 const SIZES_ADVICE: &str = "these stay; give them, or leave them out";
+
+/// What is said of a disk that can't tell how much of its input its program has taken.
+const NOT_RECORDED_ADVICE: &str =
+    "it can't tell how much of the input its program has read, since it was saved by hand: `--input-from` says how many bytes that were when it was saved";
+
+/// What is said of words with another offset than that of the disk, behind that.
+const OFFSET_ADVICE: &str = "leave --input-from out";
+
+/// What is said of a file that is shorter than what was taken of it, behind the numbers.
+const SHORT_ADVICE: &str = "give the file that it had before, whole";
 
 /// What is said of an output whose file has another length than that of the disk, behind its numbers.
 fn lengths_advice(lengths: OutputLengths) -> &'static str
@@ -219,6 +236,9 @@ impl JobFault {
             JobFault::Range => "Range",
             JobFault::SizesDiffer(_) => "BadConfig",
             JobFault::OutputDiffers(_) => "OutputDiffers",
+            JobFault::NotRecorded => "NotRecorded",
+            JobFault::OffsetDiffers(_) => "OffsetDiffers",
+            JobFault::InputTooShort(_) => "InputTooShort",
             JobFault::Drive(fault) => drive_name(fault),
         }
     }
@@ -236,6 +256,9 @@ impl JobFault {
             JobFault::Range => RANGE_ADVICE,
             JobFault::SizesDiffer(_) => SIZES_ADVICE,
             JobFault::OutputDiffers(lengths) => lengths_advice(lengths),
+            JobFault::NotRecorded => NOT_RECORDED_ADVICE,
+            JobFault::OffsetDiffers(_) => OFFSET_ADVICE,
+            JobFault::InputTooShort(_) => SHORT_ADVICE,
             JobFault::Drive(fault) => drive_advice(fault),
         }
     }
@@ -263,8 +286,11 @@ impl JobFault {
                 | InspectFault::Device
                 | InspectFault::Range,
             ) => Some(JobFile::Disk),
-            JobFault::SizesDiffer(_) => Some(JobFile::Disk),
+            JobFault::SizesDiffer(_) | JobFault::NotRecorded | JobFault::OffsetDiffers(_) => {
+                Some(JobFile::Disk)
+            }
             JobFault::OutputDiffers(_) => Some(JobFile::Output),
+            JobFault::InputTooShort(_) => Some(JobFile::Input),
             JobFault::Drive(fault) => Some(drive_file(fault)),
             _ => None,
         }

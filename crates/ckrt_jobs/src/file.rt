@@ -41,6 +41,8 @@ pub enum FileFault {
     IsADirectory,
     /// What has this path is no plain file: a terminal, say, or a pipe.
     NotAFile,
+    /// What has the path of an input is no plain file: a pipe, say, or a terminal.
+    NotAnInput,
     /// The user may not open it so.
     PermissionDenied,
     /// Another program holds its lock.
@@ -51,6 +53,8 @@ pub enum FileFault {
     ReadOnly,
     /// It holds something else than a disk in the making.
     NotInMaking,
+    /// It holds something else than a status.
+    NotAStatus,
     /// Something has got the path that was free.
     IsThere,
     /// The system refused memory.
@@ -125,12 +129,16 @@ impl FileFault {
             FileFault::IsADirectory => "it is a directory",
             FileFault::NotAFile =>
                 "it isn't a plain file, and can't be written by offset; without --output the bytes are printed",
+            FileFault::NotAnInput =>
+                "it isn't a plain file, and can't be read by offset; put its bytes into a file, and give that",
             FileFault::PermissionDenied => "permission denied",
             FileFault::InUse => "another program has it locked",
             FileFault::StorageFull => "no space is left for it",
             FileFault::ReadOnly => "its file system is read-only",
             FileFault::NotInMaking =>
                 "it is no disk in the making, and is unchanged; move it away, then give the command again",
+            FileFault::NotAStatus =>
+                "it is no status of a drive, and is unchanged; move it away, or give another path",
             FileFault::IsThere =>
                 "something has the disk's path meanwhile; look at it, then give the command again",
             FileFault::OutOfMemory => MEMORY_ADVICE,

@@ -294,6 +294,46 @@ pub(crate) fn open_system_output<R: Files<File = File>, H: Holds>(
     output_of(open_or_make(rt, path)?.file)
 }
 
+/// Whether a path is that of a plain file. Nothing is opened: a pipe that nobody writes to would keep its opener waiting.
+fn is_plain_file<R: Files>(rt: &R, path: &str) -> Result<(), FileFault> {
+    let told = rt.metadata(path)?;
+    if told.is_dir() {
+        return Err(FileFault::IsADirectory);
+    }
+    if !told.is_file() {
+        return Err(FileFault::NotAnInput);
+    }
+    Ok(())
+}
+
+/// The input of a path: a plain file, which is only read.
+pub(crate) fn open_system_input<R: Files<File = File>, H: Holds>(
+    rt: &R,
+    path: &str,
+) -> Result<FileDisk<SystemFile<H>>, FileFault> {
+    is_plain_file(rt, path)?;
+    let file = open_read(rt, path)?;
+    let told = file.metadata()?;
+    if !told.is_file() {
+        return Err(FileFault::NotAnInput);
+    }
+    Ok(FileDisk::new(SystemFile::new(file), told.len() as usize))
+}
+
+/// The disk of an open file once zero bytes stand behind its own, up to so many bytes.
+pub(crate) fn longer_disk<H: Holds>(
+    file: &File,
+    size: usize,
+) -> Result<FileDisk<SystemFile<H>>, FileFault> {
+    fill_file(file, size)?;
+    let longer = file.try_clone()?;
+    let told = longer.metadata()?;
+    if (told.len() as usize) < size {
+        return Err(FileFault::Other);
+    }
+    Ok(FileDisk::new(SystemFile::new(longer), told.len() as usize))
+}
+
 /// The disk of a path, to be looked at.
 pub(crate) fn look_at_system_disk<R: Files<File = File>, H: Holds>(
     rt: &R,

@@ -37,12 +37,19 @@
 //! below their offset, and nothing but that stream writes to the writer, from the job's beginning to its end; else nothing is
 //! printed. An offset beside a file is the fault Range too.
 //!
+//! Proved of the input of a drive: it is asked for only once the disk has told how many bytes the program has taken, and goes on behind
+//! just these. Where the disk can't tell how many these were when it was saved, the words say so, or NotRecorded comes; where it
+//! can, words that say more are OffsetDiffers. A file with fewer bytes is InputTooShort. A disk that is driven with an input has room for the record, and is made
+//! longer where it hasn't. The steps of the drive were supplied from the bytes of that file, where they read the same to the
+//! end. Where the input can't be used both are closed as they were, and no output is asked for. Without an input the steps are
+//! supplied from none.
+//!
 //! Proved of [`run_words_with`]: its outcome is the one that the words ask for, and the status is that outcome's: for
 //! `format` that of making the disk of DISK with the image of IMAGE, and then the line `formatted SIZE`; for `run` that of
 //! running the disk of DISK; for `inspect` that of showing it; for `drive` that of driving it with its output in FILE or on a
 //! stream, and then the line of what it came to; for no words that of serving the stored program, of which a service that
 //! ends early has written a beginning; for `--version` the line of version and kit. Where a line can't be written, what was
-//! written is a beginning of it. The files that were asked for are those of DISK and IMAGE, each once, and none where the
+//! written is a beginning of it. The files that were asked for are those of DISK, IMAGE, input and output, each once, and none where the
 //! words name none; the disk is closed as its job left it, once, by who knows nothing of it and so can't write to it. A disk
 //! that can't be opened is a fault of File with what its sources said of that path. For each fault the line in plain words,
 //! with the path of the file, and the line with its name were reported exactly, or the reporter failed. The status is 2 never
@@ -64,10 +71,12 @@ mod address;
 mod driven;
 mod driving;
 mod fault;
+mod feeding;
 mod file;
 mod files;
 mod growing;
 mod image;
+mod input;
 mod laws;
 mod leftover;
 mod making;
@@ -81,20 +90,23 @@ mod running;
 mod showing;
 mod sizes;
 mod sources;
+mod status;
 mod stored;
 mod system;
 mod version;
 
 pub use driven::Driven;
 pub use fault::JobFault;
+pub use feeding::Intake;
 pub use file::{FileFault, JobFile};
+pub use input::InputLengths;
 pub use laws::printed_bytes_stay;
 pub use making::make_disk;
-pub use meter::{Meter, SystemMeter};
+pub use meter::{Meter, SystemMeter, Watch};
 pub use output::{OpenedOutput, OutputLengths};
 pub use program::{run_words, run_words_with};
 pub use reporter::{Reporter, Unsaid, WrittenReport};
 pub use running::{Unserved, run_disk};
 pub use showing::inspect_disk;
-pub use sources::{Closes, Sources};
+pub use sources::{Closes, Sources, Unlengthened};
 pub use system::{SystemDisk, SystemSources};

@@ -31,8 +31,8 @@ fn open_image<'a, I: Read, D: Disk, S: Sources<'a, I, D>>(
         × (S.openings sources.new
         ≡ with_image (S.openings sources.old) (refused path.now why))) }
     ensures same { GivesSame (S.image_bytes sources.old) (S.image_bytes sources.new)
-        (S.fills sources.old) (S.fills sources.new) (S.outputs sources.old)
-        (S.outputs sources.new) }
+        (S.fills sources.old) (S.fills sources.new) (S.gives sources.old)
+        (S.gives sources.new) }
 {
     match sources.open_image(path) {
         Ok(reader) => Ok(reader),
@@ -59,8 +59,8 @@ pub(crate) fn fitting_image<'a, I: Read + Drop, D: Disk, S: Sources<'a, I, D>>(
     ensures unfit { IfErr result (EndsOnImage config (S.image_bytes sources.old path.now) path.now
         (S.openings sources.old) (S.openings sources.new)) }
     ensures same { GivesSame (S.image_bytes sources.old) (S.image_bytes sources.new)
-        (S.fills sources.old) (S.fills sources.new) (S.outputs sources.old)
-        (S.outputs sources.new) }
+        (S.fills sources.old) (S.fills sources.new) (S.gives sources.old)
+        (S.gives sources.new) }
 {
     let reader = open_image(sources, path)?;
     let image = read_image(alloc, reader, config.memory_size())?;

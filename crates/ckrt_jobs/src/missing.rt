@@ -1,7 +1,8 @@
 //! Making a disk that a drive doesn't find.
-ghost use Rattle.std.specs.Prelude.{◌≡◌, ◌↔◌, IfOk, IfErr, IsTrue, Ok, OnOk};
+ghost use Rattle.std.specs.Prelude.{◌≡◌, ◌↔◌, ◌≤◌, ◌+◌, IfOk, IfErr, IsTrue, Ok, OnOk};
 ghost use Rattle.ckrt_checkpoint.specs.Layout.{size_needed};
 ghost use Rattle.ckrt_words.specs.Jobs.{driving_of};
+ghost use Rattle.ckrt_jobs.specs.Feeding.{made_size};
 ghost use Rattle.ckrt_jobs.specs.Missing.{EndsNaming, FindsDisk, MakesMissing, MakesNamed};
 ghost use Rattle.ckrt_jobs.specs.Openings.{opened, refused, with_making};
 ghost use Rattle.ckrt_jobs.specs.Sizes.{config_for};
@@ -11,6 +12,7 @@ ghost use Rattle.ckrt_jobs.specs.declared.file.FileFault.{FileFault};
 ghost use Rattle.ckrt_jobs.specs.declared.file.JobFile.TheVariants as file;
 
 use crate::fault::JobFault;
+use crate::feeding::spare_for;
 use crate::file::{FileFault, JobFile};
 use crate::making::fitting_image;
 use crate::sizes::config_for;
@@ -30,8 +32,8 @@ fn name_made<'a, I: Read, D: Disk, S: Sources<'a, I, D>>(
     ensures ends { EndsNaming path.now disk (S.openings sources.old) (S.openings sources.new)
         (Ok tt) result }
     ensures same { OnOk result (GivesSame (S.image_bytes sources.old) (S.image_bytes sources.new)
-        (S.fills sources.old) (S.fills sources.new) (S.outputs sources.old)
-        (S.outputs sources.new)) }
+        (S.fills sources.old) (S.fills sources.new) (S.gives sources.old)
+        (S.gives sources.new)) }
 {
     match sources.name_disk(path, &disk) {
         Ok(()) => Ok(disk),
@@ -54,8 +56,8 @@ fn make_named<'a, I: Read, D: Disk, S: Sources<'a, I, D>>(
     ensures makes { MakesNamed D.Disk config image.now path.now disk (S.openings sources.old)
         (S.openings sources.new) result }
     ensures same { OnOk result (GivesSame (S.image_bytes sources.old) (S.image_bytes sources.new)
-        (S.fills sources.old) (S.fills sources.new) (S.outputs sources.old)
-        (S.outputs sources.new)) }
+        (S.fills sources.old) (S.fills sources.new) (S.gives sources.old)
+        (S.gives sources.new)) }
 {
     let mut disk = disk;
     let answer = ckrt_recovery::format(alloc, &mut disk, config, image);
@@ -83,8 +85,8 @@ fn disk_in_making<'a, I: Read, D: Disk, S: Sources<'a, I, D>>(
         × (S.openings sources.new
         ≡ with_making (S.openings sources.old) (refused path.now why))) }
     ensures same { GivesSame (S.image_bytes sources.old) (S.image_bytes sources.new)
-        (S.fills sources.old) (S.fills sources.new) (S.outputs sources.old)
-        (S.outputs sources.new) }
+        (S.fills sources.old) (S.fills sources.new) (S.gives sources.old)
+        (S.gives sources.new) }
 {
     match sources.open_making(alloc, path, size) {
         Ok(disk) => Ok(disk),
@@ -92,7 +94,8 @@ fn disk_in_making<'a, I: Read, D: Disk, S: Sources<'a, I, D>>(
     }
 }
 
-/// Makes a disk for a path that nothing has: beside it, and by its name once it is formatted and durable.
+/// Makes a disk for a path that nothing has: beside it, and by its name once it is formatted and durable. It has so many bytes
+/// to spare behind those of its format.
 ///
 /// # Errors
 ///
@@ -104,19 +107,21 @@ fn make_missing<'a, I: Read + Drop, D: Disk, S: Sources<'a, I, D>>(
     image_path: &'a str,
     disk_path: &'a str,
     config: Config,
+    spare: usize,
 ) -> Result<D, JobFault>
+    requires { spare ≤ 4096 }
     ensures makes { MakesMissing D.Disk config (S.image_bytes sources.old image_path.now)
-        (S.fills sources.old disk_path.now (size_needed config)) image_path.now disk_path.now
-        (S.openings sources.old) (S.openings sources.new) result }
+        (S.fills sources.old disk_path.now (size_needed config + spare)) image_path.now
+        disk_path.now (S.openings sources.old) (S.openings sources.new) result }
     ensures same { OnOk result (GivesSame (S.image_bytes sources.old) (S.image_bytes sources.new)
-        (S.fills sources.old) (S.fills sources.new) (S.outputs sources.old)
-        (S.outputs sources.new)) }
+        (S.fills sources.old) (S.fills sources.new) (S.gives sources.old)
+        (S.gives sources.new)) }
 {
     if !config.is_valid() {
         return Err(JobFault::Format(FormatFault::BadConfig));
     }
     let image = fitting_image(alloc, sources, image_path, config)?;
-    let disk = disk_in_making(alloc, sources, disk_path, config.size_needed())?;
+    let disk = disk_in_making(alloc, sources, disk_path, config.size_needed() + spare)?;
     make_named::<I, D, S>(alloc, disk, sources, disk_path, config, &image)
 }
 
@@ -142,12 +147,12 @@ pub(crate) fn find_disk<'a, I: Read + Drop, D: Disk, S: Sources<'a, I, D>>(
 ) -> Result<D, JobFault>
     ensures finds { FindsDisk D.Disk (config_for job.now.sizes) (S.image_bytes sources.old)
         (S.opens sources.old job.now.disk.now)
-        (S.fills sources.old job.now.disk.now (size_needed (config_for job.now.sizes)))
+        (S.fills sources.old job.now.disk.now (made_size (driving_of job.now)))
         job.now.disk.now (driving_of job.now).image (S.openings sources.old)
         (S.openings sources.new) result }
     ensures same { OnOk result (GivesSame (S.image_bytes sources.old) (S.image_bytes sources.new)
-        (S.fills sources.old) (S.fills sources.new) (S.outputs sources.old)
-        (S.outputs sources.new)) }
+        (S.fills sources.old) (S.fills sources.new) (S.gives sources.old)
+        (S.gives sources.new)) }
 {
     let fault = match sources.open_disk(job.disk) {
         Ok(disk) => return Ok(disk),
@@ -155,7 +160,9 @@ pub(crate) fn find_disk<'a, I: Read + Drop, D: Disk, S: Sources<'a, I, D>>(
     };
     match job.image {
         Some(image) if is_missing(fault) => {
-            make_missing::<I, D, S>(alloc, sources, image, job.disk, config_for(&job.sizes))
+            let spare = spare_for(job.input);
+            let config = config_for(&job.sizes);
+            make_missing::<I, D, S>(alloc, sources, image, job.disk, config, spare)
         }
         _ => Err(JobFault::File(JobFile::Disk, fault)),
     }

@@ -188,7 +188,7 @@ fn perform<
 ) -> Result<Option<Driven>, JobFault>
     ensures performs { Performs D.Disk ⟦<StreamOutput<'a, W> as Disk>⟧ W.contents
         (request_of job.now) (S.image_bytes sources.old) (S.opens sources.old)
-        (S.fills sources.old) (S.outputs sources.old) (S.openings sources.old)
+        (S.fills sources.old) (S.gives sources.old) (S.openings sources.old)
         (S.openings sources.new) (W.contents writer.old) (W.contents writer.new)
         (R.remaining reader.old) (R.remaining reader.new) result }
 {
@@ -243,7 +243,7 @@ pub fn run_words_with<
     ensures stored { result ≡ 2 → words.entry.now ≢ [] }
     ensures outcome { RunsWords D.Disk ⟦<StreamOutput<'a, W> as Disk>⟧ W.contents
         (map (λ s. s.now) words.entry.now) (S.image_bytes sources.old) (S.opens sources.old)
-        (S.fills sources.old) (S.outputs sources.old) (S.openings sources.old)
+        (S.fills sources.old) (S.gives sources.old) (S.openings sources.old)
         (S.openings sources.new) (W.contents writer.old) (W.contents writer.new)
         (R.remaining reader.old) (R.remaining reader.new) (E.said reporter.old)
         (E.said reporter.new) (E.has_failed reporter.new) result }

@@ -9,11 +9,12 @@ ghost use Rattle.ckrt_rv32i.specs.Names.{cause_name};
 ghost use Rattle.ckrt_jobs.specs.Ends.{address_text, end_line, end_text, ended_text, hex_between, hint_text, place_text};
 ghost use Rattle.ckrt_jobs.specs.Outcomes.{formatted_line, status_of, status_of_words, version_line};
 ghost use Rattle.ckrt_jobs.specs.Performing.{ReportsOutcome, SaysLine};
-ghost use Rattle.ckrt_jobs.specs.Reports.{lengths_text, numbers_of, path_of, range_text, size_text, sizes_text, report_of, subject_of, words_report_of};
+ghost use Rattle.ckrt_jobs.specs.Reports.{input_text, lengths_text, numbers_of, path_of, range_text, size_text, sizes_text, report_of, subject_of, taken_text, words_report_of};
 
 use crate::driven::Driven;
 use crate::fault::JobFault;
 use crate::file::JobFile;
+use crate::input::InputLengths;
 use crate::output::OutputLengths;
 use crate::reporter::{Reporter, Unsaid};
 use crate::version::VERSION;
@@ -81,6 +82,7 @@ fn path<'a>(job: &Job<'a>, file: JobFile) -> &'a str
         (Job::Drive(job), JobFile::Output) => job.output.unwrap_or(STANDARD_OUTPUT),
         (Job::Drive(job), JobFile::Making) => job.disk,
         (Job::Drive(job), JobFile::Image) => job.image.unwrap_or(""),
+        (Job::Drive(job), JobFile::Input) => job.input.unwrap_or(""),
         _ => "",
     }
 }
@@ -139,6 +141,22 @@ fn say_lengths<E: Reporter>(reporter: &mut E, lengths: OutputLengths) -> Result<
     say_range(reporter, lengths.confirmed, lengths.released)
 }
 
+/// Says a number between two texts.
+fn say_number_between<E: Reporter>(
+    reporter: &mut E,
+    before: &[u8],
+    number: u64,
+    behind: &[u8],
+) -> Result<(), Unsaid>
+    ensures said { OnOk result (Appends (E.said reporter.old) (E.said reporter.new)
+        (size_text before.now number behind.now)) }
+    ensures failed { OnErr result (E.has_failed reporter.new ≡ true) }
+{
+    reporter.say(before)?;
+    say_number(reporter, number)?;
+    reporter.say(behind)
+}
+
 /// Says a size between two texts.
 fn say_size<E: Reporter>(
     reporter: &mut E,
@@ -150,9 +168,7 @@ fn say_size<E: Reporter>(
         (size_text before.now size behind.now)) }
     ensures failed { OnErr result (E.has_failed reporter.new ≡ true) }
 {
-    reporter.say(before)?;
-    say_number(reporter, u64::from(size))?;
-    reporter.say(behind)
+    say_number_between(reporter, before, u64::from(size), behind)
 }
 
 /// Says the sizes of a disk.
@@ -166,6 +182,27 @@ fn say_sizes<E: Reporter>(reporter: &mut E, sizes: Config) -> Result<(), Unsaid>
     say_size(reporter, b" --journal ", sizes.journal, b": ")
 }
 
+/// Says how many bytes of its input a program has taken.
+fn say_taken<E: Reporter>(reporter: &mut E, taken: u64) -> Result<(), Unsaid>
+    ensures said { OnOk result
+        (Appends (E.said reporter.old) (E.said reporter.new) (taken_text taken)) }
+    ensures failed { OnErr result (E.has_failed reporter.new ≡ true) }
+{
+    let before = b"its program has taken ";
+    say_number_between(reporter, before, taken, b" bytes of the input: ")
+}
+
+/// Says how many bytes an input has, and how many of them the program has taken.
+fn say_input<E: Reporter>(reporter: &mut E, lengths: InputLengths) -> Result<(), Unsaid>
+    ensures said { OnOk result
+        (Appends (E.said reporter.old) (E.said reporter.new) (input_text lengths)) }
+    ensures failed { OnErr result (E.has_failed reporter.new ≡ true) }
+{
+    let taken = b" bytes, and the program has taken ";
+    say_number_between(reporter, b"it has ", lengths.length, b"")?;
+    say_number_between(reporter, taken, lengths.taken, b": ")
+}
+
 /// Says the numbers of a fault, where it has some.
 fn say_numbers<E: Reporter>(reporter: &mut E, fault: JobFault) -> Result<(), Unsaid>
     ensures said { OnOk result
@@ -175,6 +212,8 @@ fn say_numbers<E: Reporter>(reporter: &mut E, fault: JobFault) -> Result<(), Uns
     match fault {
         JobFault::SizesDiffer(sizes) => say_sizes(reporter, sizes),
         JobFault::OutputDiffers(lengths) => say_lengths(reporter, lengths),
+        JobFault::OffsetDiffers(taken) => say_taken(reporter, taken),
+        JobFault::InputTooShort(lengths) => say_input(reporter, lengths),
         _ => reporter.say(b""),
     }
 }

@@ -1,7 +1,6 @@
-ghost use Rattle.std.specs.Prelude.{◌≡◌, ℕ, List, Option, IfOk};
-ghost use Rattle.ckrt_jobs.specs.Openings.{Openings, opening_of, with_abandoned, with_closed, with_closed_output, with_disk, with_image, with_making, with_named, with_output};
-ghost use Rattle.ckrt_jobs.specs.Sources.{GivesSame};
-ghost use Rattle.ckrt_jobs.specs.declared.output.OpenedOutput.{OpenedOutput};
+ghost use Rattle.std.specs.Prelude.{◌≡◌, ℕ, List, Option, Some, IfOk, IfErr};
+ghost use Rattle.ckrt_jobs.specs.Openings.{Openings, opening_of, with_abandoned, with_closed, with_closed_input, with_closed_output, with_disk, with_image, with_input, with_lengthened, with_making, with_named, with_output};
+ghost use Rattle.ckrt_jobs.specs.Sources.{Gives, GivesNoMore, GivesSame};
 
 use crate::file::FileFault;
 use crate::output::OpenedOutput;
@@ -9,10 +8,18 @@ use ckrt_disk::Disk;
 use std::alloc::Global;
 use std::io::Read;
 
-/// Where the jobs give disks and outputs back. Nothing is known of these but that they may be let go: so whoever takes them
+/// A disk that couldn't be made longer, as it was, and why.
+#[derive(Drop)]
+pub struct Unlengthened<D> {
+    pub disk: D,
+    pub fault: FileFault,
+}
+
+/// Where the jobs give disks, inputs and outputs back. Nothing is known of these but that they may be let go: so whoever takes them
 /// back can't write to them.
 pub trait Closes<D> {
-    /// How all images, disks and outputs were opened, which disks were given a name, and which disks and outputs were given back.
+    /// How all images, disks, inputs and outputs were opened, which disks were given a name or made longer, and which disks,
+    /// inputs and outputs were given back.
     ghost openings: { Self → Openings D };
 
     /// Takes a disk back.
@@ -26,6 +33,10 @@ pub trait Closes<D> {
     /// Takes an output back.
     fn close_output(&mut self, output: D)
         ensures closed { openings self.new ≡ with_closed_output (openings self.old) output };
+
+    /// Takes an input back.
+    fn close_input(&mut self, input: D)
+        ensures closed { openings self.new ≡ with_closed_input (openings self.old) (Some input) };
 }
 
 /// Where the jobs get their images and their disks from, by path.
@@ -40,8 +51,8 @@ pub trait Sources<'a, I: Read, D: Disk>: Closes<D> {
     /// disk in the making.
     ghost fills: { Self → List ℕ → ℕ → D → Type 0 };
 
-    /// The outputs that a path may stand for, with the lengths of their files.
-    ghost outputs: { Self → List ℕ → OpenedOutput D → Type 0 };
+    /// What else they may give: outputs and inputs of paths, and disks that are made longer.
+    ghost gives: { Self → Gives D };
 
     /// A reader of an image, at its beginning.
     fn open_image(&mut self, path: &'a str) -> Result<I, FileFault>
@@ -49,7 +60,7 @@ pub trait Sources<'a, I: Read, D: Disk>: Closes<D> {
         ensures asked { Self.openings self.new
             ≡ with_image (Self.openings self.old) (opening_of path.now result) }
         ensures same { GivesSame (image_bytes self.old) (image_bytes self.new) (fills self.old)
-            (fills self.new) (outputs self.old) (outputs self.new) };
+            (fills self.new) (gives self.old) (gives self.new) };
 
     /// The disk of a path.
     fn open_disk(&mut self, path: &'a str) -> Result<D, FileFault>
@@ -57,7 +68,7 @@ pub trait Sources<'a, I: Read, D: Disk>: Closes<D> {
         ensures asked { Self.openings self.new
             ≡ with_disk (Self.openings self.old) (opening_of path.now result) }
         ensures same { GivesSame (image_bytes self.old) (image_bytes self.new) (fills self.old)
-            (fills self.new) (outputs self.old) (outputs self.new) };
+            (fills self.new) (gives self.old) (gives self.new) };
 
     /// The disk of a path, to be looked at only.
     fn look_at_disk(&mut self, path: &'a str) -> Result<D, FileFault>
@@ -79,19 +90,33 @@ pub trait Sources<'a, I: Read, D: Disk>: Closes<D> {
         ensures asked { Self.openings self.new
             ≡ with_making (Self.openings self.old) (opening_of path.now result) }
         ensures same { GivesSame (image_bytes self.old) (image_bytes self.new) (fills self.old)
-            (fills self.new) (outputs self.old) (outputs self.new) };
+            (fills self.new) (gives self.old) (gives self.new) };
 
     /// Gives a disk in the making the path that it was made for, if nothing has that yet. Its name is durable then.
     fn name_disk(&mut self, path: &'a str, disk: &D) -> Result<(), FileFault>
         ensures named { Self.openings self.new
             ≡ with_named (Self.openings self.old) (opening_of path.now result) disk.now }
         ensures same { GivesSame (image_bytes self.old) (image_bytes self.new) (fills self.old)
-            (fills self.new) (outputs self.old) (outputs self.new) };
+            (fills self.new) (gives self.old) (gives self.new) };
 
     /// The output of a path, which is made where it is missing, and never shortened: what it holds stays, and bytes behind
     /// its end are zeros. It comes with the length of its file.
     fn open_output(&mut self, path: &'a str) -> Result<OpenedOutput<D>, FileFault>
-        ensures output { IfOk result (outputs self.old path.now) }
+        ensures output { IfOk result ((gives self.old).Outputs path.now) }
         ensures asked { Self.openings self.new
             ≡ with_output (Self.openings self.old) (opening_of path.now result) };
+
+    /// The input of a path, which is only read. What can't be read by offset, as a pipe, is refused.
+    fn open_input(&mut self, path: &'a str) -> Result<D, FileFault>
+        ensures input { IfOk result ((gives self.old).Inputs path.now) }
+        ensures asked { Self.openings self.new
+            ≡ with_input (Self.openings self.old) (opening_of path.now result) }
+        ensures same { GivesNoMore (gives self.old) (gives self.new) };
+
+    /// A disk that was opened, made so many bytes long with zero bytes behind its own, durably. Its own bytes stay.
+    fn lengthen(&mut self, disk: D, size: usize) -> Result<D, Unlengthened<D>>
+        ensures longer { IfOk result ((gives self.old).Longer disk size) }
+        ensures kept { IfErr result (λ u. u.disk ≡ disk) }
+        ensures asked { Self.openings self.new ≡ with_lengthened (Self.openings self.old) disk }
+        ensures same { GivesNoMore (gives self.old) (gives self.new) };
 }

@@ -2,14 +2,15 @@
 ghost use Rattle.std.specs.Prelude.{◌≡◌, None};
 ghost use Rattle.ckrt_jobs.specs.Files.{openings_of};
 ghost use Rattle.ckrt_jobs.specs.Openings.{unopened};
+ghost use Rattle.ckrt_jobs.specs.Sources.{anything};
 
 use crate::file::{FileFault, FileOpening};
 use crate::files::{
-    beside, disk_of, give_name, look_at_system_disk, open_disk_file, open_filled_file,
-    open_making_file, open_read, open_system_output, remove,
+    beside, disk_of, give_name, longer_disk, look_at_system_disk, open_disk_file, open_filled_file,
+    open_making_file, open_read, open_system_input, open_system_output, remove,
 };
 use crate::output::OpenedOutput;
-use crate::sources::{Closes, Sources};
+use crate::sources::{Closes, Sources, Unlengthened};
 use ckrt_disk::{FileDisk, History, Holds, SystemFile};
 use std::alloc::Global;
 use std::fs::{File, Files, Metadata};
@@ -63,14 +64,19 @@ pub struct SystemSources<'a, R, D> {
     image: History<FileOpening<'a>>,
     disk: History<FileOpening<'a>>,
     output: History<FileOpening<'a>>,
+    input: History<FileOpening<'a>>,
     making: History<FileOpening<'a>>,
     naming: History<FileOpening<'a>>,
     named: History<D>,
     closed: History<D>,
     closed_output: History<D>,
+    closed_input: History<D>,
+    lengthened: History<D>,
     abandoned: History<D>,
-    /// The file of a disk, where one is open.
-    disk_file: Option<FileId>,
+    /// Which file the disk is, where one is open.
+    disk_id: Option<FileId>,
+    /// And that file once more, by which it can be made longer.
+    disk_file: Option<File>,
     /// The file that was made for a disk that isn't formatted yet.
     made: Option<MadeFile<'a>>,
 }
@@ -85,12 +91,16 @@ impl<'a, R, D> SystemSources<'a, R, D> {
             image: History::new(),
             disk: History::new(),
             output: History::new(),
+            input: History::new(),
             making: History::new(),
             naming: History::new(),
             named: History::new(),
             closed: History::new(),
             closed_output: History::new(),
+            closed_input: History::new(),
+            lengthened: History::new(),
             abandoned: History::new(),
+            disk_id: None,
             disk_file: None,
             made: None,
         }
@@ -98,19 +108,23 @@ impl<'a, R, D> SystemSources<'a, R, D> {
 }
 
 impl<'a, R: Files<File = File>, D> SystemSources<'a, R, D> {
-    /// Remembers the file of a disk.
+    /// Remembers which file a disk is, and the file itself.
     fn remember(&mut self, file: &File)
         ensures { openings_of self.new ≡ openings_of self.old }
     {
-        self.disk_file = match file.metadata() {
+        self.disk_id = match file.metadata() {
             Ok(told) => Some(FileId::of(&told)),
+            Err(_) => None,
+        };
+        self.disk_file = match file.try_clone() {
+            Ok(again) => Some(again),
             Err(_) => None,
         };
     }
 
     /// Whether a path is that of the disk that is open.
     fn is_disk(&self, path: &str) -> bool {
-        match (self.rt.metadata(path), self.disk_file) {
+        match (self.rt.metadata(path), self.disk_id) {
             (Ok(told), Some(disk)) => FileId::of(&told) == disk,
             _ => false,
         }
@@ -177,11 +191,24 @@ impl<'a, R: Files<File = File>, D> SystemSources<'a, R, D> {
     }
 }
 
+impl<'a, R: Files<File = File>, H: Holds> SystemSources<'a, R, FileDisk<SystemFile<H>>> {
+    /// The disk that is open, of so many bytes.
+    fn longer(&mut self, size: usize) -> Result<FileDisk<SystemFile<H>>, FileFault>
+        ensures { openings_of self.new ≡ openings_of self.old }
+    {
+        match &self.disk_file {
+            Some(file) => longer_disk(file, size),
+            None => Err(FileFault::Other),
+        }
+    }
+}
+
 impl<'a, R: Files<File = File>, D: Drop> Closes<D> for SystemSources<'a, R, D> {
     ghost openings = { openings_of };
 
     fn close(&mut self, disk: D) {
         self.made = None;
+        self.disk_file = None;
         self.closed = self.closed.with(&disk);
     }
 
@@ -193,6 +220,10 @@ impl<'a, R: Files<File = File>, D: Drop> Closes<D> for SystemSources<'a, R, D> {
     fn close_output(&mut self, output: D) {
         self.closed_output = self.closed_output.with(&output);
     }
+
+    fn close_input(&mut self, input: D) {
+        self.closed_input = self.closed_input.with(&input);
+    }
 }
 
 impl<'a, R: Files<File = File>, H: Holds> Sources<'a, File, FileDisk<SystemFile<H>>>
@@ -203,7 +234,7 @@ impl<'a, R: Files<File = File>, H: Holds> Sources<'a, File, FileDisk<SystemFile<
 
     ghost fills = { λ _ _ _ _. Unit {0} };
 
-    ghost outputs = { λ _ _ _. Unit {0} };
+    ghost gives = { λ _. anything };
 
     fn open_image(&mut self, path: &'a str) -> Result<File, FileFault> {
         let opened = open_read(self.rt, path);
@@ -276,5 +307,23 @@ impl<'a, R: Files<File = File>, H: Holds> Sources<'a, File, FileDisk<SystemFile<
         }
         self.output = self.output.with(&FileOpening::of(path, &opened));
         opened
+    }
+
+    fn open_input(&mut self, path: &'a str) -> Result<FileDisk<SystemFile<H>>, FileFault> {
+        let opened = open_system_input(self.rt, path);
+        self.input = self.input.with(&FileOpening::of(path, &opened));
+        opened
+    }
+
+    fn lengthen(
+        &mut self,
+        disk: FileDisk<SystemFile<H>>,
+        size: usize,
+    ) -> Result<FileDisk<SystemFile<H>>, Unlengthened<FileDisk<SystemFile<H>>>> {
+        self.lengthened = self.lengthened.with(&disk);
+        match self.longer(size) {
+            Ok(longer) => Ok(longer),
+            Err(fault) => Err(Unlengthened { disk, fault }),
+        }
     }
 }

@@ -1,6 +1,7 @@
 -- The program's command line, as `clap` sees it: `format DISK IMAGE [--pages P] [--harts H] [--journal J]`, `run DISK`,
--- `inspect DISK [--at K] [--code]` and `drive DISK [--image IMAGE] [--pages P] [--harts H] [--journal J] [--output FILE] [--turn N]
--- [--rounds-per-commit R] [--events N] [--seed S] [--progress SECONDS] [--from OFFSET]`.
+-- `inspect DISK [--at K] [--code]` and `drive DISK [--image IMAGE] [--pages P] [--harts H] [--journal J] [--input FILE]
+-- [--input-from OFFSET] [--output FILE] [--turn N] [--rounds-per-commit R] [--events N] [--seed S] [--progress SECONDS]
+-- [--status FILE] [--from OFFSET]`.
 use Rattle.std.specs.Prelude.{pos, codes, Some, true, [], ◌∷◌}
 use Rattle.clap.specs.Words.{App, Rule, Text, new_app, new_rule, with_rule, with_subcommand}
 use Rattle.clap.specs.declared.builder.value_parser.ValueParser.TheVariants.{Signed, Unsigned}
@@ -65,18 +66,21 @@ inspect_app =
 abbrev pub drive_app : App
 drive_app =
     with_rule (with_rule (with_rule (with_rule (with_rule (with_rule (with_rule (with_rule (with_rule (with_rule (with_rule (with_rule
-    (new_app (codes "drive"))
+    (with_rule (with_rule (with_rule (new_app (codes "drive"))
     (needed_rule (codes "disk")))
     (option_rule (codes "image")))
     (size_rule (codes "pages")))
     (size_rule (codes "harts")))
     (size_rule (codes "journal")))
+    (option_rule (codes "input")))
+    (place_rule (codes "input-from")))
     (option_rule (codes "output")))
     (number_rule (codes "turn") (codes "1000000")))
     (number_rule (codes "rounds-per-commit") (codes "16")))
     (place_rule (codes "events")))
     (place_rule (codes "seed")))
     (place_rule (codes "progress")))
+    (option_rule (codes "status")))
     (place_rule (codes "from"))
 
 -- the program without a command: its words don't begin with its name, and `help` is no command

@@ -28,18 +28,22 @@ pub record Inspection : Type 0 where
   pub at : Option ℕ
   pub code : Bool
 
--- what `drive` drives: which disk, the image that a missing one is made with, its sizes, the file of its output, steps of a turn, rounds between commits, after how many events it ends, the seed of its
--- lots, at most each how many seconds it tells how far it is, and below which offset output is left out
+-- what `drive` drives: which disk, the image that a missing one is made with, its sizes, the file of its input and where that goes on, the file
+-- of its output, steps of a turn, rounds between commits, after how many events it ends, the seed of its lots, at most each how many seconds it
+-- tells how far it is, the file that tells it too, and below which offset output is left out
 pub record Driving : Type 0 where
   pub disk : Text
   pub image : Option Text
   pub sizes : Sizes
+  pub input : Option Text
+  pub input_from : Option ℕ
   pub output : Option Text
   pub turn : ℕ
   pub rounds : ℕ
   pub events : Option ℕ
   pub seed : Option ℕ
   pub progress : Option ℕ
+  pub status : Option Text
   pub from : Option ℕ
 
 -- a job, by its texts and numbers alone
@@ -69,12 +73,15 @@ driving_of d = record {
   disk = d.disk.now;
   image = option_map (λ path. path.now) d.image;
   sizes = d.sizes;
+  input = option_map (λ path. path.now) d.input;
+  input_from = d.input_from;
   output = option_map (λ path. path.now) d.output;
   turn = d.turn;
   rounds = d.rounds;
   events = d.events;
   seed = d.seed;
   progress = d.progress;
+  status = option_map (λ path. path.now) d.status;
   from = d.from;
 }
 
@@ -140,12 +147,15 @@ driving_in rows = do
     disk = disk;
     image = first_of (codes "image") rows;
     sizes = sizes_in rows;
+    input = first_of (codes "input") rows;
+    input_from = place_in (codes "input-from") rows;
     output = first_of (codes "output") rows;
     turn = turn;
     rounds = rounds;
     events = place_in (codes "events") rows;
     seed = place_in (codes "seed") rows;
     progress = place_in (codes "progress") rows;
+    status = first_of (codes "status") rows;
     from = place_in (codes "from") rows;
   })
 

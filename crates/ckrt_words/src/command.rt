@@ -155,7 +155,7 @@ fn inspect_arguments<'a>(alloc: Global) -> Result<Vec<Arg<'a>>, AllocError>
     Ok(arguments)
 }
 
-/// `drive DISK` with its options: how a missing disk is made, where the output goes, how it goes on.
+/// `drive DISK` with its options: how a missing disk is made, where the input comes from and the output goes, how it goes on.
 fn drive_command<'a>(alloc: Global) -> Result<Command<'a>, AllocError>
     ensures app { IfOk result (λ c. app_of c ≡ drive_app) }
     ensures local { IfOk result (λ c. (out-Command c).has_globals ≡ false) }
@@ -163,7 +163,7 @@ fn drive_command<'a>(alloc: Global) -> Result<Command<'a>, AllocError>
     let arguments = drive_arguments(alloc)?;
     Command::new(alloc, "drive")
         .about(
-            "Recovers a disk and runs its program to its end, with its output in a file or on the standard output",
+            "Recovers a disk and runs its program to its end, with its input from a file, and its output in a file or on the standard output",
         )
         .args(arguments)
 }
@@ -201,6 +201,18 @@ fn drive_arguments<'a>(alloc: Global) -> Result<Vec<Arg<'a>>, AllocError>
         ),
         option(
             alloc,
+            "input",
+            "FILE",
+            "The file whose bytes, and then its end, are the program's input, each given once over all drives of the disk"
+        ),
+        place(
+            alloc,
+            "input-from",
+            "OFFSET",
+            "Where the input goes on, with --input; only for a disk that can't tell"
+        ),
+        option(
+            alloc,
             "output",
             "FILE",
             "The file to put the program's output in, each byte at its offset; the standard output without it"
@@ -229,6 +241,12 @@ fn drive_arguments<'a>(alloc: Global) -> Result<Vec<Arg<'a>>, AllocError>
             "progress",
             "SECONDS",
             "Tell how far it is at most each so many seconds, 1 or more"
+        ),
+        option(
+            alloc,
+            "status",
+            "FILE",
+            "Rewrite FILE at most each 10 seconds with how far the drive is, in the text format of Prometheus"
         ),
         place(
             alloc,

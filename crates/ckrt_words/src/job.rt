@@ -63,6 +63,10 @@ pub struct DriveJob<'a> {
     pub image: Option<&'a str>,
     /// The sizes that a disk which is made gets, and that one which is there has to have.
     pub sizes: Sizes,
+    /// The path of the file that its program reads as its input; this isn't given where no file is.
+    pub input: Option<&'a str>,
+    /// From which offset of that file on the program reads, where the disk doesn't know it; this isn't given where it does.
+    pub input_from: Option<u64>,
     /// The path of the file of its output, which goes to the standard output where this isn't given.
     pub output: Option<&'a str>,
     /// Steps of a turn, at most.
@@ -75,6 +79,8 @@ pub struct DriveJob<'a> {
     pub seed: Option<u64>,
     /// At most each how many seconds a line tells how far it is; this isn't given where no line does.
     pub progress: Option<u64>,
+    /// The path of the file that tells how far it is; this isn't given where none does.
+    pub status: Option<&'a str>,
     /// Below which offset bytes of output are left out; this isn't given where none are. It has no meaning with a file.
     pub from: Option<u64>,
 }

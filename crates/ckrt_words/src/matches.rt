@@ -67,12 +67,15 @@ fn driving<'a>(matches: &ArgMatches<'a>) -> Option<DriveJob<'a>>
         disk: text(matches, "disk")?,
         image: text(matches, "image"),
         sizes: sizes(matches),
+        input: text(matches, "input"),
+        input_from: place(matches, "input-from"),
         output: text(matches, "output"),
         turn: number(matches, "turn")?,
         rounds: number(matches, "rounds-per-commit")?,
         events: place(matches, "events"),
         seed: place(matches, "seed"),
         progress: place(matches, "progress"),
+        status: text(matches, "status"),
         from: place(matches, "from"),
     })
 }

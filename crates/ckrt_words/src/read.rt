@@ -34,7 +34,7 @@ const INSPECT_USAGE: &str = "Usage: ckrt inspect <DISK> [--at NUMBER OF EVENTS] 
 
 /// What follows a number of `drive` that isn't one.
 const DRIVE_USAGE: &str =
-    "Usage: ckrt drive <DISK> [--image <IMAGE>] [--pages 16 to 1024] [--harts 1 to 8] [--journal 4096 to 1048576 by 4096] [--output <FILE>] [--turn 1 to 1000000] [--rounds-per-commit NUMBER OF ROUNDS] [--events NUMBER OF EVENTS] [--seed NUMBER] [--progress SECONDS] [--from OFFSET]";
+    "Usage: ckrt drive <DISK> [--image <IMAGE>] [--pages 16 to 1024] [--harts 1 to 8] [--journal 4096 to 1048576 by 4096] [--input <FILE>] [--input-from OFFSET] [--output <FILE>] [--turn 1 to 1000000] [--rounds-per-commit NUMBER OF ROUNDS] [--events NUMBER OF EVENTS] [--seed NUMBER] [--progress SECONDS] [--status <FILE>] [--from OFFSET]";
 
 /// What follows a number that isn't one, by the command.
 fn number_usage(words: &[&str]) -> &'static str {
@@ -109,8 +109,8 @@ fn is_version(words: &[&str]) -> bool
 /// they are `--version` alone, else what `clap` makes of them. An option of `format` that isn't given has 64 pages, 1 hart
 /// and a journal of 65,536 bytes; one that is given has to be a number below 2^32. `inspect` shows the disk after the last
 /// event where `--at` isn't given, which has to be a number below 2^64. `drive` has turns of 1,000,000 steps, 16 rounds between
-/// two commits, no image, no sizes, no file of its output, no limit of events, no seed, no line of progress and no offset where
-/// these aren't given; the numbers that are have to be below 2^32 and, of events, a seed, seconds and an offset, 2^64.
+/// two commits, no image, no sizes, no files of its input and its output, no limit of events, no seed, no line of progress, no file
+/// that tells how far it is, and no offsets where these aren't given; the numbers that are have to be below 2^32 and, of events, a seed, seconds and offsets, 2^64.
 ///
 /// # Errors
 ///

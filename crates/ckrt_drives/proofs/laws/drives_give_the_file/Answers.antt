@@ -1,4 +1,4 @@
-use Rattle.std.proofs.Common.{Some, []}
+use Rattle.std.proofs.Common.{[]}
 use Rattle.ckrt_drives.specs.Together.{past}
 use Rattle.ckrt_drives.proofs.FedLemmas.{are_told, formatted_fed, give_file}
 use Rattle.ckrt_drives.proofs.laws.drives_give_the_file.Goals as goal

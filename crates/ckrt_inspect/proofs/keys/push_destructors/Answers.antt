@@ -1,8 +1,7 @@
-use Rattle.std.proofs.Common.{◌≡◌, ◌<◌, ℕ, List, Option, None, ◌++◌, ◌∙◌, length, map, ap, sym, arith}
+use Rattle.std.proofs.Common.{◌≡◌, ◌<◌, ℕ, List, Option, ◌++◌, ◌∙◌, length, ap, arith}
 use Rattle.std.specs.List.{flat_map}
-use Rattle.std.proofs.lemmas.List.{take_all, length-map}
-use Rattle.ckrt_tables.specs.Records.{word_at, words_from, if_not_0}
-use Rattle.ckrt_tables.proofs.KeyWords.{map_at}
+use Rattle.std.proofs.lemmas.List.{take_all}
+use Rattle.ckrt_tables.specs.Records.{words_from}
 use Rattle.ckrt_inspect.specs.Listing.{key_line}
 use Rattle.ckrt_inspect.proofs.PushLemmas.{pushed_word}
 use Rattle.ckrt_inspect.proofs.keys.push_destructors.Goals as goal

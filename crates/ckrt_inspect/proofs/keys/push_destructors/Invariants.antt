@@ -1,6 +1,6 @@
-use Rattle.std.proofs.Common.{◌≡◌, ◌++◌, take, map}
+use Rattle.std.proofs.Common.{◌≡◌, ◌++◌, take}
 use Rattle.std.specs.List.{flat_map}
-use Rattle.ckrt_tables.specs.Records.{words_from, if_not_0}
+use Rattle.ckrt_tables.specs.Records.{words_from}
 use Rattle.ckrt_inspect.specs.Listing.{key_line}
 use Rattle.ckrt_inspect.proofs.keys.push_destructors.Given as goal
 

@@ -5,4 +5,4 @@ use Rattle.ckrt_jobs.proofs.driving.drive_into_file.Goals as goal
 pub returns-in-Ok : goal.returns-in-Ok
 returns-in-Ok g c =
     let e = c.in-Ok.ensures in
-    inr (record { it = c.in-Ok.opened; is_opened = e.output; drives = rw e.asked at c.drive_onto_opened.ensures })
+    inr (record { output = c.in-Ok.opened; is_opened = e.output; drives = rw e.asked at c.drive_onto_opened.ensures })

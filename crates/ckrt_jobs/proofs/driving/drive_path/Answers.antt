@@ -4,11 +4,11 @@ use Rattle.ckrt_jobs.specs.Driving.{is_in_range}
 use Rattle.ckrt_jobs.proofs.DriveLemmas.{found_driven}
 use Rattle.ckrt_jobs.proofs.driving.drive_path.Goals as goal
 
--- the disk that was driven is the one that was found, and the outputs are those before
+-- the disk that was driven is the one that was found, and what sources may give is what they might before
 pub returns-clause-drives : goal.returns-clause-drives
 returns-clause-drives g c =
     let j = driving_of c.args.job.now in
     let inside : is_in_range j ≡ true = search rules in
     let there = c.in_ok-disk.ensures in
-    found_driven g.D.Disk _ _ (g.S.Sources.image_bytes c.args.sources.now) (g.S.Sources.opens c.args.sources.now j.disk) _ (g.S.Sources.outputs c.find_disk.new.sources) (g.S.Sources.outputs c.args.sources.now) j inside there.same.output_files c.options_of-options.result c.in_ok-disk.disk _ _ _ c.drive_sized.result
+    found_driven g.D.Disk _ _ (g.S.Sources.image_bytes c.args.sources.now) (g.S.Sources.opens c.args.sources.now) (g.S.Sources.fills c.args.sources.now) (g.S.Sources.gives c.args.sources.now) j inside (g.S.Sources.gives c.find_disk.new.sources) there.same.others c.options_of-options.result c.in_ok-disk.disk _ _ _ c.drive_sized.result
     c.options_of-options.ensures there.finds c.drive_sized.ensures.drives

@@ -1,5 +1,5 @@
 use Rattle.ckrt_jobs.proofs.driving.drive_recovered.Goals as goal
 
--- without a file the output goes onto a stream, from the offset of the words on
+-- without a file the output goes onto a stream
 pub returns-in-None-clause-drives : goal.returns-in-None-clause-drives
-returns-in-None-clause-drives g c = rw c.in-None.is (rw c.offset_of.ensures at c.drive_onto_stream.ensures)
+returns-in-None-clause-drives g c = rw c.in-None.is c.drive_onto_stream.ensures

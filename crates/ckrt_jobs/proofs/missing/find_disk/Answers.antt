@@ -1,6 +1,8 @@
-use Rattle.std.proofs.Common.{rules, ◌≡◌, ◌∙◌, Option, Some, ap, subst, inr}
+use Rattle.std.proofs.Common.{rules, ◌≡◌, ◌+◌, ap, subst, inr}
 use Rattle.std.specs.Option.{option_map}
 use Rattle.ckrt_checkpoint.specs.Layout.{size_needed}
+use Rattle.ckrt_words.specs.Jobs.{driving_of}
+use Rattle.ckrt_jobs.specs.Feeding.{made_size}
 use Rattle.ckrt_jobs.specs.Missing.{MakesMissing}
 use Rattle.ckrt_jobs.specs.Openings.{refused, with_disk}
 use Rattle.ckrt_jobs.specs.Sizes.{config_for}
@@ -22,12 +24,16 @@ returns-in-Some-clause-finds g c =
     let missing : c.in-Err.fault ≡ NotFound = c.is_missing.ensures.0 (search rules) in
     let refusal : asked ≡ with_disk old (refused path NotFound) =
     subst (λ (f : FileFault). asked ≡ with_disk old (refused path f)) missing c.in-Err.ensures.asked in
-    let with_config = subst (λ k. MakesMissing g.D.Disk k (g.S.Sources.image_bytes c.open_disk.new.self image) (g.S.Sources.fills c.open_disk.new.self path (size_needed k)) image path asked new c.make_missing.result)
-    c.config_for.ensures c.make_missing.ensures.makes in
-    let known = subst (λ k. MakesMissing g.D.Disk config k (g.S.Sources.fills c.open_disk.new.self path (size_needed config)) image path asked new c.make_missing.result) (same.images image) with_config in
-    let weaker = makes_weaker g.D.Disk config _ _ (g.S.Sources.fills c.args.sources.now path (size_needed config)) image path asked new c.make_missing.result (same.disks path (size_needed config)) known in
+    let spare = c.spare_for-spare.result in
+    let with_config = subst (λ k. MakesMissing g.D.Disk k (g.S.Sources.image_bytes c.open_disk.new.self image) (g.S.Sources.fills c.open_disk.new.self path (size_needed k + spare)) image path asked new c.make_missing.result)
+    c.config_for-config.ensures c.make_missing.ensures.makes in
+    let with_spare = subst (λ n. MakesMissing g.D.Disk config (g.S.Sources.image_bytes c.open_disk.new.self image) (g.S.Sources.fills c.open_disk.new.self path (size_needed config + n)) image path asked new c.make_missing.result)
+    c.spare_for-spare.ensures.size with_config in
+    let size = made_size (driving_of c.args.job.now) in
+    let known = subst (λ k. MakesMissing g.D.Disk config k (g.S.Sources.fills c.open_disk.new.self path size) image path asked new c.make_missing.result) (same.images image) with_spare in
+    let weaker = makes_weaker g.D.Disk config _ _ (g.S.Sources.fills c.args.sources.now path size) image path asked new c.make_missing.result (same.disks path size) known in
     inr (inr (record {
       from = image;
       is_from = ap (option_map (λ p. p.now)) c.in-Some.is;
-      makes = subst (λ o. MakesMissing g.D.Disk config (g.S.Sources.image_bytes c.args.sources.now image) (g.S.Sources.fills c.args.sources.now path (size_needed config)) image path o new c.make_missing.result) refusal weaker;
+      makes = subst (λ o. MakesMissing g.D.Disk config (g.S.Sources.image_bytes c.args.sources.now image) (g.S.Sources.fills c.args.sources.now path size) image path o new c.make_missing.result) refusal weaker;
     }))
