@@ -9,7 +9,7 @@ use rand_pcg::Pcg32;
 const STREAM: u64 = 54;
 
 /// The number of 32 bits that the generator of a seed draws behind so many others.
-pub(crate) fn lot_of(seed: u64, behind: u64) -> u32
+pub fn lot_of(seed: u64, behind: u64) -> u32
     ensures { result ≡ lot_of seed behind }
 {
     let mut generator = Pcg32::new(seed, STREAM);

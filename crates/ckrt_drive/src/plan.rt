@@ -109,7 +109,7 @@ fn ticks_to(deadline: u64, clock: u64) -> u32
 }
 
 /// What is next where nobody is on a hart or ready.
-fn idle(tables: &Tables) -> Next
+pub fn idle(tables: &Tables) -> Next
     ensures next { result ≡ idle_until (earliest_deadline tables.now.threads.waits) tables.now }
     ensures in_range { IsInRangeNext result }
 {
@@ -161,7 +161,7 @@ fn turn_at(machine: &Machine, options: &Options, behind: u64) -> Turn
 }
 
 /// A run of so many steps, by the shortest event that has as many.
-fn run_by(hart: u8, steps: u32) -> Event
+pub fn run_by(hart: u8, steps: u32) -> Event
     requires hart { hart ≤ 7 }
     requires some { 1 ≤ steps }
     requires few { steps ≤ LONG_RUN_LIMIT }

@@ -1,0 +1,3 @@
+pub mod TurnLemmas
+pub mod RunLemmas
+pub mod TallyLemmas

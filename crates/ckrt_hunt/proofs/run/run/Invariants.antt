@@ -1,0 +1,15 @@
+use Rattle.std.proofs.Common.{◌≤◌, ◌-◌}
+use Rattle.ckrt_hunt.specs.Runs.{HasComeTo}
+use Rattle.ckrt_hunt.proofs.run.run.Given as goal
+
+-- the run has come so far by its schedule
+abbrev pub invariant-events : goal.invariant-events
+invariant-events l = record {
+  come : HasComeTo l.plan l.fn.machine.state l.made l.machine.state l.hasher;
+  turns : l.made.turns ≤ l.made.events;
+  harts : 1 ≤ l.machine.state.tables.threads.hart_count;
+}
+
+-- the events that are left
+abbrev pub decreases-events : goal.decreases-events
+decreases-events l = l.plan.limit - l.made.events
