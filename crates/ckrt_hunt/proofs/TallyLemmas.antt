@@ -3,7 +3,7 @@ use Rattle.std.proofs.Common.{◌≡◌, ◌≢◌, ◌∙◌, ℕ, suc, ◌+◌
 use Rattle.ckrt_hunt.specs.declared.row.Row.{Row}
 use Rattle.ckrt_hunt.specs.declared.run.Told.{Told}
 use Rattle.ckrt_hunt.specs.declared.tally.Tally.{Tally}
-use Rattle.ckrt_hunt.specs.Tallies.{HasNone, Hunted, IsNoted, IsTallyOf, SeedComesTo}
+use Rattle.ckrt_hunt.specs.Tallies.{AreNoted, HasNone, Hunted, IsNoted, SeedComesTo}
 
 -- one row more has another outcome
 pub none_on : (told : Told) (rows : List Row) (k : ℕ) (r : Row) → slice_get rows k ≡ Some r → r.told ≢ told → HasNone told rows k → HasNone told rows (k + 1)
@@ -12,8 +12,8 @@ none_on told rows k r e n h =
     (λ s g t. let same : r ≡ s = cc in n (ap (λ (x : Row). x.told) same ∙ t))
 
 -- one seed more
-pub noted_on : (h : Hunted) (first seed : ℕ) (told : Told) (before tally : Tally) → first ≤ seed → IsTallyOf h first (seed - first) before → SeedComesTo h seed told → IsNoted seed told before tally → IsTallyOf h first (seed + 1 - first) tally
-noted_on h first seed told before tally l i c n =
+pub noted_on : (h : Hunted) (first seed : ℕ) (told : Told) (old before tally : Tally) → first ≤ seed → AreNoted h first (seed - first) old before → SeedComesTo h seed told → IsNoted seed told before tally → AreNoted h first (seed + 1 - first) old tally
+noted_on h first seed told old before tally l i c n =
     let more : seed + 1 - first ≡ suc (seed - first) = omega arith in
     let same : seed ≡ first + (seed - first) = omega arith in
     rw more (record {

@@ -1,7 +1,8 @@
 -- What seeds came to, counted (this project's choice): each outcome once, with how often it came, and the first seed that came to it.
 use Rattle.std.specs.Prelude.{◌≡◌, ◌≢◌, ◌≤◌, ◌<◌, ℕ, zero, suc, ◌+◌, min, Some, List, [], ◌∷◌, ◌++◌, length, slice_get, slice_set}
-use Rattle.ckrt_machine.specs.Events.{fresh}
-use Rattle.ckrt_hunt.specs.declared.shape.Shape.{Shape}
+use Rattle.ckrt_memory.specs.Marks.{Memory}
+use Rattle.ckrt_state.specs.declared.table.Tables.{Tables}
+use Rattle.ckrt_machine.specs.Steps.{State}
 use Rattle.ckrt_hunt.specs.declared.run.Told.{Told}
 use Rattle.ckrt_hunt.specs.declared.row.Row.{Row}
 use Rattle.ckrt_hunt.specs.declared.tally.Tally.{Tally}
@@ -41,15 +42,20 @@ pub record IsNoted (seed : ℕ) (told : Told) (old new : Tally) : Type 0 where
       → TALLY_ROWS ≤ length old.rows.items
       → (new.rows.items ≡ old.rows.items) × (new.others ≡ one_more old.others)
 
--- a program that is hunted
+-- a program that is hunted: how many steps and events a run has at most, and the state that each begins with
 pub record Hunted : Type 0 where
-  pub shape : Shape
-  pub image : List ℕ
+  pub limit : ℕ
+  pub start : State
+
+-- a memory and tables have the room for a state, which has a hart at least
+pub record IsRoomFor (s : State) (memory : Memory) (tables : Tables) : Type 0 where
+  pub size : length memory.bytes ≡ length s.bytes
+  pub harts : tables.threads.hart_count ≡ s.tables.threads.hart_count
+  pub some : 1 ≤ s.tables.threads.hart_count
 
 -- what a seed comes to, from the beginning of the program
 abbrev pub SeedComesTo : Hunted → (seed : ℕ) → Told → Type 0
-SeedComesTo h seed told =
-    ComesTo (plan_of h.shape.limit seed) (fresh h.shape.pages h.shape.harts h.image) told
+SeedComesTo h seed told = ComesTo (plan_of h.limit seed) h.start told
 
 -- a tally that grew by a seed out of one of which something was so
 pub record Grew (WasSo : Tally → Type 0) (h : Hunted) (seed : ℕ) (tally : Tally) : Type 0 where
@@ -59,7 +65,7 @@ pub record Grew (WasSo : Tally → Type 0) (h : Hunted) (seed : ℕ) (tally : Ta
   pub comes : SeedComesTo h seed told
   pub noted : IsNoted seed told before tally
 
--- the tally of n seeds, from one on: each is noted in its turn, with what it comes to
-abbrev pub IsTallyOf : Hunted → (first n : ℕ) → Tally → Type 0
-IsTallyOf h first zero tally = (tally.rows.items ≡ []) × (tally.others ≡ 0)
-IsTallyOf h first (suc n) tally = Grew (IsTallyOf h first n) h (first + n) tally
+-- n seeds were noted, from one on: each in its turn, with what it comes to
+abbrev pub AreNoted : Hunted → (first n : ℕ) → (old new : Tally) → Type 0
+AreNoted h first zero old new = new ≡ old
+AreNoted h first (suc n) old new = Grew (AreNoted h first n old) h (first + n) new

@@ -15,7 +15,7 @@ mod shape;
 mod tally;
 mod turn;
 
-pub use hunt::{hunt, hunt_seed};
+pub use hunt::Hunt;
 pub use laws::seed_repeats;
 pub use made::{Lowered, Made};
 pub use outcome::{Awaited, Outcome, Waiting};

@@ -1,5 +1,5 @@
 //! A run of a seed.
-ghost use Rattle.std.specs.Prelude.{◌≡◌, ◌≤◌, ◌<◌, ◌+◌, ℕ, List};
+ghost use Rattle.std.specs.Prelude.{◌≡◌, ◌≤◌, ◌<◌, ◌+◌, ℕ, List, length};
 ghost use Rattle.sha2.specs.Hashers.{Holds256};
 ghost use Rattle.sha2.specs.Sha256.{sha256};
 ghost use Rattle.ckrt_machine.specs.Steps.{State};
@@ -37,6 +37,7 @@ fn go_on(machine: &mut Machine, plan: &Plan, made: &mut Made, hasher: &mut Sha25
     ensures turns { made.new.turns ≤ made.new.events }
     ensures harts { machine.new.state.tables.threads.hart_count
         ≡ machine.old.state.tables.threads.hart_count }
+    ensures size { length machine.new.state.bytes ≡ length machine.old.state.bytes }
 {
     let who = runner_of(machine.tables(), event);
     let answer = machine.step(event);
@@ -59,7 +60,10 @@ fn tell(machine: &Machine, ending: Ending, hasher: Sha256) -> Told
 /// Runs a program by a plan, from the state that the machine is in, and tells what it comes to. It takes no memory.
 pub fn run(machine: &mut Machine, plan: &Plan) -> Told
     requires { 1 ≤ machine.old.state.tables.threads.hart_count }
-    ensures { ComesTo plan.now machine.old.state result }
+    ensures comes { ComesTo plan.now machine.old.state result }
+    ensures harts { machine.new.state.tables.threads.hart_count
+        ≡ machine.old.state.tables.threads.hart_count }
+    ensures size { length machine.new.state.bytes ≡ length machine.old.state.bytes }
 {
     let mut made = Made::nothing();
     let mut hasher = Sha256::new();

@@ -1,10 +1,12 @@
-//! Hunts guests: `ckrt_hunt_probe IMAGE ..` runs 200 seeds of each, and prints which kinds of outcomes they came to: `right` is
-//! exit status 0, and `wrong` any other.
+//! Hunts guests: `ckrt_hunt_probe SEEDS IMAGE ..` runs so many seeds of each image, and prints which kinds of outcomes they
+//! came to. `right` is exit status 0, and `wrong` any other.
 #![tactic(auto)]
 
-use anyhow::Result;
-use ckrt_hunt::{Outcome, Shape, Tally, hunt};
+use anyhow::{Context, Result, bail};
+use ckrt_hunt::{Hunt, Outcome, Shape, Tally};
 use std::{env, fs};
+
+const USAGE: &str = "usage: ckrt_hunt_probe SEEDS IMAGE ..";
 
 /// How each guest is run: on two harts, and for at most a million steps.
 const SHAPE: Shape = Shape {
@@ -13,8 +15,8 @@ const SHAPE: Shape = Shape {
     limit: 1_000_000,
 };
 
-/// How many seeds of each guest are run.
-const SEEDS: u64 = 200;
+/// The kinds, in the order in which they are printed.
+const KINDS: [&str; 6] = ["right", "wrong", "fault", "deadlock", "waits", "endless"];
 
 /// What kind an outcome is of.
 fn kind_of(outcome: &Outcome) -> &'static str {
@@ -36,11 +38,15 @@ fn has_kind(tally: &Tally, kind: &str) -> bool {
         .any(|row| kind_of(&row.told.outcome) == kind)
 }
 
-/// The kinds of outcomes of a guest, on a line.
-fn print_kinds(rt: &HostRuntime, name: &str, tally: &Tally) -> Result<()> {
+/// Hunts a guest, and prints the kinds of its outcomes on a line.
+fn print_kinds(rt: &HostRuntime, seeds: u64, name: &str) -> Result<()> {
+    let image = fs::read(rt, name)?;
+    let mut hunt = Hunt::new(rt.alloc(), &image, SHAPE)?;
+    let mut tally = Tally::new(rt.alloc())?;
+    hunt.note_seeds(&mut tally, 0, seeds);
     print!(rt; "{name}:")?;
-    for kind in ["right", "wrong", "fault", "deadlock", "waits", "endless"] {
-        if has_kind(tally, kind) {
+    for kind in KINDS {
+        if has_kind(&tally, kind) {
             print!(rt; " {kind}")?;
         }
     }
@@ -49,11 +55,12 @@ fn print_kinds(rt: &HostRuntime, name: &str, tally: &Tally) -> Result<()> {
 }
 
 fn main(rt: HostRuntime) -> Result<()> {
-    let names: Vec<String> = env::args(&rt)?.skip(1).collect(rt.alloc())?;
-    for name in &names {
-        let image = fs::read(&rt, name)?;
-        let tally = hunt(rt.alloc(), &image, SHAPE, 0, SEEDS)?;
-        print_kinds(&rt, name, &tally)?;
+    let words: Vec<String> = env::args(&rt)?.skip(1).collect(rt.alloc())?;
+    for pair in words.chunks(2) {
+        let [seeds, name] = pair else {
+            bail!("{}", USAGE);
+        };
+        print_kinds(&rt, seeds.parse::<u64>().context(USAGE)?, name)?;
     }
     Ok(())
 }

@@ -1,4 +1,4 @@
-use Rattle.std.proofs.Common.{◌≤◌, ◌-◌}
+use Rattle.std.proofs.Common.{◌≡◌, ◌≤◌, ◌-◌, length}
 use Rattle.ckrt_hunt.specs.Runs.{HasComeTo}
 use Rattle.ckrt_hunt.proofs.run.run.Given as goal
 
@@ -7,7 +7,8 @@ abbrev pub invariant-events : goal.invariant-events
 invariant-events l = record {
   come : HasComeTo l.plan l.fn.machine.state l.made l.machine.state l.hasher;
   turns : l.made.turns ≤ l.made.events;
-  harts : 1 ≤ l.machine.state.tables.threads.hart_count;
+  harts : l.machine.state.tables.threads.hart_count ≡ l.fn.machine.state.tables.threads.hart_count;
+  size : length l.machine.state.bytes ≡ length l.fn.machine.state.bytes;
 }
 
 -- the events that are left
