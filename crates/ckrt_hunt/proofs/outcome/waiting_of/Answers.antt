@@ -1,7 +1,7 @@
 use Rattle.std.proofs.Common.{◌≡◌, ◌∙◌, ◌++◌, ◌+◌, ◌-◌, suc, ap, sym, arith}
 use Rattle.ckrt_hunt.specs.Outcomes.{waiting_among, waiting_by}
 use Rattle.ckrt_hunt.proofs.TurnLemmas.{none_waiting, waiting_on}
-use Rattle.ckrt_hunt.proofs.outcome.waiting.Goals as goal
+use Rattle.ckrt_hunt.proofs.outcome.waiting_of.Goals as goal
 
 pub loop-thread-init : goal.loop-thread-init
 loop-thread-init c = (c.new-waiting.ensures ∙ sym (none_waiting c.args.threads.now), grind (arith, c.new-waiting.ensures))

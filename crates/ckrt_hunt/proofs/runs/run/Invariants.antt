@@ -1,6 +1,6 @@
 use Rattle.std.proofs.Common.{◌≡◌, ◌≤◌, ◌-◌, length}
 use Rattle.ckrt_hunt.specs.Runs.{HasComeTo}
-use Rattle.ckrt_hunt.proofs.run.run.Given as goal
+use Rattle.ckrt_hunt.proofs.runs.run.Given as goal
 
 -- the run has come so far by its schedule
 abbrev pub invariant-events : goal.invariant-events

@@ -2,7 +2,7 @@ use Rattle.std.proofs.Common.{arith, sym, subst, refl, ◌∙◌}
 use Rattle.ckrt_hunt.specs.declared.made.Made.{Made}
 use Rattle.ckrt_hunt.specs.Runs.{HasComeTo}
 use Rattle.ckrt_hunt.proofs.RunLemmas.{comes_from, comes_to}
-use Rattle.ckrt_hunt.proofs.run.run.Goals as goal
+use Rattle.ckrt_hunt.proofs.runs.run.Goals as goal
 
 pub events-init : goal.events-init
 events-init c = record {

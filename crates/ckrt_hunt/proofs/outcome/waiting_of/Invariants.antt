@@ -1,6 +1,6 @@
 use Rattle.std.proofs.Common.{◌≡◌, ◌≤◌, ◌-◌, length}
 use Rattle.ckrt_hunt.specs.Outcomes.{waiting_among}
-use Rattle.ckrt_hunt.proofs.outcome.waiting.Given as goal
+use Rattle.ckrt_hunt.proofs.outcome.waiting_of.Given as goal
 
 -- the threads before it have been looked at
 abbrev pub invariant-loop-thread : goal.invariant-loop-thread
