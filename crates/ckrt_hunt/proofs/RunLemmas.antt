@@ -6,7 +6,7 @@ use Rattle.sha2.specs.declared.Sha256.{Sha256}
 use Rattle.ckrt_events.specs.declared.event.Event.{Event}
 use Rattle.ckrt_machine.specs.Steps.{State}
 use Rattle.ckrt_machine.specs.declared.event.Answer.{Answer}
-use Rattle.ckrt_machine.specs.Events.{After, AllAccepted, IsAccepted, fold, output_of, step}
+use Rattle.ckrt_machine.specs.Events.{After, IsAccepted, output_of, step}
 use Rattle.ckrt_machine.proofs.FoldLaws.{state_on, output_on, accepted_on}
 use Rattle.ckrt_drive.specs.declared.plan.Next.TheVariants.{Submit, End}
 use Rattle.ckrt_drive.specs.declared.progress.Ending.{Ending}
@@ -17,7 +17,7 @@ use Rattle.ckrt_hunt.specs.declared.runs.Told.{Told}
 use Rattle.ckrt_hunt.specs.Plans.{made_with, nothing_made}
 use Rattle.ckrt_hunt.specs.Turns.{next, runner_of}
 use Rattle.ckrt_hunt.specs.Outcomes.{outcome_of}
-use Rattle.ckrt_hunt.specs.Runs.{AreScheduled, ComesTo, HasCome, HasComeTo, Point, beginning, behind, next_at, on}
+use Rattle.ckrt_hunt.specs.Runs.{AreScheduled, ComesTo, HasComeTo, Point, beginning, behind, next_at, on}
 
 module _ (p : Plan) where
   scheduled_on : (es : List Event) (e : Event) (x : Point) → AreScheduled p es x → next_at p (behind p es x) ≡ Submit e → AreScheduled p (es ++ e ∷ []) x

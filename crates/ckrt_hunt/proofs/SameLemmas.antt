@@ -1,5 +1,5 @@
 -- What `==` says of two outcomes: whether they are the same.
-use Rattle.std.proofs.Common.{◌≡◌, Bool, true, List, ap, refl, subst, rules}
+use Rattle.std.proofs.Common.{◌≡◌, true, List, ap, refl, subst, rules}
 use Rattle.std.specs.Bool.{Decides}
 use Rattle.std.specs.Cmp.Lexicographic.{pointwise}
 use Rattle.std.proofs.lemmas.Slice.Eq.{slice_eq-Decides, bytes_eq-Decides}

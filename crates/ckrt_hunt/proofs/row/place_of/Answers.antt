@@ -1,6 +1,5 @@
-use Rattle.std.proofs.Common.{◌≡◌, ◌≢◌, get_or, sym, ◌∙◌}
+use Rattle.std.proofs.Common.{◌≢◌, get_or, sym, ◌∙◌}
 use Rattle.std.proofs.lemmas.Option.{slice_get-get_or}
-use Rattle.ckrt_hunt.specs.declared.row.Row.{Row}
 use Rattle.ckrt_hunt.proofs.SameLemmas.{told_decides}
 use Rattle.ckrt_hunt.proofs.TallyLemmas.{none_on}
 use Rattle.ckrt_hunt.proofs.row.place_of.Goals as goal

@@ -1,12 +1,10 @@
-use Rattle.std.proofs.Common.{arith, ap, sym, subst, ◌∙◌, ◌++◌, ℕ, List}
+use Rattle.std.proofs.Common.{arith, ap, subst, ◌∙◌, ◌++◌, ℕ, List}
 use Rattle.sha2.specs.Hashers.{Holds256}
-use Rattle.ckrt_events.specs.declared.event.Event.{Event}
 use Rattle.ckrt_machine.specs.Events.{After}
 use Rattle.ckrt_state.specs.declared.table.Tables.{Tables}
 use Rattle.ckrt_hunt.specs.Plans.{steps_made}
 use Rattle.ckrt_hunt.specs.Turns.{runner_of}
 use Rattle.ckrt_machine.proofs.Fixed.{same_harts}
-use Rattle.ckrt_machine.specs.Steps.{State}
 use Rattle.ckrt_hunt.proofs.RunLemmas.{gone_on}
 use Rattle.ckrt_hunt.proofs.TurnLemmas.{ran_within}
 use Rattle.ckrt_hunt.proofs.runs.go_on.Goals as goal

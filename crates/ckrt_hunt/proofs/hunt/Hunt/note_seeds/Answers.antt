@@ -1,4 +1,4 @@
-use Rattle.std.proofs.Common.{◌≡◌, ◌∙◌, ◌-◌, ◌≤◌, ap, sym, subst, arith}
+use Rattle.std.proofs.Common.{◌≡◌, ◌∙◌, ◌-◌, subst, arith}
 use Rattle.ckrt_hunt.specs.Tallies.{AreNoted, Hunted, SeedComesTo}
 use Rattle.ckrt_hunt.proofs.TallyLemmas.{noted_on}
 use Rattle.ckrt_hunt.proofs.hunt.Hunt.note_seeds.Goals as goal

@@ -1,4 +1,4 @@
-use Rattle.std.proofs.Common.{◌≡◌, ◌∙◌, ◌++◌, length, take, drop, slice_get, slice_set, refl, ap, sym, subst, arith, rules}
+use Rattle.std.proofs.Common.{◌≡◌, ◌∙◌, ◌++◌, length, take, drop, slice_get, slice_set, refl, ap, subst, arith, rules}
 use Rattle.std.proofs.Math.Seq.{take-append_seam}
 use Rattle.ckrt_hunt.specs.Tallies.{HasNone, IsFirst, one_more}
 use Rattle.ckrt_hunt.proofs.TallyLemmas.{noted_again, noted_first, noted_full}
