@@ -9,6 +9,7 @@
 //! - `ckrt_probe checkpoint FILE COUNT` recovers a disk and makes checkpoints.
 //! - `ckrt_probe changed FILE COUNT` makes checkpoints of a disk of the guest `stores-4`, with four changed pages each.
 //! - `ckrt_probe unchanged FILE COUNT` makes checkpoints with no changed page.
+//! - `ckrt_probe hunt SEEDS IMAGE` hunts a guest, and says which kinds of outcomes its seeds came to.
 //! - `ckrt_probe grow` formats a disk and recovers it, and says which growth of memory was refused, if one was.
 //! - `ckrt_probe tables` decodes saved tables, and says whether a growth of memory was refused.
 //! - `ckrt_probe lives` runs lives of one program, and says whether a growth of memory was refused.
@@ -16,6 +17,7 @@
 
 mod disk;
 mod growth;
+mod hunt;
 mod journal;
 mod lives;
 mod run;
@@ -23,6 +25,7 @@ mod saved;
 
 use crate::disk::{time_changed, time_checkpoints, time_recovery, time_unchanged};
 use crate::growth::{report, report_tables};
+use crate::hunt::print_kinds;
 use crate::journal::{time_appends, time_decoding};
 use crate::lives::report_lives;
 use crate::run::{shape_of, time_run};
@@ -31,7 +34,7 @@ use anyhow::{Context, Result, bail};
 use std::env;
 
 const USAGE: &str =
-    "usage: ckrt_probe (run IMAGE PAGES HARTS STEPS | append FILE BYTES COUNT | decode COUNT | save FILE HARTS COUNT | recover FILE | checkpoint FILE COUNT | changed FILE COUNT | unchanged FILE COUNT | grow | tables | lives)...";
+    "usage: ckrt_probe (run IMAGE PAGES HARTS STEPS | append FILE BYTES COUNT | decode COUNT | save FILE HARTS COUNT | recover FILE | checkpoint FILE COUNT | changed FILE COUNT | unchanged FILE COUNT | hunt SEEDS IMAGE | grow | tables | lives)...";
 
 fn number(word: &str) -> Result<u32> {
     word.parse::<u32>().context(USAGE)
@@ -105,6 +108,14 @@ fn keep<'a>(rt: &HostRuntime, words: &'a [String]) -> Rest<'a> {
     Ok(rest)
 }
 
+fn hunt<'a>(rt: &HostRuntime, words: &'a [String]) -> Rest<'a> {
+    let [seeds, image, rest @ ..] = words else {
+        bail!(USAGE);
+    };
+    print_kinds(rt, number(seeds)?, image)?;
+    Ok(rest)
+}
+
 fn grow<'a>(rt: &HostRuntime, words: &'a [String]) -> Rest<'a> {
     println!(rt; "{}", report(rt.alloc()))?;
     Ok(words)
@@ -134,6 +145,7 @@ fn probe<'a>(rt: &HostRuntime, words: &'a [String]) -> Rest<'a> {
         "checkpoint" => checkpoint(rt, rest),
         "changed" => change(rt, rest),
         "unchanged" => keep(rt, rest),
+        "hunt" => hunt(rt, rest),
         "grow" => grow(rt, rest),
         "tables" => tables(rt, rest),
         "lives" => live(rt, rest),

@@ -1,12 +1,8 @@
-//! Hunts guests: `ckrt_hunt_probe SEEDS IMAGE ..` runs so many seeds of each image, and prints which kinds of outcomes they
-//! came to. `right` is exit status 0, and `wrong` any other.
-#![tactic(auto)]
+//! The hunt of a guest.
 
-use anyhow::{Context, Result, bail};
+use anyhow::Result;
 use ckrt_hunt::{Hunt, Outcome, Shape, Tally};
-use std::{env, fs};
-
-const USAGE: &str = "usage: ckrt_hunt_probe SEEDS IMAGE ..";
+use std::fs;
 
 /// How each guest is run: on two harts, and for at most a million steps.
 const SHAPE: Shape = Shape {
@@ -15,10 +11,10 @@ const SHAPE: Shape = Shape {
     limit: 1_000_000,
 };
 
-/// The kinds, in the order in which they are printed.
+/// The kinds of outcomes, in the order in which they are printed.
 const KINDS: [&str; 6] = ["right", "wrong", "fault", "deadlock", "waits", "endless"];
 
-/// What kind an outcome is of.
+/// What kind an outcome is of: `right` is exit status 0, and `wrong` any other.
 fn kind_of(outcome: &Outcome) -> &'static str {
     match outcome {
         Outcome::Exited(0) => "right",
@@ -38,29 +34,18 @@ fn has_kind(tally: &Tally, kind: &str) -> bool {
         .any(|row| kind_of(&row.told.outcome) == kind)
 }
 
-/// Hunts a guest, and prints the kinds of its outcomes on a line.
-fn print_kinds(rt: &HostRuntime, seeds: u64, name: &str) -> Result<()> {
-    let image = fs::read(rt, name)?;
+/// Hunts a guest from seed 0 on, and prints the kinds of its outcomes on a line.
+pub fn print_kinds(rt: &HostRuntime, seeds: u32, path: &str) -> Result<()> {
+    let image = fs::read(rt, path)?;
     let mut hunt = Hunt::new(rt.alloc(), &image, SHAPE)?;
     let mut tally = Tally::new(rt.alloc())?;
-    hunt.note_seeds(&mut tally, 0, seeds);
-    print!(rt; "{name}:")?;
+    hunt.note_seeds(&mut tally, 0, u64::from(seeds));
+    print!(rt; "{path}:")?;
     for kind in KINDS {
         if has_kind(&tally, kind) {
             print!(rt; " {kind}")?;
         }
     }
     println!(rt; "")?;
-    Ok(())
-}
-
-fn main(rt: HostRuntime) -> Result<()> {
-    let words: Vec<String> = env::args(&rt)?.skip(1).collect(rt.alloc())?;
-    for pair in words.chunks(2) {
-        let [seeds, name] = pair else {
-            bail!("{}", USAGE);
-        };
-        print_kinds(&rt, seeds.parse::<u64>().context(USAGE)?, name)?;
-    }
     Ok(())
 }
