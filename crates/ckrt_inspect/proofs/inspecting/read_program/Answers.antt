@@ -1,6 +1,6 @@
 use Rattle.std.proofs.Common.{◌≡◌, ℕ, Option, None, Some, sym, subst}
 use Rattle.ckrt_inspect.specs.Inspect.{AgreesAt}
-use Rattle.ckrt_inspect.proofs.inspecting.read_shown.Goals as goal
+use Rattle.ckrt_inspect.proofs.inspecting.read_program.Goals as goal
 
 pub returns-in-Some-clause-exact : goal.returns-in-Some-clause-exact
 returns-in-Some-clause-exact g c = λ honest.
