@@ -20,7 +20,7 @@
 
 mod disk;
 mod growth;
-mod hunt;
+mod hunted;
 mod journal;
 mod lives;
 mod run;
@@ -31,7 +31,7 @@ use crate::disk::{
     time_recovery, time_unchanged,
 };
 use crate::growth::{report, report_tables};
-use crate::hunt::print_kinds;
+use crate::hunted::print_kinds;
 use crate::journal::{time_appends, time_decoding};
 use crate::lives::report_lives;
 use crate::run::{shape_of, time_fed, time_run};
