@@ -13,7 +13,7 @@ from switches import SWITCHES, switched
 
 HERE = Path(__file__).parent
 KINDS_WITH_KEYS = {"lists": 2, "fates": 2, "listings": 3, "lives": 2, "cuts": 2}
-KINDS_OF_DRIVES = {"drives": 3, "inputs": 4, "mixed": 6}
+KINDS_OF_DRIVES = {"drives": 2, "inputs": 2, "mixed": 3}
 KINDS = {"lists": 4, "fates": 4, "parts": 3, "listings": 3, "lives": 2, "cuts": 8}
 # Programs are started by the thousand: what they import is kept compiled, beside them, and they are started without what a site adds.
 COMPILED = tempfile.TemporaryDirectory()
