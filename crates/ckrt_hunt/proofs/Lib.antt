@@ -1,0 +1,4 @@
+pub mod TurnLemmas
+pub mod RunLemmas
+pub mod TallyLemmas
+pub mod SameLemmas

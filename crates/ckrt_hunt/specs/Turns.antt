@@ -1,0 +1,189 @@
+-- Which event comes next (this project's choice): a function of the plan of the seed, of what the run has made so far, and of the tables.
+-- A turn is a run, or a tick. Before the run of a thread that is on no hart, it goes onto one, which ends no turn.
+use Rattle.std.specs.Prelude.{◌≡◌, ◌≤◌, ◌<◌, ℕ, zero, suc, ◌+◌, ◌-◌, ◌%◌, ◌==◌, ◌||◌, ◌&&◌, nat_le, nat_lt, min, Bool, true, false, is_none, if◌then◌else◌, Option, Some, None}
+use Rattle.std.specs.List.{find}
+use Rattle.ckrt_thread.specs.State as threads
+use Rattle.ckrt_thread.specs.Waits.{is_of}
+use Rattle.ckrt_state.specs.declared.table.Tables.{Tables}
+use Rattle.ckrt_events.specs.Bytes.{IsInRange}
+use Rattle.ckrt_events.specs.declared.event.Event.{Event}
+use Rattle.ckrt_events.specs.declared.event.Event.TheVariants.{Place, Run, Tick, RunLong}
+use Rattle.ckrt_machine.specs.Steps.{hart_of}
+use Rattle.ckrt_machine.specs.Runs.{is_running}
+use Rattle.ckrt_machine.specs.Refusals.{refusal_in}
+use Rattle.ckrt_drive.specs.Plan.{earliest_deadline, idle_until, run_by}
+use Rattle.ckrt_drive.specs.declared.plan.Next.{Next}
+use Rattle.ckrt_drive.specs.declared.plan.Next.TheVariants.{Submit, End}
+use Rattle.ckrt_drive.specs.declared.progress.Ending.TheVariants.{Ended, Enough}
+use Rattle.ckrt_hunt.specs.declared.lots.TheConstants.{CLOCK, HART, LENGTH, SCALE}
+use Rattle.ckrt_hunt.specs.declared.plan.Plan.{Plan}
+use Rattle.ckrt_hunt.specs.declared.made.Lowered.{Lowered}
+use Rattle.ckrt_hunt.specs.declared.made.Made.{Made}
+use Rattle.ckrt_hunt.specs.declared.turn.Ranked.{Ranked}
+use Rattle.ckrt_hunt.specs.Lots.{lot_at, shortest_of}
+
+-- WHOSE TURN IT IS
+
+-- the thread has not ended, and waits for nothing
+abbrev pub may_run : threads.State → ℕ → Bool
+may_run s t = threads.is_live s t && is_none (find (is_of t) s.waits)
+
+-- whether it was lowered at a change point
+abbrev pub is_at : Option ℕ → ℕ → Bool
+is_at None t = false
+is_at (Some u) t = u == t
+
+-- its priority: who was lowered is below all others, and by which change point it was decides
+abbrev pub priority_of : (seed : ℕ) → Lowered → ℕ → ℕ
+priority_of seed l t =
+    if is_at l.first t then 0
+    else if is_at l.second t then 1
+    else if is_at l.third t then 2
+    else lot_at seed 0 t + 3
+
+-- the run is still one by priorities
+abbrev pub has_priorities : Plan → Made → Bool
+has_priorities p m = nat_lt m.steps p.horizon
+
+-- what its rank is at a turn: its priority, or a lot of the turn
+abbrev pub rank_of : Plan → Made → ℕ → ℕ
+rank_of p m t =
+    if has_priorities p m then priority_of p.seed m.lowered t else lot_at p.seed (m.turns + 1) t
+
+abbrev pub ranked : Plan → Made → ℕ → Ranked
+ranked p m t = record { thread = t; rank = rank_of p m t }
+
+-- a thread's number is 1 to 64
+abbrev pub IsNumbered : Ranked → Type 0
+IsNumbered r = (1 ≤ r.thread) × (r.thread ≤ 64)
+
+-- the better of two; of the same rank the one before
+abbrev pub better : Option Ranked → Ranked → Option Ranked
+better None b = Some b
+better (Some a) b = if nat_lt a.rank b.rank then Some b else Some a
+
+abbrev pub considered : (runs : Bool) → Ranked → Option Ranked → Option Ranked
+considered true b best = better best b
+considered false b best = best
+
+-- of the threads 1 to n that may run, the one with the highest rank
+unfoldable pub best_among : Plan → Made → threads.State → (n : ℕ) → Option Ranked
+best_among p m s zero = None
+best_among p m s (suc n) =
+    considered (may_run s (suc n)) (ranked p m (suc n)) (best_among p m s n)
+
+-- HOW LONG
+
+-- the nearer of two points, one of them ahead
+abbrev pub nearer : (steps point ahead : ℕ) → ℕ
+nearer n c ahead = if nat_lt n c && nat_lt c ahead then c else ahead
+
+-- the next change point, or the end of the priorities
+abbrev pub next_point : Plan → (steps : ℕ) → ℕ
+next_point p n = nearer n p.first (nearer n p.second (nearer n p.third p.horizon))
+
+-- a length by lot, up to one of 10, 100, .., 1,000,000; short ones are likelier, and more so where the last run ended in a call
+abbrev pub drawn_length : Plan → Made → ℕ
+drawn_length p m =
+    lot_at p.seed (m.turns + 1) LENGTH
+    % shortest_of m.is_near_call (lot_at p.seed (m.turns + 1) SCALE) + 1
+
+-- how long a turn is: by lot, and up to the next change point at most
+abbrev pub length_of : Plan → Made → ℕ
+length_of p m =
+    if has_priorities p m then min (drawn_length p m) (next_point p m.steps - m.steps)
+    else drawn_length p m
+
+-- the steps of a turn, as many as are left
+abbrev pub steps_of : Plan → Made → ℕ
+steps_of p m = min (length_of p m) (p.limit - m.steps)
+
+-- WHAT IT IS
+
+-- the first of n harts, h, h + 1, .., that the thread is on
+unfoldable pub hart_among : (n h : ℕ) → ℕ → Tables → Option ℕ
+hart_among zero h t s = None
+hart_among (suc n) h t s = if threads.holds t (hart_of s h) then Some h else hart_among n (h + 1) t s
+
+-- the first one from a hart on
+abbrev pub hart_from : (h : ℕ) → ℕ → Tables → Option ℕ
+hart_from h t s = hart_among (8 - h) h t s
+
+-- a thread runs on its hart, and goes onto one by lot where it is on none
+abbrev pub on_or_onto : Option ℕ → Plan → Made → ℕ → Tables → Event
+on_or_onto (Some h) p m t s = run_by h (steps_of p m)
+on_or_onto None p m t s = Place (lot_at p.seed (m.turns + 1) HART % s.threads.hart_count) t
+
+-- one turn in 8 is the clock's where ticks come early, else one in 64, by lot
+abbrev pub clock_period : Plan → ℕ
+clock_period p = if p.is_early then 8 else 64
+
+abbrev pub is_clocks : Plan → Made → Bool
+is_clocks p m = lot_at p.seed (m.turns + 1) CLOCK % clock_period p == 0
+
+abbrev pub or_a_tick : Next → Event
+or_a_tick (Submit e) = e
+or_a_tick (End ending) = Tick 1
+
+-- the clock goes on by a tick; where ticks come early, to the earliest deadline, if there is one
+abbrev pub tick_by : Plan → Tables → Event
+tick_by p s = if p.is_early then or_a_tick (idle_until (earliest_deadline s.threads.waits) s) else Tick 1
+
+-- the event of a turn, for the thread whose turn it is
+abbrev pub event_for : Plan → Made → ℕ → Tables → Event
+event_for p m t s =
+    if is_clocks p m then tick_by p s else on_or_onto (hart_from 0 t s) p m t s
+
+-- where no thread may run, the clock goes to the earliest deadline, and without one there is nothing more to do
+abbrev pub next_for : Option Ranked → Plan → Made → Tables → Next
+next_for (Some r) p m s = Submit (event_for p m r.thread s)
+next_for None p m s = idle_until (earliest_deadline s.threads.waits) s
+
+-- a tick that the clock has no room for ends a run
+abbrev pub or_enough : Next → Tables → Next
+or_enough (Submit e) s = if is_none (refusal_in 0 e s) then Submit e else End Enough
+or_enough (End ending) s = End ending
+
+-- as many events or steps are made as there may be
+abbrev pub is_enough : Plan → Made → Bool
+is_enough p m = nat_le p.limit m.events || nat_le p.limit m.steps
+
+-- the event that is next, or why there is none
+abbrev pub next : Plan → Made → Tables → Next
+next p m s =
+    if is_running s.status then
+    (if is_enough p m then End Enough
+    else or_enough (next_for (best_among p m s.threads 64) p m s) s)
+    else End Ended
+
+-- WHO MAKES ITS STEPS
+
+-- how many steps it may have
+abbrev pub steps_in : Event → ℕ
+steps_in (Run h n) = n
+steps_in (RunLong h n) = n
+steps_in _ = 0
+
+-- who is on the hart of a run
+abbrev pub runner_of : Event → Tables → Option ℕ
+runner_of (Run h n) s = hart_of s h
+runner_of (RunLong h n) s = hart_of s h
+runner_of _ s = None
+
+-- an event in its range, that is accepted, while events are left and steps enough for it
+pub record IsFit (p : Plan) (m : Made) (s : Tables) (e : Event) : Type 0 where
+  pub in_range : IsInRange e
+  pub accepted : refusal_in 0 e s ≡ None
+  pub limit : p.limit < 4294967296
+  pub events : m.events < p.limit
+  pub steps : m.steps + steps_in e ≤ p.limit
+
+-- a next event is fit
+abbrev pub IsFitNext : Plan → Made → Tables → Next → Type 0
+IsFitNext p m s (Submit e) = IsFit p m s e
+IsFitNext p m s (End ending) = Unit {0}
+
+-- the same of an event before it is offered
+abbrev pub IsWithin : Plan → Made → Next → Type 0
+IsWithin p m (Submit e) = IsInRange e × (m.steps + steps_in e ≤ p.limit)
+IsWithin p m (End ending) = Unit {0}

@@ -1,0 +1,26 @@
+//! The hunt: a program runs from its beginning by one schedule after another, each drawn from its seed, and what each run
+//! comes to is counted.
+#![tactic(auto)]
+
+mod drawn;
+mod hunt;
+mod laws;
+mod lots;
+mod made;
+mod outcome;
+mod plan;
+mod row;
+mod runs;
+mod shape;
+mod tally;
+mod turn;
+
+pub use hunt::Hunt;
+pub use laws::seed_repeats;
+pub use made::{Lowered, Made};
+pub use outcome::{Awaited, Outcome, Waiting};
+pub use plan::Plan;
+pub use row::Row;
+pub use runs::{Told, run};
+pub use shape::Shape;
+pub use tally::{TALLY_ROWS, Tally};

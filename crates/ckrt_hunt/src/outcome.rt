@@ -1,0 +1,115 @@
+//! What a run comes to.
+ghost use Rattle.std.specs.Prelude.{◌≡◌, ◌≤◌, ◌<◌, ◌+◌, ◌++◌, length};
+ghost use Rattle.ckrt_hunt.specs.Outcomes.{awaited_by, by_status, outcome_of, waiting_among, waiting_by};
+
+use arrayvec::ArrayVec;
+use ckrt_drive::Ending;
+use ckrt_rv32i::Cause;
+use ckrt_state::{Status, Tables};
+use ckrt_thread::{MAX_THREADS, Reason, ThreadId, Threads, Wait};
+
+/// What a thread waits for.
+#[derive(Clone, Copy, Debug, Default, Drop, PartialEq, Eq)]
+pub enum Awaited {
+    /// A byte of the console's input.
+    #[default]
+    Input,
+    /// Its deadline.
+    Deadline,
+    /// The end of a thread.
+    End(ThreadId),
+    /// A mutex, by its address.
+    Mutex(u32),
+    /// A signal at a condition, by its address.
+    Condition(u32),
+    /// The others at a barrier, by its address.
+    Barrier(u32),
+    /// A read-write lock, by its address, to read.
+    Read(u32),
+    /// A read-write lock, by its address, to write.
+    Write(u32),
+}
+
+/// A thread that waits, and for what.
+#[derive(Clone, Copy, Debug, Default, Drop, PartialEq, Eq)]
+pub struct Waiting {
+    pub thread: ThreadId,
+    pub awaited: Awaited,
+}
+
+/// What a run comes to.
+#[derive(Debug, Drop, PartialEq, Eq)]
+pub enum Outcome {
+    /// The program ended with this status.
+    Exited(u32),
+    /// The program ended by a fault: the thread, its pc, and why.
+    Faulted(ThreadId, u32, Cause),
+    /// No thread can go on, no wait has a deadline, and nobody waits for input: who waits, by number, and for what.
+    Deadlock(ArrayVec<Waiting, 64>),
+    /// No thread can go on, no wait has a deadline, and a thread waits for input.
+    WaitsForInput,
+    /// The program didn't end within as many steps and events as it might make.
+    NoEnd,
+}
+
+/// What a wait is for.
+fn awaited_by(reason: Reason) -> Awaited
+    ensures { result ≡ awaited_by reason }
+{
+    match reason {
+        Reason::Input => Awaited::Input,
+        Reason::Sleep => Awaited::Deadline,
+        Reason::Join(thread) => Awaited::End(thread),
+        Reason::Lock(mutex) | Reason::Retake(mutex, _) => Awaited::Mutex(mutex),
+        Reason::Condition(condition, _) => Awaited::Condition(condition),
+        Reason::Barrier(barrier) => Awaited::Barrier(barrier),
+        Reason::Read(lock) => Awaited::Read(lock),
+        Reason::Write(lock) => Awaited::Write(lock),
+    }
+}
+
+/// The thread goes behind the others, with what it waits for, if it waits.
+fn push_waiting(waiting: &mut ArrayVec<Waiting, 64>, thread: ThreadId, wait: Option<Wait>)
+    requires { length waiting.old.items < 64 }
+    ensures items { waiting.new.items ≡ waiting.old.items ++ waiting_by thread wait }
+    ensures few { length waiting.new.items ≤ length waiting.old.items + 1 }
+{
+    if let Some(wait) = wait {
+        let awaited = awaited_by(wait.reason);
+        waiting.push(Waiting { thread, awaited });
+    }
+}
+
+/// Which threads wait, and for what.
+fn waiting_of(threads: &Threads) -> ArrayVec<Waiting, 64>
+    ensures { result.items ≡ waiting_among threads.now 64 }
+{
+    let mut waiting = ArrayVec::new();
+    for thread in 1..MAX_THREADS as ThreadId + 1 {
+        push_waiting(&mut waiting, thread, threads.wait_of(thread));
+    }
+    waiting
+}
+
+/// How the program has ended.
+fn by_status(status: Status) -> Outcome
+    ensures { result ≡ by_status status }
+{
+    match status {
+        Status::Running => Outcome::NoEnd,
+        Status::Exited(status) => Outcome::Exited(status),
+        Status::Faulted(thread, pc, cause) => Outcome::Faulted(thread, pc, cause),
+    }
+}
+
+/// What a run comes to that ends so, with these tables.
+pub fn outcome_of(tables: &Tables, ending: Ending) -> Outcome
+    ensures { result ≡ outcome_of ending tables.now }
+{
+    match ending {
+        Ending::Ended => by_status(tables.status),
+        Ending::WaitsForInput => Outcome::WaitsForInput,
+        Ending::Deadlock => Outcome::Deadlock(waiting_of(&tables.threads)),
+        Ending::Enough => Outcome::NoEnd,
+    }
+}

@@ -1,0 +1,68 @@
+//! What a seed has drawn before its run begins.
+ghost use Rattle.std.specs.Prelude.{◌≡◌, ◌≤◌};
+
+use crate::drawn::{is_early, point_of};
+use crate::lots::{SCALE, lot_at, scale_of};
+
+/// The plan of a seed: what it has drawn before its run begins.
+#[derive(Clone, Copy, Debug, PartialEq, Eq)]
+pub struct Plan {
+    /// A run ends at so many steps, and at so many events.
+    pub limit: u32,
+    pub seed: u64,
+    /// For how many steps the threads run by priorities, at most 1,000,000. Behind them all goes by lot.
+    pub horizon: u32,
+    /// Behind so many steps the first change point lowers a thread.
+    pub first: u32,
+    pub second: u32,
+    pub third: u32,
+    /// Whether ticks come early.
+    pub is_early: bool,
+}
+
+impl Plan {
+    ghost use Rattle.ckrt_hunt.specs.Plans.{by_lot, by_priorities, plan_of};
+
+    /// The plan of a seed, for a run of at most so many steps, and as many events.
+    pub fn new(limit: u32, seed: u64) -> Plan
+        ensures { result ≡ plan_of limit seed }
+    {
+        if seed % 2 == 0 {
+            Plan::by_lot(limit, seed)
+        } else {
+            Plan::by_priorities(limit, seed, scale_of(lot_at(seed, 0, SCALE)))
+        }
+    }
+
+    /// All goes by lot.
+    fn by_lot(limit: u32, seed: u64) -> Plan
+        ensures { result ≡ by_lot limit seed }
+    {
+        Plan {
+            limit,
+            seed,
+            horizon: 0,
+            first: 0,
+            second: 0,
+            third: 0,
+            is_early: is_early(seed),
+        }
+    }
+
+    /// Priorities for so many steps.
+    fn by_priorities(limit: u32, seed: u64, steps: u32) -> Plan
+        requires some { 1 ≤ steps }
+        requires few { steps ≤ 1000000 }
+        ensures { result ≡ by_priorities limit seed steps }
+    {
+        Plan {
+            limit,
+            seed,
+            horizon: steps,
+            first: point_of(seed, steps, 0),
+            second: point_of(seed, steps, 1),
+            third: point_of(seed, steps, 2),
+            is_early: is_early(seed),
+        }
+    }
+}

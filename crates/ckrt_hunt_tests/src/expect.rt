@@ -1,0 +1,77 @@
+//! Hunts of small programs, and comparisons that stop a test where what comes isn't what is wanted.
+
+use arrayvec::ArrayVec;
+use ckrt_hunt::{Hunt, Outcome, Row, Shape, Tally, Waiting};
+use ckrt_rv32i::Cause;
+use std::fmt::Debug;
+use std::process::Abort;
+
+/// What each program is run with.
+const SHAPE: Shape = Shape {
+    pages: 16,
+    harts: 2,
+    limit: 10_000,
+};
+
+/// The outcome that is wanted.
+#[derive(Drop)]
+pub enum Wanted {
+    Exited(u32),
+    Faulted(u8, u32, Cause),
+    Deadlock(&'static [Waiting]),
+    WaitsForInput,
+    NoEnd,
+}
+
+/// Two values of any kind.
+pub fn expect_eq<R: Abort, T: Debug + PartialEq + Drop>(rt: &R, got: T, want: T) {
+    assert_eq!(rt; got, want);
+}
+
+/// The bytes of a program's words, the lowest one first.
+fn image_of<R: Abort>(rt: &R, words: &[u32]) -> ArrayVec<u8, 256> {
+    let mut image: ArrayVec<u8, 256> = ArrayVec::new();
+    for word in words {
+        let taken = image.try_extend_from_slice(&word.to_le_bytes());
+        assert!(rt; taken.is_ok(), "an image of 64 words at most");
+    }
+    image
+}
+
+/// The hunt of a program that begins with these words.
+fn hunt_of<R: Abort + AllocGlobal>(rt: &R, words: &[u32]) -> Hunt {
+    match Hunt::new(rt.alloc(), image_of(rt, words).as_slice(), SHAPE) {
+        Ok(hunt) => hunt,
+        Err(error) => panic!(rt; "{error}"),
+    }
+}
+
+/// What so many seeds of a program come to, from seed 0 on.
+pub fn tally_of<R: Abort + AllocGlobal>(rt: &R, words: &[u32], seeds: u64) -> Tally {
+    match Tally::new(rt.alloc()) {
+        Ok(tally) => {
+            let mut tally = tally;
+            hunt_of(rt, words).note_seeds(&mut tally, 0, seeds);
+            tally
+        }
+        Err(_) => panic!(rt; "memory for a tally"),
+    }
+}
+
+/// The outcome of a row.
+pub fn expect_outcome<R: Abort>(rt: &R, row: &Row, want: &Wanted) {
+    match (&row.told.outcome, want) {
+        (Outcome::Exited(got), Wanted::Exited(want)) => expect_eq(rt, *got, *want),
+        (Outcome::Faulted(thread, pc, cause), Wanted::Faulted(want, at, why)) => {
+            expect_eq(rt, *thread, *want);
+            expect_eq(rt, *pc, *at);
+            expect_eq(rt, *cause, *why);
+        }
+        (Outcome::Deadlock(got), Wanted::Deadlock(want)) => {
+            expect_eq(rt, got.as_slice(), *want);
+        }
+        (Outcome::WaitsForInput, Wanted::WaitsForInput) => {}
+        (Outcome::NoEnd, Wanted::NoEnd) => {}
+        _ => panic!(rt; "another kind of outcome"),
+    }
+}

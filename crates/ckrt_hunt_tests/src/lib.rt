@@ -1,0 +1,7 @@
+//! Tests of the hunt: what schedules come to. Nothing else stands here.
+#![tactic(auto)]
+
+#[cfg(test)]
+mod expect;
+#[cfg(test)]
+mod outcomes;
