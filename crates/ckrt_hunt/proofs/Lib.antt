@@ -1,3 +1,4 @@
 pub mod TurnLemmas
 pub mod RunLemmas
 pub mod TallyLemmas
+pub mod KeepLemmas
