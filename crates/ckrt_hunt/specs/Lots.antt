@@ -1,6 +1,6 @@
 -- What a seed draws by lot (this project's choice). Turn 0 is the seed's own, before the first turn of its run; each turn has 128 lots, of which
 -- lots 1 to 64 are those of the threads.
-use Rattle.std.specs.Prelude.{ℕ, ◌+◌, ◌*◌, ◌/◌, ◌%◌, ◌==◌, min, if◌then◌else◌}
+use Rattle.std.specs.Prelude.{ℕ, ◌+◌, ◌*◌, ◌/◌, ◌%◌, ◌==◌, min, Bool, if◌then◌else◌}
 use Rattle.ckrt_drive.specs.Lots.{lot_of}
 
 -- a lot of a turn
@@ -21,6 +21,7 @@ scale_by pick =
 abbrev pub scale_of : (lot : ℕ) → ℕ
 scale_of lot = scale_by (lot % 6)
 
--- a lot picks two of them, and the shorter one counts
-abbrev pub shorter_of : (lot : ℕ) → ℕ
-shorter_of lot = scale_by (min (lot % 6) (lot / 6 % 6))
+-- a lot picks two of them, and the shorter one counts; near a call the shortest of three
+abbrev pub shortest_of : (near : Bool) → (lot : ℕ) → ℕ
+shortest_of near lot =
+    scale_by (min (lot % 6) (min (lot / 6 % 6) (if near then lot / 36 % 6 else lot % 6)))

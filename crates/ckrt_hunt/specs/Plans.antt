@@ -6,9 +6,11 @@
 -- threads the program makes. A scheduler that looks at the priorities before each step finds a bug of depth d, in a run of at most k steps, with a
 -- probability of at least 1 / (n k^(d-1)). This one looks at them before each turn: so that is its bound only as far as no thread of a higher
 -- priority is woken within a turn, the clock doesn't matter, and the lots are true ones.
-use Rattle.std.specs.Prelude.{ℕ, ◌+◌, ◌%◌, ◌==◌, nat_le, nat_lt, Bool, if◌then◌else◌, Option, Some, None}
+use Rattle.std.specs.Prelude.{ℕ, ◌+◌, ◌%◌, ◌==◌, nat_le, nat_lt, Bool, true, false, if◌then◌else◌, Option, Some, None}
 use Rattle.ckrt_machine.specs.declared.event.Answer.{Answer}
 use Rattle.ckrt_machine.specs.declared.event.Answer.TheVariants.{Placed, Ran, Taken, Closed, Ticked}
+use Rattle.ckrt_machine.specs.declared.event.RunEnd.{RunEnd}
+use Rattle.ckrt_machine.specs.declared.event.RunEnd.TheVariants.{On, Off, End}
 use Rattle.ckrt_hunt.specs.declared.lots.TheConstants.{CHANGES, CLOCK, POINTS, SCALE}
 use Rattle.ckrt_hunt.specs.declared.plan.Plan.{Plan}
 use Rattle.ckrt_hunt.specs.declared.made.Lowered.{Lowered}
@@ -59,6 +61,7 @@ nothing_made = record {
   events = 0;
   turns = 0;
   steps = 0;
+  is_near_call = false;
   lowered = record { first = None; second = None; third = None };
 }
 
@@ -75,12 +78,19 @@ lowered_by p n who l = record {
   third = lowered_at p.third n who l.third;
 }
 
+-- the run ended as its thread left the hart: it waits, or has ended
+abbrev pub has_left : RunEnd → Bool
+has_left On = false
+has_left Off = true
+has_left End = false
+
 -- one more event, which came to this; who was on the hart of a run made its steps
 abbrev pub made_with : Plan → (who : Option ℕ) → Answer → Made → Made
 made_with p who (Ran n how) m = record {
   events = m.events + 1;
   turns = m.turns + 1;
   steps = m.steps + n;
+  is_near_call = has_left how;
   lowered = lowered_by p (m.steps + n) who m.lowered;
 }
 made_with p who (Ticked ended) m = record m { events = m.events + 1; turns = m.turns + 1 }

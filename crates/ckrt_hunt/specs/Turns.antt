@@ -20,7 +20,7 @@ use Rattle.ckrt_hunt.specs.declared.plan.Plan.{Plan}
 use Rattle.ckrt_hunt.specs.declared.made.Lowered.{Lowered}
 use Rattle.ckrt_hunt.specs.declared.made.Made.{Made}
 use Rattle.ckrt_hunt.specs.declared.turn.Ranked.{Ranked}
-use Rattle.ckrt_hunt.specs.Lots.{lot_at, shorter_of}
+use Rattle.ckrt_hunt.specs.Lots.{lot_at, shortest_of}
 
 -- WHOSE TURN IT IS
 
@@ -82,10 +82,11 @@ nearer n c ahead = if nat_lt n c && nat_lt c ahead then c else ahead
 abbrev pub next_point : Plan → (steps : ℕ) → ℕ
 next_point p n = nearer n p.first (nearer n p.second (nearer n p.third p.horizon))
 
--- a length by lot, up to one of 10, 100, .., 1,000,000
+-- a length by lot, up to one of 10, 100, .., 1,000,000; short ones are likelier, and more so where the last run ended in a call
 abbrev pub drawn_length : Plan → Made → ℕ
 drawn_length p m =
-    lot_at p.seed (m.turns + 1) LENGTH % shorter_of (lot_at p.seed (m.turns + 1) SCALE) + 1
+    lot_at p.seed (m.turns + 1) LENGTH
+    % shortest_of m.is_near_call (lot_at p.seed (m.turns + 1) SCALE) + 1
 
 -- how long a turn is: by lot, and up to the next change point at most
 abbrev pub length_of : Plan → Made → ℕ

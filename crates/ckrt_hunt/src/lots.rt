@@ -1,6 +1,6 @@
 //! What a seed draws by lot: each turn has lots of its own, and turn 0 is the seed's, before the first turn of its run.
 ghost use Rattle.std.specs.Prelude.{◌≡◌, ◌≤◌};
-ghost use Rattle.ckrt_hunt.specs.Lots.{lot_at, scale_by, scale_of, shorter_of};
+ghost use Rattle.ckrt_hunt.specs.Lots.{lot_at, scale_by, scale_of, shortest_of};
 
 use ckrt_drive::lot_of;
 
@@ -58,11 +58,12 @@ pub fn scale_of(lot: u32) -> u32
     scale_by(lot % 6)
 }
 
-/// The shorter of two of them that a lot picks.
-pub fn shorter_of(lot: u32) -> u32
-    ensures scale { result ≡ shorter_of lot }
+/// The shorter of two of them that a lot picks; near a call the shortest of three.
+pub fn shortest_of(near: bool, lot: u32) -> u32
+    ensures scale { result ≡ shortest_of near lot }
     ensures some { 10 ≤ result }
     ensures few { result ≤ 1000000 }
 {
-    scale_by((lot % 6).min(lot / 6 % 6))
+    let third = if near { lot / 36 % 6 } else { lot % 6 };
+    scale_by((lot % 6).min((lot / 6 % 6).min(third)))
 }

@@ -1,11 +1,11 @@
 //! What a run has made so far.
 ghost use Rattle.std.specs.Prelude.{◌≡◌, ◌<◌, ◌+◌};
-ghost use Rattle.ckrt_hunt.specs.Plans.{lowered_at, lowered_by, made_with, nothing_made, steps_made};
+ghost use Rattle.ckrt_hunt.specs.Plans.{has_left, lowered_at, lowered_by, made_with, nothing_made, steps_made};
 ghost use Rattle.ckrt_hunt.specs.Turns.{priority_of, is_at};
 
 use crate::lots::lot_at;
 use crate::plan::Plan;
-use ckrt_machine::Answer;
+use ckrt_machine::{Answer, RunEnd};
 use ckrt_thread::ThreadId;
 
 /// Who was lowered, by change point.
@@ -23,6 +23,8 @@ pub struct Made {
     /// Its runs and ticks.
     pub turns: u32,
     pub steps: u32,
+    /// Whether the last run ended as its thread left the hart, which it mostly does in a call.
+    pub is_near_call: bool,
     pub lowered: Lowered,
 }
 
@@ -50,6 +52,13 @@ fn is_at(lowered: Option<ThreadId>, thread: ThreadId) -> bool
         Some(other) => other == thread,
         None => false,
     }
+}
+
+/// Whether the run ended as its thread left the hart.
+fn has_left(end: RunEnd) -> bool
+    ensures { result ≡ has_left end }
+{
+    matches!(end, RunEnd::Off)
 }
 
 impl Lowered {
@@ -89,6 +98,7 @@ impl Made {
             events: 0,
             turns: 0,
             steps: 0,
+            is_near_call: false,
             lowered: Lowered {
                 first: None,
                 second: None,
@@ -105,10 +115,11 @@ impl Made {
         ensures { result ≡ made_with plan.now who answer self }
     {
         match answer {
-            Answer::Ran(steps, _) => Made {
+            Answer::Ran(steps, end) => Made {
                 events: self.events + 1,
                 turns: self.turns + 1,
                 steps: self.steps + steps,
+                is_near_call: has_left(end),
                 lowered: self.lowered.with(plan, self.steps + steps, who),
             },
             Answer::Ticked(_) => Made {

@@ -9,7 +9,7 @@ ghost use Rattle.ckrt_hunt.specs.declared.made.Made.{Made};
 ghost use Rattle.ckrt_hunt.specs.declared.plan.Plan.{Plan};
 ghost use Rattle.ckrt_hunt.specs.Turns.{IsFitNext, IsNumbered, IsWithin, best_among, better, clock_period, considered, drawn_length, event_for, hart_from, is_clocks, is_enough, length_of, may_run, nearer, next, next_for, next_point, on_or_onto, or_a_tick, or_enough, rank_of, ranked, runner_of, steps_in, steps_of, tick_by};
 
-use crate::lots::{CLOCK, HART, LENGTH, SCALE, lot_at, shorter_of};
+use crate::lots::{CLOCK, HART, LENGTH, SCALE, lot_at, shortest_of};
 use crate::made::Made;
 use crate::plan::Plan;
 use ckrt_drive::{Ending, Next, idle, run_by};
@@ -143,7 +143,7 @@ fn drawn_length(plan: &Plan, made: &Made) -> u32
     ensures few { result ≤ 1000000 }
 {
     let turn = turn_of(made);
-    let most = shorter_of(lot_at(plan.seed, turn, SCALE));
+    let most = shortest_of(made.is_near_call, lot_at(plan.seed, turn, SCALE));
     lot_at(plan.seed, turn, LENGTH) % most + 1
 }
 
