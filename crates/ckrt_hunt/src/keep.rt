@@ -113,6 +113,20 @@ fn keep_event<D: Disk>(
     Ok(())
 }
 
+/// The end of a run: all its events are acknowledged.
+fn finish<D: Disk>(session: &mut Session<D>, ending: Ending) -> Result<Ending, KeepFault>
+    ensures accepts { Accepts [] session.old session.new }
+    ensures ended { IfOk result (λ e. e ≡ ending) }
+    ensures saved { OnOk result (session.new.acknowledged ≡ session.new.progress.count) }
+    ensures device { IfErr result (λ fault. fault ≡ KeepFault.Device) }
+    ensures failed { OnErr result (session.new.failed ≡ true) }
+{
+    match save(session) {
+        Ok(()) => Ok(ending),
+        Err(fault) => Err(fault),
+    }
+}
+
 /// Runs a program by a plan over a session, from where it stands, and acknowledges the run's events: they are those that
 /// [`run`](crate::run) has from there. Its output isn't kept. It takes no memory.
 pub fn keep<D: Disk>(session: &mut Session<D>, plan: &Plan) -> Result<Ending, KeepFault>
@@ -123,10 +137,7 @@ pub fn keep<D: Disk>(session: &mut Session<D>, plan: &Plan) -> Result<Ending, Ke
     'events: loop {
         match next(session.machine(), plan, &made) {
             Next::Submit(event) => keep_event(session, plan, &mut made, &event)?,
-            Next::End(ending) => {
-                save(session)?;
-                return Ok(ending);
-            }
+            Next::End(ending) => return finish(session, ending),
         }
     }
 }
