@@ -1,11 +1,12 @@
 """Measures checkpoints and recoveries of real disks, alternating with what they are measured beside, and prints ratios.
 
-Words: the folder of the disks (the present one, if none), and jobs (`checkpoints`, `changed`, `recovery`, `power-on`, `resident`,
-`inspect`; all, if none is named).
+Words: the folder of the disks (the present one, if none), and jobs (`checkpoints`, `changed`, `recorded`, `recovery`, `power-on`,
+`resident`, `inspect`; all, if none is named).
 
 checkpoints: on disks of 64, 256 and 1,024 pages, of all of them, beside the same reads, writes and syncs in plain Rust. Each program has a
 disk of its own; after all rounds the two are compared byte by byte. changed: the same on a disk of 1,024 pages, of which four, or none,
-have changed since the last checkpoint into the same area. recovery: of such disks with an empty journal, in a new
+have changed since the last checkpoint into the same area. recorded: checkpoints as a drive with an input makes them, each behind a
+commit and with its record, beside checkpoints without these: of all pages, and of four of 1,024. recovery: of such disks with an empty journal, in a new
 process each time, beside the same sync and reading the same bytes into new memory. power-on: from the start of `ckrt run` to
 its first reply, on a disk of 64 pages whose journal of 1,048,576 bytes has no room for another batch of Runs, beside reading the disk's
 bytes and the machine alone with as many Runs. resident: of `ckrt run` with 1,024 pages, after an event, a commit and two
@@ -41,6 +42,7 @@ CROWD, TURNS = "locks-crowded", 128
 STORES, STORES_ROUND = "stores-4", 9
 # Checkpoints of one process; each is fast, and the first ones are whole.
 CHANGES = 21
+RECORD = 4_096  # the bytes of the record of an input, behind those of a disk
 MAPPED_LIMIT = 4_096 + 1_280
 
 
@@ -87,6 +89,31 @@ class Bench:
         for job, what in (("changed", "4 changed pages of 1024"), ("unchanged", "no changed page of 1024")):
             disks = [self.stores_disk(f"changed_{k}.disk") for k in (0, 1)]
             self.alternate(f"checkpoint of {what}", job, disks, CHANGES)
+
+    def recorded_disk(self, name, pages):
+        """A disk of `stores-4` that has begun a round, with room for the record of an input."""
+        disk = self.format_disk(name, pages, image=self.stores)
+        run([self.ckrt, "run", disk], f"place 0 1\nrun 0 {STORES_ROUND}\ncheckpoint\n")
+        with open(disk, "r+b") as file:
+            file.truncate(disk.stat().st_size + RECORD)
+        return disk
+
+    def alternate_recorded(self, what, jobs, pages, count):
+        """Checkpoints of the two jobs of one program in turns, each job on a disk of its own."""
+        disks, times = [self.recorded_disk(f"recorded_{k}.disk", pages) for k in (0, 1)], ([], [])
+        for job, disk in zip(jobs, disks):
+            self.checkpoint_times(self.probe, job, disk, WARM_UP)
+        for turn in turns(ROUNDS):
+            for k in turn:
+                times[k].append(statistics.median(self.checkpoint_times(self.probe, jobs[k], disks[k], count)))
+        for disk in disks:
+            disk.unlink()
+        self.report(what, times[1], times[0])
+
+    def recorded(self):
+        for pages in PAGES:
+            self.alternate_recorded(f"checkpoint of {pages} pages with a commit and a record", ("checkpoint", "recorded"), pages, CHECKPOINTS)
+        self.alternate_recorded("checkpoint of 4 changed pages of 1024 with a commit and a record", ("changed", "recorded-changed"), 1_024, CHANGES)
 
     def recovery(self):
         for pages in PAGES:
@@ -183,7 +210,7 @@ class Bench:
               f"ratio {middle:.3f} ({low:.3f} to {high:.3f})", flush=True)
 
 
-JOBS = {"checkpoints": Bench.checkpoints, "changed": Bench.changed, "recovery": Bench.recovery, "power-on": Bench.power_on,
+JOBS = {"checkpoints": Bench.checkpoints, "changed": Bench.changed, "recorded": Bench.recorded, "recovery": Bench.recovery, "power-on": Bench.power_on,
         "resident": Bench.resident, "inspect": Bench.inspect}
 
 

@@ -1,12 +1,15 @@
 """Measures `ckrt drive` on a disk in a file, alternating with the machine alone, and prints ratios.
 
-Words: the folder of the disks (the present one, if none), and jobs (`steps`, `instructions`, `waits`; all, if none is named).
+Words: the folder of the disks (the present one, if none), and jobs (`steps`, `instructions`, `fed`, `fed-instructions`, `waits`; all, if
+none is named).
 
 steps: guests driven to their ends with the defaults of a drive, commits and checkpoints and an output file included, on a disk of 64
 pages, beside the machine alone with Runs of 65,535 steps; whole processes, by the clock and by processor time. A drive sleeps while the
 disk syncs, the machine alone never does: where other programs want the processors, the clock tells how soon a sleeper gets one again, so the
 processor time is what compares. instructions: what a step more costs each of them in host instructions, which callgrind counts: a guest of
-two lengths, so that what a process does once drops out. waits: a guest that sleeps 100 times for a year of ticks, the whole process, for each wait.
+two lengths, so that what a process does once drops out. fed: a guest that adds up a million bytes of --input, which it reads one by one by getc, beside the machine alone, which is given the
+same bytes by the same rule; whole processes. fed-instructions: what a byte more costs each of them in host instructions.
+waits: a guest that sleeps 100 times for a year of ticks, the whole process, for each wait.
 """
 import re
 import statistics
@@ -14,10 +17,10 @@ import subprocess
 import sys
 from pathlib import Path
 
-from common import found, guest, make_disk, ratios_of, steps_told
+from common import found, guest, make_disk, ratios_of, steps_told, sync
 from processes import timed
 from results import note
-from shared.guests import putting, sleeping
+from shared.guests import adding_input, putting, sleeping
 
 GUESTS = ("nqueens-big", "pi-big", "primes-big", "sha256-big")
 ROUNDS, WAIT_ROUNDS, WAITS = 25, 31, 100
@@ -25,15 +28,18 @@ YEAR = 365 * 86_400 * 1_000
 # Bytes that a guest puts, and rounds of two steps before each: some 4 and 8 million steps.
 PUT, BETWEEN = 20, (100_000, 200_000)
 JOURNAL = 1_048_576
+RECORD = 4_096  # the bytes of the record of an input, behind those of a disk
+# Bytes of an input, and of one to count the instructions of a byte more.
+INPUT, LESS_INPUT = 1_000_000, 200_000
 
 
 class Bench:
     def __init__(self, folder):
         self.ckrt, self.probe = found("ckrt", "ckrt_probe")
-        self.disk, self.output, self.image = (Path(folder) / f"drive.{it}" for it in ("disk", "output", "image"))
+        self.disk, self.output, self.image, self.input = (Path(folder) / f"drive.{it}" for it in ("disk", "output", "image", "input"))
 
     def remove(self):
-        for file in (self.disk, self.output, self.image):
+        for file in (self.disk, self.output, self.image, self.input):
             file.unlink(missing_ok=True)
 
     def make_disk(self, image):
@@ -90,6 +96,59 @@ class Bench:
         note("drive", "host instructions of a step more", "instructions", ours / steps, base / steps, ("", base / ours, ""))
         print(f"a step more: machine alone {base / steps:.2f} host instructions, ckrt drive {ours / steps:.2f}, ratio {base / ours:.3f}")
 
+    def make_fed_disk(self, length):
+        """A disk whose guest reads so many bytes of input, and where it was given none yet."""
+        self.image.write_bytes(adding_input())
+        self.input.write_bytes(bytes(number * 7 & 0xFF for number in range(length)))
+        self.make_disk(self.image)
+        with open(self.disk, "r+b") as disk:
+            disk.truncate(self.disk.stat().st_size + RECORD)
+        sync(self.disk)
+        return bytes([sum(self.input.read_bytes()) & 0xFF])
+
+    def fed_words(self):
+        return [*self.drive_words(), "--input", self.input]
+
+    def fed_machine_words(self):
+        return [self.probe, "feed", self.image, "64", "1", "65535", self.input]
+
+    def fed_once(self, wanted):
+        """What a whole drive with an input took."""
+        spent = timed(self.fed_words(), stderr=subprocess.DEVNULL)[1]
+        if self.output.read_bytes() != wanted:
+            sys.exit("the drive with an input puts another sum")
+        return spent
+
+    def fed_machine(self, wanted):
+        """What the machine alone took with the same input, and how many steps it made."""
+        done, spent = timed(self.fed_machine_words(), capture_output=True)
+        if done.stdout != wanted:
+            sys.exit("the machine with an input puts another sum")
+        return spent, steps_told(done.stderr.decode())
+
+    def fed(self):
+        ours, base = [], []
+        for turn in range(ROUNDS):
+            wanted = self.make_fed_disk(INPUT)
+            if turn % 2 == 0:
+                ours.append(self.fed_once(wanted))
+            alone, count = self.fed_machine(wanted)
+            base.append(alone)
+            if turn % 2 == 1:
+                ours.append(self.fed_once(wanted))
+        for part in ("processor", "clock"):
+            rates = [[count / getattr(it, part) for it in spent] for spent in (ours, base)]
+            self.report(f"steps with {INPUT:,} bytes of input, {part}", rates, "steps/s")
+
+    def fed_instructions(self):
+        counts = []
+        for length in (LESS_INPUT, INPUT):
+            self.make_fed_disk(length)
+            counts.append((self.count(self.fed_words()), self.count(self.fed_machine_words())))
+        ours, base = ((more - few) / (INPUT - LESS_INPUT) for few, more in zip(*counts))
+        note("drive", "host instructions of a byte of input more", "instructions", ours, base, ("", base / ours, ""))
+        print(f"a byte of input more: machine alone {base:.1f} host instructions, ckrt drive {ours:.1f}, ratio {base / ours:.3f}")
+
     def waits(self):
         self.image.write_bytes(sleeping(WAITS, YEAR))
         times = [self.driven(self.image)[0].clock / WAITS for _ in range(WAIT_ROUNDS)]
@@ -106,7 +165,8 @@ class Bench:
               f"ratio {middle:.3f} ({low:.3f} to {high:.3f})", flush=True)
 
 
-JOBS = {"steps": Bench.steps, "instructions": Bench.instructions, "waits": Bench.waits}
+JOBS = {"steps": Bench.steps, "instructions": Bench.instructions, "fed": Bench.fed, "fed-instructions": Bench.fed_instructions,
+        "waits": Bench.waits}
 
 
 def main():

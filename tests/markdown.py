@@ -76,6 +76,11 @@ class Page:
         return found
 
     @cached_property
+    def items(self):
+        """Each item of a list, with the lines by which it goes on."""
+        return [block for block in self.blocks if re.match(r"\s*([-*]|\d+\.)\s", self.lines[block.line - 1])]
+
+    @cached_property
     def sentences(self):
         """The sentences of all blocks and cells."""
         return [Piece(block.line, text) for block in self.blocks + self.cells for text in END_OF_SENTENCE.split(block.text)]

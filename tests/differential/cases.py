@@ -11,8 +11,10 @@ from drive_cases import drives_case
 from formats import format_case
 from guests import Guest
 from halts import halts_case
+from input_cases import inputs_case
 from layout import Geometry, format_disk
 from limits import limit_case
+from mixed_cases import mixed_case
 from saved_disks import ChangedArea, asks, serve_and_save, stopped_disk, with_checkpoints
 from streams import joined, last_lines, malformed_line, mangled, random_lines, with_long_runs
 from switches import SWITCHES
@@ -197,6 +199,7 @@ KINDS = {
     "stopped": stopped_case, "checkpoints": checkpoints_case, "formats": format_case, "lists": of_guest(lists_case),
     "fates": of_guest(fates_case), "parts": of_guest(parts_case), "listings": of_guest(listings_case), "cuts": cuts_case,
     "words": words_case, "drives": of_guest(drives_case), "halts": of_guest(halts_case),
+    "inputs": of_guest(inputs_case), "mixed": of_guest(mixed_case),
 }
 
 

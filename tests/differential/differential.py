@@ -15,9 +15,11 @@ from cases import KINDS, case_of
 from drive_cases import DrivesCase, difference_of_drives
 from formats import FormatCase
 from halts import HaltsCase, difference_of_halts
+from input_cases import InputsCase, difference_of_inputs
 from layout import Geometry, format_disk
 from lines import serve_disk
 from listing import OutOfRange, listing
+from mixed_cases import MixedCase, difference_of_mixed
 from recovery import Unrecovered
 from streams import joined
 from switches import SWITCHES
@@ -185,6 +187,10 @@ def first_difference(ckrt, case, folder, tally, count_life):
             return difference_of_words(ckrt, case, folder, tally)
         case HaltsCase():
             return difference_of_halts(ckrt, case, folder, tally, count_life)
+        case InputsCase():
+            return difference_of_inputs(ckrt, case, folder, tally, count_life)
+        case MixedCase():
+            return difference_of_mixed(ckrt, case, folder, tally, count_life)
         case DrivesCase():
             return difference_of_drives(ckrt, case, folder, tally, count_life)
         case ListingsCase():

@@ -1,36 +1,16 @@
 """Cases of drives: several of one disk, one behind the other, and then all their events by one drive of a fresh disk."""
-import subprocess
 from dataclasses import dataclass, field, replace
 
-from devices import MemoryDisk
-from feeding import COUNTERS, SLOTS_APART, Slot, Unsupplied
+from driven import UNFED, Driven, Feeding, contents
+from feeding import COUNTERS, SLOTS_APART, Slot
 from layout import Geometry, format_disk
-from plans import Drive, Options
+from plans import Options
 from readers import READERS, READS_ALL, sleeps
 
-TIME_LIMIT = 60
 LENGTHS = [0, 1, 63, 64, 65, 4096, 4097]
 LONG_LENGTHS = range(19_000, 21_001)
 OFFSETS = [0, 1, 64, 192, 4096, COUNTERS - 1, COUNTERS]
 EVENTS_OF_LOOPS = 600
-
-
-@dataclass(frozen=True)
-class Feeding:
-    """What a drive is told of the input: whether it has it, how many bytes lack at its end, and how many were taken already."""
-    is_fed: bool = True
-    lacking: int = 0
-    said: int | None = None
-
-    def data(self, whole):
-        return whole[:max(0, len(whole) - self.lacking)] if self.is_fed else None
-
-    def words(self, path):
-        words = ["--input", path] if self.is_fed else []
-        return words + ([] if self.said is None else ["--input-from", str(self.said)])
-
-
-UNFED = Feeding(is_fed=False)
 
 
 @dataclass
@@ -77,8 +57,13 @@ def unfed_case(chance, case):
 
 
 def fed_case(chance, unfed):
-    """With an input, mostly for a guest that reads; half of the disks have some bytes behind them already."""
-    reader = chance.choice([None, *READERS])
+    """With an input, mostly for a guest that reads."""
+    fed = reading_case(chance, unfed, chance.choice([None, *READERS]))
+    return careless(chance, fed) if chance.random() < 0.35 else fed
+
+
+def reading_case(chance, unfed, reader):
+    """Half of the disks have some bytes behind them already."""
     length = chance.choice(LENGTHS[:5] if reader is sleeps else [*LENGTHS, chance.choice(LONG_LENGTHS)])
     fed = replace(unfed, behind=bytes_behind(chance), data=chance.randbytes(length))
     if reader is not None:
@@ -86,7 +71,7 @@ def fed_case(chance, unfed):
         fed.image, fed.version = reader(chance), None
     fed.drives = drives_of_reader(chance, unfed.drives, length, reader in READS_ALL)
     fed.feedings = [Feeding()] * len(fed.drives)
-    return careless(chance, fed) if chance.random() < 0.35 else fed
+    return fed
 
 
 def careless(chance, fed):
@@ -119,27 +104,6 @@ def bytes_behind(chance):
     return chance.choice([drawn, drawn, drawn, forged])
 
 
-def drive_of_model(disk, output, options, tally, feeding, whole):
-    """The status, and the name of a fault where that is known."""
-    if feeding.said is not None and not (feeding.is_fed and feeding.said < COUNTERS):
-        return 1, "Range"
-    try:
-        return Drive(MemoryDisk(disk), output, options, tally, feeding.data(whole), feeding.said).run(), None
-    except Unsupplied as fault:
-        return 1, str(fault)
-
-
-def drive_of_program(ckrt, disk, output, options, words=()):
-    """The status, and the name of a fault."""
-    words = ["drive", disk, "--output", output, *options.words(), *words]
-    done = subprocess.run([ckrt, *words], stdin=subprocess.DEVNULL, capture_output=True, timeout=TIME_LIMIT)
-    return done.returncode, done.stderr.decode().splitlines()[-1].removeprefix("ckrt: ") if done.returncode == 1 else None
-
-
-def contents(path):
-    return path.read_bytes() if path.exists() else b""
-
-
 def difference_of_drives(ckrt, case, folder, tally, count_life):
     """None, or in a few words where the two differ."""
     drives = list(zip(case.drives, case.feedings))
@@ -154,30 +118,9 @@ def difference_of_drives(ckrt, case, folder, tally, count_life):
 
 def difference_of_list(ckrt, case, drives, folder, name, tally, count_life, begun=None):
     """On the case's disk, or on one that is begun, with the bytes of its output."""
-    path, out, file = (folder / f"{name}.{end}" for end in ("disk", "out", "in"))
-    disk, output = begun or (case.disk(), bytearray())
-    path.write_bytes(disk)
-    out.unlink(missing_ok=True)
-    if output:
-        out.write_bytes(output)
+    driven = Driven(ckrt, case, folder, name, tally, count_life, begun)
     for number, (options, feeding) in enumerate(drives, 1):
-        expected = drive_of_model(disk, output, options, tally, feeding, case.data)
-        tally["drive", expected[1] or f"status {expected[0]}"] += 1
-        count_life(1)
-        file.write_bytes(feeding.data(case.data) or b"")
-        shown = drive_of_program(ckrt, path, out, options, feeding.words(file))
-        where = f"{name}, drive {number} ({options}, {feeding})"
-        if shown != expected:
-            return f"{where}: {expected} of the model, {shown} of the program"
-        if contents(out) != output:
-            return f"{where}: the output's bytes"
-        if path.read_bytes() != disk:
-            (folder / f"{name}.model").write_bytes(disk)
-            return f"{where}: the disk's bytes, first at {first_other(path.read_bytes(), disk)}"
+        difference = driven.drive(options, feeding)
+        if difference is not None:
+            return f"{name}, drive {number} ({options}, {feeding}): {difference}"
     return None
-
-
-def first_other(shown, expected):
-    """Where two disks differ first: of one that is longer at the end of the other."""
-    pairs = enumerate(zip(shown, expected))
-    return next((at for at, (left, right) in pairs if left != right), min(len(shown), len(expected)))

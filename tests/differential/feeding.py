@@ -16,8 +16,12 @@ SLOT = struct.Struct("<8sQQQQ")  # name, version, generation, events, bytes take
 SLOT_NAME, SLOT_VERSION = b"CKRTFEED", 1
 
 
-class Unsupplied(Exception):
-    """The name of what a drive refuses of its input; nothing is changed then."""
+class Undriven(Exception):
+    """The name of why a drive doesn't begin, and what its text tells of that: paths, words and numbers. Nothing is changed then."""
+
+    def __init__(self, name, *told):
+        super().__init__(name)
+        self.told = [str(it) for it in told]
 
 
 @dataclass(frozen=True)
@@ -65,10 +69,10 @@ def taken_of(disk, found, said):
     recorded, by_journal = recorded_of_area(disk, found), taken_by(events_of_journal(disk, found)[0])
     if recorded is None:
         if said is None:
-            raise Unsupplied("NotRecorded")
+            raise Undriven("NotRecorded", "--input-from")
         return said + by_journal
     if said is not None and said > recorded + by_journal:
-        raise Unsupplied("OffsetDiffers")
+        raise Undriven("OffsetDiffers", recorded + by_journal)
     return recorded + by_journal
 
 
@@ -88,7 +92,7 @@ class Supply:
     def __init__(self, session, data, said=None):
         self.data, self.taken = data, taken_of(session.disk, session.recovered, said)
         if self.taken > len(data):
-            raise Unsupplied("InputTooShort")
+            raise Undriven("InputTooShort", len(data), self.taken)
         self.make_room(session)
 
     def make_room(self, session):

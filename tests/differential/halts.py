@@ -3,7 +3,8 @@ from contextlib import suppress
 from dataclasses import dataclass, field
 
 from devices import DeviceFault, MemoryDisk, StoppingDisk, filled
-from drive_cases import UNFED, DrivesCase, Feeding, contents, difference_of_list, fed_case, first_other, unfed_case
+from drive_cases import DrivesCase, difference_of_list, fed_case, unfed_case
+from driven import UNFED, Feeding, contents, first_other
 from feeding import RECORD_LENGTH
 from plans import Drive
 from tracing import Plan, traced_run

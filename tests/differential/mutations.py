@@ -14,7 +14,7 @@ TIME_LIMIT = 900
 # That of the module first, then the quick ones.
 FIRST = {"lives.py": "test_lives", "foreseen.py": "test_lives", "ledger.py": "test_fates", "devices.py": "test_fates",
          "key_calls.py": "test_keys", "events.py": "test_long_runs", "plans.py": "test_plans",
-         "feeding.py": "test_feeding"}
+         "feeding.py": "test_feeding", "driven.py": "test_feeding"}
 TESTS = ["test_plans", "test_feeding", "test_calls", "test_keys", "test_long_runs", "test_listings", "test_rows", "test_tables", "test_texts", "test_fates", "test_lives", "test_stops"]
 MUTATIONS = [
     ("plans.py", "place = count % round_length(machine)", "place = 0"),
@@ -22,11 +22,24 @@ MUTATIONS = [
     ("plans.py", "if place % 2 == 1 and any(running):", "if any(running):"),
     ("plans.py", "number // 8 % options.turn + 1", "number // 8 % options.turn"),
     ("plans.py", "        count //= 2\n", "        count = 0\n"),
-    ("plans.py", "or not self.unacknowledged and self.is_crowded", "or self.is_crowded"),
+    ("plans.py", "or not self.unacknowledged and self.is_crowded", "or False"),
     ("plans.py", "self.unacknowledged >= self.options.rounds", "self.unacknowledged > self.options.rounds"),
     ("plans.py", "event = self.given() or next_event(", "event = next_event("),
     ("plans.py", "                self.supply.count(event)\n", "                pass\n"),
     ("plans.py", "            self.supply.record(self.session)\n        return self.session.checkpoint()", "            pass\n        return self.session.checkpoint()"),
+    ("plans.py", "session.confirmed <= length <= session.released", "length <= session.released"),
+    ("plans.py", "session.confirmed <= length <= session.released", "session.confirmed <= length"),
+    ("plans.py", "session.confirmed <= length <= session.released", "session.confirmed < length <= session.released"),
+    ("plans.py", "length, session.confirmed, session.released)", "length, session.released, session.released)"),
+    ("feeding.py", '"OffsetDiffers", recorded + by_journal)', '"OffsetDiffers", said)'),
+    ("feeding.py", '"InputTooShort", len(data), self.taken)', '"InputTooShort", len(data), len(data))'),
+    ("driven.py", "if feeding.way not in PLAIN:", "if False:"),
+    ("driven.py", "self.said < COUNTERS", "self.said <= COUNTERS"),
+    ("driven.py", "not (self.is_fed and self.said", "not (self.said"),
+    ("driven.py", 'for which in ["output", *["offset"', 'for which in [*["offset"'),
+    ("driven.py", '"offset" if data is None else "input"', '"offset"'),
+    ("driven.py", '["offset" if data is None else "input"]', '["input"]'),
+    ("driven.py", "{re.escape(told)}(?!", "{re.escape(told)}(?:"),
     ("feeding.py", "return slot if (name, version) == (SLOT_NAME, SLOT_VERSION) and", "return slot if name == SLOT_NAME and"),
     ("feeding.py", "(name, version) == (SLOT_NAME, SLOT_VERSION)", "version == SLOT_VERSION"),
     ("feeding.py", " and slot.taken < COUNTERS", ""),

@@ -2,7 +2,7 @@
 from dataclasses import dataclass
 
 from events import LONG_RUN, Place, Run, RunLong, Tick, VERSION_OF_LONG_RUNS
-from feeding import Supply
+from feeding import Supply, Undriven
 from layout import BATCH_LIMIT
 from session import Session
 from threads import Status
@@ -88,6 +88,12 @@ def next_event(options, count, machine):
     return run_of(hart, steps) if planned[hart] is None else Place(hart, planned[hart])
 
 
+def require_fit(session, length):
+    """The output has all that the disk takes for put out, and no more than it has released."""
+    if not session.confirmed <= length <= session.released:
+        raise Undriven("OutputDiffers", length, session.confirmed, session.released)
+
+
 class Drive:
     """A drive of a disk; `output` are the bytes of its file, and `data` those of its input, if it has one.
 
@@ -97,6 +103,7 @@ class Drive:
     def __init__(self, disk, output, options, tally, data=None, said=None):
         self.session, self.output, self.options = Session(disk, tally), output, options
         self.acknowledged, self.left = self.session.events, options.events
+        require_fit(self.session, len(output))
         self.supply = None if data is None else Supply(self.session, data, said)
 
     def run(self):

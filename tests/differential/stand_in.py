@@ -1,17 +1,20 @@
 """A `ckrt` made of the model over a file, to try the driver with; and wrong ones, which the driver has to find.
 
-Words: a name in WRONG or `right`, then those of `ckrt run`, `ckrt inspect`, or `ckrt format` on a file of the disk's size.
+Words: a name in WRONG or WRONG_DRIVES, or `right`, then those of `ckrt run`, `ckrt inspect`, `ckrt drive`, or `ckrt format` on a file of
+the disk's size.
 """
 import os
 import sys
 from contextlib import suppress
 
 from devices import DeviceFault
+from feeding import Undriven
 from layout import Geometry, format_onto
 from lines import reply_lines
 from listing import OutOfRange, listing
 from recovery import Unrecovered
 from session import Session
+from stand_in_drives import WRONG_DRIVES, drive
 from switches import SWITCHES
 
 
@@ -164,12 +167,15 @@ def main(**switches):
     try:
         if word == "run":
             run(path, **wrong)
+        elif word == "drive":
+            sys.exit(drive(path, *options, **WRONG_DRIVES.get(which, {})))
         elif word == "format":
             make(path, *options, **{name: part for name, part in wrong.items() if name == "disk"})
         else:
             inspect(path, *options)
-    except (Unrecovered, OutOfRange, DeviceFault) as fault:
+    except (Unrecovered, OutOfRange, DeviceFault, Undriven) as fault:
         with suppress(OSError):
+            os.write(2, " ".join(getattr(fault, "told", [])).encode() + b"\n" * isinstance(fault, Undriven))
             os.write(2, f"ckrt: {'Device' if isinstance(fault, DeviceFault) else fault}\n".encode())
         sys.exit(1)
 

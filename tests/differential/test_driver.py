@@ -13,11 +13,15 @@ from switches import SWITCHES, switched
 
 HERE = Path(__file__).parent
 KINDS_WITH_KEYS = {"lists": 2, "fates": 2, "listings": 3, "lives": 2, "cuts": 2}
+KINDS_OF_DRIVES = {"drives": 3, "inputs": 4, "mixed": 6}
 KINDS = {"lists": 4, "fates": 4, "parts": 3, "listings": 3, "lives": 2, "cuts": 8}
 # Programs are started by the thousand: what they import is kept compiled, beside them, and they are started without what a site adds.
 COMPILED = tempfile.TemporaryDirectory()
 FOUND_BY = [("without a sync", "lists"), ("split", "lists"), ("late", "lists"), ("short", "parts"), ("again", "fates"),
             ("hopeful", "fates"), ("without a sync", "cuts")]
+# With a seed that finds it, which is tried first.
+DRIVES_FOUND_BY = [("reads anything", "inputs", 2), ("padding", "inputs", 2), ("silent", "inputs", 2), ("silent", "mixed", 2), ("early", "mixed", 2),
+                   ("forgetful", "mixed", 1), ("obedient", "mixed", 14), ("trusting", "mixed", 3), ("any output", "mixed", 5)]
 
 
 def program(folder, which, **switches):
@@ -53,6 +57,16 @@ class Driver(unittest.TestCase):
     def test_right_with_long_runs(self):
         with switched(keys=True, long_runs=True):
             self.finds_nothing({"lists": 2, "fates": 2, "listings": 2, "lives": 2})
+
+    def test_right_drives(self):
+        with switched(keys=True, long_runs=True):
+            self.finds_nothing(KINDS_OF_DRIVES)
+
+    def test_wrong_drives(self):
+        with switched(keys=True, long_runs=True):
+            for which, kind, first in DRIVES_FOUND_BY:
+                with self.subTest(which=which, kind=kind):
+                    self.assertTrue(any(self.difference(which, kind, seed) for seed in (first, *range(1, 25))))
 
     def test_keys_of_one_side(self):
         """The program has keys and the model none, or the other way round."""

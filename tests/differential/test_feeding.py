@@ -3,8 +3,10 @@ import unittest
 from contextlib import suppress
 
 from devices import DeviceFault, MemoryDisk, StoppingDisk
+from driven import Feeding as Told
+from driven import UNFED, drive_of_model, faults_of_start, tells
 from events import Eof, Input, Place, Run, Tick
-from feeding import Slot, Supply, Unsupplied, next_input, slot_at, slot_of, taken_by
+from feeding import Slot, Supply, Undriven, next_input, slot_at, slot_of, taken_by
 from layout import Geometry, format_disk
 from machine import Machine
 from plans import Drive, Options
@@ -181,7 +183,7 @@ class Feeding(unittest.TestCase):
         before = bytes(disk)
         try:
             return fed(disk, Options(), length, said=said).supply.taken
-        except Unsupplied as fault:
+        except Undriven as fault:
             self.assertEqual(disk, before)
             return str(fault)
 
@@ -235,6 +237,52 @@ class Feeding(unittest.TestCase):
         disk = format_disk(SMALL, LOOP)
         fed(disk, Options(events=2), 4097).run()
         self.assertEqual([self.told(disk, length) for length in (128, 127, 0)], [128, "InputTooShort", "InputTooShort"])
+
+    def fit(self, journal):
+        """Of a guest that put 65 bytes and ended: what is told of outputs of these lengths, nothing of those that fit."""
+        disk = format_disk(Geometry(16, 1, journal), ECHO)
+        fed(disk, Options(), 65).run()
+        told = []
+        for length in (0, 1, 64, 65, 66):
+            with suppress(Undriven):
+                fed(bytearray(disk), Options(), 65, bytearray(length))
+                continue
+            told += faults_of_start(disk, bytearray(length), UNFED)
+        return [(str(fault), *fault.told) for fault in told]
+
+    def test_outputs(self):
+        """Without a checkpoint the disk takes nothing for put out. With the shortest journal one comes behind the last commit, too."""
+        self.assertEqual(self.fit(65536), [("OutputDiffers", "66", "0", "65")])
+        self.assertEqual(self.fit(4096), [("OutputDiffers", str(length), "65", "65") for length in (0, 1, 64, 66)])
+
+    def test_what_is_told(self):
+        """Both numbers of a short file; the disk's own number, and not the one that was said; the option that helps; of two faults both."""
+        disk = format_disk(SMALL, LOOP)
+        fed(disk, Options(events=2), 4097).run()
+        told = [[(str(fault), *fault.told) for fault in faults_of_start(disk, bytearray(length), Told(said=said), BYTES[:held])]
+                for length, held, said in ((0, 127, None), (0, 128, 128), (0, 128, 129), (3, 127, None))]
+        short = ("InputTooShort", "127", "128")
+        self.assertEqual(told, [[short], [], [("OffsetDiffers", "128")], [("OutputDiffers", "3", "0", "0"), short]])
+        self.assertEqual([(str(fault), *fault.told) for fault in faults_of_start(self.saved_without(), b"", Told(), BYTES)], [("NotRecorded", "--input-from")])
+
+    def test_offset_out_of_range(self):
+        """Where the words are wrong nothing is looked at: no disk either."""
+        for feeding, is_out in ((Told(said=2 ** 62), True), (Told(said=2 ** 62 - 1), False), (Told(is_fed=False, said=0), True), (Told(), False)):
+            self.assertEqual(feeding.is_out_of_range, is_out)
+        self.assertEqual([str(fault) for fault in drive_of_model(None, None, Options(), None, Told(said=2 ** 62), b"", "in")[1]], ["Range"])
+
+    def test_numbers_in_a_text(self):
+        """Whole ones, and a path whatever stands beside it."""
+        text = "the input /tmp/in: it has 128 bytes, and the program has taken 640: give it"
+        self.assertEqual([tells(text, told) for told in ("128", "640", "/tmp/in", "28", "12", "64", "2", "0")], [True] * 3 + [False] * 5)
+
+    def test_no_plain_file(self):
+        """The path is told, or what else is wrong: nobody knows how long the file is."""
+        disk = format_disk(SMALL, ECHO)
+        before = bytes(disk)
+        for said, output, more in ((None, b"", []), (1, b"", [("OffsetDiffers", "0")]), (0, b"a", [("OutputDiffers", "1", "0", "0")])):
+            status, faults = drive_of_model(disk, output, Options(), None, Told(way="pipe", said=said), b"ab", "/dev/stdin")
+            self.assertEqual((status, [(str(fault), *fault.told) for fault in faults], disk), (1, [("File", "/dev/stdin"), *more], before))
 
     def test_older_disk(self):
         """Of version 1: a checkpoint before the first event, with its slot."""

@@ -58,7 +58,7 @@ REFUSED_SOURCES = [
 REFUSED_WORDS = [
     ([BUILD, "{c}", "-o", "{folder}/none/program.bin"], "there is no folder"),
     ([BUILD, "{c}", "-o", "{folder}"], "that is a folder"),
-    ([BUILD, "{c}", "-o"], "-o wants the name"),
+    ([BUILD, "{c}", "-o"], "-o needs the name"),
     ([BUILD, "{c}", "nonsense", "-o", "{folder}/p.bin"], "nonsense is neither an option nor a file"),
     ([BUILD, "{folder}/none.c", "-o", "{folder}/p.bin"], "none.c is neither an option nor a file"),
     ([BUILD, "-c", "{c}", "-o", "{folder}/p.bin"], "guest/cc takes it"),
@@ -146,7 +146,7 @@ def endings(ckrt, folder):
     for name, options, pages, ending, printed in ENDED:
         image = folder / "ending.bin"
         said = call(BUILD, ENDINGS / name, "-o", image, *options)
-        needed, stack = (re.search(text, said)[1] for text in (r"(\d+) pages at least", r"first thread's stack takes (\d+)"))
+        needed, stack = (re.search(text, said)[1] for text in (r"(\d+) pages at least", r"first new thread's stack takes (\d+)"))
         found = driven(ckrt, image, folder, pages=pages)
         wanted = (f"ended: {ending}", printed.format(pages=needed, stack=stack))
         if found != wanted:

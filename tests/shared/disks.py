@@ -7,6 +7,7 @@ BLOCK = 4_096  # of the superblock, of a header, and of a page
 TABLES = 98_304
 OPEN, CLOSED = 0xA5, 0x00  # the byte of a gate
 PAGES, JOURNAL = 64, 65_536  # of a disk that nothing else is said of
+LEAST_PAGES, LEAST_JOURNAL = 16, 4_096
 GENERATION = slice(8, 16)  # within an area's header
 
 

@@ -2,6 +2,7 @@
 import random
 from dataclasses import dataclass
 from pathlib import Path
+from typing import NamedTuple
 
 from shared import lives
 from shared.comparing import Failure, expect
@@ -11,6 +12,33 @@ LONGEST_LIFE = 0.08  # seconds until a kill, and as many more behind each hundre
 KILLS = 100
 MOST_KILLS = 5000
 TURNS, ROUNDS = [50, 400, 3_000], [1, 3, 16]  # of a life: the most steps of a turn, and the rounds from a commit to the next one
+
+
+class Counts(NamedTuple):
+    """Runs, kills in them, and those of the kills that came before the disk was there."""
+
+    runs: int = 0
+    kills: int = 0
+    in_making: int = 0
+
+    def __str__(self):
+        return f"{self.runs} runs, {self.kills} kills, {self.in_making} of them while the disk was made"
+
+
+def add_up(rounds, least_rounds, least_kills):
+    """The counts of so many rounds, and of as many more as it takes to so many kills. Each round gives the counts of its runs."""
+    total = Counts()
+    for number, counts in enumerate(rounds, 1):
+        total = Counts(*map(sum, zip(total, *counts)))
+        if number >= least_rounds and total.kills >= least_kills:
+            return total
+    return total
+
+
+def add_amounts(parser, rounds):
+    """Adds --rounds and --kills, which say together how much is driven."""
+    parser.add_argument("--rounds", type=int, default=rounds, help=f"how many rounds ({rounds})")
+    parser.add_argument("--kills", type=int, default=0, help="and as many more as it takes to so many kills (0)")
 
 
 @dataclass
@@ -24,6 +52,7 @@ class Drives:
     chance: random.Random
     longest: float = LONGEST_LIFE  # seconds
     held: bytes = b""
+    kills_in_making: int = 0
 
     def __post_init__(self):
         self.disk, self.output = self.folder / "disk", self.folder / "output"
@@ -44,7 +73,9 @@ class Drives:
 
     def expect_whole_or_missing(self):
         """What a kill leaves of a disk, also of one that is being made."""
-        if self.disk.exists() and lives.live([self.ckrt, "inspect", self.disk]).status:
+        if not self.disk.exists():
+            self.kills_in_making += 1
+        elif lives.live([self.ckrt, "inspect", self.disk]).status:
             raise Failure(f"a kill leaves a part of {self.disk}")
 
     def into_file(self):
@@ -61,7 +92,7 @@ class Drives:
         return has_ended
 
     def until_it_ends(self, live, wanted):
-        """Gives lives of a kind until the guest has ended, and says how many were killed.
+        """Gives lives of a kind until the guest has ended, and counts those that were killed.
 
         It raises Failure where the output isn't a beginning of the wanted one behind each, or isn't all of it at the end, where a disk
         in the making is left then, or where there is no end.
@@ -73,5 +104,5 @@ class Drives:
             if has_ended:
                 if (self.folder / "disk.making").exists():
                     raise Failure(f"{self.image.stem}: a disk in the making is left")
-                return kills
+                return Counts(1, kills, self.kills_in_making)
         raise Failure(f"{self.image.stem} doesn't end")

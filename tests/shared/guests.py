@@ -1,5 +1,5 @@
 """Guests that several tests run, and what they put."""
-from shared.instructions import PUTC, SLEEP_UNTIL, Program
+from shared.instructions import GETC, PUTC, SLEEP_UNTIL, Program
 
 MASK = 0xFFFFFFFF
 ALPHABET = b"ABCDEFGHIJKLMNOPQRSTUVWXYZ\n"
@@ -48,6 +48,22 @@ def put_by(seed, count):
     """The bytes that `putting` puts."""
     numbers = generator(seed)
     return bytes(next(numbers) & 0xFF for _ in range(count))
+
+
+def adding_input():
+    """Reads its input to the end, five steps a byte, and puts the least byte of the sum."""
+    program = Program()
+    program.addi(6, 0, -1)
+    program.addi(8, 0, 0)
+    program.label("byte")
+    program.call(GETC)
+    program.beq(10, 6, "end")
+    program.add(8, 8, 10)
+    program.jump("byte")
+    program.label("end")
+    program.put(8)
+    program.exit()
+    return program.image()
 
 
 def sleeping(waits, ticks):

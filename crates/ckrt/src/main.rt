@@ -1,19 +1,20 @@
 //! Checkpoint and restart of pthread programs: does what its words ask for, on standard input, output and error.
 #![tactic(auto)]
 
-use ckrt_jobs::{SystemMeter, SystemSources, WrittenReport, run_words};
+use ckrt_jobs::{OutputReason, SystemMeter, SystemSources, ToldWriter, WrittenReport, run_words};
+use std::cell::Cell;
 use std::env;
 use std::io::{self, ErrorKind};
 use std::process::ExitCode;
 
-/// The job of these words on the standard streams; the answer is the program's status.
-fn run(rt: &HostRuntime, words: &[&str]) -> u8 {
+/// The job of these words on the standard streams, with a place for why an output failed; the answer is the program's status.
+fn run<'a>(rt: &'a HostRuntime, words: &'a [&'a str], why: &'a Cell<OutputReason>) -> u8 {
     run_words(
         rt.alloc(),
         words,
-        &mut SystemSources::new(rt),
+        &mut SystemSources::new(rt, why),
         &mut rt.reader(),
-        &mut io::writer(rt),
+        &mut ToldWriter::new(io::writer(rt), why),
         &mut WrittenReport::new(rt.stderr()),
         &mut SystemMeter::new(rt),
     )
@@ -27,7 +28,8 @@ fn run_arguments(rt: &HostRuntime) -> io::Result<u8> {
         .skip(1)
         .map(|word| word.as_str())
         .collect(rt.alloc())?;
-    Ok(run(rt, &words))
+    let why = Cell::new(OutputReason::Other);
+    Ok(run(rt, &words, &why))
 }
 
 fn main(rt: HostRuntime) -> ExitCode {
@@ -39,7 +41,8 @@ fn main(rt: HostRuntime) -> ExitCode {
         }
         Err(_) => {
             let _ = eprintln!(rt; "error: an argument isn't text\n");
-            ExitCode::from(run(&rt, &["--help"]))
+            let why = Cell::new(OutputReason::Other);
+            ExitCode::from(run(&rt, &["--help"], &why))
         }
     }
 }

@@ -76,6 +76,15 @@ fn write_memory<W: Write>(out: &mut W, memory: &Memory) -> Result<()>
     Ok(())
 }
 
+/// How many bytes the ELF core of a machine's state has.
+pub fn core_size(machine: &Machine) -> usize
+    ensures { result ≡ length (core_of machine.now.state) }
+{
+    let notes = notes_size(machine.tables());
+    let memory = memory_size(machine.memory());
+    NOTES_START as usize + notes as usize + memory as usize
+}
+
 /// Writes the ELF core of a machine's state, and flushes the writer.
 ///
 /// It has a note of each thread that hasn't ended, with the thread's id and registers, and the memory from address 4,096

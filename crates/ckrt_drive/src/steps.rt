@@ -24,12 +24,10 @@ use crate::supply::Supply;
 use ckrt_disk::{DeviceFault, Disk};
 use ckrt_events::Event;
 use ckrt_input::taken_by;
+use ckrt_journal::FRAME_LIMIT;
 use ckrt_machine::Refusal;
 use ckrt_record::{RECORD_BYTES, TAKEN_LIMIT};
 use ckrt_recovery::{CommitFault, Session, SubmitFault};
-
-/// How many bytes of the journal a full batch takes.
-const LONGEST_BATCH: usize = 4_099;
 
 /// Acknowledges the events so far by a commit.
 fn commit<D: Disk>(session: &mut Session<D>, recorded: Option<u64>) -> Result<Progress, DriveFault>
@@ -102,7 +100,7 @@ fn is_old<D: Disk>(session: &Session<D>) -> bool
 fn is_filled<D: Disk>(session: &Session<D>) -> bool
     ensures { result ≡ is_filled (view_of session.now) }
 {
-    session.has_batches() && session.room() < LONGEST_BATCH
+    session.has_batches() && session.room() < FRAME_LIMIT
 }
 
 /// Whether a checkpoint comes first.

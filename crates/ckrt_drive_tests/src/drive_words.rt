@@ -187,7 +187,7 @@ const FOLDER: &str = "the output .: it is a directory\nckrt: File\n";
 const ABSENT_FOLDER: &str = "the output drive_none/out: its folder is missing\nckrt: File\n";
 
 const ITSELF: &str =
-    "the output drive_d.disk: the disk has this path too; give the output another\nckrt: File\n";
+    "the output drive_d.disk: the disk has this path too; give another\nckrt: File\n";
 
 /// The numbers come first, then the disk, what is on it, and the output.
 const DRIVE_FAULTS: &[Step] = &[

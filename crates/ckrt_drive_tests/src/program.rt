@@ -4,7 +4,8 @@ use crate::expect::{
     expect_bytes, expect_eq, expect_eq_at, filled, image_of, remove_file, write_file,
 };
 use ckrt_drive::Nobody;
-use ckrt_jobs::{SystemSources, WrittenReport, run_words};
+use ckrt_jobs::{OutputReason, SystemSources, WrittenReport, run_words};
+use std::cell::Cell;
 use std::fs::{self, File, Files};
 use std::io::{self, Write};
 use std::process::Abort;
@@ -98,8 +99,13 @@ fn words_of<'a, R: Abort + AllocGlobal>(rt: &R, words: &'a str) -> Vec<&'a str> 
         .expect(rt, "memory for words")
 }
 
-/// Runs the program with these words and these lines.
-fn ckrt<R: Abort + Files<File = File> + AllocGlobal>(rt: &R, words: &str, lines: &str) -> Printed {
+/// Runs the program with these words and these lines, and with a place for why an output failed.
+fn ckrt<'a, R: Abort + Files<File = File> + AllocGlobal>(
+    rt: &'a R,
+    words: &'a str,
+    lines: &'a str,
+    why: &'a Cell<OutputReason>,
+) -> Printed {
     let words = words_of(rt, words);
     let mut reader = lines.as_bytes();
     let mut output = Buffered::new(rt);
@@ -107,7 +113,7 @@ fn ckrt<R: Abort + Files<File = File> + AllocGlobal>(rt: &R, words: &str, lines:
     let status = run_words(
         rt.alloc(),
         words.as_slice(),
-        &mut SystemSources::new(rt),
+        &mut SystemSources::new(rt, why),
         &mut reader,
         &mut output,
         &mut reporter,
@@ -129,13 +135,15 @@ fn expect_printed<R: Abort + Files<File = File> + AllocGlobal>(
     errors: &str,
     status: u8,
 ) {
-    let printed = ckrt(rt, words, lines);
+    let why = Cell::new(OutputReason::Other);
+    let printed = ckrt(rt, words, lines, &why);
     expect_eq_at(rt, words, printed.is(output, errors, status), true);
 }
 
 /// Words to which the program prints nothing but a text that ends with this one, with status 2.
 fn expect_usage<R: Abort + Files<File = File> + AllocGlobal>(rt: &R, words: &str, end: &str) {
-    let printed = ckrt(rt, words, LINES);
+    let why = Cell::new(OutputReason::Other);
+    let printed = ckrt(rt, words, LINES, &why);
     expect_eq(rt, printed.status, 2);
     expect_eq_at(rt, words, printed.output.len(), 0);
     let is_told = !printed.errors.is_empty() && printed.errors.ends_with(end.as_bytes());

@@ -13,8 +13,7 @@ use Rattle.ckrt_commands.proofs.AcceptLemmas.{taken_begins}
 use Rattle.ckrt_commands.proofs.AcceptLemmas.{output_begins}
 use Rattle.ckrt_drive.specs.Runs.{IsAllSaved}
 use Rattle.ckrt_drive.specs.declared.fault.DriveFault.{DriveFault}
-use Rattle.ckrt_drive.specs.declared.options.Options.{Options}
-use Rattle.ckrt_jobs.specs.Driving.{DrivesSession}
+use Rattle.ckrt_jobs.specs.Driving.{DrivesWay, Way}
 use Rattle.ckrt_jobs.specs.Lengths.{fits, lengths_of}
 use Rattle.ckrt_jobs.specs.declared.driven.Driven.{Driven}
 use Rattle.ckrt_drives.specs.Lengths.{size_after}
@@ -29,8 +28,8 @@ grown size at (piece ∷ more) low =
     let whole : length (piece ++ concat more) ≡ length piece + length (concat more) = length-append piece (concat more) in
     rest ∙ grind (arith, nat_tests, whole)
 
-module _ {D O : Type 0} (g : Ghosts D) (o : Ghosts O) (options : Options) (s t : Session D g) (a b : O) (answer : Result Driven DriveFault) where
-  pub long_as_output : (run : DrivesSession o options s t a b answer) → g.is_honest t.disk → (p : Program) (events : List Event) → Represents p events s → (size : ℕ) → fits (lengths_of size s) ≡ true
+module _ {D O : Type 0} (g : Ghosts D) (o : Ghosts O) (way : Way) (s t : Session D g) (a b : O) (answer : Result Driven DriveFault) where
+  pub long_as_output : (run : DrivesWay o way s t a b answer) → g.is_honest t.disk → (p : Program) (events : List Event) → Represents p events s → (size : ℕ) → fits (lengths_of size s) ≡ true
       → IsAllSaved (view_of t) → size_after size s.progress.confirmed run.runs.puts.pieces ≡ length (output_after p (events ++ run.runs.accepted))
   long_as_output run honest p events reps size fit saved =
       let all = events ++ run.runs.accepted in

@@ -16,8 +16,8 @@ use Rattle.ckrt_commands.specs.Accepts.{Accepts}
 use Rattle.ckrt_commands.proofs.AcceptLemmas.{accepts_kept, accepts_more, accepts_still}
 use Rattle.ckrt_drive.specs.declared.plan.Next.TheVariants.{Submit, End}
 use Rattle.ckrt_drive.specs.declared.progress.Ending.{Ending}
-use Rattle.ckrt_hunt.specs.declared.keep.KeepFault.{KeepFault}
-use Rattle.ckrt_hunt.specs.declared.keep.KeepFault.TheVariants.{Device, Refused}
+use Rattle.ckrt_hunt.specs.declared.keeping.KeepFault.{KeepFault}
+use Rattle.ckrt_hunt.specs.declared.keeping.KeepFault.TheVariants.{Device, Refused}
 use Rattle.ckrt_hunt.specs.declared.made.Made.{Made}
 use Rattle.ckrt_hunt.specs.declared.plan.Plan.{Plan}
 use Rattle.ckrt_hunt.specs.Plans.{made_with, nothing_made}

@@ -1,4 +1,5 @@
 pub mod TurnLemmas
 pub mod RunLemmas
 pub mod TallyLemmas
+pub mod SameLemmas
 pub mod KeepLemmas

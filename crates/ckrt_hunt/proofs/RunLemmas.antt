@@ -6,25 +6,25 @@ use Rattle.sha2.specs.declared.Sha256.{Sha256}
 use Rattle.ckrt_events.specs.declared.event.Event.{Event}
 use Rattle.ckrt_machine.specs.Steps.{State}
 use Rattle.ckrt_machine.specs.declared.event.Answer.{Answer}
-use Rattle.ckrt_machine.specs.Events.{After, AllAccepted, IsAccepted, fold, output_of, step}
+use Rattle.ckrt_machine.specs.Events.{After, IsAccepted, output_of, step}
 use Rattle.ckrt_machine.proofs.FoldLaws.{state_on, output_on, accepted_on}
 use Rattle.ckrt_drive.specs.declared.plan.Next.TheVariants.{Submit, End}
 use Rattle.ckrt_drive.specs.declared.progress.Ending.{Ending}
 use Rattle.ckrt_hunt.specs.declared.plan.Plan.{Plan}
 use Rattle.ckrt_hunt.specs.declared.made.Made.{Made}
 use Rattle.ckrt_hunt.specs.declared.outcome.Outcome.{Outcome}
-use Rattle.ckrt_hunt.specs.declared.run.Told.{Told}
+use Rattle.ckrt_hunt.specs.declared.runs.Told.{Told}
 use Rattle.ckrt_hunt.specs.Plans.{made_with, nothing_made}
 use Rattle.ckrt_hunt.specs.Turns.{next, runner_of}
 use Rattle.ckrt_hunt.specs.Outcomes.{outcome_of}
-use Rattle.ckrt_hunt.specs.Runs.{AreScheduled, ComesTo, HasCome, HasComeTo, Point, beginning, behind, next_at, on}
+use Rattle.ckrt_hunt.specs.Runs.{AreScheduled, ComesTo, HasComeTo, Point, beginning, behind, next_at, on}
 
 module _ (p : Plan) where
-  scheduled_on : (es : List Event) (e : Event) (x : Point) → AreScheduled p es x → next_at p (behind p es x) ≡ Submit e → AreScheduled p (es ++ e ∷ []) x
+  pub scheduled_on : (es : List Event) (e : Event) (x : Point) → AreScheduled p es x → next_at p (behind p es x) ≡ Submit e → AreScheduled p (es ++ e ∷ []) x
   scheduled_on [] e x a n = (n, tt)
   scheduled_on (f ∷ es) e x a n = (a.0, scheduled_on es e (on p f x) a.1 n)
 
-  behind_on : (es : List Event) (e : Event) (x : Point) → behind p (es ++ e ∷ []) x ≡ on p e (behind p es x)
+  pub behind_on : (es : List Event) (e : Event) (x : Point) → behind p (es ++ e ∷ []) x ≡ on p e (behind p es x)
   behind_on [] e x = refl
   behind_on (f ∷ es) e x = behind_on es e (on p f x)
 

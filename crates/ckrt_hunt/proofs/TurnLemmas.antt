@@ -1,5 +1,5 @@
 -- The search for the thread whose turn it is, and for its hart.
-use Rattle.std.proofs.Common.{◌≡◌, [], ◌∷◌, ◌++◌, ℕ, suc, ◌+◌, ◌-◌, ◌<◌, ◌≤◌, Bool, true, false, Option, Some, None, List, ap, sym, arith, cond, nat_le, refl}
+use Rattle.std.proofs.Common.{◌≡◌, [], ◌++◌, ℕ, suc, ◌+◌, ◌-◌, ◌<◌, ◌≤◌, Bool, true, false, Option, Some, None, List, ap, sym, arith, cond, nat_le, refl}
 use Rattle.std.specs.List.{find}
 use Rattle.ckrt_thread.specs.State as threads
 use Rattle.ckrt_thread.specs.Waits.{is_of}
@@ -9,7 +9,7 @@ use Rattle.ckrt_events.specs.declared.event.Event.TheVariants.{Place, Run, Input
 use Rattle.ckrt_machine.specs.Steps.{State, hart_of}
 use Rattle.ckrt_machine.specs.Events.{step}
 use Rattle.ckrt_drive.specs.Plan.{RUN_LIMIT, idle_until, run_by, ticks_to}
-use Rattle.ckrt_drive.specs.declared.plan.Next.TheVariants.{Submit, End}
+use Rattle.ckrt_drive.specs.declared.plan.Next.TheVariants.{Submit}
 use Rattle.ckrt_hunt.specs.declared.plan.Plan.{Plan}
 use Rattle.ckrt_hunt.specs.declared.made.Made.{Made}
 use Rattle.ckrt_hunt.specs.declared.outcome.Waiting.{Waiting}

@@ -10,8 +10,8 @@ use Rattle.ckrt_recovery.specs.View.{refusal_of, view_of}
 use Rattle.ckrt_commands.specs.Accepts.{Accepts}
 use Rattle.ckrt_drive.specs.declared.plan.Next.TheVariants.{Submit, End}
 use Rattle.ckrt_drive.specs.declared.progress.Ending.{Ending}
-use Rattle.ckrt_hunt.specs.declared.keep.KeepFault.{KeepFault}
-use Rattle.ckrt_hunt.specs.declared.keep.KeepFault.TheVariants.{Device, Refused}
+use Rattle.ckrt_hunt.specs.declared.keeping.KeepFault.{KeepFault}
+use Rattle.ckrt_hunt.specs.declared.keeping.KeepFault.TheVariants.{Device, Refused}
 use Rattle.ckrt_hunt.specs.declared.made.Made.{Made}
 use Rattle.ckrt_hunt.specs.declared.plan.Plan.{Plan}
 use Rattle.ckrt_hunt.specs.Runs.{AreScheduled, Point, beginning, behind, next_at, on}

@@ -1,5 +1,5 @@
 -- A run of a seed: the events that its schedule has, one after another, and what they come to.
-use Rattle.std.specs.Prelude.{◌≡◌, ℕ, List, [], ◌∷◌}
+use Rattle.std.specs.Prelude.{◌≡◌, List, [], ◌∷◌}
 use Rattle.sha2.specs.Sha256.{sha256}
 use Rattle.sha2.specs.Hashers.{Holds256}
 use Rattle.sha2.specs.declared.Sha256.{Sha256}
@@ -11,7 +11,7 @@ use Rattle.ckrt_drive.specs.declared.plan.Next.TheVariants.{Submit, End}
 use Rattle.ckrt_drive.specs.declared.progress.Ending.{Ending}
 use Rattle.ckrt_hunt.specs.declared.plan.Plan.{Plan}
 use Rattle.ckrt_hunt.specs.declared.made.Made.{Made}
-use Rattle.ckrt_hunt.specs.declared.run.Told.{Told}
+use Rattle.ckrt_hunt.specs.declared.runs.Told.{Told}
 use Rattle.ckrt_hunt.specs.Plans.{made_with, nothing_made}
 use Rattle.ckrt_hunt.specs.Turns.{next, runner_of}
 use Rattle.ckrt_hunt.specs.Outcomes.{outcome_of}

@@ -3,7 +3,7 @@ use Rattle.std.specs.Prelude.{◌≡◌, ◌≢◌, ◌≤◌, ◌<◌, ℕ, zer
 use Rattle.ckrt_memory.specs.Marks.{Memory}
 use Rattle.ckrt_state.specs.declared.table.Tables.{Tables}
 use Rattle.ckrt_machine.specs.Steps.{State}
-use Rattle.ckrt_hunt.specs.declared.run.Told.{Told}
+use Rattle.ckrt_hunt.specs.declared.runs.Told.{Told}
 use Rattle.ckrt_hunt.specs.declared.row.Row.{Row}
 use Rattle.ckrt_hunt.specs.declared.tally.Tally.{Tally}
 use Rattle.ckrt_hunt.specs.declared.tally.TheConstants.{TALLY_ROWS}

@@ -7,7 +7,7 @@ use Rattle.ckrt_thread.specs.Waits.{is_of}
 use Rattle.ckrt_state.specs.declared.table.Tables.{Tables}
 use Rattle.ckrt_events.specs.Bytes.{IsInRange}
 use Rattle.ckrt_events.specs.declared.event.Event.{Event}
-use Rattle.ckrt_events.specs.declared.event.Event.TheVariants.{Place, Run, Input, Eof, Tick, RunLong}
+use Rattle.ckrt_events.specs.declared.event.Event.TheVariants.{Place, Run, Tick, RunLong}
 use Rattle.ckrt_machine.specs.Steps.{hart_of}
 use Rattle.ckrt_machine.specs.Runs.{is_running}
 use Rattle.ckrt_machine.specs.Refusals.{refusal_in}

@@ -4,7 +4,7 @@ ghost use Rattle.ckrt_memory.specs.declared.MemoryError.TheVariants.{ImageTooLon
 ghost use Rattle.ckrt_machine.specs.Events.{fresh};
 
 use crate::plan::Plan;
-use crate::run::{Told, run};
+use crate::runs::{Told, run};
 use crate::shape::Shape;
 use crate::tally::Tally;
 use ckrt_machine::Machine;

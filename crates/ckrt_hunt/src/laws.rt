@@ -2,7 +2,7 @@
 ghost use Rattle.std.specs.Prelude.{◌≡◌};
 ghost use Rattle.ckrt_machine.specs.Steps.{State};
 ghost use Rattle.ckrt_hunt.specs.declared.plan.Plan.{Plan};
-ghost use Rattle.ckrt_hunt.specs.declared.run.Told.{Told};
+ghost use Rattle.ckrt_hunt.specs.declared.runs.Told.{Told};
 ghost use Rattle.ckrt_hunt.specs.Runs.{ComesTo};
 
 /// A plan and a state have one run, and it comes to one outcome: so a seed repeats.

@@ -4,25 +4,25 @@
 
 mod drawn;
 mod hunt;
-mod keep;
+mod keeping;
 mod laws;
 mod lots;
 mod made;
 mod outcome;
 mod plan;
 mod row;
-mod run;
+mod runs;
 mod shape;
 mod tally;
 mod turn;
 
 pub use hunt::Hunt;
-pub use keep::{KeepFault, keep};
+pub use keeping::{KeepFault, keep};
 pub use laws::seed_repeats;
 pub use made::{Lowered, Made};
 pub use outcome::{Awaited, Outcome, Waiting};
 pub use plan::Plan;
 pub use row::Row;
-pub use run::{Told, run};
+pub use runs::{Told, run};
 pub use shape::Shape;
 pub use tally::{TALLY_ROWS, Tally};

@@ -81,7 +81,7 @@ fn push_waiting(waiting: &mut ArrayVec<Waiting, 64>, thread: ThreadId, wait: Opt
 }
 
 /// Which threads wait, and for what.
-fn waiting(threads: &Threads) -> ArrayVec<Waiting, 64>
+fn waiting_of(threads: &Threads) -> ArrayVec<Waiting, 64>
     ensures { result.items ≡ waiting_among threads.now 64 }
 {
     let mut waiting = ArrayVec::new();
@@ -109,7 +109,7 @@ pub fn outcome_of(tables: &Tables, ending: Ending) -> Outcome
     match ending {
         Ending::Ended => by_status(tables.status),
         Ending::WaitsForInput => Outcome::WaitsForInput,
-        Ending::Deadlock => Outcome::Deadlock(waiting(&tables.threads)),
+        Ending::Deadlock => Outcome::Deadlock(waiting_of(&tables.threads)),
         Ending::Enough => Outcome::NoEnd,
     }
 }

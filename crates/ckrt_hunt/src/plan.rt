@@ -18,7 +18,6 @@ pub struct Plan {
     pub third: u32,
     /// Whether ticks come early.
     pub is_early: bool,
-    ghost near: { horizon ≤ 1000000 },
 }
 
 impl Plan {

@@ -3,7 +3,7 @@ ghost use Rattle.std.specs.Prelude.{◌≡◌, ◌<◌, length, slice_get, slice
 ghost use Rattle.ckrt_hunt.specs.declared.row.Row.{Row};
 ghost use Rattle.ckrt_hunt.specs.Tallies.{HasNone, IsFirst, one_more};
 
-use crate::run::Told;
+use crate::runs::Told;
 
 /// An outcome: how often it came, and the first seed that came to it.
 #[derive(Debug, Drop, PartialEq, Eq)]

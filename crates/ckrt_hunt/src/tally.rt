@@ -1,8 +1,9 @@
 //! Outcomes, counted.
 ghost use Rattle.std.specs.Prelude.{◌≡◌, ◌≤◌, [], vec_capacity, IfOk};
+ghost use Rattle.ckrt_hunt.specs.declared.tally.TheConstants.{TALLY_ROWS};
 
 use crate::row::{Row, count_again, place_of};
-use crate::run::Told;
+use crate::runs::Told;
 use std::alloc::{AllocError, Global};
 
 /// How many outcomes a tally tells apart.

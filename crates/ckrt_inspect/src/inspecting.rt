@@ -41,8 +41,14 @@ fn read_whole<D: Disk>(alloc: Global, disk: &mut D) -> Result<Progress, InspectF
     Ok(progress)
 }
 
-/// The program that is to be shown.
-fn read_shown<D: Disk>(
+/// Reads what a disk's content recovers to, or what it recovered to after so many events. The disk is only read.
+///
+/// # Errors
+///
+/// `NotFormatted`, `Version` and `Damaged` where the content recovers to no state, the first that applies; `Range` where it
+/// recovers, but has no state any more after so many events, or not yet; `Device` where the disk failed a read,
+/// `OutOfMemory` where a growth was refused. `Write` never.
+pub fn read_program<D: Disk>(
     alloc: Global,
     disk: &mut D,
     at: Option<u64>,
@@ -78,7 +84,7 @@ pub fn inspect_with<D: Disk, W: Write>(
     ensures unwritten { IfErr result (λ e. e ≢ Writing → writer.new ≡ writer.old) }
     ensures range { shown.at ≡ None → IfErr result (λ e. e ≢ Range) }
 {
-    let progress = read_shown(alloc, disk, shown.at)?;
+    let progress = read_program(alloc, disk, shown.at)?;
     write_listing_by(
         alloc,
         shown.with_code,

@@ -3,10 +3,10 @@ ghost use Rattle.std.specs.Prelude.{◌≡◌, ◌++◌, Bool, List, ℕ, Option
 ghost use Rattle.std.specs.List.{find, flat_map};
 ghost use Rattle.ckrt_thread.specs.Contents.{rows_of, thread_rows};
 ghost use Rattle.ckrt_thread.specs.State.{thread_of};
-ghost use Rattle.ckrt_inspect.specs.Metrics.{all_metrics, disk_lines, does_text, doing_of, doing_text, event_lines, head_lines, help_line, help_of, kind_of, metric_lines, name_of, optional_lines, program_lines, thread_label, thread_line, type_line};
+ghost use Rattle.ckrt_inspect.specs.Metrics.{all_metrics, disk_lines, does_text, doing_of, doing_text, drive_line, drive_lines, event_lines, head_lines, help_line, help_of, kind_of, metric_lines, name_of, optional_lines, program_lines, stands_text, thread_label, thread_line, threads_lines, type_line};
 
-use crate::texts::{push, push_number, push_reason};
-use ckrt_state::Tables;
+use crate::texts::{push, push_number, push_reason, push_status};
+use ckrt_state::{Status, Tables};
 use ckrt_thread::{Thread, ThreadId, Threads, Wait};
 use std::alloc::AllocError;
 
@@ -29,8 +29,25 @@ pub enum Metric {
     Generation,
     /// The room that the journal has left, in bytes.
     Room,
+    /// How the drive stands.
+    Drive,
     /// What each thread does.
     Threads,
+}
+
+/// How a drive stands.
+#[derive(Clone, Copy, Debug, PartialEq, Eq)]
+pub enum Standing {
+    /// It isn't at an end.
+    Running,
+    /// Its program ended.
+    Ended,
+    /// A thread waits for input, and nothing else goes on.
+    WaitsForInput,
+    /// No thread can ever go on.
+    Deadlock,
+    /// The events that were left to it are used up.
+    Enough,
 }
 
 /// What is told of a drive beside its program.
@@ -50,6 +67,8 @@ pub struct Readings {
     pub generation: u64,
     /// The room that the journal has left, in bytes.
     pub room: u64,
+    /// How the drive stands.
+    pub standing: Standing,
 }
 
 /// The name of a metric.
@@ -65,6 +84,7 @@ fn name_of(metric: Metric) -> &'static [u8]
         Metric::Input => b"ckrt_input_bytes_total".as_slice(),
         Metric::Generation => b"ckrt_generation".as_slice(),
         Metric::Room => b"ckrt_journal_room_bytes".as_slice(),
+        Metric::Drive => b"ckrt_drive".as_slice(),
         Metric::Threads => b"ckrt_thread".as_slice(),
     }
 }
@@ -82,6 +102,7 @@ fn help_of(metric: Metric) -> &'static [u8]
         Metric::Input => b"Bytes of its input that the program was given.".as_slice(),
         Metric::Generation => b"The generation of the disk's area in use.".as_slice(),
         Metric::Room => b"Bytes that the journal has left.".as_slice(),
+        Metric::Drive => b"How the drive stands: running, or the end that it came to.".as_slice(),
         Metric::Threads => b"What each thread does now; addresses are hexadecimal.".as_slice(),
     }
 }
@@ -99,6 +120,7 @@ fn kind_of(metric: Metric) -> &'static [u8]
         Metric::Input => b"counter".as_slice(),
         Metric::Generation => b"counter".as_slice(),
         Metric::Room => b"gauge".as_slice(),
+        Metric::Drive => b"gauge".as_slice(),
         Metric::Threads => b"gauge".as_slice(),
     }
 }
@@ -152,6 +174,42 @@ fn push_optional(out: &mut Vec<u8>, metric: Metric, value: Option<u64>) -> Resul
     }
 }
 
+/// How a drive stands whose program has this status.
+fn push_stands(out: &mut Vec<u8>, standing: Standing, status: Status) -> Result<(), AllocError>
+    ensures { OnOk result (out.new.items ≡ out.old.items ++ stands_text standing status) }
+{
+    match standing {
+        Standing::Running => push(out, b"running"),
+        Standing::Ended => push_ended(out, status),
+        Standing::WaitsForInput => push(out, b"waits for input"),
+        Standing::Deadlock => push(out, b"deadlock"),
+        Standing::Enough => push(out, b"enough"),
+    }
+}
+
+fn push_ended(out: &mut Vec<u8>, status: Status) -> Result<(), AllocError>
+    ensures { OnOk result (out.new.items ≡ out.old.items ++ stands_text Standing.Ended status) }
+{
+    push(out, b"ended: ")?;
+    push_status(out, status)
+}
+
+fn push_drive_line(out: &mut Vec<u8>, standing: Standing, status: Status) -> Result<(), AllocError>
+    ensures { OnOk result (out.new.items ≡ out.old.items ++ drive_line standing status) }
+{
+    push(out, name_of(Metric::Drive))?;
+    push(out, b"{stands=\"")?;
+    push_stands(out, standing, status)?;
+    push(out, b"\"} 1\n")
+}
+
+fn push_drive(out: &mut Vec<u8>, standing: Standing, status: Status) -> Result<(), AllocError>
+    ensures { OnOk result (out.new.items ≡ out.old.items ++ drive_lines standing status) }
+{
+    push_head(out, Metric::Drive)?;
+    push_drive_line(out, standing, status)
+}
+
 /// What a thread that hasn't ended does.
 fn push_does(out: &mut Vec<u8>, is_ready: bool, wait: Option<Wait>) -> Result<(), AllocError>
     ensures { OnOk result (out.new.items ≡ out.old.items ++ does_text is_ready wait) }
@@ -195,55 +253,74 @@ fn push_label(out: &mut Vec<u8>, id: ThreadId) -> Result<(), AllocError>
     push(out, b"\",does=\"")
 }
 
-/// What the thread of a number does.
+/// What the thread of a number does, of a program with this status.
 fn push_doing_of(
     out: &mut Vec<u8>,
+    status: Status,
     threads: &Threads,
     id: ThreadId,
     thread: &Thread,
 ) -> Result<(), AllocError>
     ensures { OnOk result (out.new.items
-        ≡ out.old.items ++ doing_of threads.now (record { id = id; thread = thread.now })) }
+        ≡ out.old.items ++ doing_of status threads.now (record { id = id; thread = thread.now })) }
 {
-    push_doing(out, threads.is_ready(id), threads.wait_of(id), thread)
+    match status {
+        Status::Running => push_doing(out, threads.is_ready(id), threads.wait_of(id), thread),
+        Status::Exited(_) => push(out, b"ended"),
+        Status::Faulted(..) => push(out, b"ended"),
+    }
 }
 
 fn push_thread(
     out: &mut Vec<u8>,
+    status: Status,
     threads: &Threads,
     id: ThreadId,
     thread: &Thread,
 ) -> Result<(), AllocError>
     ensures { OnOk result (out.new.items
-        ≡ out.old.items ++ thread_line threads.now (record { id = id; thread = thread.now })) }
+        ≡ out.old.items
+        ++ thread_line status threads.now (record { id = id; thread = thread.now })) }
 {
     push_label(out, id)?;
-    push_doing_of(out, threads, id, thread)?;
+    push_doing_of(out, status, threads, id, thread)?;
     push(out, b"\"} 1\n")
 }
 
 /// What stands for a number: a thread, or nothing.
-fn push_slot(out: &mut Vec<u8>, threads: &Threads, id: ThreadId) -> Result<(), AllocError>
+fn push_slot(
+    out: &mut Vec<u8>,
+    status: Status,
+    threads: &Threads,
+    id: ThreadId,
+) -> Result<(), AllocError>
     ensures { OnOk result (out.new.items
         ≡ out.old.items
-        ++ flat_map (thread_line threads.now) (rows_of id (thread_of threads.now id))) }
+        ++ flat_map (thread_line status threads.now) (rows_of id (thread_of threads.now id))) }
 {
     match threads.thread(u32::from(id)) {
-        Some(thread) => push_thread(out, threads, id, thread),
+        Some(thread) => push_thread(out, status, threads, id, thread),
         None => Ok(()),
     }
 }
 
 /// The threads by rising number.
-fn push_threads(out: &mut Vec<u8>, threads: &Threads) -> Result<(), AllocError>
+fn push_threads(out: &mut Vec<u8>, status: Status, threads: &Threads) -> Result<(), AllocError>
     ensures { OnOk result (out.new.items
-        ≡ out.old.items ++ flat_map (thread_line threads.now) (thread_rows threads.now)) }
+        ≡ out.old.items ++ flat_map (thread_line status threads.now) (thread_rows threads.now)) }
 {
     threads.known();
     for id in 0..65u8 {
-        push_slot(out, threads, id)?;
+        push_slot(out, status, threads, id)?;
     }
     Ok(())
+}
+
+fn push_all_threads(out: &mut Vec<u8>, tables: &Tables) -> Result<(), AllocError>
+    ensures { OnOk result (out.new.items ≡ out.old.items ++ threads_lines tables.now) }
+{
+    push_head(out, Metric::Threads)?;
+    push_threads(out, tables.status, &tables.threads)
 }
 
 fn push_events(out: &mut Vec<u8>, readings: &Readings) -> Result<(), AllocError>
@@ -263,12 +340,12 @@ fn push_disk(out: &mut Vec<u8>, readings: &Readings) -> Result<(), AllocError>
     push_metric(out, Metric::Room, readings.room)
 }
 
-fn push_program(out: &mut Vec<u8>, tables: &Tables) -> Result<(), AllocError>
-    ensures { OnOk result (out.new.items ≡ out.old.items ++ program_lines tables.now) }
+fn push_program(out: &mut Vec<u8>, standing: Standing, tables: &Tables) -> Result<(), AllocError>
+    ensures { OnOk result (out.new.items ≡ out.old.items ++ program_lines standing tables.now) }
 {
     push_metric(out, Metric::Ticks, tables.clock)?;
-    push_head(out, Metric::Threads)?;
-    push_threads(out, &tables.threads)
+    push_drive(out, standing, tables.status)?;
+    push_all_threads(out, tables)
 }
 
 /// Puts behind a text how a drive stands whose program has these tables. Where the text has the room it takes no memory.
@@ -281,5 +358,5 @@ pub fn push_metrics(
 {
     push_events(out, readings)?;
     push_disk(out, readings)?;
-    push_program(out, tables)
+    push_program(out, readings.standing, tables)
 }

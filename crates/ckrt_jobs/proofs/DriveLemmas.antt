@@ -77,6 +77,7 @@ module _ {D : Type 0} (d : Ghosts D) (before after : Gives D) (are : GivesNoMore
       answer = s.answer;
       drives = s.drives;
       lent = s.lent;
+      why = s.why;
       gives = s.gives;
       closes = s.closes;
     }

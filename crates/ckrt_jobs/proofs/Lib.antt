@@ -1,3 +1,4 @@
+mod CoreLemmas
 mod DriveLemmas
 mod FrontLemmas
 mod LeftoverLemmas

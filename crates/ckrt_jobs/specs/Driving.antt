@@ -44,6 +44,7 @@ use Rattle.ckrt_jobs.specs.declared.feeding.Supplied.{Supplied}
 use Rattle.ckrt_jobs.specs.declared.file.FileFault.{FileFault}
 use Rattle.ckrt_jobs.specs.declared.file.JobFile.TheVariants as file
 use Rattle.ckrt_jobs.specs.declared.output.OpenedOutput.{OpenedOutput}
+use Rattle.ckrt_jobs.specs.declared.reason.OutputReason.{OutputReason}
 
 -- THE OPTIONS
 
@@ -142,17 +143,13 @@ pub record DrivesWay {D O : Type 0} {g : Ghosts D} (o : Ghosts O) (way : Way) (s
   pub gives : answer ≡ driven_of t.progress.machine.state ran
   pub output : IfErr answer (λ fault. fault ≡ Output → HasFailed (o.failures a) (o.failures b))
 
--- the same without an input
-abbrev pub DrivesSession : {D O : Type 0} {g : Ghosts D} (o : Ghosts O) → Options
-    → (s t : Session D g) → (a b : O) → Result Driven DriveFault → Type 0
-DrivesSession o options s t a b answer = DrivesWay o (unfed options) s t a b answer
-
 -- THE FILES
 
--- what a job answers where its drive answered so
-abbrev pub answer_of : Result Driven DriveFault → Result Driven JobFault
-answer_of (Ok driven) = Ok driven
-answer_of (Err fault) = Err (job.Drive fault)
+-- what a job answers where its drive answered so; of an output that failed it says why
+abbrev pub answer_of : OutputReason → Result Driven DriveFault → Result Driven JobFault
+answer_of why (Ok driven) = Ok driven
+answer_of why (Err Output) = Err (job.OutputFailed why)
+answer_of why (Err fault) = Err (job.Drive fault)
 
 -- What a drive is set among: its stream, and how that is lent its writer; what sources may give; the file of its input, and where the words say
 -- that it goes on; where its output goes, and below which offset it is left out; and how it goes.
@@ -197,7 +194,9 @@ pub record DrivesOnto {D : Type 0} {d : Ghosts D} (options : Options) (it : Read
   pub kept : is_some input ≡ is_some it.intake
   pub answer : Result Driven DriveFault
   pub drives : DrivesWay d (way_of d options it.intake input) it.session after output end answer
-  pub gives : result ≡ answer_of answer
+  -- why the output failed, if it did
+  pub why : OutputReason
+  pub gives : result ≡ answer_of why answer
   pub closes : new ≡ with_both_closed (with_closed_output asked end) input after.disk
 
 -- the output of this path can't be opened, and disk and input were closed as they were
@@ -263,7 +262,9 @@ pub record DrivesStream {D W : Type 0} {d : Ghosts D} (set : Setting d W) (it : 
       stream end answer
   -- nothing is written but by the stream
   pub lent : set.Lent stream end
-  pub gives : result ≡ answer_of answer
+  -- why the output failed, if it did
+  pub why : OutputReason
+  pub gives : result ≡ answer_of why answer
   pub closes : new ≡ with_both_closed old input after.disk
 
 -- the session was driven with its output in the file of a path, where there is one, else onto a stream

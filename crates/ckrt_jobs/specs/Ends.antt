@@ -3,8 +3,12 @@ use Rattle.std.specs.Prelude.{if◌then◌else◌, ℕ, nat_eq, List, [], ◌∷
 use Rattle.ckrt_state.specs.declared.table.Status.{Status}
 use Rattle.ckrt_state.specs.declared.table.Status.TheVariants as status
 use Rattle.ckrt_inspect.specs.Texts.{hex_text, status_text}
+use Rattle.ckrt_inspect.specs.declared.metrics.Standing.{Standing}
+use Rattle.ckrt_inspect.specs.declared.metrics.Standing.TheVariants as stands
 use Rattle.ckrt_drive.specs.declared.progress.Ending.{Ending}
 use Rattle.ckrt_drive.specs.declared.progress.Ending.TheVariants.{Ended, WaitsForInput, Deadlock, Enough}
+use Rattle.ckrt_drive.specs.declared.progress.Progress.{Progress}
+use Rattle.ckrt_drive.specs.declared.progress.Progress.TheVariants.{Stopped}
 use Rattle.ckrt_jobs.specs.declared.driven.Driven.{Driven}
 
 -- of a guest that ended: 0 by `exit 0` alone, 7 by another exit status, 6 by a fault; 5 of one that still runs
@@ -54,3 +58,11 @@ end_text (Some Enough) status address = codes "enough"
 
 abbrev pub end_line : Driven → List ℕ
 end_line driven = end_text driven.ending driven.status driven.address ++ 10 ∷ []
+
+-- how a drive stands behind a step: at the end that it came to, or before one
+abbrev pub standing_of : Progress → Standing
+standing_of (Stopped Ended) = stands.Ended
+standing_of (Stopped WaitsForInput) = stands.WaitsForInput
+standing_of (Stopped Deadlock) = stands.Deadlock
+standing_of (Stopped Enough) = stands.Enough
+standing_of _ = stands.Running

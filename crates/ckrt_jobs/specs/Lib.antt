@@ -1,5 +1,6 @@
 pub mod Addresses
 pub mod Lengths
+pub mod CoreFiles
 pub mod Driving
 pub mod Feeding
 pub mod Ends
@@ -12,6 +13,7 @@ pub mod Files
 pub mod Outcomes
 pub mod Performing
 pub mod Printing
+pub mod Reasons
 pub mod Reports
 pub mod Running
 pub mod Showing

@@ -67,4 +67,5 @@ name_of (job.OutputDiffers l) = codes "OutputDiffers"
 name_of job.NotRecorded = codes "NotRecorded"
 name_of (job.OffsetDiffers taken) = codes "OffsetDiffers"
 name_of (job.InputTooShort l) = codes "InputTooShort"
+name_of (job.OutputFailed why) = codes "Output"
 name_of (job.Drive f) = name_of_drive f

@@ -29,21 +29,21 @@ pub record Openings (D : Type 0) : Type 0 where
   pub output : List Opening
   -- of inputs
   pub input : List Opening
-  -- of disks in the making, by the paths that they are made for
+  -- of disks and cores in the making, by the paths that they are made for
   pub making : List Opening
-  -- the paths that were given to disks in the making, and how that went
+  -- the paths that were given to disks and cores in the making, and how that went
   pub naming : List Opening
-  -- and these disks, each as it was then
+  -- and these, each as it was then
   pub named : List D
   -- the disks that were closed, each as it was then
   pub closed : List D
-  -- the outputs that were closed, each as it was then
+  -- the outputs and cores that were closed, each as it was then
   pub closed_output : List D
   -- the inputs that were closed, each as it was then
   pub closed_input : List D
   -- the disks that were to be made longer, each as it was then
   pub lengthened : List D
-  -- the disks that were given up, each as it was then
+  -- the disks and cores that were given up, each as it was then
   pub abandoned : List D
 
 -- nothing was asked for
@@ -64,7 +64,7 @@ unopened =
       abandoned = [];
     }
 
--- one opening more, of an image, of a disk, of an output, of an input, and of a disk in the making
+-- one opening more, of an image, of a disk, of an output, of an input, and of a disk or core in the making
 abbrev pub with_image : {D : Type 0} → Openings D → Opening → Openings D
 with_image o x = record o { image = x ∷ o.image }
 
@@ -80,11 +80,11 @@ with_input o x = record o { input = x ∷ o.input }
 abbrev pub with_making : {D : Type 0} → Openings D → Opening → Openings D
 with_making o x = record o { making = x ∷ o.making }
 
--- one disk more that was given a name, with how that went
+-- one disk or core more that was given a name, with how that went
 abbrev pub with_named : {D : Type 0} → Openings D → Opening → D → Openings D
 with_named o x disk = record o { naming = x ∷ o.naming; named = disk ∷ o.named }
 
--- one disk more that was given up
+-- one disk or core more that was given up
 abbrev pub with_abandoned : {D : Type 0} → Openings D → D → Openings D
 with_abandoned o disk = record o { abandoned = disk ∷ o.abandoned }
 

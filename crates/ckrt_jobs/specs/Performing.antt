@@ -12,10 +12,11 @@ use Rattle.ckrt_main.specs.Service.{IsStartFault, Served, ServedPart}
 use Rattle.ckrt_main.specs.declared.fault.ServeFault.{ServeFault}
 use Rattle.ckrt_main.specs.declared.fault.ServeFault.TheVariants as serve
 use Rattle.ckrt_words.specs.Commands.{ckrt_app}
-use Rattle.ckrt_words.specs.Jobs.{Formatting, Request, Inspection, drive, format, inspect, request_of_words, run, stored, version}
+use Rattle.ckrt_words.specs.Jobs.{Formatting, Request, Inspection, core, drive, format, inspect, request_of_words, run, stored, version}
 use Rattle.ckrt_words.specs.declared.job.WordsFault.{WordsFault}
 use Rattle.ckrt_words.specs.declared.job.WordsFault.TheVariants as words
 use Rattle.ckrt_drive.specs.declared.stream.StreamOutput.{StreamOutput}
+use Rattle.ckrt_jobs.specs.CoreFiles.{CoresPath}
 use Rattle.ckrt_jobs.specs.Driving.{DrivesPath, IsLent, IsUnwritten, means_of}
 use Rattle.ckrt_jobs.specs.Ends.{end_line}
 use Rattle.ckrt_jobs.specs.Making.{Makes}
@@ -161,6 +162,8 @@ Performs d o contents (run disk) known Opens Fills others old new a b r s outcom
     Does (RunsPath d disk (Opens disk) old new a b r s) outcome
 Performs d o contents (inspect i) known Opens Fills others old new a b r s outcome =
     Does (ShowsPath d (Opens i.disk) i old new a b r s) outcome
+Performs d o contents (core c) known Opens Fills others old new a b r s outcome =
+    Does (CoresPath d (Opens c.disk) (Fills c.file) c old new) outcome × (b ≡ a) × (s ≡ r)
 Performs d o contents (drive j) known Opens Fills others old new a b r s outcome =
     Comes (DrivesPath (means_of d o (IsLent contents a b) known Opens Fills others j) j old new)
     outcome

@@ -4,6 +4,7 @@ use Rattle.std.specs.declared.io.ErrorKind.{ErrorKind}
 use Rattle.std.specs.declared.io.ErrorKind.TheVariants as kind
 use Rattle.ckrt_checkpoint.specs.declared.config.Config.{Config}
 use Rattle.ckrt_jobs.specs.Names.{name_of}
+use Rattle.ckrt_jobs.specs.Reasons.{reason_text}
 use Rattle.ckrt_jobs.specs.declared.fault.JobFault.{JobFault}
 use Rattle.ckrt_jobs.specs.declared.fault.JobFault.TheVariants as job
 use Rattle.ckrt_jobs.specs.declared.file.FileFault.{FileFault}
@@ -12,6 +13,7 @@ use Rattle.ckrt_jobs.specs.declared.file.JobFile.{JobFile}
 use Rattle.ckrt_jobs.specs.declared.file.JobFile.TheVariants as file
 use Rattle.ckrt_jobs.specs.declared.input.InputLengths.{InputLengths}
 use Rattle.ckrt_jobs.specs.declared.output.OutputLengths.{OutputLengths}
+use Rattle.ckrt_jobs.specs.declared.reason.OutputReason.TheVariants as reason
 use Rattle.ckrt_image.specs.declared.fault.FormatFault.{FormatFault}
 use Rattle.ckrt_image.specs.declared.fault.FormatFault.TheVariants as format
 use Rattle.ckrt_image.specs.declared.fault.RecoverFault.{RecoverFault}
@@ -24,7 +26,7 @@ use Rattle.ckrt_inspect.specs.declared.fault.InspectFault.{InspectFault}
 use Rattle.ckrt_inspect.specs.declared.fault.InspectFault.TheVariants as look
 use Rattle.ckrt_words.specs.declared.job.WordsFault.{WordsFault}
 use Rattle.ckrt_words.specs.declared.job.WordsFault.TheVariants as words
-use Rattle.ckrt_words.specs.Jobs.{Request, format as asks_format, run as asks_run, inspect as asks_inspect, drive as asks_drive, stored}
+use Rattle.ckrt_words.specs.Jobs.{Request, format as asks_format, run as asks_run, inspect as asks_inspect, drive as asks_drive, core as asks_core, stored}
 
 -- what the system's error says of a file (POSIX.1-2017, open, read, write: ENOENT, EISDIR, EACCES and EPERM, ENOSPC, EROFS, ENOMEM; EWOULDBLOCK of
 -- a lock that is held)
@@ -50,6 +52,7 @@ file_text file.Disk = codes "the disk "
 file_text file.Input = codes "the input "
 file_text file.Output = codes "the output "
 file_text file.Making = codes "the disk in the making "
+file_text file.Core = codes "the core "
 
 -- what stands behind the path that the words give: a disk in the making lies beside its path
 abbrev pub file_ending : JobFile → List ℕ
@@ -61,7 +64,7 @@ file_fault_text fault.NotFound = codes "there is no such file"
 file_fault_text fault.NoFolder = codes "its folder is missing"
 file_fault_text fault.IsImage = codes "the image has this path too"
 file_fault_text fault.IsElf = codes "it is an ELF file: guest/image, or objcopy -O binary, makes an image of it"
-file_fault_text fault.IsDisk = codes "the disk has this path too; give the output another"
+file_fault_text fault.IsDisk = codes "the disk has this path too; give another"
 file_fault_text fault.IsADirectory = codes "it is a directory"
 file_fault_text fault.NotAFile = codes "it isn't a plain file, and can't be written by offset; without --output the bytes are printed"
 file_fault_text fault.NotAnInput = codes "it isn't a plain file, and can't be read by offset; put its bytes into a file, and give that"
@@ -71,6 +74,9 @@ file_fault_text fault.StorageFull = codes "no space is left for it"
 file_fault_text fault.ReadOnly = codes "its file system is read-only"
 file_fault_text fault.NotInMaking = codes "it is no disk in the making, and is unchanged; move it away, then give the command again"
 file_fault_text fault.NotAStatus = codes "it is no status of a drive, and is unchanged; move it away, or give another path"
+file_fault_text fault.NotACore = codes "it is no core, and is unchanged; move it away, or give another path"
+file_fault_text fault.NotInWriting = codes "what has this path with .making behind it is no core, and is unchanged; move it away, then give the command again"
+file_fault_text fault.Unwritten = codes "a write or sync of it failed; look after its device, then give the command again"
 file_fault_text fault.IsThere = codes "something has the disk's path meanwhile; look at it, then give the command again"
 file_fault_text fault.OutOfMemory = memory_advice
 file_fault_text fault.StreamClosed = codes "a standard stream is closed"
@@ -107,6 +113,7 @@ file_of (job.OutputDiffers l) = Some file.Output
 file_of job.NotRecorded = Some file.Disk
 file_of (job.OffsetDiffers taken) = Some file.Disk
 file_of (job.InputTooShort l) = Some file.Input
+file_of (job.OutputFailed why) = Some file.Output
 file_of (job.Drive f) = Some (file_of_drive f)
 file_of _ = None
 
@@ -145,7 +152,7 @@ abbrev pub advice_of_drive : DriveFault → List ℕ
 advice_of_drive drive.Device = device_advice
 advice_of_drive drive.Input = codes "a read failed; look after its device, then the same command goes on"
 advice_of_drive drive.NoRecord = codes "it has no room for the record of the input; make it 4096 bytes longer"
-advice_of_drive drive.Output = codes "a write or sync failed: no space is left, the pipe is broken, or its device fails; mend that, then the same command goes on (docs/OPERATING.md)"
+advice_of_drive drive.Output = reason_text reason.Other
 advice_of_drive drive.OutputFull = codes "it can't have so many bytes"
 advice_of_drive drive.GenerationsUsed = codes "it has made as many checkpoints as there can be; make another"
 advice_of_drive (drive.Refused why) = codes "it can't take another event: its counters are used up"
@@ -198,6 +205,7 @@ advice_of (job.OutputDiffers l) = advice_of_lengths l
 advice_of job.NotRecorded = codes "it can't tell how much of the input its program has read, since it was saved by hand: `--input-from` says how many bytes that were when it was saved"
 advice_of (job.OffsetDiffers taken) = codes "leave --input-from out"
 advice_of (job.InputTooShort l) = codes "give the file that it had before, whole"
+advice_of (job.OutputFailed why) = reason_text why
 advice_of (job.Drive f) = advice_of_drive f
 
 -- the path of an output, or what stands for it where it is printed
@@ -221,6 +229,8 @@ path_of file.Output (asks_drive j) = output_text j.output
 path_of file.Making (asks_drive j) = j.disk
 path_of file.Image (asks_drive j) = path_text j.image
 path_of file.Input (asks_drive j) = path_text j.input
+path_of file.Disk (asks_core c) = c.disk
+path_of file.Core (asks_core c) = c.file
 path_of _ _ = []
 
 -- the file that is spoken of, with its path

@@ -12,6 +12,7 @@ use crate::file::JobFile;
 use crate::meter::{Meter, Watch};
 use crate::missing::find_disk;
 use crate::output::{OpenedOutput, OutputLengths};
+use crate::reason::OutputReason;
 use crate::sizes::other_sizes;
 use crate::sources::Sources;
 use ckrt_disk::Disk;
@@ -193,12 +194,13 @@ fn drive_session<D: Disk, O: Disk, M: Meter>(
     }
 }
 
-/// What the job answers where its drive answered so.
-fn answer_of(driven: Result<Driven, DriveFault>) -> Result<Driven, JobFault>
-    ensures { result ≡ answer_of driven }
+/// What the job answers where its drive answered so. Of an output that failed it says why.
+fn answer_of(why: OutputReason, driven: Result<Driven, DriveFault>) -> Result<Driven, JobFault>
+    ensures { result ≡ answer_of why driven }
 {
     match driven {
         Ok(driven) => Ok(driven),
+        Err(DriveFault::Output) => Err(JobFault::OutputFailed(why)),
         Err(fault) => Err(JobFault::Drive(fault)),
     }
 }
@@ -216,9 +218,10 @@ fn drive_onto<'a, I: Read, D: Disk, S: Sources<'a, I, D>, M: Meter>(
         (S.openings sources.old) (S.openings sources.new) result }
 {
     let undertaken = drive_session(session, output, intake, options, meter);
+    let why = sources.last_reason();
     sources.close_output(undertaken.output);
     close_both::<D, S>(undertaken.session.into_disk(), undertaken.input, sources);
-    answer_of(undertaken.driven)
+    answer_of(why, undertaken.driven)
 }
 
 /// Drives a session onto an output that was opened, if the length of its file fits the disk; else closes all as they are.
@@ -308,11 +311,12 @@ fn drive_onto_stream<'a, I: Read, D: Disk, S: Sources<'a, I, D>, W: Write + 'a, 
         input,
         driven,
     } = drive_streamed(session, stream, intake, options, meter);
+    let why = sources.last_reason();
     close_both::<D, S>(session.into_disk(), input, sources);
     let writer = output.into_writer();
     // This does nothing at run time: clauses learn here what the writer holds once the stream has it no more.
     let _ = &*writer;
-    answer_of(driven)
+    answer_of(why, driven)
 }
 
 /// Below which offset output is left out.

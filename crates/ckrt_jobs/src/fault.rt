@@ -5,6 +5,7 @@ ghost use Rattle.ckrt_jobs.specs.Reports.{advice_of, advice_of_drive, advice_of_
 use crate::file::{FileFault, JobFile, MEMORY_ADVICE};
 use crate::input::InputLengths;
 use crate::output::OutputLengths;
+use crate::reason::OutputReason;
 use ckrt_drive::DriveFault;
 use ckrt_inspect::InspectFault;
 use ckrt_main::ServeFault;
@@ -15,7 +16,7 @@ use ckrt_recovery::{Config, FormatFault, RecoverFault};
 pub enum JobFault {
     /// This file can't be opened, read, locked or filled.
     File(JobFile, FileFault),
-    /// There was no memory for the image.
+    /// There was no memory for the image, or for the core.
     OutOfMemory,
     /// The disk wasn't formatted.
     Format(FormatFault),
@@ -23,7 +24,7 @@ pub enum JobFault {
     Recover(RecoverFault),
     /// The service ended early.
     Serve(ServeFault),
-    /// The disk wasn't shown.
+    /// The disk wasn't shown, or its program wasn't found for a core.
     Inspect(InspectFault),
     /// The numbers of a drive are out of their ranges.
     Range,
@@ -37,6 +38,8 @@ pub enum JobFault {
     OffsetDiffers(u64),
     /// The file of the input has fewer bytes than the program has taken.
     InputTooShort(InputLengths),
+    /// The output failed a write or a sync, and this is why.
+    OutputFailed(OutputReason),
     /// The drive ended early.
     Drive(DriveFault),
 }
@@ -50,10 +53,6 @@ const INPUT_ADVICE: &str = "a read failed; look after its device, then the same 
 
 /// What is said of a disk that has no place for the record of the input.
 const RECORD_ADVICE: &str = "it has no room for the record of the input; make it 4096 bytes longer";
-
-/// What is said where the output failed a write or a sync.
-const OUTPUT_ADVICE: &str =
-    "a write or sync failed: no space is left, the pipe is broken, or its device fails; mend that, then the same command goes on (docs/OPERATING.md)";
 
 /// What is said of a fault of formatting.
 fn format_advice(fault: FormatFault) -> &'static str
@@ -142,7 +141,7 @@ fn drive_advice(fault: DriveFault) -> &'static str
         DriveFault::Device => DEVICE_ADVICE,
         DriveFault::Input => INPUT_ADVICE,
         DriveFault::NoRecord => RECORD_ADVICE,
-        DriveFault::Output => OUTPUT_ADVICE,
+        DriveFault::Output => OutputReason::Other.text(),
         DriveFault::OutputFull => "it can't have so many bytes",
         DriveFault::GenerationsUsed =>
             "it has made as many checkpoints as there can be; make another",
@@ -239,6 +238,7 @@ impl JobFault {
             JobFault::NotRecorded => "NotRecorded",
             JobFault::OffsetDiffers(_) => "OffsetDiffers",
             JobFault::InputTooShort(_) => "InputTooShort",
+            JobFault::OutputFailed(_) => "Output",
             JobFault::Drive(fault) => drive_name(fault),
         }
     }
@@ -259,6 +259,7 @@ impl JobFault {
             JobFault::NotRecorded => NOT_RECORDED_ADVICE,
             JobFault::OffsetDiffers(_) => OFFSET_ADVICE,
             JobFault::InputTooShort(_) => SHORT_ADVICE,
+            JobFault::OutputFailed(why) => why.text(),
             JobFault::Drive(fault) => drive_advice(fault),
         }
     }
@@ -289,7 +290,7 @@ impl JobFault {
             JobFault::SizesDiffer(_) | JobFault::NotRecorded | JobFault::OffsetDiffers(_) => {
                 Some(JobFile::Disk)
             }
-            JobFault::OutputDiffers(_) => Some(JobFile::Output),
+            JobFault::OutputDiffers(_) | JobFault::OutputFailed(_) => Some(JobFile::Output),
             JobFault::InputTooShort(_) => Some(JobFile::Input),
             JobFault::Drive(fault) => Some(drive_file(fault)),
             _ => None,

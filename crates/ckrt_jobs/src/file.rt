@@ -22,6 +22,8 @@ pub enum JobFile {
     Output,
     /// The disk in the making, beside the path that it is made for.
     Making,
+    /// The core.
+    Core,
 }
 
 /// Why a file can't be opened, read, locked or filled.
@@ -35,7 +37,7 @@ pub enum FileFault {
     IsImage,
     /// The image is an ELF file.
     IsElf,
-    /// The output's path is the disk's too.
+    /// The path of an output or a core is the disk's too.
     IsDisk,
     /// A directory has this path.
     IsADirectory,
@@ -55,6 +57,12 @@ pub enum FileFault {
     NotInMaking,
     /// It holds something else than a status.
     NotAStatus,
+    /// Something else than a core has the path of one.
+    NotACore,
+    /// Something else than a core has the path of one in the making.
+    NotInWriting,
+    /// A write or a sync of it failed.
+    Unwritten,
     /// Something has got the path that was free.
     IsThere,
     /// The system refused memory.
@@ -100,6 +108,7 @@ impl JobFile {
             JobFile::Input => "the input ",
             JobFile::Output => "the output ",
             JobFile::Making => "the disk in the making ",
+            JobFile::Core => "the core ",
         }
     }
 
@@ -109,7 +118,7 @@ impl JobFile {
     {
         match self {
             JobFile::Making => MAKING,
-            JobFile::Image | JobFile::Disk | JobFile::Input | JobFile::Output => "",
+            JobFile::Image | JobFile::Disk | JobFile::Input | JobFile::Output | JobFile::Core => "",
         }
     }
 }
@@ -125,7 +134,7 @@ impl FileFault {
             FileFault::IsImage => "the image has this path too",
             FileFault::IsElf =>
                 "it is an ELF file: guest/image, or objcopy -O binary, makes an image of it",
-            FileFault::IsDisk => "the disk has this path too; give the output another",
+            FileFault::IsDisk => "the disk has this path too; give another",
             FileFault::IsADirectory => "it is a directory",
             FileFault::NotAFile =>
                 "it isn't a plain file, and can't be written by offset; without --output the bytes are printed",
@@ -139,6 +148,12 @@ impl FileFault {
                 "it is no disk in the making, and is unchanged; move it away, then give the command again",
             FileFault::NotAStatus =>
                 "it is no status of a drive, and is unchanged; move it away, or give another path",
+            FileFault::NotACore =>
+                "it is no core, and is unchanged; move it away, or give another path",
+            FileFault::NotInWriting =>
+                "what has this path with .making behind it is no core, and is unchanged; move it away, then give the command again",
+            FileFault::Unwritten =>
+                "a write or sync of it failed; look after its device, then give the command again",
             FileFault::IsThere =>
                 "something has the disk's path meanwhile; look at it, then give the command again",
             FileFault::OutOfMemory => MEMORY_ADVICE,

@@ -7,10 +7,13 @@ use crate::file::{FileFault, MAKING};
 use crate::growing::GrowingFile;
 use crate::leftover::look_at_leftover;
 use crate::output::OpenedOutput;
+use crate::reason::OutputReason;
+use crate::told::{RealDisk, Teller, ToldFile};
 use ckrt_disk::{FileDisk, Holds, SystemFile};
 use ckrt_filling::fill_up;
 use ckrt_recovery::RecoverFault;
 use std::alloc::Global;
+use std::cell::Cell;
 use std::fs::{File, Files, OpenOptions};
 use std::io;
 use std::marker::Brand;
@@ -56,7 +59,7 @@ fn open_locked<R: Files<File = File>>(rt: &R, path: &str, is_new: bool) -> Resul
 }
 
 /// Opens a file to read it, and locks it with other readers: a file that a program may write is refused at once.
-fn open_shared<R: Files<File = File>>(rt: &R, path: &str) -> Result<File, FileFault>
+pub(crate) fn open_shared<R: Files<File = File>>(rt: &R, path: &str) -> Result<File, FileFault>
     ensures { IfOk result IsBesideStreams }
 {
     let file = open_read(rt, path)?;
@@ -77,7 +80,7 @@ fn folder_of(path: &str) -> &str
 }
 
 /// Makes the names of a path's folder durable.
-fn sync_folder<R: Files<File = File>>(rt: &R, path: &str) -> Result<(), FileFault> {
+pub(crate) fn sync_folder<R: Files<File = File>>(rt: &R, path: &str) -> Result<(), FileFault> {
     let folder = open_read(rt, folder_of(path))?;
     folder.sync_all()?;
     Ok(())
@@ -106,7 +109,7 @@ pub(crate) fn remove<R: Files>(rt: &R, path: &str) {
 }
 
 /// The file, where this went well; else what was made is removed.
-fn keep<R: Files>(
+pub(crate) fn keep<R: Files>(
     rt: &R,
     path: &str,
     claimed: Claimed,
@@ -128,7 +131,7 @@ fn keep<R: Files>(
 
 /// The file of a path, which is made where there is none. Its name is durable then, also where the file was there: who made
 /// it may have been killed before that.
-fn open_or_make<R: Files<File = File>>(rt: &R, path: &str) -> Result<Claimed, FileFault>
+pub(crate) fn open_or_make<R: Files<File = File>>(rt: &R, path: &str) -> Result<Claimed, FileFault>
     ensures { IfOk result (λ it. IsBesideStreams it.file) }
 {
     let claimed = match open_locked(rt, path, false) {
@@ -146,16 +149,16 @@ fn open_or_make<R: Files<File = File>>(rt: &R, path: &str) -> Result<Claimed, Fi
 }
 
 /// The disk of an open file, with as many bytes as the file. A directory, which may be opened to be read, is none.
-pub(crate) fn disk_of<H: Holds>(file: File) -> Result<FileDisk<SystemFile<H>>, FileFault> {
+pub(crate) fn disk_of<'a, H: Holds>(file: File) -> Result<RealDisk<'a, H>, FileFault> {
     let told = file.metadata()?;
     if told.is_dir() {
         return Err(FileFault::IsADirectory);
     }
-    Ok(FileDisk::new(SystemFile::new(file), told.len() as usize))
+    Ok(FileDisk::new(ToldFile::untold(SystemFile::new(file)), told.len() as usize))
 }
 
 /// Fills a file that is shorter than so many bytes up to them. What is no regular file isn't filled.
-fn fill_file(file: &File, size: usize) -> Result<(), FileFault> {
+pub(crate) fn fill_file(file: &File, size: usize) -> Result<(), FileFault> {
     let told = file.metadata()?;
     let length = told.len() as usize;
     if !told.is_file() || length >= size {
@@ -181,7 +184,7 @@ pub(crate) fn open_filled_file<R: Files<File = File>>(
     keep(rt, path, claimed, filled)
 }
 
-/// The path of the disk in the making for a path: beside that, so that it can get its name.
+/// The path of the disk or core in the making for a path: beside that, so that it can get its name.
 pub(crate) fn beside(alloc: Global, path: &str) -> Result<String, FileFault> {
     match format!(in alloc; "{}{}", path, MAKING) {
         Ok(name) => Ok(name),
@@ -274,24 +277,32 @@ pub(crate) fn open_disk_file<R: Files<File = File>>(rt: &R, path: &str) -> Resul
 /// How many bytes an output has: more than any file. Those behind the end of its file count as zeros until they are written.
 const OUTPUT_SIZE: usize = i64::MAX as usize;
 
-/// The output of an open file, which grows as it is written. What isn't a plain file, as a terminal, has no offsets.
-fn output_of<H: Holds>(file: File) -> Result<OpenedOutput<FileDisk<SystemFile<H>>>, FileFault> {
+/// The output of an open file, which grows as it is written, and tells why it fails. What isn't a plain file, as a terminal, has no
+/// offsets.
+fn output_of<'a, H: Holds>(
+    file: File,
+    why: &'a Cell<OutputReason>,
+) -> Result<OpenedOutput<RealDisk<'a, H>>, FileFault> {
     let told = file.metadata()?;
     if !told.is_file() {
         return Err(FileFault::NotAFile);
     }
+    let teller = Teller::new(file.try_clone()?, why);
+    let file = ToldFile::told_by(SystemFile::new(file), teller);
     Ok(OpenedOutput {
-        output: FileDisk::new(SystemFile::new(file), OUTPUT_SIZE),
+        output: FileDisk::new(file, OUTPUT_SIZE),
         length: told.len(),
     })
 }
 
 /// The output of a path.
-pub(crate) fn open_system_output<R: Files<File = File>, H: Holds>(
+pub(crate) fn open_system_output<'a, R: Files<File = File>, H: Holds>(
     rt: &R,
     path: &str,
-) -> Result<OpenedOutput<FileDisk<SystemFile<H>>>, FileFault> {
-    output_of(open_or_make(rt, path)?.file)
+    why: &'a Cell<OutputReason>,
+) -> Result<OpenedOutput<RealDisk<'a, H>>, FileFault> {
+    let opened = open_or_make(rt, path)?;
+    output_of(opened.file, why)
 }
 
 /// Whether a path is that of a plain file. Nothing is opened: a pipe that nobody writes to would keep its opener waiting.
@@ -307,38 +318,32 @@ fn is_plain_file<R: Files>(rt: &R, path: &str) -> Result<(), FileFault> {
 }
 
 /// The input of a path: a plain file, which is only read.
-pub(crate) fn open_system_input<R: Files<File = File>, H: Holds>(
+pub(crate) fn open_system_input<'a, R: Files<File = File>, H: Holds>(
     rt: &R,
     path: &str,
-) -> Result<FileDisk<SystemFile<H>>, FileFault> {
+) -> Result<RealDisk<'a, H>, FileFault> {
     is_plain_file(rt, path)?;
     let file = open_read(rt, path)?;
     let told = file.metadata()?;
     if !told.is_file() {
         return Err(FileFault::NotAnInput);
     }
-    Ok(FileDisk::new(SystemFile::new(file), told.len() as usize))
+    Ok(FileDisk::new(ToldFile::untold(SystemFile::new(file)), told.len() as usize))
 }
 
 /// The disk of an open file once zero bytes stand behind its own, up to so many bytes.
-pub(crate) fn longer_disk<H: Holds>(
+pub(crate) fn longer_disk<'a, H: Holds>(
     file: &File,
     size: usize,
-) -> Result<FileDisk<SystemFile<H>>, FileFault> {
+) -> Result<RealDisk<'a, H>, FileFault> {
     fill_file(file, size)?;
     let longer = file.try_clone()?;
     let told = longer.metadata()?;
     if (told.len() as usize) < size {
         return Err(FileFault::Other);
     }
-    Ok(FileDisk::new(SystemFile::new(longer), told.len() as usize))
-}
-
-/// The disk of a path, to be looked at.
-pub(crate) fn look_at_system_disk<R: Files<File = File>, H: Holds>(
-    rt: &R,
-    path: &str,
-) -> Result<FileDisk<SystemFile<H>>, FileFault> {
-    let file = open_shared(rt, path)?;
-    disk_of(file)
+    Ok(FileDisk::new(
+        ToldFile::untold(SystemFile::new(longer)),
+        told.len() as usize,
+    ))
 }

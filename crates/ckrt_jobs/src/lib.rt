@@ -26,6 +26,10 @@
 //! Damaged and Range are the content's, Device comes only where a read failed; the disk is only read, at every moment, and
 //! nothing is written with a fault but Write.
 //!
+//! Proved of `core`: the disk is only read, and what is found on it is what it recovers to, or recovered to after so many events. The
+//! file of the core is asked for only then, with as many bytes as that state's core has. It gets its path only once it has just these
+//! bytes, durably, and else is given up. Nothing is printed, and no line is read.
+//!
 //! Proved of a disk that `drive` makes since it is missing: it is asked for only with an image that fits; it gets the path's name
 //! only once it is formatted, whole and durable, and else is given up; and it is the disk that is driven then. Sizes of the words
 //! that aren't those of a disk that is there are the fault SizesDiffer, with the disk's own.
@@ -46,7 +50,7 @@
 //!
 //! Proved of [`run_words_with`]: its outcome is the one that the words ask for, and the status is that outcome's: for
 //! `format` that of making the disk of DISK with the image of IMAGE, and then the line `formatted SIZE`; for `run` that of
-//! running the disk of DISK; for `inspect` that of showing it; for `drive` that of driving it with its output in FILE or on a
+//! running the disk of DISK; for `inspect` that of showing it; for `core` that of writing its core into FILE; for `drive` that of driving it with its output in FILE or on a
 //! stream, and then the line of what it came to; for no words that of serving the stored program, of which a service that
 //! ends early has written a beginning; for `--version` the line of version and kit. Where a line can't be written, what was
 //! written is a beginning of it. The files that were asked for are those of DISK, IMAGE, input and output, each once, and none where the
@@ -63,11 +67,14 @@
 //! ([`printed_bytes_stay`]).
 //!
 //! What a drive hands on to its stream is the output of acknowledged events: `stream_gets_the_output` of `ckrt_drive`. Only
-//! tested: the lines on how far a drive is, what a path opens, that a file is filled and locked and its folder synced, that a
-//! disk in the making takes no other file's name, that what is printed is flushed, that faults on standard error reach it.
+//! tested: the lines on how far a drive is, which reason of a failed output is told, what a path opens, that a file is filled
+//! and locked and its folder synced, that a disk in the making takes no other file's name, that what is printed is flushed, that
+//! faults on standard error reach it.
 #![tactic(auto)]
 
 mod address;
+mod core_file;
+mod core_paths;
 mod driven;
 mod driving;
 mod fault;
@@ -84,6 +91,7 @@ mod meter;
 mod missing;
 mod output;
 mod program;
+mod reason;
 mod report;
 mod reporter;
 mod running;
@@ -93,6 +101,7 @@ mod sources;
 mod status;
 mod stored;
 mod system;
+mod told;
 mod version;
 
 pub use driven::Driven;
@@ -105,8 +114,10 @@ pub use making::make_disk;
 pub use meter::{Meter, SystemMeter, Watch};
 pub use output::{OpenedOutput, OutputLengths};
 pub use program::{run_words, run_words_with};
+pub use reason::OutputReason;
 pub use reporter::{Reporter, Unsaid, WrittenReport};
 pub use running::{Unserved, run_disk};
 pub use showing::inspect_disk;
 pub use sources::{Closes, Sources, Unlengthened};
 pub use system::{SystemDisk, SystemSources};
+pub use told::{RealDisk, ToldFile, ToldWriter};

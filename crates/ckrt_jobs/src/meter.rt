@@ -1,11 +1,13 @@
 //! How far a drive is, told while it runs.
+ghost use Rattle.std.specs.Prelude.{◌≡◌};
+ghost use Rattle.ckrt_jobs.specs.Ends.{standing_of};
 
 use crate::status::StatusFile;
 use ckrt_disk::Disk;
-use ckrt_drive::{Nobody, Onlooker, Progress};
+use ckrt_drive::{Ending, Nobody, Onlooker, Progress};
 use ckrt_events::Event;
 use ckrt_input::taken_by;
-use ckrt_inspect::Readings;
+use ckrt_inspect::{Readings, Standing};
 use ckrt_machine::Answer;
 use ckrt_recovery::Session;
 use std::alloc::Global;
@@ -35,6 +37,22 @@ impl Meter for Nobody {
     fn begin(&mut self, _alloc: Global, _watch: Watch<'_>) {}
 
     fn fed(&mut self, _taken: u64) {}
+}
+
+/// How a drive stands behind a step that did this.
+fn standing_of(did: &Progress) -> Standing
+    ensures { result ≡ standing_of did.now }
+{
+    match did {
+        Progress::Stopped(Ending::Ended) => Standing::Ended,
+        Progress::Stopped(Ending::WaitsForInput) => Standing::WaitsForInput,
+        Progress::Stopped(Ending::Deadlock) => Standing::Deadlock,
+        Progress::Stopped(Ending::Enough) => Standing::Enough,
+        Progress::Submitted(_, _)
+        | Progress::Committed
+        | Progress::Checkpointed
+        | Progress::Released => Standing::Running,
+    }
 }
 
 /// The clock is looked at once in so many steps of a drive.
@@ -109,7 +127,7 @@ impl Counts {
     }
 
     /// How the drive stands with this session.
-    fn readings<D: Disk>(&self, session: &Session<D>) -> Readings {
+    fn readings<D: Disk>(&self, session: &Session<D>, standing: Standing) -> Readings {
         Readings {
             events: self.all_events(),
             acknowledged: session.acknowledged(),
@@ -118,6 +136,7 @@ impl Counts {
             input: self.taken,
             generation: session.generation(),
             room: session.room() as u64,
+            standing,
         }
     }
 }
@@ -181,9 +200,9 @@ impl<'a, R: Clock + Eprint + Files<File = File>> SystemMeter<'a, R> {
     }
 
     /// Writes the status. Where that fails it says so, once until it goes well again.
-    fn write_status<D: Disk>(&mut self, session: &Session<D>) {
+    fn write_status<D: Disk>(&mut self, session: &Session<D>, standing: Standing) {
         self.statuses.last = self.moment();
-        let readings = self.counts.readings(session);
+        let readings = self.counts.readings(session, standing);
         let Some(status) = &mut self.status else {
             return;
         };
@@ -202,7 +221,7 @@ impl<'a, R: Clock + Eprint + Files<File = File>> SystemMeter<'a, R> {
             self.print(since, session);
         }
         if self.statuses.due(self.rt).is_some() {
-            self.write_status(session);
+            self.write_status(session, Standing::Running);
         }
     }
 }
@@ -218,7 +237,7 @@ impl<'a, R: Clock + Eprint + Files<File = File>> Onlooker for SystemMeter<'a, R>
             self.counts.count(event, answer);
         }
         if is_first || matches!(did, Progress::Stopped(_)) {
-            self.write_status(session);
+            self.write_status(session, standing_of(did));
         } else if self.looks() {
             self.tell_due(session);
         }

@@ -9,6 +9,7 @@ ghost use Rattle.ckrt_jobs.specs.Files.{openings_of};
 ghost use Rattle.ckrt_jobs.specs.Outcomes.{config_of, made_line, version_line};
 ghost use Rattle.ckrt_jobs.specs.Performing.{MakesPath, Performs, RunsOnFiles, RunsOpened, RunsPath, RunsWords, ServesStored, ShowsOpened, ShowsPath, outcome_with_end, outcome_without_end};
 
+use crate::core_file::core_path;
 use crate::driven::Driven;
 use crate::driving::drive_path;
 use crate::fault::JobFault;
@@ -198,6 +199,7 @@ fn perform<
         Job::Format(job) => without_end(make::<I, D, S, W>(alloc, job, sources, writer)),
         Job::Run(path) => without_end(run::<I, D, S, R, W>(alloc, path, sources, reader, writer)),
         Job::Inspect(job) => without_end(inspect_path::<I, D, S, W>(alloc, job, sources, writer)),
+        Job::Core(job) => without_end(core_path::<I, D, S>(alloc, job, sources)),
         Job::Drive(job) => {
             with_end(drive_path::<I, D, S, W, M>(alloc, job, sources, writer, meter))
         }
@@ -205,7 +207,8 @@ fn perform<
 }
 
 /// Does what the words after the program's name ask for, with images and disks of any sources: `format DISK IMAGE` prints
-/// `formatted SIZE`, `run DISK` answers the lines of the reader, `inspect DISK` shows what the disk holds, `drive DISK`
+/// `formatted SIZE`, `run DISK` answers the lines of the reader, `inspect DISK` shows what the disk holds, `core DISK FILE`
+/// writes it as a core into FILE, `drive DISK`
 /// runs its program to its end, with its output in a file or printed, and reports what it came to in a line, `--version`
 /// prints the version and its kit, no words serve the stored program in memory. Of a fault two lines are reported: what is
 /// wrong in plain words, with the path of the file that it is of, and `ckrt: NAME`. Of words that name no job a text is. A
@@ -262,7 +265,7 @@ pub fn run_words_with<
 pub fn run_words<'a, F: Files<File = File>, R: Read, W: Write + 'a, E: Reporter, M: Meter>(
     alloc: Global,
     words: &'a [&'a str],
-    sources: &mut SystemSources<'a, F, SystemDisk>,
+    sources: &mut SystemSources<'a, F, SystemDisk<'a>>,
     reader: &mut R,
     writer: &mut W,
     reporter: &mut E,
@@ -279,13 +282,13 @@ pub fn run_words<'a, F: Files<File = File>, R: Read, W: Write + 'a, E: Reporter,
         → Appends (W.contents writer.old) (W.contents writer.new) version_line }
     ensures usage { result ≡ 2 → takes ckrt_app (map (λ s. s.now) words.entry.now) ≢ true }
     ensures stored { result ≡ 2 → words.entry.now ≢ [] }
-    ensures outcome { RunsOnFiles ⟦<SystemDisk as Disk>⟧ ⟦<StreamOutput<'a, W> as Disk>⟧ W.contents
-        (map (λ s. s.now) words.entry.now) (openings_of sources.old) (openings_of sources.new)
-        (W.contents writer.old) (W.contents writer.new) (R.remaining reader.old)
-        (R.remaining reader.new) (E.said reporter.old) (E.said reporter.new)
-        (E.has_failed reporter.new) result }
+    ensures outcome { RunsOnFiles ⟦<SystemDisk<'a> as Disk>⟧ ⟦<StreamOutput<'a, W> as Disk>⟧
+        W.contents (map (λ s. s.now) words.entry.now) (openings_of sources.old)
+        (openings_of sources.new) (W.contents writer.old) (W.contents writer.new)
+        (R.remaining reader.old) (R.remaining reader.new) (E.said reporter.old)
+        (E.said reporter.new) (E.has_failed reporter.new) result }
 {
-    run_words_with::<File, SystemDisk, SystemSources<'a, F, SystemDisk>, R, W, E, M>(
+    run_words_with::<File, SystemDisk<'a>, SystemSources<'a, F, SystemDisk<'a>>, R, W, E, M>(
         alloc, words, sources, reader, writer, reporter, meter,
     )
 }

@@ -4,6 +4,7 @@ ghost use Rattle.ckrt_jobs.specs.Sources.{Gives, GivesNoMore, GivesSame};
 
 use crate::file::FileFault;
 use crate::output::OpenedOutput;
+use crate::reason::OutputReason;
 use ckrt_disk::Disk;
 use std::alloc::Global;
 use std::io::Read;
@@ -74,7 +75,9 @@ pub trait Sources<'a, I: Read, D: Disk>: Closes<D> {
     fn look_at_disk(&mut self, path: &'a str) -> Result<D, FileFault>
         ensures disk { IfOk result (opens self.old path.now) }
         ensures asked { Self.openings self.new
-            ≡ with_disk (Self.openings self.old) (opening_of path.now result) };
+            ≡ with_disk (Self.openings self.old) (opening_of path.now result) }
+        ensures same { GivesSame (image_bytes self.old) (image_bytes self.new) (fills self.old)
+            (fills self.new) (gives self.old) (gives self.new) };
 
     /// The disk of a path, which is made where it is missing. What is shorter than `size` bytes is filled with zero bytes up
     /// to them first; nothing else is changed.
@@ -99,6 +102,18 @@ pub trait Sources<'a, I: Read, D: Disk>: Closes<D> {
         ensures same { GivesSame (image_bytes self.old) (image_bytes self.new) (fills self.old)
             (fills self.new) (gives self.old) (gives self.new) };
 
+    /// A core in the making, for a path that nothing has, or a core, or an empty file: a file beside it, made anew with so many
+    /// zero bytes. What else has the path is refused, the disk too, and so is what lies there and is no core in the making.
+    fn open_core(&mut self, alloc: Global, path: &'a str, size: usize) -> Result<D, FileFault>
+        ensures core { IfOk result (fills self.old path.now size) }
+        ensures asked { Self.openings self.new
+            ≡ with_making (Self.openings self.old) (opening_of path.now result) };
+
+    /// Gives a core in the making the path that it was made for, in place of what may have that. Its name is durable then.
+    fn name_core(&mut self, path: &'a str, core: &D) -> Result<(), FileFault>
+        ensures named { Self.openings self.new
+            ≡ with_named (Self.openings self.old) (opening_of path.now result) core.now };
+
     /// The output of a path, which is made where it is missing, and never shortened: what it holds stays, and bytes behind
     /// its end are zeros. It comes with the length of its file.
     fn open_output(&mut self, path: &'a str) -> Result<OpenedOutput<D>, FileFault>
@@ -112,6 +127,10 @@ pub trait Sources<'a, I: Read, D: Disk>: Closes<D> {
         ensures asked { Self.openings self.new
             ≡ with_input (Self.openings self.old) (opening_of path.now result) }
         ensures same { GivesNoMore (gives self.old) (gives self.new) };
+
+    /// Why the last call of an output that failed did so, where nothing else was asked for meanwhile. Of what was opened no clause can
+    /// say this.
+    fn last_reason(&self) -> OutputReason;
 
     /// A disk that was opened, made so many bytes long with zero bytes behind its own, durably. Its own bytes stay.
     fn lengthen(&mut self, disk: D, size: usize) -> Result<D, Unlengthened<D>>

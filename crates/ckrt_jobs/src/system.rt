@@ -4,15 +4,19 @@ ghost use Rattle.ckrt_jobs.specs.Files.{openings_of};
 ghost use Rattle.ckrt_jobs.specs.Openings.{unopened};
 ghost use Rattle.ckrt_jobs.specs.Sources.{anything};
 
+use crate::core_paths::{open_core_file, replace_core};
 use crate::file::{FileFault, FileOpening};
 use crate::files::{
-    beside, disk_of, give_name, longer_disk, look_at_system_disk, open_disk_file, open_filled_file,
-    open_making_file, open_read, open_system_input, open_system_output, remove,
+    beside, disk_of, give_name, longer_disk, open_disk_file, open_filled_file, open_making_file,
+    open_read, open_shared, open_system_input, open_system_output, remove,
 };
 use crate::output::OpenedOutput;
+use crate::reason::OutputReason;
 use crate::sources::{Closes, Sources, Unlengthened};
-use ckrt_disk::{FileDisk, History, Holds, SystemFile};
+use crate::told::RealDisk;
+use ckrt_disk::{History, Holds};
 use std::alloc::Global;
+use std::cell::Cell;
 use std::fs::{File, Files, Metadata};
 use std::marker::Brand;
 use std::os::unix::fs::MetadataExt;
@@ -39,7 +43,7 @@ impl FileId {
 enum MadeFile<'a> {
     /// That of a path.
     Itself(&'a str),
-    /// A disk in the making, by its own name.
+    /// A disk or a core in the making, by its own name.
     Beside(String),
 }
 
@@ -54,13 +58,15 @@ impl<'a> MadeFile<'a> {
 }
 
 /// A disk that is a file of the system.
-pub type SystemDisk = FileDisk<SystemFile<Brand>>;
+pub type SystemDisk<'a> = RealDisk<'a, Brand>;
 
 /// The files of the system, with the record of what they were asked for, which takes no memory. A disk or an output that is
 /// given back is closed.
 #[derive(Drop)]
 pub struct SystemSources<'a, R, D> {
     rt: &'a R,
+    /// Where an output notes why it failed.
+    why: &'a Cell<OutputReason>,
     image: History<FileOpening<'a>>,
     disk: History<FileOpening<'a>>,
     output: History<FileOpening<'a>>,
@@ -77,17 +83,18 @@ pub struct SystemSources<'a, R, D> {
     disk_id: Option<FileId>,
     /// And that file once more, by which it can be made longer.
     disk_file: Option<File>,
-    /// The file that was made for a disk that isn't formatted yet.
+    /// The file that was made for a disk that isn't formatted yet, or for a core that isn't written.
     made: Option<MadeFile<'a>>,
 }
 
 impl<'a, R, D> SystemSources<'a, R, D> {
-    /// The files of the system, of which none was asked for.
-    pub fn new(rt: &'a R) -> SystemSources<'a, R, D>
+    /// The files of the system, of which none was asked for. An output of theirs notes there why it failed.
+    pub fn new(rt: &'a R, why: &'a Cell<OutputReason>) -> SystemSources<'a, R, D>
         ensures { openings_of result ≡ unopened }
     {
         SystemSources {
             rt,
+            why,
             image: History::new(),
             disk: History::new(),
             output: History::new(),
@@ -139,6 +146,15 @@ impl<'a, R: Files<File = File>, D> SystemSources<'a, R, D> {
         Ok(file)
     }
 
+    /// The file of a disk that is looked at, which is remembered.
+    fn look_at_file(&mut self, path: &str) -> Result<File, FileFault>
+        ensures { openings_of self.new ≡ openings_of self.old }
+    {
+        let file = open_shared(self.rt, path)?;
+        self.remember(&file);
+        Ok(file)
+    }
+
     /// The file of a disk that is made where it is missing, and filled up to so many bytes.
     fn open_filled_file(&mut self, path: &'a str, size: usize) -> Result<File, FileFault>
         ensures { openings_of self.new ≡ openings_of self.old }
@@ -180,6 +196,33 @@ impl<'a, R: Files<File = File>, D> SystemSources<'a, R, D> {
         named
     }
 
+    /// The file of a core in the making. The disk is never taken for a core.
+    fn open_core_file(&mut self, alloc: Global, path: &str, size: usize) -> Result<File, FileFault>
+        ensures { openings_of self.new ≡ openings_of self.old }
+    {
+        if self.is_disk(path) {
+            return Err(FileFault::IsDisk);
+        }
+        let name = beside(alloc, path)?;
+        let file = open_core_file(self.rt, path, &name, size)?;
+        self.made = Some(MadeFile::Beside(name));
+        Ok(file)
+    }
+
+    /// Gives the core in the making a path.
+    fn give_core_name(&mut self, path: &str) -> Result<(), FileFault>
+        ensures { openings_of self.new ≡ openings_of self.old }
+    {
+        let named = match &self.made {
+            Some(made) => replace_core(self.rt, made.path(), path),
+            None => Err(FileFault::Other),
+        };
+        if named.is_ok() {
+            self.made = None;
+        }
+        named
+    }
+
     /// Removes what was made.
     fn remove_made(&mut self)
         ensures { openings_of self.new ≡ openings_of self.old }
@@ -191,9 +234,9 @@ impl<'a, R: Files<File = File>, D> SystemSources<'a, R, D> {
     }
 }
 
-impl<'a, R: Files<File = File>, H: Holds> SystemSources<'a, R, FileDisk<SystemFile<H>>> {
+impl<'a, R: Files<File = File>, H: Holds> SystemSources<'a, R, RealDisk<'a, H>> {
     /// The disk that is open, of so many bytes.
-    fn longer(&mut self, size: usize) -> Result<FileDisk<SystemFile<H>>, FileFault>
+    fn longer(&mut self, size: usize) -> Result<RealDisk<'a, H>, FileFault>
         ensures { openings_of self.new ≡ openings_of self.old }
     {
         match &self.disk_file {
@@ -226,8 +269,8 @@ impl<'a, R: Files<File = File>, D: Drop> Closes<D> for SystemSources<'a, R, D> {
     }
 }
 
-impl<'a, R: Files<File = File>, H: Holds> Sources<'a, File, FileDisk<SystemFile<H>>>
-    for SystemSources<'a, R, FileDisk<SystemFile<H>>> {
+impl<'a, R: Files<File = File>, H: Holds> Sources<'a, File, RealDisk<'a, H>>
+    for SystemSources<'a, R, RealDisk<'a, H>> {
     ghost image_bytes = { λ _ _. None };
 
     ghost opens = { λ _ _ _. Unit {0} };
@@ -242,7 +285,7 @@ impl<'a, R: Files<File = File>, H: Holds> Sources<'a, File, FileDisk<SystemFile<
         opened
     }
 
-    fn open_disk(&mut self, path: &'a str) -> Result<FileDisk<SystemFile<H>>, FileFault> {
+    fn open_disk(&mut self, path: &'a str) -> Result<RealDisk<'a, H>, FileFault> {
         let opened = match self.open_disk_file(path) {
             Ok(file) => disk_of(file),
             Err(fault) => Err(fault),
@@ -251,17 +294,16 @@ impl<'a, R: Files<File = File>, H: Holds> Sources<'a, File, FileDisk<SystemFile<
         opened
     }
 
-    fn look_at_disk(&mut self, path: &'a str) -> Result<FileDisk<SystemFile<H>>, FileFault> {
-        let opened = look_at_system_disk(self.rt, path);
+    fn look_at_disk(&mut self, path: &'a str) -> Result<RealDisk<'a, H>, FileFault> {
+        let opened = match self.look_at_file(path) {
+            Ok(file) => disk_of(file),
+            Err(fault) => Err(fault),
+        };
         self.disk = self.disk.with(&FileOpening::of(path, &opened));
         opened
     }
 
-    fn open_filled(
-        &mut self,
-        path: &'a str,
-        size: usize,
-    ) -> Result<FileDisk<SystemFile<H>>, FileFault> {
+    fn open_filled(&mut self, path: &'a str, size: usize) -> Result<RealDisk<'a, H>, FileFault> {
         let opened = match self.open_filled_file(path, size) {
             Ok(file) => disk_of(file),
             Err(fault) => Err(fault),
@@ -275,7 +317,7 @@ impl<'a, R: Files<File = File>, H: Holds> Sources<'a, File, FileDisk<SystemFile<
         alloc: Global,
         path: &'a str,
         size: usize,
-    ) -> Result<FileDisk<SystemFile<H>>, FileFault> {
+    ) -> Result<RealDisk<'a, H>, FileFault> {
         let opened = match self.open_making_file(alloc, path, size) {
             Ok(file) => disk_of(file),
             Err(fault) => Err(fault),
@@ -284,22 +326,36 @@ impl<'a, R: Files<File = File>, H: Holds> Sources<'a, File, FileDisk<SystemFile<
         opened
     }
 
-    fn name_disk(
-        &mut self,
-        path: &'a str,
-        disk: &FileDisk<SystemFile<H>>,
-    ) -> Result<(), FileFault> {
+    fn name_disk(&mut self, path: &'a str, disk: &RealDisk<'a, H>) -> Result<(), FileFault> {
         let named = self.give_name(path);
         self.naming = self.naming.with(&FileOpening::of(path, &named));
         self.named = self.named.with(disk);
         named
     }
 
-    fn open_output(
+    fn open_core(
         &mut self,
+        alloc: Global,
         path: &'a str,
-    ) -> Result<OpenedOutput<FileDisk<SystemFile<H>>>, FileFault> {
-        let mut opened = open_system_output(self.rt, path);
+        size: usize,
+    ) -> Result<RealDisk<'a, H>, FileFault> {
+        let opened = match self.open_core_file(alloc, path, size) {
+            Ok(file) => disk_of(file),
+            Err(fault) => Err(fault),
+        };
+        self.making = self.making.with(&FileOpening::of(path, &opened));
+        opened
+    }
+
+    fn name_core(&mut self, path: &'a str, core: &RealDisk<'a, H>) -> Result<(), FileFault> {
+        let named = self.give_core_name(path);
+        self.naming = self.naming.with(&FileOpening::of(path, &named));
+        self.named = self.named.with(core);
+        named
+    }
+
+    fn open_output(&mut self, path: &'a str) -> Result<OpenedOutput<RealDisk<'a, H>>, FileFault> {
+        let mut opened = open_system_output(self.rt, path, self.why);
         if let Err(FileFault::InUse) = opened {
             if self.is_disk(path) {
                 opened = Err(FileFault::IsDisk);
@@ -309,17 +365,21 @@ impl<'a, R: Files<File = File>, H: Holds> Sources<'a, File, FileDisk<SystemFile<
         opened
     }
 
-    fn open_input(&mut self, path: &'a str) -> Result<FileDisk<SystemFile<H>>, FileFault> {
+    fn open_input(&mut self, path: &'a str) -> Result<RealDisk<'a, H>, FileFault> {
         let opened = open_system_input(self.rt, path);
         self.input = self.input.with(&FileOpening::of(path, &opened));
         opened
     }
 
+    fn last_reason(&self) -> OutputReason {
+        self.why.get()
+    }
+
     fn lengthen(
         &mut self,
-        disk: FileDisk<SystemFile<H>>,
+        disk: RealDisk<'a, H>,
         size: usize,
-    ) -> Result<FileDisk<SystemFile<H>>, Unlengthened<FileDisk<SystemFile<H>>>> {
+    ) -> Result<RealDisk<'a, H>, Unlengthened<RealDisk<'a, H>>> {
         self.lengthened = self.lengthened.with(&disk);
         match self.longer(size) {
             Ok(longer) => Ok(longer),

@@ -3,6 +3,7 @@
 use anyhow::{Result, bail};
 use ckrt_disk::{FileDisk, SystemFile};
 use ckrt_events::Event;
+use ckrt_record::RECORD_BYTES;
 use ckrt_recovery::{Session, recover};
 use std::marker::Brand;
 use std::time::Instant;
@@ -76,6 +77,48 @@ pub fn time_changed(rt: &HostRuntime, path: &str, count: u32) -> Result<()> {
     for _ in 0..count {
         store(&mut session)?;
         time_checkpoint(rt, &mut session)?;
+    }
+    Ok(())
+}
+
+/// Saves a program as a drive with an input does: by a commit, and then by a checkpoint with its record.
+fn save_recorded(session: &mut Session<RealDisk>) -> Result<()> {
+    if session.spare_room() < RECORD_BYTES {
+        bail!("no room for the record");
+    }
+    if session.commit().is_err() || ckrt_record::checkpoint(session, 0).is_err() {
+        bail!("no checkpoint");
+    }
+    Ok(())
+}
+
+/// Saves a program so, and writes how long that took.
+fn time_recorded(rt: &HostRuntime, session: &mut Session<RealDisk>) -> Result<()> {
+    let start = Instant::now(rt)?;
+    save_recorded(session)?;
+    let nanoseconds = start.elapsed(rt)?.as_nanos();
+    eprintln!(rt; "{nanoseconds}")?;
+    Ok(())
+}
+
+/// Makes `count` checkpoints of what a disk recovers to, each with its record behind a commit of one event. The disk is one of
+/// `stores-4`.
+pub fn time_recorded_checkpoints(rt: &HostRuntime, path: &str, count: u32) -> Result<()> {
+    let (mut session, _) = recovered(rt, path)?;
+    for _ in 0..count {
+        store(&mut session)?;
+        time_recorded(rt, &mut session)?;
+    }
+    Ok(())
+}
+
+/// Makes `count` such checkpoints, each of four pages that have changed.
+pub fn time_recorded_changed(rt: &HostRuntime, path: &str, count: u32) -> Result<()> {
+    let (mut session, _) = recovered(rt, path)?;
+    save_twice(&mut session)?;
+    for _ in 0..count {
+        store(&mut session)?;
+        time_recorded(rt, &mut session)?;
     }
     Ok(())
 }

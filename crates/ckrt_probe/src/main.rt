@@ -2,6 +2,7 @@
 //! words in turn, and writes times to standard error.
 //!
 //! - `ckrt_probe run IMAGE PAGES HARTS STEPS` runs a guest on the machine.
+//! - `ckrt_probe feed IMAGE PAGES HARTS STEPS INPUT` does so with a file as the guest's input.
 //! - `ckrt_probe append FILE BYTES COUNT` appends to a journal on a real file.
 //! - `ckrt_probe decode COUNT` reads and decodes a full journal in memory.
 //! - `ckrt_probe save FILE HARTS COUNT` decodes and encodes saved tables.
@@ -9,6 +10,9 @@
 //! - `ckrt_probe checkpoint FILE COUNT` recovers a disk and makes checkpoints.
 //! - `ckrt_probe changed FILE COUNT` makes checkpoints of a disk of the guest `stores-4`, with four changed pages each.
 //! - `ckrt_probe unchanged FILE COUNT` makes checkpoints with no changed page.
+//! - `ckrt_probe recorded FILE COUNT` and `recorded-changed FILE COUNT` make checkpoints as a drive with an input does: each behind a
+//!   commit, and with its record; of all pages of `stores-4`, and as `changed` does.
+//! - `ckrt_probe hunt SEEDS IMAGE` hunts a guest, and says which kinds of outcomes its seeds came to.
 //! - `ckrt_probe grow` formats a disk and recovers it, and says which growth of memory was refused, if one was.
 //! - `ckrt_probe tables` decodes saved tables, and says whether a growth of memory was refused.
 //! - `ckrt_probe lives` runs lives of one program, and says whether a growth of memory was refused.
@@ -16,22 +20,27 @@
 
 mod disk;
 mod growth;
+mod hunted;
 mod journal;
 mod lives;
 mod run;
 mod saved;
 
-use crate::disk::{time_changed, time_checkpoints, time_recovery, time_unchanged};
+use crate::disk::{
+    time_changed, time_checkpoints, time_recorded_changed, time_recorded_checkpoints,
+    time_recovery, time_unchanged,
+};
 use crate::growth::{report, report_tables};
+use crate::hunted::print_kinds;
 use crate::journal::{time_appends, time_decoding};
 use crate::lives::report_lives;
-use crate::run::{shape_of, time_run};
+use crate::run::{shape_of, time_fed, time_run};
 use crate::saved::time_tables;
 use anyhow::{Context, Result, bail};
 use std::env;
 
 const USAGE: &str =
-    "usage: ckrt_probe (run IMAGE PAGES HARTS STEPS | append FILE BYTES COUNT | decode COUNT | save FILE HARTS COUNT | recover FILE | checkpoint FILE COUNT | changed FILE COUNT | unchanged FILE COUNT | grow | tables | lives)...";
+    "usage: ckrt_probe (run IMAGE PAGES HARTS STEPS | feed IMAGE PAGES HARTS STEPS INPUT | append FILE BYTES COUNT | decode COUNT | save FILE HARTS COUNT | recover FILE | checkpoint FILE COUNT | changed FILE COUNT | unchanged FILE COUNT | recorded FILE COUNT | recorded-changed FILE COUNT | hunt SEEDS IMAGE | grow | tables | lives)...";
 
 fn number(word: &str) -> Result<u32> {
     word.parse::<u32>().context(USAGE)
@@ -46,6 +55,15 @@ fn run_guest<'a>(rt: &HostRuntime, words: &'a [String]) -> Rest<'a> {
     };
     let shape = shape_of(number(pages)?, number(harts)?, number(steps)?)?;
     time_run(rt, image, shape)?;
+    Ok(rest)
+}
+
+fn feed_guest<'a>(rt: &HostRuntime, words: &'a [String]) -> Rest<'a> {
+    let [image, pages, harts, steps, input, rest @ ..] = words else {
+        bail!(USAGE);
+    };
+    let shape = shape_of(number(pages)?, number(harts)?, number(steps)?)?;
+    time_fed(rt, image, shape, input)?;
     Ok(rest)
 }
 
@@ -105,6 +123,30 @@ fn keep<'a>(rt: &HostRuntime, words: &'a [String]) -> Rest<'a> {
     Ok(rest)
 }
 
+fn hunt<'a>(rt: &HostRuntime, words: &'a [String]) -> Rest<'a> {
+    let [seeds, image, rest @ ..] = words else {
+        bail!(USAGE);
+    };
+    print_kinds(rt, number(seeds)?, image)?;
+    Ok(rest)
+}
+
+fn save_recorded<'a>(rt: &HostRuntime, words: &'a [String]) -> Rest<'a> {
+    let [path, count, rest @ ..] = words else {
+        bail!(USAGE);
+    };
+    time_recorded_checkpoints(rt, path, number(count)?)?;
+    Ok(rest)
+}
+
+fn change_recorded<'a>(rt: &HostRuntime, words: &'a [String]) -> Rest<'a> {
+    let [path, count, rest @ ..] = words else {
+        bail!(USAGE);
+    };
+    time_recorded_changed(rt, path, number(count)?)?;
+    Ok(rest)
+}
+
 fn grow<'a>(rt: &HostRuntime, words: &'a [String]) -> Rest<'a> {
     println!(rt; "{}", report(rt.alloc()))?;
     Ok(words)
@@ -127,6 +169,7 @@ fn probe<'a>(rt: &HostRuntime, words: &'a [String]) -> Rest<'a> {
     };
     match verb.as_str() {
         "run" => run_guest(rt, rest),
+        "feed" => feed_guest(rt, rest),
         "append" => append(rt, rest),
         "decode" => decode(rt, rest),
         "save" => save(rt, rest),
@@ -134,6 +177,9 @@ fn probe<'a>(rt: &HostRuntime, words: &'a [String]) -> Rest<'a> {
         "checkpoint" => checkpoint(rt, rest),
         "changed" => change(rt, rest),
         "unchanged" => keep(rt, rest),
+        "recorded" => save_recorded(rt, rest),
+        "recorded-changed" => change_recorded(rt, rest),
+        "hunt" => hunt(rt, rest),
         "grow" => grow(rt, rest),
         "tables" => tables(rt, rest),
         "lives" => live(rt, rest),

@@ -4,6 +4,7 @@ ghost use Rattle.std.specs.Prelude.{◌≤◌};
 
 use anyhow::{Result, bail, ensure};
 use ckrt_events::Event;
+use ckrt_input::{next_input, taken_by};
 use ckrt_machine::{Answer, Machine};
 use ckrt_memory::MemoryError;
 use ckrt_state::Status;
@@ -59,10 +60,55 @@ fn turn(machine: &mut Machine, shape: Shape, console: &mut impl Write) -> io::Re
     Ok(steps)
 }
 
+/// The input of a guest, and how many of its bytes were given.
+#[derive(Drop)]
+struct Input {
+    bytes: Vec<u8>,
+    taken: usize,
+}
+
+impl Input {
+    /// What is given next, if anything is.
+    fn next(&self, machine: &Machine) -> Option<Event> {
+        let (_, rest) = self.bytes.split_at(self.taken.min(self.bytes.len()));
+        next_input(machine.tables(), rest)
+    }
+
+    /// Gives what there is room for.
+    fn give(&mut self, machine: &mut Machine, console: &mut impl Write) -> io::Result<()> {
+        for _ in 0..u64::MAX {
+            let Some(event) = self.next(machine) else {
+                break;
+            };
+            offer(machine, &event, console)?;
+            self.taken = self.taken.saturating_add(taken_by(&event));
+        }
+        Ok(())
+    }
+}
+
+/// Gives the guest what there is room for of its input, where it has one.
+fn feed(
+    machine: &mut Machine,
+    input: &mut Option<Input>,
+    console: &mut impl Write,
+) -> io::Result<()> {
+    match input {
+        Some(input) => input.give(machine, console),
+        None => Ok(()),
+    }
+}
+
 /// Turns until the program ends or no hart makes a step.
-fn drive(machine: &mut Machine, shape: Shape, console: &mut impl Write) -> io::Result<u64> {
+fn drive(
+    machine: &mut Machine,
+    shape: Shape,
+    input: &mut Option<Input>,
+    console: &mut impl Write,
+) -> io::Result<u64> {
     let mut steps = 0u64;
     for _ in 0..u64::MAX {
+        feed(machine, input, console)?;
         let made = turn(machine, shape, console)?;
         if made == 0 {
             break;
@@ -73,9 +119,14 @@ fn drive(machine: &mut Machine, shape: Shape, console: &mut impl Write) -> io::R
 }
 
 /// Drives the machine, and writes how long that took.
-fn time_drive(rt: &HostRuntime, machine: &mut Machine, shape: Shape) -> Result<()> {
+fn time_drive(
+    rt: &HostRuntime,
+    machine: &mut Machine,
+    shape: Shape,
+    input: &mut Option<Input>,
+) -> Result<()> {
     let start = rt.process_cpu_time()?;
-    let steps = drive(machine, shape, &mut io::writer(rt))?;
+    let steps = drive(machine, shape, input, &mut io::writer(rt))?;
     let end = rt.process_cpu_time()?;
     let nanoseconds = end.as_nanos().saturating_sub(start.as_nanos());
     eprintln!(rt; "steps {steps} nanoseconds {nanoseconds}")?;
@@ -101,5 +152,17 @@ fn machine_of(rt: &HostRuntime, path: &str, shape: Shape) -> Result<Machine> {
 /// Runs the guest of a file. Its console goes to standard output.
 pub fn time_run(rt: &HostRuntime, path: &str, shape: Shape) -> Result<()> {
     let mut machine = machine_of(rt, path, shape)?;
-    time_drive(rt, &mut machine, shape)
+    time_drive(rt, &mut machine, shape, &mut None)
+}
+
+/// Runs the guest of a file, whose input is another file. It is given by the same rule as a drive gives it.
+pub fn time_fed(rt: &HostRuntime, path: &str, shape: Shape, input: &str) -> Result<()> {
+    let bytes = fs::read(rt, input)?;
+    let mut machine = machine_of(rt, path, shape)?;
+    time_drive(
+        rt,
+        &mut machine,
+        shape,
+        &mut Some(Input { bytes, taken: 0 }),
+    )
 }

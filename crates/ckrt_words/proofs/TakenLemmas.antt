@@ -17,7 +17,7 @@ use Rattle.clap.specs.declared.builder.value_parser.ValueParser.TheVariants as v
 use Rattle.clap.proofs.CallerReads.{signed_reads}
 use Rattle.clap.proofs.ValueTestLemmas.{accepts-Accepts}
 use Rattle.ckrt_words.specs.Commands.{ckrt_app}
-use Rattle.ckrt_words.specs.Jobs.{Request, drive, flag_in, format, inspect, run, number_in, number_of, place_in, request_in, sizes_in}
+use Rattle.ckrt_words.specs.Jobs.{Request, core, drive, flag_in, format, inspect, run, number_in, number_of, place_in, request_in, sizes_in}
 use Rattle.clap.proofs.WalkLemmas.{both}
 use Rattle.ckrt_words.proofs.MatchLemmas.{AreRows, AreRules, defaults_give, given_found, has_command, has_required, level_kept, level_valid, row_found, taken_levels, value_there}
 use Rattle.ckrt_words.proofs.NumberLemmas.{number_reads}
@@ -38,6 +38,9 @@ inspect_shape = unwrap_or (slice_get built_app.subs 2) built_app.top
 abbrev drive_shape : Shape
 drive_shape = unwrap_or (slice_get built_app.subs 3) built_app.top
 
+abbrev core_shape : Shape
+core_shape = unwrap_or (slice_get built_app.subs 4) built_app.top
+
 format_rules : AreRules format_shape refl format_shape.rules
 format_rules = ((refl, inl (refl, refl)), ((refl, inl (refl, refl)), ((refl, inl (refl, refl)), ((refl, inl (refl, refl)), ((refl, inl (refl, refl)), ((refl, inr (inl refl)), tt))))))
 
@@ -49,6 +52,9 @@ inspect_rules = ((refl, inl (refl, refl)), ((refl, inl (refl, refl)), ((refl, in
 
 drive_rules : AreRules drive_shape refl drive_shape.rules
 drive_rules = ((refl, inl (refl, refl)), ((refl, inl (refl, refl)), ((refl, inl (refl, refl)), ((refl, inl (refl, refl)), ((refl, inl (refl, refl)), ((refl, inl (refl, refl)), ((refl, inl (refl, refl)), ((refl, inl (refl, refl)), ((refl, inl (refl, refl)), ((refl, inl (refl, refl)), ((refl, inl (refl, refl)), ((refl, inl (refl, refl)), ((refl, inl (refl, refl)), ((refl, inl (refl, refl)), ((refl, inl (refl, refl)), ((refl, inr (inl refl)), tt))))))))))))))))
+
+core_rules : AreRules core_shape refl core_shape.rules
+core_rules = ((refl, inl (refl, refl)), ((refl, inl (refl, refl)), ((refl, inl (refl, refl)), ((refl, inr (inl refl)), tt))))
 
 number_there : (v : Text) → accepts false (vp.Signed (pos 0) (pos 4294967295)) v ≡ true → (n : ℕ) × (number_of 32 (without_minus v) ≡ Some n)
 number_there v pass =
@@ -70,6 +76,15 @@ inspect_named words pass =
     let given = has_required inspect_shape rows false (level_valid inspect_shape [] nothing_held words false pass) refl in
     let disk = value_there inspect_shape refl (codes "disk") rows _ kept refl (given_found (codes "disk") rows (both (is_given (codes "disk") rows) true given).0) in
     (inspect (record { disk = disk.0; at = place_in (codes "at") rows; code = flag_in (codes "code") rows }), rw disk.1 refl)
+
+core_named : (words : List Text) → level_passes core_shape [] nothing_held words false ≡ true → (r : Request) × (request_in (rows_at core_shape words) ≡ Some r)
+core_named words pass =
+    let rows = finished core_shape.rules (walk core_shape.rules [] nothing_held words).held in
+    let kept = level_kept core_shape refl core_rules [] nothing_held words false pass tt in
+    let given = both (is_given (codes "disk") rows) (is_given (codes "file") rows && true) (has_required core_shape rows false (level_valid core_shape [] nothing_held words false pass) refl) in
+    let disk = value_there core_shape refl (codes "disk") rows _ kept refl (given_found (codes "disk") rows given.0) in
+    let file = value_there core_shape refl (codes "file") rows _ kept refl (given_found (codes "file") rows (both (is_given (codes "file") rows) true given.1).0) in
+    (core (record { disk = disk.0; file = file.0; at = place_in (codes "at") rows }), rw (disk.1, file.1) refl)
 
 abbrev slot : Shape → ℕ → Rule
 slot shape i = slice_index_or shape.rules i (new_rule [])
@@ -128,18 +143,20 @@ drive_named words pass =
 entered_named : (stop : Option (Text × List Text)) → entered_passes built_app stop ≡ true → is_some (entered built_app stop) ≡ true
     → (r : Request) × (option_and_then request_in (entered built_app stop) ≡ Some r)
 entered_named None pass some = absurd (true≢false (sym some))
-entered_named (Some p) pass some = go (answers_to p.0 (label_of format_shape)) (answers_to p.0 (label_of run_shape)) (answers_to p.0 (label_of inspect_shape)) (answers_to p.0 (label_of drive_shape)) pass some
+entered_named (Some p) pass some = go (answers_to p.0 (label_of format_shape)) (answers_to p.0 (label_of run_shape)) (answers_to p.0 (label_of inspect_shape)) (answers_to p.0 (label_of drive_shape)) (answers_to p.0 (label_of core_shape)) pass some
   where
-    found : Bool → Bool → Bool → Bool → Option Shape
-    found a b c d = cond a (Some format_shape) (cond b (Some run_shape) (cond c (Some inspect_shape) (cond d (Some drive_shape) None)))
+    found : Bool → Bool → Bool → Bool → Bool → Option Shape
+    found a b c d e = cond a (Some format_shape) (cond b (Some run_shape) (cond c (Some inspect_shape) (cond d (Some drive_shape) (cond e (Some core_shape) None))))
 
-    go : (a b c d : Bool) → option_map_or (λ s. level_passes s [] nothing_held p.1 false) (found a b c d) true ≡ true → is_some (option_map (λ s. rows_at s p.1) (found a b c d)) ≡ true
-        → (r : Request) × (option_and_then request_in (option_map (λ s. rows_at s p.1) (found a b c d)) ≡ Some r)
-    go true b c d e is = format_named p.1 e
-    go false true c d e is = run_named p.1 e
-    go false false true d e is = inspect_named p.1 e
-    go false false false true e is = drive_named p.1 e
-    go false false false false e is = absurd (true≢false (sym is))
+    go : (a b c d e : Bool) → option_map_or (λ s. level_passes s [] nothing_held p.1 false) (found a b c d e) true ≡ true
+        → is_some (option_map (λ s. rows_at s p.1) (found a b c d e)) ≡ true
+        → (r : Request) × (option_and_then request_in (option_map (λ s. rows_at s p.1) (found a b c d e)) ≡ Some r)
+    go true b c d e pass is = format_named p.1 pass
+    go false true c d e pass is = run_named p.1 pass
+    go false false true d e pass is = inspect_named p.1 pass
+    go false false false true e pass is = drive_named p.1 pass
+    go false false false false true pass is = core_named p.1 pass
+    go false false false false false pass is = absurd (true≢false (sym is))
 
 -- words that the command line takes ask for something
 taken_named : (words : List Text) → takes ckrt_app words ≡ true → (r : Request) × (option_and_then request_in (subcommand_of ckrt_app words) ≡ Some r)

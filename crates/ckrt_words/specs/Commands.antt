@@ -1,5 +1,5 @@
 -- The program's command line, as `clap` sees it: `format DISK IMAGE [--pages P] [--harts H] [--journal J]`, `run DISK`,
--- `inspect DISK [--at K] [--code]` and `drive DISK [--image IMAGE] [--pages P] [--harts H] [--journal J] [--input FILE]
+-- `inspect DISK [--at K] [--code]`, `core DISK FILE [--at K]` and `drive DISK [--image IMAGE] [--pages P] [--harts H] [--journal J] [--input FILE]
 -- [--input-from OFFSET] [--output FILE] [--turn N] [--rounds-per-commit R] [--events N] [--seed S] [--progress SECONDS]
 -- [--status FILE] [--from OFFSET]`.
 use Rattle.std.specs.Prelude.{pos, codes, Some, true, [], ◌∷◌}
@@ -63,6 +63,13 @@ inspect_app =
     (place_rule (codes "at")))
     (flag_rule (codes "code"))
 
+abbrev pub core_app : App
+core_app =
+    with_rule (with_rule (with_rule (new_app (codes "core"))
+    (needed_rule (codes "disk")))
+    (needed_rule (codes "file")))
+    (place_rule (codes "at"))
+
 abbrev pub drive_app : App
 drive_app =
     with_rule (with_rule (with_rule (with_rule (with_rule (with_rule (with_rule (with_rule (with_rule (with_rule (with_rule (with_rule
@@ -92,6 +99,6 @@ bare_app = record {
 
 abbrev pub ckrt_app : App
 ckrt_app =
-    with_subcommand (with_subcommand
+    with_subcommand (with_subcommand (with_subcommand
     (with_subcommand (with_subcommand bare_app format_app.top) run_app.top)
-    inspect_app.top) drive_app.top
+    inspect_app.top) drive_app.top) core_app.top

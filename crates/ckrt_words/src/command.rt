@@ -3,7 +3,7 @@ ghost use Rattle.std.specs.Prelude.{◌≡◌, IfOk, codes, false, fold, map, no
 ghost use Rattle.std.specs.List.{list_all};
 ghost use Rattle.clap.specs.Words.{App, app_of, new_app, rule_of, with_rule, with_subcommand};
 ghost use Rattle.clap.specs.declared.builder.command.Command.TheViews.{out-Command};
-ghost use Rattle.ckrt_words.specs.Commands.{bare_app, ckrt_app, drive_app, flag_rule, format_app, inspect_app, needed_rule, number_rule, option_rule, place_rule, run_app, size_rule};
+ghost use Rattle.ckrt_words.specs.Commands.{bare_app, ckrt_app, core_app, drive_app, flag_rule, format_app, inspect_app, needed_rule, number_rule, option_rule, place_rule, run_app, size_rule};
 
 use clap::{Arg, ArgAction, Command, value_parser};
 use std::alloc::{AllocError, Global};
@@ -82,7 +82,9 @@ fn format_command<'a>(alloc: Global) -> Result<Command<'a>, AllocError>
 {
     let arguments = format_arguments(alloc)?;
     Command::new(alloc, "format")
-        .about("Makes a disk with a guest program that hasn't begun")
+        .about(
+            "Makes a disk with a guest that hasn't begun, as `ckrt format pi.disk pi.bin --pages 256`",
+        )
         .args(arguments)
 }
 
@@ -120,7 +122,9 @@ fn run_command<'a>(alloc: Global) -> Result<Command<'a>, AllocError>
 {
     let disk = needed(alloc, "disk", "DISK", "A disk that `format` made");
     Command::new(alloc, "run")
-        .about("Recovers a disk and answers the lines of the standard input")
+        .about(
+            "Recovers a disk and answers the lines of the standard input, as `echo 'tick 1' | ckrt run pi.disk`",
+        )
         .arg(disk)
 }
 
@@ -131,7 +135,7 @@ fn inspect_command<'a>(alloc: Global) -> Result<Command<'a>, AllocError>
 {
     let arguments = inspect_arguments(alloc)?;
     Command::new(alloc, "inspect")
-        .about("Shows a stopped program, and changes nothing")
+        .about("Shows a stopped guest, and changes nothing, as `ckrt inspect pi.disk --at 50`")
         .args(arguments)
 }
 
@@ -155,6 +159,43 @@ fn inspect_arguments<'a>(alloc: Global) -> Result<Vec<Arg<'a>>, AllocError>
     Ok(arguments)
 }
 
+/// `core DISK FILE [--at K]`.
+fn core_command<'a>(alloc: Global) -> Result<Command<'a>, AllocError>
+    ensures app { IfOk result (λ c. app_of c ≡ core_app) }
+    ensures local { IfOk result (λ c. (out-Command c).has_globals ≡ false) }
+{
+    let arguments = core_arguments(alloc)?;
+    Command::new(alloc, "core")
+        .about(
+            "Writes a stopped guest as an ELF core for gdb, as `ckrt core pi.disk pi.core --at 50`",
+        )
+        .args(arguments)
+}
+
+/// What `core` is given.
+fn core_arguments<'a>(alloc: Global) -> Result<Vec<Arg<'a>>, AllocError>
+    ensures app { IfOk result (λ arguments.
+        fold with_rule (new_app (codes "core")) (map rule_of arguments.items) ≡ core_app) }
+    ensures local { IfOk result (λ arguments. list_all (λ a. not a.global) arguments.items ≡ true) }
+{
+    let arguments = vec![in alloc;
+        needed(alloc, "disk", "DISK", "A disk that `format` made"),
+        needed(
+            alloc,
+            "file",
+            "FILE",
+            "The core; nothing but an empty file or another core is replaced"
+        ),
+        place(
+            alloc,
+            "at",
+            "K",
+            "Write the guest as it was after K events, not after the last one"
+        ),
+    ]?;
+    Ok(arguments)
+}
+
 /// `drive DISK` with its options: how a missing disk is made, where the input comes from and the output goes, how it goes on.
 fn drive_command<'a>(alloc: Global) -> Result<Command<'a>, AllocError>
     ensures app { IfOk result (λ c. app_of c ≡ drive_app) }
@@ -163,7 +204,7 @@ fn drive_command<'a>(alloc: Global) -> Result<Command<'a>, AllocError>
     let arguments = drive_arguments(alloc)?;
     Command::new(alloc, "drive")
         .about(
-            "Recovers a disk and runs its program to its end, with its input from a file, and its output in a file or on the standard output",
+            "Runs a guest to its end; killed, the same command goes on, as `ckrt drive pi.disk --image pi.bin --output pi.txt`",
         )
         .args(arguments)
 }
@@ -234,25 +275,25 @@ fn drive_arguments<'a>(alloc: Global) -> Result<Vec<Arg<'a>>, AllocError>
             alloc,
             "seed",
             "S",
-            "Draw harts and turns by lot, with this seed"
+            "Draw the hart and the steps of each turn at random, by this seed"
         ),
         place(
             alloc,
             "progress",
             "SECONDS",
-            "Tell how far it is at most each so many seconds, 1 or more"
+            "Tell how far it is, at most once in so many seconds, 1 or more"
         ),
         option(
             alloc,
             "status",
             "FILE",
-            "Rewrite FILE at most each 10 seconds with how far the drive is, in the text format of Prometheus"
+            "Rewrite FILE at most every 10 seconds with how far the drive is, in the text format of Prometheus"
         ),
         place(
             alloc,
             "from",
             "OFFSET",
-            "Leave out the bytes below it, on the standard output"
+            "Leave out the output below this offset, on the standard output"
         ),
     ]?;
     Ok(arguments)
@@ -303,11 +344,22 @@ fn command_on_disks<'a>(alloc: Global) -> Result<Command<'a>, AllocError>
     with_command(with_format, run_command(alloc))
 }
 
-/// The program's command line.
-pub(crate) fn command<'a>(alloc: Global) -> Result<Command<'a>, AllocError>
-    ensures { IfOk result (λ c. app_of c ≡ ckrt_app) }
+/// The program with the commands on disks that are there: those, `inspect` and `drive`.
+fn command_with_drive<'a>(alloc: Global) -> Result<Command<'a>, AllocError>
+    ensures { IfOk result (λ c.
+        app_of c
+        ≡ with_subcommand (with_subcommand (with_subcommand (with_subcommand bare_app
+        format_app.top) run_app.top) inspect_app.top) drive_app.top) }
 {
     let with_run = command_on_disks(alloc)?;
     let with_inspect = with_command(with_run, inspect_command(alloc))?;
     with_command(with_inspect, drive_command(alloc))
+}
+
+/// The program's command line.
+pub(crate) fn command<'a>(alloc: Global) -> Result<Command<'a>, AllocError>
+    ensures { IfOk result (λ c. app_of c ≡ ckrt_app) }
+{
+    let with_drive = command_with_drive(alloc)?;
+    with_command(with_drive, core_command(alloc))
 }

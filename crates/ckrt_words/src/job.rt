@@ -15,6 +15,8 @@ pub enum Job<'a> {
     Inspect(InspectJob<'a>),
     /// Drive a disk to its end: `drive DISK`.
     Drive(DriveJob<'a>),
+    /// Write what a disk holds as a core for a debugger: `core DISK FILE`.
+    Core(CoreJob<'a>),
 }
 
 /// What `format` makes. The numbers are as they were given, and may be out of a disk's ranges.
@@ -41,6 +43,17 @@ pub struct InspectJob<'a> {
     pub at: Option<u64>,
     /// Whether each thread's next instructions are shown too.
     pub code: bool,
+}
+
+/// What `core` writes, and where.
+#[derive(Clone, Copy, Debug, PartialEq, Eq)]
+pub struct CoreJob<'a> {
+    /// The path of the disk.
+    pub disk: &'a str,
+    /// The path of the core.
+    pub file: &'a str,
+    /// After how many events the program is written; after the last one where this isn't given.
+    pub at: Option<u64>,
 }
 
 /// The sizes that a disk is asked to have. The numbers are as they were given, and may be out of a disk's ranges.
@@ -75,9 +88,9 @@ pub struct DriveJob<'a> {
     pub rounds: u32,
     /// After how many events it ends; this isn't given where it has no limit.
     pub events: Option<u64>,
-    /// The seed of the lots by which harts and turns are drawn; this isn't given where they go in their fixed order.
+    /// The seed by which the hart and the steps of each turn are drawn at random; this isn't given where they go in their fixed order.
     pub seed: Option<u64>,
-    /// At most each how many seconds a line tells how far it is; this isn't given where no line does.
+    /// How many seconds lie at least between two lines that tell how far it is; this isn't given where no line does.
     pub progress: Option<u64>,
     /// The path of the file that tells how far it is; this isn't given where none does.
     pub status: Option<&'a str>,

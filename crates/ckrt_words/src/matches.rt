@@ -1,9 +1,9 @@
 //! What the matches of a command line name.
 ghost use Rattle.std.specs.Prelude.{◌≡◌, codes, option_and_then, option_map};
 ghost use Rattle.clap.specs.Words.{first_of, found_of, rows_of, subcommand_rows_of};
-ghost use Rattle.ckrt_words.specs.Jobs.{drive, driving_in, driving_of, flag_in, format, formatting_in, formatting_of, inspect, inspection_in, inspection_of, number_in, place_in, request_in, request_of, run, sizes_in};
+ghost use Rattle.ckrt_words.specs.Jobs.{core, core_making_in, core_making_of, drive, driving_in, driving_of, flag_in, format, formatting_in, formatting_of, inspect, inspection_in, inspection_of, number_in, place_in, request_in, request_of, run, sizes_in};
 
-use crate::job::{DriveJob, FormatJob, InspectJob, Job, Sizes};
+use crate::job::{CoreJob, DriveJob, FormatJob, InspectJob, Job, Sizes};
 use clap::ArgMatches;
 
 /// The text that was given for an argument.
@@ -46,6 +46,17 @@ fn inspection<'a>(matches: &ArgMatches<'a>) -> Option<InspectJob<'a>>
         at: place(matches, "at"),
         code: flag(matches, "code"),
     })
+}
+
+/// What `core` was given.
+fn core_making<'a>(matches: &ArgMatches<'a>) -> Option<CoreJob<'a>>
+    ensures { option_map core_making_of result
+        ≡ core_making_in (rows_of (found_of matches.now)) }
+{
+    let at = place(matches, "at");
+    let disk = text(matches, "disk")?;
+    let file = text(matches, "file")?;
+    Some(CoreJob { disk, file, at })
 }
 
 /// The sizes that a disk is asked to have.
@@ -133,6 +144,14 @@ fn drive_named<'a>(given: &ArgMatches<'a>) -> Option<Job<'a>>
     Some(Job::Drive(driving(given)?))
 }
 
+/// The job of `core` with these matches.
+fn core_named<'a>(given: &ArgMatches<'a>) -> Option<Job<'a>>
+    ensures { option_map request_of result
+        ≡ option_map core (core_making_in (rows_of (found_of given.now))) }
+{
+    Some(Job::Core(core_making(given)?))
+}
+
 /// The job of the command of this name with these matches.
 fn job_of<'a>(name: &str, given: &ArgMatches<'a>) -> Option<Job<'a>>
     ensures { option_map request_of result ≡ request_in (name.now, rows_of (found_of given.now)) }
@@ -148,6 +167,9 @@ fn job_of<'a>(name: &str, given: &ArgMatches<'a>) -> Option<Job<'a>>
     }
     if name == "drive" {
         return drive_named(given);
+    }
+    if name == "core" {
+        return core_named(given);
     }
     None
 }

@@ -11,8 +11,8 @@ loop-thread-preserved c =
     let t = c.loop-thread.thread in
     let next : t ≡ suc (t - 1) = omega arith in
     let back : t ≡ t + 1 - 1 = omega arith in (
-      c.consider.ensures.best ∙ best_on c.args.plan.now c.args.made.now c.args.threads.now (t - 1) t _ next c.loop-thread.invariant.0 ∙ ap (λ n. best_among c.args.plan.now c.args.made.now c.args.threads.now n) back,
-      c.consider.ensures.number,
+      c.consider-best.ensures.best ∙ best_on c.args.plan.now c.args.made.now c.args.threads.now (t - 1) t _ next c.loop-thread.invariant.0 ∙ ap (λ n. best_among c.args.plan.now c.args.made.now c.args.threads.now n) back,
+      c.consider-best.ensures.number,
     )
 
 pub returns-clause-best : goal.returns-clause-best

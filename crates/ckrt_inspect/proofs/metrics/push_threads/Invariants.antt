@@ -5,4 +5,4 @@ use Rattle.ckrt_inspect.specs.Metrics.{thread_line}
 use Rattle.ckrt_inspect.proofs.metrics.push_threads.Given as goal
 
 abbrev pub invariant-loop-id : goal.invariant-loop-id
-invariant-loop-id l = l.out.items ≡ l.fn.out.items ++ flat_map (thread_line l.threads) (rows_from 0 (take l.id l.threads.threads))
+invariant-loop-id l = l.out.items ≡ l.fn.out.items ++ flat_map (thread_line l.status l.threads) (rows_from 0 (take l.id l.threads.threads))

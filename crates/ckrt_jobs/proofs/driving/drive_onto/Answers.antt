@@ -14,6 +14,7 @@ returns g c =
       kept = e.kept;
       answer = u.driven;
       drives = e.drives;
+      why = c.last_reason-why.result;
       gives = c.answer_of.ensures;
       closes = subst (λ x. g.S.Closes.openings c.close_both.new.sources ≡ with_both_closed x u.input u.session.disk) c.close_output.ensures.closed
           (subst (λ x. g.S.Closes.openings c.close_both.new.sources ≡ with_both_closed (g.S.Closes.openings c.close_output.new.self) u.input x) c.into_disk.ensures c.close_both.ensures);

@@ -16,6 +16,7 @@ returns g c =
       kept = e.kept;
       answer = u.driven;
       drives = e.drives;
+      why = c.last_reason-why.result;
       gives = c.answer_of.ensures;
       lent = record { before = ap g.W.Write.contents c.new-stream.ensures.writer; behind = search rules };
       closes = subst (λ x. g.S.Closes.openings c.close_both.new.sources ≡ with_both_closed (g.S.Closes.openings c.args.sources.now) u.input x) c.into_disk.ensures c.close_both.ensures;

@@ -1,13 +1,11 @@
 use Rattle.std.proofs.Common.{ap, ◌≡◌, ◌∙◌}
 use Rattle.std.proofs.lemmas.Result.{IfOk-weaker}
 use Rattle.clap.specs.Words.{App, app_of, with_subcommand}
-use Rattle.ckrt_words.specs.Commands.{bare_app, ckrt_app, drive_app, format_app, inspect_app, run_app}
+use Rattle.ckrt_words.specs.Commands.{ckrt_app, core_app}
 use Rattle.ckrt_words.proofs.command.command.Goals as goal
 
 -- command by command
 pub returns : goal.returns
 returns c =
-    let inspect : app_of c.in_ok-with_inspect.with_inspect ≡ with_subcommand (with_subcommand (with_subcommand bare_app format_app.top) run_app.top) inspect_app.top =
-    c.in_ok-with_inspect.ensures inspect_app c.inspect_command.ensures.app ∙ ap (λ (a : App). with_subcommand a inspect_app.top) c.in_ok-with_run.ensures in
-    IfOk-weaker c.with_command-2.result _ (λ whole. app_of whole ≡ ckrt_app)
-    (λ _ is. is drive_app c.drive_command.ensures.app ∙ ap (λ (a : App). with_subcommand a drive_app.top) inspect) c.with_command-2.ensures
+    IfOk-weaker c.with_command.result _ (λ whole. app_of whole ≡ ckrt_app)
+    (λ _ is. is core_app c.core_command.ensures.app ∙ ap (λ (a : App). with_subcommand a core_app.top) c.in_ok-with_drive.ensures) c.with_command.ensures

@@ -1,4 +1,4 @@
-use Rattle.std.proofs.Common.{◌≡◌, ◌-◌}
+use Rattle.std.proofs.Common.{◌≡◌, ◌≤◌, ◌-◌}
 use Rattle.ckrt_hunt.specs.Tallies.{AreNoted}
 use Rattle.ckrt_hunt.proofs.hunt.Hunt.note_seeds.Given as goal
 
@@ -7,4 +7,5 @@ abbrev pub invariant-loop-seed : goal.invariant-loop-seed
 invariant-loop-seed l = record {
   noted : AreNoted l.fn.self l.first (l.seed - l.first) l.fn.tally l.tally;
   same : l.self ≡ l.fn.self;
+  few : l.seed - l.first ≤ l.end - l.first;
 }

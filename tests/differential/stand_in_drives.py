@@ -1,0 +1,104 @@
+"""The word `drive` of a `ckrt` made of the model; and wrong parts of it, which the driver has to find."""
+import os
+import stat
+from contextlib import suppress
+from pathlib import Path
+
+import feeding
+import plans
+from devices import MemoryDisk
+from feeding import COUNTERS, RECORD_LENGTH, Slot, Supply, Undriven
+from layout import Geometry, format_disk
+from plans import Drive, Options
+
+OPTIONS = ("--turn", "--rounds-per-commit", "--seed", "--events")
+SIZES = ("--pages", "--harts", "--journal")
+
+
+def bytes_of_plain_file(path):
+    with suppress(OSError), open(os.open(path, os.O_RDONLY | os.O_NONBLOCK), "rb") as file:
+        if stat.S_ISREG(os.fstat(file.fileno()).st_mode):
+            return file.read()
+    raise Undriven("File", path)
+
+
+def drive(path, *options, **wrong):
+    """The status. A part that is named takes the place of the model's own; the disk and the output are written at the end."""
+    words = dict(zip(options[::2], options[1::2]))
+    numbers = {name: int(word) for name, word in words.items() if name in (*OPTIONS, *SIZES, "--input-from")}
+    said, disk, output = numbers.get("--input-from"), Path(path), Path(words["--output"])
+    if said is not None and not ("--input" in words and said < COUNTERS):
+        raise Undriven("Range")
+    if "--image" in words and not disk.exists():
+        disk.write_bytes(format_disk(Geometry(*map(numbers.get, SIZES)), Path(words["--image"]).read_bytes()) + bytes(RECORD_LENGTH))
+    data = wrong.get("reads", bytes_of_plain_file)(words["--input"]) if "--input" in words else None
+    contents, held = bytearray(disk.read_bytes()), bytearray(output.read_bytes() if output.exists() else b"")
+    plans.Supply, plans.require_fit = wrong.get("supply", Supply), wrong.get("fit", plans.require_fit)
+    try:
+        return Drive(MemoryDisk(contents), held, Options(*map(numbers.get, OPTIONS)), None, data, said).run()
+    except Undriven as fault:
+        raise Undriven(str(fault), *fault.told * wrong.get("tells", True)) from fault
+    finally:
+        disk.write_bytes(contents)
+        output.write_bytes(held)
+
+
+def bytes_of_any(path):
+    """Of a pipe and of a device too."""
+    with suppress(OSError), open(os.open(path, os.O_RDONLY | os.O_NONBLOCK), "rb") as file:
+        return file.read(4096)
+    raise Undriven("File", path)
+
+
+class Early(Supply):
+    """Makes room on the disk, and then looks whether the drive may begin."""
+
+    def __init__(self, session, data, said=None):
+        self.make_room(session)
+        super().__init__(session, data, said)
+
+
+class Padding(Supply):
+    """Takes a file that is too short for one that has zeros behind it."""
+
+    def __init__(self, session, data, said=None):
+        super().__init__(session, data.ljust(4096, b"\0"), said)
+        self.data = data
+
+
+class Forgetful(Supply):
+    """Records nothing."""
+
+    def record(self, session):
+        pass
+
+
+class Obedient(Supply):
+    """Takes the offset that it is told for what was taken."""
+
+    def __init__(self, session, data, said=None):
+        super().__init__(session, data, said)
+        self.taken = self.taken if said is None else said
+
+
+class Trusting(Supply):
+    """Takes a slot of another generation, or of another number of events."""
+
+    def __init__(self, session, data, said=None):
+        whole, header = feeding.slot_of, feeding.header_of(session.disk, session.geometry, session.recovered.area)
+
+        def slot_of(*place):
+            slot = whole(*place)
+            return slot and Slot(header.generation, header.events, slot.taken)
+
+        feeding.slot_of = slot_of
+        super().__init__(session, data, said)
+
+
+def fits_always(session, length):
+    """Whatever length an output has."""
+
+
+WRONG_DRIVES = {"reads anything": {"reads": bytes_of_any}, "early": {"supply": Early}, "padding": {"supply": Padding},
+                "forgetful": {"supply": Forgetful}, "obedient": {"supply": Obedient}, "trusting": {"supply": Trusting},
+                "any output": {"fit": fits_always}, "silent": {"tells": False}}
