@@ -1,17 +1,19 @@
 -- What a session takes of a run.
 use Rattle.std.proofs.Common.{◌≡◌, ◌∙◌, ◌≤◌, ℕ, Bool, true, false, if◌then◌else◌, Option, Some, None, List, [], ◌∷◌, ◌++◌, Result, Ok, Err, ap, sym, subst, refl, arith}
 use Rattle.std.proofs.lemmas.List.{append-nil}
+use Rattle.std.specs.Prelude.{IfErr, IfOk, OnErr, OnOk}
 use Rattle.ckrt_disk.specs.declared.disk.Disk.{Ghosts}
 use Rattle.ckrt_events.specs.declared.event.Event.{Event}
 use Rattle.ckrt_machine.specs.Steps.{State}
 use Rattle.ckrt_machine.specs.declared.event.Answer.{Answer}
 use Rattle.ckrt_machine.specs.Events.{step}
+use Rattle.ckrt_machine.proofs.Fixed.{same_harts}
 use Rattle.ckrt_image.specs.Programs.{Program}
 use Rattle.ckrt_recovery.specs.declared.fault.SubmitFault.{SubmitFault}
 use Rattle.ckrt_recovery.specs.declared.fault.SubmitFault.TheVariants as submit
 use Rattle.ckrt_recovery.specs.declared.session.Session.{Session}
 use Rattle.ckrt_recovery.specs.Represents.{Represents}
-use Rattle.ckrt_recovery.specs.View.{View, view_of, refusal_of, refusal_when_running, after_event}
+use Rattle.ckrt_recovery.specs.View.{View, view_of, refusal_of, refusal_when_running, after_event, committed, confirmed_to}
 use Rattle.ckrt_commands.specs.Accepts.{Accepts}
 use Rattle.ckrt_commands.proofs.AcceptLemmas.{accepts_kept, accepts_more, accepts_still}
 use Rattle.ckrt_drive.specs.declared.plan.Next.TheVariants.{Submit, End}
@@ -58,6 +60,17 @@ module _ {D : Type 0} {g : Ghosts D} where
   pub still : (old new : Session D g) → new ≡ old → Accepts [] old new
   still old new same = accepts_kept old new (ap view_of same) (ap (λ (s : Session D g). s.disk) same)
 
+  -- a commit acknowledges all, and what is confirmed then changes neither count
+  pub all_saved : (old mid new : Session D g) (offset : ℕ) → view_of mid ≡ committed (view_of old) → view_of new ≡ confirmed_to (view_of mid) offset → new.acknowledged ≡ new.progress.count
+  all_saved old mid new offset saved confirmed =
+      let acknowledged : new.acknowledged ≡ old.progress.count = ap (λ (v : View). v.acknowledged) confirmed ∙ ap (λ (v : View). v.acknowledged) saved in
+      let count : new.progress.count ≡ old.progress.count = ap (λ (v : View). v.recovered.count) confirmed ∙ ap (λ (v : View). v.recovered.count) saved in
+      acknowledged ∙ sym count
+
+  -- the disk failed before the event was handed in
+  pub left_unsaved : (e : Event) (why : KeepFault) (old new : Session D g) → why ≡ Device → Accepts [] old new → new.progress.machine ≡ old.progress.machine → new.failed ≡ true → IsLeft e old new why
+  left_unsaved e why old new is accepts same failed = subst (λ (f : KeepFault). IsLeft e old new f) (sym is) (record { accepts = accepts; machine = same; why = failed })
+
   pub left_refused : (e : Event) (why : SubmitFault) (old new : Session D g) → new ≡ old → refusal_of (view_of old) e ≡ Some why → IsLeft e old new (Refused why)
   left_refused e why old new same refused = record {
     accepts = still old new same;
@@ -83,6 +96,10 @@ module _ {D : Type 0} {g : Ghosts D} where
         accepts = taken.accepts;
         point = ap (λ (n : Made). let x : Point = record { made = n; state = new.progress.machine.state } in x) made ∙ ap (λ (t : State). let x : Point = record { made = made_with p (runner_of e s.tables) (step e s).answer m; state = t } in x) taken.state;
       }
+
+  -- which keeps the number of harts
+  pub harts_on : (p : Plan) (e : Event) (old new : Session D g) (m m' : Made) → GoesOn p e old new m m' → new.progress.machine.state.tables.threads.hart_count ≡ old.progress.machine.state.tables.threads.hart_count
+  harts_on p e old new m m' on_it = ap (λ (x : Point). x.state.tables.threads.hart_count) on_it.point ∙ same_harts e old.progress.machine.state
 
   -- the beginning of a run
   pub kept_nothing : (p : Plan) (s : Session D g) (m : Made) → m ≡ nothing_made → HasKept p s s m
@@ -143,3 +160,8 @@ module _ {D : Type 0} {g : Ghosts D} where
     saved = tt;
     err = failed;
   }
+
+  -- a run whose last commit answers so
+  pub kept_to_end : (p : Plan) (first old new : Session D g) (m : Made) (ending : Ending) (r : Result Ending KeepFault) → HasKept p first old m → next p m old.progress.machine.state.tables ≡ End ending → Accepts [] old new → IfOk r (λ e. e ≡ ending) → OnOk r (new.acknowledged ≡ new.progress.count) → IfErr r (λ fault. fault ≡ Device) → OnErr r (new.failed ≡ true) → KeepsRun p first new r
+  kept_to_end p first old new m ending (Ok e) h n last is saved device failed = subst (λ (e : Ending). KeepsRun p first new (Ok e)) (sym is) (kept_whole p first old new m ending h n last saved)
+  kept_to_end p first old new m ending (Err fault) h n last is saved device failed = subst (λ (f : KeepFault). KeepsRun p first new (Err f)) (sym device) (kept_unsaved p first old new m h last failed)

@@ -35,12 +35,14 @@ fn save<D: Disk>(session: &mut Session<D>) -> Result<(), KeepFault>
     ensures device { IfErr result (λ fault. fault ≡ KeepFault.Device) }
     ensures failed { OnErr result (session.new.failed ≡ true) }
 {
-    if session.commit().is_err() {
-        return Err(KeepFault::Device);
+    match session.commit() {
+        Ok(_) => {
+            let released = session.released();
+            session.confirm(released);
+            Ok(())
+        }
+        Err(_) => Err(KeepFault::Device),
     }
-    let released = session.released();
-    session.confirm(released);
-    Ok(())
 }
 
 /// Hands an event in.
