@@ -43,7 +43,7 @@ module _ {D : Type 0} {g : Ghosts D} where
       record {
         accepts = accepts_still (e ∷ []) old new disk (ap (λ (v : View). v.failed) view) (ap (λ (v : View). v.acknowledged) view) (omega (arith, confirmed)) (λ was. let no : true ≡ false = sym was ∙ runs in absurd (cc)) represents;
         state = ap (λ (v : View). v.recovered.state) view;
-        answer = is;
+        answered = is;
       }
 
   -- behind calls that take no event
@@ -53,7 +53,7 @@ module _ {D : Type 0} {g : Ghosts D} where
       record {
         accepts = accepts_more [] (e ∷ []) old mid new first taken.accepts;
         state = taken.state ∙ ap (λ (s : State). (step e s).state) states;
-        answer = taken.answer ∙ ap (λ (s : State). (step e s).answer) states;
+        answered = taken.answered ∙ ap (λ (s : State). (step e s).answer) states;
       }
 
   -- a session that is as it was took no event
@@ -69,13 +69,13 @@ module _ {D : Type 0} {g : Ghosts D} where
 
   -- the disk failed before the event was handed in
   pub left_unsaved : (e : Event) (why : KeepFault) (old new : Session D g) → why ≡ Device → Accepts [] old new → new.progress.machine ≡ old.progress.machine → new.failed ≡ true → IsLeft e old new why
-  left_unsaved e why old new is accepts same failed = subst (λ (f : KeepFault). IsLeft e old new f) (sym is) (record { accepts = accepts; machine = same; why = failed })
+  left_unsaved e why old new is accepts same failed = subst (λ (f : KeepFault). IsLeft e old new f) (sym is) (record { accepts = accepts; machine = same; reason = failed })
 
   pub left_refused : (e : Event) (why : SubmitFault) (old new : Session D g) → new ≡ old → refusal_of (view_of old) e ≡ Some why → IsLeft e old new (Refused why)
   left_refused e why old new same refused = record {
     accepts = still old new same;
     machine = ap (λ (s : Session D g). s.progress.machine) same;
-    why = ap (λ (s : Session D g). refusal_of (view_of s) e) same ∙ refused;
+    reason = ap (λ (s : Session D g). refusal_of (view_of s) e) same ∙ refused;
   }
 
   pub left_behind : (e : Event) (why : SubmitFault) (old mid new : Session D g) → Accepts [] old mid → mid.progress.machine ≡ old.progress.machine → new ≡ mid → refusal_of (view_of mid) e ≡ Some why → IsLeft e old new (Refused why)
@@ -84,14 +84,14 @@ module _ {D : Type 0} {g : Ghosts D} where
       record {
         accepts = accepts_more [] [] old mid new first last.accepts;
         machine = last.machine ∙ same;
-        why = last.why;
+        reason = last.reason;
       }
 
   -- the run goes on by an event that is taken
   pub goes_on_by : (p : Plan) (e : Event) (old new : Session D g) (m m' : Made) (who : Option ℕ) (answer : Answer) → who ≡ runner_of e old.progress.machine.state.tables → m' ≡ made_with p who answer m → IsTaken e old new answer → GoesOn p e old new m m'
   goes_on_by p e old new m m' who answer w f taken =
       let s = old.progress.machine.state in
-      let made : m' ≡ made_with p (runner_of e s.tables) (step e s).answer m = f ∙ ap (λ (o : Option ℕ). made_with p o answer m) w ∙ ap (λ (a : Answer). made_with p (runner_of e s.tables) a m) taken.answer in
+      let made : m' ≡ made_with p (runner_of e s.tables) (step e s).answer m = f ∙ ap (λ (o : Option ℕ). made_with p o answer m) w ∙ ap (λ (a : Answer). made_with p (runner_of e s.tables) a m) taken.answered in
       record {
         accepts = taken.accepts;
         point = ap (λ (n : Made). let x : Point = record { made = n; state = new.progress.machine.state } in x) made ∙ ap (λ (t : State). let x : Point = record { made = made_with p (runner_of e s.tables) (step e s).answer m; state = t } in x) taken.state;
@@ -143,12 +143,12 @@ module _ {D : Type 0} {g : Ghosts D} where
     accepts = no_more p first old new m h last.accepts;
     ended = tt;
     saved = tt;
-    err = reason why last.why;
+    err = because why last.reason;
   }
     where
-      reason : (why : KeepFault) → IsWhy e new why → IsWhyNotWhole p (behind p h.events (beginning first.progress.machine.state)) new why
-      reason Device w = w
-      reason (Refused fault) w = (e, subst (λ (x : Point). next_at p x ≡ Submit e) h.point n, w)
+      because : (why : KeepFault) → IsWhy e new why → IsWhyNotWhole p (behind p h.events (beginning first.progress.machine.state)) new why
+      because Device w = w
+      because (Refused fault) w = (e, subst (λ (x : Point). next_at p x ≡ Submit e) h.point n, w)
 
   -- one whose last commit fails
   pub kept_unsaved : (p : Plan) (first old new : Session D g) (m : Made) → HasKept p first old m → Accepts [] old new → new.failed ≡ true → KeepsRun p first new (Err Device)

@@ -21,7 +21,7 @@ pub record IsTaken {D : Type 0} {g : Ghosts D} (e : Event) (old new : Session D 
     : Type 0 where
   pub accepts : Accepts (e ∷ []) old new
   pub state : new.progress.machine.state ≡ (step e old.progress.machine.state).state
-  pub answer : answer ≡ (step e old.progress.machine.state).answer
+  pub answered : answer ≡ (step e old.progress.machine.state).answer
 
 -- the disk has failed, or the session refuses the event so
 abbrev pub IsWhy : {D : Type 0} {g : Ghosts D} → Event → Session D g → KeepFault → Type 0
@@ -33,7 +33,7 @@ pub record IsLeft {D : Type 0} {g : Ghosts D} (e : Event) (old new : Session D g
     : Type 0 where
   pub accepts : Accepts [] old new
   pub machine : new.progress.machine ≡ old.progress.machine
-  pub why : IsWhy e new why
+  pub reason : IsWhy e new why
 
 -- an event was handed in
 pub record Takes {D : Type 0} {g : Ghosts D} (e : Event) (old new : Session D g)
