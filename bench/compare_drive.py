@@ -1,12 +1,13 @@
 """Measures `ckrt drive` on a disk in a file, alternating with the machine alone, and prints ratios.
 
-Words: the folder of the disks (the present one, if none), and jobs (`steps`, `instructions`, `fed`, `fed-instructions`, `waits`; all, if
-none is named).
+Words: the folder of the disks (the present one, if none), and jobs (`steps`, `lines`, `instructions`, `fed`, `fed-instructions`,
+`waits`; all, if none is named).
 
 steps: guests driven to their ends with the defaults of a drive, commits and checkpoints and an output file included, on a disk of 64
 pages, beside the machine alone with Runs of 65,535 steps; whole processes, by the clock and by processor time. A drive sleeps while the
 disk syncs, the machine alone never does: where other programs want the processors, the clock tells how soon a sleeper gets one again, so the
-processor time is what compares. instructions: what a step more costs each of them in host instructions, which callgrind counts: a guest of
+processor time is what compares. lines: a guest driven, beside the same program that makes its steps by lines of `ckrt run`: so both have the
+same loop at the same place. instructions: what a step more costs each of them in host instructions, which callgrind counts: a guest of
 two lengths, so that what a process does once drops out. fed: a guest that adds up a million bytes of --input, which it reads one by one by getc, beside the machine alone, which is given the
 same bytes by the same rule; whole processes. fed-instructions: what a byte more costs each of them in host instructions.
 waits: a guest that sleeps 100 times for a year of ticks, the whole process, for each wait.
@@ -22,6 +23,9 @@ from processes import timed
 from results import note
 from shared.guests import adding_input, putting, sleeping
 
+LINES_GUEST = "nqueens-big"
+LONG_RUNS = 100  # of a million steps each, in a batch
+BATCHES = 2
 GUESTS = ("nqueens-big", "pi-big", "primes-big", "sha256-big")
 ROUNDS, WAIT_ROUNDS, WAITS = 25, 31, 100
 YEAR = 365 * 86_400 * 1_000
@@ -79,6 +83,24 @@ class Bench:
             for part in ("processor", "clock"):
                 rates = [[count / getattr(it, part) for it in spent] for spent in (ours, base)]
                 self.report(f"steps, {name}, {part}", rates, "steps/s")
+
+    def by_lines(self, image):
+        """What the same program took with lines that make the guest's steps."""
+        self.make_disk(image)
+        lines = "place 0 1\n" + ("runlong 0 1000000\n" * LONG_RUNS + "commit\n") * BATCHES
+        return timed([self.ckrt, "run", self.disk], input=lines.encode(), stdout=subprocess.DEVNULL)[1]
+
+    def lines(self):
+        image = guest(LINES_GUEST)
+        count, ours, base = self.machine(image)[2], [], []
+        for turn in range(ROUNDS):
+            if turn % 2 == 0:
+                ours.append(self.driven(image)[0])
+            base.append(self.by_lines(image))
+            if turn % 2 == 1:
+                ours.append(self.driven(image)[0])
+        rates = [[count / it.processor for it in spent] for spent in (ours, base)]
+        self.report(f"steps, {LINES_GUEST}, beside lines of one program, processor", rates, "steps/s", "by lines")
 
     def count(self, words):
         """The host instructions of a process."""
@@ -156,16 +178,16 @@ class Bench:
         note("drive", "a wait of a year", "s", middle)
         print(f"a wait of a year: {middle * 1e6:.0f} us ({low * 1e6:.0f} to {high * 1e6:.0f})")
 
-    def report(self, what, rates, unit):
+    def report(self, what, rates, unit, beside="machine alone"):
         """Prints the medians, and the median of the rounds' ratios with its quartiles, and notes them."""
         ours, base = rates
         low, middle, high = ratios_of(ours, base)
         note("drive", what, unit, statistics.median(ours), statistics.median(base), (low, middle, high))
-        print(f"{what}: machine alone {statistics.median(base) / 1e6:.0f} million a second, ckrt drive {statistics.median(ours) / 1e6:.0f}, "
+        print(f"{what}: {beside} {statistics.median(base) / 1e6:.0f} million a second, ckrt drive {statistics.median(ours) / 1e6:.0f}, "
               f"ratio {middle:.3f} ({low:.3f} to {high:.3f})", flush=True)
 
 
-JOBS = {"steps": Bench.steps, "instructions": Bench.instructions, "fed": Bench.fed, "fed-instructions": Bench.fed_instructions,
+JOBS = {"steps": Bench.steps, "lines": Bench.lines, "instructions": Bench.instructions, "fed": Bench.fed, "fed-instructions": Bench.fed_instructions,
         "waits": Bench.waits}
 
 

@@ -319,7 +319,7 @@ def print_totals(totals):
 
 def words():
     parser = argparse.ArgumentParser(description=__doc__)
-    parser.add_argument("ckrt", help="the built program")
+    parser.add_argument("ckrt", type=os.path.abspath, help="the built program")
     parser.add_argument("folder", nargs="?", help="where a case's files lie (a fresh temporary folder)")
     parser.add_argument("--count", type=int, default=50, help="cases of each kind (50)")
     parser.add_argument("--seed", type=int, default=1, help="the first seed (1)")

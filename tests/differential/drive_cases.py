@@ -10,7 +10,7 @@ from readers import READERS, READS_ALL, sleeps
 LENGTHS = [0, 1, 63, 64, 65, 4096, 4097]
 LONG_LENGTHS = range(19_000, 21_001)
 OFFSETS = [0, 1, 64, 192, 4096, COUNTERS - 1, COUNTERS]
-EVENTS_OF_LOOPS = 600
+EVENTS_OF_LOOPS, TURN_OF_LOOPS = 600, 300
 
 
 @dataclass
@@ -84,8 +84,9 @@ def careless(chance, fed):
 
 
 def drives_of_reader(chance, drives, length, ends):
-    """The last one of a guest that ends has as many events as it takes."""
+    """The last one of a guest that ends has as many events as it takes. One that may loop has short turns, since the model makes each step."""
     turn = chance.choice([50, 1000, 70_000]) if length > 100 else drives[0].turn
+    turn = turn if ends else min(turn, TURN_OF_LOOPS)
     drives = [replace(options, turn=turn, events=chance.choice([options.events, 3, 64, 65, 90])) for options in drives]
     return drives + [replace(drives[0], events=None if ends else EVENTS_OF_LOOPS)]
 

@@ -32,7 +32,7 @@ class Feeding:
         return WAYS[self.way](folder, self.data(whole)) if self.is_fed else nullcontext((None, None))
 
     def words(self, path):
-        words = [] if path is None else ["--input", path]
+        words = ["--input", path] if self.is_fed else []
         return words + ([] if self.said is None else ["--input-from", str(self.said)])
 
     @property

@@ -174,8 +174,22 @@ fn output_without_a_file_is_printed(rt: HostRuntime) {
     play(&rt, STREAMED);
 }
 
-const OUT_OF_RANGE: &str =
-    "--turn is 1 to 1000000, --rounds-per-commit and --progress 1 or more, --from goes without --output, and --input-from, below 2^62, with --input\nckrt: Range\n";
+const NO_TURN: &str = "--turn 0 isn't 1 to 1000000: give another, or leave it out\nckrt: Range\n";
+
+const LONG_TURN: &str =
+    "--turn 1000001 isn't 1 to 1000000: give another, or leave it out\nckrt: Range\n";
+
+const NO_ROUNDS: &str =
+    "--rounds-per-commit 0 isn't 1 or more: give another, or leave it out\nckrt: Range\n";
+
+const NO_SECONDS: &str =
+    "--progress 0 isn't 1 or more: give another, or leave it out\nckrt: Range\n";
+
+const TWO_TARGETS: &str =
+    "--from doesn't go with --output: give another, or leave it out\nckrt: Range\n";
+
+const NO_INPUT: &str =
+    "--input-from is below 2^62, and goes with --input: give another, or leave it out\nckrt: Range\n";
 
 const ABSENT: &str = "the disk drive_none.disk: there is no such file\nckrt: File\n";
 
@@ -191,20 +205,15 @@ const ITSELF: &str =
 
 /// The numbers come first, then the disk, what is on it, and the output.
 const DRIVE_FAULTS: &[Step] = &[
-    Fails("drive drive_none.disk --output . --turn 0", OUT_OF_RANGE),
-    Fails(
-        "drive drive_none.disk --output . --turn 1000001",
-        OUT_OF_RANGE,
-    ),
+    Fails("drive drive_none.disk --output . --turn 0", NO_TURN),
+    Fails("drive drive_none.disk --output . --turn 1000001", LONG_TURN),
     Fails(
         "drive drive_none.disk --output . --rounds-per-commit 0",
-        OUT_OF_RANGE,
+        NO_ROUNDS,
     ),
-    Fails(
-        "drive drive_none.disk --output . --progress 0",
-        OUT_OF_RANGE,
-    ),
-    Fails("drive drive_none.disk --output . --from 0", OUT_OF_RANGE),
+    Fails("drive drive_none.disk --output . --progress 0", NO_SECONDS),
+    Fails("drive drive_none.disk --output . --from 0", TWO_TARGETS),
+    Fails("drive drive_none.disk --output . --input-from 0", NO_INPUT),
     Fails("drive drive_none.disk --output .", ABSENT),
     Fails("drive drive_none.disk --from 7", ABSENT),
     Write("drive_d.disk", b""),

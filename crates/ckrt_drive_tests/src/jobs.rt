@@ -18,7 +18,7 @@ fn no_words_serve_the_stored_program(rt: HostRuntime) {
 }
 
 const HOLDS_A_PROGRAM: &str =
-    "the disk jobs_a.disk: it holds a program already, and is unchanged; `ckrt run` goes on with it\nckrt: AlreadyFormatted\n";
+    "the disk jobs_a.disk: it holds a program already, and is unchanged; `ckrt drive` goes on with it\nckrt: AlreadyFormatted\n";
 
 /// The listing of a program that hasn't begun.
 const FRESH: &str =
@@ -84,7 +84,7 @@ fn a_longer_file_keeps_what_stands_behind(rt: HostRuntime) {
 }
 
 const OPEN_GATE: &str =
-    "the disk jobs_j.disk: it holds a program already, and is unchanged; `ckrt run` goes on with it\nckrt: AlreadyFormatted\n";
+    "the disk jobs_j.disk: it holds a program already, and is unchanged; `ckrt drive` goes on with it\nckrt: AlreadyFormatted\n";
 
 /// Files whose first byte is an open gate: as a `format` may leave them that was stopped before it printed, shorter than any
 /// disk, or by a byte; and one that may be a disk.
@@ -115,8 +115,13 @@ fn what_is_shorter_than_any_disk_is_no_formatted_one(rt: HostRuntime) {
     play(&rt, OPEN_GATES);
 }
 
-const BAD_CONFIG: &str =
-    "pages are 16 to 1024, harts 1 to 8, a journal's bytes a multiple of 4096 up to 1048576\nckrt: BadConfig\n";
+const BAD_PAGES: &str =
+    "--pages 15 isn't 16 to 1024: give another, or leave it out\nckrt: BadConfig\n";
+
+const BAD_HARTS: &str = "--harts 9 isn't 1 to 8: give another, or leave it out\nckrt: BadConfig\n";
+
+const BAD_JOURNAL: &str =
+    "--journal 4097 isn't a multiple of 4096 from 4096 to 1048576: give another, or leave it out\nckrt: BadConfig\n";
 
 const ONE_PATH: &str = "the disk jobs_i.img: the image has this path too\nckrt: File\n";
 
@@ -124,7 +129,7 @@ const NO_FOLDER: &str = "the disk jobs_none/i.disk: its folder is missing\nckrt:
 
 /// An image is never made a disk, and a missing folder is told as that.
 const REFUSED_PATHS: &[Step] = &[
-    Fails("format jobs_i.img jobs_i.img --pages 15", BAD_CONFIG),
+    Fails("format jobs_i.img jobs_i.img --pages 15", BAD_PAGES),
     Fails(
         "format jobs_i.img jobs_i.img",
         "the image jobs_i.img: there is no such file\nckrt: File\n",
@@ -144,7 +149,7 @@ fn no_disk_over_the_image_or_without_a_folder(rt: HostRuntime) {
 const ABSENT_IMAGE: &str = "the image jobs_none.img: there is no such file\nckrt: File\n";
 
 const LONG_IMAGE: &str =
-    "the image jobs_d.img: it is longer than the guest's memory; choose more pages\nckrt: ImageTooLong\n";
+    "the image jobs_d.img: it is longer than the guest's memory; take more by --pages\nckrt: ImageTooLong\n";
 
 const ELF: &[u8] = b"\x7fELF\x01\x01\x01";
 
@@ -156,11 +161,11 @@ const FOLDER: &str = "the disk .: it is a directory\nckrt: File\n";
 /// The image is tested before the disk is touched, and the configuration before the image.
 const FAULTS: &[Step] = &[
     Fill("jobs_d.img", 0, 61_441),
-    Fails("format jobs_d.disk jobs_none.img --pages 15", BAD_CONFIG),
-    Fails("format jobs_d.disk jobs_none.img --harts 9", BAD_CONFIG),
+    Fails("format jobs_d.disk jobs_none.img --pages 15", BAD_PAGES),
+    Fails("format jobs_d.disk jobs_none.img --harts 9", BAD_HARTS),
     Fails(
         "format jobs_d.disk jobs_none.img --journal 4097",
-        BAD_CONFIG,
+        BAD_JOURNAL,
     ),
     Fails("format . jobs_none.img --pages 16", ABSENT_IMAGE),
     Fails("format jobs_d.disk jobs_d.img --pages 16", LONG_IMAGE),

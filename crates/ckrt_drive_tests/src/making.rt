@@ -117,10 +117,10 @@ const ABSENT: &str = "the disk making_c.disk: there is no such file\nckrt: File\
 const ABSENT_IMAGE: &str = "the image making_none.img: there is no such file\nckrt: File\n";
 
 const BAD_CONFIG: &str =
-    "pages are 16 to 1024, harts 1 to 8, a journal's bytes a multiple of 4096 up to 1048576\nckrt: BadConfig\n";
+    "--pages 15 isn't 16 to 1024: give another, or leave it out\nckrt: BadConfig\n";
 
 const LONG_IMAGE: &str =
-    "the image making_c.img: it is longer than the guest's memory; choose more pages\nckrt: ImageTooLong\n";
+    "the image making_c.img: it is longer than the guest's memory; take more by --pages\nckrt: ImageTooLong\n";
 
 const NO_FOLDER: &str =
     "the disk in the making making_none/c.disk.making: its folder is missing\nckrt: File\n";

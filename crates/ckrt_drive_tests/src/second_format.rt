@@ -16,7 +16,7 @@ const LARGER: &str = "format second_a.disk second_b.img";
 const RUN: &str = "run second_a.disk";
 
 const HOLDS_A_PROGRAM: &str =
-    "the disk second_a.disk: it holds a program already, and is unchanged; `ckrt run` goes on with it\nckrt: AlreadyFormatted\n";
+    "the disk second_a.disk: it holds a program already, and is unchanged; `ckrt drive` goes on with it\nckrt: AlreadyFormatted\n";
 
 /// A disk with a program that has run.
 const MADE: &[Step] = &[

@@ -20,3 +20,4 @@ pub mod Showing
 pub mod Sizes
 pub mod Sources
 pub mod Streams
+pub mod Unfit

@@ -5,6 +5,7 @@ use Rattle.std.specs.declared.io.ErrorKind.TheVariants as kind
 use Rattle.ckrt_checkpoint.specs.declared.config.Config.{Config}
 use Rattle.ckrt_jobs.specs.Names.{name_of}
 use Rattle.ckrt_jobs.specs.Reasons.{reason_text}
+use Rattle.ckrt_jobs.specs.Unfit.{size_text, unfit_of, unfit_sizes_of}
 use Rattle.ckrt_jobs.specs.declared.fault.JobFault.{JobFault}
 use Rattle.ckrt_jobs.specs.declared.fault.JobFault.TheVariants as job
 use Rattle.ckrt_jobs.specs.declared.file.FileFault.{FileFault}
@@ -117,12 +118,16 @@ file_of (job.OutputFailed why) = Some file.Output
 file_of (job.Drive f) = Some (file_of_drive f)
 file_of _ = None
 
+-- behind a number that is out of its range
+abbrev pub unfit_advice : List ℕ
+unfit_advice = codes "give another, or leave it out"
+
 -- what is wrong, in plain words, and what to do about it
 abbrev pub advice_of_format : FormatFault → List ℕ
-advice_of_format format.AlreadyFormatted = codes "it holds a program already, and is unchanged; `ckrt run` goes on with it"
-advice_of_format format.TooSmall = codes "it is shorter than pages and journals need"
-advice_of_format format.BadConfig = codes "pages are 16 to 1024, harts 1 to 8, a journal's bytes a multiple of 4096 up to 1048576"
-advice_of_format format.ImageTooLong = codes "it is longer than the guest's memory; choose more pages"
+advice_of_format format.AlreadyFormatted = codes "it holds a program already, and is unchanged; `ckrt drive` goes on with it"
+advice_of_format format.TooSmall = codes "it is shorter than pages and journals need, and no plain file that could grow; take a plain file"
+advice_of_format format.BadConfig = unfit_advice
+advice_of_format format.ImageTooLong = codes "it is longer than the guest's memory; take more by --pages"
 advice_of_format format.Device = device_advice
 advice_of_format format.OutOfMemory = memory_advice
 
@@ -146,7 +151,7 @@ advice_of_look look.Damaged = advice_of_recover recover.Damaged
 advice_of_look look.Device = device_advice
 advice_of_look look.OutOfMemory = memory_advice
 advice_of_look look.Write = advice_of_serve serve.Write
-advice_of_look look.Range = codes "it has no state after so many events: any more, or not yet; without --at it is shown after the last one"
+advice_of_look look.Range = codes "it has no state after --at events, no longer or not yet; without --at it is that after the last one"
 
 abbrev pub advice_of_drive : DriveFault → List ℕ
 advice_of_drive drive.Device = device_advice
@@ -169,10 +174,6 @@ range_text from to = decimal from ++ (codes " to " ++ (decimal to ++ codes ": ")
 abbrev pub lengths_text : OutputLengths → List ℕ
 lengths_text l = codes "it has " ++ (decimal l.length ++ (codes " bytes, and this disk wants " ++ range_text l.confirmed l.released))
 
--- a size between two texts
-abbrev pub size_text : (before : List ℕ) → ℕ → (behind : List ℕ) → List ℕ
-size_text before size behind = before ++ (decimal size ++ behind)
-
 abbrev pub sizes_text : Config → List ℕ
 sizes_text c = size_text (codes "it has --pages ") c.pages [] ++ (size_text (codes " --harts ") c.harts [] ++ size_text (codes " --journal ") c.journal (codes ": "))
 
@@ -184,13 +185,15 @@ taken_text taken = size_text (codes "its program has taken ") taken (codes " byt
 abbrev pub input_text : InputLengths → List ℕ
 input_text l = size_text (codes "it has ") l.length [] ++ size_text (codes " bytes, and the program has taken ") l.taken (codes ": ")
 
--- the numbers of a fault, where it has some
-abbrev pub numbers_of : JobFault → List ℕ
-numbers_of (job.SizesDiffer c) = sizes_text c
-numbers_of (job.OutputDiffers l) = lengths_text l
-numbers_of (job.OffsetDiffers taken) = taken_text taken
-numbers_of (job.InputTooShort l) = input_text l
-numbers_of _ = []
+-- the numbers of a fault of what the words ask for, where it has some
+abbrev pub numbers_of : Request → JobFault → List ℕ
+numbers_of asked (job.Format format.BadConfig) = unfit_sizes_of asked
+numbers_of asked job.Range = unfit_of asked
+numbers_of asked (job.SizesDiffer c) = sizes_text c
+numbers_of asked (job.OutputDiffers l) = lengths_text l
+numbers_of asked (job.OffsetDiffers taken) = taken_text taken
+numbers_of asked (job.InputTooShort l) = input_text l
+numbers_of asked _ = []
 
 abbrev pub advice_of : JobFault → List ℕ
 advice_of (job.File at why) = file_fault_text why
@@ -199,7 +202,7 @@ advice_of (job.Format f) = advice_of_format f
 advice_of (job.Recover f) = advice_of_recover f
 advice_of (job.Serve f) = advice_of_serve f
 advice_of (job.Inspect f) = advice_of_look f
-advice_of job.Range = codes "--turn is 1 to 1000000, --rounds-per-commit and --progress 1 or more, --from goes without --output, and --input-from, below 2^62, with --input"
+advice_of job.Range = unfit_advice
 advice_of (job.SizesDiffer c) = codes "these stay; give them, or leave them out"
 advice_of (job.OutputDiffers l) = advice_of_lengths l
 advice_of job.NotRecorded = codes "it can't tell how much of the input its program has read, since it was saved by hand: `--input-from` says how many bytes that were when it was saved"
@@ -245,7 +248,7 @@ fault_line f = codes "ckrt: " ++ (name_of f ++ 10 ∷ [])
 -- all that is printed for a fault of what the words ask for
 abbrev pub report_of : Request → JobFault → List ℕ
 report_of asked f =
-    subject_of (file_of f) asked ++ (numbers_of f ++ (advice_of f ++ (10 ∷ [] ++ fault_line f)))
+    subject_of (file_of f) asked ++ (numbers_of asked f ++ (advice_of f ++ (10 ∷ [] ++ fault_line f)))
 
 -- all that is printed for words that name no job
 abbrev pub words_report_of : WordsFault → List ℕ

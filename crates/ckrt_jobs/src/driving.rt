@@ -35,7 +35,7 @@ pub(crate) struct Undertaken<D: Disk, O, F> {
 }
 
 /// Whether an offset goes with where the output goes: with the standard output alone.
-fn is_target(output: Option<&str>, from: Option<u64>) -> bool
+pub(crate) fn is_target(output: Option<&str>, from: Option<u64>) -> bool
     ensures { result ≡ is_target (option_map (λ path. path.now) output.entry) from }
 {
     output.is_none() || from.is_none()

@@ -60,13 +60,13 @@ fn format_advice(fault: FormatFault) -> &'static str
 {
     match fault {
         FormatFault::AlreadyFormatted => {
-            "it holds a program already, and is unchanged; `ckrt run` goes on with it"
+            "it holds a program already, and is unchanged; `ckrt drive` goes on with it"
         }
-        FormatFault::TooSmall => "it is shorter than pages and journals need",
-        FormatFault::BadConfig => {
-            "pages are 16 to 1024, harts 1 to 8, a journal's bytes a multiple of 4096 up to 1048576"
+        FormatFault::TooSmall => {
+            "it is shorter than pages and journals need, and no plain file that could grow; take a plain file"
         }
-        FormatFault::ImageTooLong => "it is longer than the guest's memory; choose more pages",
+        FormatFault::BadConfig => UNFIT_ADVICE,
+        FormatFault::ImageTooLong => "it is longer than the guest's memory; take more by --pages",
         FormatFault::Device => DEVICE_ADVICE,
         FormatFault::OutOfMemory => MEMORY_ADVICE,
     }
@@ -113,7 +113,7 @@ fn inspection_advice(fault: InspectFault) -> &'static str
         InspectFault::OutOfMemory => MEMORY_ADVICE,
         InspectFault::Write => service_advice(ServeFault::Write),
         InspectFault::Range => {
-            "it has no state after so many events: any more, or not yet; without --at it is shown after the last one"
+            "it has no state after --at events, no longer or not yet; without --at it is that after the last one"
         }
     }
 }
@@ -164,9 +164,8 @@ fn drive_name(fault: DriveFault) -> &'static str
     }
 }
 
-/// What is said of numbers of a drive that are out of their ranges.
-const RANGE_ADVICE: &str =
-    "--turn is 1 to 1000000, --rounds-per-commit and --progress 1 or more, --from goes without --output, and --input-from, below 2^62, with --input";
+/// What is said behind a number that is out of its range.
+const UNFIT_ADVICE: &str = "give another, or leave it out";
 
 /// What is said of a disk with other sizes than those that were asked for, behind its own.
 const SIZES_ADVICE: &str = "these stay; give them, or leave them out";
@@ -253,7 +252,7 @@ impl JobFault {
             JobFault::Recover(fault) => recovery_advice(fault),
             JobFault::Serve(fault) => service_advice(fault),
             JobFault::Inspect(fault) => inspection_advice(fault),
-            JobFault::Range => RANGE_ADVICE,
+            JobFault::Range => UNFIT_ADVICE,
             JobFault::SizesDiffer(_) => SIZES_ADVICE,
             JobFault::OutputDiffers(lengths) => lengths_advice(lengths),
             JobFault::NotRecorded => NOT_RECORDED_ADVICE,

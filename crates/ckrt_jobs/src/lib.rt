@@ -102,6 +102,7 @@ mod status;
 mod stored;
 mod system;
 mod told;
+mod unfit;
 mod version;
 
 pub use driven::Driven;

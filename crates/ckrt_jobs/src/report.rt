@@ -9,7 +9,8 @@ ghost use Rattle.ckrt_rv32i.specs.Names.{cause_name};
 ghost use Rattle.ckrt_jobs.specs.Ends.{address_text, end_line, end_text, ended_text, hex_between, hint_text, place_text};
 ghost use Rattle.ckrt_jobs.specs.Outcomes.{formatted_line, status_of, status_of_words, version_line};
 ghost use Rattle.ckrt_jobs.specs.Performing.{ReportsOutcome, SaysLine};
-ghost use Rattle.ckrt_jobs.specs.Reports.{input_text, lengths_text, numbers_of, path_of, range_text, size_text, sizes_text, report_of, subject_of, taken_text, words_report_of};
+ghost use Rattle.ckrt_jobs.specs.Reports.{input_text, lengths_text, numbers_of, path_of, range_text, sizes_text, report_of, subject_of, taken_text, words_report_of};
+ghost use Rattle.ckrt_jobs.specs.Unfit.{size_text};
 
 use crate::driven::Driven;
 use crate::fault::JobFault;
@@ -17,11 +18,12 @@ use crate::file::JobFile;
 use crate::input::InputLengths;
 use crate::output::OutputLengths;
 use crate::reporter::{Reporter, Unsaid};
+use crate::unfit::{say_unfit, say_unfit_sizes};
 use crate::version::VERSION;
 use arrayvec::ArrayVec;
 use ckrt_drive::Ending;
 use ckrt_main::write_reply;
-use ckrt_recovery::Config;
+use ckrt_recovery::{Config, FormatFault};
 use ckrt_rv32i::Cause;
 use ckrt_state::Status;
 use ckrt_thread::ThreadId;
@@ -160,7 +162,7 @@ fn say_number_between<E: Reporter>(
 }
 
 /// Says a size between two texts.
-fn say_size<E: Reporter>(
+pub(crate) fn say_size<E: Reporter>(
     reporter: &mut E,
     before: &[u8],
     size: u32,
@@ -206,12 +208,14 @@ fn say_input<E: Reporter>(reporter: &mut E, lengths: InputLengths) -> Result<(),
 }
 
 /// Says the numbers of a fault, where it has some.
-fn say_numbers<E: Reporter>(reporter: &mut E, fault: JobFault) -> Result<(), Unsaid>
-    ensures said { OnOk result
-        (Appends (E.said reporter.old) (E.said reporter.new) (numbers_of fault)) }
+fn say_numbers<E: Reporter>(reporter: &mut E, job: &Job<'_>, fault: JobFault) -> Result<(), Unsaid>
+    ensures said { OnOk result (Appends (E.said reporter.old) (E.said reporter.new)
+        (numbers_of (request_of job.now) fault)) }
     ensures failed { OnErr result (E.has_failed reporter.new ≡ true) }
 {
     match fault {
+        JobFault::Format(FormatFault::BadConfig) => say_unfit_sizes(reporter, job),
+        JobFault::Range => say_unfit(reporter, job),
         JobFault::SizesDiffer(sizes) => say_sizes(reporter, sizes),
         JobFault::OutputDiffers(lengths) => say_lengths(reporter, lengths),
         JobFault::OffsetDiffers(taken) => say_taken(reporter, taken),
@@ -227,7 +231,7 @@ fn say_fault<E: Reporter>(reporter: &mut E, job: &Job<'_>, fault: JobFault) -> R
     ensures failed { OnErr result (E.has_failed reporter.new ≡ true) }
 {
     say_subject(reporter, job, fault.file())?;
-    say_numbers(reporter, fault)?;
+    say_numbers(reporter, job, fault)?;
     say_line(reporter, fault.advice().as_bytes(), b"")?;
     say_line(reporter, b"ckrt: ", fault.name().as_bytes())
 }

@@ -1,0 +1,9 @@
+pub mod CutLemmas
+pub mod IntoLemmas
+pub mod WayLemmas
+pub mod PlaceLemmas
+pub mod AtLemmas
+pub mod OrderLemmas
+pub mod SearchLemmas
+pub mod WatchLemmas
+pub mod SnapshotLemmas

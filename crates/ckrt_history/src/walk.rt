@@ -1,0 +1,97 @@
+//! How a machine goes on from one position to another.
+ghost use Rattle.std.specs.Prelude.{◌≡◌, ◌≤◌, ◌<◌, List, length};
+ghost use Rattle.ckrt_machine.specs.Steps.{State};
+ghost use Rattle.ckrt_events.specs.declared.event.Event.{Event};
+ghost use Rattle.ckrt_history.specs.Positions.{IsPosition, IsUpTo, next_position, previous_position};
+ghost use Rattle.ckrt_history.specs.Engine.{IsAt, steps_through};
+
+use crate::position::Position;
+use crate::replay::{finish, go_into};
+use ckrt_events::Event;
+use ckrt_machine::Machine;
+
+/// The machine makes the rest of the event that it is in, and all further ones until so many are done. The result is where it is
+/// then: where it was, if none was to be made.
+fn finish_events(machine: &mut Machine, events: &[Event], from: Position, count: usize) -> Position
+    requires at { (s : State) × IsAt machine.old from events.now s }
+    requires ahead { from.events ≤ count }
+    requires count { count ≤ length events.now }
+    ensures at { (s : State) → IsAt machine.old from events.now s
+        → IsAt machine.new result events.now s }
+    ensures events { result.events ≡ count }
+    ensures steps { result.steps ≤ from.steps }
+    ensures begun { from.events < count → result.steps ≡ 0 }
+    ensures size { length machine.new.state.bytes ≡ length machine.old.state.bytes }
+{
+    let mut at = from;
+    while at.events < count {
+        finish(machine, &events[at.events], at.steps);
+        at = Position::at_event(at.events + 1);
+    }
+    at
+}
+
+/// The machine makes more steps of the event that it is in, and not the last.
+fn go_further(machine: &mut Machine, events: &[Event], from: Position, to: Position)
+    requires at { (s : State) × IsAt machine.old from events.now s
+        × IsPosition to events.now s }
+    requires event { from.events ≡ to.events }
+    requires ahead { from.steps ≤ to.steps }
+    ensures at { (s : State) → IsAt machine.old from events.now s → IsPosition to events.now s
+        → IsAt machine.new to events.now s }
+    ensures size { length machine.new.state.bytes ≡ length machine.old.state.bytes }
+{
+    if from.steps < to.steps {
+        go_into(machine, &events[to.events], from.steps, to.steps);
+    }
+}
+
+/// The machine goes on to another position.
+pub fn go_on_to(machine: &mut Machine, events: &[Event], from: Position, to: Position)
+    requires at { (s : State) × IsAt machine.old from events.now s
+        × IsPosition to events.now s }
+    requires ahead { IsUpTo from to }
+    ensures at { (s : State) → IsAt machine.old from events.now s → IsPosition to events.now s
+        → IsAt machine.new to events.now s }
+    ensures size { length machine.new.state.bytes ≡ length machine.old.state.bytes }
+{
+    let at = finish_events(machine, events, from, to.events);
+    go_further(machine, events, at, to);
+}
+
+/// The position behind the next step, where so many steps are made of each event.
+pub fn next_position(steps: &[u32], at: Position) -> Position
+    requires { at.events < length steps.now }
+    ensures { (events : List Event) (s : State) → steps.now ≡ steps_through events s
+        → IsPosition at events s
+        → result ≡ next_position at events s }
+{
+    if at.steps < steps[at.events].saturating_sub(1) {
+        return Position {
+            events: at.events,
+            steps: at.steps + 1,
+        };
+    }
+    Position::at_event(at.events + 1)
+}
+
+/// The position before the step that led here; the first one itself where there is none.
+pub fn previous_position(steps: &[u32], at: Position) -> Position
+    requires { at.events ≤ length steps.now }
+    ensures { (events : List Event) (s : State) → steps.now ≡ steps_through events s
+        → result ≡ previous_position at events s }
+{
+    if at.steps > 0 {
+        return Position {
+            events: at.events,
+            steps: at.steps - 1,
+        };
+    }
+    if at.events == 0 {
+        return at;
+    }
+    Position {
+        events: at.events - 1,
+        steps: steps[at.events - 1].saturating_sub(1),
+    }
+}
