@@ -2,3 +2,4 @@ pub mod TurnLemmas
 pub mod RunLemmas
 pub mod TallyLemmas
 pub mod SameLemmas
+pub mod KeepLemmas

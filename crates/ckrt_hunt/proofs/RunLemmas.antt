@@ -20,11 +20,11 @@ use Rattle.ckrt_hunt.specs.Outcomes.{outcome_of}
 use Rattle.ckrt_hunt.specs.Runs.{AreScheduled, ComesTo, HasComeTo, Point, beginning, behind, next_at, on}
 
 module _ (p : Plan) where
-  scheduled_on : (es : List Event) (e : Event) (x : Point) → AreScheduled p es x → next_at p (behind p es x) ≡ Submit e → AreScheduled p (es ++ e ∷ []) x
+  pub scheduled_on : (es : List Event) (e : Event) (x : Point) → AreScheduled p es x → next_at p (behind p es x) ≡ Submit e → AreScheduled p (es ++ e ∷ []) x
   scheduled_on [] e x a n = (n, tt)
   scheduled_on (f ∷ es) e x a n = (a.0, scheduled_on es e (on p f x) a.1 n)
 
-  behind_on : (es : List Event) (e : Event) (x : Point) → behind p (es ++ e ∷ []) x ≡ on p e (behind p es x)
+  pub behind_on : (es : List Event) (e : Event) (x : Point) → behind p (es ++ e ∷ []) x ≡ on p e (behind p es x)
   behind_on [] e x = refl
   behind_on (f ∷ es) e x = behind_on es e (on p f x)
 

@@ -4,3 +4,4 @@ pub mod Turns
 pub mod Outcomes
 pub mod Runs
 pub mod Tallies
+pub mod Kept

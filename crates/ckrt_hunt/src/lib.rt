@@ -4,6 +4,7 @@
 
 mod drawn;
 mod hunt;
+mod keeping;
 mod laws;
 mod lots;
 mod made;
@@ -16,6 +17,7 @@ mod tally;
 mod turn;
 
 pub use hunt::Hunt;
+pub use keeping::{KeepFault, keep};
 pub use laws::seed_repeats;
 pub use made::{Lowered, Made};
 pub use outcome::{Awaited, Outcome, Waiting};

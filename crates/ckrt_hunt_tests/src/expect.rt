@@ -7,7 +7,7 @@ use std::fmt::Debug;
 use std::process::Abort;
 
 /// What each program is run with.
-const SHAPE: Shape = Shape {
+pub const SHAPE: Shape = Shape {
     pages: 16,
     harts: 2,
     limit: 10_000,
@@ -29,7 +29,7 @@ pub fn expect_eq<R: Abort, T: Debug + PartialEq + Drop>(rt: &R, got: T, want: T)
 }
 
 /// The bytes of a program's words, the lowest one first.
-fn image_of<R: Abort>(rt: &R, words: &[u32]) -> ArrayVec<u8, 256> {
+pub fn image_of<R: Abort>(rt: &R, words: &[u32]) -> ArrayVec<u8, 256> {
     let mut image: ArrayVec<u8, 256> = ArrayVec::new();
     for word in words {
         let taken = image.try_extend_from_slice(&word.to_le_bytes());

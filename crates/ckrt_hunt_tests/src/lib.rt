@@ -4,4 +4,6 @@
 #[cfg(test)]
 mod expect;
 #[cfg(test)]
+mod kept;
+#[cfg(test)]
 mod outcomes;

@@ -45,7 +45,7 @@ const WAITS: [u32; 15] = [
 ];
 
 /// Two threads, each of which ends the program with its own number.
-const RACES: [u32; 11] = [
+pub const RACES: [u32; 11] = [
     0x00001537, // lui x10, 1
     0x02050513, // addi x10, x10, 32
     0x00008637, // lui x12, 8
