@@ -273,8 +273,8 @@ class Feeding(unittest.TestCase):
 
     def test_numbers_in_a_text(self):
         """Whole ones, and a path whatever stands beside it."""
-        text = "the input /tmp/in: it has 128 bytes, and the program has taken 640: give it"
-        self.assertEqual([tells(text, told) for told in ("128", "640", "/tmp/in", "28", "12", "64", "2", "0")], [True] * 3 + [False] * 5)
+        text = "the input folder/in: it has 128 bytes, and the program has taken 640: give it"
+        self.assertEqual([tells(text, told) for told in ("128", "640", "folder/in", "28", "12", "64", "2", "0")], [True] * 3 + [False] * 5)
 
     def test_no_plain_file(self):
         """The path is told, or what else is wrong: nobody knows how long the file is."""

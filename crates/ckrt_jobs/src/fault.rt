@@ -172,7 +172,7 @@ const SIZES_ADVICE: &str = "these stay; give them, or leave them out";
 
 /// What is said of a disk that can't tell how much of its input its program has taken.
 const NOT_RECORDED_ADVICE: &str =
-    "it can't tell how much of the input its program has read, since it was saved by hand: `--input-from` says how many bytes that were when it was saved";
+    "it can't tell how much of the input its program has read, since it was last saved without one: `--input-from` says how many bytes that were then";
 
 /// What is said of words with another offset than that of the disk, behind that.
 const OFFSET_ADVICE: &str = "leave --input-from out";

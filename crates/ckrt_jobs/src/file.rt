@@ -37,8 +37,10 @@ pub enum FileFault {
     IsImage,
     /// The image is an ELF file.
     IsElf,
-    /// The path of an output or a core is the disk's too.
+    /// The path of an input, an output or a core is the disk's too.
     IsDisk,
+    /// The path of an output is the input's too.
+    IsInput,
     /// A directory has this path.
     IsADirectory,
     /// What has this path is no plain file: a terminal, say, or a pipe.
@@ -135,6 +137,7 @@ impl FileFault {
             FileFault::IsElf =>
                 "it is an ELF file: guest/image, or objcopy -O binary, makes an image of it",
             FileFault::IsDisk => "the disk has this path too; give another",
+            FileFault::IsInput => "the input has this path too; give another",
             FileFault::IsADirectory => "it is a directory",
             FileFault::NotAFile =>
                 "it isn't a plain file, and can't be written by offset; without --output the bytes are printed",

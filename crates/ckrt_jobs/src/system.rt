@@ -81,6 +81,8 @@ pub struct SystemSources<'a, R, D> {
     abandoned: History<D>,
     /// Which file the disk is, where one is open.
     disk_id: Option<FileId>,
+    /// And which one the input is.
+    input_id: Option<FileId>,
     /// And that file once more, by which it can be made longer.
     disk_file: Option<File>,
     /// The file that was made for a disk that isn't formatted yet, or for a core that isn't written.
@@ -108,6 +110,7 @@ impl<'a, R, D> SystemSources<'a, R, D> {
             lengthened: History::new(),
             abandoned: History::new(),
             disk_id: None,
+            input_id: None,
             disk_file: None,
             made: None,
         }
@@ -133,6 +136,14 @@ impl<'a, R: Files<File = File>, D> SystemSources<'a, R, D> {
     fn is_disk(&self, path: &str) -> bool {
         match (self.rt.metadata(path), self.disk_id) {
             (Ok(told), Some(disk)) => FileId::of(&told) == disk,
+            _ => false,
+        }
+    }
+
+    /// Whether a path is that of the input that is open.
+    fn is_input(&self, path: &str) -> bool {
+        match (self.rt.metadata(path), self.input_id) {
+            (Ok(told), Some(input)) => FileId::of(&told) == input,
             _ => false,
         }
     }
@@ -243,6 +254,21 @@ impl<'a, R: Files<File = File>, H: Holds> SystemSources<'a, R, RealDisk<'a, H>> 
             Some(file) => longer_disk(file, size),
             None => Err(FileFault::Other),
         }
+    }
+
+    /// The input of a path, which is remembered. The disk is never taken for it.
+    fn open_input_file(&mut self, path: &str) -> Result<RealDisk<'a, H>, FileFault>
+        ensures { openings_of self.new ≡ openings_of self.old }
+    {
+        if self.is_disk(path) {
+            return Err(FileFault::IsDisk);
+        }
+        let input = open_system_input(self.rt, path)?;
+        self.input_id = match self.rt.metadata(path) {
+            Ok(told) => Some(FileId::of(&told)),
+            Err(_) => None,
+        };
+        Ok(input)
     }
 }
 
@@ -361,12 +387,15 @@ impl<'a, R: Files<File = File>, H: Holds> Sources<'a, File, RealDisk<'a, H>>
                 opened = Err(FileFault::IsDisk);
             }
         }
+        if self.is_input(path) {
+            opened = Err(FileFault::IsInput);
+        }
         self.output = self.output.with(&FileOpening::of(path, &opened));
         opened
     }
 
     fn open_input(&mut self, path: &'a str) -> Result<RealDisk<'a, H>, FileFault> {
-        let opened = open_system_input(self.rt, path);
+        let opened = self.open_input_file(path);
         self.input = self.input.with(&FileOpening::of(path, &opened));
         opened
     }
