@@ -11,18 +11,13 @@ use Rattle.ckrt_image.specs.declared.progress.Progress.{Progress}
 use Rattle.ckrt_inspect.specs.Inspect.{AgreesAt, is_device}
 use Rattle.ckrt_inspect.specs.declared.fault.InspectFault.{InspectFault}
 use Rattle.ckrt_words.specs.Jobs.{CoreMaking}
-use Rattle.ckrt_jobs.specs.Making.{is_elf}
-use Rattle.ckrt_jobs.specs.Openings.{Openings, opened, refused, with_abandoned, with_closed, with_closed_output, with_disk, with_making, with_named}
-use Rattle.ckrt_jobs.specs.declared.fault.JobFault.{JobFault}
-use Rattle.ckrt_jobs.specs.declared.fault.JobFault.TheVariants as job
-use Rattle.ckrt_jobs.specs.declared.file.FileFault.{FileFault}
-use Rattle.ckrt_jobs.specs.declared.file.FileFault.TheVariants as fault
-use Rattle.ckrt_jobs.specs.declared.file.JobFile.TheVariants as file
-
--- an ELF core, by its first 18 bytes (System V gABI, chapter 4 "ELF Header": e_ident, and e_type, which is ET_CORE), with the lowest byte of a
--- number first
-abbrev pub begins_as_core : List ℕ → Bool
-begins_as_core front = is_elf front && starts_with eqb (drop 16 front) (4 ∷ 0 ∷ [])
+use Rattle.ckrt_sources.specs.Elf.{is_elf}
+use Rattle.ckrt_sources.specs.Openings.{Openings, opened, refused, with_abandoned, with_closed, with_closed_output, with_disk, with_making, with_named}
+use Rattle.ckrt_outcomes.specs.declared.fault.JobFault.{JobFault}
+use Rattle.ckrt_outcomes.specs.declared.fault.JobFault.TheVariants as job
+use Rattle.ckrt_sources.specs.declared.file.FileFault.{FileFault}
+use Rattle.ckrt_sources.specs.declared.file.FileFault.TheVariants as fault
+use Rattle.ckrt_sources.specs.declared.file.JobFile.TheVariants as file
 
 -- THE FILE
 
