@@ -416,14 +416,7 @@ fn drive_sized<'a, I: Read, D: Disk, S: Sources<'a, I, D>, W: Write + 'a, M: Met
 /// The first that applies: `Range`, before anything is opened; `File` of the disk, or what making it answers; `BadConfig` where
 /// it has other sizes than those of the words; what the input's fault is, before a byte of the disk is changed; `Recover`, before
 /// the output is asked for; `File` of the output; then what the drive answers.
-pub fn drive_path<
-    'a,
-    I: Read + Drop,
-    D: Disk,
-    S: Sources<'a, I, D>,
-    W: Write + 'a,
-    M: Meter,
->(
+pub fn drive_path<'a, I: Read + Drop, D: Disk, S: Sources<'a, I, D>, W: Write + 'a, M: Meter>(
     alloc: Global,
     job: &DriveJob<'a>,
     sources: &mut S,
