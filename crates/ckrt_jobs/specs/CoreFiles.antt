@@ -1,7 +1,6 @@
 -- What a disk holds as a core: in a file beside the path that it is for, which gets that path once it is whole and durable. So at every moment
 -- what had the path stands there, or the whole core.
-use Rattle.std.specs.Prelude.{◌≡◌, ◌≢◌, ◌⊎◌, ◌&&◌, ℕ, Bool, eqb, List, [], ◌∷◌, length, drop, Result, Ok, Err, OnOk, IfErr}
-use Rattle.std.specs.List.{starts_with}
+use Rattle.std.specs.Prelude.{◌≡◌, ◌≢◌, ◌⊎◌, ℕ, List, length, Result, Ok, Err, OnOk, IfErr}
 use Rattle.ckrt_core.specs.Core.{core_of}
 use Rattle.ckrt_disk.specs.Disk.{HasFailed}
 use Rattle.ckrt_disk.specs.Frame.{IsOnlyRead}
@@ -11,7 +10,6 @@ use Rattle.ckrt_image.specs.declared.progress.Progress.{Progress}
 use Rattle.ckrt_inspect.specs.Inspect.{AgreesAt, is_device}
 use Rattle.ckrt_inspect.specs.declared.fault.InspectFault.{InspectFault}
 use Rattle.ckrt_words.specs.Jobs.{CoreMaking}
-use Rattle.ckrt_sources.specs.Elf.{is_elf}
 use Rattle.ckrt_sources.specs.Openings.{Openings, opened, refused, with_abandoned, with_closed, with_closed_output, with_disk, with_making, with_named}
 use Rattle.ckrt_outcomes.specs.declared.fault.JobFault.{JobFault}
 use Rattle.ckrt_outcomes.specs.declared.fault.JobFault.TheVariants as job

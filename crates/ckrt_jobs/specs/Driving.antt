@@ -1,6 +1,6 @@
 -- The drive of a disk, with its input from a file, and its output in a disk of its own or on the standard output: from the words' options to
 -- the ending.
-use Rattle.std.specs.Prelude.{◌≡◌, ◌⊎◌, ◌-◌, ◌^◌, ◌&&◌, ℕ, nat_lt, nat_le, Bool, true, false, List, Option, Some, None, Result, Ok, Err, IfErr, IfOk, IfSome, is_err, is_some}
+use Rattle.std.specs.Prelude.{◌≡◌, ◌⊎◌, ◌-◌, ◌^◌, ℕ, Bool, true, false, List, Option, Some, None, Result, Ok, Err, IfErr, IfOk, IfSome, is_err, is_some}
 use Rattle.ckrt_checkpoint.specs.declared.config.Config.{Config}
 use Rattle.ckrt_disk.specs.Disk.{HasFailed}
 use Rattle.ckrt_disk.specs.Frame.{IsOnlyRead}
@@ -26,7 +26,6 @@ use Rattle.ckrt_drive.specs.declared.fault.DriveFault.TheVariants.{Output}
 use Rattle.ckrt_drive.specs.declared.options.Options.{Options}
 use Rattle.ckrt_drive.specs.declared.progress.Ending.{Ending}
 use Rattle.ckrt_drive.specs.declared.stream.StreamOutput.{StreamOutput}
-use Rattle.ckrt_record.specs.Slot.{TAKEN_LIMIT}
 use Rattle.ckrt_words.specs.Jobs.{Driving}
 use Rattle.ckrt_words.specs.declared.job.Sizes.{Sizes}
 use Rattle.ckrt_jobs.specs.Addresses.{fault_address}
@@ -34,7 +33,7 @@ use Rattle.ckrt_jobs.specs.Feeding.{Supplies, file_of, made_size}
 use Rattle.ckrt_outcomes.specs.Lengths.{fits, lengths_of}
 use Rattle.ckrt_jobs.specs.Missing.{FindsDisk}
 use Rattle.ckrt_sources.specs.Openings.{Openings, opened, refused, with_both_closed, with_closed, with_closed_output, with_output}
-use Rattle.ckrt_outcomes.specs.Ranges.{config_for}
+use Rattle.ckrt_outcomes.specs.Ranges.{config_for, is_in_range}
 use Rattle.ckrt_jobs.specs.Sizes.{other_sizes}
 use Rattle.ckrt_sources.specs.Sources.{Gives}
 use Rattle.ckrt_outcomes.specs.declared.driven.Driven.{Driven}

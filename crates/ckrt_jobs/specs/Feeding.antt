@@ -1,5 +1,5 @@
 -- The input of a drive: where it goes on, and the room for the record of it on the disk.
-use Rattle.std.specs.Prelude.{◌≡◌, ◌⊎◌, ◌≤◌, ◌<◌, ◌+◌, ℕ, nat_le, Bool, if◌then◌else◌, List, Option, Some, None, option_map, Result, Ok, Err}
+use Rattle.std.specs.Prelude.{◌≡◌, ◌⊎◌, ◌≤◌, ◌<◌, ◌+◌, ℕ, nat_le, if◌then◌else◌, List, Option, Some, None, option_map, Result, Ok, Err}
 use Rattle.ckrt_checkpoint.specs.Layout.{size_needed}
 use Rattle.ckrt_disk.specs.Frame.{IsOnlyRead}
 use Rattle.ckrt_disk.specs.declared.disk.Disk.{Ghosts}
@@ -21,7 +21,6 @@ use Rattle.ckrt_jobs.specs.declared.feeding.Supplied.{Supplied}
 use Rattle.ckrt_jobs.specs.declared.feeding.Unready.{Unready}
 use Rattle.ckrt_sources.specs.declared.file.FileFault.{FileFault}
 use Rattle.ckrt_sources.specs.declared.file.JobFile.TheVariants as file
-use Rattle.ckrt_outcomes.specs.declared.lengths.InputLengths.{InputLengths}
 
 -- WHERE IT GOES ON
 

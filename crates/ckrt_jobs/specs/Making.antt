@@ -1,6 +1,5 @@
 -- The making of a disk.
-use Rattle.std.specs.Prelude.{◌≡◌, ◌≢◌, ◌↔◌, ◌⊎◌, ◌<◌, ◌≤◌, ℕ, Bool, true, false, eqb, List, [], ◌∷◌, length, Option, Some, Result, Ok, Err, IsErrOf, OnOk}
-use Rattle.std.specs.List.{starts_with}
+use Rattle.std.specs.Prelude.{◌≡◌, ◌≢◌, ◌↔◌, ◌⊎◌, ◌<◌, ◌≤◌, ℕ, true, false, List, length, Option, Some, Result, Ok, Err, IsErrOf, OnOk}
 use Rattle.ckrt_disk.specs.Frame.{AtAnyMoment, WritesWithin}
 use Rattle.ckrt_disk.specs.declared.disk.Disk.{Ghosts}
 use Rattle.ckrt_checkpoint.specs.declared.config.Config.{Config}
@@ -8,6 +7,7 @@ use Rattle.ckrt_checkpoint.specs.Layout.{is_open, is_valid, memory_size, size_ne
 use Rattle.ckrt_image.specs.declared.fault.FormatFault.{FormatFault}
 use Rattle.ckrt_image.specs.declared.fault.FormatFault.TheVariants as format
 use Rattle.ckrt_image.specs.Format.{FormatsAt, IsFormatting, IsMade, IsRefusedBy, StaysFormatted, WasFormatted, calls_of, format_refusal, is_device}
+use Rattle.ckrt_sources.specs.Elf.{is_elf}
 use Rattle.ckrt_sources.specs.Openings.{Openings, opened, refused, with_abandoned, with_closed, with_disk, with_image}
 use Rattle.ckrt_outcomes.specs.declared.fault.JobFault.{JobFault}
 use Rattle.ckrt_outcomes.specs.declared.fault.JobFault.TheVariants as job

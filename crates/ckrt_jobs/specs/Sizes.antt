@@ -1,5 +1,5 @@
 -- The sizes that the words ask for, beside those of a disk.
-use Rattle.std.specs.Prelude.{ℕ, nat_eq, nat_lt, Bool, true, not, ◌&&◌, if◌then◌else◌, List, length, take, Option, Some, None, unwrap_or}
+use Rattle.std.specs.Prelude.{ℕ, nat_eq, nat_lt, Bool, true, not, ◌&&◌, if◌then◌else◌, List, length, take, Option, Some, None}
 use Rattle.ckrt_checkpoint.specs.declared.config.Config.{Config}
 use Rattle.ckrt_checkpoint.specs.Layout.{is_open, is_valid, number_at}
 use Rattle.ckrt_words.specs.declared.job.Sizes.{Sizes}

@@ -1,5 +1,5 @@
 //! Writing what a disk holds as a core.
-ghost use Rattle.std.specs.Prelude.{◌≡◌, Ok, OnErr, IfOk, IfErr};
+ghost use Rattle.std.specs.Prelude.{◌≡◌, Ok, IfOk, IfErr};
 ghost use Rattle.ckrt_core.specs.Core.{core_of};
 ghost use Rattle.ckrt_words.specs.Jobs.{core_making_of};
 ghost use Rattle.ckrt_jobs.specs.CoreFiles.{Cores, CoresOpened, CoresPath, EndsCore, MakesCore, WritesCore, WritesInto};

@@ -1,5 +1,5 @@
 //! Reading an image.
-ghost use Rattle.std.specs.Prelude.{◌≡◌, ◌<◌, ◌≤◌, ◌+◌, ◌^◌, ◌⊎◌, List, ℕ, Some, IfOk, IfErr, take, length};
+ghost use Rattle.std.specs.Prelude.{◌≡◌, ◌<◌, ◌+◌, ◌^◌, ◌⊎◌, List, ℕ, Some, IfOk, IfErr, take};
 ghost use Rattle.ckrt_jobs.specs.Making.{IsUnreadable};
 ghost use Rattle.ckrt_sources.specs.Elf.{is_elf};
 ghost use Rattle.ckrt_outcomes.specs.declared.fault.JobFault.TheVariants.{OutOfMemory};

@@ -1,7 +1,8 @@
--- Whether the file of an output may be that of a disk, by its length.
+-- Whether the file of an output, or of an input, may be that of a disk, by its length.
 use Rattle.std.specs.Prelude.{ℕ, Bool, nat_le, ◌&&◌}
 use Rattle.ckrt_recovery.specs.declared.session.Session.{Session}
 use Rattle.ckrt_disk.specs.declared.disk.Disk.{Ghosts}
+use Rattle.ckrt_outcomes.specs.declared.lengths.InputLengths.{InputLengths}
 use Rattle.ckrt_outcomes.specs.declared.lengths.OutputLengths.{OutputLengths}
 
 -- It has at least the bytes that are confirmed: what a sync has kept isn't lost. And at most those that are released: no others were put there.

@@ -1,8 +1,7 @@
 //! Why a job wasn't done.
 ghost use Rattle.std.specs.Prelude.{◌≡◌};
 ghost use Rattle.ckrt_outcomes.specs.Names.{name_of, name_of_drive, name_of_look};
-ghost use Rattle.ckrt_outcomes.specs.Advice.{advice_of, advice_of_drive, advice_of_format, advice_of_lengths, advice_of_look, advice_of_recover, advice_of_serve, device_advice, file_of, file_of_drive};
-ghost use Rattle.ckrt_sources.specs.FileFaults.{memory_advice};
+ghost use Rattle.ckrt_outcomes.specs.Advice.{advice_of, advice_of_drive, advice_of_format, advice_of_lengths, advice_of_look, advice_of_recover, advice_of_serve, file_of, file_of_drive};
 
 use crate::lengths::{InputLengths, OutputLengths};
 use ckrt_drive::DriveFault;

@@ -1,13 +1,11 @@
 -- What the program does for its words: the outcome of each job, by what its image and its disk are. What was written goes from a to b, and
 -- what was left to read from r to s.
-use Rattle.std.specs.Prelude.{◌≡◌, ◌≢◌, ◌⊎◌, ℕ, Bool, true, false, List, [], ◌∷◌, Option, Some, None, Result, Ok, Err}
-use Rattle.std.specs.Io.KnownBytes.{Appends}
+use Rattle.std.specs.Prelude.{◌≡◌, ◌≢◌, ◌⊎◌, ℕ, Bool, true, List, [], ◌∷◌, Option, Some, None, Result, Ok, Err}
 use Rattle.clap.specs.Words.{takes}
 use Rattle.ckrt_disk.specs.declared.disk.Disk.{Ghosts}
 use Rattle.ckrt_checkpoint.specs.Layout.{size_needed}
 use Rattle.ckrt_checkpoint.specs.declared.config.Config.{Config}
 use Rattle.ckrt_recovery.specs.View.{fresh}
-use Rattle.ckrt_commands.specs.Writing.{AppendsPart}
 use Rattle.ckrt_main.specs.Service.{IsStartFault, Served, ServedPart}
 use Rattle.ckrt_main.specs.declared.fault.ServeFault.{ServeFault}
 use Rattle.ckrt_main.specs.declared.fault.ServeFault.TheVariants as serve
@@ -18,13 +16,12 @@ use Rattle.ckrt_words.specs.declared.job.WordsFault.TheVariants as words
 use Rattle.ckrt_drive.specs.declared.stream.StreamOutput.{StreamOutput}
 use Rattle.ckrt_jobs.specs.CoreFiles.{CoresPath}
 use Rattle.ckrt_jobs.specs.Driving.{DrivesPath, IsLent, IsUnwritten, means_of}
-use Rattle.ckrt_reports.specs.Ends.{end_line}
 use Rattle.ckrt_jobs.specs.Making.{Makes}
 use Rattle.ckrt_sources.specs.Openings.{Openings, opened, refused, with_closed, with_disk}
 use Rattle.ckrt_jobs.specs.Running.{disk_of, RunsDisk}
 use Rattle.ckrt_outcomes.specs.Statuses.{status_of, status_of_words}
-use Rattle.ckrt_reports.specs.Lines.{version_line}
-use Rattle.ckrt_reports.specs.Reports.{report_of, words_report_of}
+use Rattle.ckrt_reports.specs.Lines.{Reports, ReportsOutcome, SaysLine, formatted_line, version_line}
+use Rattle.ckrt_reports.specs.Reports.{words_report_of}
 use Rattle.ckrt_jobs.specs.Showing.{Shows, shown_of}
 use Rattle.ckrt_sources.specs.Sources.{Gives, anything}
 use Rattle.ckrt_outcomes.specs.declared.driven.Driven.{Driven}

@@ -1,5 +1,5 @@
--- How the program tells what a drive came to: a line on standard error, and its status.
-use Rattle.std.specs.Prelude.{if◌then◌else◌, ℕ, nat_eq, List, [], ◌∷◌, ◌++◌, codes, Option, Some, None}
+-- How the program tells what a drive came to: a line on standard error.
+use Rattle.std.specs.Prelude.{ℕ, List, [], ◌∷◌, ◌++◌, codes, Option, Some, None}
 use Rattle.ckrt_state.specs.declared.table.Status.{Status}
 use Rattle.ckrt_state.specs.declared.table.Status.TheVariants as status
 use Rattle.ckrt_inspect.specs.Texts.{hex_text, status_text}

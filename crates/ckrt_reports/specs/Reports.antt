@@ -1,33 +1,20 @@
 -- What the program prints on standard error for a fault: a line in plain words, and a line with the fault's name.
-use Rattle.std.specs.Prelude.{if◌then◌else◌, ℕ, nat_lt, List, [], ◌∷◌, ◌++◌, codes, decimal, string_bytes, Option, Some, None}
-use Rattle.std.specs.declared.io.ErrorKind.{ErrorKind}
-use Rattle.std.specs.declared.io.ErrorKind.TheVariants as kind
+use Rattle.std.specs.Prelude.{ℕ, List, [], ◌∷◌, ◌++◌, codes, decimal, string_bytes, Option, Some, None}
 use Rattle.ckrt_checkpoint.specs.declared.config.Config.{Config}
-use Rattle.ckrt_outcomes.specs.Names.{name_of}
-use Rattle.ckrt_sources.specs.Reasons.{reason_text}
-use Rattle.ckrt_reports.specs.Unfit.{size_text, unfit_of, unfit_sizes_of}
-use Rattle.ckrt_outcomes.specs.declared.fault.JobFault.{JobFault}
-use Rattle.ckrt_outcomes.specs.declared.fault.JobFault.TheVariants as job
-use Rattle.ckrt_sources.specs.declared.file.FileFault.{FileFault}
-use Rattle.ckrt_sources.specs.declared.file.FileFault.TheVariants as fault
-use Rattle.ckrt_sources.specs.declared.file.JobFile.{JobFile}
-use Rattle.ckrt_sources.specs.declared.file.JobFile.TheVariants as file
-use Rattle.ckrt_outcomes.specs.declared.lengths.InputLengths.{InputLengths}
-use Rattle.ckrt_outcomes.specs.declared.lengths.OutputLengths.{OutputLengths}
-use Rattle.ckrt_sources.specs.declared.reason.OutputReason.TheVariants as reason
-use Rattle.ckrt_image.specs.declared.fault.FormatFault.{FormatFault}
 use Rattle.ckrt_image.specs.declared.fault.FormatFault.TheVariants as format
-use Rattle.ckrt_image.specs.declared.fault.RecoverFault.{RecoverFault}
-use Rattle.ckrt_image.specs.declared.fault.RecoverFault.TheVariants as recover
-use Rattle.ckrt_drive.specs.declared.fault.DriveFault.{DriveFault}
-use Rattle.ckrt_drive.specs.declared.fault.DriveFault.TheVariants as drive
-use Rattle.ckrt_main.specs.declared.fault.ServeFault.{ServeFault}
-use Rattle.ckrt_main.specs.declared.fault.ServeFault.TheVariants as serve
-use Rattle.ckrt_inspect.specs.declared.fault.InspectFault.{InspectFault}
-use Rattle.ckrt_inspect.specs.declared.fault.InspectFault.TheVariants as look
 use Rattle.ckrt_words.specs.declared.job.WordsFault.{WordsFault}
 use Rattle.ckrt_words.specs.declared.job.WordsFault.TheVariants as words
 use Rattle.ckrt_words.specs.Jobs.{Request, format as asks_format, run as asks_run, inspect as asks_inspect, drive as asks_drive, core as asks_core, stored}
+use Rattle.ckrt_sources.specs.FileFaults.{file_ending, file_text}
+use Rattle.ckrt_sources.specs.declared.file.JobFile.{JobFile}
+use Rattle.ckrt_sources.specs.declared.file.JobFile.TheVariants as file
+use Rattle.ckrt_outcomes.specs.Advice.{advice_of, file_of}
+use Rattle.ckrt_outcomes.specs.Names.{name_of}
+use Rattle.ckrt_outcomes.specs.declared.fault.JobFault.{JobFault}
+use Rattle.ckrt_outcomes.specs.declared.fault.JobFault.TheVariants as job
+use Rattle.ckrt_outcomes.specs.declared.lengths.InputLengths.{InputLengths}
+use Rattle.ckrt_outcomes.specs.declared.lengths.OutputLengths.{OutputLengths}
+use Rattle.ckrt_reports.specs.Unfit.{size_text, unfit_of, unfit_sizes_of}
 
 abbrev pub range_text : (from to : ℕ) → List ℕ
 range_text from to = decimal from ++ (codes " to " ++ (decimal to ++ codes ": "))

@@ -1,7 +1,7 @@
 -- What is said of numbers in the words that are out of their ranges: the first of them, by its option, with its value and its range.
 use Rattle.std.specs.Prelude.{ℕ, nat_lt, Bool, not, ◌||◌, if◌then◌else◌, List, [], ◌++◌, codes, decimal}
 use Rattle.ckrt_checkpoint.specs.declared.config.Config.{Config}
-use Rattle.ckrt_outcomes.specs.Ranges.{is_intake, is_interval, is_target, config_for}
+use Rattle.ckrt_outcomes.specs.Ranges.{config_for, is_interval, is_target}
 use Rattle.ckrt_words.specs.Jobs.{Driving, Request, drive, format}
 
 -- a number between two texts
