@@ -2,7 +2,7 @@
 //!
 //! The program puts an `A` by its third step and ends with its sixth. It makes two steps by its second event, and four by its third.
 
-use crate::plans::expect_eq;
+use crate::expect::expect_eq;
 use crate::recordings::{Row, empty, played};
 use ckrt_disk::Disk;
 use ckrt_inspect::InspectFault;

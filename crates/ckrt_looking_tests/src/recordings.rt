@@ -1,6 +1,7 @@
 //! What a disk has recorded, against the events that its session took.
 
-use crate::plans::{expect_eq, expect_same};
+use crate::expect::expect_eq;
+use crate::plans::expect_same;
 use ckrt_disk::{Disk, MemoryDisk};
 use ckrt_events::Event;
 use ckrt_machine::Machine;
