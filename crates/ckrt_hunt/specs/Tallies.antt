@@ -1,10 +1,12 @@
 -- What seeds came to, counted (this project's choice): each outcome once, with how often it came, and the first seed that came to it.
-use Rattle.std.specs.Prelude.{◌≡◌, ◌≢◌, ◌≤◌, ◌<◌, ℕ, zero, suc, ◌+◌, ◌&&◌, nat_le, min, if◌then◌else◌, Option, Some, None, List, [], ◌∷◌, ◌++◌, length, slice_get, slice_set}
+use Rattle.std.specs.Prelude.{◌≡◌, ◌≢◌, ◌≤◌, ◌<◌, ℕ, zero, suc, ◌+◌, ◌-◌, ◌&&◌, nat_le, min, if◌then◌else◌, Option, Some, None, List, [], ◌∷◌, ◌++◌, length, slice_get, slice_set}
 use Rattle.ckrt_memory.specs.Marks.{Memory}
 use Rattle.ckrt_state.specs.declared.table.Tables.{Tables}
+use Rattle.ckrt_machine.specs.Events.{fresh}
 use Rattle.ckrt_machine.specs.Steps.{State}
 use Rattle.ckrt_hunt.specs.declared.runs.Told.{Told}
 use Rattle.ckrt_hunt.specs.declared.row.Row.{Row}
+use Rattle.ckrt_hunt.specs.declared.seeds.Seeds.{Seeds}
 use Rattle.ckrt_hunt.specs.declared.shape.Shape.{Shape}
 use Rattle.ckrt_hunt.specs.declared.tally.Tally.{Tally}
 use Rattle.ckrt_hunt.specs.declared.tally.TheConstants.{TALLY_ROWS}
@@ -80,3 +82,14 @@ pub record Grew (WasSo : Tally → Type 0) (h : Hunted) (seed : ℕ) (tally : Ta
 abbrev pub AreNoted : Hunted → (first n : ℕ) → (old new : Tally) → Type 0
 AreNoted h first zero old new = new ≡ old
 AreNoted h first (suc n) old new = Grew (AreNoted h first n old) h (first + n) new
+
+-- what all seeds of a range came to: each was noted in its turn, from no outcome on
+pub record IsTallyOf (h : Hunted) (seeds : Seeds) (tally : Tally) : Type 0 where
+  pub begun : Tally
+  pub no_rows : begun.rows.items ≡ []
+  pub no_others : begun.others ≡ 0
+  pub noted : AreNoted h seeds.first (seeds.last - seeds.first + 1) begun tally
+
+-- the program with this image, as it is run with a shape
+abbrev pub hunted_of : (image : List ℕ) → Shape → Hunted
+hunted_of image s = record { limit = s.limit; start = fresh s.pages s.harts image }

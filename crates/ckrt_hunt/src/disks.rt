@@ -54,7 +54,8 @@ fn keep_over<D: Disk>(session: &mut Session<D>, plan: &Plan) -> Result<Ending, S
 
 /// Keeps a run on a disk with a program before its first event.
 fn keep_recovered<D: Disk>(alloc: Global, disk: D, plan: &Plan) -> KeptDisk<D>
-    ensures kept { (program : Program) → (D.is_honest disk → RecoversToStart program (D.content disk))
+    ensures kept { (program : Program)
+        → (D.is_honest disk → RecoversToStart program (D.content disk))
         → KeepsSeed D.Disk program plan.now result }
     ensures same { IsSameDisk D.Disk disk result.disk }
     ensures refused { IfErr result.result IsNoRefusal }

@@ -17,6 +17,7 @@ mod seeds;
 mod shape;
 mod table;
 mod tally;
+mod telling;
 mod texts;
 mod turn;
 
@@ -33,3 +34,4 @@ pub use seeds::Seeds;
 pub use shape::Shape;
 pub use table::{Asked, write_table};
 pub use tally::{TALLY_ROWS, Tally};
+pub use telling::{HuntFault, hunt_and_tell};
