@@ -4,7 +4,9 @@ pub mod Driving
 pub mod Feeding
 pub mod Making
 pub mod Missing
+pub mod Outside
 pub mod Printing
 pub mod Running
 pub mod Showing
 pub mod Sizes
+pub mod Tracing

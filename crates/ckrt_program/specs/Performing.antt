@@ -9,19 +9,21 @@ use Rattle.ckrt_main.specs.Service.{IsStartFault, Served, ServedPart}
 use Rattle.ckrt_main.specs.declared.fault.ServeFault.{ServeFault}
 use Rattle.ckrt_main.specs.declared.fault.ServeFault.TheVariants as serve
 use Rattle.ckrt_words.specs.Commands.{ckrt_app}
-use Rattle.ckrt_words.specs.Jobs.{Driving, Formatting, Request, Inspection, core, drive, format, inspect, request_of_words, run, stored, version}
+use Rattle.ckrt_words.specs.Jobs.{Driving, Formatting, Request, Inspection, calls, core, drive, format, inspect, request_of_words, run, stored, version}
 use Rattle.ckrt_words.specs.declared.job.WordsFault.{WordsFault}
 use Rattle.ckrt_words.specs.declared.job.WordsFault.TheVariants as words
 use Rattle.ckrt_drive.specs.declared.stream.StreamOutput.{StreamOutput}
 use Rattle.ckrt_jobs.specs.CoreFiles.{CoresPath}
 use Rattle.ckrt_jobs.specs.Driving.{DrivesPath, IsLent, IsUnwritten, Means, means_of}
 use Rattle.ckrt_jobs.specs.Making.{Makes}
+use Rattle.ckrt_jobs.specs.Outside.{IsRefused, Outside, asked_for}
 use Rattle.ckrt_sources.specs.Openings.{Openings, opened, refused, with_closed, with_disk}
 use Rattle.ckrt_jobs.specs.Running.{disk_of, RunsDisk}
 use Rattle.ckrt_outcomes.specs.Statuses.{status_of, status_of_words}
 use Rattle.ckrt_reports.specs.Lines.{Reports, ReportsOutcome, SaysLine, formatted_line, version_line}
 use Rattle.ckrt_reports.specs.Reports.{words_report_of}
 use Rattle.ckrt_jobs.specs.Showing.{Shows, shown_of}
+use Rattle.ckrt_jobs.specs.Tracing.{TracesPath}
 use Rattle.ckrt_sources.specs.Sources.{Gives, anything}
 use Rattle.ckrt_outcomes.specs.declared.driven.Driven.{Driven}
 use Rattle.ckrt_outcomes.specs.declared.fault.JobFault.{JobFault}
@@ -50,22 +52,7 @@ CONFIG = record { pages = 16; harts = 1; journal = 4096 }
 
 -- THE OUTSIDE
 
--- What the program has reached at a moment: what its sources were asked for, and, where these are known, what its writer has and what its reader
--- has left.
-pub record Outside (D : Type 0) : Type 0 where
-  pub openings : Openings D
-  pub written : Option (List ℕ)
-  pub unread : Option (List ℕ)
-
-abbrev pub outside : {D : Type 0} → Openings D → (written unread : Option (List ℕ)) → Outside D
-outside openings written unread =
-    record { openings = openings; written = written; unread = unread }
-
--- the same once more was asked for
-abbrev pub asked_for : {D : Type 0} → Outside D → Openings D → Outside D
-asked_for old openings = record old { openings = openings }
-
--- What it can reach: its stream, and what a writer holds; the bytes of an image, by its path; the disks of a path, and those once what is shorter
+-- What the program can reach: its stream, and what a writer holds; the bytes of an image, by its path; the disks of a path, and those once what is shorter
 -- is filled up to so many bytes; and what else its sources may give.
 pub record Reach {D : Type 0} (d : Ghosts D) (W : Type 0) : Type 1 where
   pub stream : Ghosts (StreamOutput W)
@@ -143,15 +130,6 @@ pub record RunsOpened {D : Type 0} {d : Ghosts D} (Opens : D → Type 0) (asked 
   pub gives : result ≡ outcome_of ran
   pub closes : new.openings ≡ with_closed asked.openings (disk_of ran)
 
--- the disk of this path was asked for and can't be opened
-pub record IsRefused {D : Type 0} (path : List ℕ) (old new : Outside D)
-    (result : Result (Unit {0}) JobFault) : Type 0 where
-  pub why : FileFault
-  pub is : result ≡ Err (job.File file.Disk why)
-  pub refuses : new.openings ≡ with_disk old.openings (refused path why)
-  pub unwritten : new.written ≡ old.written
-  pub unread : new.unread ≡ old.unread
-
 -- the disk of this path was run, or can't be opened
 abbrev pub RunsPath : {D : Type 0} {d : Ghosts D} → (path : List ℕ) → (D → Type 0)
     → (old new : Outside D) → Result (Unit {0}) JobFault → Type 0
@@ -221,6 +199,8 @@ Performs {d = d} it (inspect i) old new outcome =
 Performs {d = d} it (core c) old new outcome =
     Does (CoresPath d (it.Opens c.disk) (it.Fills c.file) c old.openings new.openings) outcome
     × (new.written ≡ old.written) × (new.unread ≡ old.unread)
+Performs {d = d} it (calls t) old new outcome =
+    Does (TracesPath {d = d} (it.Opens t.disk) t old new) outcome
 Performs {d = d} it (drive j) old new outcome =
     Comes (DrivesPath (means_in it old new j) j old.openings new.openings) outcome
     × IsUnwritten j.output old.written new.written × (new.unread ≡ old.unread)

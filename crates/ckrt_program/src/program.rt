@@ -13,7 +13,7 @@ ghost use Rattle.ckrt_reports.specs.Lines.{version_line};
 use crate::stored;
 use ckrt_disk::Disk;
 use ckrt_drive::StreamOutput;
-use ckrt_jobs::{core_path, drive_path, inspect_disk, make_disk, run_disk};
+use ckrt_jobs::{calls_path, core_path, drive_path, inspect_disk, make_disk, run_disk};
 use ckrt_main::serve_image;
 use ckrt_outcomes::{Driven, JobFault, Meter};
 use ckrt_recovery::Config;
@@ -203,6 +203,7 @@ fn perform<
         Job::Run(path) => without_end(run::<I, D, S, R, W>(alloc, path, sources, reader, writer)),
         Job::Inspect(job) => without_end(inspect_path::<I, D, S, W>(alloc, job, sources, writer)),
         Job::Core(job) => without_end(core_path::<I, D, S>(alloc, job, sources)),
+        Job::Calls(job) => without_end(calls_path::<I, D, S, W>(alloc, job, sources, writer)),
         Job::Drive(job) => {
             with_end(drive_path::<I, D, S, W, M>(alloc, job, sources, writer, meter))
         }
@@ -211,7 +212,7 @@ fn perform<
 
 /// Does what the words after the program's name ask for, with images and disks of any sources: `format DISK IMAGE` prints
 /// `formatted SIZE`, `run DISK` answers the lines of the reader, `inspect DISK` shows what the disk holds, `core DISK FILE`
-/// writes it as a core into FILE, `drive DISK`
+/// writes it as a core into FILE, `calls DISK` tells its calls, `drive DISK`
 /// runs its program to its end, with its output in a file or printed, and reports what it came to in a line, `--version`
 /// prints the version and its kit, no words serve the stored program in memory. Of a fault two lines are reported: what is
 /// wrong in plain words, with the path of the file that it is of, and `ckrt: NAME`. Of words that name no job a text is. A
