@@ -8,12 +8,12 @@
 #![tactic(auto)]
 
 mod meter;
-mod report;
 mod reporter;
+mod reporting;
 mod status;
 mod unfit;
 mod version;
 
 pub use meter::SystemMeter;
-pub use report::{report, report_words, write_formatted, write_version};
 pub use reporter::{Reporter, Unsaid, WrittenReport};
+pub use reporting::{report, report_words, write_formatted, write_version};

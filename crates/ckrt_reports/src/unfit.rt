@@ -4,8 +4,8 @@ ghost use Rattle.std.specs.Io.KnownBytes.{Appends};
 ghost use Rattle.ckrt_reports.specs.Unfit.{is_outside, unfit_drive_text, unfit_of, unfit_sizes_of, unfit_sizes_text};
 ghost use Rattle.ckrt_words.specs.Jobs.{driving_of, request_of};
 
-use crate::report::say_size;
 use crate::reporter::{Reporter, Unsaid};
+use crate::reporting::say_size;
 use ckrt_events::LONG_RUN_LIMIT;
 use ckrt_outcomes::{config_for, is_target};
 use ckrt_recovery::Config;

@@ -1,6 +1,6 @@
 use Rattle.std.proofs.KnownBytes.{Appends-trans}
 use Rattle.ckrt_reports.proofs.SayLemmas.{on_ok}
-use Rattle.ckrt_reports.proofs.report.say_place.Goals as goal
+use Rattle.ckrt_reports.proofs.reporting.say_place.Goals as goal
 
 -- one piece behind another
 pub returns-clause-said : goal.returns-clause-said
