@@ -4,9 +4,7 @@ pub mod Driving
 pub mod Feeding
 pub mod Making
 pub mod Missing
-pub mod Outside
 pub mod Printing
 pub mod Running
 pub mod Showing
 pub mod Sizes
-pub mod Tracing

@@ -30,9 +30,6 @@
 //! file of the core is asked for only then, with as many bytes as that state's core has. It gets its path only once it has just these
 //! bytes, durably, and else is given up. Nothing is printed, and no line is read.
 //!
-//! Proved of `calls`: the disk is only read, and what was written are the lines of the events that it has recorded, all or a stretch
-//! of them; where the stretch isn't there, the fault is Range.
-//!
 //! Proved of a disk that `drive` makes since it is missing: it is asked for only with an image that fits; it gets the path's name
 //! only once it is formatted, whole and durable, and else is given up; and it is the disk that is driven then. Sizes of the words
 //! that aren't those of a disk that is there are the fault SizesDiffer, with the disk's own.
@@ -68,7 +65,6 @@ mod missing;
 mod running;
 mod showing;
 mod sizes;
-mod tracing;
 
 pub use core_file::core_path;
 pub use driving::drive_path;
@@ -77,4 +73,3 @@ pub use laws::printed_bytes_stay;
 pub use making::make_disk;
 pub use running::{Unserved, run_disk};
 pub use showing::inspect_disk;
-pub use tracing::calls_path;

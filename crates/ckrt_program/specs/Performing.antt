@@ -16,14 +16,14 @@ use Rattle.ckrt_drive.specs.declared.stream.StreamOutput.{StreamOutput}
 use Rattle.ckrt_jobs.specs.CoreFiles.{CoresPath}
 use Rattle.ckrt_jobs.specs.Driving.{DrivesPath, IsLent, IsUnwritten, Means, means_of}
 use Rattle.ckrt_jobs.specs.Making.{Makes}
-use Rattle.ckrt_jobs.specs.Outside.{IsRefused, Outside, asked_for}
+use Rattle.ckrt_outcomes.specs.Outside.{IsRefused, Outside, asked_for}
 use Rattle.ckrt_sources.specs.Openings.{Openings, opened, refused, with_closed, with_disk}
 use Rattle.ckrt_jobs.specs.Running.{disk_of, RunsDisk}
 use Rattle.ckrt_outcomes.specs.Statuses.{status_of, status_of_words}
 use Rattle.ckrt_reports.specs.Lines.{Reports, ReportsOutcome, SaysLine, formatted_line, version_line}
 use Rattle.ckrt_reports.specs.Reports.{words_report_of}
 use Rattle.ckrt_jobs.specs.Showing.{Shows, shown_of}
-use Rattle.ckrt_jobs.specs.Tracing.{TracesPath}
+use Rattle.ckrt_looks.specs.Tracing.{TracesPath}
 use Rattle.ckrt_sources.specs.Sources.{Gives, anything}
 use Rattle.ckrt_outcomes.specs.declared.driven.Driven.{Driven}
 use Rattle.ckrt_outcomes.specs.declared.fault.JobFault.{JobFault}

@@ -1,10 +1,11 @@
 //! Telling the calls that a disk has recorded.
 ghost use Rattle.std.specs.Prelude.{◌≡◌, ℕ, List, Option};
 ghost use Rattle.ckrt_words.specs.Jobs.{tracing_of};
-ghost use Rattle.ckrt_jobs.specs.Outside.{outside};
-ghost use Rattle.ckrt_jobs.specs.Tracing.{TracesOpened, TracesPath, stretch_of};
+ghost use Rattle.ckrt_outcomes.specs.Outside.{outside};
+ghost use Rattle.ckrt_looks.specs.Tracing.{TracesOpened, TracesPath, answer_of, stretch_of};
 
 use ckrt_disk::Disk;
+use ckrt_inspect::InspectFault;
 use ckrt_outcomes::JobFault;
 use ckrt_sources::{JobFile, Sources};
 use ckrt_trace::{Stretch, write_calls};
@@ -19,6 +20,16 @@ fn stretch(job: &CallsJob<'_>) -> Stretch
     Stretch {
         from: job.from,
         to: job.to,
+    }
+}
+
+/// What the job answers.
+fn answer_of(answer: Result<(), InspectFault>) -> Result<(), JobFault>
+    ensures { result ≡ answer_of answer }
+{
+    match answer {
+        Ok(()) => Ok(()),
+        Err(fault) => Err(JobFault::Inspect(fault)),
     }
 }
 
@@ -38,10 +49,7 @@ fn trace_opened<'a, I: Read, D: Disk, S: Sources<'a, I, D>, W: Write>(
     let mut disk = disk;
     let answer = write_calls(alloc, &mut disk, stretch(job), writer);
     sources.close(disk);
-    match answer {
-        Ok(()) => Ok(()),
-        Err(fault) => Err(JobFault::Inspect(fault)),
-    }
+    answer_of(answer)
 }
 
 /// Tells the calls that the disk of a path has recorded, a line each: all, or those behind so many events and up to so many. The

@@ -1,5 +1,5 @@
 -- The telling of the calls that a disk has recorded.
-use Rattle.std.specs.Prelude.{◌≡◌, ◌⊎◌, List, Result}
+use Rattle.std.specs.Prelude.{◌≡◌, ◌⊎◌, Result, Ok, Err}
 use Rattle.ckrt_disk.specs.Frame.{IsOnlyRead}
 use Rattle.ckrt_disk.specs.declared.disk.Disk.{Ghosts}
 use Rattle.ckrt_inspect.specs.Inspect.{is_device}
@@ -9,12 +9,17 @@ use Rattle.ckrt_trace.specs.declared.disk.Stretch.{Stretch}
 use Rattle.ckrt_words.specs.Jobs.{Tracing}
 use Rattle.ckrt_sources.specs.Openings.{opened, with_closed, with_disk}
 use Rattle.ckrt_outcomes.specs.declared.fault.JobFault.{JobFault}
-use Rattle.ckrt_jobs.specs.Outside.{IsRefused, Outside, asked_for}
-use Rattle.ckrt_jobs.specs.Showing.{answer_of}
+use Rattle.ckrt_outcomes.specs.Outside.{IsRefused, Outside, asked_for}
+use Rattle.ckrt_outcomes.specs.declared.fault.JobFault.TheVariants as job
 
 -- behind how many events the calls begin, and behind how many they end
 abbrev pub stretch_of : Tracing → Stretch
 stretch_of t = record { from = t.from; to = t.to }
+
+-- what the job answers
+abbrev pub answer_of : Result (Unit {0}) InspectFault → Result (Unit {0}) JobFault
+answer_of (Ok done) = Ok done
+answer_of (Err f) = Err (job.Inspect f)
 
 -- A disk that was opened to be looked at was only read, and closed as it was then. The lines of its calls were written, if it was honest to that
 -- end, or the fault is what it says.
