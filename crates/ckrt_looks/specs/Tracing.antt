@@ -23,7 +23,7 @@ answer_of (Err f) = Err (job.Inspect f)
 
 -- A disk that was opened to be looked at was only read, and closed as it was then. The lines of its calls were written, if it was honest to that
 -- end, or the fault is what it says.
-pub record TracesOpened {D : Type 0} {d : Ghosts D} (Opens : D → Type 0) (t : Tracing)
+pub record TracesOpened {D : Type 0} (d : Ghosts D) (Opens : D → Type 0) (t : Tracing)
     (asked new : Outside D) (result : Result (Unit {0}) JobFault) : Type 0 where
   pub start : D
   pub is_opened : Opens start
@@ -37,9 +37,9 @@ pub record TracesOpened {D : Type 0} {d : Ghosts D} (Opens : D → Type 0) (t : 
   pub unread : new.unread ≡ asked.unread
 
 -- the calls of the disk of this path were told, or that can't be opened
-abbrev pub TracesPath : {D : Type 0} {d : Ghosts D} → (D → Type 0) → Tracing
+abbrev pub TracesPath : {D : Type 0} → Ghosts D → (D → Type 0) → Tracing
     → (old new : Outside D) → Result (Unit {0}) JobFault → Type 0
-TracesPath {d = d} Opens t old new result =
+TracesPath d Opens t old new result =
     IsRefused t.disk old new result
-    ⊎ TracesOpened {d = d} Opens t (asked_for old (with_disk old.openings (opened t.disk))) new
+    ⊎ TracesOpened d Opens t (asked_for old (with_disk old.openings (opened t.disk))) new
     result

@@ -42,7 +42,7 @@ fn trace_opened<'a, I: Read, D: Disk, S: Sources<'a, I, D>, W: Write>(
     writer: &mut W,
 ) -> Result<(), JobFault>
     ensures traces { (left : Option (List ℕ))
-        → TracesOpened {d = D.Disk} (λ start. start ≡ disk) (tracing_of job.now)
+        → TracesOpened D.Disk (λ start. start ≡ disk) (tracing_of job.now)
         (outside (S.openings sources.old) (W.contents writer.old) left)
         (outside (S.openings sources.new) (W.contents writer.new) left) result }
 {
@@ -66,7 +66,7 @@ pub fn calls_path<'a, I: Read, D: Disk, S: Sources<'a, I, D>, W: Write>(
     writer: &mut W,
 ) -> Result<(), JobFault>
     ensures traces { (left : Option (List ℕ))
-        → TracesPath {d = D.Disk} (S.opens sources.old job.now.disk.now) (tracing_of job.now)
+        → TracesPath D.Disk (S.opens sources.old job.now.disk.now) (tracing_of job.now)
         (outside (S.openings sources.old) (W.contents writer.old) left)
         (outside (S.openings sources.new) (W.contents writer.new) left) result }
 {

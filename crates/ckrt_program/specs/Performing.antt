@@ -106,13 +106,20 @@ abbrev pub SaysMade : (a b : Option (List ℕ)) → List ℕ → (made result : 
 SaysMade a b line (Ok done) result = SaysLine a b line result
 SaysMade a b line (Err e) result = (result ≡ Err e) × (b ≡ a)
 
+-- What a disk is made of: what was asked for, the bytes of its image, where they are known, and the disks that its path may stand for once it is
+-- filled.
+pub record Making (D : Type 0) : Type 1 where
+  pub asked : Formatting
+  pub known : Option (List ℕ)
+  pub Fills : D → Type 0
+
 -- the disk of the job's path was made with the image of the job's path, or why it wasn't
-pub record MakesPath {D : Type 0} {d : Ghosts D} (f : Formatting) (known : Option (List ℕ))
-    (Fills : D → Type 0) (old new : Outside D) (result : Result (Unit {0}) JobFault)
-    : Type 0 where
+pub record MakesPath {D : Type 0} (d : Ghosts D) (it : Making D) (old new : Outside D)
+    (result : Result (Unit {0}) JobFault) : Type 0 where
   pub made : Result (Unit {0}) JobFault
-  pub makes : Makes d (config_of f) known Fills f.image f.disk old.openings new.openings made
-  pub says : SaysMade old.written new.written (made_line f) made result
+  pub makes : Makes d (config_of it.asked) it.known it.Fills it.asked.image it.asked.disk
+      old.openings new.openings made
+  pub says : SaysMade old.written new.written (made_line it.asked) made result
   pub unread : new.unread ≡ old.unread
 
 -- what a run answers
@@ -121,7 +128,7 @@ outcome_of (Ok disk) = Ok tt
 outcome_of (Err u) = Err u.fault
 
 -- a disk that was opened was run, and closed as the run left it
-pub record RunsOpened {D : Type 0} {d : Ghosts D} (Opens : D → Type 0) (asked new : Outside D)
+pub record RunsOpened {D : Type 0} (d : Ghosts D) (Opens : D → Type 0) (asked new : Outside D)
     (result : Result (Unit {0}) JobFault) : Type 0 where
   pub start : D
   pub is_opened : Opens start
@@ -131,14 +138,14 @@ pub record RunsOpened {D : Type 0} {d : Ghosts D} (Opens : D → Type 0) (asked 
   pub closes : new.openings ≡ with_closed asked.openings (disk_of ran)
 
 -- the disk of this path was run, or can't be opened
-abbrev pub RunsPath : {D : Type 0} {d : Ghosts D} → (path : List ℕ) → (D → Type 0)
+abbrev pub RunsPath : {D : Type 0} → Ghosts D → (path : List ℕ) → (D → Type 0)
     → (old new : Outside D) → Result (Unit {0}) JobFault → Type 0
-RunsPath {d = d} path Opens old new result =
+RunsPath d path Opens old new result =
     IsRefused path old new result
-    ⊎ RunsOpened {d = d} Opens (asked_for old (with_disk old.openings (opened path))) new result
+    ⊎ RunsOpened d Opens (asked_for old (with_disk old.openings (opened path))) new result
 
 -- a disk that was opened to be looked at was shown, and closed as it was then
-pub record ShowsOpened {D : Type 0} {d : Ghosts D} (Opens : D → Type 0) (i : Inspection)
+pub record ShowsOpened {D : Type 0} (d : Ghosts D) (Opens : D → Type 0) (i : Inspection)
     (asked new : Outside D) (result : Result (Unit {0}) JobFault) : Type 0 where
   pub start : D
   pub is_opened : Opens start
@@ -148,11 +155,11 @@ pub record ShowsOpened {D : Type 0} {d : Ghosts D} (Opens : D → Type 0) (i : I
   pub unread : new.unread ≡ asked.unread
 
 -- the disk of the inspection's path was shown, or can't be opened
-abbrev pub ShowsPath : {D : Type 0} {d : Ghosts D} → (D → Type 0) → Inspection
+abbrev pub ShowsPath : {D : Type 0} → Ghosts D → (D → Type 0) → Inspection
     → (old new : Outside D) → Result (Unit {0}) JobFault → Type 0
-ShowsPath {d = d} Opens i old new result =
+ShowsPath d Opens i old new result =
     IsRefused i.disk old new result
-    ⊎ ShowsOpened {d = d} Opens i (asked_for old (with_disk old.openings (opened i.disk))) new
+    ⊎ ShowsOpened d Opens i (asked_for old (with_disk old.openings (opened i.disk))) new
     result
 
 -- the outcome of a job that has no end of its own
@@ -174,7 +181,15 @@ abbrev pub Comes : (Result Driven JobFault → Type 0) → Result (Option Driven
 Comes Holds outcome =
     (result : Result Driven JobFault) × (outcome ≡ outcome_with_end result) × Holds result
 
--- what the program may reach for a drive
+-- what the program may reach for the making of a disk
+abbrev pub making_in : {D W : Type 0} {d : Ghosts D} → Reach d W → Formatting → Making D
+making_in it f = record {
+  asked = f;
+  known = it.images f.image;
+  Fills = it.Fills f.disk (size_needed (config_of f));
+}
+
+-- and for a drive
 abbrev pub means_in : {D W : Type 0} {d : Ghosts D} → Reach d W → (old new : Outside D) → Driving
     → Means d W
 means_in {d = d} it old new j =
@@ -190,17 +205,16 @@ Performs it version old new outcome =
     Does (SaysLine old.written new.written version_line) outcome
     × (new.unread ≡ old.unread) × (new.openings ≡ old.openings)
 Performs {d = d} it (format f) old new outcome =
-    Does (MakesPath {d = d} f (it.images f.image)
-    (it.Fills f.disk (size_needed (config_of f))) old new) outcome
+    Does (MakesPath d (making_in it f) old new) outcome
 Performs {d = d} it (run disk) old new outcome =
-    Does (RunsPath {d = d} disk (it.Opens disk) old new) outcome
+    Does (RunsPath d disk (it.Opens disk) old new) outcome
 Performs {d = d} it (inspect i) old new outcome =
-    Does (ShowsPath {d = d} (it.Opens i.disk) i old new) outcome
+    Does (ShowsPath d (it.Opens i.disk) i old new) outcome
 Performs {d = d} it (core c) old new outcome =
     Does (CoresPath d (it.Opens c.disk) (it.Fills c.file) c old.openings new.openings) outcome
     × (new.written ≡ old.written) × (new.unread ≡ old.unread)
 Performs {d = d} it (calls t) old new outcome =
-    Does (TracesPath {d = d} (it.Opens t.disk) t old new) outcome
+    Does (TracesPath d (it.Opens t.disk) t old new) outcome
 Performs {d = d} it (drive j) old new outcome =
     Comes (DrivesPath (means_in it old new j) j old.openings new.openings) outcome
     × IsUnwritten j.output old.written new.written × (new.unread ≡ old.unread)

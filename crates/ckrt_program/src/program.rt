@@ -33,9 +33,11 @@ fn make<'a, I: Read + Drop, D: Disk, S: Sources<'a, I, D>, W: Write>(
     writer: &mut W,
 ) -> Result<(), JobFault>
     ensures makes { (left : Option (List ℕ))
-        → MakesPath {d = D.Disk} (formatting_of job.now)
-        (S.image_bytes sources.old job.now.image.now)
-        (S.fills sources.old job.now.disk.now (size_needed (config_of (formatting_of job.now))))
+        → MakesPath D.Disk (record {
+          asked = formatting_of job.now;
+          known = S.image_bytes sources.old job.now.image.now;
+          Fills = S.fills sources.old job.now.disk.now (size_needed (config_of (formatting_of job.now)));
+        })
         (outside (S.openings sources.old) (W.contents writer.old) left)
         (outside (S.openings sources.new) (W.contents writer.new) left) result }
 {
@@ -58,7 +60,7 @@ fn run_opened<'a, I: Read, D: Disk + Drop, S: Sources<'a, I, D>, R: Read, W: Wri
     reader: &mut R,
     writer: &mut W,
 ) -> Result<(), JobFault>
-    ensures runs { RunsOpened {d = D.Disk} (λ start. start ≡ disk)
+    ensures runs { RunsOpened D.Disk (λ start. start ≡ disk)
         (outside (S.openings sources.old) (W.contents writer.old) (R.remaining reader.old))
         (outside (S.openings sources.new) (W.contents writer.new) (R.remaining reader.new))
         result }
@@ -83,7 +85,7 @@ fn run<'a, I: Read, D: Disk + Drop, S: Sources<'a, I, D>, R: Read, W: Write>(
     reader: &mut R,
     writer: &mut W,
 ) -> Result<(), JobFault>
-    ensures runs { RunsPath {d = D.Disk} path.now (S.opens sources.old path.now)
+    ensures runs { RunsPath D.Disk path.now (S.opens sources.old path.now)
         (outside (S.openings sources.old) (W.contents writer.old) (R.remaining reader.old))
         (outside (S.openings sources.new) (W.contents writer.new) (R.remaining reader.new))
         result }
@@ -103,7 +105,7 @@ fn show_opened<'a, I: Read, D: Disk, S: Sources<'a, I, D>, W: Write>(
     writer: &mut W,
 ) -> Result<(), JobFault>
     ensures shows { (left : Option (List ℕ))
-        → ShowsOpened {d = D.Disk} (λ start. start ≡ disk) (inspection_of job.now)
+        → ShowsOpened D.Disk (λ start. start ≡ disk) (inspection_of job.now)
         (outside (S.openings sources.old) (W.contents writer.old) left)
         (outside (S.openings sources.new) (W.contents writer.new) left) result }
 {
@@ -121,7 +123,7 @@ fn inspect_path<'a, I: Read, D: Disk, S: Sources<'a, I, D>, W: Write>(
     writer: &mut W,
 ) -> Result<(), JobFault>
     ensures shows { (left : Option (List ℕ))
-        → ShowsPath {d = D.Disk} (S.opens sources.old job.now.disk.now) (inspection_of job.now)
+        → ShowsPath D.Disk (S.opens sources.old job.now.disk.now) (inspection_of job.now)
         (outside (S.openings sources.old) (W.contents writer.old) left)
         (outside (S.openings sources.new) (W.contents writer.new) left) result }
 {
