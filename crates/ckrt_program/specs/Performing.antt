@@ -82,23 +82,22 @@ pub record Said : Type 0 where
 
 -- THE JOBS
 
--- the service of the stored program ended early, or didn't begin; its configuration isn't refused
-pub record EndsStored {D : Type 0} (old new : Outside D) (e : JobFault) : Type 0 where
+-- the service of the stored program ended early, or didn't begin; its configuration isn't refused. What was written goes from a to b, and what was
+-- left to read from r to s.
+pub record EndsStored (a b r s : Option (List ℕ)) (e : JobFault) : Type 0 where
   pub fault : ServeFault
   pub is : e ≡ job.Serve fault
   pub valid : fault ≢ serve.Format
   -- what was written is a beginning of what the bytes read get
-  pub part : ServedPart old.written new.written old.unread new.unread (fresh CONFIG IMAGE)
+  pub part : ServedPart a b r s (fresh CONFIG IMAGE)
   -- and nothing where it didn't begin
-  pub unwritten : IsStartFault fault → new.written ≡ old.written
-  pub unread : IsStartFault fault → new.unread ≡ old.unread
+  pub unwritten : IsStartFault fault → b ≡ a
+  pub unread : IsStartFault fault → s ≡ r
 
 -- the stored program was served in memory
-abbrev pub ServesStored : {D : Type 0} → (old new : Outside D) → Result (Unit {0}) JobFault
-    → Type 0
-ServesStored old new (Ok done) =
-    Served old.written new.written old.unread new.unread (fresh CONFIG IMAGE)
-ServesStored old new (Err e) = EndsStored old new e
+abbrev pub ServesStored : (a b r s : Option (List ℕ)) → Result (Unit {0}) JobFault → Type 0
+ServesStored a b r s (Ok done) = Served a b r s (fresh CONFIG IMAGE)
+ServesStored a b r s (Err e) = EndsStored a b r s e
 
 -- the line of a disk that was made; nothing is written where none was
 abbrev pub SaysMade : (a b : Option (List ℕ)) → List ℕ → (made result : Result (Unit {0}) JobFault)
@@ -200,7 +199,8 @@ means_in {d = d} it old new j =
 abbrev pub Performs : {D W : Type 0} {d : Ghosts D} → Reach d W → Request → (old new : Outside D)
     → Result (Option Driven) JobFault → Type 0
 Performs it stored old new outcome =
-    Does (ServesStored old new) outcome × (new.openings ≡ old.openings)
+    Does (ServesStored old.written new.written old.unread new.unread) outcome
+    × (new.openings ≡ old.openings)
 Performs it version old new outcome =
     Does (SaysLine old.written new.written version_line) outcome
     × (new.unread ≡ old.unread) × (new.openings ≡ old.openings)

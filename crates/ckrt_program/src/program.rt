@@ -6,8 +6,8 @@ ghost use Rattle.ckrt_checkpoint.specs.Layout.{size_needed};
 ghost use Rattle.ckrt_words.specs.Commands.{ckrt_app};
 ghost use Rattle.ckrt_words.specs.Jobs.{Formatting, Request, format, version, formatting_of, inspection_of, request_of, request_of_words};
 ghost use Rattle.ckrt_sources.specs.Files.{openings_of};
-ghost use Rattle.ckrt_sources.specs.Openings.{Openings};
-ghost use Rattle.ckrt_program.specs.Performing.{config_of, made_line, MakesPath, Performs, RunsOpened, RunsPath, RunsWords, ServesStored, ShowsOpened, ShowsPath, any_files, outcome_with_end, outcome_without_end, outside};
+ghost use Rattle.ckrt_program.specs.Performing.{config_of, made_line, MakesPath, Performs, RunsOpened, RunsPath, RunsWords, ServesStored, ShowsOpened, ShowsPath, any_files, outcome_with_end, outcome_without_end};
+ghost use Rattle.ckrt_outcomes.specs.Outside.{outside};
 ghost use Rattle.ckrt_reports.specs.Lines.{version_line};
 
 use crate::stored;
@@ -139,9 +139,8 @@ fn serve_stored<R: Read, W: Write>(
     reader: &mut R,
     writer: &mut W,
 ) -> Result<(), JobFault>
-    ensures serves { (D : Type 0) (openings : Openings D)
-        → ServesStored (outside openings (W.contents writer.old) (R.remaining reader.old))
-        (outside openings (W.contents writer.new) (R.remaining reader.new)) result }
+    ensures serves { ServesStored (W.contents writer.old) (W.contents writer.new)
+        (R.remaining reader.old) (R.remaining reader.new) result }
 {
     match serve_image(alloc, &stored::IMAGE, stored::CONFIG, reader, writer) {
         Ok(()) => Ok(()),
