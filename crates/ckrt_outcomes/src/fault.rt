@@ -112,7 +112,7 @@ fn inspection_advice(fault: InspectFault) -> &'static str
         InspectFault::OutOfMemory => FileFault::OutOfMemory.text(),
         InspectFault::Write => service_advice(ServeFault::Write),
         InspectFault::Range => {
-            "it has no state after --at events, no longer or not yet; without --at it is that after the last one"
+            "it has no state after so many events, no longer or not yet; leave out --at, --from or --to"
         }
     }
 }

@@ -6,13 +6,15 @@ ghost use Rattle.ckrt_checkpoint.specs.Layout.{size_needed};
 ghost use Rattle.ckrt_words.specs.Commands.{ckrt_app};
 ghost use Rattle.ckrt_words.specs.Jobs.{Formatting, Request, format, version, formatting_of, inspection_of, request_of, request_of_words};
 ghost use Rattle.ckrt_sources.specs.Files.{openings_of};
-ghost use Rattle.ckrt_program.specs.Performing.{config_of, made_line, MakesPath, Performs, RunsOnFiles, RunsOpened, RunsPath, RunsWords, ServesStored, ShowsOpened, ShowsPath, outcome_with_end, outcome_without_end};
+ghost use Rattle.ckrt_program.specs.Performing.{config_of, made_line, MakesPath, Performs, RunsOpened, RunsPath, RunsWords, ServesStored, ShowsOpened, ShowsPath, any_files, outcome_with_end, outcome_without_end};
+ghost use Rattle.ckrt_outcomes.specs.Outside.{outside};
 ghost use Rattle.ckrt_reports.specs.Lines.{version_line};
 
 use crate::stored;
 use ckrt_disk::Disk;
 use ckrt_drive::StreamOutput;
 use ckrt_jobs::{core_path, drive_path, inspect_disk, make_disk, run_disk};
+use ckrt_looks::calls_path;
 use ckrt_main::serve_image;
 use ckrt_outcomes::{Driven, JobFault, Meter};
 use ckrt_recovery::Config;
@@ -30,11 +32,14 @@ fn make<'a, I: Read + Drop, D: Disk, S: Sources<'a, I, D>, W: Write>(
     sources: &mut S,
     writer: &mut W,
 ) -> Result<(), JobFault>
-    ensures makes { MakesPath D.Disk (formatting_of job.now)
-        (S.image_bytes sources.old job.now.image.now)
-        (S.fills sources.old job.now.disk.now (size_needed (config_of (formatting_of job.now))))
-        (S.openings sources.old) (S.openings sources.new) (W.contents writer.old)
-        (W.contents writer.new) result }
+    ensures makes { (left : Option (List ℕ))
+        → MakesPath D.Disk (record {
+          asked = formatting_of job.now;
+          known = S.image_bytes sources.old job.now.image.now;
+          Fills = S.fills sources.old job.now.disk.now (size_needed (config_of (formatting_of job.now)));
+        })
+        (outside (S.openings sources.old) (W.contents writer.old) left)
+        (outside (S.openings sources.new) (W.contents writer.new) left) result }
 {
     let config = Config {
         pages: job.pages,
@@ -55,9 +60,10 @@ fn run_opened<'a, I: Read, D: Disk + Drop, S: Sources<'a, I, D>, R: Read, W: Wri
     reader: &mut R,
     writer: &mut W,
 ) -> Result<(), JobFault>
-    ensures runs { RunsOpened D.Disk (λ start. start ≡ disk) (S.openings sources.old)
-        (S.openings sources.new) (W.contents writer.old) (W.contents writer.new)
-        (R.remaining reader.old) (R.remaining reader.new) result }
+    ensures runs { RunsOpened D.Disk (λ start. start ≡ disk)
+        (outside (S.openings sources.old) (W.contents writer.old) (R.remaining reader.old))
+        (outside (S.openings sources.new) (W.contents writer.new) (R.remaining reader.new))
+        result }
 {
     match run_disk(alloc, disk, reader, writer) {
         Ok(disk) => {
@@ -79,9 +85,10 @@ fn run<'a, I: Read, D: Disk + Drop, S: Sources<'a, I, D>, R: Read, W: Write>(
     reader: &mut R,
     writer: &mut W,
 ) -> Result<(), JobFault>
-    ensures runs { RunsPath D.Disk path.now (S.opens sources.old path.now) (S.openings sources.old)
-        (S.openings sources.new) (W.contents writer.old) (W.contents writer.new)
-        (R.remaining reader.old) (R.remaining reader.new) result }
+    ensures runs { RunsPath D.Disk path.now (S.opens sources.old path.now)
+        (outside (S.openings sources.old) (W.contents writer.old) (R.remaining reader.old))
+        (outside (S.openings sources.new) (W.contents writer.new) (R.remaining reader.new))
+        result }
 {
     match sources.open_disk(path) {
         Ok(disk) => run_opened::<I, D, S, R, W>(alloc, disk, sources, reader, writer),
@@ -99,8 +106,8 @@ fn show_opened<'a, I: Read, D: Disk, S: Sources<'a, I, D>, W: Write>(
 ) -> Result<(), JobFault>
     ensures shows { (left : Option (List ℕ))
         → ShowsOpened D.Disk (λ start. start ≡ disk) (inspection_of job.now)
-        (S.openings sources.old) (S.openings sources.new) (W.contents writer.old)
-        (W.contents writer.new) left left result }
+        (outside (S.openings sources.old) (W.contents writer.old) left)
+        (outside (S.openings sources.new) (W.contents writer.new) left) result }
 {
     let mut disk = disk;
     let answer = inspect_disk(alloc, &mut disk, job, writer);
@@ -117,8 +124,8 @@ fn inspect_path<'a, I: Read, D: Disk, S: Sources<'a, I, D>, W: Write>(
 ) -> Result<(), JobFault>
     ensures shows { (left : Option (List ℕ))
         → ShowsPath D.Disk (S.opens sources.old job.now.disk.now) (inspection_of job.now)
-        (S.openings sources.old) (S.openings sources.new) (W.contents writer.old)
-        (W.contents writer.new) left left result }
+        (outside (S.openings sources.old) (W.contents writer.old) left)
+        (outside (S.openings sources.new) (W.contents writer.new) left) result }
 {
     match sources.look_at_disk(job.disk) {
         Ok(disk) => show_opened::<I, D, S, W>(alloc, disk, job, sources, writer),
@@ -178,11 +185,18 @@ fn perform<
     writer: &mut W,
     meter: &mut M,
 ) -> Result<Option<Driven>, JobFault>
-    ensures performs { Performs D.Disk ⟦<StreamOutput<'a, W> as Disk>⟧ W.contents
-        (request_of job.now) (S.image_bytes sources.old) (S.opens sources.old)
-        (S.fills sources.old) (S.gives sources.old) (S.openings sources.old)
-        (S.openings sources.new) (W.contents writer.old) (W.contents writer.new)
-        (R.remaining reader.old) (R.remaining reader.new) result }
+    ensures performs { Performs {d = D.Disk} (record {
+      stream = ⟦<StreamOutput<'a, W> as Disk>⟧;
+      contents = W.contents;
+      images = S.image_bytes sources.old;
+      Opens = S.opens sources.old;
+      Fills = S.fills sources.old;
+      others = S.gives sources.old;
+    })
+        (request_of job.now)
+        (outside (S.openings sources.old) (W.contents writer.old) (R.remaining reader.old))
+        (outside (S.openings sources.new) (W.contents writer.new) (R.remaining reader.new))
+        result }
 {
     match job {
         Job::Stored => without_end(serve_stored(alloc, reader, writer)),
@@ -191,6 +205,7 @@ fn perform<
         Job::Run(path) => without_end(run::<I, D, S, R, W>(alloc, path, sources, reader, writer)),
         Job::Inspect(job) => without_end(inspect_path::<I, D, S, W>(alloc, job, sources, writer)),
         Job::Core(job) => without_end(core_path::<I, D, S>(alloc, job, sources)),
+        Job::Calls(job) => without_end(calls_path::<I, D, S, W>(alloc, job, sources, writer)),
         Job::Drive(job) => {
             with_end(drive_path::<I, D, S, W, M>(alloc, job, sources, writer, meter))
         }
@@ -199,7 +214,7 @@ fn perform<
 
 /// Does what the words after the program's name ask for, with images and disks of any sources: `format DISK IMAGE` prints
 /// `formatted SIZE`, `run DISK` answers the lines of the reader, `inspect DISK` shows what the disk holds, `core DISK FILE`
-/// writes it as a core into FILE, `drive DISK`
+/// writes it as a core into FILE, `calls DISK` tells its calls, `drive DISK`
 /// runs its program to its end, with its output in a file or printed, and reports what it came to in a line, `--version`
 /// prints the version and its kit, no words serve the stored program in memory. Of a fault two lines are reported: what is
 /// wrong in plain words, with the path of the file that it is of, and `ckrt: NAME`. Of words that name no job a text is. A
@@ -235,12 +250,23 @@ pub fn run_words_with<
         → Appends (W.contents writer.old) (W.contents writer.new) version_line }
     ensures usage { result ≡ 2 → takes ckrt_app (map (λ s. s.now) words.entry.now) ≢ true }
     ensures stored { result ≡ 2 → words.entry.now ≢ [] }
-    ensures outcome { RunsWords D.Disk ⟦<StreamOutput<'a, W> as Disk>⟧ W.contents
-        (map (λ s. s.now) words.entry.now) (S.image_bytes sources.old) (S.opens sources.old)
-        (S.fills sources.old) (S.gives sources.old) (S.openings sources.old)
-        (S.openings sources.new) (W.contents writer.old) (W.contents writer.new)
-        (R.remaining reader.old) (R.remaining reader.new) (E.said reporter.old)
-        (E.said reporter.new) (E.has_failed reporter.new) result }
+    ensures outcome { RunsWords {d = D.Disk} (record {
+      stream = ⟦<StreamOutput<'a, W> as Disk>⟧;
+      contents = W.contents;
+      images = S.image_bytes sources.old;
+      Opens = S.opens sources.old;
+      Fills = S.fills sources.old;
+      others = S.gives sources.old;
+    })
+        (map (λ s. s.now) words.entry.now)
+        (outside (S.openings sources.old) (W.contents writer.old) (R.remaining reader.old))
+        (outside (S.openings sources.new) (W.contents writer.new) (R.remaining reader.new))
+        (record {
+          before = E.said reporter.old;
+          behind = E.said reporter.new;
+          has_failed = E.has_failed reporter.new;
+        })
+        result }
 {
     match read_words(alloc, words) {
         Ok(job) => {
@@ -273,11 +299,16 @@ pub fn run_words<'a, F: Files<File = File>, R: Read, W: Write + 'a, E: Reporter,
         → Appends (W.contents writer.old) (W.contents writer.new) version_line }
     ensures usage { result ≡ 2 → takes ckrt_app (map (λ s. s.now) words.entry.now) ≢ true }
     ensures stored { result ≡ 2 → words.entry.now ≢ [] }
-    ensures outcome { RunsOnFiles ⟦<SystemDisk<'a> as Disk>⟧ ⟦<StreamOutput<'a, W> as Disk>⟧
-        W.contents (map (λ s. s.now) words.entry.now) (openings_of sources.old)
-        (openings_of sources.new) (W.contents writer.old) (W.contents writer.new)
-        (R.remaining reader.old) (R.remaining reader.new) (E.said reporter.old)
-        (E.said reporter.new) (E.has_failed reporter.new) result }
+    ensures outcome { RunsWords {d = ⟦<SystemDisk<'a> as Disk>⟧}
+        (any_files ⟦<StreamOutput<'a, W> as Disk>⟧ W.contents) (map (λ s. s.now) words.entry.now)
+        (outside (openings_of sources.old) (W.contents writer.old) (R.remaining reader.old))
+        (outside (openings_of sources.new) (W.contents writer.new) (R.remaining reader.new))
+        (record {
+          before = E.said reporter.old;
+          behind = E.said reporter.new;
+          has_failed = E.has_failed reporter.new;
+        })
+        result }
 {
     run_words_with::<File, SystemDisk<'a>, SystemSources<'a, F, SystemDisk<'a>>, R, W, E, M>(
         alloc, words, sources, reader, writer, reporter, meter,

@@ -84,6 +84,7 @@ fn path<'a>(job: &Job<'a>, file: JobFile) -> &'a str
         (Job::Drive(job), JobFile::Input) => job.input.unwrap_or(""),
         (Job::Core(job), JobFile::Disk) => job.disk,
         (Job::Core(job), JobFile::Core) => job.file,
+        (Job::Calls(job), JobFile::Disk) => job.disk,
         _ => "",
     }
 }
