@@ -7,3 +7,5 @@ mod expect;
 mod kept;
 #[cfg(test)]
 mod outcomes;
+#[cfg(test)]
+mod tables;
