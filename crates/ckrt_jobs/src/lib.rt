@@ -70,6 +70,6 @@ pub use core_file::core_path;
 pub use driving::drive_path;
 pub use feeding::Intake;
 pub use laws::printed_bytes_stay;
-pub use making::make_disk;
+pub use making::{fitting_image, make_disk};
 pub use running::{Unserved, run_disk};
 pub use showing::inspect_disk;

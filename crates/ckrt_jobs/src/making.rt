@@ -41,7 +41,7 @@ fn open_image<'a, I: Read, D: Disk, S: Sources<'a, I, D>>(
 }
 
 /// The image, which is no ELF file, and has no more bytes than the guest's memory.
-pub(crate) fn fitting_image<'a, I: Read + Drop, D: Disk, S: Sources<'a, I, D>>(
+pub fn fitting_image<'a, I: Read + Drop, D: Disk, S: Sources<'a, I, D>>(
     alloc: Global,
     sources: &mut S,
     path: &'a str,

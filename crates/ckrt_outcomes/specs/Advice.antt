@@ -55,6 +55,7 @@ file_of (job.OffsetDiffers taken) = Some file.Disk
 file_of (job.InputTooShort l) = Some file.Input
 file_of (job.OutputFailed why) = Some file.Output
 file_of (job.Drive f) = Some (file_of_drive f)
+file_of job.RunTooLong = Some file.Making
 file_of _ = None
 
 -- behind a number that is out of its range
@@ -122,3 +123,4 @@ advice_of (job.OffsetDiffers taken) = codes "leave --input-from out"
 advice_of (job.InputTooShort l) = codes "give the file that it had before, whole"
 advice_of (job.OutputFailed why) = reason_text why
 advice_of (job.Drive f) = advice_of_drive f
+advice_of job.RunTooLong = codes "it can't take the whole run, mostly since that has more events than a journal; give fewer --steps"

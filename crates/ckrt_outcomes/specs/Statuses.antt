@@ -6,7 +6,8 @@ use Rattle.ckrt_drive.specs.declared.progress.Ending.{Ending}
 use Rattle.ckrt_drive.specs.declared.progress.Ending.TheVariants.{Ended, WaitsForInput, Deadlock, Enough}
 use Rattle.ckrt_words.specs.declared.job.WordsFault.{WordsFault}
 use Rattle.ckrt_words.specs.declared.job.WordsFault.TheVariants as words
-use Rattle.ckrt_outcomes.specs.declared.driven.Driven.{Driven}
+use Rattle.ckrt_outcomes.specs.declared.done.Done.{Done}
+use Rattle.ckrt_outcomes.specs.declared.done.Done.TheVariants as done
 use Rattle.ckrt_outcomes.specs.declared.fault.JobFault.{JobFault}
 
 -- of a guest that ended: 0 by `exit 0` alone, 7 by another exit status, 6 by a fault; 5 of one that still runs
@@ -23,10 +24,11 @@ end_status (Some WaitsForInput) status = 3
 end_status (Some Deadlock) status = 4
 end_status (Some Enough) status = 5
 
--- the program's status for a job: 0 where it is done; of a drive, its end's
-abbrev pub status_of : Result (Option Driven) JobFault → ℕ
-status_of (Ok None) = 0
-status_of (Ok (Some driven)) = end_status driven.ending driven.status
+-- the program's status for a job: 0 where it is done; of a drive, its end's; of a hunt with several outcomes 8
+abbrev pub status_of : Result Done JobFault → ℕ
+status_of (Ok done.Whole) = 0
+status_of (Ok (done.Driven driven)) = end_status driven.ending driven.status
+status_of (Ok done.Several) = 8
 status_of (Err fault) = 1
 
 -- and for words that name none

@@ -41,6 +41,8 @@ pub enum JobFault {
     OutputFailed(OutputReason),
     /// The drive ended early.
     Drive(DriveFault),
+    /// The disk that is made for a run of a hunt can't take all of its events.
+    RunTooLong,
 }
 
 /// What is said where the disk failed a call.
@@ -179,6 +181,10 @@ const OFFSET_ADVICE: &str = "leave --input-from out";
 /// What is said of a file that is shorter than what was taken of it, behind the numbers.
 const SHORT_ADVICE: &str = "give the file that it had before, whole";
 
+/// What is said of a disk that can't take a whole run.
+const RUN_ADVICE: &str =
+    "it can't take the whole run, mostly since that has more events than a journal; give fewer --steps";
+
 /// What is said of an output whose file has another length than that of the disk, behind its numbers.
 fn lengths_advice(lengths: OutputLengths) -> &'static str
     ensures { result.now ≡ advice_of_lengths lengths }
@@ -238,6 +244,7 @@ impl JobFault {
             JobFault::InputTooShort(_) => "InputTooShort",
             JobFault::OutputFailed(_) => "Output",
             JobFault::Drive(fault) => drive_name(fault),
+            JobFault::RunTooLong => "RunTooLong",
         }
     }
 
@@ -260,6 +267,7 @@ impl JobFault {
             JobFault::InputTooShort(_) => SHORT_ADVICE,
             JobFault::OutputFailed(why) => why.text(),
             JobFault::Drive(fault) => drive_advice(fault),
+            JobFault::RunTooLong => RUN_ADVICE,
         }
     }
 
@@ -292,6 +300,7 @@ impl JobFault {
             JobFault::OutputDiffers(_) | JobFault::OutputFailed(_) => Some(JobFile::Output),
             JobFault::InputTooShort(_) => Some(JobFile::Input),
             JobFault::Drive(fault) => Some(drive_file(fault)),
+            JobFault::RunTooLong => Some(JobFile::Making),
             _ => None,
         }
     }

@@ -1,5 +1,5 @@
 -- What the program does for its words: the outcome of each job, by what its sources give.
-use Rattle.std.specs.Prelude.{◌≡◌, ◌≢◌, ◌⊎◌, ℕ, Bool, true, List, [], ◌∷◌, Option, Some, None, Result, Ok, Err}
+use Rattle.std.specs.Prelude.{◌≡◌, ◌≢◌, ◌⊎◌, ℕ, Bool, true, false, List, [], ◌∷◌, Option, Some, None, Result, Ok, Err}
 use Rattle.clap.specs.Words.{takes}
 use Rattle.ckrt_disk.specs.declared.disk.Disk.{Ghosts}
 use Rattle.ckrt_checkpoint.specs.Layout.{size_needed}
@@ -9,7 +9,7 @@ use Rattle.ckrt_main.specs.Service.{IsStartFault, Served, ServedPart}
 use Rattle.ckrt_main.specs.declared.fault.ServeFault.{ServeFault}
 use Rattle.ckrt_main.specs.declared.fault.ServeFault.TheVariants as serve
 use Rattle.ckrt_words.specs.Commands.{ckrt_app}
-use Rattle.ckrt_words.specs.Jobs.{Driving, Formatting, Request, Inspection, calls, core, drive, format, inspect, request_of_words, run, stored, version}
+use Rattle.ckrt_words.specs.Jobs.{Driving, Formatting, Hunting, Request, Inspection, calls, core, drive, format, hunt, inspect, request_of_words, run, stored, version}
 use Rattle.ckrt_words.specs.declared.job.WordsFault.{WordsFault}
 use Rattle.ckrt_words.specs.declared.job.WordsFault.TheVariants as words
 use Rattle.ckrt_drive.specs.declared.stream.StreamOutput.{StreamOutput}
@@ -24,7 +24,10 @@ use Rattle.ckrt_reports.specs.Lines.{Reports, ReportsOutcome, SaysLine, formatte
 use Rattle.ckrt_reports.specs.Reports.{words_report_of}
 use Rattle.ckrt_jobs.specs.Showing.{Shows, shown_of}
 use Rattle.ckrt_looks.specs.Tracing.{TracesPath}
+use Rattle.ckrt_hunts.specs.Hunting.{Hunter, HuntsPath, kept_size}
 use Rattle.ckrt_sources.specs.Sources.{Gives, anything}
+use Rattle.ckrt_outcomes.specs.declared.done.Done.{Done}
+use Rattle.ckrt_outcomes.specs.declared.done.Done.TheVariants as done
 use Rattle.ckrt_outcomes.specs.declared.driven.Driven.{Driven}
 use Rattle.ckrt_outcomes.specs.declared.fault.JobFault.{JobFault}
 use Rattle.ckrt_outcomes.specs.declared.fault.JobFault.TheVariants as job
@@ -162,23 +165,33 @@ ShowsPath d Opens i old new result =
     result
 
 -- the outcome of a job that has no end of its own
-abbrev pub outcome_without_end : Result (Unit {0}) JobFault → Result (Option Driven) JobFault
-outcome_without_end (Ok done) = Ok None
+abbrev pub outcome_without_end : Result (Unit {0}) JobFault → Result Done JobFault
+outcome_without_end (Ok it) = Ok done.Whole
 outcome_without_end (Err fault) = Err fault
 
 -- such a job was done, or why it wasn't
-abbrev pub Does : (Result (Unit {0}) JobFault → Type 0) → Result (Option Driven) JobFault → Type 0
+abbrev pub Does : (Result (Unit {0}) JobFault → Type 0) → Result Done JobFault → Type 0
 Does Holds outcome =
     (result : Result (Unit {0}) JobFault) × (outcome ≡ outcome_without_end result) × Holds result
 
 -- what a drive came to is its outcome
-abbrev pub outcome_with_end : Result Driven JobFault → Result (Option Driven) JobFault
-outcome_with_end (Ok driven) = Ok (Some driven)
+abbrev pub outcome_with_end : Result Driven JobFault → Result Done JobFault
+outcome_with_end (Ok driven) = Ok (done.Driven driven)
 outcome_with_end (Err fault) = Err fault
 
-abbrev pub Comes : (Result Driven JobFault → Type 0) → Result (Option Driven) JobFault → Type 0
+abbrev pub Comes : (Result Driven JobFault → Type 0) → Result Done JobFault → Type 0
 Comes Holds outcome =
     (result : Result Driven JobFault) × (outcome ≡ outcome_with_end result) × Holds result
+
+-- what the runs of a hunt came to is its outcome
+abbrev pub outcome_of_hunt : Result Bool JobFault → Result Done JobFault
+outcome_of_hunt (Ok true) = Ok done.Several
+outcome_of_hunt (Ok false) = Ok done.Whole
+outcome_of_hunt (Err fault) = Err fault
+
+abbrev pub Hunts : (Result Bool JobFault → Type 0) → Result Done JobFault → Type 0
+Hunts Holds outcome =
+    (result : Result Bool JobFault) × (outcome ≡ outcome_of_hunt result) × Holds result
 
 -- what the program may reach for the making of a disk
 abbrev pub making_in : {D W : Type 0} {d : Ghosts D} → Reach d W → Formatting → Making D
@@ -187,6 +200,10 @@ making_in it f = record {
   known = it.images f.image;
   Fills = it.Fills f.disk (size_needed (config_of f));
 }
+
+-- for a hunt
+abbrev pub hunter_in : {D W : Type 0} {d : Ghosts D} → Reach d W → Hunting → Hunter D
+hunter_in it h = record { asked = h; known = it.images h.image; Fills = λ path. it.Fills path (kept_size h) }
 
 -- and for a drive
 abbrev pub means_in : {D W : Type 0} {d : Ghosts D} → Reach d W → (old new : Outside D) → Driving
@@ -197,7 +214,7 @@ means_in {d = d} it old new j =
 
 -- what the program does for a request: what asks for no file opens none
 abbrev pub Performs : {D W : Type 0} {d : Ghosts D} → Reach d W → Request → (old new : Outside D)
-    → Result (Option Driven) JobFault → Type 0
+    → Result Done JobFault → Type 0
 Performs it stored old new outcome =
     Does (ServesStored old.written new.written old.unread new.unread) outcome
     × (new.openings ≡ old.openings)
@@ -215,6 +232,8 @@ Performs {d = d} it (core c) old new outcome =
     × (new.written ≡ old.written) × (new.unread ≡ old.unread)
 Performs {d = d} it (calls t) old new outcome =
     Does (TracesPath d (it.Opens t.disk) t old new) outcome
+Performs {d = d} it (hunt h) old new outcome =
+    Hunts (HuntsPath d (hunter_in it h) old new) outcome
 Performs {d = d} it (drive j) old new outcome =
     Comes (DrivesPath (means_in it old new j) j old.openings new.openings) outcome
     × IsUnwritten j.output old.written new.written × (new.unread ≡ old.unread)
@@ -224,7 +243,7 @@ Performs {d = d} it (drive j) old new outcome =
 -- the program's words ask for something: what was done, what was said of it, and the status
 pub record RunsRequest {D W : Type 0} {d : Ghosts D} (it : Reach d W) (q : Request)
     (old new : Outside D) (said : Said) (status : ℕ) : Type 0 where
-  pub outcome : Result (Option Driven) JobFault
+  pub outcome : Result Done JobFault
   pub performs : Performs it q old new outcome
   pub reports : ReportsOutcome q outcome said.before said.behind said.has_failed
   pub gives : status ≡ status_of outcome

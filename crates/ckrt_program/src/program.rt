@@ -6,17 +6,18 @@ ghost use Rattle.ckrt_checkpoint.specs.Layout.{size_needed};
 ghost use Rattle.ckrt_words.specs.Commands.{ckrt_app};
 ghost use Rattle.ckrt_words.specs.Jobs.{Formatting, Request, format, version, formatting_of, inspection_of, request_of, request_of_words};
 ghost use Rattle.ckrt_sources.specs.Files.{openings_of};
-ghost use Rattle.ckrt_program.specs.Performing.{config_of, made_line, MakesPath, Performs, RunsOpened, RunsPath, RunsWords, ServesStored, ShowsOpened, ShowsPath, any_files, outcome_with_end, outcome_without_end};
+ghost use Rattle.ckrt_program.specs.Performing.{config_of, made_line, MakesPath, Performs, RunsOpened, RunsPath, RunsWords, ServesStored, ShowsOpened, ShowsPath, any_files, outcome_of_hunt, outcome_with_end, outcome_without_end};
 ghost use Rattle.ckrt_outcomes.specs.Outside.{outside};
 ghost use Rattle.ckrt_reports.specs.Lines.{version_line};
 
 use crate::stored;
 use ckrt_disk::Disk;
 use ckrt_drive::StreamOutput;
+use ckrt_hunts::hunt_path;
 use ckrt_jobs::{core_path, drive_path, inspect_disk, make_disk, run_disk};
 use ckrt_looks::calls_path;
 use ckrt_main::serve_image;
-use ckrt_outcomes::{Driven, JobFault, Meter};
+use ckrt_outcomes::{Done, Driven, JobFault, Meter};
 use ckrt_recovery::Config;
 use ckrt_reports::{Reporter, report, report_words, write_formatted, write_version};
 use ckrt_sources::{JobFile, Sources, SystemDisk, SystemSources};
@@ -149,21 +150,32 @@ fn serve_stored<R: Read, W: Write>(
 }
 
 /// The outcome of a job that has no end of its own.
-fn without_end(done: Result<(), JobFault>) -> Result<Option<Driven>, JobFault>
+fn without_end(done: Result<(), JobFault>) -> Result<Done, JobFault>
     ensures { result ≡ outcome_without_end done }
 {
     match done {
-        Ok(()) => Ok(None),
+        Ok(()) => Ok(Done::Whole),
         Err(fault) => Err(fault),
     }
 }
 
 /// What a drive came to, as the outcome of its job.
-fn with_end(driven: Result<Driven, JobFault>) -> Result<Option<Driven>, JobFault>
+fn with_end(driven: Result<Driven, JobFault>) -> Result<Done, JobFault>
     ensures { result ≡ outcome_with_end driven }
 {
     match driven {
-        Ok(driven) => Ok(Some(driven)),
+        Ok(driven) => Ok(Done::Driven(driven)),
+        Err(fault) => Err(fault),
+    }
+}
+
+/// What the runs of a hunt came to, as the outcome of its job.
+fn of_hunt(several: Result<bool, JobFault>) -> Result<Done, JobFault>
+    ensures { result ≡ outcome_of_hunt several }
+{
+    match several {
+        Ok(true) => Ok(Done::Several),
+        Ok(false) => Ok(Done::Whole),
         Err(fault) => Err(fault),
     }
 }
@@ -184,7 +196,7 @@ fn perform<
     reader: &mut R,
     writer: &mut W,
     meter: &mut M,
-) -> Result<Option<Driven>, JobFault>
+) -> Result<Done, JobFault>
     ensures performs { Performs {d = D.Disk} (record {
       stream = ⟦<StreamOutput<'a, W> as Disk>⟧;
       contents = W.contents;
@@ -206,6 +218,7 @@ fn perform<
         Job::Inspect(job) => without_end(inspect_path::<I, D, S, W>(alloc, job, sources, writer)),
         Job::Core(job) => without_end(core_path::<I, D, S>(alloc, job, sources)),
         Job::Calls(job) => without_end(calls_path::<I, D, S, W>(alloc, job, sources, writer)),
+        Job::Hunt(job) => of_hunt(hunt_path::<I, D, S, W>(alloc, job, sources, writer)),
         Job::Drive(job) => {
             with_end(drive_path::<I, D, S, W, M>(alloc, job, sources, writer, meter))
         }
@@ -214,13 +227,14 @@ fn perform<
 
 /// Does what the words after the program's name ask for, with images and disks of any sources: `format DISK IMAGE` prints
 /// `formatted SIZE`, `run DISK` answers the lines of the reader, `inspect DISK` shows what the disk holds, `core DISK FILE`
-/// writes it as a core into FILE, `calls DISK` tells its calls, `drive DISK`
+/// writes it as a core into FILE, `calls DISK` tells its calls, `hunt IMAGE` tells what other schedules come to, `drive DISK`
 /// runs its program to its end, with its output in a file or printed, and reports what it came to in a line, `--version`
 /// prints the version and its kit, no words serve the stored program in memory. Of a fault two lines are reported: what is
 /// wrong in plain words, with the path of the file that it is of, and `ckrt: NAME`. Of words that name no job a text is. A
 /// drive is looked on by the meter. The answer is the program's status: 0 where all was done, 1 for a fault, 2 for words that
 /// name no job. Of a drive it is 0 where the guest ended by `exit 0` alone, 3 where it waits for input, 4 for a deadlock, 5 where
-/// it made as many events as were asked for, 6 where a fault ended the guest, 7 where the guest ended by another status.
+/// it made as many events as were asked for, 6 where a fault ended the guest, 7 where the guest ended by another status. Of a hunt
+/// it is 8 where its runs came to several outcomes.
 pub fn run_words_with<
     'a,
     I: Read + Drop,
@@ -239,7 +253,7 @@ pub fn run_words_with<
     reporter: &mut E,
     meter: &mut M,
 ) -> u8
-    ensures bound { result ≤ 7 }
+    ensures bound { result ≤ 8 }
     ensures asked { result ≡ 0
         → (r : Request) × (request_of_words (map (λ s. s.now) words.entry.now) ≡ Some r) }
     ensures made { result ≡ 0 → (f : Formatting)
@@ -288,7 +302,7 @@ pub fn run_words<'a, F: Files<File = File>, R: Read, W: Write + 'a, E: Reporter,
     reporter: &mut E,
     meter: &mut M,
 ) -> u8
-    ensures bound { result ≤ 7 }
+    ensures bound { result ≤ 8 }
     ensures asked { result ≡ 0
         → (r : Request) × (request_of_words (map (λ s. s.now) words.entry.now) ≡ Some r) }
     ensures made { result ≡ 0 → (f : Formatting)

@@ -4,7 +4,8 @@ use Rattle.std.specs.Io.KnownBytes.{Appends}
 use Rattle.ckrt_commands.specs.Writing.{AppendsPart}
 use Rattle.ckrt_main.specs.declared.fault.ServeFault.TheVariants as serve
 use Rattle.ckrt_words.specs.Jobs.{Request}
-use Rattle.ckrt_outcomes.specs.declared.driven.Driven.{Driven}
+use Rattle.ckrt_outcomes.specs.declared.done.Done.{Done}
+use Rattle.ckrt_outcomes.specs.declared.done.Done.TheVariants as done
 use Rattle.ckrt_outcomes.specs.declared.fault.JobFault.{JobFault}
 use Rattle.ckrt_outcomes.specs.declared.fault.JobFault.TheVariants as job
 use Rattle.ckrt_reports.specs.Ends.{end_line}
@@ -28,10 +29,11 @@ abbrev pub Reports : (before after : Option (List ℕ)) → Bool → List ℕ �
 Reports before after has_failed text = has_failed ≡ false → Appends before after text
 
 -- what a reporter said of an outcome: the line of what a drive came to, the lines of a fault, and else nothing
-abbrev pub ReportsOutcome : Request → Result (Option Driven) JobFault
-    → (before after : Option (List ℕ)) → Bool → Type 0
-ReportsOutcome q (Ok None) before after has_failed = after ≡ before
-ReportsOutcome q (Ok (Some driven)) before after has_failed =
+abbrev pub ReportsOutcome : Request → Result Done JobFault → (before after : Option (List ℕ)) → Bool
+    → Type 0
+ReportsOutcome q (Ok done.Whole) before after has_failed = after ≡ before
+ReportsOutcome q (Ok done.Several) before after has_failed = after ≡ before
+ReportsOutcome q (Ok (done.Driven driven)) before after has_failed =
     Reports before after has_failed (end_line driven)
 ReportsOutcome q (Err fault) before after has_failed =
     Reports before after has_failed (report_of q fault)

@@ -18,7 +18,7 @@ use crate::version::VERSION;
 use arrayvec::ArrayVec;
 use ckrt_drive::Ending;
 use ckrt_main::write_reply;
-use ckrt_outcomes::{Driven, InputLengths, JobFault, OutputLengths};
+use ckrt_outcomes::{Done, Driven, InputLengths, JobFault, OutputLengths};
 use ckrt_recovery::{Config, FormatFault};
 use ckrt_rv32i::Cause;
 use ckrt_sources::JobFile;
@@ -85,6 +85,9 @@ fn path<'a>(job: &Job<'a>, file: JobFile) -> &'a str
         (Job::Core(job), JobFile::Disk) => job.disk,
         (Job::Core(job), JobFile::Core) => job.file,
         (Job::Calls(job), JobFile::Disk) => job.disk,
+        (Job::Hunt(job), JobFile::Image) => job.image,
+        (Job::Hunt(job), JobFile::Disk) => job.keep.unwrap_or(""),
+        (Job::Hunt(job), JobFile::Making) => job.keep.unwrap_or(""),
         _ => "",
     }
 }
@@ -433,18 +436,15 @@ pub fn write_version<W: Write>(writer: &mut W) -> Result<(), JobFault>
 }
 
 /// Says what a drive came to, or why a job wasn't done, if it wasn't. The answer is the program's status.
-pub fn report<E: Reporter>(
-    reporter: &mut E,
-    job: &Job<'_>,
-    outcome: Result<Option<Driven>, JobFault>,
-) -> u8
+pub fn report<E: Reporter>(reporter: &mut E, job: &Job<'_>, outcome: Result<Done, JobFault>) -> u8
     ensures status { result ≡ status_of outcome }
     ensures reports { ReportsOutcome (request_of job.now) outcome (E.said reporter.old)
         (E.said reporter.new) (E.has_failed reporter.new) }
 {
     match outcome {
-        Ok(None) => 0,
-        Ok(Some(driven)) => {
+        Ok(Done::Whole) => 0,
+        Ok(Done::Several) => 8,
+        Ok(Done::Driven(driven)) => {
             let _ = say_end(reporter, driven);
             driven.exit_status()
         }

@@ -11,6 +11,10 @@ use ckrt_outcomes::{config_for, is_target};
 use ckrt_recovery::Config;
 use ckrt_words::{DriveJob, Job};
 
+/// What is said of a text that is no range of seeds.
+const SEEDS_TEXT: &[u8] =
+    b"--seeds isn't FIRST-LAST, two numbers below 2^64 - 1, the first one not above the last: ";
+
 fn is_outside(least: u32, most: u32, number: u32) -> bool
     ensures { result ≡ is_outside least most number }
 {
@@ -54,7 +58,7 @@ fn say_unfit_drive<E: Reporter>(reporter: &mut E, job: &DriveJob<'_>) -> Result<
     reporter.say(b"--input-from is below 2^62, and goes with --input: ")
 }
 
-/// Says which number of the words is the fault Range, where they ask for a drive.
+/// Says which number of the words is the fault Range, where they ask for a drive or a hunt.
 pub(crate) fn say_unfit<E: Reporter>(reporter: &mut E, job: &Job<'_>) -> Result<(), Unsaid>
     ensures said { OnOk result (Appends (E.said reporter.old) (E.said reporter.new)
         (unfit_of (request_of job.now))) }
@@ -62,6 +66,7 @@ pub(crate) fn say_unfit<E: Reporter>(reporter: &mut E, job: &Job<'_>) -> Result<
 {
     match job {
         Job::Drive(job) => say_unfit_drive(reporter, job),
+        Job::Hunt(_) => reporter.say(SEEDS_TEXT),
         _ => reporter.say(b""),
     }
 }
@@ -82,6 +87,14 @@ pub(crate) fn say_unfit_sizes<E: Reporter>(reporter: &mut E, job: &Job<'_>) -> R
             say_sizes_of_no_disk(reporter, sizes)
         }
         Job::Drive(job) => say_sizes_of_no_disk(reporter, config_for(&job.sizes)),
+        Job::Hunt(job) => {
+            let sizes = Config {
+                pages: job.pages,
+                harts: job.harts,
+                journal: 1_048_576,
+            };
+            say_sizes_of_no_disk(reporter, sizes)
+        }
         _ => reporter.say(b""),
     }
 }

@@ -17,7 +17,7 @@ use Rattle.clap.specs.declared.builder.value_parser.ValueParser.TheVariants as v
 use Rattle.clap.proofs.CallerReads.{signed_reads}
 use Rattle.clap.proofs.ValueTestLemmas.{accepts-Accepts}
 use Rattle.ckrt_words.specs.Commands.{ckrt_app}
-use Rattle.ckrt_words.specs.Jobs.{Request, calls, core, drive, flag_in, format, inspect, run, number_in, number_of, place_in, request_in, sizes_in}
+use Rattle.ckrt_words.specs.Jobs.{Request, calls, core, drive, flag_in, format, hunt, inspect, run, number_in, number_of, place_in, request_in, sizes_in}
 use Rattle.clap.proofs.WalkLemmas.{both}
 use Rattle.ckrt_words.proofs.MatchLemmas.{AreRows, AreRules, defaults_give, given_found, has_command, has_required, level_kept, level_valid, row_found, taken_levels, value_there}
 use Rattle.ckrt_words.proofs.NumberLemmas.{number_reads}
@@ -44,6 +44,9 @@ core_shape = unwrap_or (slice_get built_app.subs 4) built_app.top
 abbrev calls_shape : Shape
 calls_shape = unwrap_or (slice_get built_app.subs 5) built_app.top
 
+abbrev hunt_shape : Shape
+hunt_shape = unwrap_or (slice_get built_app.subs 6) built_app.top
+
 format_rules : AreRules format_shape refl format_shape.rules
 format_rules = ((refl, inl (refl, refl)), ((refl, inl (refl, refl)), ((refl, inl (refl, refl)), ((refl, inl (refl, refl)), ((refl, inl (refl, refl)), ((refl, inr (inl refl)), tt))))))
 
@@ -61,6 +64,9 @@ core_rules = ((refl, inl (refl, refl)), ((refl, inl (refl, refl)), ((refl, inl (
 
 calls_rules : AreRules calls_shape refl calls_shape.rules
 calls_rules = ((refl, inl (refl, refl)), ((refl, inl (refl, refl)), ((refl, inl (refl, refl)), ((refl, inr (inl refl)), tt))))
+
+hunt_rules : AreRules hunt_shape refl hunt_shape.rules
+hunt_rules = ((refl, inl (refl, refl)), ((refl, inl (refl, refl)), ((refl, inl (refl, refl)), ((refl, inl (refl, refl)), ((refl, inl (refl, refl)), ((refl, inl (refl, refl)), ((refl, inr (inl refl)), tt)))))))
 
 number_there : (v : Text) → accepts false (vp.Signed (pos 0) (pos 4294967295)) v ≡ true → (n : ℕ) × (number_of 32 (without_minus v) ≡ Some n)
 number_there v pass =
@@ -134,6 +140,20 @@ format_named words pass =
     let journal = number_at format_shape refl (codes "journal") rows _ kept refl refl (row_found (codes "journal") rows (defaults_give (slots format_shape 4) (after format_shape 5) (slot format_shape 4) before refl)) in
     (format (record { disk = disk.0; image = image.0; pages = pages.0; harts = harts.0; journal = journal.0 }), rw (disk.1, image.1, pages.1, harts.1, journal.1) refl)
 
+hunt_named : (words : List Text) → level_passes hunt_shape [] nothing_held words false ≡ true → (r : Request) × (request_in (rows_at hunt_shape words) ≡ Some r)
+hunt_named words pass =
+    let end = (walk hunt_shape.rules [] nothing_held words).held in
+    let rows = finished hunt_shape.rules end in
+    let kept = level_kept hunt_shape refl hunt_rules [] nothing_held words false pass tt in
+    let given = has_required hunt_shape rows false (level_valid hunt_shape [] nothing_held words false pass) refl in
+    let image = value_there hunt_shape refl (codes "image") rows _ kept refl (given_found (codes "image") rows (both (is_given (codes "image") rows) true given).0) in
+    let before = (settled hunt_shape.rules end).rows in
+    let seeds = value_there hunt_shape refl (codes "seeds") rows _ kept refl (row_found (codes "seeds") rows (defaults_give (slots hunt_shape 1) (after hunt_shape 2) (slot hunt_shape 1) before refl)) in
+    let pages = number_at hunt_shape refl (codes "pages") rows _ kept refl refl (row_found (codes "pages") rows (defaults_give (slots hunt_shape 2) (after hunt_shape 3) (slot hunt_shape 2) before refl)) in
+    let harts = number_at hunt_shape refl (codes "harts") rows _ kept refl refl (row_found (codes "harts") rows (defaults_give (slots hunt_shape 3) (after hunt_shape 4) (slot hunt_shape 3) before refl)) in
+    let steps = number_at hunt_shape refl (codes "steps") rows _ kept refl refl (row_found (codes "steps") rows (defaults_give (slots hunt_shape 4) (after hunt_shape 5) (slot hunt_shape 4) before refl)) in
+    (hunt (record { image = image.0; seeds = seeds.0; pages = pages.0; harts = harts.0; steps = steps.0; keep = first_of (codes "keep") rows }), rw (image.1, seeds.1, pages.1, harts.1, steps.1) refl)
+
 drive_named : (words : List Text) → level_passes drive_shape [] nothing_held words false ≡ true → (r : Request) × (request_in (rows_at drive_shape words) ≡ Some r)
 drive_named words pass =
     let end = (walk drive_shape.rules [] nothing_held words).held in
@@ -177,7 +197,7 @@ found_named is_it words [] named = λ pass some. absurd (true≢false (sym some)
 found_named is_it words (s ∷ rest) named = either_named words s (find is_it rest) (is_it s) named.0 (found_named is_it words rest named.1)
 
 all_named : AreNamed built_app.subs
-all_named = (format_named, (run_named, (inspect_named, (drive_named, (core_named, (calls_named, tt))))))
+all_named = (format_named, (run_named, (inspect_named, (drive_named, (core_named, (calls_named, (hunt_named, tt)))))))
 
 -- what a command that takes the words is asked for
 entered_named : (stop : Option (Text × List Text)) → entered_passes built_app stop ≡ true → is_some (entered built_app stop) ≡ true

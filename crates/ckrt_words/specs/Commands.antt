@@ -1,6 +1,7 @@
 -- The program's command line, as `clap` sees it: `format DISK IMAGE [--pages P] [--harts H] [--journal J]`, `run DISK`,
--- `inspect DISK [--at K] [--code]`, `core DISK FILE [--at K]`, `calls DISK [--from K] [--to K]` and `drive DISK [--image IMAGE]
--- [--pages P] [--harts H] [--journal J] [--input FILE] [--input-from OFFSET] [--output FILE] [--turn N] [--rounds-per-commit R] [--events N] [--seed S]
+-- `inspect DISK [--at K] [--code]`, `core DISK FILE [--at K]`, `calls DISK [--from K] [--to K]`,
+-- `hunt IMAGE [--seeds A-B] [--pages P] [--harts H] [--steps N] [--keep DISK]` and `drive DISK [--image IMAGE] [--pages P] [--harts H]
+-- [--journal J] [--input FILE] [--input-from OFFSET] [--output FILE] [--turn N] [--rounds-per-commit R] [--events N] [--seed S]
 -- [--progress SECONDS] [--status FILE] [--from OFFSET]`.
 use Rattle.std.specs.Prelude.{pos, codes, fold, Some, true, List, [], ◌∷◌}
 use Rattle.clap.specs.Words.{App, Rule, Text, new_app, new_rule, with_rule, with_subcommand}
@@ -40,6 +41,10 @@ place_rule id = record (new_rule id) {
 abbrev pub option_rule : Text → Rule
 option_rule id = record (new_rule id) { long = Some id; value_names = 1 }
 
+-- an option `--id TEXT`, and its text where it isn't given
+abbrev pub text_rule : Text → Text → Rule
+text_rule id default = record (new_rule id) { long = Some id; value_names = 1; defaults = default ∷ [] }
+
 -- an option `--id` without a value
 abbrev pub flag_rule : Text → Rule
 flag_rule id = record (new_rule id) { long = Some id; action = Some SetTrue }
@@ -77,6 +82,16 @@ calls_app =
     (place_rule (codes "from")))
     (place_rule (codes "to"))
 
+abbrev pub hunt_app : App
+hunt_app =
+    with_rule (with_rule (with_rule (with_rule (with_rule (with_rule (new_app (codes "hunt"))
+    (needed_rule (codes "image")))
+    (text_rule (codes "seeds") (codes "1-200")))
+    (number_rule (codes "pages") (codes "64")))
+    (number_rule (codes "harts") (codes "1")))
+    (number_rule (codes "steps") (codes "10000000")))
+    (option_rule (codes "keep"))
+
 abbrev pub drive_app : App
 drive_app =
     with_rule (with_rule (with_rule (with_rule (with_rule (with_rule (with_rule (with_rule (with_rule (with_rule (with_rule (with_rule
@@ -110,4 +125,4 @@ app_with commands = fold (λ whole command. with_subcommand whole command.top) b
 
 abbrev pub ckrt_app : App
 ckrt_app =
-    app_with (format_app ∷ run_app ∷ inspect_app ∷ drive_app ∷ core_app ∷ calls_app ∷ [])
+    app_with (format_app ∷ run_app ∷ inspect_app ∷ drive_app ∷ core_app ∷ calls_app ∷ hunt_app ∷ [])

@@ -3,7 +3,7 @@ ghost use Rattle.std.specs.Prelude.{◌≡◌, ◌∷◌, [], IfOk, codes, false
 ghost use Rattle.std.specs.List.{list_all};
 ghost use Rattle.clap.specs.Words.{App, app_of, new_app, rule_of, with_rule, with_subcommand};
 ghost use Rattle.clap.specs.declared.builder.command.Command.TheViews.{out-Command};
-ghost use Rattle.ckrt_words.specs.Commands.{app_with, bare_app, calls_app, ckrt_app, core_app, drive_app, flag_rule, format_app, inspect_app, needed_rule, number_rule, option_rule, place_rule, run_app, size_rule};
+ghost use Rattle.ckrt_words.specs.Commands.{app_with, bare_app, calls_app, ckrt_app, core_app, drive_app, flag_rule, format_app, hunt_app, inspect_app, needed_rule, number_rule, option_rule, place_rule, run_app, size_rule, text_rule};
 
 use clap::{Arg, ArgAction, Command, value_parser};
 use std::alloc::{AllocError, Global};
@@ -62,6 +62,18 @@ fn option<'a>(alloc: Global, id: &'a str, name: &'a str, help: &'a str) -> Arg<'
     ensures local { result.global ≡ false }
 {
     Arg::new(alloc, id).long(id).value_name(name).help(help)
+}
+
+/// An option with a text, and its text where it isn't given.
+fn text<'a>(alloc: Global, id: &'a str, name: &'a str, default: &'a str, help: &'a str) -> Arg<'a>
+    ensures rule { rule_of result ≡ text_rule id.entry.now default.entry.now }
+    ensures local { result.global ≡ false }
+{
+    Arg::new(alloc, id)
+        .long(id)
+        .value_name(name)
+        .default_value(default)
+        .help(help)
 }
 
 /// An option without a value.
@@ -228,6 +240,57 @@ fn calls_arguments<'a>(alloc: Global) -> Result<Vec<Arg<'a>>, AllocError>
     Ok(arguments)
 }
 
+/// `hunt IMAGE` with its options: which seeds, on what machine, how long a run is, and where the first run is kept.
+fn hunt_command<'a>(alloc: Global) -> Result<Command<'a>, AllocError>
+    ensures app { IfOk result (λ c. app_of c ≡ hunt_app) }
+    ensures local { IfOk result (λ c. (out-Command c).has_globals ≡ false) }
+{
+    let arguments = hunt_arguments(alloc)?;
+    Command::new(alloc, "hunt")
+        .about(
+            "Runs a guest by one schedule after another and tells what they come to, as `ckrt hunt pi.bin --seeds 1-200`",
+        )
+        .args(arguments)
+}
+
+/// What `hunt` is given.
+fn hunt_arguments<'a>(alloc: Global) -> Result<Vec<Arg<'a>>, AllocError>
+    ensures app { IfOk result (λ arguments.
+        fold with_rule (new_app (codes "hunt")) (map rule_of arguments.items) ≡ hunt_app) }
+    ensures local { IfOk result (λ arguments. list_all (λ a. not a.global) arguments.items ≡ true) }
+{
+    let arguments = vec![in alloc;
+        needed(
+            alloc,
+            "image",
+            "IMAGE",
+            "The guest program, a flat binary linked at 0x1000"
+        ),
+        text(
+            alloc,
+            "seeds",
+            "A-B",
+            "1-200",
+            "The first and the last seed, each with a schedule of its own"
+        ),
+        number(alloc, "pages", "64", "Pages of guest memory, 16 to 1024"),
+        number(alloc, "harts", "1", "Harts, 1 to 8"),
+        number(
+            alloc,
+            "steps",
+            "10000000",
+            "Steps of a run, and its events, at most"
+        ),
+        option(
+            alloc,
+            "keep",
+            "DISK",
+            "A new disk that gets the run of the first seed, whole from its first event"
+        ),
+    ]?;
+    Ok(arguments)
+}
+
 /// `drive DISK` with its options: how a missing disk is made, where the input comes from and the output goes, how it goes on.
 fn drive_command<'a>(alloc: Global) -> Result<Command<'a>, AllocError>
     ensures app { IfOk result (λ c. app_of c ≡ drive_app) }
@@ -384,11 +447,21 @@ fn command_with_drive<'a>(alloc: Global) -> Result<Command<'a>, AllocError>
     with_command(with_inspect, drive_command(alloc))
 }
 
-/// The program's command line.
-pub(crate) fn command<'a>(alloc: Global) -> Result<Command<'a>, AllocError>
-    ensures { IfOk result (λ c. app_of c ≡ ckrt_app) }
+/// The program with these, `core` and `calls`.
+fn command_with_calls<'a>(alloc: Global) -> Result<Command<'a>, AllocError>
+    ensures { IfOk result (λ c.
+        app_of c ≡ app_with
+        (format_app ∷ run_app ∷ inspect_app ∷ drive_app ∷ core_app ∷ calls_app ∷ [])) }
 {
     let with_drive = command_with_drive(alloc)?;
     let with_core = with_command(with_drive, core_command(alloc))?;
     with_command(with_core, calls_command(alloc))
+}
+
+/// The program's command line.
+pub(crate) fn command<'a>(alloc: Global) -> Result<Command<'a>, AllocError>
+    ensures { IfOk result (λ c. app_of c ≡ ckrt_app) }
+{
+    let with_calls = command_with_calls(alloc)?;
+    with_command(with_calls, hunt_command(alloc))
 }

@@ -19,6 +19,8 @@ pub enum Job<'a> {
     Core(CoreJob<'a>),
     /// Tell the calls of what a disk holds: `calls DISK`.
     Calls(CallsJob<'a>),
+    /// Run an image by one schedule after another: `hunt IMAGE`.
+    Hunt(HuntJob<'a>),
 }
 
 /// What `format` makes. The numbers are as they were given, and may be out of a disk's ranges.
@@ -67,6 +69,23 @@ pub struct CallsJob<'a> {
     pub from: Option<u64>,
     /// Behind how many events they end; at the last one where this isn't given.
     pub to: Option<u64>,
+}
+
+/// What `hunt` runs, and how. The numbers are as they were given, and may be out of a hunt's ranges.
+#[derive(Clone, Copy, Debug, PartialEq, Eq)]
+pub struct HuntJob<'a> {
+    /// The path of the image.
+    pub image: &'a str,
+    /// The first and the last seed, as they were given: `A-B` where they are numbers.
+    pub seeds: &'a str,
+    /// Pages of guest memory, of 4,096 bytes each.
+    pub pages: u32,
+    /// Harts.
+    pub harts: u32,
+    /// Steps of a run, at most.
+    pub steps: u32,
+    /// The path of the disk that is made for the run of the first seed; this isn't given where none is kept.
+    pub keep: Option<&'a str>,
 }
 
 /// The sizes that a disk is asked to have. The numbers are as they were given, and may be out of a disk's ranges.

@@ -1,9 +1,9 @@
 //! What the matches of a command line name.
 ghost use Rattle.std.specs.Prelude.{◌≡◌, codes, option_and_then, option_map};
 ghost use Rattle.clap.specs.Words.{first_of, found_of, rows_of, subcommand_rows_of};
-ghost use Rattle.ckrt_words.specs.Jobs.{calls, core, core_making_in, core_making_of, drive, driving_in, driving_of, flag_in, format, formatting_in, formatting_of, inspect, inspection_in, inspection_of, number_in, place_in, request_in, request_of, run, sizes_in, tracing_in, tracing_of};
+ghost use Rattle.ckrt_words.specs.Jobs.{calls, core, core_making_in, core_making_of, drive, driving_in, driving_of, flag_in, format, formatting_in, formatting_of, hunt, hunting_in, hunting_of, inspect, inspection_in, inspection_of, number_in, place_in, request_in, request_of, run, sizes_in, tracing_in, tracing_of};
 
-use crate::job::{CallsJob, CoreJob, DriveJob, FormatJob, InspectJob, Job, Sizes};
+use crate::job::{CallsJob, CoreJob, DriveJob, FormatJob, HuntJob, InspectJob, Job, Sizes};
 use clap::ArgMatches;
 
 /// The text that was given for an argument.
@@ -66,6 +66,20 @@ fn tracing<'a>(matches: &ArgMatches<'a>) -> Option<CallsJob<'a>>
     let disk = text(matches, "disk")?;
     let (from, to) = (place(matches, "from"), place(matches, "to"));
     Some(CallsJob { disk, from, to })
+}
+
+/// What `hunt` was given.
+fn hunting<'a>(matches: &ArgMatches<'a>) -> Option<HuntJob<'a>>
+    ensures { option_map hunting_of result ≡ hunting_in (rows_of (found_of matches.now)) }
+{
+    Some(HuntJob {
+        image: text(matches, "image")?,
+        seeds: text(matches, "seeds")?,
+        pages: number(matches, "pages")?,
+        harts: number(matches, "harts")?,
+        steps: number(matches, "steps")?,
+        keep: text(matches, "keep"),
+    })
 }
 
 /// The sizes that a disk is asked to have.
@@ -169,6 +183,14 @@ fn calls_named<'a>(given: &ArgMatches<'a>) -> Option<Job<'a>>
     Some(Job::Calls(tracing(given)?))
 }
 
+/// The job of `hunt` with these matches.
+fn hunt_named<'a>(given: &ArgMatches<'a>) -> Option<Job<'a>>
+    ensures { option_map request_of result
+        ≡ option_map hunt (hunting_in (rows_of (found_of given.now))) }
+{
+    Some(Job::Hunt(hunting(given)?))
+}
+
 /// The job of the command of this name with these matches.
 fn job_of<'a>(name: &str, given: &ArgMatches<'a>) -> Option<Job<'a>>
     ensures { option_map request_of result ≡ request_in (name.now, rows_of (found_of given.now)) }
@@ -190,6 +212,9 @@ fn job_of<'a>(name: &str, given: &ArgMatches<'a>) -> Option<Job<'a>>
     }
     if name == "calls" {
         return calls_named(given);
+    }
+    if name == "hunt" {
+        return hunt_named(given);
     }
     None
 }

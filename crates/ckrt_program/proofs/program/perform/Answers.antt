@@ -15,3 +15,8 @@ pub returns-in-Calls : goal.returns-in-Calls
 returns-in-Calls g c =
     let unread = g.R.Read.remaining c.args.reader.now in
     record { performs = rw c.in-Calls.is (c.calls_path.result, c.without_end-in-Calls.ensures, c.calls_path.ensures.traces unread) }
+
+pub returns-in-Hunt : goal.returns-in-Hunt
+returns-in-Hunt g c =
+    let unread = g.R.Read.remaining c.args.reader.now in
+    record { performs = rw c.in-Hunt.is (c.hunt_path.result, c.of_hunt.ensures, c.hunt_path.ensures.hunts unread) }

@@ -1,0 +1,2 @@
+mod AppendLemmas
+mod KeepLemmas

@@ -1,0 +1,2 @@
+pub mod Hunting
+pub mod Keeping

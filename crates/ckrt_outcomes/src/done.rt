@@ -1,0 +1,13 @@
+//! What a job that was done came to.
+use crate::driven::Driven;
+
+/// What a job that was done came to.
+#[derive(Clone, Copy, Debug, PartialEq, Eq)]
+pub enum Done {
+    /// All of it was done.
+    Whole,
+    /// A drive came to this.
+    Driven(Driven),
+    /// The runs of a hunt came to several outcomes.
+    Several,
+}
