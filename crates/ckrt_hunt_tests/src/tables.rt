@@ -167,18 +167,18 @@ fn table_of<R: Abort + AllocGlobal>(rt: &R, tally: &Tally) -> Vec<u8> {
 
 const TABLE: &[u8] = b"\
 outcome 1: 2 of 200 runs, first by seed 1: exit 7, output 559aead0
-    ckrt hunt race.bin --seeds 1-1 --pages 16 --harts 2 --steps 10000 --keep seed-1
+    ckrt hunt race.bin --seeds 1-1 --pages 16 --harts 2 --steps 10000 --keep seed-1.disk
 outcome 2: 1 of 200 runs, first by seed 2: fault of thread 2 at 00001234, LoadRange
-    ckrt hunt race.bin --seeds 2-2 --pages 16 --harts 2 --steps 10000 --keep seed-2
+    ckrt hunt race.bin --seeds 2-2 --pages 16 --harts 2 --steps 10000 --keep seed-2.disk
 outcome 3: 1 of 200 runs, first by seed 4: deadlock, thread 1 waits for the end of thread 2, \
 thread 2 waits for mutex 00002c58, thread 3 waits for condition 00000040, \
 thread 4 waits for barrier 0000fffc, thread 5 waits for read lock 10000000, \
 thread 6 waits for write lock fffffffc, thread 63 waits for input, thread 64 waits for its deadline
-    ckrt hunt race.bin --seeds 4-4 --pages 16 --harts 2 --steps 10000 --keep seed-4
+    ckrt hunt race.bin --seeds 4-4 --pages 16 --harts 2 --steps 10000 --keep seed-4.disk
 outcome 4: 1 of 200 runs, first by seed 5: waits for input
-    ckrt hunt race.bin --seeds 5-5 --pages 16 --harts 2 --steps 10000 --keep seed-5
+    ckrt hunt race.bin --seeds 5-5 --pages 16 --harts 2 --steps 10000 --keep seed-5.disk
 outcome 5: 1 of 200 runs, first by seed 6: no end within 10000 steps or events
-    ckrt hunt race.bin --seeds 6-6 --pages 16 --harts 2 --steps 10000 --keep seed-6
+    ckrt hunt race.bin --seeds 6-6 --pages 16 --harts 2 --steps 10000 --keep seed-6.disk
 ";
 
 #[test]
@@ -190,7 +190,7 @@ fn each_outcome_is_told(rt: HostRuntime) {
 }
 
 /// The end of a table with more outcomes than rows.
-const OTHERS: &[u8] = b" --seeds 64-64 --pages 16 --harts 2 --steps 10000 --keep seed-64
+const OTHERS: &[u8] = b" --seeds 64-64 --pages 16 --harts 2 --steps 10000 --keep seed-64.disk
 other outcomes: 2 of 200 runs
 ";
 
@@ -217,7 +217,7 @@ const PUTS: [u32; 6] = [
 
 const ONE_OUTCOME: &[u8] = b"\
 outcome 1: 10 of 10 runs, first by seed 5: exit 7, output 559aead0
-    ckrt hunt race.bin --seeds 5-5 --pages 16 --harts 2 --steps 10000 --keep seed-5
+    ckrt hunt race.bin --seeds 5-5 --pages 16 --harts 2 --steps 10000 --keep seed-5.disk
 ";
 
 #[test]
