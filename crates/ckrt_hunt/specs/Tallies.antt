@@ -1,10 +1,13 @@
 -- What seeds came to, counted (this project's choice): each outcome once, with how often it came, and the first seed that came to it.
-use Rattle.std.specs.Prelude.{◌≡◌, ◌≢◌, ◌≤◌, ◌<◌, ℕ, zero, suc, ◌+◌, min, Some, List, [], ◌∷◌, ◌++◌, length, slice_get, slice_set}
+use Rattle.std.specs.Prelude.{◌≡◌, ◌≢◌, ◌≤◌, ◌<◌, ℕ, zero, suc, ◌+◌, ◌-◌, ◌&&◌, nat_le, min, if◌then◌else◌, Option, Some, None, List, [], ◌∷◌, ◌++◌, length, slice_get, slice_set}
 use Rattle.ckrt_memory.specs.Marks.{Memory}
 use Rattle.ckrt_state.specs.declared.table.Tables.{Tables}
+use Rattle.ckrt_machine.specs.Events.{fresh}
 use Rattle.ckrt_machine.specs.Steps.{State}
 use Rattle.ckrt_hunt.specs.declared.runs.Told.{Told}
 use Rattle.ckrt_hunt.specs.declared.row.Row.{Row}
+use Rattle.ckrt_hunt.specs.declared.seeds.Seeds.{Seeds}
+use Rattle.ckrt_hunt.specs.declared.shape.Shape.{Shape}
 use Rattle.ckrt_hunt.specs.declared.tally.Tally.{Tally}
 use Rattle.ckrt_hunt.specs.declared.tally.TheConstants.{TALLY_ROWS}
 use Rattle.ckrt_hunt.specs.Plans.{plan_of}
@@ -42,6 +45,16 @@ pub record IsNoted (seed : ℕ) (told : Told) (old new : Tally) : Type 0 where
       → TALLY_ROWS ≤ length old.rows.items
       → (new.rows.items ≡ old.rows.items) × (new.others ≡ one_more old.others)
 
+-- what a program is run with: its pages, its harts, and how many steps and events a run has at most
+abbrev pub numbers_of : Shape → ℕ × ℕ × ℕ
+numbers_of s = (s.pages, s.harts, s.limit)
+
+-- the ranges of pages and harts are those of a disk
+abbrev pub shape_of : (pages harts limit : ℕ) → Option (ℕ × ℕ × ℕ)
+shape_of pages harts limit =
+    if nat_le 16 pages && (nat_le pages 1024 && (nat_le 1 harts && nat_le harts 8)) then Some (pages, harts, limit)
+    else None
+
 -- a program that is hunted: how many steps and events a run has at most, and the state that each begins with
 pub record Hunted : Type 0 where
   pub limit : ℕ
@@ -69,3 +82,14 @@ pub record Grew (WasSo : Tally → Type 0) (h : Hunted) (seed : ℕ) (tally : Ta
 abbrev pub AreNoted : Hunted → (first n : ℕ) → (old new : Tally) → Type 0
 AreNoted h first zero old new = new ≡ old
 AreNoted h first (suc n) old new = Grew (AreNoted h first n old) h (first + n) new
+
+-- what all seeds of a range came to: each was noted in its turn, from no outcome on
+pub record IsTallyOf (h : Hunted) (seeds : Seeds) (tally : Tally) : Type 0 where
+  pub begun : Tally
+  pub no_rows : begun.rows.items ≡ []
+  pub no_others : begun.others ≡ 0
+  pub noted : AreNoted h seeds.first (seeds.last - seeds.first + 1) begun tally
+
+-- the program with this image, as it is run with a shape
+abbrev pub hunted_of : (image : List ℕ) → Shape → Hunted
+hunted_of image s = record { limit = s.limit; start = fresh s.pages s.harts image }

@@ -32,3 +32,5 @@ mod replies;
 mod requests;
 #[cfg(test)]
 mod searches;
+#[cfg(test)]
+mod tables;

@@ -1,8 +1,8 @@
 -- The program's command line, as `clap` sees it: `format DISK IMAGE [--pages P] [--harts H] [--journal J]`, `run DISK`,
--- `inspect DISK [--at K] [--code]`, `core DISK FILE [--at K]` and `drive DISK [--image IMAGE] [--pages P] [--harts H] [--journal J] [--input FILE]
--- [--input-from OFFSET] [--output FILE] [--turn N] [--rounds-per-commit R] [--events N] [--seed S] [--progress SECONDS]
--- [--status FILE] [--from OFFSET]`.
-use Rattle.std.specs.Prelude.{pos, codes, Some, true, [], ◌∷◌}
+-- `inspect DISK [--at K] [--code]`, `core DISK FILE [--at K]`, `calls DISK [--from K] [--to K]` and `drive DISK [--image IMAGE]
+-- [--pages P] [--harts H] [--journal J] [--input FILE] [--input-from OFFSET] [--output FILE] [--turn N] [--rounds-per-commit R] [--events N] [--seed S]
+-- [--progress SECONDS] [--status FILE] [--from OFFSET]`.
+use Rattle.std.specs.Prelude.{pos, codes, fold, Some, true, List, [], ◌∷◌}
 use Rattle.clap.specs.Words.{App, Rule, Text, new_app, new_rule, with_rule, with_subcommand}
 use Rattle.clap.specs.declared.builder.value_parser.ValueParser.TheVariants.{Signed, Unsigned}
 use Rattle.clap.specs.declared.builder.action.ArgAction.TheVariants.{SetTrue}
@@ -70,6 +70,13 @@ core_app =
     (needed_rule (codes "file")))
     (place_rule (codes "at"))
 
+abbrev pub calls_app : App
+calls_app =
+    with_rule (with_rule (with_rule (new_app (codes "calls"))
+    (needed_rule (codes "disk")))
+    (place_rule (codes "from")))
+    (place_rule (codes "to"))
+
 abbrev pub drive_app : App
 drive_app =
     with_rule (with_rule (with_rule (with_rule (with_rule (with_rule (with_rule (with_rule (with_rule (with_rule (with_rule (with_rule
@@ -97,8 +104,10 @@ bare_app = record {
   subs = [];
 }
 
+-- the program with commands, each behind the ones before it
+abbrev pub app_with : List App → App
+app_with commands = fold (λ whole command. with_subcommand whole command.top) bare_app commands
+
 abbrev pub ckrt_app : App
 ckrt_app =
-    with_subcommand (with_subcommand (with_subcommand
-    (with_subcommand (with_subcommand bare_app format_app.top) run_app.top)
-    inspect_app.top) drive_app.top) core_app.top
+    app_with (format_app ∷ run_app ∷ inspect_app ∷ drive_app ∷ core_app ∷ calls_app ∷ [])

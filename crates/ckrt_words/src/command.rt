@@ -1,9 +1,9 @@
 //! The program's command line, for `clap`.
-ghost use Rattle.std.specs.Prelude.{◌≡◌, IfOk, codes, false, fold, map, not, true};
+ghost use Rattle.std.specs.Prelude.{◌≡◌, ◌∷◌, [], IfOk, codes, false, fold, map, not, true};
 ghost use Rattle.std.specs.List.{list_all};
 ghost use Rattle.clap.specs.Words.{App, app_of, new_app, rule_of, with_rule, with_subcommand};
 ghost use Rattle.clap.specs.declared.builder.command.Command.TheViews.{out-Command};
-ghost use Rattle.ckrt_words.specs.Commands.{bare_app, ckrt_app, core_app, drive_app, flag_rule, format_app, inspect_app, needed_rule, number_rule, option_rule, place_rule, run_app, size_rule};
+ghost use Rattle.ckrt_words.specs.Commands.{app_with, bare_app, calls_app, ckrt_app, core_app, drive_app, flag_rule, format_app, inspect_app, needed_rule, number_rule, option_rule, place_rule, run_app, size_rule};
 
 use clap::{Arg, ArgAction, Command, value_parser};
 use std::alloc::{AllocError, Global};
@@ -196,6 +196,38 @@ fn core_arguments<'a>(alloc: Global) -> Result<Vec<Arg<'a>>, AllocError>
     Ok(arguments)
 }
 
+/// `calls DISK [--from K] [--to K]`.
+fn calls_command<'a>(alloc: Global) -> Result<Command<'a>, AllocError>
+    ensures app { IfOk result (λ c. app_of c ≡ calls_app) }
+    ensures local { IfOk result (λ c. (out-Command c).has_globals ≡ false) }
+{
+    let arguments = calls_arguments(alloc)?;
+    Command::new(alloc, "calls")
+        .about(
+            "Tells the calls of a stopped guest, a line each, and changes nothing, as `ckrt calls pi.disk --from 40`",
+        )
+        .args(arguments)
+}
+
+/// What `calls` is given.
+fn calls_arguments<'a>(alloc: Global) -> Result<Vec<Arg<'a>>, AllocError>
+    ensures app { IfOk result (λ arguments.
+        fold with_rule (new_app (codes "calls")) (map rule_of arguments.items) ≡ calls_app) }
+    ensures local { IfOk result (λ arguments. list_all (λ a. not a.global) arguments.items ≡ true) }
+{
+    let arguments = vec![in alloc;
+        needed(alloc, "disk", "DISK", "A disk that `format` made"),
+        place(
+            alloc,
+            "from",
+            "K",
+            "Begin after K events, not at the first one that the disk has"
+        ),
+        place(alloc, "to", "K", "End after K events, not at the last one"),
+    ]?;
+    Ok(arguments)
+}
+
 /// `drive DISK` with its options: how a missing disk is made, where the input comes from and the output goes, how it goes on.
 fn drive_command<'a>(alloc: Global) -> Result<Command<'a>, AllocError>
     ensures app { IfOk result (λ c. app_of c ≡ drive_app) }
@@ -335,21 +367,17 @@ fn with_command<'a>(
 
 /// The program with the commands that begin a disk and serve it, `format` and `run`.
 fn command_on_disks<'a>(alloc: Global) -> Result<Command<'a>, AllocError>
-    ensures { IfOk result (λ c.
-        app_of c
-        ≡ with_subcommand (with_subcommand bare_app format_app.top) run_app.top) }
+    ensures { IfOk result (λ c. app_of c ≡ app_with (format_app ∷ run_app ∷ [])) }
 {
     let bare = bare_command(alloc)?;
     let with_format = with_command(bare, format_command(alloc))?;
     with_command(with_format, run_command(alloc))
 }
 
-/// The program with the commands on disks that are there: those, `inspect` and `drive`.
+/// The program with these, `inspect` and `drive`.
 fn command_with_drive<'a>(alloc: Global) -> Result<Command<'a>, AllocError>
     ensures { IfOk result (λ c.
-        app_of c
-        ≡ with_subcommand (with_subcommand (with_subcommand (with_subcommand bare_app
-        format_app.top) run_app.top) inspect_app.top) drive_app.top) }
+        app_of c ≡ app_with (format_app ∷ run_app ∷ inspect_app ∷ drive_app ∷ [])) }
 {
     let with_run = command_on_disks(alloc)?;
     let with_inspect = with_command(with_run, inspect_command(alloc))?;
@@ -361,5 +389,6 @@ pub(crate) fn command<'a>(alloc: Global) -> Result<Command<'a>, AllocError>
     ensures { IfOk result (λ c. app_of c ≡ ckrt_app) }
 {
     let with_drive = command_with_drive(alloc)?;
-    with_command(with_drive, core_command(alloc))
+    let with_core = with_command(with_drive, core_command(alloc))?;
+    with_command(with_core, calls_command(alloc))
 }

@@ -17,6 +17,8 @@ pub enum Job<'a> {
     Drive(DriveJob<'a>),
     /// Write what a disk holds as a core for a debugger: `core DISK FILE`.
     Core(CoreJob<'a>),
+    /// Tell the calls of what a disk holds: `calls DISK`.
+    Calls(CallsJob<'a>),
 }
 
 /// What `format` makes. The numbers are as they were given, and may be out of a disk's ranges.
@@ -54,6 +56,17 @@ pub struct CoreJob<'a> {
     pub file: &'a str,
     /// After how many events the program is written; after the last one where this isn't given.
     pub at: Option<u64>,
+}
+
+/// Which calls `calls` tells.
+#[derive(Clone, Copy, Debug, PartialEq, Eq)]
+pub struct CallsJob<'a> {
+    /// The path of the disk.
+    pub disk: &'a str,
+    /// Behind how many events they begin; at the first one that the disk has where this isn't given.
+    pub from: Option<u64>,
+    /// Behind how many events they end; at the last one where this isn't given.
+    pub to: Option<u64>,
 }
 
 /// The sizes that a disk is asked to have. The numbers are as they were given, and may be out of a disk's ranges.

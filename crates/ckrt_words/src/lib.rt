@@ -12,5 +12,5 @@ mod job;
 mod matches;
 mod read;
 
-pub use job::{CoreJob, DriveJob, FormatJob, InspectJob, Job, Sizes, WordsFault};
+pub use job::{CallsJob, CoreJob, DriveJob, FormatJob, InspectJob, Job, Sizes, WordsFault};
 pub use read::read_words;

@@ -1,9 +1,9 @@
 //! What the matches of a command line name.
 ghost use Rattle.std.specs.Prelude.{◌≡◌, codes, option_and_then, option_map};
 ghost use Rattle.clap.specs.Words.{first_of, found_of, rows_of, subcommand_rows_of};
-ghost use Rattle.ckrt_words.specs.Jobs.{core, core_making_in, core_making_of, drive, driving_in, driving_of, flag_in, format, formatting_in, formatting_of, inspect, inspection_in, inspection_of, number_in, place_in, request_in, request_of, run, sizes_in};
+ghost use Rattle.ckrt_words.specs.Jobs.{calls, core, core_making_in, core_making_of, drive, driving_in, driving_of, flag_in, format, formatting_in, formatting_of, inspect, inspection_in, inspection_of, number_in, place_in, request_in, request_of, run, sizes_in, tracing_in, tracing_of};
 
-use crate::job::{CoreJob, DriveJob, FormatJob, InspectJob, Job, Sizes};
+use crate::job::{CallsJob, CoreJob, DriveJob, FormatJob, InspectJob, Job, Sizes};
 use clap::ArgMatches;
 
 /// The text that was given for an argument.
@@ -57,6 +57,15 @@ fn core_making<'a>(matches: &ArgMatches<'a>) -> Option<CoreJob<'a>>
     let disk = text(matches, "disk")?;
     let file = text(matches, "file")?;
     Some(CoreJob { disk, file, at })
+}
+
+/// What `calls` was given.
+fn tracing<'a>(matches: &ArgMatches<'a>) -> Option<CallsJob<'a>>
+    ensures { option_map tracing_of result ≡ tracing_in (rows_of (found_of matches.now)) }
+{
+    let disk = text(matches, "disk")?;
+    let (from, to) = (place(matches, "from"), place(matches, "to"));
+    Some(CallsJob { disk, from, to })
 }
 
 /// The sizes that a disk is asked to have.
@@ -152,6 +161,14 @@ fn core_named<'a>(given: &ArgMatches<'a>) -> Option<Job<'a>>
     Some(Job::Core(core_making(given)?))
 }
 
+/// The job of `calls` with these matches.
+fn calls_named<'a>(given: &ArgMatches<'a>) -> Option<Job<'a>>
+    ensures { option_map request_of result
+        ≡ option_map calls (tracing_in (rows_of (found_of given.now))) }
+{
+    Some(Job::Calls(tracing(given)?))
+}
+
 /// The job of the command of this name with these matches.
 fn job_of<'a>(name: &str, given: &ArgMatches<'a>) -> Option<Job<'a>>
     ensures { option_map request_of result ≡ request_in (name.now, rows_of (found_of given.now)) }
@@ -170,6 +187,9 @@ fn job_of<'a>(name: &str, given: &ArgMatches<'a>) -> Option<Job<'a>>
     }
     if name == "core" {
         return core_named(given);
+    }
+    if name == "calls" {
+        return calls_named(given);
     }
     None
 }

@@ -1,0 +1,77 @@
+//! Telling the calls that a disk has recorded.
+ghost use Rattle.std.specs.Prelude.{◌≡◌, ℕ, List, Option};
+ghost use Rattle.ckrt_words.specs.Jobs.{tracing_of};
+ghost use Rattle.ckrt_outcomes.specs.Outside.{outside};
+ghost use Rattle.ckrt_looks.specs.Tracing.{TracesOpened, TracesPath, answer_of, stretch_of};
+
+use ckrt_disk::Disk;
+use ckrt_inspect::InspectFault;
+use ckrt_outcomes::JobFault;
+use ckrt_sources::{JobFile, Sources};
+use ckrt_trace::{Stretch, write_calls};
+use ckrt_words::CallsJob;
+use std::alloc::Global;
+use std::io::{Read, Write};
+
+/// Which calls are told.
+fn stretch(job: &CallsJob<'_>) -> Stretch
+    ensures { result ≡ stretch_of (tracing_of job.now) }
+{
+    Stretch {
+        from: job.from,
+        to: job.to,
+    }
+}
+
+/// What the job answers.
+fn answer_of(answer: Result<(), InspectFault>) -> Result<(), JobFault>
+    ensures { result ≡ answer_of answer }
+{
+    match answer {
+        Ok(()) => Ok(()),
+        Err(fault) => Err(JobFault::Inspect(fault)),
+    }
+}
+
+/// Tells the calls of a disk that was opened, and closes it.
+fn trace_opened<'a, I: Read, D: Disk, S: Sources<'a, I, D>, W: Write>(
+    alloc: Global,
+    disk: D,
+    job: &CallsJob<'a>,
+    sources: &mut S,
+    writer: &mut W,
+) -> Result<(), JobFault>
+    ensures traces { (left : Option (List ℕ))
+        → TracesOpened D.Disk (λ start. start ≡ disk) (tracing_of job.now)
+        (outside (S.openings sources.old) (W.contents writer.old) left)
+        (outside (S.openings sources.new) (W.contents writer.new) left) result }
+{
+    let mut disk = disk;
+    let answer = write_calls(alloc, &mut disk, stretch(job), writer);
+    sources.close(disk);
+    answer_of(answer)
+}
+
+/// Tells the calls that the disk of a path has recorded, a line each: all, or those behind so many events and up to so many. The
+/// disk is only read.
+///
+/// # Errors
+///
+/// The first that applies: `File` of the disk; `Inspect`, where nothing is recovered from it, where it hasn't recorded so many
+/// events, or no longer has those, where the disk failed a read or memory was refused, or where the writer failed.
+pub fn calls_path<'a, I: Read, D: Disk, S: Sources<'a, I, D>, W: Write>(
+    alloc: Global,
+    job: &CallsJob<'a>,
+    sources: &mut S,
+    writer: &mut W,
+) -> Result<(), JobFault>
+    ensures traces { (left : Option (List ℕ))
+        → TracesPath D.Disk (S.opens sources.old job.now.disk.now) (tracing_of job.now)
+        (outside (S.openings sources.old) (W.contents writer.old) left)
+        (outside (S.openings sources.new) (W.contents writer.new) left) result }
+{
+    match sources.look_at_disk(job.disk) {
+        Ok(disk) => trace_opened::<I, D, S, W>(alloc, disk, job, sources, writer),
+        Err(fault) => Err(JobFault::File(JobFile::Disk, fault)),
+    }
+}

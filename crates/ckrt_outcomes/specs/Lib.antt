@@ -1,0 +1,6 @@
+pub mod Advice
+pub mod Lengths
+pub mod Names
+pub mod Outside
+pub mod Ranges
+pub mod Statuses

@@ -1,0 +1,17 @@
+use Rattle.ckrt_program.proofs.program.perform.Goals as goal
+
+-- no line was read
+pub returns-in-Format : goal.returns-in-Format
+returns-in-Format g c =
+    let unread = g.R.Read.remaining c.args.reader.now in
+    record { performs = rw c.in-Format.is (c.make.result, c.without_end-in-Format.ensures, c.make.ensures.makes unread) }
+
+pub returns-in-Inspect : goal.returns-in-Inspect
+returns-in-Inspect g c =
+    let unread = g.R.Read.remaining c.args.reader.now in
+    record { performs = rw c.in-Inspect.is (c.inspect_path.result, c.without_end-in-Inspect.ensures, c.inspect_path.ensures.shows unread) }
+
+pub returns-in-Calls : goal.returns-in-Calls
+returns-in-Calls g c =
+    let unread = g.R.Read.remaining c.args.reader.now in
+    record { performs = rw c.in-Calls.is (c.calls_path.result, c.without_end-in-Calls.ensures, c.calls_path.ensures.traces unread) }
