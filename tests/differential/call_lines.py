@@ -2,17 +2,17 @@
 
 A position is how many events were done, and how many steps of the next one.
 """
-from abi import KEY_CALLS, Call
-from calls import CALLS
+from abi import Call
+from calls import moment_of
 from devices import MemoryDisk
 from events import Eof, Input, Place, Run, Tick
-from listing import OutOfRange, address_text, text_of_fault, text_of_wait
+from listing import OutOfRange, address_text, reason_of_wait, text_of_fault, text_of_wait
 from machine import OUTPUT_OF_RUN
 from processor import ECALL
 from recovery import events_of_journal, read_area, read_superblock, recover
 from threads import Status, WaitKind
 
-# How the arguments of a call are told: `a` is a word that may be an address, `n` a number.
+# How the arguments of a call are told: `a` is a word that may be an address, `n` a number, `m` a moment, of two words.
 ARGUMENTS = {
     "": [Call.GETC, Call.CLOCK, Call.SELF, Call.TESTCANCEL],
     "n": [Call.EXIT, Call.PUTC, Call.JOIN, Call.DETACH, Call.CANCEL, Call.SETCANCELSTATE, Call.SETCANCELTYPE,
@@ -21,13 +21,13 @@ ARGUMENTS = {
           Call.COND_DESTROY, Call.COND_SIGNAL, Call.COND_BROADCAST, Call.BARRIER_DESTROY, Call.BARRIER_WAIT,
           Call.RWLOCK_INIT, Call.RWLOCK_DESTROY, Call.RWLOCK_RDLOCK, Call.RWLOCK_TRYRDLOCK, Call.RWLOCK_WRLOCK,
           Call.RWLOCK_TRYWRLOCK, Call.RWLOCK_UNLOCK, Call.KEY_CREATE],
-    "nn": [Call.SLEEP_UNTIL], "na": [Call.SETSPECIFIC], "an": [Call.MUTEX_INIT, Call.BARRIER_INIT],
-    "aa": [Call.COND_WAIT, Call.CLEANUP_PUSH], "ann": [Call.MUTEX_TIMEDLOCK], "aann": [Call.COND_TIMEDWAIT],
+    "m": [Call.SLEEP_UNTIL], "na": [Call.SETSPECIFIC], "an": [Call.MUTEX_INIT, Call.BARRIER_INIT],
+    "aa": [Call.COND_WAIT, Call.CLEANUP_PUSH], "am": [Call.MUTEX_TIMEDLOCK], "aam": [Call.COND_TIMEDWAIT],
     "aaan": [Call.CREATE],
 }
 FORMS = {call: form for form, calls in ARGUMENTS.items() for call in calls}
-# How the second answer is told, of the calls that have one.
-SECOND_ANSWERS = {Call.CREATE: "n", Call.JOIN: "a", Call.CLOCK: "n", Call.SETCANCELSTATE: "n", Call.SETCANCELTYPE: "n",
+# How the second answer is told, of the calls that have one; those of `clock` are a moment.
+SECOND_ANSWERS = {Call.CREATE: "n", Call.JOIN: "a", Call.SETCANCELSTATE: "n", Call.SETCANCELTYPE: "n",
                   Call.KEY_CREATE: "n", Call.GETSPECIFIC: "a"}
 
 
@@ -35,15 +35,16 @@ def word_text(form, word):
     return address_text(word) if form == "a" else str(word)
 
 
-def is_known(number):
-    return number in CALLS or number in KEY_CALLS
+def argument_texts(form, words):
+    """Of the words from x10 on."""
+    return [str(moment_of(*words[at:at + 2])) if kind == "m" else word_text(kind, words[at]) for at, kind in enumerate(form)]
 
 
 def call_text(number, words):
-    """The name and the arguments; a number that no call has stands for itself."""
-    if not is_known(number):
-        return f"{number}()"
-    return f"{Call(number).name.lower()}({', '.join(map(word_text, FORMS[number], words))})"
+    """The name and the arguments; of a number that no call has the number."""
+    if number not in FORMS:
+        return f"call {number}"
+    return f"{Call(number).name.lower()}({', '.join(argument_texts(FORMS[number], words))})"
 
 
 def next_call(machine, thread_id):
@@ -56,10 +57,11 @@ def next_call(machine, thread_id):
 
 
 def answer_text(thread, number):
-    """The second answer stands there with a first one of 0; that of `clock` always."""
+    """The second answer stands there with a first one of 0."""
     first, second = thread.registers[10:12]
-    has_second = number in SECOND_ANSWERS and (first == 0 or number == Call.CLOCK)
-    return f"= {first}" + (f", {word_text(SECOND_ANSWERS[number], second)}" if has_second else "")
+    if number == Call.CLOCK:
+        return f"= {moment_of(first, second)}"
+    return f"= {first}" + (f", {word_text(SECOND_ANSWERS[number], second)}" if number in SECOND_ANSWERS and first == 0 else "")
 
 
 def outcome_text(machine, thread_id, place, number):
@@ -118,14 +120,14 @@ class Teller:
         return lines, answer, len(put)
 
     def waiting_places(self):
-        """By thread, where those that wait go on."""
-        return {wait.thread: self.machine.threads[wait.thread].pc for wait in self.machine.waits}
+        """The waits, and where their threads go on."""
+        return [(wait, self.machine.threads[wait.thread].pc) for wait in self.machine.waits]
 
     def lines_of_ends(self, step, places):
-        """A line for each wait that the last step or event ended, in the order of their ends."""
-        return [f"{self.done}+{step} thread {wait.thread} {text_of_wait(wait)} is over "
-                f"{outcome_text(self.machine, wait.thread, places[wait.thread], number_of_wait(wait))}"
-                for wait in self.machine.ended_waits]
+        """A line for each wait that the last step or event ended, in the order of their begins; its deadline isn't told again."""
+        return [f"{self.done}+{step} thread {wait.thread} {reason_of_wait(wait)} is over "
+                f"{outcome_text(self.machine, wait.thread, place, number_of_wait(wait))}"
+                for wait, place in places if wait in self.machine.ended_waits]
 
 
 def number_of_wait(wait):

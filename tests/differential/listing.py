@@ -41,23 +41,27 @@ def thread_line(state, number):
     return f"thread {number} {' '.join(words)}"
 
 
-def text_of_wait(wait):
-    """What the thread waits for, and until when."""
+def reason_of_wait(wait):
+    """What the thread waits for."""
     subject = address_text(wait.subject)
     match wait.kind:
         case WaitKind.JOIN:
-            reason = f"join {wait.subject}"
+            return f"join {wait.subject}"
         case WaitKind.LOCK:
-            reason = f"mutex {subject}"
+            return f"mutex {subject}"
         case WaitKind.RETAKE:
-            reason = f"retake {subject} {'unwind' if wait.result == UNWIND else int(wait.result)}"
+            return f"retake {subject} {'unwind' if wait.result == UNWIND else int(wait.result)}"
         case WaitKind.CONDITION:
-            reason = f"cond {subject} {address_text(wait.mutex)}"
+            return f"cond {subject} {address_text(wait.mutex)}"
         case WaitKind.INPUT | WaitKind.SLEEP:
-            reason = wait.kind.value
+            return wait.kind.value
         case _:
-            reason = f"{wait.kind.value} {subject}"
-    return reason + (f" until {wait.deadline}" if wait.deadline is not None else "")
+            return f"{wait.kind.value} {subject}"
+
+
+def text_of_wait(wait):
+    """Until when, too."""
+    return reason_of_wait(wait) + (f" until {wait.deadline}" if wait.deadline is not None else "")
 
 
 def wait_line(wait):
