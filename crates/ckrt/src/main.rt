@@ -1,7 +1,9 @@
 //! Checkpoint and restart of pthread programs: does what its words ask for, on standard input, output and error.
 #![tactic(auto)]
 
-use ckrt_jobs::{OutputReason, SystemMeter, SystemSources, ToldWriter, WrittenReport, run_words};
+use ckrt_program::run_words;
+use ckrt_reports::{SystemMeter, WrittenReport};
+use ckrt_sources::{OutputReason, SystemSources, ToldWriter};
 use std::cell::Cell;
 use std::env;
 use std::io::{self, ErrorKind};

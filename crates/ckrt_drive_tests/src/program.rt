@@ -4,7 +4,9 @@ use crate::expect::{
     expect_bytes, expect_eq, expect_eq_at, filled, image_of, remove_file, write_file,
 };
 use ckrt_drive::Nobody;
-use ckrt_jobs::{OutputReason, SystemSources, WrittenReport, run_words};
+use ckrt_program::run_words;
+use ckrt_reports::WrittenReport;
+use ckrt_sources::{OutputReason, SystemSources};
 use std::cell::Cell;
 use std::fs::{self, File, Files};
 use std::io::{self, Write};

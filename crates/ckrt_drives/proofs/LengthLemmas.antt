@@ -14,8 +14,8 @@ use Rattle.ckrt_commands.proofs.AcceptLemmas.{output_begins}
 use Rattle.ckrt_drive.specs.Runs.{IsAllSaved}
 use Rattle.ckrt_drive.specs.declared.fault.DriveFault.{DriveFault}
 use Rattle.ckrt_jobs.specs.Driving.{DrivesWay, Way}
-use Rattle.ckrt_jobs.specs.Lengths.{fits, lengths_of}
-use Rattle.ckrt_jobs.specs.declared.driven.Driven.{Driven}
+use Rattle.ckrt_outcomes.specs.Lengths.{fits, lengths_of}
+use Rattle.ckrt_outcomes.specs.declared.driven.Driven.{Driven}
 use Rattle.ckrt_drives.specs.Lengths.{size_after}
 use Rattle.ckrt_drives.proofs.StepTogether.{no_longer}
 

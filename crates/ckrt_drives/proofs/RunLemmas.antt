@@ -10,10 +10,10 @@ use Rattle.ckrt_drive.specs.declared.progress.Ending.{Ending}
 use Rattle.ckrt_image.specs.declared.fault.RecoverFault.{RecoverFault}
 use Rattle.ckrt_jobs.specs.Driving.{IsRecovered, Way, way_of}
 use Rattle.ckrt_jobs.specs.Feeding.{EndsWithRoom, LooksUp, MakesRoom, SuppliesFrom, SuppliesOpened, SuppliesRoomy, SuppliesTaken, taken_by_words}
-use Rattle.ckrt_jobs.specs.Openings.{Openings}
-use Rattle.ckrt_jobs.specs.Sources.{Gives}
-use Rattle.ckrt_jobs.specs.declared.fault.JobFault.{JobFault}
-use Rattle.ckrt_jobs.specs.declared.fault.JobFault.TheVariants as job
+use Rattle.ckrt_sources.specs.Openings.{Openings}
+use Rattle.ckrt_sources.specs.Sources.{Gives}
+use Rattle.ckrt_outcomes.specs.declared.fault.JobFault.{JobFault}
+use Rattle.ckrt_outcomes.specs.declared.fault.JobFault.TheVariants as job
 use Rattle.ckrt_jobs.specs.declared.feeding.Intake.{Intake}
 use Rattle.ckrt_jobs.specs.declared.feeding.Supplied.{Supplied}
 use Rattle.ckrt_jobs.specs.declared.feeding.Unready.{Unready}

@@ -8,10 +8,10 @@ use Rattle.ckrt_drive.specs.declared.options.Options.{Options}
 use Rattle.ckrt_drive.specs.declared.progress.Ending.{Ending}
 use Rattle.ckrt_jobs.specs.Driving.{DrivesWay, IsRecovered, Way, way_of}
 use Rattle.ckrt_jobs.specs.Feeding.{SuppliesFrom}
-use Rattle.ckrt_jobs.specs.Openings.{Openings}
-use Rattle.ckrt_jobs.specs.Sources.{Gives}
-use Rattle.ckrt_jobs.specs.declared.driven.Driven.{Driven}
-use Rattle.ckrt_jobs.specs.declared.fault.JobFault.{JobFault}
+use Rattle.ckrt_sources.specs.Openings.{Openings}
+use Rattle.ckrt_sources.specs.Sources.{Gives}
+use Rattle.ckrt_outcomes.specs.declared.driven.Driven.{Driven}
+use Rattle.ckrt_outcomes.specs.declared.fault.JobFault.{JobFault}
 use Rattle.ckrt_jobs.specs.declared.feeding.Intake.{Intake}
 use Rattle.ckrt_jobs.specs.declared.feeding.Supplied.{Supplied}
 use Rattle.ckrt_record.specs.Offset.{offset_from}

@@ -1,5 +1,5 @@
 -- What a session takes of a run.
-use Rattle.std.proofs.Common.{◌≡◌, ◌∙◌, ◌≤◌, ℕ, Bool, true, false, if◌then◌else◌, Option, Some, None, List, [], ◌∷◌, ◌++◌, Result, Ok, Err, ap, sym, subst, refl, arith}
+use Rattle.std.proofs.Common.{◌≡◌, ◌∙◌, ℕ, Bool, true, false, if◌then◌else◌, Option, Some, None, List, [], ◌∷◌, ◌++◌, Result, Ok, Err, ap, sym, subst, refl, arith}
 use Rattle.std.proofs.lemmas.List.{append-nil}
 use Rattle.std.specs.Prelude.{IfErr, IfOk, OnErr, OnOk}
 use Rattle.ckrt_disk.specs.declared.disk.Disk.{Ghosts}
@@ -23,9 +23,9 @@ use Rattle.ckrt_hunt.specs.declared.keeping.KeepFault.TheVariants.{Device, Refus
 use Rattle.ckrt_hunt.specs.declared.made.Made.{Made}
 use Rattle.ckrt_hunt.specs.declared.plan.Plan.{Plan}
 use Rattle.ckrt_hunt.specs.Plans.{made_with, nothing_made}
-use Rattle.ckrt_hunt.specs.Runs.{AreScheduled, Point, beginning, behind, next_at, on}
+use Rattle.ckrt_hunt.specs.Runs.{Point, beginning, behind, next_at, on}
 use Rattle.ckrt_hunt.specs.Turns.{next, runner_of}
-use Rattle.ckrt_hunt.specs.Kept.{GoesOn, HasKept, IsLeft, IsTaken, IsWhy, IsWhyNotWhole, KeepsRun, Takes, point_of}
+use Rattle.ckrt_hunt.specs.Kept.{GoesOn, HasKept, IsLeft, IsTaken, IsWhy, IsWhyNotWhole, KeepsRun}
 use Rattle.ckrt_hunt.proofs.RunLemmas.{behind_on, scheduled_on}
 
 running : (b : Bool) (o : Option SubmitFault) → (if b then Some submit.Failed else o) ≡ None → b ≡ false

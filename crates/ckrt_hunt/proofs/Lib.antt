@@ -3,3 +3,6 @@ pub mod RunLemmas
 pub mod TallyLemmas
 pub mod SameLemmas
 pub mod KeepLemmas
+pub mod AppendLemmas
+pub mod DiskLemmas
+mod NumberLemmas

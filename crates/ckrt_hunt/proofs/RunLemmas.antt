@@ -1,6 +1,5 @@
 -- Runs go on event by event, and a plan has one from each state.
 use Rattle.std.proofs.Common.{◌≡◌, ◌∙◌, ℕ, Option, List, [], ◌∷◌, ◌++◌, ap, sym, subst, refl}
-use Rattle.sha2.specs.Sha256.{sha256}
 use Rattle.sha2.specs.Hashers.{Holds256}
 use Rattle.sha2.specs.declared.Sha256.{Sha256}
 use Rattle.ckrt_events.specs.declared.event.Event.{Event}
@@ -16,7 +15,7 @@ use Rattle.ckrt_hunt.specs.declared.outcome.Outcome.{Outcome}
 use Rattle.ckrt_hunt.specs.declared.runs.Told.{Told}
 use Rattle.ckrt_hunt.specs.Plans.{made_with, nothing_made}
 use Rattle.ckrt_hunt.specs.Turns.{next, runner_of}
-use Rattle.ckrt_hunt.specs.Outcomes.{outcome_of}
+use Rattle.ckrt_hunt.specs.Outcomes.{digest_of, outcome_of}
 use Rattle.ckrt_hunt.specs.Runs.{AreScheduled, ComesTo, HasComeTo, Point, beginning, behind, next_at, on}
 
 module _ (p : Plan) where
@@ -61,7 +60,7 @@ module _ (p : Plan) where
   }
 
   -- a run that has come to its end
-  pub comes_to : (start : State) (m : Made) (s : State) (hasher : Sha256) (ending : Ending) (told : Told) → HasComeTo p start m s hasher → next p m s.tables ≡ End ending → told.outcome ≡ outcome_of ending s.tables → ((o : List ℕ) → Holds256 hasher o → told.digest ≡ sha256 o) → ComesTo p start told
+  pub comes_to : (start : State) (m : Made) (s : State) (hasher : Sha256) (ending : Ending) (told : Told) → HasComeTo p start m s hasher → next p m s.tables ≡ End ending → told.outcome ≡ outcome_of ending s.tables → ((o : List ℕ) → Holds256 hasher o → told.digest ≡ digest_of told.outcome o) → ComesTo p start told
   comes_to start m s hasher ending told h n o d =
       let es = h.events in
       let c = h.come in
@@ -91,5 +90,5 @@ module _ (p : Plan) where
       let es : c.events ≡ d.events = same_events c.events d.events (beginning start) c.ending d.ending c.scheduled c.ended d.scheduled d.ended in
       let ends : End c.ending ≡ End d.ending = sym c.ended ∙ ap (λ (es : List Event). next_at p (behind p es (beginning start))) es ∙ d.ended in
       let outcome : a.outcome ≡ b.outcome = c.outcome ∙ (cc) ∙ sym d.outcome in
-      let digest : a.digest ≡ b.digest = c.digest ∙ ap (λ (es : List Event). sha256 (output_of es start)) es ∙ sym d.digest in
-      ap (λ (o : Outcome). let t : Told = record { outcome = o; digest = a.digest } in t) outcome ∙ ap (λ (g : List ℕ). let t : Told = record { outcome = b.outcome; digest = g } in t) digest
+      let digest : a.digest ≡ b.digest = c.digest ∙ ap (λ (es : List Event). digest_of a.outcome (output_of es start)) es ∙ ap (λ (o : Outcome). digest_of o (output_of d.events start)) outcome ∙ sym d.digest in
+      ap (λ (o : Outcome). let t : Told = record { outcome = o; digest = a.digest } in t) outcome ∙ ap (λ (g : Option (List ℕ)). let t : Told = record { outcome = b.outcome; digest = g } in t) digest

@@ -1,5 +1,7 @@
 -- What `==` says of two outcomes: whether they are the same.
-use Rattle.std.proofs.Common.{◌≡◌, true, List, ap, refl, subst, rules}
+use Rattle.std.proofs.Common.{◌≡◌, ◌∙◌, ◌&&◌, ℕ, Bool, true, false, List, Option, Some, None, ap, ap₂, refl, subst, sym, true≢false, rules}
+use Rattle.std.specs.Option.{option_eq}
+use Rattle.std.specs.Str.{bytes_eq}
 use Rattle.std.specs.Bool.{Decides}
 use Rattle.std.specs.Cmp.Lexicographic.{pointwise}
 use Rattle.std.proofs.lemmas.Slice.Eq.{slice_eq-Decides, bytes_eq-Decides}
@@ -41,5 +43,29 @@ same_outcome NoEnd b h = search rules
 outcome_decides : (a b : Outcome) → Decides ((outcome_eq.ghosts).eq a b) (a ≡ b)
 outcome_decides a b = (same_outcome a b, λ e. subst (λ (x : Outcome). (outcome_eq.ghosts).eq a x ≡ true) e (itself a))
 
+option_decides : {A : Type 0} {E : A → A → Bool} → ((a b : A) → Decides (E a b) (a ≡ b)) → (a b : Option A) → Decides (option_eq E a b) (a ≡ b)
+option_decides each None None = (λ h. refl, λ h. refl)
+option_decides each None (Some y) = (λ h. absurd (cc), λ h. cc)
+option_decides each (Some x) None = (λ h. absurd (cc), λ h. cc)
+option_decides each (Some x) (Some y) = (λ h. ap Some ((each x y).0 h), λ h. (each x y).1 (cc))
+
+digests_decide : (a b : Option (List ℕ)) → Decides (option_eq bytes_eq a b) (a ≡ b)
+digests_decide = option_decides bytes_eq-Decides
+
+pub both : (a b : Bool) → (a && b) ≡ true → (a ≡ true) × (b ≡ true)
+both true b e = (refl, e)
+both false b e = absurd (true≢false (sym e))
+
+same_told : (a b : Told) → (a.outcome ≡ b.outcome) × (a.digest ≡ b.digest) → a ≡ b
+same_told a b same =
+    ap (λ (o : Outcome). let t : Told = record { outcome = o; digest = a.digest } in t) same.0
+    ∙ ap (λ (g : Option (List ℕ)). let t : Told = record { outcome = b.outcome; digest = g } in t) same.1
+
+told_itself : (a : Told) → (told_eq.ghosts).eq a a ≡ true
+told_itself a = ap₂ ◌&&◌ (itself a.outcome) ((digests_decide a.digest a.digest).1 refl)
+
 pub told_decides : (a b : Told) → Decides ((told_eq.ghosts).eq a b) (a ≡ b)
-told_decides a b = search (rules, outcome_decides, bytes_eq-Decides)
+told_decides a b =
+    let parts : (told_eq.ghosts).eq a b ≡ true → (a.outcome ≡ b.outcome) × (a.digest ≡ b.digest) =
+    λ h. (let p = both ((outcome_eq.ghosts).eq a.outcome b.outcome) (option_eq bytes_eq a.digest b.digest) h in ((outcome_decides a.outcome b.outcome).0 p.0, (digests_decide a.digest b.digest).0 p.1)) in
+    (λ h. same_told a b (parts h), λ e. subst (λ (x : Told). (told_eq.ghosts).eq a x ≡ true) e (told_itself a))

@@ -4,7 +4,6 @@ use Rattle.ckrt_disk.specs.declared.disk.Disk.{Ghosts}
 use Rattle.ckrt_events.specs.declared.event.Event.{Event}
 use Rattle.ckrt_machine.specs.declared.event.Answer.{Answer}
 use Rattle.ckrt_machine.specs.Events.{step}
-use Rattle.ckrt_recovery.specs.declared.fault.SubmitFault.{SubmitFault}
 use Rattle.ckrt_recovery.specs.declared.session.Session.{Session}
 use Rattle.ckrt_recovery.specs.View.{refusal_of, view_of}
 use Rattle.ckrt_commands.specs.Accepts.{Accepts}

@@ -4,4 +4,7 @@ pub mod Turns
 pub mod Outcomes
 pub mod Runs
 pub mod Tallies
+pub mod Seeds
+pub mod Table
 pub mod Kept
+pub mod KeptDisks

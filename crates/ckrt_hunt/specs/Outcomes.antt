@@ -1,6 +1,7 @@
 -- What a run comes to (this project's choice).
 use Rattle.std.specs.Prelude.{ℕ, zero, suc, Option, Some, None, List, [], ◌∷◌, ◌++◌}
 use Rattle.std.specs.List.{find}
+use Rattle.sha2.specs.Sha256.{sha256}
 use Rattle.ckrt_thread.specs.State as threads
 use Rattle.ckrt_thread.specs.Waits.{is_of}
 use Rattle.ckrt_thread.specs.declared.records.Reason.{Reason}
@@ -51,3 +52,11 @@ outcome_of ending.Ended s = by_status s.status
 outcome_of ending.WaitsForInput s = outcome.WaitsForInput
 outcome_of ending.Deadlock s = outcome.Deadlock (record { items = waiting_among s.threads 64 })
 outcome_of ending.Enough s = outcome.NoEnd
+
+-- the digest of its output, where the program exited: two runs with one status and two outputs come to two things
+abbrev pub digest_of : Outcome → (output : List ℕ) → Option (List ℕ)
+digest_of (outcome.Exited status) output = Some (sha256 output)
+digest_of (outcome.Faulted t pc c) output = None
+digest_of (outcome.Deadlock waiting) output = None
+digest_of outcome.WaitsForInput output = None
+digest_of outcome.NoEnd output = None

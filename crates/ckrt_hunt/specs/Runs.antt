@@ -1,6 +1,5 @@
 -- A run of a seed: the events that its schedule has, one after another, and what they come to.
 use Rattle.std.specs.Prelude.{◌≡◌, List, [], ◌∷◌}
-use Rattle.sha2.specs.Sha256.{sha256}
 use Rattle.sha2.specs.Hashers.{Holds256}
 use Rattle.sha2.specs.declared.Sha256.{Sha256}
 use Rattle.ckrt_events.specs.declared.event.Event.{Event}
@@ -14,7 +13,7 @@ use Rattle.ckrt_hunt.specs.declared.made.Made.{Made}
 use Rattle.ckrt_hunt.specs.declared.runs.Told.{Told}
 use Rattle.ckrt_hunt.specs.Plans.{made_with, nothing_made}
 use Rattle.ckrt_hunt.specs.Turns.{next, runner_of}
-use Rattle.ckrt_hunt.specs.Outcomes.{outcome_of}
+use Rattle.ckrt_hunt.specs.Outcomes.{digest_of, outcome_of}
 
 -- how far a run is: what it has made, and the machine's state
 pub record Point : Type 0 where
@@ -63,7 +62,7 @@ pub record ComesTo (p : Plan) (start : State) (told : Told) : Type 0 where
   pub ended : next_at p (behind p events (beginning start)) ≡ End ending
   pub accepted : AllAccepted events start
   pub outcome : told.outcome ≡ outcome_of ending (fold events start).state.tables
-  pub digest : told.digest ≡ sha256 (output_of events start)
+  pub digest : told.digest ≡ digest_of told.outcome (output_of events start)
 
 -- the same by some events
 pub record HasComeTo (p : Plan) (start : State) (made : Made) (state : State) (hasher : Sha256) : Type 0 where

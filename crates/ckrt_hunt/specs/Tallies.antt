@@ -1,10 +1,11 @@
 -- What seeds came to, counted (this project's choice): each outcome once, with how often it came, and the first seed that came to it.
-use Rattle.std.specs.Prelude.{◌≡◌, ◌≢◌, ◌≤◌, ◌<◌, ℕ, zero, suc, ◌+◌, min, Some, List, [], ◌∷◌, ◌++◌, length, slice_get, slice_set}
+use Rattle.std.specs.Prelude.{◌≡◌, ◌≢◌, ◌≤◌, ◌<◌, ℕ, zero, suc, ◌+◌, ◌&&◌, nat_le, min, if◌then◌else◌, Option, Some, None, List, [], ◌∷◌, ◌++◌, length, slice_get, slice_set}
 use Rattle.ckrt_memory.specs.Marks.{Memory}
 use Rattle.ckrt_state.specs.declared.table.Tables.{Tables}
 use Rattle.ckrt_machine.specs.Steps.{State}
 use Rattle.ckrt_hunt.specs.declared.runs.Told.{Told}
 use Rattle.ckrt_hunt.specs.declared.row.Row.{Row}
+use Rattle.ckrt_hunt.specs.declared.shape.Shape.{Shape}
 use Rattle.ckrt_hunt.specs.declared.tally.Tally.{Tally}
 use Rattle.ckrt_hunt.specs.declared.tally.TheConstants.{TALLY_ROWS}
 use Rattle.ckrt_hunt.specs.Plans.{plan_of}
@@ -41,6 +42,16 @@ pub record IsNoted (seed : ℕ) (told : Told) (old new : Tally) : Type 0 where
   pub full : HasNone told old.rows.items (length old.rows.items)
       → TALLY_ROWS ≤ length old.rows.items
       → (new.rows.items ≡ old.rows.items) × (new.others ≡ one_more old.others)
+
+-- what a program is run with: its pages, its harts, and how many steps and events a run has at most
+abbrev pub numbers_of : Shape → ℕ × ℕ × ℕ
+numbers_of s = (s.pages, s.harts, s.limit)
+
+-- the ranges of pages and harts are those of a disk
+abbrev pub shape_of : (pages harts limit : ℕ) → Option (ℕ × ℕ × ℕ)
+shape_of pages harts limit =
+    if nat_le 16 pages && (nat_le pages 1024 && (nat_le 1 harts && nat_le harts 8)) then Some (pages, harts, limit)
+    else None
 
 -- a program that is hunted: how many steps and events a run has at most, and the state that each begins with
 pub record Hunted : Type 0 where

@@ -2,6 +2,7 @@
 //! comes to is counted.
 #![tactic(auto)]
 
+mod disks;
 mod drawn;
 mod hunt;
 mod keeping;
@@ -12,10 +13,14 @@ mod outcome;
 mod plan;
 mod row;
 mod runs;
+mod seeds;
 mod shape;
+mod table;
 mod tally;
+mod texts;
 mod turn;
 
+pub use disks::{KeptDisk, SeedFault, keep_seed};
 pub use hunt::Hunt;
 pub use keeping::{KeepFault, keep};
 pub use laws::seed_repeats;
@@ -24,5 +29,7 @@ pub use outcome::{Awaited, Outcome, Waiting};
 pub use plan::Plan;
 pub use row::Row;
 pub use runs::{Told, run};
+pub use seeds::Seeds;
 pub use shape::Shape;
+pub use table::{Asked, write_table};
 pub use tally::{TALLY_ROWS, Tally};

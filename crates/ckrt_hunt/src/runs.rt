@@ -1,10 +1,9 @@
 //! A run of a seed.
 ghost use Rattle.std.specs.Prelude.{◌≡◌, ◌≤◌, ◌<◌, ◌+◌, ℕ, List, length};
 ghost use Rattle.sha2.specs.Hashers.{Holds256};
-ghost use Rattle.sha2.specs.Sha256.{sha256};
 ghost use Rattle.ckrt_machine.specs.Steps.{State};
 ghost use Rattle.ckrt_drive.specs.declared.plan.Next.TheVariants.{Submit};
-ghost use Rattle.ckrt_hunt.specs.Outcomes.{outcome_of};
+ghost use Rattle.ckrt_hunt.specs.Outcomes.{digest_of, outcome_of};
 ghost use Rattle.ckrt_hunt.specs.Turns.{IsFit, next};
 ghost use Rattle.ckrt_hunt.specs.Runs.{ComesTo, HasComeTo};
 
@@ -21,8 +20,9 @@ use sha2::{Digest, Sha256};
 #[derive(Debug, Drop, PartialEq, Eq)]
 pub struct Told {
     pub outcome: Outcome,
-    /// The SHA-256 digest of its output.
-    pub digest: [u8; 32],
+    /// The SHA-256 digest of its output, where the program exited. How much a run that was broken off had put by then, one
+    /// of the same outcome may not have.
+    pub digest: Option<[u8; 32]>,
 }
 
 /// One event on.
@@ -45,15 +45,28 @@ fn go_on(machine: &mut Machine, plan: &Plan, made: &mut Made, hasher: &mut Sha25
     *made = made.with(plan, who, answer);
 }
 
+/// The digest of the output, where the program exited.
+fn digest_of(outcome: &Outcome, hasher: Sha256) -> Option<[u8; 32]>
+    ensures { (output : List ℕ) → Holds256 hasher output → result ≡ digest_of outcome.now output }
+{
+    match outcome {
+        Outcome::Exited(_) => Some(hasher.finalize()),
+        Outcome::Faulted(_, _, _)
+        | Outcome::Deadlock(_)
+        | Outcome::WaitsForInput
+        | Outcome::NoEnd => None,
+    }
+}
+
 /// What is told of a run that has come to its end.
 fn tell(machine: &Machine, ending: Ending, hasher: Sha256) -> Told
     ensures outcome { result.outcome ≡ outcome_of ending machine.now.state.tables }
-    ensures digest { (output : List ℕ) → Holds256 hasher output → result.digest ≡ sha256 output }
+    ensures digest { (output : List ℕ) → Holds256 hasher output
+        → result.digest ≡ digest_of result.outcome output }
 {
-    Told {
-        outcome: outcome_of(machine.tables(), ending),
-        digest: hasher.finalize(),
-    }
+    let outcome = outcome_of(machine.tables(), ending);
+    let digest = digest_of(&outcome, hasher);
+    Told { outcome, digest }
 }
 
 /// Runs a program by a plan, from the state that the machine is in, and tells what it comes to. It takes no memory.

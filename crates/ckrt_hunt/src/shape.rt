@@ -13,3 +13,25 @@ pub struct Shape {
     ghost some_harts: { 1 ≤ harts },
     ghost few_harts: { harts ≤ 8 },
 }
+
+impl Shape {
+    ghost use Rattle.std.specs.Prelude.{◌≡◌, option_map};
+    ghost use Rattle.ckrt_hunt.specs.Tallies.{numbers_of, shape_of};
+
+    /// A program of so many pages and harts, whose runs have at most so many steps and events. None where the pages aren't
+    /// 16 to 1,024, or the harts 1 to 8.
+    pub fn new(pages: u32, harts: u32, limit: u32) -> Option<Shape>
+        ensures { option_map numbers_of result ≡ shape_of pages harts limit }
+    {
+        if 16 <= pages && pages <= 1_024 && 1 <= harts && harts <= 8 {
+            let harts = harts as usize;
+            Some(Shape {
+                pages,
+                harts,
+                limit,
+            })
+        } else {
+            None
+        }
+    }
+}

@@ -1,5 +1,5 @@
 //! Outcomes, counted.
-ghost use Rattle.std.specs.Prelude.{◌≡◌, ◌≤◌, [], vec_capacity, IfOk};
+ghost use Rattle.std.specs.Prelude.{◌≡◌, ◌≤◌, [], length, nat_lt, vec_capacity, IfOk};
 ghost use Rattle.ckrt_hunt.specs.declared.tally.TheConstants.{TALLY_ROWS};
 
 use crate::row::{Row, count_again, place_of};
@@ -44,6 +44,13 @@ impl Tally {
         ensures { result ≡ self.now.others }
     {
         self.others
+    }
+
+    /// Whether runs came to several outcomes.
+    pub fn has_several(&self) -> bool
+        ensures { result ≡ nat_lt 1 (length self.now.rows.items) }
+    {
+        1 < self.rows.len()
     }
 
     /// One more run: a seed came to this. It takes no memory.

@@ -10,14 +10,14 @@ use Rattle.ckrt_drive.specs.declared.progress.Ending.{Ending}
 use Rattle.ckrt_drive.specs.declared.stream.StreamOutput.{StreamOutput}
 use Rattle.ckrt_image.specs.declared.fault.RecoverFault.{RecoverFault}
 use Rattle.ckrt_words.specs.Jobs.{Driving}
-use Rattle.ckrt_jobs.specs.Driving.{DrivesFed, DrivesInRange, DrivesLooked, DrivesOpened, DrivesPath, DrivesSized, DrivesSupplied, DrivesToward, IsAsked, Ready, Setting, driven_of, is_in_range, means_of, ready, setting_of}
+use Rattle.ckrt_jobs.specs.Driving.{DrivesFed, DrivesInRange, DrivesLooked, DrivesOpened, DrivesPath, DrivesSized, DrivesSupplied, DrivesToward, IsAsked, Ready, Setting, driven_of, means_of, ready, setting_of}
+use Rattle.ckrt_outcomes.specs.Ranges.{is_in_range, config_for}
 use Rattle.ckrt_jobs.specs.Feeding.{EndsWithRoom, MakesRoom, Supplies, SuppliesOpened, SuppliesTaken, made_size}
 use Rattle.ckrt_jobs.specs.Missing.{FindsDisk}
-use Rattle.ckrt_jobs.specs.Openings.{Openings}
-use Rattle.ckrt_jobs.specs.Sizes.{config_for}
-use Rattle.ckrt_jobs.specs.Sources.{Gives, GivesNoMore}
-use Rattle.ckrt_jobs.specs.declared.driven.Driven.{Driven}
-use Rattle.ckrt_jobs.specs.declared.fault.JobFault.{JobFault}
+use Rattle.ckrt_sources.specs.Openings.{Openings}
+use Rattle.ckrt_sources.specs.Sources.{Gives, GivesNoMore}
+use Rattle.ckrt_outcomes.specs.declared.driven.Driven.{Driven}
+use Rattle.ckrt_outcomes.specs.declared.fault.JobFault.{JobFault}
 use Rattle.ckrt_jobs.specs.declared.feeding.Intake.{Intake}
 use Rattle.ckrt_jobs.specs.declared.feeding.Supplied.{Supplied}
 use Rattle.ckrt_jobs.specs.declared.feeding.Unready.{Unready}

@@ -1,7 +1,7 @@
 -- The front of a list, read up to a limit.
 use Rattle.std.proofs.Common.{◌≡◌, ◌<◌, ◌≤◌, ◌+◌, ℕ, zero, suc, List, [], ◌∷◌, length, take, refl, ap, subst, arith, ◌∙◌}
 use Rattle.std.proofs.lemmas.List.{take-take}
-use Rattle.ckrt_jobs.specs.Making.{is_elf}
+use Rattle.ckrt_sources.specs.Elf.{is_elf}
 
 take_whole : (n : ℕ) (xs : List ℕ) → length (take n xs) < n → take n xs ≡ xs
 take_whole zero xs h = absurd (omega arith)

@@ -3,8 +3,8 @@ use Rattle.std.proofs.Common.{ℕ, List, Option, Result, inl, inr}
 use Rattle.ckrt_disk.specs.declared.disk.Disk.{Ghosts}
 use Rattle.ckrt_checkpoint.specs.declared.config.Config.{Config}
 use Rattle.ckrt_jobs.specs.Missing.{MakesMissing}
-use Rattle.ckrt_jobs.specs.Openings.{Openings}
-use Rattle.ckrt_jobs.specs.declared.fault.JobFault.{JobFault}
+use Rattle.ckrt_sources.specs.Openings.{Openings}
+use Rattle.ckrt_outcomes.specs.declared.fault.JobFault.{JobFault}
 
 pub makes_weaker : {D : Type 0} (d : Ghosts D) (config : Config) (known : Option (List ℕ)) (Fills Weaker : D → Type 0) (image disk : List ℕ) (old new : Openings D) (result : Result D JobFault)
     → ((x : D) → Fills x → Weaker x) → MakesMissing d config known Fills image disk old new result → MakesMissing d config known Weaker image disk old new result

@@ -12,7 +12,7 @@ use Rattle.ckrt_commands.proofs.ReplyLemmas.{all_weaker, begins_through}
 use Rattle.ckrt_main.proofs.ToldLemmas.{lines_agree}
 use Rattle.ckrt_jobs.specs.Printing.{HaveSameBytes, HoldsEvents, PrintsOn, RecoversBehind}
 use Rattle.ckrt_jobs.specs.Running.{IsUnrecovered, KeepsEvents, Serves}
-use Rattle.ckrt_jobs.specs.declared.fault.JobFault.{JobFault}
+use Rattle.ckrt_outcomes.specs.declared.fault.JobFault.{JobFault}
 
 -- a line of the output of more events has the bytes of any line of the output before
 same_bytes : (p : Program) (before after : List Event) → IsBeginningOf before after → (y : ℕ × List ℕ) → StandsIn (output_after p after) y

@@ -1,7 +1,6 @@
 -- What a disk holds as a core: in a file beside the path that it is for, which gets that path once it is whole and durable. So at every moment
 -- what had the path stands there, or the whole core.
-use Rattle.std.specs.Prelude.{◌≡◌, ◌≢◌, ◌⊎◌, ◌&&◌, ℕ, Bool, eqb, List, [], ◌∷◌, length, drop, Result, Ok, Err, OnOk, IfErr}
-use Rattle.std.specs.List.{starts_with}
+use Rattle.std.specs.Prelude.{◌≡◌, ◌≢◌, ◌⊎◌, ℕ, List, length, Result, Ok, Err, OnOk, IfErr}
 use Rattle.ckrt_core.specs.Core.{core_of}
 use Rattle.ckrt_disk.specs.Disk.{HasFailed}
 use Rattle.ckrt_disk.specs.Frame.{IsOnlyRead}
@@ -11,18 +10,12 @@ use Rattle.ckrt_image.specs.declared.progress.Progress.{Progress}
 use Rattle.ckrt_inspect.specs.Inspect.{AgreesAt, is_device}
 use Rattle.ckrt_inspect.specs.declared.fault.InspectFault.{InspectFault}
 use Rattle.ckrt_words.specs.Jobs.{CoreMaking}
-use Rattle.ckrt_jobs.specs.Making.{is_elf}
-use Rattle.ckrt_jobs.specs.Openings.{Openings, opened, refused, with_abandoned, with_closed, with_closed_output, with_disk, with_making, with_named}
-use Rattle.ckrt_jobs.specs.declared.fault.JobFault.{JobFault}
-use Rattle.ckrt_jobs.specs.declared.fault.JobFault.TheVariants as job
-use Rattle.ckrt_jobs.specs.declared.file.FileFault.{FileFault}
-use Rattle.ckrt_jobs.specs.declared.file.FileFault.TheVariants as fault
-use Rattle.ckrt_jobs.specs.declared.file.JobFile.TheVariants as file
-
--- an ELF core, by its first 18 bytes (System V gABI, chapter 4 "ELF Header": e_ident, and e_type, which is ET_CORE), with the lowest byte of a
--- number first
-abbrev pub begins_as_core : List ℕ → Bool
-begins_as_core front = is_elf front && starts_with eqb (drop 16 front) (4 ∷ 0 ∷ [])
+use Rattle.ckrt_sources.specs.Openings.{Openings, opened, refused, with_abandoned, with_closed, with_closed_output, with_disk, with_making, with_named}
+use Rattle.ckrt_outcomes.specs.declared.fault.JobFault.{JobFault}
+use Rattle.ckrt_outcomes.specs.declared.fault.JobFault.TheVariants as job
+use Rattle.ckrt_sources.specs.declared.file.FileFault.{FileFault}
+use Rattle.ckrt_sources.specs.declared.file.FileFault.TheVariants as fault
+use Rattle.ckrt_sources.specs.declared.file.JobFile.TheVariants as file
 
 -- THE FILE
 

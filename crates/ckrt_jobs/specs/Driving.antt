@@ -1,6 +1,6 @@
 -- The drive of a disk, with its input from a file, and its output in a disk of its own or on the standard output: from the words' options to
 -- the ending.
-use Rattle.std.specs.Prelude.{◌≡◌, ◌⊎◌, ◌-◌, ◌^◌, ◌&&◌, ℕ, nat_lt, nat_le, Bool, true, false, List, Option, Some, None, Result, Ok, Err, IfErr, IfOk, IfSome, is_err, is_some}
+use Rattle.std.specs.Prelude.{◌≡◌, ◌⊎◌, ◌-◌, ◌^◌, ℕ, Bool, true, false, List, Option, Some, None, Result, Ok, Err, IfErr, IfOk, IfSome, is_err, is_some}
 use Rattle.ckrt_checkpoint.specs.declared.config.Config.{Config}
 use Rattle.ckrt_disk.specs.Disk.{HasFailed}
 use Rattle.ckrt_disk.specs.Frame.{IsOnlyRead}
@@ -26,52 +26,27 @@ use Rattle.ckrt_drive.specs.declared.fault.DriveFault.TheVariants.{Output}
 use Rattle.ckrt_drive.specs.declared.options.Options.{Options}
 use Rattle.ckrt_drive.specs.declared.progress.Ending.{Ending}
 use Rattle.ckrt_drive.specs.declared.stream.StreamOutput.{StreamOutput}
-use Rattle.ckrt_record.specs.Slot.{TAKEN_LIMIT}
 use Rattle.ckrt_words.specs.Jobs.{Driving}
 use Rattle.ckrt_words.specs.declared.job.Sizes.{Sizes}
 use Rattle.ckrt_jobs.specs.Addresses.{fault_address}
 use Rattle.ckrt_jobs.specs.Feeding.{Supplies, file_of, made_size}
-use Rattle.ckrt_jobs.specs.Lengths.{fits, lengths_of}
+use Rattle.ckrt_outcomes.specs.Lengths.{fits, lengths_of}
 use Rattle.ckrt_jobs.specs.Missing.{FindsDisk}
-use Rattle.ckrt_jobs.specs.Openings.{Openings, opened, refused, with_both_closed, with_closed, with_closed_output, with_output}
-use Rattle.ckrt_jobs.specs.Sizes.{config_for, other_sizes}
-use Rattle.ckrt_jobs.specs.Sources.{Gives}
-use Rattle.ckrt_jobs.specs.declared.driven.Driven.{Driven}
-use Rattle.ckrt_jobs.specs.declared.fault.JobFault.{JobFault}
-use Rattle.ckrt_jobs.specs.declared.fault.JobFault.TheVariants as job
+use Rattle.ckrt_sources.specs.Openings.{Openings, opened, refused, with_both_closed, with_closed, with_closed_output, with_output}
+use Rattle.ckrt_outcomes.specs.Ranges.{config_for, is_in_range}
+use Rattle.ckrt_jobs.specs.Sizes.{other_sizes}
+use Rattle.ckrt_sources.specs.Sources.{Gives}
+use Rattle.ckrt_outcomes.specs.declared.driven.Driven.{Driven}
+use Rattle.ckrt_outcomes.specs.declared.fault.JobFault.{JobFault}
+use Rattle.ckrt_outcomes.specs.declared.fault.JobFault.TheVariants as job
 use Rattle.ckrt_jobs.specs.declared.feeding.Intake.{Intake}
 use Rattle.ckrt_jobs.specs.declared.feeding.Supplied.{Supplied}
-use Rattle.ckrt_jobs.specs.declared.file.FileFault.{FileFault}
-use Rattle.ckrt_jobs.specs.declared.file.JobFile.TheVariants as file
-use Rattle.ckrt_jobs.specs.declared.output.OpenedOutput.{OpenedOutput}
-use Rattle.ckrt_jobs.specs.declared.reason.OutputReason.{OutputReason}
+use Rattle.ckrt_sources.specs.declared.file.FileFault.{FileFault}
+use Rattle.ckrt_sources.specs.declared.file.JobFile.TheVariants as file
+use Rattle.ckrt_sources.specs.declared.output.OpenedOutput.{OpenedOutput}
+use Rattle.ckrt_sources.specs.declared.reason.OutputReason.{OutputReason}
 
 -- THE OPTIONS
-
--- a second or more lies between two lines, where there are any
-abbrev pub is_interval : Option ℕ → Bool
-is_interval None = true
-is_interval (Some seconds) = nat_lt 0 seconds
-
--- an offset goes with the standard output alone
-abbrev pub is_target : Option (List ℕ) → Option ℕ → Bool
-is_target None from = true
-is_target (Some path) None = true
-is_target (Some path) (Some from) = false
-
--- an offset of the input goes with a file of it alone, and is one that a record may have
-abbrev pub is_intake : Option (List ℕ) → Option ℕ → Bool
-is_intake input None = true
-is_intake (Some path) (Some from) = nat_lt from TAKEN_LIMIT
-is_intake None (Some from) = false
-
--- a turn has 1 to 1,000,000 steps, and there is a round or more between two commits
-abbrev pub is_in_range : Driving → Bool
-is_in_range j =
-    nat_lt 0 j.turn
-    && (nat_le j.turn 1000000
-    && (nat_lt 0 j.rounds
-    && (is_interval j.progress && (is_target j.output j.from && is_intake j.input j.input_from))))
 
 -- below which offset output is left out
 abbrev pub offset_of : Option ℕ → ℕ

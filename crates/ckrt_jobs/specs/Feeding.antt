@@ -1,5 +1,5 @@
 -- The input of a drive: where it goes on, and the room for the record of it on the disk.
-use Rattle.std.specs.Prelude.{◌≡◌, ◌⊎◌, ◌≤◌, ◌<◌, ◌+◌, ℕ, nat_le, Bool, if◌then◌else◌, List, Option, Some, None, option_map, Result, Ok, Err}
+use Rattle.std.specs.Prelude.{◌≡◌, ◌⊎◌, ◌≤◌, ◌<◌, ◌+◌, ℕ, nat_le, if◌then◌else◌, List, Option, Some, None, option_map, Result, Ok, Err}
 use Rattle.ckrt_checkpoint.specs.Layout.{size_needed}
 use Rattle.ckrt_disk.specs.Frame.{IsOnlyRead}
 use Rattle.ckrt_disk.specs.declared.disk.Disk.{Ghosts}
@@ -11,17 +11,16 @@ use Rattle.ckrt_record.specs.Slot.{RECORD_BYTES}
 use Rattle.ckrt_record.specs.declared.fault.OffsetFault.{OffsetFault}
 use Rattle.ckrt_record.specs.declared.fault.OffsetFault.TheVariants.{Unrecovered, NotRecorded}
 use Rattle.ckrt_words.specs.Jobs.{Driving}
-use Rattle.ckrt_jobs.specs.Openings.{Openings, opened, refused, with_both_closed, with_closed, with_input, with_lengthened}
-use Rattle.ckrt_jobs.specs.Sizes.{config_for}
-use Rattle.ckrt_jobs.specs.Sources.{Gives}
-use Rattle.ckrt_jobs.specs.declared.fault.JobFault.{JobFault}
-use Rattle.ckrt_jobs.specs.declared.fault.JobFault.TheVariants as job
+use Rattle.ckrt_sources.specs.Openings.{Openings, opened, refused, with_both_closed, with_closed, with_input, with_lengthened}
+use Rattle.ckrt_outcomes.specs.Ranges.{config_for}
+use Rattle.ckrt_sources.specs.Sources.{Gives}
+use Rattle.ckrt_outcomes.specs.declared.fault.JobFault.{JobFault}
+use Rattle.ckrt_outcomes.specs.declared.fault.JobFault.TheVariants as job
 use Rattle.ckrt_jobs.specs.declared.feeding.Intake.{Intake}
 use Rattle.ckrt_jobs.specs.declared.feeding.Supplied.{Supplied}
 use Rattle.ckrt_jobs.specs.declared.feeding.Unready.{Unready}
-use Rattle.ckrt_jobs.specs.declared.file.FileFault.{FileFault}
-use Rattle.ckrt_jobs.specs.declared.file.JobFile.TheVariants as file
-use Rattle.ckrt_jobs.specs.declared.input.InputLengths.{InputLengths}
+use Rattle.ckrt_sources.specs.declared.file.FileFault.{FileFault}
+use Rattle.ckrt_sources.specs.declared.file.JobFile.TheVariants as file
 
 -- WHERE IT GOES ON
 
@@ -41,10 +40,6 @@ pub record LooksUp {D : Type 0} (d : Ghosts D) (from : Option ℕ) (start disk :
   pub read : IsOnlyRead d start disk (fails_by_device told)
   pub exact : d.is_honest disk → Tells told (offset_from from (d.content start))
   pub says : taken ≡ taken_by_words from told
-
--- the file has the bytes that the program has taken
-abbrev pub is_long_enough : InputLengths → Bool
-is_long_enough l = nat_le l.taken l.length
 
 -- the file of a drive's input, where there is one
 abbrev pub file_of : {D : Type 0} → Option (Intake D) → Option D

@@ -1,6 +1,5 @@
 -- The making of a disk.
-use Rattle.std.specs.Prelude.{◌≡◌, ◌≢◌, ◌↔◌, ◌⊎◌, ◌<◌, ◌≤◌, ℕ, Bool, true, false, eqb, List, [], ◌∷◌, length, Option, Some, Result, Ok, Err, IsErrOf, OnOk}
-use Rattle.std.specs.List.{starts_with}
+use Rattle.std.specs.Prelude.{◌≡◌, ◌≢◌, ◌↔◌, ◌⊎◌, ◌<◌, ◌≤◌, ℕ, true, false, List, length, Option, Some, Result, Ok, Err, IsErrOf, OnOk}
 use Rattle.ckrt_disk.specs.Frame.{AtAnyMoment, WritesWithin}
 use Rattle.ckrt_disk.specs.declared.disk.Disk.{Ghosts}
 use Rattle.ckrt_checkpoint.specs.declared.config.Config.{Config}
@@ -8,12 +7,13 @@ use Rattle.ckrt_checkpoint.specs.Layout.{is_open, is_valid, memory_size, size_ne
 use Rattle.ckrt_image.specs.declared.fault.FormatFault.{FormatFault}
 use Rattle.ckrt_image.specs.declared.fault.FormatFault.TheVariants as format
 use Rattle.ckrt_image.specs.Format.{FormatsAt, IsFormatting, IsMade, IsRefusedBy, StaysFormatted, WasFormatted, calls_of, format_refusal, is_device}
-use Rattle.ckrt_jobs.specs.Openings.{Openings, opened, refused, with_abandoned, with_closed, with_disk, with_image}
-use Rattle.ckrt_jobs.specs.declared.fault.JobFault.{JobFault}
-use Rattle.ckrt_jobs.specs.declared.fault.JobFault.TheVariants as job
-use Rattle.ckrt_jobs.specs.declared.file.FileFault.{FileFault}
-use Rattle.ckrt_jobs.specs.declared.file.FileFault.TheVariants as fault
-use Rattle.ckrt_jobs.specs.declared.file.JobFile.TheVariants as file
+use Rattle.ckrt_sources.specs.Elf.{is_elf}
+use Rattle.ckrt_sources.specs.Openings.{Openings, opened, refused, with_abandoned, with_closed, with_disk, with_image}
+use Rattle.ckrt_outcomes.specs.declared.fault.JobFault.{JobFault}
+use Rattle.ckrt_outcomes.specs.declared.fault.JobFault.TheVariants as job
+use Rattle.ckrt_sources.specs.declared.file.FileFault.{FileFault}
+use Rattle.ckrt_sources.specs.declared.file.FileFault.TheVariants as fault
+use Rattle.ckrt_sources.specs.declared.file.JobFile.TheVariants as file
 
 -- what a making answers where formatting answered so
 abbrev pub answer_of : Result (Unit {0}) FormatFault → Result (Unit {0}) JobFault
@@ -61,10 +61,6 @@ pub record MakesDisk {D : Type 0} (d : Ghosts D) (config : Config) (known : Opti
   pub start : D
   pub is_opened : Fills start
   pub ends : FormatsOpened d config guest start asked new result
-
--- an ELF file, by its first four bytes (System V ABI, "ELF Header": EI_MAG0 to EI_MAG3)
-abbrev pub is_elf : List ℕ → Bool
-is_elf bytes = starts_with eqb bytes (127 ∷ 69 ∷ 76 ∷ 70 ∷ [])
 
 -- the image can't be read: that it is an ELF file is no such fault
 abbrev pub IsUnreadable : JobFault → Type 0

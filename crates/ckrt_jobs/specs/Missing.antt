@@ -7,12 +7,12 @@ use Rattle.ckrt_checkpoint.specs.Layout.{is_valid}
 use Rattle.ckrt_image.specs.declared.fault.FormatFault.{FormatFault}
 use Rattle.ckrt_image.specs.declared.fault.FormatFault.TheVariants as format
 use Rattle.ckrt_jobs.specs.Making.{EndsOnImage, Formats, IsFit}
-use Rattle.ckrt_jobs.specs.Openings.{Openings, opened, refused, with_abandoned, with_disk, with_image, with_making, with_named}
-use Rattle.ckrt_jobs.specs.declared.fault.JobFault.{JobFault}
-use Rattle.ckrt_jobs.specs.declared.fault.JobFault.TheVariants as job
-use Rattle.ckrt_jobs.specs.declared.file.FileFault.{FileFault}
-use Rattle.ckrt_jobs.specs.declared.file.FileFault.TheVariants as fault
-use Rattle.ckrt_jobs.specs.declared.file.JobFile.TheVariants as file
+use Rattle.ckrt_sources.specs.Openings.{Openings, opened, refused, with_abandoned, with_disk, with_image, with_making, with_named}
+use Rattle.ckrt_outcomes.specs.declared.fault.JobFault.{JobFault}
+use Rattle.ckrt_outcomes.specs.declared.fault.JobFault.TheVariants as job
+use Rattle.ckrt_sources.specs.declared.file.FileFault.{FileFault}
+use Rattle.ckrt_sources.specs.declared.file.FileFault.TheVariants as fault
+use Rattle.ckrt_sources.specs.declared.file.JobFile.TheVariants as file
 
 -- THE NAME
 

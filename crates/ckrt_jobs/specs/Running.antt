@@ -17,10 +17,24 @@ use Rattle.ckrt_commands.specs.Transcript.{Fate, transcript}
 use Rattle.ckrt_recovery.specs.View.{opened}
 use Rattle.ckrt_main.specs.Service.{Shows}
 use Rattle.ckrt_main.specs.declared.fault.ServeFault.TheVariants as serve
-use Rattle.ckrt_jobs.specs.Outcomes.{disk_of}
-use Rattle.ckrt_jobs.specs.declared.fault.JobFault.{JobFault}
-use Rattle.ckrt_jobs.specs.declared.fault.JobFault.TheVariants as job
+use Rattle.ckrt_outcomes.specs.declared.fault.JobFault.{JobFault}
+use Rattle.ckrt_outcomes.specs.declared.fault.JobFault.TheVariants as job
 use Rattle.ckrt_jobs.specs.declared.running.Unserved.{Unserved}
+
+-- the faults that come before a byte is read or written
+abbrev pub IsBeforeService : JobFault → Type 0
+IsBeforeService (job.Recover f) = Unit {0}
+IsBeforeService _ = ⊥
+
+-- a fault of recovery is the one that the content recovers to
+abbrev pub AgreesOnJob : JobFault → (Result Recovered RecoverFault → Type 0) → Type 0
+AgreesOnJob (job.Recover f) Holds = AgreesOnFault f Holds
+AgreesOnJob _ Holds = Unit {0}
+
+-- the disk that a run hands back
+abbrev pub disk_of : {D : Type 0} → Result D (Unserved D) → D
+disk_of (Ok disk) = disk
+disk_of (Err u) = u.disk
 
 -- The disk keeps these events, those that were recovered: all of them are the recovered ones and the accepted ones behind them.
 pub record KeepsEvents {D : Type 0} (d : Ghosts D) (start end : D) (p : Program)

@@ -1,17 +1,8 @@
 -- The sizes that the words ask for, beside those of a disk.
-use Rattle.std.specs.Prelude.{ℕ, nat_eq, nat_lt, Bool, true, not, ◌&&◌, if◌then◌else◌, List, length, take, Option, Some, None, unwrap_or}
+use Rattle.std.specs.Prelude.{ℕ, nat_eq, nat_lt, Bool, true, not, ◌&&◌, if◌then◌else◌, List, length, take, Option, Some, None}
 use Rattle.ckrt_checkpoint.specs.declared.config.Config.{Config}
 use Rattle.ckrt_checkpoint.specs.Layout.{is_open, is_valid, number_at}
 use Rattle.ckrt_words.specs.declared.job.Sizes.{Sizes}
-
--- what a disk is made with: what `format` takes, where a size isn't given
-abbrev pub config_for : Sizes → Config
-config_for s =
-    record {
-      pages = unwrap_or s.pages 64;
-      harts = unwrap_or s.harts 1;
-      journal = unwrap_or s.journal 65536;
-    }
 
 -- a size is the one that is asked for, or none is
 abbrev pub is_asked : Option ℕ → ℕ → Bool

@@ -1,16 +1,15 @@
 //! Writing what a disk holds as a core.
-ghost use Rattle.std.specs.Prelude.{◌≡◌, Ok, OnErr, IfOk, IfErr};
+ghost use Rattle.std.specs.Prelude.{◌≡◌, Ok, IfOk, IfErr};
 ghost use Rattle.ckrt_core.specs.Core.{core_of};
 ghost use Rattle.ckrt_words.specs.Jobs.{core_making_of};
 ghost use Rattle.ckrt_jobs.specs.CoreFiles.{Cores, CoresOpened, CoresPath, EndsCore, MakesCore, WritesCore, WritesInto};
 
-use crate::fault::JobFault;
-use crate::file::{FileFault, JobFile};
-use crate::sources::Sources;
 use ckrt_core::{core_size, write_core};
 use ckrt_disk::{Disk, write_synced};
 use ckrt_inspect::read_program;
 use ckrt_machine::Machine;
+use ckrt_outcomes::JobFault;
+use ckrt_sources::{FileFault, JobFile, Sources};
 use ckrt_words::CoreJob;
 use std::alloc::Global;
 use std::io::Read;
@@ -140,7 +139,7 @@ fn make_core_of_opened<'a, I: Read, D: Disk, S: Sources<'a, I, D>>(
 /// The first that applies: `File` of the disk; `Inspect`, where no program is found on it; `OutOfMemory`; `File` of the core,
 /// where something else has its path, where there is no room for it, where a write failed, or where it can't get its name. What
 /// had the path stays as it was then.
-pub(crate) fn core_path<'a, I: Read, D: Disk, S: Sources<'a, I, D>>(
+pub fn core_path<'a, I: Read, D: Disk, S: Sources<'a, I, D>>(
     alloc: Global,
     job: &CoreJob<'a>,
     sources: &mut S,

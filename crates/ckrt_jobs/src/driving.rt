@@ -1,26 +1,20 @@
 //! Driving a disk.
-ghost use Rattle.std.specs.Prelude.{◌≡◌, None, Some, is_some, option_map, true};
+ghost use Rattle.std.specs.Prelude.{◌≡◌, None, Some, is_some, true};
 ghost use Rattle.ckrt_words.specs.Jobs.{driving_of};
-ghost use Rattle.ckrt_jobs.specs.Driving.{DrivesFed, DrivesInto, DrivesOnto, DrivesOpened, DrivesOpenedOutput, DrivesPath, DrivesRecovered, DrivesSized, DrivesStream, DrivesWay, IsAsked, IsLent, IsUnwritten, answer_of, driven_of, is_in_range, is_intake, is_target, means_of, offset_of, ready, setting_of, way_of};
+ghost use Rattle.ckrt_jobs.specs.Driving.{DrivesFed, DrivesInto, DrivesOnto, DrivesOpened, DrivesOpenedOutput, DrivesPath, DrivesRecovered, DrivesSized, DrivesStream, DrivesWay, IsAsked, IsLent, IsUnwritten, answer_of, driven_of, means_of, offset_of, ready, setting_of, way_of};
+ghost use Rattle.ckrt_outcomes.specs.Ranges.{is_in_range};
 ghost use Rattle.ckrt_drive.specs.Streams.{HasSameWriter};
 
 use crate::address::fault_address;
-use crate::driven::Driven;
-use crate::fault::JobFault;
 use crate::feeding::{Intake, Supplied, close_both, file_of, supply};
-use crate::file::JobFile;
-use crate::meter::{Meter, Watch};
 use crate::missing::find_disk;
-use crate::output::{OpenedOutput, OutputLengths};
-use crate::reason::OutputReason;
 use crate::sizes::other_sizes;
-use crate::sources::Sources;
 use ckrt_disk::Disk;
 use ckrt_drive::{Drive, DriveFault, Ending, Feed, FromDisk, Nothing, Options, StreamOutput};
-use ckrt_events::LONG_RUN_LIMIT;
 use ckrt_machine::Machine;
-use ckrt_record::TAKEN_LIMIT;
+use ckrt_outcomes::{Driven, JobFault, Meter, OutputLengths, Watch, is_in_range};
 use ckrt_recovery::{RecoverFault, Session, recover};
+use ckrt_sources::{JobFile, OpenedOutput, OutputReason, Sources};
 use ckrt_words::DriveJob;
 use std::alloc::Global;
 use std::io::{Read, Write};
@@ -32,35 +26,6 @@ pub(crate) struct Undertaken<D: Disk, O, F> {
     pub(crate) output: O,
     pub(crate) input: F,
     pub(crate) driven: Result<Driven, DriveFault>,
-}
-
-/// Whether an offset goes with where the output goes: with the standard output alone.
-pub(crate) fn is_target(output: Option<&str>, from: Option<u64>) -> bool
-    ensures { result ≡ is_target (option_map (λ path. path.now) output.entry) from }
-{
-    output.is_none() || from.is_none()
-}
-
-/// Whether an offset goes with what the input is: with a file alone, and below where a record ends.
-fn is_intake(input: Option<&str>, from: Option<u64>) -> bool
-    ensures { result ≡ is_intake (option_map (λ path. path.now) input.entry) from }
-{
-    match from {
-        Some(from) => input.is_some() && from < TAKEN_LIMIT,
-        None => true,
-    }
-}
-
-/// Whether the job's numbers are in their ranges.
-fn is_in_range(job: &DriveJob<'_>) -> bool
-    ensures { result ≡ is_in_range (driving_of job.now) }
-{
-    job.turn > 0
-        && job.turn <= LONG_RUN_LIMIT
-        && job.rounds > 0
-        && job.progress != Some(0)
-        && is_target(job.output, job.from)
-        && is_intake(job.input, job.input_from)
 }
 
 /// How the drive goes that the words ask for.
@@ -451,14 +416,7 @@ fn drive_sized<'a, I: Read, D: Disk, S: Sources<'a, I, D>, W: Write + 'a, M: Met
 /// The first that applies: `Range`, before anything is opened; `File` of the disk, or what making it answers; `BadConfig` where
 /// it has other sizes than those of the words; what the input's fault is, before a byte of the disk is changed; `Recover`, before
 /// the output is asked for; `File` of the output; then what the drive answers.
-pub(crate) fn drive_path<
-    'a,
-    I: Read + Drop,
-    D: Disk,
-    S: Sources<'a, I, D>,
-    W: Write + 'a,
-    M: Meter,
->(
+pub fn drive_path<'a, I: Read + Drop, D: Disk, S: Sources<'a, I, D>, W: Write + 'a, M: Meter>(
     alloc: Global,
     job: &DriveJob<'a>,
     sources: &mut S,

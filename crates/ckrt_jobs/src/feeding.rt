@@ -4,20 +4,18 @@ ghost use Rattle.ckrt_disk.specs.Frame.{IsOnlyRead};
 ghost use Rattle.ckrt_words.specs.Jobs.{driving_of};
 ghost use Rattle.ckrt_image.specs.Reads.{is_device};
 ghost use Rattle.ckrt_image.specs.Recovery.{Agrees, Is};
-ghost use Rattle.ckrt_jobs.specs.Driving.{is_in_range};
+ghost use Rattle.ckrt_outcomes.specs.Ranges.{is_in_range};
 ghost use Rattle.ckrt_jobs.specs.Feeding.{EndsWithRoom, LooksUp, MakesRoom, Supplies, SuppliesFrom, SuppliesOpened, SuppliesTaken, TakesInput, file_of, size_wanted, spare_for, taken_by_words};
-ghost use Rattle.ckrt_jobs.specs.Openings.{with_both_closed};
-ghost use Rattle.ckrt_jobs.specs.Sources.{GivesNoMore};
+ghost use Rattle.ckrt_sources.specs.Openings.{with_both_closed};
+ghost use Rattle.ckrt_sources.specs.Sources.{GivesNoMore};
 ghost use Rattle.ckrt_record.specs.Slot.{TAKEN_LIMIT};
 
-use crate::fault::JobFault;
-use crate::file::JobFile;
-use crate::input::InputLengths;
-use crate::sources::{Closes, Sources};
 use ckrt_disk::Disk;
 use ckrt_image::read_in_use;
+use ckrt_outcomes::{InputLengths, JobFault};
 use ckrt_record::{OffsetFault, RECORD_BYTES, read_offset};
 use ckrt_recovery::RecoverFault;
+use ckrt_sources::{Closes, JobFile, Sources};
 use ckrt_words::DriveJob;
 use std::io::Read;
 

@@ -1,10 +1,11 @@
 //! Reading an image.
-ghost use Rattle.std.specs.Prelude.{◌≡◌, ◌<◌, ◌≤◌, ◌+◌, ◌^◌, ◌⊎◌, List, ℕ, Some, IfOk, IfErr, take, length};
-ghost use Rattle.ckrt_jobs.specs.Making.{IsUnreadable, is_elf};
-ghost use Rattle.ckrt_jobs.specs.declared.fault.JobFault.TheVariants.{OutOfMemory};
+ghost use Rattle.std.specs.Prelude.{◌≡◌, ◌<◌, ◌+◌, ◌^◌, ◌⊎◌, List, ℕ, Some, IfOk, IfErr, take};
+ghost use Rattle.ckrt_jobs.specs.Making.{IsUnreadable};
+ghost use Rattle.ckrt_sources.specs.Elf.{is_elf};
+ghost use Rattle.ckrt_outcomes.specs.declared.fault.JobFault.TheVariants.{OutOfMemory};
 
-use crate::fault::JobFault;
-use crate::file::{FileFault, JobFile};
+use ckrt_outcomes::JobFault;
+use ckrt_sources::{FileFault, JobFile};
 use std::alloc::Global;
 use std::io::{ErrorKind, Read};
 

@@ -4,7 +4,7 @@ ghost use Rattle.ckrt_events.specs.declared.event.Event.{Event};
 ghost use Rattle.ckrt_image.specs.Programs.{Program};
 ghost use Rattle.ckrt_jobs.specs.Printing.{HoldsEvents, PrintsOn};
 ghost use Rattle.ckrt_jobs.specs.Running.{IsUnrecovered, Serves};
-ghost use Rattle.ckrt_jobs.specs.declared.fault.JobFault.{JobFault};
+ghost use Rattle.ckrt_outcomes.specs.declared.fault.JobFault.{JobFault};
 ghost use Rattle.ckrt_commands.specs.Replies.{outs_of};
 
 use ckrt_disk::Disk;

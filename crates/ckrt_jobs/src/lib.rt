@@ -1,7 +1,7 @@
-//! The jobs of the program: making a disk, running one, driving one, showing one, and what is printed for each outcome.
+//! The jobs: making a disk, running one, driving one, showing one, and writing its core.
 //!
-//! [`run_words`] is the whole program behind its words, with files of the system; [`run_words_with`] is the same with images
-//! and disks of any [`Sources`]; [`make_disk`], [`run_disk`] and [`inspect_disk`] are its jobs over any disk.
+//! [`make_disk`], [`run_disk`] and [`inspect_disk`] are jobs over any disk; [`drive_path`] and [`core_path`] find theirs by its
+//! path, among the files of any `Sources`.
 //!
 //! Proved of [`make_disk`]: BadConfig comes exactly where the configuration is out of its ranges, before anything is
 //! opened; with a fault of the image, ImageTooLong and want of memory for the image the disk wasn't asked for, and a fault of
@@ -48,77 +48,28 @@
 //! end. Where the input can't be used both are closed as they were, and no output is asked for. Without an input the steps are
 //! supplied from none.
 //!
-//! Proved of [`run_words_with`]: its outcome is the one that the words ask for, and the status is that outcome's: for
-//! `format` that of making the disk of DISK with the image of IMAGE, and then the line `formatted SIZE`; for `run` that of
-//! running the disk of DISK; for `inspect` that of showing it; for `core` that of writing its core into FILE; for `drive` that of driving it with its output in FILE or on a
-//! stream, and then the line of what it came to; for no words that of serving the stored program, of which a service that
-//! ends early has written a beginning; for `--version` the line of version and kit. Where a line can't be written, what was
-//! written is a beginning of it. The files that were asked for are those of DISK, IMAGE, input and output, each once, and none where the
-//! words name none; the disk is closed as its job left it, once, by who knows nothing of it and so can't write to it. A disk
-//! that can't be opened is a fault of File with what its sources said of that path. For each fault the line in plain words,
-//! with the path of the file, and the line with its name were reported exactly, or the reporter failed. The status is 2 never
-//! for no words, nor for words that `clap` takes. [`run_words`] says the same of some disk of the system for each path, and
-//! of the files that it was handed, what they were asked for.
-//!
-//! Proved of the files of the system: none that is opened has the descriptor of a standard stream; the folder that is looked for is
-//! the path's. Filling is stated over any disk (`ckrt_filling`).
-//!
 //! A law: a byte that was printed at an offset is never another, over any number of runs of a disk
 //! ([`printed_bytes_stay`]).
 //!
-//! What a drive hands on to its stream is the output of acknowledged events: `stream_gets_the_output` of `ckrt_drive`. Only
-//! tested: the lines on how far a drive is, which reason of a failed output is told, what a path opens, that a file is filled
-//! and locked and its folder synced, that a disk in the making takes no other file's name, that what is printed is flushed, that
-//! faults on standard error reach it.
+//! What a drive hands on to its stream is the output of acknowledged events: `stream_gets_the_output` of `ckrt_drive`.
 #![tactic(auto)]
 
 mod address;
 mod core_file;
-mod core_paths;
-mod driven;
 mod driving;
-mod fault;
 mod feeding;
-mod file;
-mod files;
-mod growing;
 mod image;
-mod input;
 mod laws;
-mod leftover;
 mod making;
-mod meter;
 mod missing;
-mod output;
-mod program;
-mod reason;
-mod report;
-mod reporter;
 mod running;
 mod showing;
 mod sizes;
-mod sources;
-mod status;
-mod stored;
-mod system;
-mod told;
-mod unfit;
-mod version;
 
-pub use driven::Driven;
-pub use fault::JobFault;
+pub use core_file::core_path;
+pub use driving::drive_path;
 pub use feeding::Intake;
-pub use file::{FileFault, JobFile};
-pub use input::InputLengths;
 pub use laws::printed_bytes_stay;
 pub use making::make_disk;
-pub use meter::{Meter, SystemMeter, Watch};
-pub use output::{OpenedOutput, OutputLengths};
-pub use program::{run_words, run_words_with};
-pub use reason::OutputReason;
-pub use reporter::{Reporter, Unsaid, WrittenReport};
 pub use running::{Unserved, run_disk};
 pub use showing::inspect_disk;
-pub use sources::{Closes, Sources, Unlengthened};
-pub use system::{SystemDisk, SystemSources};
-pub use told::{RealDisk, ToldFile, ToldWriter};

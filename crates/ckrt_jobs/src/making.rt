@@ -1,19 +1,19 @@
 //! Making a disk.
 ghost use Rattle.std.specs.Prelude.{◌≡◌, ◌↔◌, ◌≤◌, ℕ, List, Some, false, true, length, IfOk, IfErr, IsTrue, OnOk};
 ghost use Rattle.ckrt_checkpoint.specs.Layout.{is_valid, memory_size, size_needed};
-ghost use Rattle.ckrt_jobs.specs.Making.{EndsOnImage, FormatsOpened, IsFit, Makes, is_elf};
-ghost use Rattle.ckrt_jobs.specs.Openings.{opened, refused, with_disk, with_image};
-ghost use Rattle.ckrt_jobs.specs.Sources.{GivesSame};
-ghost use Rattle.ckrt_jobs.specs.declared.fault.JobFault.TheVariants.{File};
-ghost use Rattle.ckrt_jobs.specs.declared.file.FileFault.{FileFault};
-ghost use Rattle.ckrt_jobs.specs.declared.file.JobFile.TheVariants as file;
+ghost use Rattle.ckrt_jobs.specs.Making.{EndsOnImage, FormatsOpened, IsFit, Makes};
+ghost use Rattle.ckrt_sources.specs.Elf.{is_elf};
+ghost use Rattle.ckrt_sources.specs.Openings.{opened, refused, with_disk, with_image};
+ghost use Rattle.ckrt_sources.specs.Sources.{GivesSame};
+ghost use Rattle.ckrt_outcomes.specs.declared.fault.JobFault.TheVariants.{File};
+ghost use Rattle.ckrt_sources.specs.declared.file.FileFault.{FileFault};
+ghost use Rattle.ckrt_sources.specs.declared.file.JobFile.TheVariants as file;
 
-use crate::fault::JobFault;
-use crate::file::{FileFault, JobFile};
 use crate::image::{is_elf, read_image};
-use crate::sources::Sources;
 use ckrt_disk::Disk;
+use ckrt_outcomes::JobFault;
 use ckrt_recovery::{Config, FormatFault};
+use ckrt_sources::{FileFault, JobFile, Sources};
 use std::alloc::Global;
 use std::io::Read;
 

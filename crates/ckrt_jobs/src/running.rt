@@ -5,12 +5,11 @@ ghost use Rattle.ckrt_disk.specs.Frame.{IsSameDisk};
 ghost use Rattle.ckrt_main.specs.Service.{Served};
 ghost use Rattle.ckrt_image.specs.Recovery.{Recovered, Recovers};
 ghost use Rattle.ckrt_recovery.specs.View.{opened};
-ghost use Rattle.ckrt_jobs.specs.Outcomes.{AgreesOnJob, IsBeforeService, disk_of};
-ghost use Rattle.ckrt_jobs.specs.Running.{RunsDisk};
+ghost use Rattle.ckrt_jobs.specs.Running.{AgreesOnJob, IsBeforeService, disk_of, RunsDisk};
 
-use crate::fault::JobFault;
 use ckrt_disk::Disk;
 use ckrt_main::serve;
+use ckrt_outcomes::JobFault;
 use ckrt_recovery::recover;
 use std::alloc::Global;
 use std::io::{Read, Write};

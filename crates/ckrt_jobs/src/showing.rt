@@ -2,11 +2,11 @@
 ghost use Rattle.std.specs.Prelude.{◌≡◌, ◌≢◌, IfErr};
 ghost use Rattle.ckrt_inspect.specs.declared.fault.InspectFault.TheVariants.{Write as Writing};
 ghost use Rattle.ckrt_jobs.specs.Showing.{Shows, shown_of};
-ghost use Rattle.ckrt_jobs.specs.declared.fault.JobFault.TheVariants.{Inspect};
+ghost use Rattle.ckrt_outcomes.specs.declared.fault.JobFault.TheVariants.{Inspect};
 
-use crate::fault::JobFault;
 use ckrt_disk::Disk;
 use ckrt_inspect::{Shown, inspect_with};
+use ckrt_outcomes::JobFault;
 use ckrt_words::InspectJob;
 use std::alloc::Global;
 use std::io::Write;

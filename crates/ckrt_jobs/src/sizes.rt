@@ -1,7 +1,7 @@
 //! The sizes that the words ask for, beside those of a disk.
 ghost use Rattle.std.specs.Prelude.{◌≡◌, is_err, length, IfOk};
 ghost use Rattle.ckrt_disk.specs.Frame.{IsOnlyRead};
-ghost use Rattle.ckrt_jobs.specs.Sizes.{agrees, config_for, config_in, is_asked, other_in, other_sizes};
+ghost use Rattle.ckrt_jobs.specs.Sizes.{agrees, config_in, is_asked, other_in, other_sizes};
 
 use ckrt_checkpoint::{OPEN, number_32};
 use ckrt_disk::{DeviceFault, Disk};
@@ -10,17 +10,6 @@ use ckrt_words::Sizes;
 
 /// The bytes of a superblock that have the sizes.
 const SUPERBLOCK_BYTES: usize = 32;
-
-/// What a disk is made with.
-pub(crate) fn config_for(sizes: &Sizes) -> Config
-    ensures { result ≡ config_for sizes.now }
-{
-    Config {
-        pages: sizes.pages.unwrap_or(64),
-        harts: sizes.harts.unwrap_or(1),
-        journal: sizes.journal.unwrap_or(65_536),
-    }
-}
 
 /// Whether a size is the one that is asked for, if one is.
 fn is_asked(asked: Option<u32>, there: u32) -> bool

@@ -5,8 +5,8 @@ use crate::hunts::{SHAPE, tally_of};
 use crate::outcomes::RACES;
 use ckrt_disk::{Disk, MemoryDisk};
 use ckrt_drive::Ending;
-use ckrt_hunt::{KeepFault, Outcome, Plan, Row, keep};
-use ckrt_recovery::{Config, Session, format, recover};
+use ckrt_hunt::{KeptDisk, Outcome, Plan, Row, SeedFault, keep_seed};
+use ckrt_recovery::{Config, FormatFault, Session, recover};
 use ckrt_state::Status;
 use std::process::Abort;
 
@@ -28,36 +28,33 @@ fn session_of<R: Abort + AllocGlobal, D: Disk>(rt: &R, disk: D) -> Session<D> {
     }
 }
 
-/// A disk with a program before its first event.
-fn disk_of<R: Abort + AllocGlobal>(rt: &R, words: &[u32]) -> MemoryDisk {
-    let bytes = vec![in rt.alloc(); 0; SIZE].expect(rt, "memory for bytes");
-    let mut disk = MemoryDisk::new(rt.alloc(), bytes).expect(rt, "memory for a disk");
-    let formatted = format(
-        rt.alloc(),
-        &mut disk,
-        CONFIG,
-        image_of(rt, words).as_slice(),
-    );
-    assert!(rt; formatted.is_ok());
-    disk
+/// A disk in memory of so many bytes, all zero.
+fn disk_of<R: Abort + AllocGlobal>(rt: &R, size: usize) -> MemoryDisk {
+    let bytes = vec![in rt.alloc(); 0; size].expect(rt, "memory for bytes");
+    MemoryDisk::new(rt.alloc(), bytes).expect(rt, "memory for a disk")
 }
 
-/// Keeps a seed. It ensures nothing, so tests that call it are cheap to prove.
-fn keep_seed<R: Abort, D: Disk>(
+/// Keeps a seed of a program on a disk of so many bytes.
+fn keep_on<R: Abort + AllocGlobal>(
     rt: &R,
-    session: &mut Session<D>,
+    words: &[u32],
+    size: usize,
     seed: u64,
-) -> Result<Ending, KeepFault> {
-    assert!(rt; session.machine().tables().threads.hart_count() >= 1);
-    keep(session, &Plan::new(SHAPE.limit, seed))
+) -> KeptDisk<MemoryDisk> {
+    keep_seed(
+        rt.alloc(),
+        disk_of(rt, size),
+        CONFIG,
+        image_of(rt, words).as_slice(),
+        &Plan::new(SHAPE.limit, seed),
+    )
 }
 
 /// The first seed of a row is kept, and its disk recovers to the row's outcome.
 fn expect_kept<R: Abort + AllocGlobal>(rt: &R, words: &[u32], row: &Row) {
-    let mut session = session_of(rt, disk_of(rt, words));
-    let ended = keep_seed(rt, &mut session, row.first);
-    expect_eq(rt, ended, Ok(Ending::Ended));
-    let again = session_of(rt, session.into_disk());
+    let kept = keep_on(rt, words, SIZE, row.first);
+    expect_eq(rt, kept.result, Ok(Ending::Ended));
+    let again = session_of(rt, kept.disk);
     match (again.machine().status(), &row.told.outcome) {
         (Status::Exited(got), Outcome::Exited(want)) => expect_eq(rt, got, *want),
         _ => panic!(rt; "another kind of end"),
@@ -70,4 +67,11 @@ fn kept_runs_recover_to_their_outcomes(rt: HostRuntime) {
     for row in tally.rows() {
         expect_kept(&rt, &RACES, row);
     }
+}
+
+#[test]
+fn disk_too_small_for_a_run(rt: HostRuntime) {
+    let kept = keep_on(&rt, &RACES, 4_096, 1);
+    let why = SeedFault::Format(FormatFault::TooSmall);
+    expect_eq(&rt, kept.result, Err(why));
 }

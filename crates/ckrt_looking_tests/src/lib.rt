@@ -1,7 +1,9 @@
-//! Tests of what looks at a guest, and of what hunts: cores, gdb's packets, histories, and what schedules come to. Nothing else
-//! stands here.
+//! Tests of what looks at a guest, and of what hunts: cores, gdb's packets, what a disk has recorded, its calls, histories, and
+//! what schedules come to. Nothing else stands here.
 #![tactic(auto)]
 
+#[cfg(test)]
+mod calls;
 #[cfg(test)]
 mod cores;
 #[cfg(test)]
@@ -23,8 +25,12 @@ mod plans;
 #[cfg(test)]
 mod positions;
 #[cfg(test)]
+mod recordings;
+#[cfg(test)]
 mod replies;
 #[cfg(test)]
 mod requests;
 #[cfg(test)]
 mod searches;
+#[cfg(test)]
+mod tables;

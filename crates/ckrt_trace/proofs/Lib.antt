@@ -1,2 +1,4 @@
 pub mod AppendLemmas
 pub mod RunLemmas
+pub mod WayLemmas
+pub mod DiskLemmas

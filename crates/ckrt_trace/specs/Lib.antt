@@ -1,3 +1,4 @@
 pub mod Calls
+pub mod Disks
 pub mod Events
 pub mod Lines

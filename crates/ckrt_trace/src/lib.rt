@@ -1,13 +1,16 @@
 //! The calls of a guest, a line for each: who called what, what it was answered or waits for, and when a wait is over.
 //!
-//! [`trace_event`] applies an event to a machine and writes its lines, and takes no memory.
+//! [`trace_event`] applies an event to a machine and writes its lines, and takes no memory. [`write_calls`] writes those of the events
+//! that a disk has recorded, or of a stretch of them.
 #![tactic(auto)]
 
+mod disk;
 mod events;
 mod lines;
 mod names;
 mod texts;
 
+pub use disk::{Stretch, write_calls};
 pub use events::trace_event;
 pub use lines::{Before, Caller, Place, Waiting};
 pub use names::{Arguments, arguments_of, has_second, name_of};

@@ -1,5 +1,5 @@
 -- Words that `clap` takes for the program's command line name a job.
-use Rattle.std.proofs.Common.{unwrap_or, slice_index_or, slice_get, take, drop, ◌≡◌, ◌∙◌, ◌&&◌, ℕ, Bool, true, false, cond, List, [], Option, Some, None, is_some, refl, sym, ap, subst, true≢false, inl, inr, codes, arith}
+use Rattle.std.proofs.Common.{unwrap_or, slice_index_or, slice_get, take, drop, ◌≡◌, ◌∙◌, ◌&&◌, ℕ, Bool, true, false, cond, List, [], ◌∷◌, Option, Some, None, is_some, refl, sym, ap, subst, true≢false, inl, inr, codes, arith}
 use Rattle.std.specs.Prelude.{⊤, pos, find, option_and_then, option_map}
 use Rattle.std.specs.Str.Parse.{ParsesUnsigned}
 use Rattle.std.specs.Str.{bytes_eq}
@@ -17,7 +17,7 @@ use Rattle.clap.specs.declared.builder.value_parser.ValueParser.TheVariants as v
 use Rattle.clap.proofs.CallerReads.{signed_reads}
 use Rattle.clap.proofs.ValueTestLemmas.{accepts-Accepts}
 use Rattle.ckrt_words.specs.Commands.{ckrt_app}
-use Rattle.ckrt_words.specs.Jobs.{Request, core, drive, flag_in, format, inspect, run, number_in, number_of, place_in, request_in, sizes_in}
+use Rattle.ckrt_words.specs.Jobs.{Request, calls, core, debug, drive, flag_in, format, hunt, inspect, run, number_in, number_of, place_in, request_in, sizes_in}
 use Rattle.clap.proofs.WalkLemmas.{both}
 use Rattle.ckrt_words.proofs.MatchLemmas.{AreRows, AreRules, defaults_give, given_found, has_command, has_required, level_kept, level_valid, row_found, taken_levels, value_there}
 use Rattle.ckrt_words.proofs.NumberLemmas.{number_reads}
@@ -41,6 +41,15 @@ drive_shape = unwrap_or (slice_get built_app.subs 3) built_app.top
 abbrev core_shape : Shape
 core_shape = unwrap_or (slice_get built_app.subs 4) built_app.top
 
+abbrev calls_shape : Shape
+calls_shape = unwrap_or (slice_get built_app.subs 5) built_app.top
+
+abbrev debug_shape : Shape
+debug_shape = unwrap_or (slice_get built_app.subs 6) built_app.top
+
+abbrev hunt_shape : Shape
+hunt_shape = unwrap_or (slice_get built_app.subs 7) built_app.top
+
 format_rules : AreRules format_shape refl format_shape.rules
 format_rules = ((refl, inl (refl, refl)), ((refl, inl (refl, refl)), ((refl, inl (refl, refl)), ((refl, inl (refl, refl)), ((refl, inl (refl, refl)), ((refl, inr (inl refl)), tt))))))
 
@@ -55,6 +64,15 @@ drive_rules = ((refl, inl (refl, refl)), ((refl, inl (refl, refl)), ((refl, inl 
 
 core_rules : AreRules core_shape refl core_shape.rules
 core_rules = ((refl, inl (refl, refl)), ((refl, inl (refl, refl)), ((refl, inl (refl, refl)), ((refl, inr (inl refl)), tt))))
+
+calls_rules : AreRules calls_shape refl calls_shape.rules
+calls_rules = ((refl, inl (refl, refl)), ((refl, inl (refl, refl)), ((refl, inl (refl, refl)), ((refl, inr (inl refl)), tt))))
+
+debug_rules : AreRules debug_shape refl debug_shape.rules
+debug_rules = ((refl, inl (refl, refl)), ((refl, inl (refl, refl)), ((refl, inr (inl refl)), tt)))
+
+hunt_rules : AreRules hunt_shape refl hunt_shape.rules
+hunt_rules = ((refl, inl (refl, refl)), ((refl, inl (refl, refl)), ((refl, inl (refl, refl)), ((refl, inl (refl, refl)), ((refl, inl (refl, refl)), ((refl, inl (refl, refl)), ((refl, inr (inl refl)), tt)))))))
 
 number_there : (v : Text) → accepts false (vp.Signed (pos 0) (pos 4294967295)) v ≡ true → (n : ℕ) × (number_of 32 (without_minus v) ≡ Some n)
 number_there v pass =
@@ -85,6 +103,22 @@ core_named words pass =
     let disk = value_there core_shape refl (codes "disk") rows _ kept refl (given_found (codes "disk") rows given.0) in
     let file = value_there core_shape refl (codes "file") rows _ kept refl (given_found (codes "file") rows (both (is_given (codes "file") rows) true given.1).0) in
     (core (record { disk = disk.0; file = file.0; at = place_in (codes "at") rows }), rw (disk.1, file.1) refl)
+
+calls_named : (words : List Text) → level_passes calls_shape [] nothing_held words false ≡ true → (r : Request) × (request_in (rows_at calls_shape words) ≡ Some r)
+calls_named words pass =
+    let rows = finished calls_shape.rules (walk calls_shape.rules [] nothing_held words).held in
+    let kept = level_kept calls_shape refl calls_rules [] nothing_held words false pass tt in
+    let given = has_required calls_shape rows false (level_valid calls_shape [] nothing_held words false pass) refl in
+    let disk = value_there calls_shape refl (codes "disk") rows _ kept refl (given_found (codes "disk") rows (both (is_given (codes "disk") rows) true given).0) in
+    (calls (record { disk = disk.0; from = place_in (codes "from") rows; to = place_in (codes "to") rows }), rw disk.1 refl)
+
+debug_named : (words : List Text) → level_passes debug_shape [] nothing_held words false ≡ true → (r : Request) × (request_in (rows_at debug_shape words) ≡ Some r)
+debug_named words pass =
+    let rows = finished debug_shape.rules (walk debug_shape.rules [] nothing_held words).held in
+    let kept = level_kept debug_shape refl debug_rules [] nothing_held words false pass tt in
+    let given = has_required debug_shape rows false (level_valid debug_shape [] nothing_held words false pass) refl in
+    let disk = value_there debug_shape refl (codes "disk") rows _ kept refl (given_found (codes "disk") rows (both (is_given (codes "disk") rows) true given).0) in
+    (debug (record { disk = disk.0; at = place_in (codes "at") rows }), rw disk.1 refl)
 
 abbrev slot : Shape → ℕ → Rule
 slot shape i = slice_index_or shape.rules i (new_rule [])
@@ -120,6 +154,20 @@ format_named words pass =
     let journal = number_at format_shape refl (codes "journal") rows _ kept refl refl (row_found (codes "journal") rows (defaults_give (slots format_shape 4) (after format_shape 5) (slot format_shape 4) before refl)) in
     (format (record { disk = disk.0; image = image.0; pages = pages.0; harts = harts.0; journal = journal.0 }), rw (disk.1, image.1, pages.1, harts.1, journal.1) refl)
 
+hunt_named : (words : List Text) → level_passes hunt_shape [] nothing_held words false ≡ true → (r : Request) × (request_in (rows_at hunt_shape words) ≡ Some r)
+hunt_named words pass =
+    let end = (walk hunt_shape.rules [] nothing_held words).held in
+    let rows = finished hunt_shape.rules end in
+    let kept = level_kept hunt_shape refl hunt_rules [] nothing_held words false pass tt in
+    let given = has_required hunt_shape rows false (level_valid hunt_shape [] nothing_held words false pass) refl in
+    let image = value_there hunt_shape refl (codes "image") rows _ kept refl (given_found (codes "image") rows (both (is_given (codes "image") rows) true given).0) in
+    let before = (settled hunt_shape.rules end).rows in
+    let seeds = value_there hunt_shape refl (codes "seeds") rows _ kept refl (row_found (codes "seeds") rows (defaults_give (slots hunt_shape 1) (after hunt_shape 2) (slot hunt_shape 1) before refl)) in
+    let pages = number_at hunt_shape refl (codes "pages") rows _ kept refl refl (row_found (codes "pages") rows (defaults_give (slots hunt_shape 2) (after hunt_shape 3) (slot hunt_shape 2) before refl)) in
+    let harts = number_at hunt_shape refl (codes "harts") rows _ kept refl refl (row_found (codes "harts") rows (defaults_give (slots hunt_shape 3) (after hunt_shape 4) (slot hunt_shape 3) before refl)) in
+    let steps = number_at hunt_shape refl (codes "steps") rows _ kept refl refl (row_found (codes "steps") rows (defaults_give (slots hunt_shape 4) (after hunt_shape 5) (slot hunt_shape 4) before refl)) in
+    (hunt (record { image = image.0; seeds = seeds.0; pages = pages.0; harts = harts.0; steps = steps.0; keep = first_of (codes "keep") rows }), rw (image.1, seeds.1, pages.1, harts.1, steps.1) refl)
+
 drive_named : (words : List Text) → level_passes drive_shape [] nothing_held words false ≡ true → (r : Request) × (request_in (rows_at drive_shape words) ≡ Some r)
 drive_named words pass =
     let end = (walk drive_shape.rules [] nothing_held words).held in
@@ -139,24 +187,37 @@ drive_named words pass =
     let status = first_of (codes "status") rows in
     (drive (record { disk = disk.0; image = first_of (codes "image") rows; sizes = sizes_in rows; input = input; input_from = input_from; output = output; turn = turn.0; rounds = rounds.0; events = events; seed = seed; progress = progress; status = status; from = place_in (codes "from") rows }), rw (disk.1, turn.1, rounds.1) refl)
 
+-- words that the command takes ask for something
+abbrev IsNamed : Shape → Type 0
+IsNamed s = (words : List Text) → level_passes s [] nothing_held words false ≡ true → (r : Request) × (request_in (rows_at s words) ≡ Some r)
+
+abbrev AreNamed : List Shape → Type 0
+AreNamed [] = ⊤
+AreNamed (s ∷ rest) = IsNamed s × AreNamed rest
+
+-- and so do those of whichever command was found
+abbrev IsNamedWhereFound : List Text → Option Shape → Type 0
+IsNamedWhereFound words found =
+    option_map_or (λ s. level_passes s [] nothing_held words false) found true ≡ true
+    → is_some (option_map (λ s. rows_at s words) found) ≡ true
+    → (r : Request) × (option_and_then request_in (option_map (λ s. rows_at s words) found) ≡ Some r)
+
+either_named : (words : List Text) (s : Shape) (rest : Option Shape) (is : Bool) → IsNamed s → IsNamedWhereFound words rest → IsNamedWhereFound words (cond is (Some s) rest)
+either_named words s rest true first others = λ pass some. first words pass
+either_named words s rest false first others = others
+
+found_named : (is_it : Shape → Bool) (words : List Text) (shapes : List Shape) → AreNamed shapes → IsNamedWhereFound words (find is_it shapes)
+found_named is_it words [] named = λ pass some. absurd (true≢false (sym some))
+found_named is_it words (s ∷ rest) named = either_named words s (find is_it rest) (is_it s) named.0 (found_named is_it words rest named.1)
+
+all_named : AreNamed built_app.subs
+all_named = (format_named, (run_named, (inspect_named, (drive_named, (core_named, (calls_named, (debug_named, (hunt_named, tt))))))))
+
 -- what a command that takes the words is asked for
 entered_named : (stop : Option (Text × List Text)) → entered_passes built_app stop ≡ true → is_some (entered built_app stop) ≡ true
     → (r : Request) × (option_and_then request_in (entered built_app stop) ≡ Some r)
 entered_named None pass some = absurd (true≢false (sym some))
-entered_named (Some p) pass some = go (answers_to p.0 (label_of format_shape)) (answers_to p.0 (label_of run_shape)) (answers_to p.0 (label_of inspect_shape)) (answers_to p.0 (label_of drive_shape)) (answers_to p.0 (label_of core_shape)) pass some
-  where
-    found : Bool → Bool → Bool → Bool → Bool → Option Shape
-    found a b c d e = cond a (Some format_shape) (cond b (Some run_shape) (cond c (Some inspect_shape) (cond d (Some drive_shape) (cond e (Some core_shape) None))))
-
-    go : (a b c d e : Bool) → option_map_or (λ s. level_passes s [] nothing_held p.1 false) (found a b c d e) true ≡ true
-        → is_some (option_map (λ s. rows_at s p.1) (found a b c d e)) ≡ true
-        → (r : Request) × (option_and_then request_in (option_map (λ s. rows_at s p.1) (found a b c d e)) ≡ Some r)
-    go true b c d e pass is = format_named p.1 pass
-    go false true c d e pass is = run_named p.1 pass
-    go false false true d e pass is = inspect_named p.1 pass
-    go false false false true e pass is = drive_named p.1 pass
-    go false false false false true pass is = core_named p.1 pass
-    go false false false false false pass is = absurd (true≢false (sym is))
+entered_named (Some p) pass some = found_named (λ s. answers_to p.0 (label_of s)) p.1 built_app.subs all_named pass some
 
 -- words that the command line takes ask for something
 taken_named : (words : List Text) → takes ckrt_app words ≡ true → (r : Request) × (option_and_then request_in (subcommand_of ckrt_app words) ≡ Some r)

@@ -1,8 +1,9 @@
 -- The program's command line, as `clap` sees it: `format DISK IMAGE [--pages P] [--harts H] [--journal J]`, `run DISK`,
--- `inspect DISK [--at K] [--code]`, `core DISK FILE [--at K]` and `drive DISK [--image IMAGE] [--pages P] [--harts H] [--journal J] [--input FILE]
--- [--input-from OFFSET] [--output FILE] [--turn N] [--rounds-per-commit R] [--events N] [--seed S] [--progress SECONDS]
--- [--status FILE] [--from OFFSET]`.
-use Rattle.std.specs.Prelude.{pos, codes, Some, true, [], ◌∷◌}
+-- `inspect DISK [--at K] [--code]`, `core DISK FILE [--at K]`, `calls DISK [--from K] [--to K]`, `debug DISK [--at K]`,
+-- `hunt IMAGE [--seeds A-B] [--pages P] [--harts H] [--steps N] [--keep FOLDER]` and `drive DISK [--image IMAGE] [--pages P] [--harts H]
+-- [--journal J] [--input FILE] [--input-from OFFSET] [--output FILE] [--turn N] [--rounds-per-commit R] [--events N] [--seed S]
+-- [--progress SECONDS] [--status FILE] [--from OFFSET]`.
+use Rattle.std.specs.Prelude.{pos, codes, fold, Some, true, List, [], ◌∷◌}
 use Rattle.clap.specs.Words.{App, Rule, Text, new_app, new_rule, with_rule, with_subcommand}
 use Rattle.clap.specs.declared.builder.value_parser.ValueParser.TheVariants.{Signed, Unsigned}
 use Rattle.clap.specs.declared.builder.action.ArgAction.TheVariants.{SetTrue}
@@ -40,6 +41,10 @@ place_rule id = record (new_rule id) {
 abbrev pub option_rule : Text → Rule
 option_rule id = record (new_rule id) { long = Some id; value_names = 1 }
 
+-- an option `--id TEXT`, and its text where it isn't given
+abbrev pub text_rule : Text → Text → Rule
+text_rule id default = record (new_rule id) { long = Some id; value_names = 1; defaults = default ∷ [] }
+
 -- an option `--id` without a value
 abbrev pub flag_rule : Text → Rule
 flag_rule id = record (new_rule id) { long = Some id; action = Some SetTrue }
@@ -70,6 +75,29 @@ core_app =
     (needed_rule (codes "file")))
     (place_rule (codes "at"))
 
+abbrev pub calls_app : App
+calls_app =
+    with_rule (with_rule (with_rule (new_app (codes "calls"))
+    (needed_rule (codes "disk")))
+    (place_rule (codes "from")))
+    (place_rule (codes "to"))
+
+abbrev pub debug_app : App
+debug_app =
+    with_rule (with_rule (new_app (codes "debug"))
+    (needed_rule (codes "disk")))
+    (place_rule (codes "at"))
+
+abbrev pub hunt_app : App
+hunt_app =
+    with_rule (with_rule (with_rule (with_rule (with_rule (with_rule (new_app (codes "hunt"))
+    (needed_rule (codes "image")))
+    (text_rule (codes "seeds") (codes "1-200")))
+    (number_rule (codes "pages") (codes "64")))
+    (number_rule (codes "harts") (codes "1")))
+    (number_rule (codes "steps") (codes "10000000")))
+    (option_rule (codes "keep"))
+
 abbrev pub drive_app : App
 drive_app =
     with_rule (with_rule (with_rule (with_rule (with_rule (with_rule (with_rule (with_rule (with_rule (with_rule (with_rule (with_rule
@@ -97,8 +125,10 @@ bare_app = record {
   subs = [];
 }
 
+-- the program with commands, each behind the ones before it
+abbrev pub app_with : List App → App
+app_with commands = fold (λ whole command. with_subcommand whole command.top) bare_app commands
+
 abbrev pub ckrt_app : App
 ckrt_app =
-    with_subcommand (with_subcommand (with_subcommand
-    (with_subcommand (with_subcommand bare_app format_app.top) run_app.top)
-    inspect_app.top) drive_app.top) core_app.top
+    app_with (format_app ∷ run_app ∷ inspect_app ∷ drive_app ∷ core_app ∷ calls_app ∷ debug_app ∷ hunt_app ∷ [])

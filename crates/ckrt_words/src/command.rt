@@ -1,9 +1,9 @@
 //! The program's command line, for `clap`.
-ghost use Rattle.std.specs.Prelude.{◌≡◌, IfOk, codes, false, fold, map, not, true};
+ghost use Rattle.std.specs.Prelude.{◌≡◌, ◌∷◌, [], IfOk, codes, false, fold, map, not, true};
 ghost use Rattle.std.specs.List.{list_all};
 ghost use Rattle.clap.specs.Words.{App, app_of, new_app, rule_of, with_rule, with_subcommand};
 ghost use Rattle.clap.specs.declared.builder.command.Command.TheViews.{out-Command};
-ghost use Rattle.ckrt_words.specs.Commands.{bare_app, ckrt_app, core_app, drive_app, flag_rule, format_app, inspect_app, needed_rule, number_rule, option_rule, place_rule, run_app, size_rule};
+ghost use Rattle.ckrt_words.specs.Commands.{app_with, bare_app, calls_app, ckrt_app, core_app, debug_app, drive_app, flag_rule, format_app, hunt_app, inspect_app, needed_rule, number_rule, option_rule, place_rule, run_app, size_rule, text_rule};
 
 use clap::{Arg, ArgAction, Command, value_parser};
 use std::alloc::{AllocError, Global};
@@ -62,6 +62,18 @@ fn option<'a>(alloc: Global, id: &'a str, name: &'a str, help: &'a str) -> Arg<'
     ensures local { result.global ≡ false }
 {
     Arg::new(alloc, id).long(id).value_name(name).help(help)
+}
+
+/// An option with a text, and its text where it isn't given.
+fn text<'a>(alloc: Global, id: &'a str, name: &'a str, default: &'a str, help: &'a str) -> Arg<'a>
+    ensures rule { rule_of result ≡ text_rule id.entry.now default.entry.now }
+    ensures local { result.global ≡ false }
+{
+    Arg::new(alloc, id)
+        .long(id)
+        .value_name(name)
+        .default_value(default)
+        .help(help)
 }
 
 /// An option without a value.
@@ -191,6 +203,120 @@ fn core_arguments<'a>(alloc: Global) -> Result<Vec<Arg<'a>>, AllocError>
             "at",
             "K",
             "Write the guest as it was after K events, not after the last one"
+        ),
+    ]?;
+    Ok(arguments)
+}
+
+/// `calls DISK [--from K] [--to K]`.
+fn calls_command<'a>(alloc: Global) -> Result<Command<'a>, AllocError>
+    ensures app { IfOk result (λ c. app_of c ≡ calls_app) }
+    ensures local { IfOk result (λ c. (out-Command c).has_globals ≡ false) }
+{
+    let arguments = calls_arguments(alloc)?;
+    Command::new(alloc, "calls")
+        .about(
+            "Tells the calls of a stopped guest, a line each, and changes nothing, as `ckrt calls pi.disk --from 40`",
+        )
+        .args(arguments)
+}
+
+/// What `calls` is given.
+fn calls_arguments<'a>(alloc: Global) -> Result<Vec<Arg<'a>>, AllocError>
+    ensures app { IfOk result (λ arguments.
+        fold with_rule (new_app (codes "calls")) (map rule_of arguments.items) ≡ calls_app) }
+    ensures local { IfOk result (λ arguments. list_all (λ a. not a.global) arguments.items ≡ true) }
+{
+    let arguments = vec![in alloc;
+        needed(alloc, "disk", "DISK", "A disk that `format` made"),
+        place(
+            alloc,
+            "from",
+            "K",
+            "Begin after K events, not at the first one that the disk has"
+        ),
+        place(alloc, "to", "K", "End after K events, not at the last one"),
+    ]?;
+    Ok(arguments)
+}
+
+/// `debug DISK [--at K]`.
+fn debug_command<'a>(alloc: Global) -> Result<Command<'a>, AllocError>
+    ensures app { IfOk result (λ c. app_of c ≡ debug_app) }
+    ensures local { IfOk result (λ c. (out-Command c).has_globals ≡ false) }
+{
+    let arguments = debug_arguments(alloc)?;
+    Command::new(alloc, "debug")
+        .about(
+            "Serves a stopped guest to gdb, forward and back, and changes nothing, as `target remote | ckrt debug pi.disk`",
+        )
+        .args(arguments)
+}
+
+/// What `debug` is given.
+fn debug_arguments<'a>(alloc: Global) -> Result<Vec<Arg<'a>>, AllocError>
+    ensures app { IfOk result (λ arguments.
+        fold with_rule (new_app (codes "debug")) (map rule_of arguments.items) ≡ debug_app) }
+    ensures local { IfOk result (λ arguments. list_all (λ a. not a.global) arguments.items ≡ true) }
+{
+    let arguments = vec![in alloc;
+        needed(alloc, "disk", "DISK", "A disk that `format` made"),
+        place(
+            alloc,
+            "at",
+            "K",
+            "Begin after K events, not after the last one"
+        ),
+    ]?;
+    Ok(arguments)
+}
+
+/// `hunt IMAGE` with its options: which seeds, on what machine, how long a run is, and where outcomes are kept.
+fn hunt_command<'a>(alloc: Global) -> Result<Command<'a>, AllocError>
+    ensures app { IfOk result (λ c. app_of c ≡ hunt_app) }
+    ensures local { IfOk result (λ c. (out-Command c).has_globals ≡ false) }
+{
+    let arguments = hunt_arguments(alloc)?;
+    Command::new(alloc, "hunt")
+        .about(
+            "Runs a guest by one schedule after another and tells what they come to, as `ckrt hunt pi.bin --seeds 1-200`",
+        )
+        .args(arguments)
+}
+
+/// What `hunt` is given.
+fn hunt_arguments<'a>(alloc: Global) -> Result<Vec<Arg<'a>>, AllocError>
+    ensures app { IfOk result (λ arguments.
+        fold with_rule (new_app (codes "hunt")) (map rule_of arguments.items) ≡ hunt_app) }
+    ensures local { IfOk result (λ arguments. list_all (λ a. not a.global) arguments.items ≡ true) }
+{
+    let arguments = vec![in alloc;
+        needed(
+            alloc,
+            "image",
+            "IMAGE",
+            "The guest program, a flat binary linked at 0x1000"
+        ),
+        text(
+            alloc,
+            "seeds",
+            "A-B",
+            "1-200",
+            "The first and the last seed, each with a schedule of its own"
+        ),
+        number(alloc, "pages", "64", "Pages of guest memory, 16 to 1024"),
+        number(alloc, "harts", "1", "Harts, 1 to 8"),
+        number(
+            alloc,
+            "steps",
+            "10000000",
+            "Steps of a run, and its events, at most"
+        ),
+        option(
+            alloc,
+            "keep",
+            "FOLDER",
+            "The folder that gets a disk for each outcome, with its first seed's run"
         ),
     ]?;
     Ok(arguments)
@@ -335,31 +461,39 @@ fn with_command<'a>(
 
 /// The program with the commands that begin a disk and serve it, `format` and `run`.
 fn command_on_disks<'a>(alloc: Global) -> Result<Command<'a>, AllocError>
-    ensures { IfOk result (λ c.
-        app_of c
-        ≡ with_subcommand (with_subcommand bare_app format_app.top) run_app.top) }
+    ensures { IfOk result (λ c. app_of c ≡ app_with (format_app ∷ run_app ∷ [])) }
 {
     let bare = bare_command(alloc)?;
     let with_format = with_command(bare, format_command(alloc))?;
     with_command(with_format, run_command(alloc))
 }
 
-/// The program with the commands on disks that are there: those, `inspect` and `drive`.
+/// The program with these, `inspect` and `drive`.
 fn command_with_drive<'a>(alloc: Global) -> Result<Command<'a>, AllocError>
     ensures { IfOk result (λ c.
-        app_of c
-        ≡ with_subcommand (with_subcommand (with_subcommand (with_subcommand bare_app
-        format_app.top) run_app.top) inspect_app.top) drive_app.top) }
+        app_of c ≡ app_with (format_app ∷ run_app ∷ inspect_app ∷ drive_app ∷ [])) }
 {
     let with_run = command_on_disks(alloc)?;
     let with_inspect = with_command(with_run, inspect_command(alloc))?;
     with_command(with_inspect, drive_command(alloc))
 }
 
+/// The program with these, `core` and `calls`.
+fn command_with_calls<'a>(alloc: Global) -> Result<Command<'a>, AllocError>
+    ensures { IfOk result (λ c.
+        app_of c ≡ app_with
+        (format_app ∷ run_app ∷ inspect_app ∷ drive_app ∷ core_app ∷ calls_app ∷ [])) }
+{
+    let with_drive = command_with_drive(alloc)?;
+    let with_core = with_command(with_drive, core_command(alloc))?;
+    with_command(with_core, calls_command(alloc))
+}
+
 /// The program's command line.
 pub(crate) fn command<'a>(alloc: Global) -> Result<Command<'a>, AllocError>
     ensures { IfOk result (λ c. app_of c ≡ ckrt_app) }
 {
-    let with_drive = command_with_drive(alloc)?;
-    with_command(with_drive, core_command(alloc))
+    let with_calls = command_with_calls(alloc)?;
+    let with_debug = with_command(with_calls, debug_command(alloc))?;
+    with_command(with_debug, hunt_command(alloc))
 }

@@ -17,6 +17,12 @@ pub enum Job<'a> {
     Drive(DriveJob<'a>),
     /// Write what a disk holds as a core for a debugger: `core DISK FILE`.
     Core(CoreJob<'a>),
+    /// Tell the calls of what a disk holds: `calls DISK`.
+    Calls(CallsJob<'a>),
+    /// Serve what a disk holds to a debugger: `debug DISK`.
+    Debug(DebugJob<'a>),
+    /// Run an image by one schedule after another: `hunt IMAGE`.
+    Hunt(HuntJob<'a>),
 }
 
 /// What `format` makes. The numbers are as they were given, and may be out of a disk's ranges.
@@ -54,6 +60,43 @@ pub struct CoreJob<'a> {
     pub file: &'a str,
     /// After how many events the program is written; after the last one where this isn't given.
     pub at: Option<u64>,
+}
+
+/// Which calls `calls` tells.
+#[derive(Clone, Copy, Debug, PartialEq, Eq)]
+pub struct CallsJob<'a> {
+    /// The path of the disk.
+    pub disk: &'a str,
+    /// Behind how many events they begin; at the first one that the disk has where this isn't given.
+    pub from: Option<u64>,
+    /// Behind how many events they end; at the last one where this isn't given.
+    pub to: Option<u64>,
+}
+
+/// What `debug` serves.
+#[derive(Clone, Copy, Debug, PartialEq, Eq)]
+pub struct DebugJob<'a> {
+    /// The path of the disk.
+    pub disk: &'a str,
+    /// Behind how many events the debugger begins; behind the last one where this isn't given.
+    pub at: Option<u64>,
+}
+
+/// What `hunt` runs, and how. The numbers are as they were given, and may be out of a hunt's ranges.
+#[derive(Clone, Copy, Debug, PartialEq, Eq)]
+pub struct HuntJob<'a> {
+    /// The path of the image.
+    pub image: &'a str,
+    /// The first and the last seed, as they were given: `A-B` where they are numbers.
+    pub seeds: &'a str,
+    /// Pages of guest memory, of 4,096 bytes each.
+    pub pages: u32,
+    /// Harts.
+    pub harts: u32,
+    /// Steps of a run, at most.
+    pub steps: u32,
+    /// The path of the folder in which a run of each outcome is kept; this isn't given where none is.
+    pub keep: Option<&'a str>,
 }
 
 /// The sizes that a disk is asked to have. The numbers are as they were given, and may be out of a disk's ranges.

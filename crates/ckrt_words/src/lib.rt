@@ -12,5 +12,7 @@ mod job;
 mod matches;
 mod read;
 
-pub use job::{CoreJob, DriveJob, FormatJob, InspectJob, Job, Sizes, WordsFault};
+pub use job::{
+    CallsJob, CoreJob, DebugJob, DriveJob, FormatJob, HuntJob, InspectJob, Job, Sizes, WordsFault,
+};
 pub use read::read_words;

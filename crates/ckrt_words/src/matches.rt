@@ -1,9 +1,11 @@
 //! What the matches of a command line name.
 ghost use Rattle.std.specs.Prelude.{◌≡◌, codes, option_and_then, option_map};
 ghost use Rattle.clap.specs.Words.{first_of, found_of, rows_of, subcommand_rows_of};
-ghost use Rattle.ckrt_words.specs.Jobs.{core, core_making_in, core_making_of, drive, driving_in, driving_of, flag_in, format, formatting_in, formatting_of, inspect, inspection_in, inspection_of, number_in, place_in, request_in, request_of, run, sizes_in};
+ghost use Rattle.ckrt_words.specs.Jobs.{calls, core, core_making_in, core_making_of, debug, debugging_in, debugging_of, drive, driving_in, driving_of, flag_in, format, formatting_in, formatting_of, hunt, hunting_in, hunting_of, inspect, inspection_in, inspection_of, number_in, place_in, request_in, request_of, run, sizes_in, tracing_in, tracing_of};
 
-use crate::job::{CoreJob, DriveJob, FormatJob, InspectJob, Job, Sizes};
+use crate::job::{
+    CallsJob, CoreJob, DebugJob, DriveJob, FormatJob, HuntJob, InspectJob, Job, Sizes,
+};
 use clap::ArgMatches;
 
 /// The text that was given for an argument.
@@ -57,6 +59,37 @@ fn core_making<'a>(matches: &ArgMatches<'a>) -> Option<CoreJob<'a>>
     let disk = text(matches, "disk")?;
     let file = text(matches, "file")?;
     Some(CoreJob { disk, file, at })
+}
+
+/// What `calls` was given.
+fn tracing<'a>(matches: &ArgMatches<'a>) -> Option<CallsJob<'a>>
+    ensures { option_map tracing_of result ≡ tracing_in (rows_of (found_of matches.now)) }
+{
+    let disk = text(matches, "disk")?;
+    let (from, to) = (place(matches, "from"), place(matches, "to"));
+    Some(CallsJob { disk, from, to })
+}
+
+/// What `debug` was given.
+fn debugging<'a>(matches: &ArgMatches<'a>) -> Option<DebugJob<'a>>
+    ensures { option_map debugging_of result ≡ debugging_in (rows_of (found_of matches.now)) }
+{
+    let (disk, at) = (text(matches, "disk")?, place(matches, "at"));
+    Some(DebugJob { disk, at })
+}
+
+/// What `hunt` was given.
+fn hunting<'a>(matches: &ArgMatches<'a>) -> Option<HuntJob<'a>>
+    ensures { option_map hunting_of result ≡ hunting_in (rows_of (found_of matches.now)) }
+{
+    Some(HuntJob {
+        image: text(matches, "image")?,
+        seeds: text(matches, "seeds")?,
+        pages: number(matches, "pages")?,
+        harts: number(matches, "harts")?,
+        steps: number(matches, "steps")?,
+        keep: text(matches, "keep"),
+    })
 }
 
 /// The sizes that a disk is asked to have.
@@ -152,6 +185,30 @@ fn core_named<'a>(given: &ArgMatches<'a>) -> Option<Job<'a>>
     Some(Job::Core(core_making(given)?))
 }
 
+/// The job of `calls` with these matches.
+fn calls_named<'a>(given: &ArgMatches<'a>) -> Option<Job<'a>>
+    ensures { option_map request_of result
+        ≡ option_map calls (tracing_in (rows_of (found_of given.now))) }
+{
+    Some(Job::Calls(tracing(given)?))
+}
+
+/// The job of `debug` with these matches.
+fn debug_named<'a>(given: &ArgMatches<'a>) -> Option<Job<'a>>
+    ensures { option_map request_of result
+        ≡ option_map debug (debugging_in (rows_of (found_of given.now))) }
+{
+    Some(Job::Debug(debugging(given)?))
+}
+
+/// The job of `hunt` with these matches.
+fn hunt_named<'a>(given: &ArgMatches<'a>) -> Option<Job<'a>>
+    ensures { option_map request_of result
+        ≡ option_map hunt (hunting_in (rows_of (found_of given.now))) }
+{
+    Some(Job::Hunt(hunting(given)?))
+}
+
 /// The job of the command of this name with these matches.
 fn job_of<'a>(name: &str, given: &ArgMatches<'a>) -> Option<Job<'a>>
     ensures { option_map request_of result ≡ request_in (name.now, rows_of (found_of given.now)) }
@@ -170,6 +227,15 @@ fn job_of<'a>(name: &str, given: &ArgMatches<'a>) -> Option<Job<'a>>
     }
     if name == "core" {
         return core_named(given);
+    }
+    if name == "calls" {
+        return calls_named(given);
+    }
+    if name == "debug" {
+        return debug_named(given);
+    }
+    if name == "hunt" {
+        return hunt_named(given);
     }
     None
 }

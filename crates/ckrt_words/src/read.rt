@@ -35,6 +35,17 @@ const INSPECT_USAGE: &str = "Usage: ckrt inspect <DISK> [--at NUMBER OF EVENTS] 
 /// What follows a number of `core` that isn't one.
 const CORE_USAGE: &str = "Usage: ckrt core <DISK> <FILE> [--at NUMBER OF EVENTS]";
 
+/// What follows a number of `calls` that isn't one.
+const CALLS_USAGE: &str =
+    "Usage: ckrt calls <DISK> [--from NUMBER OF EVENTS] [--to NUMBER OF EVENTS]";
+
+/// What follows a number of `debug` that isn't one.
+const DEBUG_USAGE: &str = "Usage: ckrt debug <DISK> [--at NUMBER OF EVENTS]";
+
+/// What follows a number of `hunt` that isn't one.
+const HUNT_USAGE: &str =
+    "Usage: ckrt hunt <IMAGE> [--seeds FIRST-LAST] [--pages 16 to 1024] [--harts 1 to 8] [--steps NUMBER OF STEPS] [--keep <FOLDER>]";
+
 /// What follows a number of `drive` that isn't one.
 const DRIVE_USAGE: &str =
     "Usage: ckrt drive <DISK> [--image <IMAGE>] [--pages 16 to 1024] [--harts 1 to 8] [--journal 4096 to 1048576 by 4096] [--input <FILE>] [--input-from OFFSET] [--output <FILE>] [--turn 1 to 1000000] [--rounds-per-commit NUMBER OF ROUNDS] [--events NUMBER OF EVENTS] [--seed NUMBER] [--progress SECONDS] [--status <FILE>] [--from OFFSET]";
@@ -45,6 +56,9 @@ fn number_usage(words: &[&str]) -> &'static str {
         Some(&"inspect") => INSPECT_USAGE,
         Some(&"drive") => DRIVE_USAGE,
         Some(&"core") => CORE_USAGE,
+        Some(&"calls") => CALLS_USAGE,
+        Some(&"debug") => DEBUG_USAGE,
+        Some(&"hunt") => HUNT_USAGE,
         _ => FORMAT_USAGE,
     }
 }
@@ -112,9 +126,15 @@ fn is_version(words: &[&str]) -> bool
 /// The job that the words after the program's name ask for: [`Job::Stored`] where there are none, [`Job::Version`] where
 /// they are `--version` alone, else what `clap` makes of them. An option of `format` that isn't given has 64 pages, 1 hart
 /// and a journal of 65,536 bytes; one that is given has to be a number below 2^32. `inspect` shows the disk after the last
-/// event where `--at` isn't given, which has to be a number below 2^64, and so does `core`. `drive` has turns of 1,000,000 steps, 16 rounds between
-/// two commits, no image, no sizes, no files of its input and its output, no limit of events, no seed, no line of progress, no file
-/// that tells how far it is, and no offsets where these aren't given; the numbers that are have to be below 2^32 and, of events, a seed, seconds and offsets, 2^64.
+/// event where `--at` isn't given, which has to be a number below 2^64, and so do `core` and `debug`. `calls` begins at the first event and ends at
+/// the last one where its numbers aren't given, which have to be below 2^64 too.
+///
+/// `hunt` has seeds 1-200, 64 pages, 1 hart, runs of at most 10,000,000 steps and no folder where these aren't given; the numbers that are have to
+/// be below 2^32, and the text of the seeds is handed on as it is.
+///
+/// `drive` has turns of 1,000,000 steps, 16 rounds between two commits, no image, no sizes, no files of its input and its output, no limit of
+/// events, no seed, no line of progress, no file that tells how far it is, and no offsets where these aren't given; the numbers that are have to be
+/// below 2^32 and, of events, a seed, seconds and offsets, 2^64.
 ///
 /// # Errors
 ///

@@ -1,6 +1,5 @@
-use Rattle.std.proofs.Common.{◌≡◌, ◌∙◌, ap, arith}
+use Rattle.std.proofs.Common.{◌∙◌, ap, arith}
 use Rattle.ckrt_state.specs.declared.table.Tables.{Tables}
-use Rattle.ckrt_machine.specs.Steps.{State}
 use Rattle.ckrt_hunt.specs.Plans.{steps_made}
 use Rattle.ckrt_hunt.specs.Turns.{runner_of}
 use Rattle.ckrt_hunt.proofs.KeepLemmas.{goes_on_by}

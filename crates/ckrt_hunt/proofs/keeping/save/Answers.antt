@@ -1,4 +1,4 @@
-use Rattle.std.proofs.Common.{◌≡◌, ◌≤◌, ◌∙◌, [], arith}
+use Rattle.std.proofs.Common.{◌≤◌, ◌∙◌, [], arith}
 use Rattle.ckrt_commands.proofs.AcceptLemmas.{accepts_commit, accepts_confirmed, accepts_more, failed_commit}
 use Rattle.ckrt_drive.proofs.SaveLemmas.{at_ok}
 use Rattle.ckrt_hunt.proofs.KeepLemmas.{all_saved}

@@ -1,4 +1,4 @@
-use Rattle.std.proofs.Common.{rules, ◌≡◌, ◌+◌, ◌∙◌, Ok, sym}
+use Rattle.std.proofs.Common.{rules, ◌≡◌, ◌+◌, Ok}
 use Rattle.ckrt_machine.specs.Events.{step}
 use Rattle.ckrt_recovery.specs.View.{view_of, refusal_of}
 use Rattle.ckrt_drive.proofs.SaveLemmas.{at_ok, at_none, at_some, refused, taken}

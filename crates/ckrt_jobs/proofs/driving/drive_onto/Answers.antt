@@ -1,5 +1,5 @@
 use Rattle.std.proofs.Common.{◌≡◌, subst}
-use Rattle.ckrt_jobs.specs.Openings.{with_both_closed}
+use Rattle.ckrt_sources.specs.Openings.{with_both_closed}
 use Rattle.ckrt_jobs.proofs.driving.drive_onto.Goals as goal
 
 -- all were closed as the drive left them

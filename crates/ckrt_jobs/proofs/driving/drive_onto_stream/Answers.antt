@@ -1,5 +1,5 @@
 use Rattle.std.proofs.Common.{◌≡◌, ◌∙◌, ap, rules, subst}
-use Rattle.ckrt_jobs.specs.Openings.{with_both_closed}
+use Rattle.ckrt_sources.specs.Openings.{with_both_closed}
 use Rattle.ckrt_jobs.proofs.driving.drive_onto_stream.Goals as goal
 
 -- the stream begins at the offset, and disk and input were closed as the drive left them

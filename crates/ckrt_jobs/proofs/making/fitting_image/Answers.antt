@@ -1,6 +1,6 @@
 use Rattle.std.proofs.Common.{rules, ◌≡◌, ◌∙◌, ◌<◌, ◌≤◌, List, ap, false, inr, length, subst, sym, ℕ}
 use Rattle.ckrt_checkpoint.specs.Layout.{memory_size}
-use Rattle.ckrt_jobs.specs.Making.{is_elf}
+use Rattle.ckrt_sources.specs.Elf.{is_elf}
 use Rattle.ckrt_jobs.proofs.FrontLemmas.{front_longer, front_tells_elf, front_whole}
 use Rattle.ckrt_jobs.proofs.making.fitting_image.Goals as goal
 

@@ -4,10 +4,10 @@ use Rattle.ckrt_checkpoint.specs.Layout.{size_needed}
 use Rattle.ckrt_words.specs.Jobs.{driving_of}
 use Rattle.ckrt_jobs.specs.Feeding.{made_size}
 use Rattle.ckrt_jobs.specs.Missing.{MakesMissing}
-use Rattle.ckrt_jobs.specs.Openings.{refused, with_disk}
-use Rattle.ckrt_jobs.specs.Sizes.{config_for}
-use Rattle.ckrt_jobs.specs.declared.file.FileFault.{FileFault}
-use Rattle.ckrt_jobs.specs.declared.file.FileFault.TheVariants.{NotFound}
+use Rattle.ckrt_sources.specs.Openings.{refused, with_disk}
+use Rattle.ckrt_outcomes.specs.Ranges.{config_for}
+use Rattle.ckrt_sources.specs.declared.file.FileFault.{FileFault}
+use Rattle.ckrt_sources.specs.declared.file.FileFault.TheVariants.{NotFound}
 use Rattle.ckrt_jobs.proofs.MissingLemmas.{makes_weaker}
 use Rattle.ckrt_jobs.proofs.missing.find_disk.Goals as goal
 

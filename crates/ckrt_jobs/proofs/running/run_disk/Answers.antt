@@ -8,7 +8,7 @@ use Rattle.ckrt_main.specs.Service.{Served}
 use Rattle.ckrt_main.specs.declared.fault.ServeFault.{ServeFault}
 use Rattle.ckrt_recovery.specs.View.{View, opened, view_of}
 use Rattle.ckrt_jobs.specs.Running.{IsOfStream, RunsDisk}
-use Rattle.ckrt_jobs.specs.declared.fault.JobFault.TheVariants.{Serve}
+use Rattle.ckrt_outcomes.specs.declared.fault.JobFault.TheVariants.{Serve}
 use Rattle.ckrt_jobs.proofs.RunLemmas.{serves, serves_all}
 use Rattle.ckrt_jobs.proofs.running.run_disk.Goals as goal
 

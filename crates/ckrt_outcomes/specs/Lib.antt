@@ -1,0 +1,5 @@
+pub mod Advice
+pub mod Lengths
+pub mod Names
+pub mod Ranges
+pub mod Statuses

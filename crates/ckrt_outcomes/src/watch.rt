@@ -1,0 +1,27 @@
+//! Who looks on while a drive runs.
+use ckrt_drive::{Nobody, Onlooker};
+use std::alloc::Global;
+
+/// What is told of a drive while it runs.
+#[derive(Clone, Copy, Debug, PartialEq, Eq)]
+pub struct Watch<'a> {
+    /// A line on standard error at most each so many seconds; none: never.
+    pub progress: Option<u64>,
+    /// The path of the file that is rewritten with how far the drive is, if there is one.
+    pub status: Option<&'a str>,
+}
+
+/// Tells how far a drive is, while it looks on.
+pub trait Meter: Onlooker {
+    /// A drive begins, of which it tells this.
+    fn begin(&mut self, alloc: Global, watch: Watch<'_>);
+
+    /// The drive has an input, of which its program has taken so many bytes.
+    fn fed(&mut self, taken: u64);
+}
+
+impl Meter for Nobody {
+    fn begin(&mut self, _alloc: Global, _watch: Watch<'_>) {}
+
+    fn fed(&mut self, _taken: u64) {}
+}

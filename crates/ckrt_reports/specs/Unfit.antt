@@ -1,0 +1,42 @@
+-- What is said of numbers in the words that are out of their ranges: the first of them, by its option, with its value and its range.
+use Rattle.std.specs.Prelude.{ℕ, nat_lt, Bool, not, ◌||◌, if◌then◌else◌, List, [], ◌++◌, codes, decimal}
+use Rattle.ckrt_checkpoint.specs.declared.config.Config.{Config}
+use Rattle.ckrt_outcomes.specs.Ranges.{config_for, is_interval, is_target}
+use Rattle.ckrt_words.specs.Jobs.{Driving, Request, drive, format}
+
+-- a number between two texts
+abbrev pub size_text : (before : List ℕ) → ℕ → (behind : List ℕ) → List ℕ
+size_text before size behind = before ++ (decimal size ++ behind)
+
+abbrev pub is_outside : (least most number : ℕ) → Bool
+is_outside least most number = nat_lt number least || nat_lt most number
+
+-- sizes that no disk has
+abbrev pub unfit_sizes_text : Config → List ℕ
+unfit_sizes_text c =
+    if is_outside 16 1024 c.pages
+    then size_text (codes "--pages ") c.pages (codes " isn't 16 to 1024: ")
+    else if is_outside 1 8 c.harts then size_text (codes "--harts ") c.harts (codes " isn't 1 to 8: ")
+    else size_text (codes "--journal ") c.journal
+    (codes " isn't a multiple of 4096 from 4096 to 1048576: ")
+
+-- how no drive goes
+abbrev pub unfit_drive_text : Driving → List ℕ
+unfit_drive_text j =
+    if is_outside 1 1000000 j.turn
+    then size_text (codes "--turn ") j.turn (codes " isn't 1 to 1000000: ")
+    else if nat_lt j.rounds 1 then codes "--rounds-per-commit 0 isn't 1 or more: "
+    else if not (is_interval j.progress) then codes "--progress 0 isn't 1 or more: "
+    else if not (is_target j.output j.from) then codes "--from doesn't go with --output: "
+    else codes "--input-from is below 2^62, and goes with --input: "
+
+-- what was asked for with such numbers
+abbrev pub unfit_of : Request → List ℕ
+unfit_of (drive j) = unfit_drive_text j
+unfit_of _ = []
+
+abbrev pub unfit_sizes_of : Request → List ℕ
+unfit_sizes_of (format f) =
+    unfit_sizes_text (record { pages = f.pages; harts = f.harts; journal = f.journal })
+unfit_sizes_of (drive j) = unfit_sizes_text (config_for j.sizes)
+unfit_sizes_of _ = []

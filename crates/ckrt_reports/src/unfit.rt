@@ -1,0 +1,87 @@
+//! What is said of numbers in the words that are out of their ranges.
+ghost use Rattle.std.specs.Prelude.{◌≡◌, OnErr, OnOk, true};
+ghost use Rattle.std.specs.Io.KnownBytes.{Appends};
+ghost use Rattle.ckrt_reports.specs.Unfit.{is_outside, unfit_drive_text, unfit_of, unfit_sizes_of, unfit_sizes_text};
+ghost use Rattle.ckrt_words.specs.Jobs.{driving_of, request_of};
+
+use crate::reporter::{Reporter, Unsaid};
+use crate::reporting::say_size;
+use ckrt_events::LONG_RUN_LIMIT;
+use ckrt_outcomes::{config_for, is_target};
+use ckrt_recovery::Config;
+use ckrt_words::{DriveJob, Job};
+
+fn is_outside(least: u32, most: u32, number: u32) -> bool
+    ensures { result ≡ is_outside least most number }
+{
+    number < least || most < number
+}
+
+/// Says which of these sizes no disk has.
+fn say_sizes_of_no_disk<E: Reporter>(reporter: &mut E, sizes: Config) -> Result<(), Unsaid>
+    ensures said { OnOk result
+        (Appends (E.said reporter.old) (E.said reporter.new) (unfit_sizes_text sizes)) }
+    ensures failed { OnErr result (E.has_failed reporter.new ≡ true) }
+{
+    if is_outside(16, 1_024, sizes.pages) {
+        return say_size(reporter, b"--pages ", sizes.pages, b" isn't 16 to 1024: ");
+    }
+    if is_outside(1, 8, sizes.harts) {
+        return say_size(reporter, b"--harts ", sizes.harts, b" isn't 1 to 8: ");
+    }
+    let range = b" isn't a multiple of 4096 from 4096 to 1048576: ";
+    say_size(reporter, b"--journal ", sizes.journal, range)
+}
+
+/// Says which number of the words no drive goes by.
+fn say_unfit_drive<E: Reporter>(reporter: &mut E, job: &DriveJob<'_>) -> Result<(), Unsaid>
+    ensures said { OnOk result (Appends (E.said reporter.old) (E.said reporter.new)
+        (unfit_drive_text (driving_of job.now))) }
+    ensures failed { OnErr result (E.has_failed reporter.new ≡ true) }
+{
+    if is_outside(1, LONG_RUN_LIMIT, job.turn) {
+        return say_size(reporter, b"--turn ", job.turn, b" isn't 1 to 1000000: ");
+    }
+    if job.rounds < 1 {
+        return reporter.say(b"--rounds-per-commit 0 isn't 1 or more: ");
+    }
+    if job.progress == Some(0) {
+        return reporter.say(b"--progress 0 isn't 1 or more: ");
+    }
+    if !is_target(job.output, job.from) {
+        return reporter.say(b"--from doesn't go with --output: ");
+    }
+    reporter.say(b"--input-from is below 2^62, and goes with --input: ")
+}
+
+/// Says which number of the words is the fault Range, where they ask for a drive.
+pub(crate) fn say_unfit<E: Reporter>(reporter: &mut E, job: &Job<'_>) -> Result<(), Unsaid>
+    ensures said { OnOk result (Appends (E.said reporter.old) (E.said reporter.new)
+        (unfit_of (request_of job.now))) }
+    ensures failed { OnErr result (E.has_failed reporter.new ≡ true) }
+{
+    match job {
+        Job::Drive(job) => say_unfit_drive(reporter, job),
+        _ => reporter.say(b""),
+    }
+}
+
+/// Says which size of the words is the fault BadConfig, where they ask for a disk to be made.
+pub(crate) fn say_unfit_sizes<E: Reporter>(reporter: &mut E, job: &Job<'_>) -> Result<(), Unsaid>
+    ensures said { OnOk result (Appends (E.said reporter.old) (E.said reporter.new)
+        (unfit_sizes_of (request_of job.now))) }
+    ensures failed { OnErr result (E.has_failed reporter.new ≡ true) }
+{
+    match job {
+        Job::Format(job) => {
+            let sizes = Config {
+                pages: job.pages,
+                harts: job.harts,
+                journal: job.journal,
+            };
+            say_sizes_of_no_disk(reporter, sizes)
+        }
+        Job::Drive(job) => say_sizes_of_no_disk(reporter, config_for(&job.sizes)),
+        _ => reporter.say(b""),
+    }
+}

@@ -1,0 +1,349 @@
+//! How files of the system are opened, made, filled and named.
+ghost use Rattle.std.specs.Prelude.{◌≡◌, IfOk, IfErr};
+ghost use Rattle.ckrt_sources.specs.Files.{folder_of};
+ghost use Rattle.ckrt_sources.specs.Streams.{IsBesideStreams};
+
+use crate::file::{FileFault, MAKING};
+use crate::growing::GrowingFile;
+use crate::leftover::look_at_leftover;
+use crate::output::OpenedOutput;
+use crate::reason::OutputReason;
+use crate::told::{RealDisk, Teller, ToldFile};
+use ckrt_disk::{FileDisk, Holds, SystemFile};
+use ckrt_filling::fill_up;
+use ckrt_recovery::RecoverFault;
+use std::alloc::Global;
+use std::cell::Cell;
+use std::fs::{File, Files, OpenOptions};
+use std::io;
+use std::marker::Brand;
+use std::os::fd::AsRawFd;
+use std::path::Path;
+
+/// The file, unless its descriptor is that of standard input, output or error: a stream that is closed when the program
+/// begins leaves its descriptor to the next file, whose bytes it would then read, or print over.
+fn beside_streams(file: File) -> Result<File, FileFault>
+    ensures beside { IfOk result IsBesideStreams }
+    ensures same { IfOk result (λ opened. opened ≡ file) }
+    ensures closed { IfErr result (λ e. (e ≡ FileFault.StreamClosed) × ¬ IsBesideStreams file) }
+{
+    if file.as_raw_fd() > 2 {
+        Ok(file)
+    } else {
+        Err(FileFault::StreamClosed)
+    }
+}
+
+/// Opens a file to read it.
+pub(crate) fn open_read<R: Files<File = File>>(rt: &R, path: &str) -> Result<File, FileFault>
+    ensures { IfOk result IsBesideStreams }
+{
+    let file = OpenOptions::new().read(true).open(rt, path)?;
+    beside_streams(file)
+}
+
+/// Opens a file to read and write it, and locks it: a second program over the same disk is refused at once.
+fn open_locked<R: Files<File = File>>(rt: &R, path: &str, is_new: bool) -> Result<File, FileFault>
+    ensures { IfOk result IsBesideStreams }
+{
+    let file = OpenOptions::new()
+        .read(true)
+        .write(true)
+        .create(is_new)
+        .open(rt, path)?;
+    let file = beside_streams(file)?;
+    match file.try_lock() {
+        Ok(()) => Ok(file),
+        Err(error) => Err(FileFault::from(io::Error::from(error))),
+    }
+}
+
+/// Opens a file to read it, and locks it with other readers: a file that a program may write is refused at once.
+pub(crate) fn open_shared<R: Files<File = File>>(rt: &R, path: &str) -> Result<File, FileFault>
+    ensures { IfOk result IsBesideStreams }
+{
+    let file = open_read(rt, path)?;
+    match file.try_lock_shared() {
+        Ok(()) => Ok(file),
+        Err(error) => Err(FileFault::from(io::Error::from(error))),
+    }
+}
+
+/// The folder of a path.
+fn folder_of(path: &str) -> &str
+    ensures { result.now ≡ folder_of path.now }
+{
+    match Path::new(path).parent() {
+        Some(folder) if !folder.as_str().is_empty() => folder.as_str(),
+        _ => ".",
+    }
+}
+
+/// Makes the names of a path's folder durable.
+pub(crate) fn sync_folder<R: Files<File = File>>(rt: &R, path: &str) -> Result<(), FileFault> {
+    let folder = open_read(rt, folder_of(path))?;
+    folder.sync_all()?;
+    Ok(())
+}
+
+/// Makes a file, and opens it as [`open_locked`] does. Where it can't be found no folder is there for it.
+fn make_locked<R: Files<File = File>>(rt: &R, path: &str) -> Result<File, FileFault>
+    ensures { IfOk result IsBesideStreams }
+{
+    match open_locked(rt, path, true) {
+        Err(FileFault::NotFound) => Err(FileFault::NoFolder),
+        made => made,
+    }
+}
+
+/// A file that is open, and whether it was made for that.
+#[derive(Drop)]
+pub(crate) struct Claimed {
+    pub(crate) file: File,
+    pub(crate) is_new: bool,
+}
+
+/// Removes a file. Where that can't be it stays.
+pub(crate) fn remove<R: Files>(rt: &R, path: &str) {
+    let _ = rt.remove_file(path);
+}
+
+/// The file, where this went well; else what was made is removed.
+pub(crate) fn keep<R: Files>(
+    rt: &R,
+    path: &str,
+    claimed: Claimed,
+    answer: Result<(), FileFault>,
+) -> Result<Claimed, FileFault>
+    requires beside { IsBesideStreams claimed.file }
+    ensures { IfOk result (λ it. IsBesideStreams it.file) }
+{
+    match answer {
+        Ok(()) => Ok(claimed),
+        Err(fault) => {
+            if claimed.is_new {
+                remove(rt, path);
+            }
+            Err(fault)
+        }
+    }
+}
+
+/// The file of a path, which is made where there is none. Its name is durable then, also where the file was there: who made
+/// it may have been killed before that.
+pub(crate) fn open_or_make<R: Files<File = File>>(rt: &R, path: &str) -> Result<Claimed, FileFault>
+    ensures { IfOk result (λ it. IsBesideStreams it.file) }
+{
+    let claimed = match open_locked(rt, path, false) {
+        Err(FileFault::NotFound) => Claimed {
+            file: make_locked(rt, path)?,
+            is_new: true,
+        },
+        opened => Claimed {
+            file: opened?,
+            is_new: false,
+        },
+    };
+    let named = sync_folder(rt, path);
+    keep(rt, path, claimed, named)
+}
+
+/// The disk of an open file, with as many bytes as the file. A directory, which may be opened to be read, is none.
+pub(crate) fn disk_of<'a, H: Holds>(file: File) -> Result<RealDisk<'a, H>, FileFault> {
+    let told = file.metadata()?;
+    if told.is_dir() {
+        return Err(FileFault::IsADirectory);
+    }
+    Ok(FileDisk::new(ToldFile::untold(SystemFile::new(file)), told.len() as usize))
+}
+
+/// Fills a file that is shorter than so many bytes up to them. What is no regular file isn't filled.
+pub(crate) fn fill_file(file: &File, size: usize) -> Result<(), FileFault> {
+    let told = file.metadata()?;
+    let length = told.len() as usize;
+    if !told.is_file() || length >= size {
+        return Ok(());
+    }
+    let mut growing = GrowingFile::new(file, size);
+    match fill_up(&mut growing, length) {
+        Ok(()) => Ok(()),
+        Err(_) => Err(growing.fault()),
+    }
+}
+
+/// A file of at least so many bytes: one that is missing or shorter is filled with zero bytes.
+pub(crate) fn open_filled_file<R: Files<File = File>>(
+    rt: &R,
+    path: &str,
+    size: usize,
+) -> Result<Claimed, FileFault>
+    ensures { IfOk result (λ it. IsBesideStreams it.file) }
+{
+    let claimed = open_or_make(rt, path)?;
+    let filled = fill_file(&claimed.file, size);
+    keep(rt, path, claimed, filled)
+}
+
+/// The path of the disk or core in the making for a path: beside that, so that it can get its name.
+pub(crate) fn beside(alloc: Global, path: &str) -> Result<String, FileFault> {
+    match format!(in alloc; "{}{}", path, MAKING) {
+        Ok(name) => Ok(name),
+        Err(_) => Err(FileFault::OutOfMemory),
+    }
+}
+
+/// Whether anything has a path, also a link that leads to nothing.
+fn is_taken<R: Files>(rt: &R, path: &str) -> Result<bool, FileFault> {
+    match rt.symlink_metadata(path) {
+        Ok(_) => Ok(true),
+        Err(error) => match FileFault::from(error) {
+            FileFault::NotFound => Ok(false),
+            fault => Err(fault),
+        },
+    }
+}
+
+/// Whether a file is a disk in the making, as one that was cut may have left it.
+fn is_in_making(alloc: Global, file: &File) -> Result<bool, FileFault> {
+    let told = file.metadata()?;
+    if !told.is_file() {
+        return Ok(false);
+    }
+    let again: SystemFile<Brand> = SystemFile::new(file.try_clone()?);
+    match look_at_leftover(alloc, FileDisk::new(again, told.len() as usize)).is_in_making {
+        Ok(found) => Ok(found),
+        Err(RecoverFault::OutOfMemory) => Err(FileFault::OutOfMemory),
+        Err(_) => Err(FileFault::Other),
+    }
+}
+
+/// Cuts a disk in the making to no bytes, if nothing has the path that it is for: who had its lock before may have given it that
+/// path. Else, and where it is no disk in the making, it stays as it is.
+fn begin_anew<R: Files>(rt: &R, alloc: Global, path: &str, file: &File) -> Result<(), FileFault> {
+    if is_taken(rt, path)? {
+        return Err(FileFault::IsThere);
+    }
+    if !is_in_making(alloc, file)? {
+        return Err(FileFault::NotInMaking);
+    }
+    file.set_len(0)?;
+    Ok(())
+}
+
+/// The file of a disk in the making for a path, of this name and of so many zero bytes.
+pub(crate) fn open_making_file<R: Files<File = File>>(
+    rt: &R,
+    alloc: Global,
+    path: &str,
+    name: &str,
+    size: usize,
+) -> Result<File, FileFault>
+    ensures { IfOk result IsBesideStreams }
+{
+    let claimed = open_or_make(rt, name)?;
+    let begun = begin_anew(rt, alloc, path, &claimed.file);
+    let claimed = keep(rt, name, claimed, begun)?;
+    match fill_file(&claimed.file, size) {
+        Ok(()) => Ok(claimed.file),
+        Err(fault) => {
+            remove(rt, name);
+            Err(fault)
+        }
+    }
+}
+
+/// Gives a file the path that it was made for, if nothing has that, and makes its name durable.
+pub(crate) fn give_name<R: Files<File = File>>(
+    rt: &R,
+    name: &str,
+    path: &str,
+) -> Result<(), FileFault> {
+    if is_taken(rt, path)? {
+        return Err(FileFault::IsThere);
+    }
+    rt.rename(name, path)?;
+    sync_folder(rt, path)
+}
+
+/// The file of a disk. Its name is durable then: who made it may have been killed before that.
+pub(crate) fn open_disk_file<R: Files<File = File>>(rt: &R, path: &str) -> Result<File, FileFault>
+    ensures { IfOk result IsBesideStreams }
+{
+    let file = open_locked(rt, path, false)?;
+    sync_folder(rt, path)?;
+    Ok(file)
+}
+
+/// How many bytes an output has: more than any file. Those behind the end of its file count as zeros until they are written.
+const OUTPUT_SIZE: usize = i64::MAX as usize;
+
+/// The output of an open file, which grows as it is written, and tells why it fails. What isn't a plain file, as a terminal, has no
+/// offsets.
+fn output_of<'a, H: Holds>(
+    file: File,
+    why: &'a Cell<OutputReason>,
+) -> Result<OpenedOutput<RealDisk<'a, H>>, FileFault> {
+    let told = file.metadata()?;
+    if !told.is_file() {
+        return Err(FileFault::NotAFile);
+    }
+    let teller = Teller::new(file.try_clone()?, why);
+    let file = ToldFile::told_by(SystemFile::new(file), teller);
+    Ok(OpenedOutput {
+        output: FileDisk::new(file, OUTPUT_SIZE),
+        length: told.len(),
+    })
+}
+
+/// The output of a path.
+pub(crate) fn open_system_output<'a, R: Files<File = File>, H: Holds>(
+    rt: &R,
+    path: &str,
+    why: &'a Cell<OutputReason>,
+) -> Result<OpenedOutput<RealDisk<'a, H>>, FileFault> {
+    let opened = open_or_make(rt, path)?;
+    output_of(opened.file, why)
+}
+
+/// Whether a path is that of a plain file. Nothing is opened: a pipe that nobody writes to would keep its opener waiting.
+fn is_plain_file<R: Files>(rt: &R, path: &str) -> Result<(), FileFault> {
+    let told = rt.metadata(path)?;
+    if told.is_dir() {
+        return Err(FileFault::IsADirectory);
+    }
+    if !told.is_file() {
+        return Err(FileFault::NotAnInput);
+    }
+    Ok(())
+}
+
+/// The input of a path: a plain file, which is only read.
+pub(crate) fn open_system_input<'a, R: Files<File = File>, H: Holds>(
+    rt: &R,
+    path: &str,
+) -> Result<RealDisk<'a, H>, FileFault> {
+    is_plain_file(rt, path)?;
+    let file = open_read(rt, path)?;
+    let told = file.metadata()?;
+    if !told.is_file() {
+        return Err(FileFault::NotAnInput);
+    }
+    Ok(FileDisk::new(ToldFile::untold(SystemFile::new(file)), told.len() as usize))
+}
+
+/// The disk of an open file once zero bytes stand behind its own, up to so many bytes.
+pub(crate) fn longer_disk<'a, H: Holds>(
+    file: &File,
+    size: usize,
+) -> Result<RealDisk<'a, H>, FileFault> {
+    fill_file(file, size)?;
+    let longer = file.try_clone()?;
+    let told = longer.metadata()?;
+    if (told.len() as usize) < size {
+        return Err(FileFault::Other);
+    }
+    Ok(FileDisk::new(
+        ToldFile::untold(SystemFile::new(longer)),
+        told.len() as usize,
+    ))
+}

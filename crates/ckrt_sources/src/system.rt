@@ -1,0 +1,418 @@
+//! Disks and images that are files of the system.
+ghost use Rattle.std.specs.Prelude.{◌≡◌, None};
+ghost use Rattle.ckrt_sources.specs.Files.{openings_of};
+ghost use Rattle.ckrt_sources.specs.Openings.{unopened};
+ghost use Rattle.ckrt_sources.specs.Sources.{anything};
+
+use crate::core_paths::{open_core_file, replace_core};
+use crate::file::{FileFault, FileOpening};
+use crate::files::{
+    beside, disk_of, give_name, longer_disk, open_disk_file, open_filled_file, open_making_file,
+    open_read, open_shared, open_system_input, open_system_output, remove,
+};
+use crate::output::OpenedOutput;
+use crate::reason::OutputReason;
+use crate::sources::{Closes, Sources, Unlengthened};
+use crate::told::RealDisk;
+use ckrt_disk::{History, Holds};
+use std::alloc::Global;
+use std::cell::Cell;
+use std::fs::{File, Files, Metadata};
+use std::marker::Brand;
+use std::os::unix::fs::MetadataExt;
+
+/// Which file of the system it is: on which device, and its number there.
+#[derive(Clone, Copy, PartialEq, Eq)]
+struct FileId {
+    device: u64,
+    number: u64,
+}
+
+impl FileId {
+    /// That of a file with this metadata.
+    fn of(told: &Metadata) -> FileId {
+        FileId {
+            device: told.dev(),
+            number: told.ino(),
+        }
+    }
+}
+
+/// A file that was made, and goes where it isn't formatted.
+#[derive(Drop)]
+enum MadeFile<'a> {
+    /// That of a path.
+    Itself(&'a str),
+    /// A disk or a core in the making, by its own name.
+    Beside(String),
+}
+
+impl<'a> MadeFile<'a> {
+    /// Its path.
+    fn path(&self) -> &str {
+        match self {
+            MadeFile::Itself(path) => path,
+            MadeFile::Beside(name) => name.as_str(),
+        }
+    }
+}
+
+/// A disk that is a file of the system.
+pub type SystemDisk<'a> = RealDisk<'a, Brand>;
+
+/// The files of the system, with the record of what they were asked for, which takes no memory. A disk or an output that is
+/// given back is closed.
+#[derive(Drop)]
+pub struct SystemSources<'a, R, D> {
+    rt: &'a R,
+    /// Where an output notes why it failed.
+    why: &'a Cell<OutputReason>,
+    image: History<FileOpening<'a>>,
+    disk: History<FileOpening<'a>>,
+    output: History<FileOpening<'a>>,
+    input: History<FileOpening<'a>>,
+    making: History<FileOpening<'a>>,
+    naming: History<FileOpening<'a>>,
+    named: History<D>,
+    closed: History<D>,
+    closed_output: History<D>,
+    closed_input: History<D>,
+    lengthened: History<D>,
+    abandoned: History<D>,
+    /// Which file the disk is, where one is open.
+    disk_id: Option<FileId>,
+    /// And which one the input is.
+    input_id: Option<FileId>,
+    /// And that file once more, by which it can be made longer.
+    disk_file: Option<File>,
+    /// The file that was made for a disk that isn't formatted yet, or for a core that isn't written.
+    made: Option<MadeFile<'a>>,
+}
+
+impl<'a, R, D> SystemSources<'a, R, D> {
+    /// The files of the system, of which none was asked for. An output of theirs notes there why it failed.
+    pub fn new(rt: &'a R, why: &'a Cell<OutputReason>) -> SystemSources<'a, R, D>
+        ensures { openings_of result ≡ unopened }
+    {
+        SystemSources {
+            rt,
+            why,
+            image: History::new(),
+            disk: History::new(),
+            output: History::new(),
+            input: History::new(),
+            making: History::new(),
+            naming: History::new(),
+            named: History::new(),
+            closed: History::new(),
+            closed_output: History::new(),
+            closed_input: History::new(),
+            lengthened: History::new(),
+            abandoned: History::new(),
+            disk_id: None,
+            input_id: None,
+            disk_file: None,
+            made: None,
+        }
+    }
+}
+
+impl<'a, R: Files<File = File>, D> SystemSources<'a, R, D> {
+    /// Remembers which file a disk is, and the file itself.
+    fn remember(&mut self, file: &File)
+        ensures { openings_of self.new ≡ openings_of self.old }
+    {
+        self.disk_id = match file.metadata() {
+            Ok(told) => Some(FileId::of(&told)),
+            Err(_) => None,
+        };
+        self.disk_file = match file.try_clone() {
+            Ok(again) => Some(again),
+            Err(_) => None,
+        };
+    }
+
+    /// Whether a path is that of the disk that is open.
+    fn is_disk(&self, path: &str) -> bool {
+        match (self.rt.metadata(path), self.disk_id) {
+            (Ok(told), Some(disk)) => FileId::of(&told) == disk,
+            _ => false,
+        }
+    }
+
+    /// Whether a path is that of the input that is open.
+    fn is_input(&self, path: &str) -> bool {
+        match (self.rt.metadata(path), self.input_id) {
+            (Ok(told), Some(input)) => FileId::of(&told) == input,
+            _ => false,
+        }
+    }
+
+    /// The file of a disk, which is remembered.
+    fn open_disk_file(&mut self, path: &str) -> Result<File, FileFault>
+        ensures { openings_of self.new ≡ openings_of self.old }
+    {
+        let file = open_disk_file(self.rt, path)?;
+        self.remember(&file);
+        Ok(file)
+    }
+
+    /// The file of a disk that is looked at, which is remembered.
+    fn look_at_file(&mut self, path: &str) -> Result<File, FileFault>
+        ensures { openings_of self.new ≡ openings_of self.old }
+    {
+        let file = open_shared(self.rt, path)?;
+        self.remember(&file);
+        Ok(file)
+    }
+
+    /// The file of a disk that is made where it is missing, and filled up to so many bytes.
+    fn open_filled_file(&mut self, path: &'a str, size: usize) -> Result<File, FileFault>
+        ensures { openings_of self.new ≡ openings_of self.old }
+    {
+        let claimed = open_filled_file(self.rt, path, size)?;
+        if claimed.is_new {
+            self.made = Some(MadeFile::Itself(path));
+        }
+        Ok(claimed.file)
+    }
+
+    /// The file of a disk in the making, which is remembered.
+    fn open_making_file(
+        &mut self,
+        alloc: Global,
+        path: &str,
+        size: usize,
+    ) -> Result<File, FileFault>
+        ensures { openings_of self.new ≡ openings_of self.old }
+    {
+        let name = beside(alloc, path)?;
+        let file = open_making_file(self.rt, alloc, path, &name, size)?;
+        self.remember(&file);
+        self.made = Some(MadeFile::Beside(name));
+        Ok(file)
+    }
+
+    /// Gives the disk in the making a path.
+    fn give_name(&mut self, path: &str) -> Result<(), FileFault>
+        ensures { openings_of self.new ≡ openings_of self.old }
+    {
+        let named = match &self.made {
+            Some(made) => give_name(self.rt, made.path(), path),
+            None => Err(FileFault::Other),
+        };
+        if named.is_ok() {
+            self.made = None;
+        }
+        named
+    }
+
+    /// The file of a core in the making. The disk is never taken for a core.
+    fn open_core_file(&mut self, alloc: Global, path: &str, size: usize) -> Result<File, FileFault>
+        ensures { openings_of self.new ≡ openings_of self.old }
+    {
+        if self.is_disk(path) {
+            return Err(FileFault::IsDisk);
+        }
+        let name = beside(alloc, path)?;
+        let file = open_core_file(self.rt, path, &name, size)?;
+        self.made = Some(MadeFile::Beside(name));
+        Ok(file)
+    }
+
+    /// Gives the core in the making a path.
+    fn give_core_name(&mut self, path: &str) -> Result<(), FileFault>
+        ensures { openings_of self.new ≡ openings_of self.old }
+    {
+        let named = match &self.made {
+            Some(made) => replace_core(self.rt, made.path(), path),
+            None => Err(FileFault::Other),
+        };
+        if named.is_ok() {
+            self.made = None;
+        }
+        named
+    }
+
+    /// Removes what was made.
+    fn remove_made(&mut self)
+        ensures { openings_of self.new ≡ openings_of self.old }
+    {
+        if let Some(made) = &self.made {
+            remove(self.rt, made.path());
+        }
+        self.made = None;
+    }
+}
+
+impl<'a, R: Files<File = File>, H: Holds> SystemSources<'a, R, RealDisk<'a, H>> {
+    /// The disk that is open, of so many bytes.
+    fn longer(&mut self, size: usize) -> Result<RealDisk<'a, H>, FileFault>
+        ensures { openings_of self.new ≡ openings_of self.old }
+    {
+        match &self.disk_file {
+            Some(file) => longer_disk(file, size),
+            None => Err(FileFault::Other),
+        }
+    }
+
+    /// The input of a path, which is remembered. The disk is never taken for it.
+    fn open_input_file(&mut self, path: &str) -> Result<RealDisk<'a, H>, FileFault>
+        ensures { openings_of self.new ≡ openings_of self.old }
+    {
+        if self.is_disk(path) {
+            return Err(FileFault::IsDisk);
+        }
+        let input = open_system_input(self.rt, path)?;
+        self.input_id = match self.rt.metadata(path) {
+            Ok(told) => Some(FileId::of(&told)),
+            Err(_) => None,
+        };
+        Ok(input)
+    }
+}
+
+impl<'a, R: Files<File = File>, D: Drop> Closes<D> for SystemSources<'a, R, D> {
+    ghost openings = { openings_of };
+
+    fn close(&mut self, disk: D) {
+        self.made = None;
+        self.disk_file = None;
+        self.closed = self.closed.with(&disk);
+    }
+
+    fn abandon(&mut self, disk: D) {
+        self.remove_made();
+        self.abandoned = self.abandoned.with(&disk);
+    }
+
+    fn close_output(&mut self, output: D) {
+        self.closed_output = self.closed_output.with(&output);
+    }
+
+    fn close_input(&mut self, input: D) {
+        self.closed_input = self.closed_input.with(&input);
+    }
+}
+
+impl<'a, R: Files<File = File>, H: Holds> Sources<'a, File, RealDisk<'a, H>>
+    for SystemSources<'a, R, RealDisk<'a, H>> {
+    ghost image_bytes = { λ _ _. None };
+
+    ghost opens = { λ _ _ _. Unit {0} };
+
+    ghost fills = { λ _ _ _ _. Unit {0} };
+
+    ghost gives = { λ _. anything };
+
+    fn open_image(&mut self, path: &'a str) -> Result<File, FileFault> {
+        let opened = open_read(self.rt, path);
+        self.image = self.image.with(&FileOpening::of(path, &opened));
+        opened
+    }
+
+    fn open_disk(&mut self, path: &'a str) -> Result<RealDisk<'a, H>, FileFault> {
+        let opened = match self.open_disk_file(path) {
+            Ok(file) => disk_of(file),
+            Err(fault) => Err(fault),
+        };
+        self.disk = self.disk.with(&FileOpening::of(path, &opened));
+        opened
+    }
+
+    fn look_at_disk(&mut self, path: &'a str) -> Result<RealDisk<'a, H>, FileFault> {
+        let opened = match self.look_at_file(path) {
+            Ok(file) => disk_of(file),
+            Err(fault) => Err(fault),
+        };
+        self.disk = self.disk.with(&FileOpening::of(path, &opened));
+        opened
+    }
+
+    fn open_filled(&mut self, path: &'a str, size: usize) -> Result<RealDisk<'a, H>, FileFault> {
+        let opened = match self.open_filled_file(path, size) {
+            Ok(file) => disk_of(file),
+            Err(fault) => Err(fault),
+        };
+        self.disk = self.disk.with(&FileOpening::of(path, &opened));
+        opened
+    }
+
+    fn open_making(
+        &mut self,
+        alloc: Global,
+        path: &'a str,
+        size: usize,
+    ) -> Result<RealDisk<'a, H>, FileFault> {
+        let opened = match self.open_making_file(alloc, path, size) {
+            Ok(file) => disk_of(file),
+            Err(fault) => Err(fault),
+        };
+        self.making = self.making.with(&FileOpening::of(path, &opened));
+        opened
+    }
+
+    fn name_disk(&mut self, path: &'a str, disk: &RealDisk<'a, H>) -> Result<(), FileFault> {
+        let named = self.give_name(path);
+        self.naming = self.naming.with(&FileOpening::of(path, &named));
+        self.named = self.named.with(disk);
+        named
+    }
+
+    fn open_core(
+        &mut self,
+        alloc: Global,
+        path: &'a str,
+        size: usize,
+    ) -> Result<RealDisk<'a, H>, FileFault> {
+        let opened = match self.open_core_file(alloc, path, size) {
+            Ok(file) => disk_of(file),
+            Err(fault) => Err(fault),
+        };
+        self.making = self.making.with(&FileOpening::of(path, &opened));
+        opened
+    }
+
+    fn name_core(&mut self, path: &'a str, core: &RealDisk<'a, H>) -> Result<(), FileFault> {
+        let named = self.give_core_name(path);
+        self.naming = self.naming.with(&FileOpening::of(path, &named));
+        self.named = self.named.with(core);
+        named
+    }
+
+    fn open_output(&mut self, path: &'a str) -> Result<OpenedOutput<RealDisk<'a, H>>, FileFault> {
+        let mut opened = open_system_output(self.rt, path, self.why);
+        if let Err(FileFault::InUse) = opened {
+            if self.is_disk(path) {
+                opened = Err(FileFault::IsDisk);
+            }
+        }
+        if self.is_input(path) {
+            opened = Err(FileFault::IsInput);
+        }
+        self.output = self.output.with(&FileOpening::of(path, &opened));
+        opened
+    }
+
+    fn open_input(&mut self, path: &'a str) -> Result<RealDisk<'a, H>, FileFault> {
+        let opened = self.open_input_file(path);
+        self.input = self.input.with(&FileOpening::of(path, &opened));
+        opened
+    }
+
+    fn last_reason(&self) -> OutputReason {
+        self.why.get()
+    }
+
+    fn lengthen(
+        &mut self,
+        disk: RealDisk<'a, H>,
+        size: usize,
+    ) -> Result<RealDisk<'a, H>, Unlengthened<RealDisk<'a, H>>> {
+        self.lengthened = self.lengthened.with(&disk);
+        match self.longer(size) {
+            Ok(longer) => Ok(longer),
+            Err(fault) => Err(Unlengthened { disk, fault }),
+        }
+    }
+}
