@@ -138,10 +138,10 @@ class Waits(WithKeys):
         self.tells([(1, Call.MUTEX_LOCK, MUTEX), (2, Call.MUTEX_LOCK, MUTEX), (3, Call.MUTEX_TIMEDLOCK, MUTEX, 9, 1),
                     (1, Call.MUTEX_TRYLOCK, MUTEX), (1, Call.MUTEX_UNLOCK, MUTEX), (2, Call.MUTEX_UNLOCK, MUTEX)],
                    "thread 1 mutex_lock(00002000) = 0", "thread 2 mutex_lock(00002000) waits mutex 00002000",
-                   "thread 3 mutex_timedlock(00002000, 9, 1) waits mutex 00002000 until 4294967305",
+                   "thread 3 mutex_timedlock(00002000, 4294967305) waits mutex 00002000 until 4294967305",
                    "thread 1 mutex_trylock(00002000) = 16", "thread 1 mutex_unlock(00002000) = 0",
                    "thread 2 mutex 00002000 is over = 0", "thread 2 mutex_unlock(00002000) = 0",
-                   "thread 3 mutex 00002000 until 4294967305 is over = 0")
+                   "thread 3 mutex 00002000 is over = 0")
 
     def test_condition(self):
         """A signalled thread that doesn't get its mutex at once waits again."""
@@ -155,21 +155,20 @@ class Waits(WithKeys):
                    "thread 2 retake 00002000 0 is over = 0")
 
     def test_deadlines(self):
-        """What is due ends by deadline and then by thread, whenever it began."""
+        """What is due is told in the order in which it began, whichever ends first."""
         self.tells([(3, Call.SLEEP_UNTIL, 5, 0), (1, Call.SLEEP_UNTIL, 7, 0), (2, Call.MUTEX_LOCK, MUTEX),
                     (2, Call.COND_TIMEDWAIT, CONDITION, MUTEX, 5, 0), Tick(9)],
-                   "thread 3 sleep_until(5, 0) waits sleep until 5", "thread 1 sleep_until(7, 0) waits sleep until 7",
+                   "thread 3 sleep_until(5) waits sleep until 5", "thread 1 sleep_until(7) waits sleep until 7",
                    "thread 2 mutex_lock(00002000) = 0",
-                   "thread 2 cond_timedwait(00003000, 00002000, 5, 0) waits cond 00003000 00002000 until 5", "tick 9",
-                   "thread 2 cond 00003000 00002000 until 5 is over = 110", "thread 3 sleep until 5 is over = 0",
-                   "thread 1 sleep until 7 is over = 0")
+                   "thread 2 cond_timedwait(00003000, 00002000, 5) waits cond 00003000 00002000 until 5", "tick 9",
+                   "thread 3 sleep is over = 0", "thread 1 sleep is over = 0", "thread 2 cond 00003000 00002000 is over = 110")
 
     def test_moment_that_has_come(self):
         self.tells([Tick(5), (2, Call.MUTEX_LOCK, MUTEX), (3, Call.MUTEX_LOCK, MUTEX),
                     (2, Call.COND_TIMEDWAIT, CONDITION, MUTEX, 5, 0), (1, Call.CLOCK)],
                    "tick 5", "thread 2 mutex_lock(00002000) = 0", "thread 3 mutex_lock(00002000) waits mutex 00002000",
-                   "thread 2 cond_timedwait(00003000, 00002000, 5, 0) waits retake 00002000 110",
-                   "thread 3 mutex 00002000 is over = 0", "thread 1 clock() = 5, 0")
+                   "thread 2 cond_timedwait(00003000, 00002000, 5) waits retake 00002000 110",
+                   "thread 3 mutex 00002000 is over = 0", "thread 1 clock() = 5")
 
     def test_barrier(self):
         self.tells([(1, Call.BARRIER_INIT, BARRIER, 3), (3, Call.BARRIER_WAIT, BARRIER), (1, Call.BARRIER_WAIT, BARRIER),
@@ -203,7 +202,7 @@ class Ends(WithKeys):
         """A thread without a handler ends, one with a handler goes there, and one without its mutex waits for that."""
         self.tells([(2, Call.JOIN, 3), (3, Call.GETC), (1, Call.CANCEL, 3)],
                    "thread 2 join(3) waits join 3", "thread 3 getc() waits input", "thread 1 cancel(3) = 0",
-                   "thread 3 input is over = ?", "thread 2 join 3 is over = 0, ffffffff")
+                   "thread 2 join 3 is over = 0, ffffffff", "thread 3 input is over = ?")
         pushed = (2, Call.CLEANUP_PUSH, HANDLER, 9)
         self.tells([pushed, (2, Call.MUTEX_LOCK, MUTEX), (2, Call.COND_WAIT, CONDITION, MUTEX), (1, Call.MUTEX_LOCK, MUTEX),
                     (1, Call.CANCEL, 2), (1, Call.MUTEX_UNLOCK, MUTEX)],
@@ -217,6 +216,9 @@ class Ends(WithKeys):
         self.tells([(1, Call.CANCEL, 2), (2, Call.PUTC, 65), (3, Call.SETCANCELTYPE, 1), (1, Call.CANCEL, 3), (3, Call.SELF)],
                    "thread 1 cancel(2) = 0", "thread 2 putc(65) = ?", "thread 3 setcanceltype(1) = 0, 0",
                    "thread 1 cancel(3) = 0")
+        self.tells([(3, Call.SETCANCELSTATE, 1), (3, Call.SETCANCELTYPE, 1), (1, Call.CANCEL, 3), (3, Call.SELF)],
+                   "thread 3 setcancelstate(1) = 0, 0", "thread 3 setcanceltype(1) = 0, 0", "thread 1 cancel(3) = 0",
+                   "thread 3 self() = 3")
 
     def test_asynchronous_before_a_call(self):
         words = image("00100513 03f00893 00000073 00e00893 00100513 03c00893 00000073 00000073")
@@ -244,10 +246,10 @@ class Answers(WithKeys):
                    f"thread 1 key_create({TOP:08x}) = 0, 0", "thread 1 setspecific(0, 0000004d) = 0",
                    "thread 1 getspecific(0) = 0, 0000004d", "thread 1 getspecific(1) = 22", "thread 1 self() = 1",
                    "thread 1 create(fffffff0, 00000001, 00000002, 1) = 0, 4", "thread 1 create(00000002, 00000001, 00000002, 1) = 22",
-                   "tick 4294967295", "tick 3", "thread 1 clock() = 2, 1")
+                   "tick 4294967295", "tick 3", "thread 1 clock() = 4294967298")
 
     def test_no_such_call(self):
-        self.tells([(1, 9, 1, 2)], "thread 1 9() = 38")
+        self.tells([(1, 9, 1, 2)], "thread 1 call 9 = 38")
 
     def test_keys_off(self):
         """The calls have their names, as the program made them."""
@@ -256,7 +258,7 @@ class Answers(WithKeys):
 
     def test_each_call(self):
         """Each has its form, of as many arguments as it takes."""
-        self.assertEqual({call: len(form) for call, form in FORMS.items()},
+        self.assertEqual({call: len(form) + form.count("m") for call, form in FORMS.items()},
                          {Call(number): row.arguments for number, row in CALLS.items()})
         self.assertTrue(set(KEY_CALLS) <= set(FORMS) and set(SECOND_ANSWERS) <= set(FORMS))
 

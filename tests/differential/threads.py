@@ -111,7 +111,7 @@ class State:
         self.tally = Counter() if tally is None else tally
 
     def begin_step(self):
-        """What a step puts, and the waits that a step or an event ends, in the order of their ends."""
+        """What a step puts, and the waits that a step or an event ends."""
         self.byte_put, self.ended_waits = None, []
 
     def add_initial_thread(self, pages):
