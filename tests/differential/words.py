@@ -80,7 +80,7 @@ def spoiled(chance, case, texts):
 def words_case(chance, seed):
     if chance.random() < 0.15:
         return WordsCase(chance.choice(NO_COMMANDS))
-    command = chance.choice(["format", "format", "run", "inspect", "inspect", "calls", "calls"])
+    command = chance.choice(["format", "format", "run", "inspect", "inspect", "calls"])
     files = tuple(file if chance.random() < 0.6 else chance.choice(ODD_FILES[file]) for file in FILES[command])
     texts = chosen_options(chance, command)
     values = {name: int(text) if text is not None else True for name, text in texts.items()}
