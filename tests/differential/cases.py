@@ -11,6 +11,7 @@ from drive_cases import drives_case
 from formats import format_case
 from guests import Guest
 from halts import halts_case
+from histories import histories_case
 from input_cases import inputs_case
 from layout import Geometry, format_disk
 from limits import limit_case
@@ -198,6 +199,7 @@ KINDS = {
     "disks": disks_case, "killed": killed_case, "limits": limits_case, "saved": saved_case, "tables": tables_case,
     "stopped": stopped_case, "checkpoints": checkpoints_case, "formats": format_case, "lists": of_guest(lists_case),
     "fates": of_guest(fates_case), "parts": of_guest(parts_case), "listings": of_guest(listings_case), "cuts": cuts_case,
+    "histories": of_guest(histories_case),
     "words": words_case, "drives": of_guest(drives_case), "halts": of_guest(halts_case),
     "inputs": of_guest(inputs_case), "mixed": of_guest(mixed_case),
 }

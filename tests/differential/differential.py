@@ -11,10 +11,12 @@ from pathlib import Path
 from random import Random
 
 from abi import KEY_CALLS, Call
+from call_lines import History, kind_of_line
 from cases import KINDS, case_of
 from drive_cases import DrivesCase, difference_of_drives
 from formats import FormatCase
 from halts import HaltsCase, difference_of_halts
+from histories import HistoriesCase
 from input_cases import InputsCase, difference_of_inputs
 from layout import Geometry, format_disk
 from lines import serve_disk
@@ -78,6 +80,38 @@ def difference_of_listing(ckrt, path, disk, at=None, is_with_code=False):
     if shown != expected:
         return f"listing (--at {at}, --code {is_with_code}): {place_of_difference(expected, shown)}"
     return None if path.read_bytes() == disk else "inspect changed the disk's bytes"
+
+
+def calls_of_model(history, stretch):
+    """What `calls` shows of a disk that recovers, as a life."""
+    try:
+        return Life(0, "".join(line + "\n" for line in history.lines(*stretch)).encode(), b"")
+    except OutOfRange as fault:
+        return Life(1, b"", f"ckrt: {fault}\n".encode())
+
+
+def calls_of_program(ckrt, path, stretch):
+    ends = [(name, str(end)) for name, end in zip(("--from", "--to"), stretch) if end is not None]
+    return shown_by(ckrt, ["calls", path, *[word for pair in ends for word in pair]])
+
+
+def difference_of_histories(ckrt, case, path, tally):
+    """None, or where the two differ on a stretch; the disk's file keeps its bytes."""
+    disk = case.disk()
+    path.write_bytes(disk)
+    try:
+        history, fault = History(bytearray(disk)), None
+    except Unrecovered as unrecovered:
+        history, fault = None, Life(1, b"", f"ckrt: {unrecovered}\n".encode())
+    for stretch in case.stretches:
+        expected, shown = fault or calls_of_model(history, stretch), calls_of_program(ckrt, path, stretch)
+        tally["calls", expected.errors.decode().strip().removeprefix("ckrt: ") or "shown"] += 1
+        tally.update(("line of calls", kind_of_line(line)) for line in expected.replies.decode().splitlines())
+        if shown != expected:
+            return f"calls (from, to {stretch}): {place_of_difference(expected, shown)}"
+        if path.read_bytes() != disk:
+            return "calls changed the disk's bytes"
+    return None
 
 
 def difference_of_listings(ckrt, case, path, tally):
@@ -155,7 +189,10 @@ def expected_of_words(case, contents, image):
         return 1, b"", "File"
     if case.command == "run":
         return 0, b"", None
-    shown = listing_of_model(contents, case.options["at"], case.options["code"])
+    if case.command == "calls":
+        shown = calls_of_model(History(bytearray(contents)), (case.options["from"], case.options["to"]))
+    else:
+        shown = listing_of_model(contents, case.options["at"], case.options["code"])
     return shown.status, shown.replies, "Range" if shown.status else None
 
 
@@ -195,6 +232,8 @@ def first_difference(ckrt, case, folder, tally, count_life):
             return difference_of_drives(ckrt, case, folder, tally, count_life)
         case ListingsCase():
             return difference_of_listings(ckrt, case, path, tally)
+        case HistoriesCase():
+            return difference_of_histories(ckrt, case, path, tally)
         case LivesCase():
             return difference_of_stops(ckrt, case, path, tally, count_life)
         case CutCase():

@@ -20,12 +20,14 @@ def address_text(address):
     return f"{address:08x}"
 
 
+def text_of_fault(state):
+    return f"fault {state.fault_thread} {address_text(state.status_word)} {CAUSES[Cause(state.fault_cause)]}"
+
+
 def status_line(state):
     if state.status is Status.RUNNING:
         return "status running"
-    if state.status is Status.EXITED:
-        return f"status exit {state.status_word}"
-    return f"status fault {state.fault_thread} {address_text(state.status_word)} {CAUSES[Cause(state.fault_cause)]}"
+    return f"status exit {state.status_word}" if state.status is Status.EXITED else f"status {text_of_fault(state)}"
 
 
 def thread_line(state, number):
@@ -39,22 +41,31 @@ def thread_line(state, number):
     return f"thread {number} {' '.join(words)}"
 
 
-def wait_line(wait):
+def reason_of_wait(wait):
+    """What the thread waits for."""
     subject = address_text(wait.subject)
     match wait.kind:
         case WaitKind.JOIN:
-            reason = f"join {wait.subject}"
+            return f"join {wait.subject}"
         case WaitKind.LOCK:
-            reason = f"mutex {subject}"
+            return f"mutex {subject}"
         case WaitKind.RETAKE:
-            reason = f"retake {subject} {'unwind' if wait.result == UNWIND else int(wait.result)}"
+            return f"retake {subject} {'unwind' if wait.result == UNWIND else int(wait.result)}"
         case WaitKind.CONDITION:
-            reason = f"cond {subject} {address_text(wait.mutex)}"
+            return f"cond {subject} {address_text(wait.mutex)}"
         case WaitKind.INPUT | WaitKind.SLEEP:
-            reason = wait.kind.value
+            return wait.kind.value
         case _:
-            reason = f"{wait.kind.value} {subject}"
-    return f"wait {wait.thread} {reason}" + (f" until {wait.deadline}" if wait.deadline is not None else "")
+            return f"{wait.kind.value} {subject}"
+
+
+def text_of_wait(wait):
+    """Until when, too."""
+    return reason_of_wait(wait) + (f" until {wait.deadline}" if wait.deadline is not None else "")
+
+
+def wait_line(wait):
+    return f"wait {wait.thread} {text_of_wait(wait)}"
 
 
 def lock_line(address, lock):

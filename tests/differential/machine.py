@@ -80,6 +80,7 @@ class Machine(State):
 
     def step(self, event):
         """Takes an event; answers its reply and the bytes that it put."""
+        self.begin_step()
         match event:
             case Place(hart, thread):
                 self.harts[hart] = thread
@@ -99,7 +100,7 @@ class Machine(State):
         """Ends early where the program ends, the thread leaves its hart, or the last byte that a run may put is put."""
         thread_id, put = self.harts[hart], bytearray()
         for done in range(1, steps + 1):
-            self.byte_put = None
+            self.begin_step()
             self.step_thread(thread_id)
             if self.byte_put is not None:
                 put.append(self.byte_put)

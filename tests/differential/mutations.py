@@ -14,8 +14,8 @@ TIME_LIMIT = 900
 # That of the module first, then the quick ones.
 FIRST = {"lives.py": "test_lives", "foreseen.py": "test_lives", "ledger.py": "test_fates", "devices.py": "test_fates",
          "key_calls.py": "test_keys", "events.py": "test_long_runs", "plans.py": "test_plans",
-         "feeding.py": "test_feeding", "driven.py": "test_feeding"}
-TESTS = ["test_plans", "test_feeding", "test_calls", "test_keys", "test_long_runs", "test_listings", "test_rows", "test_tables", "test_texts", "test_fates", "test_lives", "test_stops"]
+         "feeding.py": "test_feeding", "driven.py": "test_feeding", "call_lines.py": "test_call_lines"}
+TESTS = ["test_plans", "test_feeding", "test_calls", "test_call_lines", "test_keys", "test_long_runs", "test_listings", "test_rows", "test_tables", "test_texts", "test_fates", "test_lives", "test_stops"]
 MUTATIONS = [
     ("plans.py", "place = count % round_length(machine)", "place = 0"),
     ("plans.py", "if place == 2 * machine.hart_count:", "if place == 2 * machine.hart_count - 1:"),
@@ -280,6 +280,35 @@ MUTATIONS = [
     ("ledger.py", "if self.version == 1 and isinstance(event, RunLong):", "if False:"),
     ("recovery.py", "header.generation, header.version, machine", "header.generation, 2, machine"),
     ("recovery.py", "found.geometry.journal), found.version)", "found.geometry.journal), 2)"),
+    ("call_lines.py", '"am": [Call.MUTEX_TIMEDLOCK], "aam": [Call.COND_TIMEDWAIT]', '"aam": [Call.MUTEX_TIMEDLOCK, Call.COND_TIMEDWAIT]'),
+    ("call_lines.py", 'Call.JOIN: "a"', 'Call.JOIN: "n"'),
+    ("call_lines.py", 'Call.GETSPECIFIC: "a"', 'Call.GETSPECIFIC: "n"'),
+    ("call_lines.py", "    if acts or not", "    if not"),
+    ("call_lines.py", " and not thread.is_disabled", ""),
+    ("call_lines.py", "if number == Call.CLOCK:", "if False:"),
+    ("call_lines.py", " and first == 0 else", " else"),
+    ("call_lines.py", " and thread.pc == place", ""),
+    ("call_lines.py", " and machine.is_running", ""),
+    ("call_lines.py", "    if wait is not None:\n        return", "    if wait is None:\n        return"),
+    ("call_lines.py", "        self.done += 1\n", ""),
+    ("call_lines.py", 'if not answer.endswith("on") or put == OUTPUT_OF_RUN:', 'if not answer.endswith("on"):'),
+    ("call_lines.py", 'if not answer.endswith("on") or put == OUTPUT_OF_RUN:', "if put == OUTPUT_OF_RUN:"),
+    ("call_lines.py", "thread.pc + 4\n", "thread.pc\n"),
+    ("call_lines.py", "words, behind = thread.registers[10:14]", "words, behind = thread.registers[11:15]"),
+    ("call_lines.py", "if machine.status is Status.FAULTED:", "if False:"),
+    ("call_lines.py", "        lines += self.lines_of_ends(step, places)\n", ""),
+    ("call_lines.py", ", *self.lines_of_ends(0, places)]", "]"),
+    ("call_lines.py", "{reason_of_wait(wait)} is over", "{text_of_wait(wait)} is over"),
+    ("call_lines.py", " if wait in self.machine.ended_waits", ""),
+    ("call_lines.py", "for wait, place in places if", "for wait, place in places[::-1] if"),
+    ("call_lines.py", "return Call.JOIN if wait.kind is WaitKind.JOIN else None", "return None"),
+    ("call_lines.py", "return Call.JOIN if wait.kind is WaitKind.JOIN else None", "return Call.JOIN"),
+    ("call_lines.py", "self.first <= first <= last", "first <= last"),
+    ("call_lines.py", "<= last <= self.whole", "<= last"),
+    ("call_lines.py", "<= first <= last <= self.whole", "<= first and last <= self.whole"),
+    ("call_lines.py", "        self.first = found.events\n", "        self.first = 0\n"),
+    ("call_lines.py", "Teller(found.machine, found.events)", "Teller(found.machine, 0)"),
+    ("call_lines.py", "data.hex()", "data.hex().upper()"),
 ]
 
 

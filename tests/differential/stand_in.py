@@ -1,12 +1,14 @@
 """A `ckrt` made of the model over a file, to try the driver with; and wrong ones, which the driver has to find.
 
-Words: a name in WRONG or WRONG_DRIVES, or `right`, then those of `ckrt run`, `ckrt inspect`, `ckrt drive`, or `ckrt format` on a file of
-the disk's size.
+Words: a name in WRONG, WRONG_DRIVES or WRONG_CALLS, or `right`, then those of `ckrt run`, `ckrt inspect`, `ckrt calls`, `ckrt drive`, or
+`ckrt format` on a file of the disk's size.
 """
 import os
 import sys
 from contextlib import suppress
+from itertools import groupby
 
+from call_lines import History
 from devices import DeviceFault
 from feeding import Undriven
 from layout import Geometry, format_onto
@@ -149,6 +151,23 @@ def inspect(path, *options):
         Printer().show(listing(bytearray(file.read()), at, "--code" in options).splitlines())
 
 
+def is_end(line):
+    return " is over " in line
+
+
+def backward(lines):
+    """The ends of waits at one position in their opposite order."""
+    groups = groupby(lines, key=lambda line: (line.split()[0], is_end(line)))
+    return [line for (_, are_ends), group in groups for line in (reversed(list(group)) if are_ends else group)]
+
+
+def calls(path, *options, told=lambda lines: lines):
+    """`told` says which lines are printed."""
+    ends = dict(zip(options[::2], map(int, options[1::2])))
+    with open(path, "rb") as file:
+        Printer().show(told(History(bytearray(file.read())).lines(ends.get("--from"), ends.get("--to"))))
+
+
 def make(path, image, *options, disk=FileDisk):
     """All options are there."""
     values = dict(zip(options[::2], map(int, options[1::2])))
@@ -158,6 +177,7 @@ def make(path, image, *options, disk=FileDisk):
 
 WRONG = {"without a sync": {"disk": Without}, "short": {"disk": Short}, "again": {"disk": Again}, "split": {"disk": Split},
          "hopeful": {"session": Hopeful}, "late": {"printer": Late}}
+WRONG_CALLS = {"without ends": {"told": lambda lines: [line for line in lines if not is_end(line)]}, "backward": {"told": backward}}
 
 
 def main(**switches):
@@ -169,6 +189,8 @@ def main(**switches):
             run(path, **wrong)
         elif word == "drive":
             sys.exit(drive(path, *options, **WRONG_DRIVES.get(which, {})))
+        elif word == "calls":
+            calls(path, *options, **WRONG_CALLS.get(which, {}))
         elif word == "format":
             make(path, *options, **{name: part for name, part in wrong.items() if name == "disk"})
         else:

@@ -15,6 +15,8 @@ HERE = Path(__file__).parent
 KINDS_WITH_KEYS = {"lists": 2, "fates": 2, "listings": 3, "lives": 2, "cuts": 2}
 KINDS_OF_DRIVES = {"drives": 2, "inputs": 2, "mixed": 3}
 KINDS = {"lists": 4, "fates": 4, "parts": 3, "listings": 3, "lives": 2, "cuts": 8}
+SHORT_HISTORIES = [2, 3, 7, 10]
+CALLS_FOUND_BY = [("without ends", 2), ("backward", 2)]
 # Programs are started by the thousand: what they import is kept compiled, beside them, and they are started without what a site adds.
 COMPILED = tempfile.TemporaryDirectory()
 FOUND_BY = [("without a sync", "lists"), ("split", "lists"), ("late", "lists"), ("short", "parts"), ("again", "fates"),
@@ -67,6 +69,14 @@ class Driver(unittest.TestCase):
             for which, kind, first in DRIVES_FOUND_BY:
                 with self.subTest(which=which, kind=kind):
                     self.assertTrue(any(self.difference(which, kind, seed) for seed in (first, *range(1, 25))))
+
+    def test_calls(self):
+        with switched(keys=True, long_runs=True):
+            for seed in SHORT_HISTORIES:
+                self.assertIsNone(self.difference("right", "histories", seed))
+            for which, first in CALLS_FOUND_BY:
+                with self.subTest(which=which):
+                    self.assertIsNotNone(self.difference(which, "histories", first))
 
     def test_keys_of_one_side(self):
         """The program has keys and the model none, or the other way round."""

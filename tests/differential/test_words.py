@@ -28,7 +28,7 @@ class Chosen(unittest.TestCase):
     def test_each_kind(self):
         cases = [words_case(Random(seed), seed) for seed in range(400)]
         commands = Counter(case.command for case in cases)
-        self.assertTrue(all(commands[name] > 20 for name in (None, "format", "run", "inspect")), commands)
+        self.assertTrue(all(commands[name] > 20 for name in (None, "format", "run", "inspect", "calls")), commands)
 
     def test_values(self):
         """A command's words have the values that the case says, whatever their order."""

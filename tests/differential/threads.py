@@ -107,8 +107,12 @@ class State:
         self.is_input_closed = False
         self.status = Status.RUNNING
         self.status_word = self.fault_thread = self.fault_cause = 0
-        self.byte_put = None
+        self.begin_step()
         self.tally = Counter() if tally is None else tally
+
+    def begin_step(self):
+        """What a step puts, and the waits that a step or an event ends."""
+        self.byte_put, self.ended_waits = None, []
 
     def add_initial_thread(self, pages):
         self.threads[1] = new_thread(0x1000, 0, PAGE * pages, False, is_initial=True)
@@ -147,6 +151,7 @@ class State:
     def end_wait(self, wait, why):
         """Takes a wait away; the caller says what the thread gets."""
         self.waits.remove(wait)
+        self.ended_waits.append(wait)
         self.tally["wait: " + wait.kind.value, why] += 1
 
     def end_thread(self, thread_id):

@@ -95,14 +95,19 @@ def parts_case(chance, case):
     return TracedCase(contents, fed, Plan(parts=Random(chance.random())), after)
 
 
-def counts_to_ask(chance, contents):
-    """Numbers of events before, in and behind the journal; of a disk that doesn't recover any."""
+def ends_of_journal(contents):
+    """How many events led to the journal's begin, and to its end; none of a disk that doesn't recover."""
     device = MemoryDisk(bytearray(contents))
     try:
         whole = recover(device).events
-        first = read_area(device, read_superblock(device)).events
+        return read_area(device, read_superblock(device)).events, whole
     except Unrecovered:
-        return [0, 1]
+        return 0, 0
+
+
+def counts_to_ask(chance, contents):
+    """Numbers of events before, in and behind the journal."""
+    first, whole = ends_of_journal(contents)
     near = [first, whole, whole + 1, max(first - 1, 0), 0, chance.choice([2 ** 32, 2 ** 62, 2 ** 64 - 1])]
     return chance.sample(range(first, whole + 1), min(3, whole + 1 - first)) + chance.sample(near, 3)
 

@@ -4,14 +4,16 @@ from dataclasses import dataclass
 from layout import Geometry, refusal_of_format
 
 DEFAULTS = {"pages": 64, "harts": 1, "journal": 65536}
-OPTIONS = {"format": DEFAULTS, "run": {}, "inspect": {"at": None, "code": None}}
-BITS = {"pages": 32, "harts": 32, "journal": 32, "at": 64}
-GOOD = {"pages": ["16", "017", "64"], "harts": ["1", "8"], "journal": ["4096", "8192"], "at": ["0", "1", "2"]}
-FILES = {"format": ["disk", "image"], "run": ["disk"], "inspect": ["disk"]}
+OPTIONS = {"format": DEFAULTS, "run": {}, "inspect": {"at": None, "code": None}, "calls": {"from": None, "to": None}}
+BITS = {"pages": 32, "harts": 32, "journal": 32, "at": 64, "from": 64, "to": 64}
+GOOD = {"pages": ["16", "017", "64"], "harts": ["1", "8"], "journal": ["4096", "8192"], "at": ["0", "1", "2"],
+        "from": ["0", "1"], "to": ["0", "1"]}
+FILES = {"format": ["disk", "image"], "run": ["disk"], "inspect": ["disk"], "calls": ["disk"]}
 ODD_FILES = {"disk": ["missing", "folder"], "image": ["missing", "folder", "long"]}
 NO_NUMBERS = ["", "x", "-1", "1.5", "0x10", "1_000", " 1", "1 ", "\uff11", b"\xff", "9" * 40]
 NO_COMMANDS = [[""], ["Run", "disk"], ["runs", "disk"], ["help"], ["--help"], ["-h"], ["version"], ["-"], [b"\xff"],
-               ["--version", "run"], ["format", "--help"], ["run", "--help"], ["inspect", "--help"]]
+               ["--version", "run"], ["format", "--help"], ["run", "--help"], ["inspect", "--help"],
+               ["calls", "--help"]]
 
 
 @dataclass
@@ -78,7 +80,7 @@ def spoiled(chance, case, texts):
 def words_case(chance, seed):
     if chance.random() < 0.15:
         return WordsCase(chance.choice(NO_COMMANDS))
-    command = chance.choice(["format", "format", "run", "inspect", "inspect"])
+    command = chance.choice(["format", "format", "run", "inspect", "inspect", "calls"])
     files = tuple(file if chance.random() < 0.6 else chance.choice(ODD_FILES[file]) for file in FILES[command])
     texts = chosen_options(chance, command)
     values = {name: int(text) if text is not None else True for name, text in texts.items()}

@@ -1,6 +1,6 @@
 -- Calls of a guest as text: `mutex_lock(00002d04)` (this project's own format). A word that may be an address has eight lower-case hexadecimal
 -- digits, other numbers are decimal, and a moment of the clock is one number of its two words.
-use Rattle.std.specs.Prelude.{ℕ, Bool, true, false, List, [], ◌++◌, codes, decimal, Option, Some, None}
+use Rattle.std.specs.Prelude.{ℕ, ◌==◌, if◌then◌else◌, List, [], ◌++◌, codes, decimal, Option, Some, None}
 use Rattle.ckrt_registers.specs.Registers.{Registers, get}
 use Rattle.ckrt_calls.specs.declared.number.Call.{Call}
 use Rattle.ckrt_calls.specs.declared.number.Call.TheVariants as call
@@ -22,6 +22,8 @@ use Rattle.ckrt_calls.specs.declared.number.KeyCall.{KeyCall}
 use Rattle.ckrt_calls.specs.declared.number.KeyCall.TheVariants as key_call
 use Rattle.ckrt_calls.specs.Table.{call_of, moment_of}
 use Rattle.ckrt_inspect.specs.Texts.{hex_text}
+use Rattle.ckrt_trace.specs.declared.names.Answers.{Answers}
+use Rattle.ckrt_trace.specs.declared.names.Answers.TheVariants as answers
 use Rattle.ckrt_trace.specs.declared.names.Arguments.{Arguments}
 use Rattle.ckrt_trace.specs.declared.names.Arguments.TheVariants as arguments
 
@@ -156,12 +158,24 @@ call_text_of (Some c) r = name_of c ++ codes "(" ++ arguments_text (arguments_of
 abbrev pub call_text : Registers → List ℕ
 call_text r = call_text_of (call_of (get r 17)) r
 
--- whether a call that answers 0 has a second answer, in x11
-abbrev pub has_second : Option Call → Bool
-has_second (Some (call.Thread thread_call.Create)) = true
-has_second (Some (call.Thread thread_call.Join)) = true
-has_second (Some (call.Cancellation cancellation_call.SetCancelState)) = true
-has_second (Some (call.Cancellation cancellation_call.SetCancelType)) = true
-has_second (Some (call.Key key_call.Create)) = true
-has_second (Some (call.Key key_call.GetSpecific)) = true
-has_second _ = false
+-- ANSWERS, in x10 and x11
+
+abbrev pub answers_of : Option Call → Answers
+answers_of (Some (call.Process process_call.Clock)) = answers.Moment
+answers_of (Some (call.Thread thread_call.Create)) = answers.AndNumber
+answers_of (Some (call.Thread thread_call.Join)) = answers.AndWord
+answers_of (Some (call.Cancellation cancellation_call.SetCancelState)) = answers.AndNumber
+answers_of (Some (call.Cancellation cancellation_call.SetCancelType)) = answers.AndNumber
+answers_of (Some (call.Key key_call.Create)) = answers.AndNumber
+answers_of (Some (call.Key key_call.GetSpecific)) = answers.AndWord
+answers_of _ = answers.One
+
+-- an answer, and a second one behind it where it is 0
+abbrev pub with_second : ℕ → List ℕ → List ℕ
+with_second first second = decimal first ++ (if first == 0 then codes ", " ++ second else [])
+
+abbrev pub answers_text : Answers → Registers → List ℕ
+answers_text answers.One r = decimal (get r 10)
+answers_text answers.AndNumber r = with_second (get r 10) (decimal (get r 11))
+answers_text answers.AndWord r = with_second (get r 10) (hex_text (get r 11))
+answers_text answers.Moment r = moment_text r 10 11

@@ -5,7 +5,7 @@ use Rattle.std.specs.List.{find, flat_map}
 use Rattle.ckrt_registers.specs.Registers.{Registers, get}
 use Rattle.ckrt_rv32i.specs.Memory.{is_valid, loaded}
 use Rattle.ckrt_rv32i.specs.declared.memory_bus.Size.TheVariants as size
-use Rattle.ckrt_thread.specs.Abi.{A0, A1, RETURN_GATE, UNWIND_GATE}
+use Rattle.ckrt_thread.specs.Abi.{RETURN_GATE, UNWIND_GATE}
 use Rattle.ckrt_thread.specs.Cancellation.{is_immediate}
 use Rattle.ckrt_thread.specs.State as threads
 use Rattle.ckrt_thread.specs.Waits.{is_of}
@@ -28,7 +28,9 @@ use Rattle.ckrt_inspect.specs.Listing.{until_text}
 use Rattle.ckrt_trace.specs.declared.lines.Caller.{Caller}
 use Rattle.ckrt_trace.specs.declared.lines.Place.{Place}
 use Rattle.ckrt_trace.specs.declared.lines.Waiting.{Waiting}
-use Rattle.ckrt_trace.specs.Calls.{call_text, has_second}
+use Rattle.ckrt_trace.specs.declared.names.Answers.{Answers}
+use Rattle.ckrt_trace.specs.declared.names.Answers.TheVariants as answers
+use Rattle.ckrt_trace.specs.Calls.{answers_of, answers_text, call_text}
 
 -- THE BEGIN OF A LINE: `K+S `, K events and S steps of the next one are done; and `K+S thread T ` of a thread
 
@@ -38,33 +40,30 @@ place_text p = decimal p.event ++ codes "+" ++ decimal p.step ++ codes " "
 abbrev pub thread_text : Place → ℕ → List ℕ
 thread_text p t = place_text p ++ codes "thread " ++ decimal t ++ codes " "
 
--- WHAT CAME OF A CALL OR A WAIT: ` = 0`, ` = 0, 2`, ` waits REASON`, or ` = ?` where the thread isn't at the place behind the call: it went to a
+-- WHAT CAME OF A CALL OR A WAIT: ` = 0`, ` = 0, VALUE`, ` waits REASON`, or ` = ?` where the thread isn't at the place behind the call: it went to a
 -- routine, or ended, or the program did
 
 abbrev pub unknown_text : List ℕ
 unknown_text = codes " = ?"
 
--- x10, and x11 where that is a second answer
-abbrev pub answer_text : (second : Bool) → Registers → List ℕ
-answer_text second r =
-    codes " = " ++ decimal (get r A0)
-    ++ (if second && get r A0 == 0 then codes ", " ++ decimal (get r A1) else [])
+abbrev pub answer_text : Answers → Registers → List ℕ
+answer_text a r = codes " = " ++ answers_text a r
 
-abbrev pub answered_at : (pc : ℕ) (second : Bool) → Option Registers → List ℕ
-answered_at pc second None = unknown_text
-answered_at pc second (Some r) = if r.pc == pc then answer_text second r else unknown_text
+abbrev pub answered_at : (pc : ℕ) → Answers → Option Registers → List ℕ
+answered_at pc a None = unknown_text
+answered_at pc a (Some r) = if r.pc == pc then answer_text a r else unknown_text
 
 abbrev pub waits_text : Wait → List ℕ
 waits_text w = codes " waits " ++ reason_text w.reason ++ until_text w.deadline
 
-abbrev pub came_of : (pc : ℕ) (second : Bool) → Option Wait → Option Registers → List ℕ
-came_of pc second (Some w) o = waits_text w
-came_of pc second None o = answered_at pc second o
+abbrev pub came_of : (pc : ℕ) → Answers → Option Wait → Option Registers → List ℕ
+came_of pc a (Some w) o = waits_text w
+came_of pc a None o = answered_at pc a o
 
 -- of a thread whose pc is behind its call
-abbrev pub came_text : (t pc : ℕ) (second : Bool) → Tables → List ℕ
-came_text t pc second s =
-    if is_running s.status then came_of pc second (find (is_of t) s.threads.waits) (threads.regs_of (threads.thread_of s.threads t))
+abbrev pub came_text : (t pc : ℕ) → Answers → Tables → List ℕ
+came_text t pc a s =
+    if is_running s.status then came_of pc a (find (is_of t) s.threads.waits) (threads.regs_of (threads.thread_of s.threads t))
     else unknown_text
 
 -- CALLS: `K+S thread T NAME(ARGUMENTS) = ANSWER`
@@ -96,7 +95,7 @@ abbrev pub call_line : Place → Option Caller → Tables → List ℕ
 call_line p None after = []
 call_line p (Some c) after =
     thread_text p c.thread ++ call_text c.regs
-    ++ came_text c.thread ((c.regs.pc + 4) % 2 ^ 32) (has_second (call_of (get c.regs 17))) after
+    ++ came_text c.thread ((c.regs.pc + 4) % 2 ^ 32) (answers_of (call_of (get c.regs 17))) after
     ++ codes "\n"
 
 -- WAITS THAT ARE OVER: `K+S thread T REASON is over = ANSWER`; who waited at a condition may wait for its mutex then
@@ -122,14 +121,15 @@ abbrev pub still_waits : Reason → Option Wait → Bool
 still_waits r None = false
 still_waits r (Some w) = if is_retake w.reason then is_retake r else true
 
-abbrev pub is_join : Reason → Bool
-is_join (reason.Join t) = true
-is_join _ = false
+-- the answers at the end of a wait: of the calls that wait, `join` alone has a second one
+abbrev pub answers_after : Reason → Answers
+answers_after (reason.Join t) = answers.AndWord
+answers_after _ = answers.One
 
 abbrev pub ended_line : Place → Tables → Waiting → List ℕ
 ended_line p after w =
     thread_text p w.wait.thread ++ reason_text w.wait.reason ++ codes " is over"
-    ++ came_text w.wait.thread w.pc (is_join w.wait.reason) after
+    ++ came_text w.wait.thread w.pc (answers_after w.wait.reason) after
     ++ codes "\n"
 
 abbrev pub over_line : Place → Tables → Waiting → List ℕ

@@ -13,4 +13,4 @@ mod texts;
 pub use disk::{Stretch, write_calls};
 pub use events::trace_event;
 pub use lines::{Before, Caller, Place, Waiting};
-pub use names::{Arguments, arguments_of, has_second, name_of};
+pub use names::{Answers, Arguments, answers_of, arguments_of, name_of};

@@ -6,11 +6,13 @@ ghost use Rattle.ckrt_state.specs.declared.table.Status.TheVariants.{Faulted};
 ghost use Rattle.ckrt_inspect.specs.Texts.{status_text};
 ghost use Rattle.std.specs.Io.KnownBytes.{Appends};
 ghost use Rattle.ckrt_thread.specs.State.{thread_of};
-ghost use Rattle.ckrt_trace.specs.Lines.{answer_text, answered_at, call_line, caller_of, calling_of, came_of, came_text, ended_line, fault_line, is_calling, is_ecall_at, is_join, is_plain, is_quiet, is_retake, lines_between, over_line, over_lines, pc_of, place_text, still_waits, thread_text, unknown_text, waiting_of, waits_text};
+ghost use Rattle.ckrt_trace.specs.Lines.{answer_text, answered_at, answers_after, call_line, caller_of, calling_of, came_of, came_text, ended_line, fault_line, is_calling, is_ecall_at, is_plain, is_quiet, is_retake, lines_between, over_line, over_lines, pc_of, place_text, still_waits, thread_text, unknown_text, waiting_of, waits_text};
 ghost use Rattle.ckrt_machine.specs.Steps.{hart_of};
 
-use crate::names::{cause_name, has_second};
-use crate::texts::{write_call, write_counted, write_hex, write_number, write_reason, write_until};
+use crate::names::{Answers, answers_of, cause_name};
+use crate::texts::{
+    write_answers, write_call, write_counted, write_hex, write_number, write_reason, write_until,
+};
 use arrayvec::ArrayVec;
 use ckrt_calls::Call;
 use ckrt_machine::Machine;
@@ -75,25 +77,28 @@ fn write_thread<W: Write>(out: &mut W, place: Place, thread: ThreadId) -> Result
     out.write_all(b" ")
 }
 
-/// x10, and x11 where that is a second answer.
-fn write_answer<W: Write>(out: &mut W, second: bool, regs: &Regs) -> Result<()>
+/// What a thread was answered.
+#[tactic(auto, using(crate::proofs::AppendLemmas::appends_both))]
+fn write_answer<W: Write>(out: &mut W, answers: Answers, regs: &Regs) -> Result<()>
     ensures { OnOk result
-        (Appends (W.contents out.old) (W.contents out.new) (answer_text second regs.now)) }
+        (Appends (W.contents out.old) (W.contents out.new) (answer_text answers regs.now)) }
 {
-    write_counted(out, b" = ", u64::from(regs.get(10)))?;
-    if second && regs.get(10) == 0 {
-        return write_counted(out, b", ", u64::from(regs.get(11)));
-    }
-    Ok(())
+    out.write_all(b" = ")?;
+    write_answers(out, answers, regs)
 }
 
 /// The answer of a thread whose pc is there, if it is.
-fn write_answered<W: Write>(out: &mut W, pc: u32, second: bool, regs: Option<Regs>) -> Result<()>
+fn write_answered<W: Write>(
+    out: &mut W,
+    pc: u32,
+    answers: Answers,
+    regs: Option<Regs>,
+) -> Result<()>
     ensures { OnOk result
-        (Appends (W.contents out.old) (W.contents out.new) (answered_at pc second regs)) }
+        (Appends (W.contents out.old) (W.contents out.new) (answered_at pc answers regs)) }
 {
     match regs {
-        Some(regs) if regs.pc() == pc => write_answer(out, second, &regs),
+        Some(regs) if regs.pc() == pc => write_answer(out, answers, &regs),
         _ => out.write_all(b" = ?"),
     }
 }
@@ -114,19 +119,19 @@ fn write_came<W: Write>(
     out: &mut W,
     thread: ThreadId,
     pc: u32,
-    second: bool,
+    answers: Answers,
     after: &Tables,
 ) -> Result<()>
     ensures { OnOk result
         (Appends (W.contents out.old) (W.contents out.new)
-        (came_text thread pc second after.now)) }
+        (came_text thread pc answers after.now)) }
 {
     if !matches!(after.status, Status::Running) {
         return out.write_all(b" = ?");
     }
     match after.threads.wait_of(thread) {
         Some(wait) => write_waits(out, &wait),
-        None => write_answered(out, pc, second, after.threads.regs(thread)),
+        None => write_answered(out, pc, answers, after.threads.regs(thread)),
     }
 }
 
@@ -183,7 +188,7 @@ fn write_made_call<W: Write>(
     let behind = caller.regs.pc().wrapping_add(4);
     write_thread(out, place, caller.thread)?;
     write_call(out, call, &caller.regs)?;
-    write_came(out, caller.thread, behind, has_second(call), after)?;
+    write_came(out, caller.thread, behind, answers_of(call), after)?;
     out.write_all(b"\n")
 }
 
@@ -236,10 +241,14 @@ fn is_retake(reason: Reason) -> bool
     matches!(reason, Reason::Retake(_, _))
 }
 
-fn is_join(reason: Reason) -> bool
-    ensures { result ≡ is_join reason }
+/// How the answers at the end of a wait are told.
+fn answers_after(reason: Reason) -> Answers
+    ensures { result ≡ answers_after reason }
 {
-    matches!(reason, Reason::Join(_))
+    match reason {
+        Reason::Join(_) => Answers::AndWord,
+        _ => Answers::One,
+    }
 }
 
 /// Whether a thread waits as it did for this reason, where this is its wait now.
@@ -263,7 +272,8 @@ fn write_ended<W: Write>(out: &mut W, place: Place, after: &Tables, waiting: &Wa
     write_thread(out, place, wait.thread)?;
     write_reason(out, wait.reason)?;
     out.write_all(b" is over")?;
-    write_came(out, wait.thread, waiting.pc, is_join(wait.reason), after)?;
+    let answers = answers_after(wait.reason);
+    write_came(out, wait.thread, waiting.pc, answers, after)?;
     out.write_all(b"\n")
 }
 

@@ -1,7 +1,7 @@
-//! The table of calls as text: names, and how arguments are told.
+//! The table of calls as text: names, and how arguments and answers are told.
 ghost use Rattle.std.specs.Prelude.{◌≡◌};
 ghost use Rattle.ckrt_rv32i.specs.Names.{cause_name};
-ghost use Rattle.ckrt_trace.specs.Calls.{arguments_of, barrier_name, cancellation_name, condition_name, has_second, key_name, mutex_name, name_of, process_name, rwlock_name, thread_name};
+ghost use Rattle.ckrt_trace.specs.Calls.{answers_of, arguments_of, barrier_name, cancellation_name, condition_name, key_name, mutex_name, name_of, process_name, rwlock_name, thread_name};
 
 use ckrt_calls::{
     BarrierCall, Call, CancellationCall, ConditionCall, KeyCall, MutexCall, ProcessCall,
@@ -24,6 +24,17 @@ pub enum Arguments {
     TwoWordsMoment,
     /// Three words, and a number.
     Creation,
+}
+
+/// How the answers of a call are told, from x10 on. A second one stands behind a first one of 0 alone.
+#[derive(Clone, Copy, Debug)]
+pub enum Answers {
+    One,
+    AndNumber,
+    /// The second may be an address: it is told in hexadecimal digits.
+    AndWord,
+    /// A moment of the clock, in two registers.
+    Moment,
 }
 
 fn process_name(call: ProcessCall) -> &'static [u8]
@@ -170,17 +181,20 @@ pub fn arguments_of(call: Call) -> Arguments
     }
 }
 
-/// Whether a call that answers 0 has a second answer, in x11.
-pub fn has_second(call: Option<Call>) -> bool
-    ensures { result ≡ has_second call }
+/// How its answers are told; a call that isn't in the table has one answer.
+pub fn answers_of(call: Option<Call>) -> Answers
+    ensures { result ≡ answers_of call }
 {
     match call {
-        Some(Call::Thread(ThreadCall::Create | ThreadCall::Join)) => true,
+        Some(Call::Process(ProcessCall::Clock)) => Answers::Moment,
+        Some(Call::Thread(ThreadCall::Create)) => Answers::AndNumber,
+        Some(Call::Thread(ThreadCall::Join)) => Answers::AndWord,
         Some(
             Call::Cancellation(CancellationCall::SetCancelState | CancellationCall::SetCancelType),
-        ) => true,
-        Some(Call::Key(KeyCall::Create | KeyCall::GetSpecific)) => true,
-        _ => false,
+        ) => Answers::AndNumber,
+        Some(Call::Key(KeyCall::Create)) => Answers::AndNumber,
+        Some(Call::Key(KeyCall::GetSpecific)) => Answers::AndWord,
+        _ => Answers::One,
     }
 }
 

@@ -5,9 +5,9 @@ ghost use Rattle.std.specs.Io.KnownBytes.{Appends};
 ghost use Rattle.ckrt_thread.specs.declared.records.Reason.TheVariants as reasons;
 ghost use Rattle.ckrt_inspect.specs.Texts.{hex_text, reason_text, retake_text};
 ghost use Rattle.ckrt_inspect.specs.Listing.{until_text};
-ghost use Rattle.ckrt_trace.specs.Calls.{arguments_text, call_text, call_text_of, listed, moment_text};
+ghost use Rattle.ckrt_trace.specs.Calls.{answers_text, arguments_text, call_text, call_text_of, listed, moment_text, with_second};
 
-use crate::names::{Arguments, arguments_of, name_of};
+use crate::names::{Answers, Arguments, arguments_of, name_of};
 use ckrt_calls::Call;
 use ckrt_registers::Regs;
 use ckrt_thread::{Reason, RetakeResult};
@@ -212,5 +212,45 @@ pub fn write_call<W: Write>(out: &mut W, call: Option<Call>, regs: &Regs) -> Res
     match call {
         Some(call) => write_known_call(out, call, regs),
         None => write_counted(out, b"call ", u64::from(regs.get(17))),
+    }
+}
+
+/// An answer, and a number behind it where it is 0.
+#[tactic(auto, using(crate::proofs::AppendLemmas::appends_both))]
+fn write_and_number<W: Write>(out: &mut W, answer: u32, number: u32) -> Result<()>
+    ensures { OnOk result
+        (Appends (W.contents out.old) (W.contents out.new)
+        (with_second answer (decimal number))) }
+{
+    write_number(out, u64::from(answer))?;
+    if answer == 0 {
+        return write_counted(out, b", ", u64::from(number));
+    }
+    Ok(())
+}
+
+/// An answer, and a word behind it where it is 0.
+#[tactic(auto, using(crate::proofs::AppendLemmas::appends_both))]
+fn write_and_word<W: Write>(out: &mut W, answer: u32, word: u32) -> Result<()>
+    ensures { OnOk result
+        (Appends (W.contents out.old) (W.contents out.new) (with_second answer (hex_text word))) }
+{
+    write_number(out, u64::from(answer))?;
+    if answer == 0 {
+        return write_at(out, b", ", word);
+    }
+    Ok(())
+}
+
+/// The answers that stand in registers.
+pub fn write_answers<W: Write>(out: &mut W, answers: Answers, regs: &Regs) -> Result<()>
+    ensures { OnOk result
+        (Appends (W.contents out.old) (W.contents out.new) (answers_text answers regs.now)) }
+{
+    match answers {
+        Answers::One => write_number(out, u64::from(regs.get(10))),
+        Answers::AndNumber => write_and_number(out, regs.get(10), regs.get(11)),
+        Answers::AndWord => write_and_word(out, regs.get(10), regs.get(11)),
+        Answers::Moment => write_moment(out, regs, 10, 11),
     }
 }

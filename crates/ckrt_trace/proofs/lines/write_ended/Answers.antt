@@ -2,7 +2,7 @@ use Rattle.std.proofs.Common.{[], ◌∷◌, ◌++◌, codes, rules}
 use Rattle.std.proofs.lemmas.Result.{on_ok_weaker}
 use Rattle.std.specs.Io.KnownBytes.{Appends}
 use Rattle.ckrt_inspect.specs.Texts.{reason_text}
-use Rattle.ckrt_trace.specs.Lines.{came_text, is_join, thread_text}
+use Rattle.ckrt_trace.specs.Lines.{answers_after, came_text, thread_text}
 use Rattle.ckrt_trace.proofs.AppendLemmas.{appends_both}
 use Rattle.ckrt_trace.proofs.lines.write_ended.Goals as goal
 
@@ -21,9 +21,9 @@ returns g c =
     let headed : Appends a b (thread_text c.args.place w.wait.thread) = search rules in
     let told : Appends b d (reason_text w.wait.reason) = search rules in
     let over : Appends d e (codes " is over") = search rules in
-    let came : Appends e f (came_text w.wait.thread w.pc (is_join w.wait.reason) s) = search rules in
+    let came : Appends e f (came_text w.wait.thread w.pc (answers_after w.wait.reason) s) = search rules in
     on_ok_weaker c.write_all-2.result (λ last.
-    appends_both a f z (thread_text c.args.place w.wait.thread ++ reason_text w.wait.reason ++ codes " is over" ++ came_text w.wait.thread w.pc (is_join w.wait.reason) s) (10 ∷ [])
-    (appends_both a e f (thread_text c.args.place w.wait.thread ++ reason_text w.wait.reason ++ codes " is over") (came_text w.wait.thread w.pc (is_join w.wait.reason) s)
+    appends_both a f z (thread_text c.args.place w.wait.thread ++ reason_text w.wait.reason ++ codes " is over" ++ came_text w.wait.thread w.pc (answers_after w.wait.reason) s) (10 ∷ [])
+    (appends_both a e f (thread_text c.args.place w.wait.thread ++ reason_text w.wait.reason ++ codes " is over") (came_text w.wait.thread w.pc (answers_after w.wait.reason) s)
     (appends_both a d e (thread_text c.args.place w.wait.thread ++ reason_text w.wait.reason) (codes " is over")
     (appends_both a b d (thread_text c.args.place w.wait.thread) (reason_text w.wait.reason) headed told) over) came) last) c.write_all-2.ensures.bytes
