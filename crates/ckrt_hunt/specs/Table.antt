@@ -2,7 +2,7 @@
 -- line with the command that repeats it. An outcome has the number of its row, from 1 on.
 --
 --     outcome 2: 3 of 200 runs, first by seed 17: deadlock, thread 2 waits for mutex 00002c58, thread 3 waits for mutex 00002c70
---         ckrt hunt race.bin --seeds 17-17 --pages 64 --harts 2 --steps 10000000 --keep seed-17
+--         ckrt hunt race.bin --seeds 17-17 --pages 64 --harts 2 --steps 10000000 --keep seed-17.disk
 use Rattle.std.specs.Prelude.{ℕ, zero, suc, ◌+◌, ◌-◌, ◌==◌, if◌then◌else◌, List, [], ◌∷◌, ◌++◌, length, take, slice_get, codes, decimal, Option, Some, None}
 use Rattle.std.specs.List.{flat_map}
 use Rattle.hex.specs.Hex.{encode_lower}
@@ -76,7 +76,7 @@ abbrev pub command_line : Asked → (seed : ℕ) → List ℕ
 command_line a seed =
     codes "    ckrt hunt " ++ a.image.now ++ seed_text seed ++ shape_text a.shape
     ++ (codes " --keep seed-" ++ decimal seed)
-    ++ 10 ∷ []
+    ++ codes ".disk\n"
 
 abbrev pub row_text : Asked → (number : ℕ) → Row → List ℕ
 row_text a number r = outcome_line a number r ++ command_line a r.first

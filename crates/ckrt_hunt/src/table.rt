@@ -91,7 +91,7 @@ fn write_command_line<W: Write>(out: &mut W, asked: &Asked<'_>, seed: u64) -> Re
     write_seed(out, seed)?;
     write_shape(out, &asked.shape)?;
     write_counted(out, b" --keep seed-", seed)?;
-    out.write_all(b"\n")
+    out.write_all(b".disk\n")
 }
 
 /// The two lines of an outcome.

@@ -20,10 +20,10 @@ returns g c =
     let image = c.args.asked.now.image.now in
     let seed = seed_text c.args.seed in
     let shape = shape_text c.args.asked.now.shape in
-    let folder = codes " --keep seed-" ++ decimal c.args.seed in
+    let name = codes " --keep seed-" ++ decimal c.args.seed in
     let second : Appends b d image = subst (λ text. Appends b d text) c.as_bytes.ensures.value c.in_ok-write_all-2.ensures.bytes in
     on_ok_weaker c.write_all-3.result (λ last.
-    appends_both a h z (program ++ image ++ seed ++ shape ++ folder) (10 ∷ [])
-    (appends_both a f h (program ++ image ++ seed ++ shape) folder
+    appends_both a h z (program ++ image ++ seed ++ shape ++ name) (codes ".disk\n")
+    (appends_both a f h (program ++ image ++ seed ++ shape) name
     (appends_both a e f (program ++ image ++ seed) shape
     (appends_both a d e (program ++ image) seed (appends_both a b d program image c.in_ok-write_all.ensures.bytes second) c.in_ok-write_seed.ensures) c.in_ok-write_shape.ensures) c.in_ok-write_counted.ensures) last) c.write_all-3.ensures.bytes

@@ -1,17 +1,10 @@
-//! Calls and comparisons that stop a test where what comes isn't what is wanted. A test that is a list of them is cheap
-//! to prove: what a call requires is tested here, and nothing that it ensures goes on into the test.
+//! Cores: what stands at an offset of one, and cores of machines that ran.
 
-use arrayvec::ArrayVec;
+use crate::expect::expect_eq;
 use ckrt_core::write_core;
 use ckrt_events::Event;
 use ckrt_machine::Machine;
-use std::fmt::Debug;
 use std::process::Abort;
-
-/// Two values of any kind.
-pub fn expect_eq<R: Abort, T: Debug + PartialEq + Drop>(rt: &R, got: T, want: T) {
-    assert_eq!(rt; got, want);
-}
 
 /// The bytes from an offset on.
 pub fn expect_part<R: Abort>(rt: &R, bytes: &[u8], at: usize, part: &[u8]) {
@@ -74,19 +67,6 @@ pub fn expect_note<R: Abort>(rt: &R, bytes: &[u8], at: usize, want: &Noted) {
 pub fn expect_zeros<R: Abort>(rt: &R, bytes: &[u8], at: usize) {
     let (_, rest) = bytes.split_at_checked(at).unwrap_or((&[], &[]));
     expect_eq(rt, rest.iter().all(|byte| *byte == 0), true);
-}
-
-/// A machine of 16 pages and two harts, whose program begins with these words.
-pub fn machine_of<R: Abort + AllocGlobal>(rt: &R, words: &[u32]) -> Machine {
-    let mut image: ArrayVec<u8, 256> = ArrayVec::new();
-    for word in words {
-        let taken = image.try_extend_from_slice(&word.to_le_bytes());
-        assert!(rt; taken.is_ok(), "an image of 64 words at most");
-    }
-    match Machine::new(rt.alloc(), 16, 2, image.as_slice()) {
-        Ok(machine) => machine,
-        Err(error) => panic!(rt; "{error}"),
-    }
 }
 
 /// An event.

@@ -1,9 +1,8 @@
-//! Hunts of small programs, and comparisons that stop a test where what comes isn't what is wanted.
+//! Hunts of small programs, and what their seeds come to.
 
-use arrayvec::ArrayVec;
+use crate::expect::{expect_eq, image_of};
 use ckrt_hunt::{Hunt, Outcome, Row, Shape, Tally, Waiting};
 use ckrt_rv32i::Cause;
-use std::fmt::Debug;
 use std::process::Abort;
 
 /// What each program is run with.
@@ -21,21 +20,6 @@ pub enum Wanted {
     Deadlock(&'static [Waiting]),
     WaitsForInput,
     NoEnd,
-}
-
-/// Two values of any kind.
-pub fn expect_eq<R: Abort, T: Debug + PartialEq + Drop>(rt: &R, got: T, want: T) {
-    assert_eq!(rt; got, want);
-}
-
-/// The bytes of a program's words, the lowest one first.
-pub fn image_of<R: Abort>(rt: &R, words: &[u32]) -> ArrayVec<u8, 256> {
-    let mut image: ArrayVec<u8, 256> = ArrayVec::new();
-    for word in words {
-        let taken = image.try_extend_from_slice(&word.to_le_bytes());
-        assert!(rt; taken.is_ok(), "an image of 64 words at most");
-    }
-    image
 }
 
 /// The hunt of a program that begins with these words.

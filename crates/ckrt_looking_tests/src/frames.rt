@@ -1,6 +1,7 @@
 //! Frames on the line.
 
-use crate::expect::{expect_arrivals, expect_eq, last_asked};
+use crate::expect::expect_eq;
+use crate::packets::{expect_arrivals, last_asked};
 use ckrt_packets::{Arrival, PAYLOAD_LIMIT, Receiver, Request};
 use std::process::Abort;
 

@@ -1,7 +1,8 @@
 //! Replies as they go over the line. Where gdb took them in a recorded session, their frames are those; the checksums of the others
 //! are worked out by hand.
 
-use crate::expect::{expect_eq, expect_reply, frame_size};
+use crate::expect::expect_eq;
+use crate::packets::{expect_reply, frame_size};
 use ckrt_packets::{Cause, Full, Reply};
 
 #[test]

@@ -1,29 +1,10 @@
 //! Guests with a schedule, and machines that go through it one step at a time.
 
-use arrayvec::ArrayVec;
+use crate::expect::{expect_eq, machine_of};
 use ckrt_events::Event;
 use ckrt_history::{History, Position};
 use ckrt_machine::Machine;
-use std::fmt::Debug;
 use std::process::Abort;
-
-/// Two values of any kind.
-pub fn expect_eq<R: Abort, T: Debug + PartialEq + Drop>(rt: &R, got: T, want: T) {
-    assert_eq!(rt; got, want);
-}
-
-/// A machine of 16 pages and two harts, whose program begins with these words.
-pub fn machine_of<R: Abort + AllocGlobal>(rt: &R, words: &[u32]) -> Machine {
-    let mut image: ArrayVec<u8, 512> = ArrayVec::new();
-    for word in words {
-        let taken = image.try_extend_from_slice(&word.to_le_bytes());
-        assert!(rt; taken.is_ok(), "an image of 128 words at most");
-    }
-    match Machine::new(rt.alloc(), 16, 2, image.as_slice()) {
-        Ok(machine) => machine,
-        Err(error) => panic!(rt; "{error}"),
-    }
-}
 
 /// The machine makes the event, if it is accepted, and the event is noted.
 fn add<R: Abort>(rt: &R, machine: &mut Machine, events: &mut Vec<Event>, event: Event) {

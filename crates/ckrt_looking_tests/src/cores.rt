@@ -1,10 +1,8 @@
 //! Cores byte by byte. What is wanted was written down from the System V gABI, the RISC-V ELF psABI and Linux's
 //! `struct elf_prstatus` of 32-bit RISC-V, and the registers from the guests' instructions.
 
-use crate::expect::{
-    Noted, core_of, expect_eq, expect_note, expect_part, expect_words, expect_zeros, machine_of,
-    run,
-};
+use crate::expect::{expect_eq, machine_of};
+use crate::notes::{Noted, core_of, expect_note, expect_part, expect_words, expect_zeros, run};
 use ckrt_core::write_core;
 use std::io::{self, ErrorKind, Write};
 

@@ -1,6 +1,7 @@
 //! Runs that are kept on disks in memory.
 
-use crate::expect::{SHAPE, expect_eq, image_of, tally_of};
+use crate::expect::{expect_eq, image_of};
+use crate::hunts::{SHAPE, tally_of};
 use crate::outcomes::RACES;
 use ckrt_disk::{Disk, MemoryDisk};
 use ckrt_drive::Ending;

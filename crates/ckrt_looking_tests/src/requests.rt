@@ -1,6 +1,6 @@
 //! What packets ask. The frames are those of recorded sessions of gdb, and some that no gdb sends.
 
-use crate::expect::{expect_asked, text};
+use crate::packets::{expect_asked, text};
 use ckrt_packets::{Choice, Mark, Motion, Request};
 
 #[test]

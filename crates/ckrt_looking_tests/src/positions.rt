@@ -1,6 +1,7 @@
 //! The state at a position, against a machine that makes one step at a time.
 
-use crate::plans::{expect_eq, expect_same, go_to, history_of, machine_of, plan};
+use crate::expect::{expect_eq, machine_of};
+use crate::plans::{expect_same, go_to, history_of, plan};
 use ckrt_events::Event;
 use ckrt_history::{History, Position};
 use ckrt_machine::Machine;

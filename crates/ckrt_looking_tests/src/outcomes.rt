@@ -1,6 +1,7 @@
 //! What programs come to under each schedule. The digests are those of `sha256sum`.
 
-use crate::expect::{Wanted, expect_eq, expect_outcome, tally_of};
+use crate::expect::expect_eq;
+use crate::hunts::{Wanted, expect_outcome, tally_of};
 use ckrt_hunt::{Awaited, Tally, Waiting};
 use ckrt_rv32i::Cause;
 use std::process::Abort;

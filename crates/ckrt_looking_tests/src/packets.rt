@@ -1,17 +1,11 @@
-//! Calls and comparisons that stop a test where what comes isn't what is wanted. A test that is a list of them is cheap
-//! to prove: what a call requires is tested here, and nothing that it ensures goes on into the test.
+//! Packets on a line, what they ask, and replies.
 
+use crate::expect::expect_eq;
 use arrayvec::ArrayVec;
 use ckrt_packets::{
     Arrival, Full, Payload, Receiver, Reply, Request, Text, parse_request, write_frame, write_reply,
 };
-use std::fmt::Debug;
 use std::process::Abort;
-
-/// Two values of any kind.
-pub fn expect_eq<R: Abort, T: Debug + PartialEq + Drop>(rt: &R, got: T, want: T) {
-    assert_eq!(rt; got, want);
-}
 
 /// What arrives with these bytes, in order.
 pub fn expect_arrivals<R: Abort>(rt: &R, line: &[u8], want: &[Arrival]) {

@@ -1,8 +1,14 @@
 //! Ranges of seeds, shapes, and tables of outcomes.
 
-use crate::expect::{SHAPE, expect_eq};
+ghost use Rattle.std.specs.Prelude.{◌≤◌, ◌<◌};
+
+use crate::expect::{expect_eq, image_of};
+use crate::hunts::SHAPE;
 use arrayvec::ArrayVec;
-use ckrt_hunt::{Asked, Awaited, Outcome, Seeds, Shape, Tally, Told, Waiting, write_table};
+use ckrt_hunt::{
+    Asked, Awaited, HuntFault, Outcome, Seeds, Shape, Tally, Told, Waiting, hunt_and_tell,
+    write_table,
+};
 use ckrt_rv32i::Cause;
 use std::process::Abort;
 
@@ -124,9 +130,8 @@ fn empty_tally<R: Abort + AllocGlobal>(rt: &R) -> Tally {
 fn tally_of_each<R: Abort + AllocGlobal>(rt: &R) -> Tally {
     let mut tally = empty_tally(rt);
     let mut waitings = ArrayVec::new();
-    for waiting in &WAITINGS {
-        waitings.push(*waiting);
-    }
+    let taken = waitings.try_extend_from_slice(&WAITINGS);
+    assert!(rt; taken.is_ok(), "64 waits at most");
     note(&mut tally, 1, Outcome::Exited(7), Some(OF_A));
     note(
         &mut tally,
@@ -141,36 +146,40 @@ fn tally_of_each<R: Abort + AllocGlobal>(rt: &R) -> Tally {
     tally
 }
 
-/// What is printed of a tally of 200 runs.
-fn table_of<R: Abort + AllocGlobal>(rt: &R, tally: &Tally) -> Vec<u8> {
-    let asked = Asked {
+/// A hunt of these seeds.
+fn asked_for(first: u64, last: u64) -> Asked<'static>
+    requires some { first ≤ last }
+    requires few { last < 1000 }
+{
+    Asked {
         image: "race.bin",
         shape: SHAPE,
-        seeds: Seeds {
-            first: 1,
-            last: 200,
-        },
-    };
+        seeds: Seeds { first, last },
+    }
+}
+
+/// What is printed of a tally of 200 runs.
+fn table_of<R: Abort + AllocGlobal>(rt: &R, tally: &Tally) -> Vec<u8> {
     let mut writer = Vec::new(rt.alloc());
-    let written = write_table(&mut writer, &asked, tally);
+    let written = write_table(&mut writer, &asked_for(1, 200), tally);
     assert!(rt; written.is_ok());
     writer
 }
 
 const TABLE: &[u8] = b"\
 outcome 1: 2 of 200 runs, first by seed 1: exit 7, output 559aead0
-    ckrt hunt race.bin --seeds 1-1 --pages 16 --harts 2 --steps 10000 --keep seed-1
+    ckrt hunt race.bin --seeds 1-1 --pages 16 --harts 2 --steps 10000 --keep seed-1.disk
 outcome 2: 1 of 200 runs, first by seed 2: fault of thread 2 at 00001234, LoadRange
-    ckrt hunt race.bin --seeds 2-2 --pages 16 --harts 2 --steps 10000 --keep seed-2
+    ckrt hunt race.bin --seeds 2-2 --pages 16 --harts 2 --steps 10000 --keep seed-2.disk
 outcome 3: 1 of 200 runs, first by seed 4: deadlock, thread 1 waits for the end of thread 2, \
 thread 2 waits for mutex 00002c58, thread 3 waits for condition 00000040, \
 thread 4 waits for barrier 0000fffc, thread 5 waits for read lock 10000000, \
 thread 6 waits for write lock fffffffc, thread 63 waits for input, thread 64 waits for its deadline
-    ckrt hunt race.bin --seeds 4-4 --pages 16 --harts 2 --steps 10000 --keep seed-4
+    ckrt hunt race.bin --seeds 4-4 --pages 16 --harts 2 --steps 10000 --keep seed-4.disk
 outcome 4: 1 of 200 runs, first by seed 5: waits for input
-    ckrt hunt race.bin --seeds 5-5 --pages 16 --harts 2 --steps 10000 --keep seed-5
+    ckrt hunt race.bin --seeds 5-5 --pages 16 --harts 2 --steps 10000 --keep seed-5.disk
 outcome 5: 1 of 200 runs, first by seed 6: no end within 10000 steps or events
-    ckrt hunt race.bin --seeds 6-6 --pages 16 --harts 2 --steps 10000 --keep seed-6
+    ckrt hunt race.bin --seeds 6-6 --pages 16 --harts 2 --steps 10000 --keep seed-6.disk
 ";
 
 #[test]
@@ -182,7 +191,7 @@ fn each_outcome_is_told(rt: HostRuntime) {
 }
 
 /// The end of a table with more outcomes than rows.
-const OTHERS: &[u8] = b" --seeds 64-64 --pages 16 --harts 2 --steps 10000 --keep seed-64
+const OTHERS: &[u8] = b" --seeds 64-64 --pages 16 --harts 2 --steps 10000 --keep seed-64.disk
 other outcomes: 2 of 200 runs
 ";
 
@@ -195,4 +204,42 @@ fn outcomes_without_a_row_are_told(rt: HostRuntime) {
     }
     let table = table_of(&rt, &tally);
     expect_eq(&rt, table.as_slice().ends_with(OTHERS), true);
+}
+
+/// Puts `A`, and exits with status 7.
+const PUTS: [u32; 6] = [
+    0x04100513, // addi x10, x0, 65
+    0x00200893, // addi x17, x0, 2
+    0x00000073, // ecall: putc
+    0x00700513, // addi x10, x0, 7
+    0x00100893, // addi x17, x0, 1
+    0x00000073, // ecall: exit
+];
+
+const ONE_OUTCOME: &[u8] = b"\
+outcome 1: 10 of 10 runs, first by seed 5: exit 7, output 559aead0
+    ckrt hunt race.bin --seeds 5-5 --pages 16 --harts 2 --steps 10000 --keep seed-5.disk
+";
+
+#[test]
+fn hunt_is_told(rt: HostRuntime) {
+    let mut writer = Vec::new(rt.alloc());
+    let image = image_of(&rt, &PUTS);
+    let asked = asked_for(5, 14);
+    let told = hunt_and_tell(rt.alloc(), image.as_slice(), &asked, &mut writer);
+    assert!(rt; told.is_ok());
+    expect_eq(&rt, writer.as_slice(), ONE_OUTCOME);
+}
+
+/// Why a hunt of so many zero bytes isn't told.
+fn fault_of<R: Abort + AllocGlobal>(rt: &R, size: usize) -> Option<HuntFault> {
+    let image = vec![in rt.alloc(); 0; size].expect(rt, "memory for an image");
+    let mut writer = Vec::new(rt.alloc());
+    hunt_and_tell(rt.alloc(), &image, &asked_for(1, 1), &mut writer).err()
+}
+
+#[test]
+fn image_has_to_fit(rt: HostRuntime) {
+    expect_eq(&rt, fault_of(&rt, 61_440), None);
+    expect_eq(&rt, fault_of(&rt, 61_441), Some(HuntFault::ImageTooLong));
 }

@@ -1,6 +1,7 @@
 //! Searches, against a look at each position.
 
-use crate::plans::{expect_eq, go_to, history_of};
+use crate::expect::expect_eq;
+use crate::plans::{go_to, history_of};
 use ckrt_history::{Breakpoint, History, Position, Stops, Watch};
 use ckrt_test_data::{BOUNDED, COUNTERS, PAIR};
 use std::process::Abort;
