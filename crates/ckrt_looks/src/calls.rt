@@ -2,7 +2,7 @@
 ghost use Rattle.std.specs.Prelude.{◌≡◌, ℕ, List, Option};
 ghost use Rattle.ckrt_words.specs.Jobs.{tracing_of};
 ghost use Rattle.ckrt_outcomes.specs.Outside.{outside};
-ghost use Rattle.ckrt_looks.specs.Tracing.{TracesOpened, TracesPath, answer_of, stretch_of};
+ghost use Rattle.ckrt_looks.specs.Tracing.{TracesOpened, TracesPath, TracesThere, answer_of, ends_before, stretch_of};
 
 use ckrt_disk::Disk;
 use ckrt_inspect::InspectFault;
@@ -29,6 +29,7 @@ fn answer_of(answer: Result<(), InspectFault>) -> Result<(), JobFault>
 {
     match answer {
         Ok(()) => Ok(()),
+        Err(InspectFault::Range) => Err(JobFault::Unrecorded),
         Err(fault) => Err(JobFault::Inspect(fault)),
     }
 }
@@ -52,13 +53,42 @@ fn trace_opened<'a, I: Read, D: Disk, S: Sources<'a, I, D>, W: Write>(
     answer_of(answer)
 }
 
+/// Tells the calls of the disk of a path.
+fn trace_there<'a, I: Read, D: Disk, S: Sources<'a, I, D>, W: Write>(
+    alloc: Global,
+    job: &CallsJob<'a>,
+    sources: &mut S,
+    writer: &mut W,
+) -> Result<(), JobFault>
+    ensures traces { (left : Option (List ℕ))
+        → TracesThere D.Disk (S.opens sources.old job.now.disk.now) (tracing_of job.now)
+        (outside (S.openings sources.old) (W.contents writer.old) left)
+        (outside (S.openings sources.new) (W.contents writer.new) left) result }
+{
+    match sources.look_at_disk(job.disk) {
+        Ok(disk) => trace_opened::<I, D, S, W>(alloc, disk, job, sources, writer),
+        Err(fault) => Err(JobFault::File(JobFile::Disk, fault)),
+    }
+}
+
+/// Whether a stretch would end before it begins.
+fn ends_before(from: Option<u64>, to: Option<u64>) -> bool
+    ensures { result ≡ ends_before from to }
+{
+    match (from, to) {
+        (Some(from), Some(to)) => to < from,
+        _ => false,
+    }
+}
+
 /// Tells the calls that the disk of a path has recorded, a line each: all, or those behind so many events and up to so many. The
 /// disk is only read.
 ///
 /// # Errors
 ///
-/// The first that applies: `File` of the disk; `Inspect`, where nothing is recovered from it, where it hasn't recorded so many
-/// events, or no longer has those, where the disk failed a read or memory was refused, or where the writer failed.
+/// The first that applies: `Range` where the stretch would end before it begins, before anything is opened; `File` of the disk;
+/// `Inspect`, where nothing is recovered from it, where the disk failed a read or memory was refused, or where the writer failed;
+/// `Unrecorded` where it hasn't recorded all of the stretch, or no longer has it.
 pub fn calls_path<'a, I: Read, D: Disk, S: Sources<'a, I, D>, W: Write>(
     alloc: Global,
     job: &CallsJob<'a>,
@@ -70,8 +100,8 @@ pub fn calls_path<'a, I: Read, D: Disk, S: Sources<'a, I, D>, W: Write>(
         (outside (S.openings sources.old) (W.contents writer.old) left)
         (outside (S.openings sources.new) (W.contents writer.new) left) result }
 {
-    match sources.look_at_disk(job.disk) {
-        Ok(disk) => trace_opened::<I, D, S, W>(alloc, disk, job, sources, writer),
-        Err(fault) => Err(JobFault::File(JobFile::Disk, fault)),
+    if ends_before(job.from, job.to) {
+        return Err(JobFault::Range);
     }
+    trace_there::<I, D, S, W>(alloc, job, sources, writer)
 }

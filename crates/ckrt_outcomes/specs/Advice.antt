@@ -55,6 +55,7 @@ file_of (job.OffsetDiffers taken) = Some file.Disk
 file_of (job.InputTooShort l) = Some file.Input
 file_of (job.OutputFailed why) = Some file.Output
 file_of (job.Drive f) = Some (file_of_drive f)
+file_of job.Unrecorded = Some file.Disk
 file_of job.RunTooLong = Some file.Making
 file_of _ = None
 
@@ -91,7 +92,7 @@ advice_of_look look.Damaged = advice_of_recover recover.Damaged
 advice_of_look look.Device = device_advice
 advice_of_look look.OutOfMemory = memory_advice
 advice_of_look look.Write = advice_of_serve serve.Write
-advice_of_look look.Range = codes "it has no state after so many events, no longer or not yet; leave out --at, --from or --to"
+advice_of_look look.Range = codes "it has no state after --at events, no longer or not yet; without --at it is that after the last one"
 
 abbrev pub advice_of_drive : DriveFault → List ℕ
 advice_of_drive drive.Device = device_advice
@@ -123,4 +124,5 @@ advice_of (job.OffsetDiffers taken) = codes "leave --input-from out"
 advice_of (job.InputTooShort l) = codes "give the file that it had before, whole"
 advice_of (job.OutputFailed why) = reason_text why
 advice_of (job.Drive f) = advice_of_drive f
+advice_of job.Unrecorded = codes "it hasn't recorded all events of --from and --to, no longer or not yet; without these it tells all that it has"
 advice_of job.RunTooLong = codes "it can't take the whole run, mostly since that has more events than a journal; give fewer --steps"

@@ -41,6 +41,8 @@ pub enum JobFault {
     OutputFailed(OutputReason),
     /// The drive ended early.
     Drive(DriveFault),
+    /// The disk hasn't recorded all of a stretch of events, or no longer has it.
+    Unrecorded,
     /// The disk that is made for a run of a hunt can't take all of its events.
     RunTooLong,
 }
@@ -114,7 +116,7 @@ fn inspection_advice(fault: InspectFault) -> &'static str
         InspectFault::OutOfMemory => FileFault::OutOfMemory.text(),
         InspectFault::Write => service_advice(ServeFault::Write),
         InspectFault::Range => {
-            "it has no state after so many events, no longer or not yet; leave out --at, --from or --to"
+            "it has no state after --at events, no longer or not yet; without --at it is that after the last one"
         }
     }
 }
@@ -181,6 +183,10 @@ const OFFSET_ADVICE: &str = "leave --input-from out";
 /// What is said of a file that is shorter than what was taken of it, behind the numbers.
 const SHORT_ADVICE: &str = "give the file that it had before, whole";
 
+/// What is said of a disk that hasn't recorded a stretch of events.
+const STRETCH_ADVICE: &str =
+    "it hasn't recorded all events of --from and --to, no longer or not yet; without these it tells all that it has";
+
 /// What is said of a disk that can't take a whole run.
 const RUN_ADVICE: &str =
     "it can't take the whole run, mostly since that has more events than a journal; give fewer --steps";
@@ -244,6 +250,7 @@ impl JobFault {
             JobFault::InputTooShort(_) => "InputTooShort",
             JobFault::OutputFailed(_) => "Output",
             JobFault::Drive(fault) => drive_name(fault),
+            JobFault::Unrecorded => "Range",
             JobFault::RunTooLong => "RunTooLong",
         }
     }
@@ -267,6 +274,7 @@ impl JobFault {
             JobFault::InputTooShort(_) => SHORT_ADVICE,
             JobFault::OutputFailed(why) => why.text(),
             JobFault::Drive(fault) => drive_advice(fault),
+            JobFault::Unrecorded => STRETCH_ADVICE,
             JobFault::RunTooLong => RUN_ADVICE,
         }
     }
@@ -294,9 +302,10 @@ impl JobFault {
                 | InspectFault::Device
                 | InspectFault::Range,
             ) => Some(JobFile::Disk),
-            JobFault::SizesDiffer(_) | JobFault::NotRecorded | JobFault::OffsetDiffers(_) => {
-                Some(JobFile::Disk)
-            }
+            JobFault::SizesDiffer(_)
+            | JobFault::NotRecorded
+            | JobFault::OffsetDiffers(_)
+            | JobFault::Unrecorded => Some(JobFile::Disk),
             JobFault::OutputDiffers(_) | JobFault::OutputFailed(_) => Some(JobFile::Output),
             JobFault::InputTooShort(_) => Some(JobFile::Input),
             JobFault::Drive(fault) => Some(drive_file(fault)),

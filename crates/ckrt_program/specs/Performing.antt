@@ -39,9 +39,13 @@ use Rattle.ckrt_jobs.specs.declared.running.Unserved.{Unserved}
 abbrev pub config_of : Formatting → Config
 config_of f = record { pages = f.pages; harts = f.harts; journal = f.journal }
 
+-- the bytes that it needs
+abbrev pub size_of : Formatting → ℕ
+size_of f = size_needed (config_of f)
+
 -- the line for a disk that was made as the words ask
 abbrev pub made_line : Formatting → List ℕ
-made_line f = formatted_line (size_needed (config_of f))
+made_line f = formatted_line (size_of f)
 
 -- the stored program: it prints the letter A, and exits with 0
 abbrev pub IMAGE : List ℕ
@@ -198,7 +202,7 @@ abbrev pub making_in : {D W : Type 0} {d : Ghosts D} → Reach d W → Formattin
 making_in it f = record {
   asked = f;
   known = it.images f.image;
-  Fills = it.Fills f.disk (size_needed (config_of f));
+  Fills = it.Fills f.disk (size_of f);
 }
 
 -- for a hunt

@@ -2,11 +2,10 @@
 ghost use Rattle.std.specs.Prelude.{◌≡◌, ◌≢◌, ◌≤◌, [], List, Option, ℕ, Some, map, true};
 ghost use Rattle.std.specs.Io.KnownBytes.{Appends};
 ghost use Rattle.clap.specs.Words.{takes};
-ghost use Rattle.ckrt_checkpoint.specs.Layout.{size_needed};
 ghost use Rattle.ckrt_words.specs.Commands.{ckrt_app};
 ghost use Rattle.ckrt_words.specs.Jobs.{Formatting, Request, format, version, formatting_of, inspection_of, request_of, request_of_words};
 ghost use Rattle.ckrt_sources.specs.Files.{openings_of};
-ghost use Rattle.ckrt_program.specs.Performing.{config_of, made_line, MakesPath, Performs, RunsOpened, RunsPath, RunsWords, ServesStored, ShowsOpened, ShowsPath, any_files, outcome_of_hunt, outcome_with_end, outcome_without_end};
+ghost use Rattle.ckrt_program.specs.Performing.{made_line, MakesPath, Performs, RunsOpened, RunsPath, RunsWords, ServesStored, ShowsOpened, ShowsPath, any_files, outcome_of_hunt, outcome_with_end, outcome_without_end, size_of};
 ghost use Rattle.ckrt_outcomes.specs.Outside.{outside};
 ghost use Rattle.ckrt_reports.specs.Lines.{version_line};
 
@@ -37,7 +36,7 @@ fn make<'a, I: Read + Drop, D: Disk, S: Sources<'a, I, D>, W: Write>(
         → MakesPath D.Disk (record {
           asked = formatting_of job.now;
           known = S.image_bytes sources.old job.now.image.now;
-          Fills = S.fills sources.old job.now.disk.now (size_needed (config_of (formatting_of job.now)));
+          Fills = S.fills sources.old job.now.disk.now (size_of (formatting_of job.now));
         })
         (outside (S.openings sources.old) (W.contents writer.old) left)
         (outside (S.openings sources.new) (W.contents writer.new) left) result }

@@ -273,7 +273,12 @@ fn hunt_arguments<'a>(alloc: Global) -> Result<Vec<Arg<'a>>, AllocError>
             "1-200",
             "The first and the last seed, each with a schedule of its own"
         ),
-        number(alloc, "pages", "64", "Pages of guest memory, 16 to 1024"),
+        number(
+            alloc,
+            "pages",
+            "64",
+            "Pages of the memory of each run, 16 to 1024"
+        ),
         number(alloc, "harts", "1", "Harts, 1 to 8"),
         number(
             alloc,

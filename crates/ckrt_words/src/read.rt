@@ -122,7 +122,7 @@ fn is_version(words: &[&str]) -> bool
 /// The job that the words after the program's name ask for: [`Job::Stored`] where there are none, [`Job::Version`] where
 /// they are `--version` alone, else what `clap` makes of them. An option of `format` that isn't given has 64 pages, 1 hart
 /// and a journal of 65,536 bytes; one that is given has to be a number below 2^32. `inspect` shows the disk after the last
-/// event where `--at` isn't given, which has to be a number below 2^64, and so does `core`. `calls` begins at the first event and ends at
+/// event where `--at` isn't given, which has to be a number below 2^64, and so does `core`. `calls` begins at the first one that the disk still has, and ends at
 /// the last one where its numbers aren't given, which have to be below 2^64 too.
 ///
 /// `hunt` has seeds 1-200, 64 pages, 1 hart, runs of at most 10,000,000 steps and no disk where these aren't given; the numbers that are have to

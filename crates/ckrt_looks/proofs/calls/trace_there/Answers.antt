@@ -1,6 +1,6 @@
 use Rattle.std.proofs.Common.{◌≡◌, sym, subst, inr}
 use Rattle.ckrt_sources.specs.Openings.{with_closed}
-use Rattle.ckrt_looks.proofs.calls.calls_path.Goals as goal
+use Rattle.ckrt_looks.proofs.calls.trace_there.Goals as goal
 
 -- the disk whose calls were told is the one that was opened
 pub returns-in-Ok : goal.returns-in-Ok
