@@ -1,23 +1,38 @@
 -- What a disk has of a run that a session kept over it.
-use Rattle.std.proofs.Common.{◌≡◌, ◌⊎◌, ◌∙◌, ℕ, Bool, true, false, inl, inr, List, [], length, take, Result, Ok, ap, subst, refl, arith}
+use Rattle.std.proofs.Common.{◌≡◌, ◌≤◌, ◌⊎◌, ◌∙◌, ℕ, Bool, true, false, inl, inr, List, [], length, take, Result, Ok, Err, ap, subst, sym, refl, arith}
+use Rattle.std.proofs.lemmas.Bool.Decides.{nat_tests}
 use Rattle.std.proofs.lemmas.List.{take_all}
+use Rattle.ckrt_disk.specs.Disk.{HasFailed}
 use Rattle.ckrt_disk.specs.Frame.{IsSameDisk, MayBeLeft}
 use Rattle.ckrt_disk.specs.declared.disk.Disk.{Ghosts}
 use Rattle.ckrt_events.specs.declared.event.Event.{Event}
+use Rattle.ckrt_machine.specs.Events.{fold, output_of}
 use Rattle.ckrt_machine.specs.Steps.{State}
+use Rattle.ckrt_image.specs.declared.fault.RecoverFault.TheVariants as recover
+use Rattle.ckrt_image.specs.Format.{IsRefusedBy, format_refusal}
+use Rattle.ckrt_image.specs.Reads.{is_device}
 use Rattle.ckrt_image.specs.declared.fault.RecoverFault.{RecoverFault}
-use Rattle.ckrt_image.specs.Programs.{Program, RecoversTo, RecoversToStart, formatted, start_of}
+use Rattle.ckrt_image.specs.Programs.{Program, RecoversTo, RecoversToStart, formatted, start_of, state_after}
 use Rattle.ckrt_image.specs.Progress.{recovered_of}
-use Rattle.ckrt_image.specs.Recovery.{Recovered, Recovers}
+use Rattle.ckrt_image.specs.Recovery.{AgreesOnFault, Recovered, Recovers}
 use Rattle.ckrt_image.proofs.RecoverLemmas.{recovers_once}
 use Rattle.ckrt_recovery.specs.declared.session.Session.{Session}
+use Rattle.ckrt_recovery.specs.Opening.{IsSyncedAndRead}
+use Rattle.ckrt_recovery.specs.View.{View, opened, view_of}
 use Rattle.ckrt_recovery.specs.Represents.{Represents, RepresentsDisk, acknowledged_of}
 use Rattle.ckrt_commands.specs.Accepts.{Accepts}
 use Rattle.ckrt_drive.specs.declared.progress.Ending.{Ending}
 use Rattle.ckrt_hunt.specs.declared.plan.Plan.{Plan}
+use Rattle.ckrt_hunt.specs.declared.disks.SeedFault.{SeedFault}
+use Rattle.ckrt_hunt.specs.declared.disks.SeedFault.TheVariants as fault
+use Rattle.ckrt_hunt.specs.declared.keeping.KeepFault.{KeepFault}
+use Rattle.ckrt_hunt.specs.declared.keeping.KeepFault.TheVariants as keep
+use Rattle.ckrt_hunt.specs.declared.runs.Told.{Told}
 use Rattle.ckrt_hunt.specs.Kept.{KeepsRun}
-use Rattle.ckrt_hunt.specs.KeptDisks.{HasRun}
-use Rattle.ckrt_hunt.specs.Runs.{AreScheduled, beginning, behind, next_at}
+use Rattle.ckrt_hunt.specs.KeptDisks.{FailedIfDevice, HasRun, IsCutShort, IsFailure, IsOverReason, IsReason, IsToldOf}
+use Rattle.ckrt_hunt.specs.Outcomes.{digest_of, outcome_of}
+use Rattle.ckrt_hunt.specs.Runs.{AreScheduled, ComesTo, beginning, behind, next_at}
+use Rattle.ckrt_hunt.proofs.RunLemmas.{same_events}
 use Rattle.ckrt_drive.specs.declared.plan.Next.TheVariants.{End}
 
 begins : (program : Program) (image : List ℕ) → RecoversToStart program image → RecoversTo program [] 0 image
@@ -67,6 +82,74 @@ module _ {D : Type 0} {g : Ghosts D} where
         left = λ image may. (last.progress.confirmed, left_all program kept.events last all kept.saved last.failed refl image may);
       }
 
+  -- a session over a formatted disk stands where its program begins
+  begins_with : (program : Program) (disk : D) (first : Session D g) → RecoversToStart program (g.content disk) → Recovers (g.content disk) (Ok (recovered_of first.progress)) → recovered_of first.progress ≡ formatted program
+  begins_with program disk first start answers = same_recovered _ _ (recovers_once (g.content disk) (Ok (recovered_of first.progress)) (Ok (formatted program)) answers start)
+
+  -- a run that a session doesn't keep whole
+  pub cut_short : (program : Program) (p : Plan) (disk : D) (first last : Session D g) (why : KeepFault) → (g.is_honest disk → RecoversToStart program (g.content disk)) → IsSyncedAndRead g disk first.disk false
+      → (g.is_honest first.disk → Recovers (g.content disk) (Ok (recovered_of first.progress))) → RepresentsDisk disk first → view_of first ≡ opened (recovered_of first.progress) → KeepsRun p first last (Err why) → g.is_honest last.disk
+      → IsCutShort g program p last.disk why × FailedIfDevice (g.failures disk) (g.failures last.disk) why
+  cut_short program p disk first last why starts read answers represents begun kept honest =
+      let was = kept.accepts.honest honest in
+      let start = starts (read.same.honest was) in
+      let is : recovered_of first.progress ≡ formatted program = begins_with program disk first start (answers was) in (
+        record {
+          first = first;
+          last = last;
+          begun = begun ∙ ap opened is;
+          represents = represents was program [] 0 (begins program (g.content disk) start);
+          keeps = kept;
+          its_disk = refl;
+        },
+        failed why kept,
+      )
+    where
+      either : (first.failed ≡ true) ⊎ HasFailed (g.failures first.disk) (g.failures last.disk) → HasFailed (g.failures disk) (g.failures last.disk)
+      either (inl f) = let no : true ≡ false = sym f ∙ ap (λ (v : View). v.failed) begun in absurd (cc)
+      either (inr h) = subst (λ n. HasFailed n (g.failures last.disk)) (read.well refl) h
+
+      failed : (w : KeepFault) → KeepsRun p first last (Err w) → FailedIfDevice (g.failures disk) (g.failures last.disk) w
+      failed keep.Device k = either (k.accepts.failed k.err)
+      failed (keep.Refused f) k = tt
+
+  -- why a session over a formatted disk doesn't have a run whole
+  pub over_reason : (program : Program) (p : Plan) (disk : D) (first last : Session D g) (f : SeedFault) → 1 ≤ (start_of program).tables.threads.hart_count → (g.is_honest disk → RecoversToStart program (g.content disk)) → IsSyncedAndRead g disk first.disk false
+      → (g.is_honest first.disk → Recovers (g.content disk) (Ok (recovered_of first.progress))) → RepresentsDisk disk first → view_of first ≡ opened (recovered_of first.progress) → (g.is_honest last.disk → g.is_honest first.disk) → IsOverReason p first last f → g.is_honest last.disk
+      → IsReason g program p disk last.disk f
+  over_reason program p disk first last (fault.Format f) harts starts read answers represents begun back why honest = tt
+  over_reason program p disk first last (fault.Recover f) harts starts read answers represents begun back why honest =
+      let was = back honest in
+      let is : recovered_of first.progress ≡ formatted program = begins_with program disk first (starts (read.same.honest was)) (answers was) in
+      let same : first.progress.machine.state.tables.threads.hart_count ≡ (start_of program).tables.threads.hart_count = ap (λ (r : Recovered). r.state.tables.threads.hart_count) is in
+      absurd (omega (arith, harts, why, same))
+  over_reason program p disk first last (fault.Keep f) harts starts read answers represents begun back why honest = cut_short program p disk first last f starts read answers represents begun why honest
+
+  -- why a formatted disk isn't recovered
+  pub unrecovered : (program : Program) (before now : D) (f : RecoverFault) → (g.is_honest before → RecoversToStart program (g.content before)) → IsSyncedAndRead g before now (is_device {X = Unit {0}} (Err f)) → (g.is_honest now → AgreesOnFault f (Recovers (g.content before))) → g.is_honest now
+      → IsFailure (g.failures before) (g.failures now) f
+  unrecovered program before now recover.NotFormatted starts read agrees honest = let no = recovers_once (g.content before) (Err recover.NotFormatted) (Ok (formatted program)) (agrees honest) (starts (read.same.honest honest)) in absurd (cc)
+  unrecovered program before now recover.Version starts read agrees honest = let no = recovers_once (g.content before) (Err recover.Version) (Ok (formatted program)) (agrees honest) (starts (read.same.honest honest)) in absurd (cc)
+  unrecovered program before now recover.Damaged starts read agrees honest = let no = recovers_once (g.content before) (Err recover.Damaged) (Ok (formatted program)) (agrees honest) (starts (read.same.honest honest)) in absurd (cc)
+  unrecovered program before now recover.Device starts read agrees honest = read.fault refl
+  unrecovered program before now recover.OutOfMemory starts read agrees honest = tt
+
+  -- what is told of a run is what a disk with the run has
+  pub is_told : (program : Program) (p : Plan) (disk : D) (ending : Ending) (told : Told) → (has : HasRun g program p disk ending) → ComesTo p (start_of program) told → IsToldOf has told
+  is_told program p disk ending told has c =
+      let start = start_of program in
+      let es : c.events ≡ has.events = same_events p c.events has.events (beginning start) c.ending ending c.scheduled c.ended has.scheduled has.ended in
+      let ends : End c.ending ≡ End ending = sym c.ended ∙ ap (λ (es : List Event). next_at p (behind p es (beginning start))) es ∙ has.ended in
+      let same : c.ending ≡ ending = cc in
+      let outcome : told.outcome ≡ outcome_of ending (state_after program has.events).tables = c.outcome ∙ ap (λ (es : List Event). outcome_of c.ending (fold es start).state.tables) es ∙ ap (λ (e : Ending). outcome_of e (state_after program has.events).tables) same in
+      record {
+        outcome = outcome;
+        digest = c.digest ∙ ap (λ (es : List Event). digest_of told.outcome (output_of es start)) es;
+        recovered = λ image may r recovers. (let to = (has.left image may).1 in
+            let is : r ≡ to.recovered = same_recovered r to.recovered (recovers_once image (Ok r) (Ok to.recovered) recovers to.recovers) in
+            outcome ∙ ap (λ (s : State). outcome_of ending s.tables) (sym (ap (λ (r : Recovered). r.state) is ∙ to.has_events.state)));
+      }
+
   -- what the calls of a session change of its disk
   pub same_by : (events : List Event) (disk : D) (first last : Session D g) → IsSameDisk g disk first.disk → Accepts events first last → IsSameDisk g disk last.disk
   same_by events disk first last same accepts = record {
@@ -82,3 +165,13 @@ same_through g a b c p q = record {
   size = q.size ∙ p.size;
   named_stop = q.named_stop ∙ p.named_stop;
 }
+
+-- a program that was formatted has a hart
+pub some_harts : (size : ℕ) (program : Program) → IsRefusedBy {X = Unit {0}} (format_refusal size program.config program.image) (Ok tt) → 1 ≤ program.config.harts
+some_harts size program made = grind (arith, nat_tests, made)
+
+-- a reason, from a disk on that had failed as often
+pub reason_since : {D : Type 0} (g : Ghosts D) (program : Program) (p : Plan) (before mid now : D) (f : SeedFault) → g.failures mid ≡ g.failures before → IsReason g program p mid now f → IsReason g program p before now f
+reason_since g program p before mid now (fault.Format f) same r = tt
+reason_since g program p before mid now (fault.Recover f) same r = subst (λ n. IsFailure n (g.failures now) f) same r
+reason_since g program p before mid now (fault.Keep f) same r = (r.0, subst (λ n. FailedIfDevice n (g.failures now) f) same r.1)

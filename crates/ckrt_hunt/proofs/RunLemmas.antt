@@ -75,7 +75,7 @@ module _ (p : Plan) where
       }
 
   -- a run has one list of events
-  same_events : (es fs : List Event) (x : Point) (a b : Ending) → AreScheduled p es x → next_at p (behind p es x) ≡ End a → AreScheduled p fs x → next_at p (behind p fs x) ≡ End b → es ≡ fs
+  pub same_events : (es fs : List Event) (x : Point) (a b : Ending) → AreScheduled p es x → next_at p (behind p es x) ≡ End a → AreScheduled p fs x → next_at p (behind p fs x) ≡ End b → es ≡ fs
   same_events [] [] x a b s n t m = refl
   same_events [] (f ∷ fs) x a b s n t m = let h = t.0 in cc
   same_events (e ∷ es) [] x a b s n t m = let h = s.0 in cc

@@ -5,7 +5,8 @@
 -- 4, for d - 1 change points, and k is one of 10, 100, .., 1,000,000: an odd seed has each of these 24 pairs with the same probability. n is how many
 -- threads the program makes. A scheduler that looks at the priorities before each step finds a bug of depth d, in a run of at most k steps, with a
 -- probability of at least 1 / (n k^(d-1)). This one looks at them before each turn: so that is its bound only as far as no thread of a higher
--- priority is woken within a turn, the clock doesn't matter, and the lots are true ones.
+-- priority is woken within a turn, the clock doesn't matter, the lots are true ones, and no thread is lowered at two change points. Such a thread
+-- keeps the point of the lower number, where the algorithm has the one that was reached last.
 use Rattle.std.specs.Prelude.{ℕ, ◌+◌, ◌%◌, ◌==◌, nat_le, nat_lt, Bool, true, false, if◌then◌else◌, Option, Some, None}
 use Rattle.ckrt_machine.specs.declared.event.Answer.{Answer}
 use Rattle.ckrt_machine.specs.declared.event.Answer.TheVariants.{Placed, Ran, Taken, Closed, Ticked}

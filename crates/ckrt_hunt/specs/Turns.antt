@@ -33,7 +33,7 @@ abbrev pub is_at : Option ℕ → ℕ → Bool
 is_at None t = false
 is_at (Some u) t = u == t
 
--- its priority: who was lowered is below all others, and by which change point it was decides
+-- its priority: who was lowered is below all who weren't, by the change point of the lowest number where it was
 abbrev pub priority_of : (seed : ℕ) → Lowered → ℕ → ℕ
 priority_of seed l t =
     if is_at l.first t then 0

@@ -1,12 +1,12 @@
 //! The run of a seed on a disk of its own.
-ghost use Rattle.std.specs.Prelude.{◌≡◌, List, IfErr, IfOk, Ok};
+ghost use Rattle.std.specs.Prelude.{◌≡◌, ◌≤◌, List, IfErr, IfOk, Ok};
 ghost use Rattle.ckrt_events.specs.declared.event.Event.{Event};
 ghost use Rattle.ckrt_commands.specs.Accepts.{Accepts};
 ghost use Rattle.ckrt_hunt.specs.Kept.{KeepsRun};
 ghost use Rattle.ckrt_disk.specs.Frame.{IsSameDisk};
 ghost use Rattle.ckrt_image.specs.Format.{format_refusal};
-ghost use Rattle.ckrt_image.specs.Programs.{Program, RecoversToStart, formatted_program};
-ghost use Rattle.ckrt_hunt.specs.KeptDisks.{IsNoRefusal, IsRefusedAsFormat, KeepsSeed};
+ghost use Rattle.ckrt_image.specs.Programs.{Program, RecoversToStart, formatted_program, start_of};
+ghost use Rattle.ckrt_hunt.specs.KeptDisks.{HasReason, IsNoRefusal, IsOverReason, IsRefusedAsFormat, KeepsSeed};
 
 use crate::keeping::{KeepFault, keep};
 use crate::plan::Plan;
@@ -41,6 +41,7 @@ pub struct KeptDisk<D: Disk> {
 fn keep_over<D: Disk>(session: &mut Session<D>, plan: &Plan) -> Result<Ending, SeedFault>
     ensures kept { IfOk result (λ ending. KeepsRun plan.now session.old session.new (Ok ending)) }
     ensures took { (events : List Event) × Accepts events session.old session.new }
+    ensures why { IfErr result (IsOverReason plan.now session.old session.new) }
     ensures refused { IfErr result IsNoRefusal }
 {
     if session.machine().tables().threads.hart_count() == 0 {
@@ -57,6 +58,10 @@ fn keep_recovered<D: Disk>(alloc: Global, disk: D, plan: &Plan) -> KeptDisk<D>
     ensures kept { (program : Program)
         → (D.is_honest disk → RecoversToStart program (D.content disk))
         → KeepsSeed D.Disk program plan.now result }
+    ensures why { (program : Program)
+        → 1 ≤ (start_of program).tables.threads.hart_count
+        → (D.is_honest disk → RecoversToStart program (D.content disk))
+        → HasReason D.Disk program plan.now disk result }
     ensures same { IsSameDisk D.Disk disk result.disk }
     ensures refused { IfErr result.result IsNoRefusal }
 {
@@ -79,8 +84,9 @@ fn keep_recovered<D: Disk>(alloc: Global, disk: D, plan: &Plan) -> KeptDisk<D>
 /// Formats a disk with an image, and keeps the run of a plan on it, whole from its first event. The disk comes back,
 /// whatever the answer.
 ///
-/// `Format` where it can't be formatted so; `Keep` of `JournalFull` where the run has more events than the journal of the
-/// configuration has room for. All memory is taken before the run begins.
+/// `Format` where it can't be formatted so; `Keep` of the session's refusal of the next event, as `JournalFull` where the
+/// run has more events than the journal of the configuration has room for, or where the disk fails. On an honest disk
+/// `Recover` comes only where the disk fails, or memory is short. All memory is taken before the run begins.
 pub fn keep_seed<D: Disk>(
     alloc: Global,
     disk: D,
@@ -89,6 +95,7 @@ pub fn keep_seed<D: Disk>(
     plan: &Plan,
 ) -> KeptDisk<D>
     ensures kept { KeepsSeed D.Disk (formatted_program config image.now) plan.now result }
+    ensures why { HasReason D.Disk (formatted_program config image.now) plan.now disk result }
     ensures refused { IsRefusedAsFormat (format_refusal (D.size disk) config image.now)
         result.result }
     ensures same { IsSameDisk D.Disk disk result.disk }

@@ -1,12 +1,26 @@
-//! That what is told of a seed is what it does again. The law is the contract of a function with an empty body.
+//! That what is told of a seed is what it does again, in memory or on a disk. Each law is the contract of a function with an
+//! empty body.
 ghost use Rattle.std.specs.Prelude.{◌≡◌};
 ghost use Rattle.ckrt_machine.specs.Steps.{State};
 ghost use Rattle.ckrt_hunt.specs.declared.plan.Plan.{Plan};
 ghost use Rattle.ckrt_hunt.specs.declared.runs.Told.{Told};
+ghost use Rattle.ckrt_drive.specs.declared.progress.Ending.{Ending};
+ghost use Rattle.ckrt_image.specs.Programs.{Program, start_of};
+ghost use Rattle.ckrt_hunt.specs.KeptDisks.{HasRun, IsToldOf};
 ghost use Rattle.ckrt_hunt.specs.Runs.{ComesTo};
+
+use ckrt_disk::Disk;
 
 /// A plan and a state have one run, and it comes to one outcome: so a seed repeats.
 pub fn seed_repeats()
     ensures { (p : Plan) (start : State) (first second : Told) → ComesTo p start first
         → ComesTo p start second → first ≡ second }
+{}
+
+/// What is told of a run, and what a disk has that the run was kept on, are one thing: whatever a stop leaves of the disk
+/// recovers to the outcome that was told.
+pub fn told_is_kept<D: Disk>()
+    ensures { (program : Program) (p : Plan) (disk : D) (ending : Ending) (told : Told)
+        → (has : HasRun D.Disk program p disk ending)
+        → ComesTo p (start_of program) told → IsToldOf has told }
 {}

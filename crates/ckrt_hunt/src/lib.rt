@@ -24,7 +24,7 @@ mod turn;
 pub use disks::{KeptDisk, SeedFault, keep_seed};
 pub use hunt::Hunt;
 pub use keeping::{KeepFault, keep};
-pub use laws::seed_repeats;
+pub use laws::{seed_repeats, told_is_kept};
 pub use made::{Lowered, Made};
 pub use outcome::{Awaited, Outcome, Waiting};
 pub use plan::Plan;
