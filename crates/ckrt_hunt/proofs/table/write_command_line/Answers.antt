@@ -1,4 +1,4 @@
-use Rattle.std.proofs.Common.{◌++◌, ◌∷◌, [], codes, decimal, subst}
+use Rattle.std.proofs.Common.{◌++◌, codes, decimal, subst}
 use Rattle.std.proofs.lemmas.Result.{on_ok_weaker}
 use Rattle.std.specs.Io.KnownBytes.{Appends}
 use Rattle.ckrt_hunt.specs.Table.{seed_text, shape_text}
