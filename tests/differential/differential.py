@@ -82,12 +82,20 @@ def difference_of_listing(ckrt, path, disk, at=None, is_with_code=False):
     return None if path.read_bytes() == disk else "inspect changed the disk's bytes"
 
 
+TURNED = Life(1, b"", b"ckrt: Range\n")
+
+
 def calls_of_model(history, stretch):
     """What `calls` shows of a disk that recovers, as a life."""
     try:
         return Life(0, "".join(line + "\n" for line in history.lines(*stretch)).encode(), b"")
     except OutOfRange as fault:
         return Life(1, b"", f"ckrt: {fault}\n".encode())
+
+
+def is_turned(first, last):
+    """Whether a stretch would end before it begins: such words are refused before the disk is opened."""
+    return first is not None and last is not None and last < first
 
 
 def calls_of_program(ckrt, path, stretch):
@@ -104,7 +112,8 @@ def difference_of_histories(ckrt, case, path, tally):
     except Unrecovered as unrecovered:
         history, fault = None, Life(1, b"", f"ckrt: {unrecovered}\n".encode())
     for stretch in case.stretches:
-        expected, shown = fault or calls_of_model(history, stretch), calls_of_program(ckrt, path, stretch)
+        expected = (TURNED if is_turned(*stretch) else fault) or calls_of_model(history, stretch)
+        shown = calls_of_program(ckrt, path, stretch)
         tally["calls", expected.errors.decode().strip().removeprefix("ckrt: ") or "shown"] += 1
         tally.update(("line of calls", kind_of_line(line)) for line in expected.replies.decode().splitlines())
         if shown != expected:
@@ -185,6 +194,8 @@ def expected_of_words(case, contents, image):
     if case.command == "format":
         fault = case.fault_of_format(image)
         return (1, b"", fault) if fault else (0, b"formatted %d\n" % case.geometry().size, None)
+    if case.command == "calls" and is_turned(case.options["from"], case.options["to"]):
+        return 1, b"", "Range"
     if case.files != ("disk",):
         return 1, b"", "File"
     if case.command == "run":
