@@ -17,7 +17,7 @@ use Rattle.clap.specs.declared.builder.value_parser.ValueParser.TheVariants as v
 use Rattle.clap.proofs.CallerReads.{signed_reads}
 use Rattle.clap.proofs.ValueTestLemmas.{accepts-Accepts}
 use Rattle.ckrt_words.specs.Commands.{ckrt_app}
-use Rattle.ckrt_words.specs.Jobs.{Request, calls, core, drive, flag_in, format, hunt, inspect, run, number_in, number_of, place_in, request_in, sizes_in}
+use Rattle.ckrt_words.specs.Jobs.{DiskStretch, Request, calls, core, debug, disk_stretch_in, drive, flag_in, format, hunt, inspect, run, number_in, number_of, place_in, request_in, sizes_in}
 use Rattle.clap.proofs.WalkLemmas.{both}
 use Rattle.ckrt_words.proofs.MatchLemmas.{AreRows, AreRules, defaults_give, given_found, has_command, has_required, level_kept, level_valid, row_found, taken_levels, value_there}
 use Rattle.ckrt_words.proofs.NumberLemmas.{number_reads}
@@ -44,8 +44,11 @@ core_shape = unwrap_or (slice_get built_app.subs 4) built_app.top
 abbrev calls_shape : Shape
 calls_shape = unwrap_or (slice_get built_app.subs 5) built_app.top
 
+abbrev debug_shape : Shape
+debug_shape = unwrap_or (slice_get built_app.subs 6) built_app.top
+
 abbrev hunt_shape : Shape
-hunt_shape = unwrap_or (slice_get built_app.subs 6) built_app.top
+hunt_shape = unwrap_or (slice_get built_app.subs 7) built_app.top
 
 format_rules : AreRules format_shape refl format_shape.rules
 format_rules = ((refl, inl (refl, refl)), ((refl, inl (refl, refl)), ((refl, inl (refl, refl)), ((refl, inl (refl, refl)), ((refl, inl (refl, refl)), ((refl, inr (inl refl)), tt))))))
@@ -64,6 +67,9 @@ core_rules = ((refl, inl (refl, refl)), ((refl, inl (refl, refl)), ((refl, inl (
 
 calls_rules : AreRules calls_shape refl calls_shape.rules
 calls_rules = ((refl, inl (refl, refl)), ((refl, inl (refl, refl)), ((refl, inl (refl, refl)), ((refl, inr (inl refl)), tt))))
+
+debug_rules : AreRules debug_shape refl debug_shape.rules
+debug_rules = ((refl, inl (refl, refl)), ((refl, inl (refl, refl)), ((refl, inr (inl refl)), tt)))
 
 hunt_rules : AreRules hunt_shape refl hunt_shape.rules
 hunt_rules = ((refl, inl (refl, refl)), ((refl, inl (refl, refl)), ((refl, inl (refl, refl)), ((refl, inl (refl, refl)), ((refl, inl (refl, refl)), ((refl, inl (refl, refl)), ((refl, inr (inl refl)), tt)))))))
@@ -98,13 +104,28 @@ core_named words pass =
     let file = value_there core_shape refl (codes "file") rows _ kept refl (given_found (codes "file") rows (both (is_given (codes "file") rows) true given.1).0) in
     (core (record { disk = disk.0; file = file.0; at = place_in (codes "at") rows }), rw (disk.1, file.1) refl)
 
+-- a stretch, where its disk is given
+stretch_there : (shape : Shape) (once : shape.args_override_self ≡ false) (rows : List Row) (a : Rule) → AreRows shape once rows → arg_by_id shape.rules (codes "disk") ≡ Some a
+    → is_given (codes "disk") rows ≡ true → (s : DiskStretch) × (disk_stretch_in rows ≡ Some s)
+stretch_there shape once rows a kept found given =
+    let disk = value_there shape once (codes "disk") rows a kept found (given_found (codes "disk") rows given) in
+    (record { disk = disk.0; from = place_in (codes "from") rows; to = place_in (codes "to") rows }, rw disk.1 refl)
+
 calls_named : (words : List Text) → level_passes calls_shape [] nothing_held words false ≡ true → (r : Request) × (request_in (rows_at calls_shape words) ≡ Some r)
 calls_named words pass =
     let rows = finished calls_shape.rules (walk calls_shape.rules [] nothing_held words).held in
     let kept = level_kept calls_shape refl calls_rules [] nothing_held words false pass tt in
     let given = has_required calls_shape rows false (level_valid calls_shape [] nothing_held words false pass) refl in
-    let disk = value_there calls_shape refl (codes "disk") rows _ kept refl (given_found (codes "disk") rows (both (is_given (codes "disk") rows) true given).0) in
-    (calls (record { disk = disk.0; from = place_in (codes "from") rows; to = place_in (codes "to") rows }), rw disk.1 refl)
+    let stretch = stretch_there calls_shape refl rows _ kept refl (both (is_given (codes "disk") rows) true given).0 in
+    (calls stretch.0, ap (option_map calls) stretch.1)
+
+debug_named : (words : List Text) → level_passes debug_shape [] nothing_held words false ≡ true → (r : Request) × (request_in (rows_at debug_shape words) ≡ Some r)
+debug_named words pass =
+    let rows = finished debug_shape.rules (walk debug_shape.rules [] nothing_held words).held in
+    let kept = level_kept debug_shape refl debug_rules [] nothing_held words false pass tt in
+    let given = has_required debug_shape rows false (level_valid debug_shape [] nothing_held words false pass) refl in
+    let disk = value_there debug_shape refl (codes "disk") rows _ kept refl (given_found (codes "disk") rows (both (is_given (codes "disk") rows) true given).0) in
+    (debug (record { disk = disk.0; at = place_in (codes "at") rows }), rw disk.1 refl)
 
 abbrev slot : Shape → ℕ → Rule
 slot shape i = slice_index_or shape.rules i (new_rule [])
@@ -197,7 +218,7 @@ found_named is_it words [] named = λ pass some. absurd (true≢false (sym some)
 found_named is_it words (s ∷ rest) named = either_named words s (find is_it rest) (is_it s) named.0 (found_named is_it words rest named.1)
 
 all_named : AreNamed built_app.subs
-all_named = (format_named, (run_named, (inspect_named, (drive_named, (core_named, (calls_named, (hunt_named, tt)))))))
+all_named = (format_named, (run_named, (inspect_named, (drive_named, (core_named, (calls_named, (debug_named, (hunt_named, tt))))))))
 
 -- what a command that takes the words is asked for
 entered_named : (stop : Option (Text × List Text)) → entered_passes built_app stop ≡ true → is_some (entered built_app stop) ≡ true

@@ -1,5 +1,5 @@
 -- The program's command line, as `clap` sees it: `format DISK IMAGE [--pages P] [--harts H] [--journal J]`, `run DISK`,
--- `inspect DISK [--at K] [--code]`, `core DISK FILE [--at K]`, `calls DISK [--from K] [--to K]`,
+-- `inspect DISK [--at K] [--code]`, `core DISK FILE [--at K]`, `calls DISK [--from K] [--to K]`, `debug DISK [--at K]`,
 -- `hunt IMAGE [--seeds A-B] [--pages P] [--harts H] [--steps N] [--keep DISK]` and `drive DISK [--image IMAGE] [--pages P] [--harts H]
 -- [--journal J] [--input FILE] [--input-from OFFSET] [--output FILE] [--turn N] [--rounds-per-commit R] [--events N] [--seed S]
 -- [--progress SECONDS] [--status FILE] [--from OFFSET]`.
@@ -75,12 +75,22 @@ core_app =
     (needed_rule (codes "file")))
     (place_rule (codes "at"))
 
-abbrev pub calls_app : App
-calls_app =
-    with_rule (with_rule (with_rule (new_app (codes "calls"))
+-- the words of a stretch of what a disk has recorded, behind the name of a command
+abbrev pub stretch_app : App → App
+stretch_app named =
+    with_rule (with_rule (with_rule named
     (needed_rule (codes "disk")))
     (place_rule (codes "from")))
     (place_rule (codes "to"))
+
+abbrev pub calls_app : App
+calls_app = stretch_app (new_app (codes "calls"))
+
+abbrev pub debug_app : App
+debug_app =
+    with_rule (with_rule (new_app (codes "debug"))
+    (needed_rule (codes "disk")))
+    (place_rule (codes "at"))
 
 abbrev pub hunt_app : App
 hunt_app =
@@ -125,4 +135,4 @@ app_with commands = fold (λ whole command. with_subcommand whole command.top) b
 
 abbrev pub ckrt_app : App
 ckrt_app =
-    app_with (format_app ∷ run_app ∷ inspect_app ∷ drive_app ∷ core_app ∷ calls_app ∷ hunt_app ∷ [])
+    app_with (format_app ∷ run_app ∷ inspect_app ∷ drive_app ∷ core_app ∷ calls_app ∷ debug_app ∷ hunt_app ∷ [])

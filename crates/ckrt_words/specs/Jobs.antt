@@ -11,8 +11,9 @@ use Rattle.ckrt_words.specs.declared.job.Job.{Job}
 use Rattle.ckrt_words.specs.declared.job.Job.TheVariants as job
 use Rattle.ckrt_words.specs.declared.job.FormatJob.{FormatJob}
 use Rattle.ckrt_words.specs.declared.job.InspectJob.{InspectJob}
-use Rattle.ckrt_words.specs.declared.job.CallsJob.{CallsJob}
+use Rattle.ckrt_words.specs.declared.job.StretchJob.{StretchJob}
 use Rattle.ckrt_words.specs.declared.job.CoreJob.{CoreJob}
+use Rattle.ckrt_words.specs.declared.job.DebugJob.{DebugJob}
 use Rattle.ckrt_words.specs.declared.job.HuntJob.{HuntJob}
 use Rattle.ckrt_words.specs.declared.job.DriveJob.{DriveJob}
 use Rattle.ckrt_words.specs.declared.job.Sizes.{Sizes}
@@ -37,11 +38,16 @@ pub record CoreMaking : Type 0 where
   pub file : Text
   pub at : Option ℕ
 
--- what `calls` tells: of which disk, behind how many events it begins, and behind how many it ends
-pub record Tracing : Type 0 where
+-- a stretch of what a disk has recorded: which disk, behind how many events it begins, and behind how many it ends
+pub record DiskStretch : Type 0 where
   pub disk : Text
   pub from : Option ℕ
   pub to : Option ℕ
+
+-- what `debug` serves to a debugger: which disk, and behind how many events it begins
+pub record Debugging : Type 0 where
+  pub disk : Text
+  pub at : Option ℕ
 
 -- what `hunt` runs: the image, the text of its range of seeds, the sizes, how many steps a run has at most, and the new disk that the run of the
 -- first seed is kept on
@@ -80,7 +86,8 @@ pub data Request : Type 0 where
   inspect : Inspection → Request
   drive : Driving → Request
   core : CoreMaking → Request
-  calls : Tracing → Request
+  calls : DiskStretch → Request
+  debug : Debugging → Request
   hunt : Hunting → Request
 
 abbrev pub formatting_of : FormatJob → Formatting
@@ -99,8 +106,11 @@ inspection_of i = record { disk = i.disk.now; at = i.at; code = i.code }
 abbrev pub core_making_of : CoreJob → CoreMaking
 core_making_of c = record { disk = c.disk.now; file = c.file.now; at = c.at }
 
-abbrev pub tracing_of : CallsJob → Tracing
-tracing_of c = record { disk = c.disk.now; from = c.from; to = c.to }
+abbrev pub disk_stretch_of : StretchJob → DiskStretch
+disk_stretch_of s = record { disk = s.disk.now; from = s.from; to = s.to }
+
+abbrev pub debugging_of : DebugJob → Debugging
+debugging_of d = record { disk = d.disk.now; at = d.at }
 
 abbrev pub hunting_of : HuntJob → Hunting
 hunting_of h = record {
@@ -137,7 +147,8 @@ request_of (job.Run disk) = run disk.now
 request_of (job.Inspect i) = inspect (inspection_of i)
 request_of (job.Drive d) = drive (driving_of d)
 request_of (job.Core c) = core (core_making_of c)
-request_of (job.Calls c) = calls (tracing_of c)
+request_of (job.Calls s) = calls (disk_stretch_of s)
+request_of (job.Debug d) = debug (debugging_of d)
 request_of (job.Hunt h) = hunt (hunting_of h)
 
 -- decimal digits, one or more, after a plus or not, of a number of so many bits
@@ -187,10 +198,15 @@ core_making_in rows = do
   file ← first_of (codes "file") rows
   Some (record { disk = disk; file = file; at = place_in (codes "at") rows })
 
-abbrev pub tracing_in : List Row → Option Tracing
-tracing_in rows = do
+abbrev pub disk_stretch_in : List Row → Option DiskStretch
+disk_stretch_in rows = do
   disk ← first_of (codes "disk") rows
   Some (record { disk = disk; from = place_in (codes "from") rows; to = place_in (codes "to") rows })
+
+abbrev pub debugging_in : List Row → Option Debugging
+debugging_in rows = do
+  disk ← first_of (codes "disk") rows
+  Some (record { disk = disk; at = place_in (codes "at") rows })
 
 abbrev pub hunting_in : List Row → Option Hunting
 hunting_in rows = do
@@ -234,7 +250,8 @@ request_in p =
     else if bytes_eq p.0 (codes "inspect") then option_map inspect (inspection_in p.1)
     else if bytes_eq p.0 (codes "drive") then option_map drive (driving_in p.1)
     else if bytes_eq p.0 (codes "core") then option_map core (core_making_in p.1)
-    else if bytes_eq p.0 (codes "calls") then option_map calls (tracing_in p.1)
+    else if bytes_eq p.0 (codes "calls") then option_map calls (disk_stretch_in p.1)
+    else if bytes_eq p.0 (codes "debug") then option_map debug (debugging_in p.1)
     else if bytes_eq p.0 (codes "hunt") then option_map hunt (hunting_in p.1)
     else None
 

@@ -3,7 +3,7 @@ ghost use Rattle.std.specs.Prelude.{◌≡◌, ◌∷◌, [], IfOk, codes, false
 ghost use Rattle.std.specs.List.{list_all};
 ghost use Rattle.clap.specs.Words.{App, app_of, new_app, rule_of, with_rule, with_subcommand};
 ghost use Rattle.clap.specs.declared.builder.command.Command.TheViews.{out-Command};
-ghost use Rattle.ckrt_words.specs.Commands.{app_with, bare_app, calls_app, ckrt_app, core_app, drive_app, flag_rule, format_app, hunt_app, inspect_app, needed_rule, number_rule, option_rule, place_rule, run_app, size_rule, text_rule};
+ghost use Rattle.ckrt_words.specs.Commands.{app_with, bare_app, calls_app, ckrt_app, core_app, debug_app, drive_app, flag_rule, format_app, hunt_app, inspect_app, needed_rule, number_rule, option_rule, place_rule, run_app, size_rule, stretch_app, text_rule};
 
 use clap::{Arg, ArgAction, Command, value_parser};
 use std::alloc::{AllocError, Global};
@@ -213,7 +213,7 @@ fn calls_command<'a>(alloc: Global) -> Result<Command<'a>, AllocError>
     ensures app { IfOk result (λ c. app_of c ≡ calls_app) }
     ensures local { IfOk result (λ c. (out-Command c).has_globals ≡ false) }
 {
-    let arguments = calls_arguments(alloc)?;
+    let arguments = stretch_arguments(alloc)?;
     Command::new(alloc, "calls")
         .about(
             "Tells the calls of a stopped guest, a line each, and changes nothing, as `ckrt calls pi.disk --from 40`",
@@ -221,10 +221,10 @@ fn calls_command<'a>(alloc: Global) -> Result<Command<'a>, AllocError>
         .args(arguments)
 }
 
-/// What `calls` is given.
-fn calls_arguments<'a>(alloc: Global) -> Result<Vec<Arg<'a>>, AllocError>
-    ensures app { IfOk result (λ arguments.
-        fold with_rule (new_app (codes "calls")) (map rule_of arguments.items) ≡ calls_app) }
+/// The words of a stretch of what a disk has recorded.
+fn stretch_arguments<'a>(alloc: Global) -> Result<Vec<Arg<'a>>, AllocError>
+    ensures app { IfOk result (λ arguments. (named : App)
+        → fold with_rule named (map rule_of arguments.items) ≡ stretch_app named) }
     ensures local { IfOk result (λ arguments. list_all (λ a. not a.global) arguments.items ≡ true) }
 {
     let arguments = vec![in alloc;
@@ -236,6 +236,37 @@ fn calls_arguments<'a>(alloc: Global) -> Result<Vec<Arg<'a>>, AllocError>
             "Begin after K events, not at the first one that the disk has"
         ),
         place(alloc, "to", "K", "End after K events, not at the last one"),
+    ]?;
+    Ok(arguments)
+}
+
+/// `debug DISK [--at K]`.
+fn debug_command<'a>(alloc: Global) -> Result<Command<'a>, AllocError>
+    ensures app { IfOk result (λ c. app_of c ≡ debug_app) }
+    ensures local { IfOk result (λ c. (out-Command c).has_globals ≡ false) }
+{
+    let arguments = debug_arguments(alloc)?;
+    Command::new(alloc, "debug")
+        .about(
+            "Serves a stopped guest to gdb, forward and back, and changes nothing, as `target remote | ckrt debug pi.disk`",
+        )
+        .args(arguments)
+}
+
+/// What `debug` is given.
+fn debug_arguments<'a>(alloc: Global) -> Result<Vec<Arg<'a>>, AllocError>
+    ensures app { IfOk result (λ arguments.
+        fold with_rule (new_app (codes "debug")) (map rule_of arguments.items) ≡ debug_app) }
+    ensures local { IfOk result (λ arguments. list_all (λ a. not a.global) arguments.items ≡ true) }
+{
+    let arguments = vec![in alloc;
+        needed(alloc, "disk", "DISK", "A disk that `format` made"),
+        place(
+            alloc,
+            "at",
+            "K",
+            "Begin after K events, not at the first one that the disk has"
+        ),
     ]?;
     Ok(arguments)
 }
@@ -468,5 +499,6 @@ pub(crate) fn command<'a>(alloc: Global) -> Result<Command<'a>, AllocError>
     ensures { IfOk result (λ c. app_of c ≡ ckrt_app) }
 {
     let with_calls = command_with_calls(alloc)?;
-    with_command(with_calls, hunt_command(alloc))
+    let with_debug = with_command(with_calls, debug_command(alloc))?;
+    with_command(with_debug, hunt_command(alloc))
 }

@@ -18,7 +18,9 @@ pub enum Job<'a> {
     /// Write what a disk holds as a core for a debugger: `core DISK FILE`.
     Core(CoreJob<'a>),
     /// Tell the calls of what a disk holds: `calls DISK`.
-    Calls(CallsJob<'a>),
+    Calls(StretchJob<'a>),
+    /// Serve what a disk holds to a debugger: `debug DISK`.
+    Debug(DebugJob<'a>),
     /// Run an image by one schedule after another: `hunt IMAGE`.
     Hunt(HuntJob<'a>),
 }
@@ -60,15 +62,24 @@ pub struct CoreJob<'a> {
     pub at: Option<u64>,
 }
 
-/// Which calls `calls` tells.
+/// Which stretch of what a disk has recorded is told.
 #[derive(Clone, Copy, Debug, PartialEq, Eq)]
-pub struct CallsJob<'a> {
+pub struct StretchJob<'a> {
     /// The path of the disk.
     pub disk: &'a str,
-    /// Behind how many events they begin; at the first one that the disk has where this isn't given.
+    /// Behind how many events it begins; at the first one that the disk has where this isn't given.
     pub from: Option<u64>,
-    /// Behind how many events they end; at the last one where this isn't given.
+    /// Behind how many events it ends; at the last one where this isn't given.
     pub to: Option<u64>,
+}
+
+/// What `debug` serves.
+#[derive(Clone, Copy, Debug, PartialEq, Eq)]
+pub struct DebugJob<'a> {
+    /// The path of the disk.
+    pub disk: &'a str,
+    /// Behind how many events the debugger begins; at the first one that the disk has where this isn't given.
+    pub at: Option<u64>,
 }
 
 /// What `hunt` runs, and how. The numbers are as they were given, and may be out of a hunt's ranges.

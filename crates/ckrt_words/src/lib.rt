@@ -13,6 +13,6 @@ mod matches;
 mod read;
 
 pub use job::{
-    CallsJob, CoreJob, DriveJob, FormatJob, HuntJob, InspectJob, Job, Sizes, WordsFault,
+    CoreJob, DebugJob, DriveJob, FormatJob, HuntJob, InspectJob, Job, Sizes, StretchJob, WordsFault,
 };
 pub use read::read_words;

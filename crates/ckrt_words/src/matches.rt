@@ -1,9 +1,11 @@
 //! What the matches of a command line name.
 ghost use Rattle.std.specs.Prelude.{◌≡◌, codes, option_and_then, option_map};
 ghost use Rattle.clap.specs.Words.{first_of, found_of, rows_of, subcommand_rows_of};
-ghost use Rattle.ckrt_words.specs.Jobs.{calls, core, core_making_in, core_making_of, drive, driving_in, driving_of, flag_in, format, formatting_in, formatting_of, hunt, hunting_in, hunting_of, inspect, inspection_in, inspection_of, number_in, place_in, request_in, request_of, run, sizes_in, tracing_in, tracing_of};
+ghost use Rattle.ckrt_words.specs.Jobs.{calls, core, core_making_in, core_making_of, debug, debugging_in, debugging_of, disk_stretch_in, disk_stretch_of, drive, driving_in, driving_of, flag_in, format, formatting_in, formatting_of, hunt, hunting_in, hunting_of, inspect, inspection_in, inspection_of, number_in, place_in, request_in, request_of, run, sizes_in};
 
-use crate::job::{CallsJob, CoreJob, DriveJob, FormatJob, HuntJob, InspectJob, Job, Sizes};
+use crate::job::{
+    CoreJob, DebugJob, DriveJob, FormatJob, HuntJob, InspectJob, Job, Sizes, StretchJob,
+};
 use clap::ArgMatches;
 
 /// The text that was given for an argument.
@@ -59,13 +61,22 @@ fn core_making<'a>(matches: &ArgMatches<'a>) -> Option<CoreJob<'a>>
     Some(CoreJob { disk, file, at })
 }
 
-/// What `calls` was given.
-fn tracing<'a>(matches: &ArgMatches<'a>) -> Option<CallsJob<'a>>
-    ensures { option_map tracing_of result ≡ tracing_in (rows_of (found_of matches.now)) }
+/// The stretch that was given.
+fn stretch<'a>(matches: &ArgMatches<'a>) -> Option<StretchJob<'a>>
+    ensures { option_map disk_stretch_of result
+        ≡ disk_stretch_in (rows_of (found_of matches.now)) }
 {
     let disk = text(matches, "disk")?;
     let (from, to) = (place(matches, "from"), place(matches, "to"));
-    Some(CallsJob { disk, from, to })
+    Some(StretchJob { disk, from, to })
+}
+
+/// What `debug` was given.
+fn debugging<'a>(matches: &ArgMatches<'a>) -> Option<DebugJob<'a>>
+    ensures { option_map debugging_of result ≡ debugging_in (rows_of (found_of matches.now)) }
+{
+    let (disk, at) = (text(matches, "disk")?, place(matches, "at"));
+    Some(DebugJob { disk, at })
 }
 
 /// What `hunt` was given.
@@ -178,9 +189,17 @@ fn core_named<'a>(given: &ArgMatches<'a>) -> Option<Job<'a>>
 /// The job of `calls` with these matches.
 fn calls_named<'a>(given: &ArgMatches<'a>) -> Option<Job<'a>>
     ensures { option_map request_of result
-        ≡ option_map calls (tracing_in (rows_of (found_of given.now))) }
+        ≡ option_map calls (disk_stretch_in (rows_of (found_of given.now))) }
 {
-    Some(Job::Calls(tracing(given)?))
+    Some(Job::Calls(stretch(given)?))
+}
+
+/// The job of `debug` with these matches.
+fn debug_named<'a>(given: &ArgMatches<'a>) -> Option<Job<'a>>
+    ensures { option_map request_of result
+        ≡ option_map debug (debugging_in (rows_of (found_of given.now))) }
+{
+    Some(Job::Debug(debugging(given)?))
 }
 
 /// The job of `hunt` with these matches.
@@ -212,6 +231,9 @@ fn job_of<'a>(name: &str, given: &ArgMatches<'a>) -> Option<Job<'a>>
     }
     if name == "calls" {
         return calls_named(given);
+    }
+    if name == "debug" {
+        return debug_named(given);
     }
     if name == "hunt" {
         return hunt_named(given);

@@ -39,6 +39,9 @@ const CORE_USAGE: &str = "Usage: ckrt core <DISK> <FILE> [--at NUMBER OF EVENTS]
 const CALLS_USAGE: &str =
     "Usage: ckrt calls <DISK> [--from NUMBER OF EVENTS] [--to NUMBER OF EVENTS]";
 
+/// What follows a number of `debug` that isn't one.
+const DEBUG_USAGE: &str = "Usage: ckrt debug <DISK> [--at NUMBER OF EVENTS]";
+
 /// What follows a number of `hunt` that isn't one.
 const HUNT_USAGE: &str =
     "Usage: ckrt hunt <IMAGE> [--seeds FIRST-LAST] [--pages 16 to 1024] [--harts 1 to 8] [--steps NUMBER OF STEPS] [--keep <DISK>]";
@@ -54,6 +57,7 @@ fn number_usage(words: &[&str]) -> &'static str {
         Some(&"drive") => DRIVE_USAGE,
         Some(&"core") => CORE_USAGE,
         Some(&"calls") => CALLS_USAGE,
+        Some(&"debug") => DEBUG_USAGE,
         Some(&"hunt") => HUNT_USAGE,
         _ => FORMAT_USAGE,
     }
@@ -122,8 +126,9 @@ fn is_version(words: &[&str]) -> bool
 /// The job that the words after the program's name ask for: [`Job::Stored`] where there are none, [`Job::Version`] where
 /// they are `--version` alone, else what `clap` makes of them. An option of `format` that isn't given has 64 pages, 1 hart
 /// and a journal of 65,536 bytes; one that is given has to be a number below 2^32. `inspect` shows the disk after the last
-/// event where `--at` isn't given, which has to be a number below 2^64, and so does `core`. `calls` begins at the first one that the disk still has, and ends at
-/// the last one where its numbers aren't given, which have to be below 2^64 too.
+/// event where `--at` isn't given, which has to be a number below 2^64, and so does `core`. `calls` begins at the first one
+/// that the disk still has, and ends at the last one where its numbers aren't given, which have to be below 2^64 too. So does
+/// `debug` begin, where `--at` isn't given.
 ///
 /// `hunt` has seeds 1-200, 64 pages, 1 hart, runs of at most 10,000,000 steps and no disk where these aren't given; the numbers that are have to
 /// be below 2^32, and the text of the seeds is handed on as it is.

@@ -16,7 +16,7 @@ returns-clause-app c =
     let given = c.in_ok-arguments in
     IfOk-weaker c.args-2.result _ (λ whole. app_of whole ≡ calls_app) (λ whole added.
     rules_added c.about.result whole given.arguments.items added given.ensures.local
-    ∙ (ap (λ (a : App). fold with_rule a (map rule_of given.arguments.items)) bare ∙ given.ensures.app)) c.args-2.ensures
+    ∙ (ap (λ (a : App). fold with_rule a (map rule_of given.arguments.items)) bare ∙ given.ensures.app (new_app (codes "calls")))) c.args-2.ensures
 
 pub returns-clause-local : goal.returns-clause-local
 returns-clause-local c =
