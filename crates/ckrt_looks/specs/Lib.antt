@@ -1,1 +1,3 @@
-pub mod Tracing
+pub mod Debugging
+pub mod Looking
+pub mod Tellings

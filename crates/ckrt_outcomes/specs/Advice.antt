@@ -92,7 +92,7 @@ advice_of_look look.Damaged = advice_of_recover recover.Damaged
 advice_of_look look.Device = device_advice
 advice_of_look look.OutOfMemory = memory_advice
 advice_of_look look.Write = advice_of_serve serve.Write
-advice_of_look look.Range = codes "it has no state after --at events, no longer or not yet; without --at it is that after the last one"
+advice_of_look look.Range = codes "it has no state after --at events, no longer or not yet; give another number, or leave --at out"
 
 abbrev pub advice_of_drive : DriveFault → List ℕ
 advice_of_drive drive.Device = device_advice

@@ -15,7 +15,7 @@ use ckrt_sources::{FileFault, JobFile, OutputReason};
 pub enum JobFault {
     /// This file can't be opened, read, locked or filled.
     File(JobFile, FileFault),
-    /// There was no memory for the image, or for the core.
+    /// There was no memory for the image, for the core, or for a debugger's session.
     OutOfMemory,
     /// The disk wasn't formatted.
     Format(FormatFault),
@@ -23,7 +23,7 @@ pub enum JobFault {
     Recover(RecoverFault),
     /// The service ended early.
     Serve(ServeFault),
-    /// The disk wasn't shown, or its program wasn't found for a core.
+    /// The disk wasn't shown, or its program wasn't found for a core or a debugger.
     Inspect(InspectFault),
     /// The numbers of a drive are out of their ranges.
     Range,
@@ -116,7 +116,7 @@ fn inspection_advice(fault: InspectFault) -> &'static str
         InspectFault::OutOfMemory => FileFault::OutOfMemory.text(),
         InspectFault::Write => service_advice(ServeFault::Write),
         InspectFault::Range => {
-            "it has no state after --at events, no longer or not yet; without --at it is that after the last one"
+            "it has no state after --at events, no longer or not yet; give another number, or leave --at out"
         }
     }
 }

@@ -1,0 +1,14 @@
+-- What the jobs tell of a stretch of what a disk has recorded.
+use Rattle.std.specs.Prelude.{Result}
+use Rattle.ckrt_disk.specs.declared.disk.Disk.{Ghosts}
+use Rattle.ckrt_trace.specs.Disks.{Traces}
+use Rattle.ckrt_words.specs.Jobs.{DiskStretch}
+use Rattle.ckrt_outcomes.specs.declared.fault.JobFault.{JobFault}
+use Rattle.ckrt_outcomes.specs.Outside.{Outside}
+use Rattle.ckrt_looks.specs.Looking.{LooksPath, stretch_of}
+
+-- `calls`: its calls, a line each
+abbrev pub TracesPath : {D : Type 0} → Ghosts D → (D → Type 0) → DiskStretch
+    → (old new : Outside D) → Result (Unit {0}) JobFault → Type 0
+TracesPath d Opens s old new result =
+    LooksPath d (record { stretch = s; Opens = Opens; Tells = Traces (stretch_of s) }) old new result

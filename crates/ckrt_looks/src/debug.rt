@@ -1,0 +1,127 @@
+//! Serving what a disk has recorded to a debugger.
+ghost use Rattle.std.specs.Prelude.{◌≡◌};
+ghost use Rattle.ckrt_words.specs.Jobs.{debugging_of};
+ghost use Rattle.ckrt_outcomes.specs.Outside.{outside};
+ghost use Rattle.ckrt_recording.specs.Recording.{recorded_of};
+ghost use Rattle.ckrt_looks.specs.Debugging.{DebugsPath, DebugsRecorded, ReadsOpened, ReadsPath, Talks, answer_of, fault_of, line};
+
+use ckrt_debug::{DebugFault, Stub};
+use ckrt_disk::Disk;
+use ckrt_image::RecoverFault;
+use ckrt_inspect::InspectFault;
+use ckrt_main::ServeFault;
+use ckrt_outcomes::JobFault;
+use ckrt_recording::{Recording, read_recording};
+use ckrt_sources::{JobFile, Sources};
+use ckrt_words::DebugJob;
+use std::alloc::Global;
+use std::io::{Read, Write};
+
+/// Reads what a disk that was opened has recorded, and closes it.
+fn read_opened<'a, I: Read, D: Disk, S: Sources<'a, I, D>>(
+    alloc: Global,
+    disk: D,
+    sources: &mut S,
+) -> Result<Recording, JobFault>
+    ensures reads { ReadsOpened D.Disk (λ start. start ≡ disk)
+        (S.openings sources.old) (S.openings sources.new) result }
+{
+    let mut disk = disk;
+    let answer = read_recording(alloc, &mut disk);
+    sources.close(disk);
+    match answer {
+        Ok(recording) => Ok(recording),
+        Err(fault) => Err(JobFault::Recover(fault)),
+    }
+}
+
+/// Reads what the disk of a path has recorded.
+fn read_there<'a, I: Read, D: Disk, S: Sources<'a, I, D>>(
+    alloc: Global,
+    path: &'a str,
+    sources: &mut S,
+) -> Result<Recording, JobFault>
+    ensures reads { ReadsPath D.Disk (S.opens sources.old path.now) path.now
+        (S.openings sources.old) (S.openings sources.new) result }
+{
+    match sources.look_at_disk(path) {
+        Ok(disk) => read_opened::<I, D, S>(alloc, disk, sources),
+        Err(fault) => Err(JobFault::File(JobFile::Disk, fault)),
+    }
+}
+
+/// What the job answers for a fault of a session.
+fn fault_of(fault: DebugFault) -> JobFault
+    ensures { result ≡ fault_of fault }
+{
+    match fault {
+        DebugFault::Read => JobFault::Serve(ServeFault::Read),
+        DebugFault::Write => JobFault::Serve(ServeFault::Write),
+        DebugFault::Refused => JobFault::Recover(RecoverFault::Damaged),
+        DebugFault::Range => JobFault::Inspect(InspectFault::Range),
+        DebugFault::OutOfMemory => JobFault::OutOfMemory,
+    }
+}
+
+/// Serves a session.
+fn serve<R: Read, W: Write>(stub: Stub, reader: &mut R, writer: &mut W) -> Result<(), JobFault>
+    ensures serves { (answer : Result (Unit {0}) DebugFault) × (result ≡ answer_of answer)
+        × Talks stub.entry (line (W.contents writer.old) (R.remaining reader.old))
+        (line (W.contents writer.new) (R.remaining reader.new)) answer }
+{
+    match stub.serve(reader, writer) {
+        Ok(()) => Ok(()),
+        Err(fault) => Err(fault_of(fault)),
+    }
+}
+
+/// Serves what was recorded.
+fn debug_recorded<R: Read, W: Write>(
+    alloc: Global,
+    recording: Recording,
+    at: Option<u64>,
+    reader: &mut R,
+    writer: &mut W,
+) -> Result<(), JobFault>
+    ensures debugs { DebugsRecorded at (recorded_of recording.entry)
+        (line (W.contents writer.old) (R.remaining reader.old))
+        (line (W.contents writer.new) (R.remaining reader.new)) result }
+{
+    let Recording {
+        first,
+        machine,
+        events,
+    } = recording;
+    match Stub::new(alloc, first, machine, events, at) {
+        Ok(stub) => serve(stub, reader, writer),
+        Err(fault) => Err(fault_of(fault)),
+    }
+}
+
+/// Serves what the disk of a path has recorded to a debugger, by gdb's remote protocol: it reads packets and writes replies. The
+/// session begins at the first event that the disk has, or once so many events are done. The disk is only read, and closed before
+/// the first byte is read of the debugger.
+///
+/// # Errors
+///
+/// The first that applies: `File` of the disk; `Recover`, where nothing is recovered from it, where the disk failed a read or memory
+/// was refused; `Inspect` of `Range` where it has recorded no position with so many events done; `OutOfMemory` where the run is
+/// replayed and memory is refused; `Serve` of `Read` and of `Write` where the debugger's line fails. Of a disk that lies between two
+/// reads the run may have an event that isn't accepted: that is `Recover` of `Damaged`.
+pub fn debug_path<'a, I: Read, D: Disk, S: Sources<'a, I, D>, R: Read, W: Write>(
+    alloc: Global,
+    job: &DebugJob<'a>,
+    sources: &mut S,
+    reader: &mut R,
+    writer: &mut W,
+) -> Result<(), JobFault>
+    ensures debugs { DebugsPath D.Disk (S.opens sources.old job.now.disk.now) (debugging_of job.now)
+        (outside (S.openings sources.old) (W.contents writer.old) (R.remaining reader.old))
+        (outside (S.openings sources.new) (W.contents writer.new) (R.remaining reader.new))
+        result }
+{
+    match read_there::<I, D, S>(alloc, job.disk, sources) {
+        Ok(recording) => debug_recorded(alloc, recording, job.at, reader, writer),
+        Err(fault) => Err(fault),
+    }
+}

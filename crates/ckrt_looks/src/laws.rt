@@ -1,0 +1,7 @@
+//! Laws of looking back. Each is the contract of a function with an empty body.
+ghost use Rattle.ckrt_looks.specs.Debugging.{RefusesNone};
+
+/// Of what an image has recorded no event is refused, so that a session begins wherever the words ask, if memory is there.
+pub fn recorded_events_are_accepted()
+    ensures { RefusesNone }
+{}
