@@ -1,6 +1,14 @@
-# Settings for cores of guests: gdb-multiarch -x gdb/ckrt.gdb PROGRAM.elf CORE
+# Settings for guests, in a session or with a core:
+#     gdb-multiarch -x gdb/ckrt.gdb PROGRAM.elf -ex 'target remote | ckrt debug DISK'
+#     gdb-multiarch -x gdb/ckrt.gdb PROGRAM.elf CORE
 # Sources of the kit are named `guest/..`: `directory FOLDER`, with the folder in which guest/ lies, shows them.
 set pagination off
 set confirm off
 # A guest is no GNU/Linux program: no libraries are looked for.
 set osabi none
+# A motion over a long run takes a while, in seconds.
+set remotetimeout 600
+# A step is one of the thread that is chosen, onward and back. gdb takes this setting once it has a target.
+define target hookpost-remote
+set scheduler-locking step
+end
