@@ -1,0 +1,23 @@
+use Rattle.std.proofs.Common.{◌≡◌, ℕ, Bool, true, false, List, refl, sym, ap, ◌∙◌}
+use Rattle.std.proofs.lemmas.Str.{IsUtf8-from_is_utf8, is_utf8-from_IsUtf8}
+use Rattle.std.specs.Prelude.{unwrap_or}
+use Rattle.std.specs.Str.{IsUtf8, is_utf8}
+use Rattle.ckrt_debug.specs.Commands.{command_in, command_of}
+use Rattle.ckrt_debug.specs.declared.command.Command.TheVariants.{Help}
+use Rattle.ckrt_debug.proofs.command.command_of.Goals as goal
+
+-- a text that isn't UTF-8
+no_text : (t : List ℕ) → (IsUtf8 t → ⊥) → Help ≡ command_of t
+no_text t never = by (is_utf8 t) refl
+  where
+    by : (b : Bool) → is_utf8 t ≡ b → Help ≡ command_of t
+    by true is = absurd (never (IsUtf8-from_is_utf8 t is))
+    by false is = rw is refl
+
+pub returns-in-Ok : goal.returns-in-Ok
+returns-in-Ok c =
+    let text = c.in-Ok.ensures.cases in
+    rw (is_utf8-from_IsUtf8 c.args.text.now text.1) (c.unwrap_or.ensures ∙ ap (λ o. unwrap_or o Help) (c.command_in.ensures ∙ ap command_in text.0))
+
+pub returns-in-Err : goal.returns-in-Err
+returns-in-Err c = no_text c.args.text.now c.in-Err.ensures.cases.0

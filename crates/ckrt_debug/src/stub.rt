@@ -1,0 +1,254 @@
+//! A session with gdb over a recorded run.
+ghost use Rattle.std.specs.Prelude.{◌≡◌, ◌⊎◌, IfErr, IfOk, IfSome, IsErrOf, IsOk, is_some, None};
+ghost use Rattle.ckrt_machine.specs.Events.{AllAccepted};
+ghost use Rattle.ckrt_debug.specs.declared.fault.DebugFault.TheVariants.{OutOfMemory, Range, Refused};
+ghost use Rattle.ckrt_debug.specs.Playback.{history_of};
+ghost use Rattle.ckrt_debug.specs.Look.{fitting};
+ghost use Rattle.ckrt_debug.specs.Requests.{last_text, stepping, way_by, way_of};
+ghost use Rattle.ckrt_debug.specs.Session.{Answers, BeginsAt, HasMoved, HasSet, IsMotion, IsOfRun, IsOutside, Names, Reaches, look_in, run_of, set_text_in, way_in};
+
+use crate::desk::Desk;
+use crate::fault::DebugFault;
+use crate::going::Way;
+use crate::limits::Bounds;
+use crate::look::look;
+use crate::playback::Playback;
+use crate::threads::is_shown;
+use crate::told::{first_view, shown};
+use crate::view::View;
+use ckrt_events::Event;
+use ckrt_history::{Position, Stops};
+use ckrt_machine::Machine;
+use ckrt_packets::{Choice, Motion, Payload, Request};
+use ckrt_thread::{ThreadId, Threads};
+use std::alloc::Global;
+
+/// What gdb asks is answered by this, from a recorded run: a state of the machine and the events from there on.
+///
+/// The run is replayed once somebody moves, since a debugger waits a few seconds only for its first answers. The room of the history is
+/// taken then.
+#[derive(Drop)]
+pub struct Stub {
+    pub(crate) alloc: Global,
+    pub(crate) playback: Playback,
+    pub(crate) desk: Desk,
+}
+
+/// The thread that is to step: the one that is meant, where it is shown, else that of the last stop.
+fn stepping(choice: Choice, view: &View, threads: &Threads) -> ThreadId
+    ensures { result ≡ stepping choice view.now threads.now }
+{
+    match choice {
+        Choice::One(thread) if is_shown(threads, thread) => thread as u8,
+        _ => view.last.thread,
+    }
+}
+
+/// The way of a motion. Of a range of steps it is the first step, as gdb allows.
+fn way_by(motion: Motion, view: &View, threads: &Threads) -> Way
+    ensures { result ≡ way_by motion view.now threads.now }
+{
+    match motion {
+        Motion::Continue => Way::On,
+        Motion::Step(choice) => Way::StepOn(stepping(choice, view, threads)),
+        Motion::StepOut(_, _, choice) => Way::StepOn(stepping(choice, view, threads)),
+    }
+}
+
+/// The way that gdb wants to go, if it does.
+fn way_of(request: &Request, view: &View, threads: &Threads) -> Option<Way>
+    ensures { result ≡ way_of request.now view.now threads.now }
+{
+    match request {
+        Request::Move(motion) => Some(way_by(*motion, view, threads)),
+        Request::ContinueBack => Some(Way::Back),
+        Request::StepBack => Some(Way::StepBack(stepping(view.chosen, view, threads))),
+        _ => None,
+    }
+}
+
+impl Stub {
+    /// A session that begins with the machine's state, before which `first` events were done, or once `at` events are done.
+    ///
+    /// # Errors
+    ///
+    /// None where `at` isn't given: the run is replayed for it. `Range` exactly where the run has no such position, `Refused` only where
+    /// an event isn't accepted at its turn, and `OutOfMemory`.
+    pub fn new(
+        alloc: Global,
+        first: u64,
+        machine: Machine,
+        events: Vec<Event>,
+        at: Option<u64>,
+    ) -> Result<Stub, DebugFault>
+        ensures begun { IfOk result (BeginsAt at first (run_of machine.state events.items)) }
+        ensures within { IfOk result (λ _. IsOutside at first (run_of machine.state events.items) → ⊥) }
+        ensures range { IsErrOf result Range → IsOutside at first (run_of machine.state events.items) }
+        ensures refused { IsErrOf result Refused → AllAccepted events.items machine.state → ⊥ }
+        ensures fault { IfErr result (λ e. (e ≡ Refused) ⊎ (e ≡ OutOfMemory) ⊎ (e ≡ Range)) }
+        ensures sure { at ≡ None → IsOk result }
+    {
+        let thread = shown(&machine.tables().threads, 1);
+        let desk = Desk {
+            first,
+            view: first_view(thread),
+            stops: Stops::new(),
+            bounds: Bounds::new(),
+        };
+        let playback = Playback::Unplayed(machine, events);
+        let stub = Stub {
+            alloc,
+            playback,
+            desk,
+        };
+        let Some(events) = at else {
+            return Ok(stub);
+        };
+        let (stub, is_there) = stub.reach(events, 0)?;
+        if is_there {
+            Ok(stub)
+        } else {
+            Err(DebugFault::Range)
+        }
+    }
+
+    /// Goes to where so many events of all are done, and so many steps of the next, and shows whose step is next. `false` where the
+    /// run has no such position, and then nothing changes.
+    pub(crate) fn reach(self, events: u64, steps: u32) -> Result<(Stub, bool), DebugFault>
+        ensures reached { IfOk result (λ r. Reaches events steps self r.1 r.0) }
+        ensures refused { IsErrOf result Refused
+            → AllAccepted (history_of self.playback).events (history_of self.playback).start → ⊥ }
+        ensures fault { IfErr result (λ e. (e ≡ Refused) ⊎ (e ≡ OutOfMemory)) }
+    {
+        let Stub {
+            alloc,
+            playback,
+            mut desk,
+        } = self;
+        let mut history = playback.played(alloc)?;
+        let is_there = desk.reach(&mut history, events, steps);
+        let playback = Playback::Played(history);
+        Ok((
+            Stub {
+                alloc,
+                playback,
+                desk,
+            },
+            is_there,
+        ))
+    }
+
+    /// Motions end from now on where so many events of all are done, and so many steps of the next. None where the run has no such
+    /// position, and then nothing changes.
+    pub(crate) fn name(
+        self,
+        events: u64,
+        steps: u32,
+    ) -> Result<(Stub, Option<Position>), DebugFault>
+        ensures named { IfOk result (λ r. Names events steps self r.1 r.0) }
+        ensures refused { IsErrOf result Refused
+            → AllAccepted (history_of self.playback).events (history_of self.playback).start → ⊥ }
+        ensures fault { IfErr result (λ e. (e ≡ Refused) ⊎ (e ≡ OutOfMemory)) }
+    {
+        let Stub {
+            alloc,
+            playback,
+            mut desk,
+        } = self;
+        let history = playback.played(alloc)?;
+        let there = desk.stop_at(&history, events, steps);
+        let playback = Playback::Played(history);
+        Ok((
+            Stub {
+                alloc,
+                playback,
+                desk,
+            },
+            there,
+        ))
+    }
+
+    /// Moves, and tells where it stops.
+    fn walk(self, way: Way, out: &mut Payload) -> Result<Stub, DebugFault>
+        ensures moved { IfOk result (λ stub. HasMoved way self stub
+            × (out.new.items ≡ fitting (last_text stub.desk.view))) }
+        ensures refused { IsErrOf result Refused
+            → AllAccepted (history_of self.playback).events (history_of self.playback).start → ⊥ }
+        ensures fault { IfErr result (λ e. (e ≡ Refused) ⊎ (e ≡ OutOfMemory)) }
+    {
+        let Stub {
+            alloc,
+            playback,
+            mut desk,
+        } = self;
+        let mut history = playback.played(alloc)?;
+        desk.walk(&mut history, way, out);
+        let playback = Playback::Played(history);
+        Ok(Stub {
+            alloc,
+            playback,
+            desk,
+        })
+    }
+
+    /// What is neither a look nor a motion.
+    fn set(self, request: &Request, out: &mut Payload) -> Stub
+        ensures set { HasSet request.now self result }
+        ensures payload { out.new.items ≡ fitting (set_text_in request.now self) }
+    {
+        let Stub {
+            alloc,
+            playback,
+            mut desk,
+        } = self;
+        desk.set(request, &playback.machine().tables().threads, out);
+        Stub {
+            alloc,
+            playback,
+            desk,
+        }
+    }
+
+    /// Shows what is asked of the state. `false` where something else was asked.
+    fn look(&self, request: &Request, out: &mut Payload) -> bool
+        ensures told { result ≡ is_some (look_in request.now self.now) }
+        ensures payload { IfSome (look_in request.now self.now)
+            (λ text. out.new.items ≡ fitting text) }
+    {
+        look(request, &self.desk.view, self.playback.machine(), out)
+    }
+
+    /// The way that gdb wants to go, if it does.
+    fn way(&self, request: &Request) -> Option<Way>
+        ensures { result ≡ way_in request.now self.now }
+    {
+        way_of(
+            request,
+            &self.desk.view,
+            &self.playback.machine().tables().threads,
+        )
+    }
+
+    /// Answers a request: the payload of its reply, in place of what was in `out`.
+    ///
+    /// # Errors
+    ///
+    /// Of a motion alone, for which the run is replayed once: `Refused` only where an event isn't accepted at its turn, and
+    /// `OutOfMemory`.
+    pub fn answer(self, request: &Request, out: &mut Payload) -> Result<Stub, DebugFault>
+        ensures answered { IfOk result (λ stub. Answers request.now self stub out.new.items) }
+        ensures run { IfOk result (IsOfRun self) }
+        ensures moving { IfErr result (λ _. IsMotion request.now self) }
+        ensures refused { IsErrOf result Refused
+            → AllAccepted (history_of self.playback).events (history_of self.playback).start → ⊥ }
+        ensures fault { IfErr result (λ e. (e ≡ Refused) ⊎ (e ≡ OutOfMemory)) }
+    {
+        if self.look(request, out) {
+            return Ok(self);
+        }
+        match self.way(request) {
+            Some(way) => self.walk(way, out),
+            None => Ok(self.set(request, out)),
+        }
+    }
+}
