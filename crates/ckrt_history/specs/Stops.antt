@@ -54,6 +54,18 @@ abbrev pub is_any_hit : Option Runner → List Breakpoint → Bool
 is_any_hit None bs = false
 is_any_hit (Some r) bs = list_any (is_hit r) bs
 
+-- STEPS OF A THREAD
+
+-- none is for nobody's
+abbrev pub is_of : Option ℕ → Runner → Bool
+is_of None r = false
+is_of (Some t) r = t == r.0
+
+-- the next step is at a breakpoint, or of the thread whose steps are looked for
+abbrev pub is_wanted : Stops → Option Runner → Bool
+is_wanted stops None = false
+is_wanted stops (Some r) = is_any_hit (Some r) stops.breakpoints.items || is_of stops.thread r
+
 -- WATCHES
 
 -- the byte at an address, where there is one
@@ -88,9 +100,9 @@ watched_at ws p es s = watched ws (state_at p es s).state.bytes
 
 -- STOPS
 
--- the next step is at a breakpoint, or an event's end is looked for and here it is
+-- the next step is at a breakpoint or of the thread whose steps are looked for, or an event's end is looked for and here it is
 abbrev pub is_halt : Stops → Position → List Event → State → Bool
-is_halt stops p es s = is_any_hit (runner_at p es s) stops.breakpoints.items || (stops.event_ends && p.steps == 0)
+is_halt stops p es s = is_wanted stops (runner_at p es s) || (stops.event_ends && p.steps == 0)
 
 -- the step that led here changed a byte under a watch
 abbrev pub HasChanged : List Watch → Position → List Event → State → Type 0

@@ -1,6 +1,6 @@
 //! Where a walk through a history stops.
-ghost use Rattle.std.specs.Prelude.{◌≡◌, ◌<◌, ◌≤◌, ◌+◌, ◌++◌, [], length, false, Some};
-ghost use Rattle.ckrt_history.specs.Stops.{bytes_at, bytes_in, is_any_hit, is_hit, runner_in, watched, width, widths};
+ghost use Rattle.std.specs.Prelude.{◌≡◌, ◌<◌, ◌≤◌, ◌+◌, ◌++◌, [], length, false, Some, None};
+ghost use Rattle.ckrt_history.specs.Stops.{bytes_at, bytes_in, is_any_hit, is_hit, is_wanted, runner_in, watched, width, widths};
 ghost use Rattle.ckrt_history.specs.Positions.{run_in};
 
 use crate::replay::run_in;
@@ -41,6 +41,8 @@ pub struct Stops {
     pub breakpoints: ArrayVec<Breakpoint, 64>,
     /// They have [`WATCH_LIMIT`] addresses at most.
     pub watches: ArrayVec<Watch, 16>,
+    /// Stops before each step of this thread, 1 to 64; none is for nobody's.
+    pub thread: Option<u8>,
     /// Stops where no event is under way.
     pub event_ends: bool,
 }
@@ -50,11 +52,13 @@ impl Stops {
     pub fn new() -> Stops
         ensures breakpoints { result.breakpoints.items ≡ [] }
         ensures watches { result.watches.items ≡ [] }
+        ensures thread { result.thread ≡ None }
         ensures event_ends { result.event_ends ≡ false }
     {
         Stops {
             breakpoints: ArrayVec::new(),
             watches: ArrayVec::new(),
+            thread: None,
             event_ends: false,
         }
     }
@@ -120,12 +124,19 @@ fn is_hit(breakpoint: &Breakpoint, thread: u8, pc: u32) -> bool
 }
 
 /// Whether it is at one of them.
-pub fn is_any_hit(breakpoints: &[Breakpoint], thread: u8, pc: u32) -> bool
+fn is_any_hit(breakpoints: &[Breakpoint], thread: u8, pc: u32) -> bool
     ensures { result ≡ is_any_hit (Some (thread, pc)) breakpoints.now }
 {
     breakpoints
         .iter()
         .any(|breakpoint| is_hit(breakpoint, thread, pc))
+}
+
+/// Whether the thread's step, whose instruction is at an address, is at a breakpoint, or of the thread whose steps are looked for.
+pub fn is_wanted(stops: &Stops, thread: u8, pc: u32) -> bool
+    ensures { result ≡ is_wanted stops.now (Some (thread, pc)) }
+{
+    is_any_hit(stops.breakpoints.as_slice(), thread, pc) || stops.thread == Some(thread)
 }
 
 /// Whose step is next, and where its instruction is, where the event is a run.
