@@ -33,7 +33,7 @@ none_made : (o : Option (ℕ × ℕ)) (s : State) → (into_run 0 o s).state ≡
 none_made None s = refl
 none_made (Some run) s = refl
 
-rests : (es : List Event) (s : State) → (into_first 0 es s).state ≡ s
+pub rests : (es : List Event) (s : State) → (into_first 0 es s).state ≡ s
 rests [] s = refl
 rests (e ∷ es) s = none_made (run_in e) s
 
@@ -45,6 +45,17 @@ at_rest_at k es s m all within is = record {
   state = is ∙ sym (rests (drop k es) (state_before k es s));
   output = λ some. absurd (omega (arith, some));
 }
+
+-- inside a run there is one if it is said so
+pub one_of : (p : Position) (es : List Event) (s : State) → AllAccepted es s → p.events ≤ length es → (0 < p.steps → IsPosition p es s) → IsPosition p es s
+one_of p es s all within inside = by p.steps refl
+  where
+    at_no_step : (q : Position) → q.steps ≡ 0 → q ≡ at_event q.events
+    at_no_step q is = ap (λ n. record { events = q.events; steps = n }) is
+
+    by : (n : ℕ) → p.steps ≡ n → IsPosition p es s
+    by zero is = subst (λ q. IsPosition q es s) (sym (at_no_step p is)) (at_start_of p.events es s all within)
+    by (suc n) is = inside (omega (arith, is))
 
 module _ (p : Position) (es : List Event) (s : State) (m : Machine) (e : Event) (at : IsAt m p es s) (is : slice_get es p.events ≡ Some e) where
   ahead : drop p.events es ≡ e ∷ drop (suc p.events) es

@@ -7,3 +7,4 @@ pub mod OrderLemmas
 pub mod SearchLemmas
 pub mod WatchLemmas
 pub mod SnapshotLemmas
+pub mod PageLemmas

@@ -251,3 +251,11 @@ pub steps_index : (k : ℕ) (es : List Event) (s : State) → k < length es → 
 steps_index k [] s less = absurd (omega arith)
 steps_index zero (e ∷ es) s less = refl
 steps_index (suc k) (e ∷ es) s less = steps_index k es (step e s).state (omega (arith, less))
+
+-- the first position is before any other
+pub from_start : (p : Position) → IsUpTo (at_event 0) p
+from_start p = by p.events refl
+  where
+    by : (n : ℕ) → p.events ≡ n → IsUpTo (at_event 0) p
+    by zero is = inr (sym is, omega arith)
+    by (suc n) is = inl (omega (arith, is))

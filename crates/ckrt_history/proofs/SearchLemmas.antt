@@ -1,5 +1,7 @@
 -- A walk from one position to another, with a look at each position on the way.
-use Rattle.std.proofs.Common.{◌≡◌, ◌⊎◌, ◌+◌, min, ℕ, ◌<◌, List, length, Option, Some, None, refl, sym, ap, ◌∙◌, subst, inl, inr, arith}
+use Rattle.std.proofs.Common.{◌≡◌, ◌⊎◌, ◌+◌, min, ◌&&◌, ◌||◌, ◌==◌, ℕ, ◌<◌, false, List, [], length, Option, Some, None, refl, sym, ap, ◌∙◌, subst, inl, inr, arith}
+use Rattle.std.specs.List.{list_any}
+use Rattle.std.proofs.lemmas.Bool.{false≢true}
 use Rattle.ckrt_events.specs.declared.event.Event.{Event}
 use Rattle.ckrt_machine.specs.Steps.{State}
 use Rattle.ckrt_machine.specs.Events.{AllAccepted}
@@ -7,7 +9,7 @@ use Rattle.ckrt_history.specs.declared.position.Position.{Position}
 use Rattle.ckrt_history.specs.declared.stop.Stops.{Stops}
 use Rattle.ckrt_history.specs.declared.stop.Watch.{Watch}
 use Rattle.ckrt_history.specs.Positions.{History, IsBefore, IsGreatest, IsLastOnWay, IsLeast, IsPosition, IsUpTo, NoneBefore, NoneBehind, next_position, previous_position}
-use Rattle.ckrt_history.specs.Stops.{HasChanged, IsStop, watched_at}
+use Rattle.ckrt_history.specs.Stops.{AreNone, HasChanged, IsStop, Runner, is_hit, is_of, is_wanted, runner_at, watched_at}
 use Rattle.ckrt_history.proofs.AtLemmas.{inside}
 use Rattle.ckrt_history.proofs.OrderLemmas.{up_or_behind, fewer_left, next_of_previous, previous_first, previous_inside, steps_left, before_is_up_to, before_or_there, next_is_behind, next_up_to, none_between, not_both, previous_of_next, there, up_to_before, up_to_itself, up_to_up_to}
 
@@ -253,3 +255,16 @@ fewer_kept p q none (inr a) = (let same = a.0 in let less = a.1 in omega (arith,
 
 pub way_ends : (stops : Stops) (h : History) (end : Position) (z : History) (seen : List ℕ) → IsOnWay stops h end z seen → (IsBefore z.position end → ⊥) → z.position ≡ end
 way_ends stops h end z seen way none = there z.position end way.ahead none
+
+-- NO REASON AT ALL
+
+unwanted : (stops : Stops) (r : Option Runner) → stops.breakpoints.items ≡ [] → stops.thread ≡ None → is_wanted stops r ≡ false
+unwanted stops None points thread = refl
+unwanted stops (Some r) points thread =
+    ap (λ bs. list_any (is_hit r) bs || is_of stops.thread r) points ∙ ap (λ t. is_of t r) thread
+
+pub none_stops : (stops : Stops) → stops.breakpoints.items ≡ [] → stops.watches.items ≡ [] → stops.thread ≡ None → stops.event_ends ≡ false → AreNone stops
+none_stops stops points watches thread ends h p (inl halts) =
+    false≢true (sym (ap (λ b. b || (stops.event_ends && p.steps == 0)) (unwanted stops (runner_at p h.events h.start) points thread) ∙ ap (λ b. b && p.steps == 0) ends) ∙ halts)
+none_stops stops points watches thread ends h p (inr changed) =
+    changed (ap (λ ws. watched_at ws (previous_position p h.events h.start) h.events h.start) watches ∙ sym (ap (λ ws. watched_at ws p h.events h.start) watches))

@@ -6,6 +6,7 @@ use Rattle.ckrt_machine.specs.Steps.{State}
 use Rattle.ckrt_machine.specs.Events.{AllAccepted, IsAccepted, Machine, step}
 use Rattle.ckrt_history.specs.declared.position.Position.{Position}
 use Rattle.ckrt_history.specs.declared.kept.Kept.{Kept}
+use Rattle.ckrt_history.specs.declared.kept.Room.{Room}
 use Rattle.ckrt_history.specs.declared.kept.Snapshot.{Snapshot}
 use Rattle.ckrt_history.specs.Positions.{History, IsPosition, into_run, run_in, state_at, state_before, steps_of}
 
@@ -32,7 +33,11 @@ pub record IsAt (m : Machine) (p : Position) (es : List Event) (s : State) : Typ
 
 -- the state that is kept
 abbrev pub kept_state : Kept → State
-kept_state k = record { bytes = k.memory.bytes; tables = k.tables }
+kept_state k = record { bytes = k.bytes.items; tables = k.tables }
+
+-- that in a room for one
+abbrev pub room_state : Room → State
+room_state r = record { bytes = r.memory.bytes; tables = r.tables }
 
 -- a state has as many bytes and harts as another
 pub record IsAlike (r s : State) : Type 0 where
@@ -45,10 +50,22 @@ pub record IsBeforeEvent (k : ℕ) (m : Machine) (es : List Event) (s : State) :
   pub state : m.state ≡ state_before k es s
   pub size : length m.state.bytes ≡ length s.bytes
 
--- what is kept is the state before an event
+-- inside a run it has put no byte yet
+abbrev pub IsSilent : Machine → Position → Type 0
+IsSilent m p = 0 < p.steps → m.output ≡ []
+
+-- the state of a machine at a position may be kept
+pub record CanBeKept (m : Machine) (p : Position) (es : List Event) (s : State) : Type 0 where
+  pub at : IsAt m p es s
+  pub silent : IsSilent m p
+  pub size : length m.state.bytes ≡ length s.bytes
+
+-- what is kept is the state at a position, which is before an event or where the run has put no byte yet
 pub record IsSnapshot (k : Snapshot) (es : List Event) (s : State) : Type 0 where
-  pub events : k.events ≤ length es
-  pub state : kept_state k.kept ≡ state_before k.events es s
+  pub events : k.position.events ≤ length es
+  pub within : 0 < k.position.steps → IsPosition k.position es s
+  pub state : kept_state k.kept ≡ (state_at k.position es s).state
+  pub silent : 0 < k.position.steps → (state_at k.position es s).output ≡ []
   pub well_formed : IsWellFormed k.kept.tables
   pub alike : IsAlike (kept_state k.kept) s
 

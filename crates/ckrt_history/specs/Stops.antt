@@ -113,3 +113,7 @@ HasChanged ws p es s =
 abbrev pub IsStop : Stops → History → Position → Type 0
 IsStop stops h p =
     IsTrue (is_halt stops p h.events h.start) ⊎ HasChanged stops.watches.items p h.events h.start
+
+-- there is none, wherever somebody stands
+abbrev pub AreNone : Stops → Type 0
+AreNone stops = (h : History) (p : Position) → IsStop stops h p → ⊥

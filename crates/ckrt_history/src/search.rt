@@ -45,6 +45,10 @@ impl History {
             → (self.new.position ≡ last)
             × NoneBehind (IsStop stops.now self.old) self.old.position last self.old }
     {
+        if stops.are_none() {
+            self.go_to(last);
+            return false;
+        }
         self.known();
         let mut seen = self.watched(stops);
         'steps: while self.position().is_before(last) {
@@ -112,6 +116,10 @@ impl History {
             → (self.new.position ≡ first)
             × NoneBefore (IsStop stops.now self.old) first self.old.position self.old }
     {
+        if stops.are_none() {
+            self.go_to(first);
+            return false;
+        }
         let here = self.position();
         if !first.is_before(here) {
             return false;

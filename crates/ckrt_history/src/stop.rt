@@ -1,6 +1,6 @@
 //! Where a walk through a history stops.
-ghost use Rattle.std.specs.Prelude.{◌≡◌, ◌<◌, ◌≤◌, ◌+◌, ◌++◌, [], length, false, Some, None};
-ghost use Rattle.ckrt_history.specs.Stops.{bytes_at, bytes_in, is_any_hit, is_hit, is_wanted, runner_in, watched, width, widths};
+ghost use Rattle.std.specs.Prelude.{◌≡◌, ◌<◌, ◌≤◌, ◌+◌, ◌++◌, [], length, false, IsTrue, Some, None};
+ghost use Rattle.ckrt_history.specs.Stops.{AreNone, bytes_at, bytes_in, is_any_hit, is_hit, is_wanted, runner_in, watched, width, widths};
 ghost use Rattle.ckrt_history.specs.Positions.{run_in};
 
 use crate::replay::run_in;
@@ -61,6 +61,17 @@ impl Stops {
             thread: None,
             event_ends: false,
         }
+    }
+
+    /// Whether there is no reason to stop, wherever somebody stands.
+    #[tactic(auto, using(crate::proofs::SearchLemmas::none_stops))]
+    pub fn are_none(&self) -> bool
+        ensures { IsTrue result → AreNone self.now }
+    {
+        self.breakpoints.is_empty()
+            && self.watches.is_empty()
+            && self.thread.is_none()
+            && !self.event_ends
     }
 
     /// How many addresses the watches have.

@@ -17,10 +17,10 @@ const ALL: &[u8] = b"0+0 place 0 1\n2+0 thread 1 putc(65) = 0\n2+3 thread 1 exit
 
 const RANGE: Result<(), InspectFault> = Err(InspectFault::Range);
 
-/// Without a checkpoint, and with one behind the first event.
+/// Without a checkpoint, and with one behind the first event and one behind the second.
 const WHOLE: Row = (&[], &[2, 4]);
 
-const SAVED: Row = (&[1], &[2, 4]);
+const SAVED: Row = (&[1, 2], &[2, 4]);
 
 /// Where a stretch begins and ends, the answer, and what is written.
 type Told = (
@@ -42,8 +42,9 @@ const OF_THE_WHOLE: [Told; 9] = [
     (None, Some(4), RANGE, b""),
 ];
 
-const OF_THE_SAVED: [Told; 4] = [
+const OF_THE_SAVED: [Told; 5] = [
     (None, None, Ok(()), CALLED),
+    (Some(2), None, Ok(()), CALLED),
     (Some(1), Some(3), Ok(()), CALLED),
     (Some(0), None, RANGE, b""),
     (None, Some(0), RANGE, b""),

@@ -19,7 +19,11 @@ const SMALL: Config = Config {
 
 const FIRST_AREA: usize = 4_096;
 
+const SECOND_AREA: usize = 172_032;
+
 const JOURNAL: usize = 339_968;
+
+const SECOND_JOURNAL: usize = 344_064;
 
 /// Behind which events a checkpoint is made, and the steps of the runs. The first event places thread 1, each other one is a run.
 pub type Row = (&'static [usize], &'static [u16]);
@@ -113,12 +117,8 @@ fn machine_behind<R: Abort + AllocGlobal>(rt: &R, runs: &[u16], count: usize) ->
     machine
 }
 
-/// The events of a row behind its last checkpoint are recorded, and the machine behind those before.
-fn expect_recorded<R: Abort + AllocGlobal>(rt: &R, row: &Row, recording: &Recording) {
-    let first = match row.0.last() {
-        Some(count) => *count,
-        None => 0,
-    };
+/// The events of a row behind its first so many are recorded, and the machine behind those.
+fn expect_recorded<R: Abort + AllocGlobal>(rt: &R, row: &Row, first: usize, recording: &Recording) {
     expect_eq(rt, recording.first, first as u64);
     expect_same(rt, &recording.machine, &machine_behind(rt, row.1, first));
     expect_eq(
@@ -131,17 +131,25 @@ fn expect_recorded<R: Abort + AllocGlobal>(rt: &R, row: &Row, recording: &Record
     }
 }
 
-fn expect_row<R: Abort + AllocGlobal>(rt: &R, row: &Row) {
-    match outcome(rt, &mut played(rt, row)) {
-        Ok(recording) => expect_recorded(rt, row, &recording),
+fn expect_from<R: Abort + AllocGlobal>(rt: &R, row: &Row, first: usize, disk: &mut MemoryDisk) {
+    match outcome(rt, disk) {
+        Ok(recording) => expect_recorded(rt, row, first, &recording),
         Err(fault) => panic!(rt; "{fault}"),
     }
 }
 
+/// Behind how many events the last checkpoint but one was made: formatting counts as one.
+fn last_but_one(row: &Row) -> usize {
+    match row.0.iter().rev().nth(1) {
+        Some(count) => *count,
+        None => 0,
+    }
+}
+
 #[test]
-fn events_are_recorded_from_the_last_checkpoint_on(rt: HostRuntime) {
+fn events_are_recorded_from_the_last_checkpoint_but_one_on(rt: HostRuntime) {
     for row in &ROWS {
-        expect_row(&rt, row);
+        expect_from(&rt, row, last_but_one(row), &mut played(&rt, row));
     }
 }
 
@@ -155,6 +163,58 @@ fn a_fresh_disk_has_no_event(rt: HostRuntime) {
         }
         Err(fault) => panic!(rt; "{fault}"),
     }
+}
+
+/// A checkpoint behind the first event, into the second area, and one behind the second event, into the first. The journal of the second
+/// area has a Run of two steps.
+const SAVED: Row = (&[1, 2], &[2, 1]);
+
+/// Bytes laid over the older area or its journal, where they change what is there.
+const LAID: [(usize, &[u8]); 15] = [
+    // Its gate; another generation, generation 0; another version; another count; a count, an offset out of range.
+    (SECOND_AREA, &[0]),
+    (SECOND_AREA + 8, &[1]),
+    (SECOND_AREA + 8, &[0]),
+    (SECOND_AREA + 36, &[9]),
+    (SECOND_AREA + 16, &[0]),
+    (SECOND_AREA + 23, &[0x40]),
+    (SECOND_AREA + 31, &[0x40]),
+    // Tables of another length, tables that nothing has, another clock, and a byte of the last page.
+    (SECOND_AREA + 32, &[0xb1]),
+    (SECOND_AREA + 4_096 + 8, &[9]),
+    (SECOND_AREA + 4_096, &[1]),
+    (SECOND_AREA + 102_400 + 65_535, &[1]),
+    // A batch less; a Run of one step; one on a hart that isn't there; an open gate without a batch.
+    (SECOND_JOURNAL, &[0]),
+    (SECOND_JOURNAL + 5, &[1]),
+    (SECOND_JOURNAL + 4, &[1]),
+    (SECOND_JOURNAL + 7, &[0xa5]),
+];
+
+/// Whatever the older area has, if it doesn't lead to the newer: what is recorded begins later, and it's no fault.
+#[test]
+fn an_older_area_that_does_not_lead_on_is_left_out(rt: HostRuntime) {
+    for (at, bytes) in &LAID {
+        let mut disk = played(&rt, &SAVED);
+        expect_from(&rt, &SAVED, 1, &mut disk);
+        let end = at.saturating_add(bytes.len());
+        assert!(&rt; end <= disk.size());
+        assert!(&rt; disk.write(*at, bytes).is_ok());
+        expect_from(&rt, &SAVED, 2, &mut disk);
+    }
+}
+
+/// What is pending at a checkpoint stands in no journal, so nothing leads to that.
+#[test]
+fn a_checkpoint_in_place_of_a_commit_begins_anew(rt: HostRuntime) {
+    let row: Row = (&[], &[2, 1]);
+    let mut session = recovered(&rt, formatted(&rt));
+    submit(&rt, &mut session, &event_of(row.1, 0));
+    submit(&rt, &mut session, &event_of(row.1, 1));
+    assert!(&rt; session.checkpoint().is_ok());
+    submit(&rt, &mut session, &event_of(row.1, 2));
+    assert!(&rt; session.commit().is_ok());
+    expect_from(&rt, &row, 2, &mut session.into_disk());
 }
 
 /// Bytes laid over a formatted disk, and the fault.

@@ -1,2 +1,4 @@
 pub mod ReadLemmas
+pub mod FindLemmas
 pub mod RecordedLemmas
+pub mod WayLemmas

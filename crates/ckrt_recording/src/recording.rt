@@ -13,5 +13,6 @@ pub struct Recording {
     pub machine: Machine,
     /// The events from there on, in order.
     pub events: Vec<Event>,
+    ghost small: { first < 2 ^ 62 },
     ghost bounded: { first + length events.items < 2 ^ 64 },
 }

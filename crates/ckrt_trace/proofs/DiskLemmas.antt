@@ -15,7 +15,7 @@ use Rattle.ckrt_inspect.specs.declared.fault.InspectFault.{InspectFault}
 use Rattle.ckrt_inspect.specs.declared.fault.InspectFault.TheVariants.{NotFormatted, Version, Damaged, Device, OutOfMemory, Write, Range}
 use Rattle.ckrt_trace.specs.declared.disk.Stretch.{Stretch}
 use Rattle.ckrt_trace.specs.Disks.{IsEventsFault, IsFaultOf, IsToldFault, IsWithin, Tells, Traces, from_of, last_of, lines_from, lines_of, state_of, to_of}
-use Rattle.ckrt_trace.proofs.WayLemmas.{accepted_behind, accepted_first}
+use Rattle.ckrt_recording.proofs.WayLemmas.{accepted_behind, accepted_first}
 
 -- A FAULT OF SOME OF THE EVENTS IS ONE OF THEM ALL
 

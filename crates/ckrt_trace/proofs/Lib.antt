@@ -1,4 +1,3 @@
 pub mod AppendLemmas
 pub mod RunLemmas
-pub mod WayLemmas
 pub mod DiskLemmas

@@ -5,7 +5,7 @@ use Rattle.ckrt_machine.specs.Events.{step}
 use Rattle.ckrt_trace.specs.Disks.{lines_from}
 use Rattle.ckrt_trace.specs.Events.{event_lines}
 use Rattle.ckrt_trace.proofs.AppendLemmas.{Completes, completes_more}
-use Rattle.ckrt_trace.proofs.WayLemmas.{IsOnWay, next_ahead, way_next}
+use Rattle.ckrt_recording.proofs.WayLemmas.{IsOnWay, next_ahead, way_next}
 use Rattle.ckrt_trace.proofs.disk.write_events.Goals as goal
 
 pub loop-event-preserved : goal.loop-event-preserved

@@ -1,7 +1,7 @@
 use Rattle.std.proofs.Common.{◌≡◌, ◌+◌, drop}
 use Rattle.ckrt_trace.specs.Disks.{lines_from}
 use Rattle.ckrt_trace.proofs.AppendLemmas.{Completes}
-use Rattle.ckrt_trace.proofs.WayLemmas.{IsOnWay}
+use Rattle.ckrt_recording.proofs.WayLemmas.{IsOnWay}
 use Rattle.ckrt_trace.proofs.disk.write_events.Given as goal
 
 abbrev pub invariant-loop-event : goal.invariant-loop-event

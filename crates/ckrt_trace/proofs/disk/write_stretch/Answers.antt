@@ -4,7 +4,7 @@ use Rattle.ckrt_machine.specs.Events.{AllAccepted, fold}
 use Rattle.ckrt_recording.specs.Recording.{Recorded}
 use Rattle.ckrt_trace.specs.Disks.{IsWithin, from_of, last_of, to_of}
 use Rattle.ckrt_trace.proofs.DiskLemmas.{stretch_told}
-use Rattle.ckrt_trace.proofs.WayLemmas.{accepted_first}
+use Rattle.ckrt_recording.proofs.WayLemmas.{accepted_first}
 use Rattle.ckrt_trace.proofs.disk.write_stretch.Goals as goal
 
 pub returns-then-not-advance : goal.returns-then-not-advance

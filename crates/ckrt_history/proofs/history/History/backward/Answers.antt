@@ -22,16 +22,16 @@ pub returns-in-Some-last_on_way-clause-found : goal.returns-in-Some-last_on_way-
 returns-in-Some-last_on_way-clause-found c = λ _.
     let stops = c.args.stops.now in let h = c.args.self.now in let first = c.args.first in let from = c.in-Some.from in
     let here = c.position-here.result in let q = c.in-Some-last_on_way.position in
-    let gone = c.go_to.ensures ∙ ap (λ (x : History). record x { position = from }) c.kept.invariant.history in
+    let gone = c.go_to-in-Some.ensures ∙ ap (λ (x : History). record x { position = from }) c.kept.invariant.history in
     let at = ap (λ (x : History). x.position) c.go_to-in-Some-last_on_way.ensures in
     subst (λ p. IsGreatest (IsStop stops h) first h.position p h) (sym at)
-    (greatest stops h c.go_to.new.self from c.kept.end here gone c.kept.invariant.none first q c.position-here.ensures.position (before_is_up_to first from c.in-Some.ensures.behind) c.in-Some-last_on_way.ensures.found)
+    (greatest stops h c.go_to-in-Some.new.self from c.kept.end here gone c.kept.invariant.none first q c.position-here.ensures.position (before_is_up_to first from c.in-Some.ensures.behind) c.in-Some-last_on_way.ensures.found)
 
 pub kept-preserved : goal.kept-preserved
 kept-preserved c =
     let stops = c.args.stops.now in let h = c.args.self.now in let from = c.in-Some.from in let end = c.kept.end in
-    let here = c.position-here.result in let z = c.go_to.new.self in
-    let gone = c.go_to.ensures ∙ ap (λ (x : History). record x { position = from }) c.kept.invariant.history in
+    let here = c.position-here.result in let z = c.go_to-in-Some.new.self in
+    let gone = c.go_to-in-Some.ensures ∙ ap (λ (x : History). record x { position = from }) c.kept.invariant.history in
     let all : c.last_on_way.new.self ≡ record h { position = end } = c.last_on_way.ensures.position ∙ ap (λ (x : History). record x { position = end }) gone in
     let at = ap (λ (x : History). x.position) all in
     record {
