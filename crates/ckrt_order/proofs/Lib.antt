@@ -1,2 +1,6 @@
 pub mod ListLemmas
 pub mod FoundLemmas
+pub mod ClockLemmas
+pub mod SeenLemmas
+pub mod RaceLemmas
+pub mod KeptLemmas

@@ -1,14 +1,15 @@
 -- What the clocks tell, and what is found.
-use Rattle.std.specs.Prelude.{◌≡◌, ◌≤◌, ◌<◌, ℕ, ◌+◌, List, [], ◌∷◌, Some}
-use Rattle.std.specs.List.{AllByRecursion}
+use Rattle.std.specs.Prelude.{◌≡◌, ◌⊎◌, ◌≤◌, ◌<◌, ℕ, ◌+◌, true, false, List, [], ◌∷◌, ◌++◌, slice_get, Some}
+use Rattle.std.specs.List.{AllByRecursion, list_any}
 use Rattle.ckrt_order.specs.declared.operation.Place.{Place}
 use Rattle.ckrt_order.specs.declared.operation.Access.{Access}
 use Rattle.ckrt_order.specs.declared.operation.Operation.{Operation}
 use Rattle.ckrt_order.specs.declared.operation.Operation.TheVariants as operation
 use Rattle.ckrt_order.specs.declared.operation.TheConstants.{THREADS}
 use Rattle.ckrt_order.specs.declared.pair.Pair.{Pair}
-use Rattle.ckrt_order.specs.Histories.{History, IsRace, moment, op_at, seen}
-use Rattle.ckrt_order.specs.Detection.{knows, watched}
+use Rattle.ckrt_order.specs.declared.shadow.Cell.{Cell}
+use Rattle.ckrt_order.specs.Histories.{History, IsRace, conflict, moment, op_at, seen}
+use Rattle.ckrt_order.specs.Detection.{Found, is_at, knows, watched, word_of}
 
 -- AN ORDERLY HISTORY: its numbers are those of threads and holders, and its places rise, an access having one alone
 
@@ -46,3 +47,30 @@ abbrev pub OnlyRacesAreFound : Type 0
 OnlyRacesAreFound =
     (holders words : ℕ) (past : History) → THREADS ≤ holders → IsOrderly holders past
     → AllByRecursion (IsRaceOf past) (watched past holders words).found.pairs
+
+-- EACH RACE WITH AN ACCESS THAT IS KEPT IS FOUND, and stays found
+
+-- an access is one of those that the shadow keeps
+abbrev pub IsKept : Access → Cell → Type 0
+IsKept a c = (c.store ≡ Some a) ⊎ ((c.load ≡ Some a) ⊎ (c.other ≡ Some a))
+
+-- their places have a row, or some places found none left
+abbrev pub AreFound : Access → Access → Found → Type 0
+AreFound a b f = (list_any (is_at a b) f.pairs ≡ true) ⊎ (0 < f.others)
+
+-- a second access comes, and races with a first that is kept of its word
+pub record MeetsKept (holders words : ℕ) (past : History) (first second : Access) : Type 0 where
+  pub orderly : IsOrderly holders (operation.Access second ∷ past)
+  pub cell : Cell
+  pub has : slice_get (watched past holders words).shadow (word_of second) ≡ Some cell
+  pub kept : IsKept first cell
+  pub i : ℕ
+  pub at : op_at past i ≡ Some (operation.Access first)
+  pub conflict : conflict first second ≡ true
+  pub unseen : seen past second.thread i ≡ false
+
+abbrev pub KeptRacesAreFound : Type 0
+KeptRacesAreFound =
+    (holders words : ℕ) (later past : History) (a b : Access) → THREADS ≤ holders
+    → MeetsKept holders words past a b
+    → AreFound a b (watched (later ++ operation.Access b ∷ past) holders words).found

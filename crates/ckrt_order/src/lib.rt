@@ -7,12 +7,14 @@
 mod clock;
 mod detector;
 mod found;
+mod laws;
 mod operation;
 mod pair;
 mod shadow;
 
 pub use clock::Clock;
 pub use detector::Detector;
+pub use laws::{clocks_are_exact, kept_races_are_found, only_races_are_found};
 pub use operation::{Access, Operation, Place, THREADS};
 pub use pair::{PAIRS, Pair};
 pub use shadow::Cell;
