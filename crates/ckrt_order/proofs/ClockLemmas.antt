@@ -1,12 +1,12 @@
 -- What clocks say: of each holder and each thread, a moment.
-use Rattle.std.proofs.Common.{◌≡◌, ◌≢◌, ◌≤◌, ◌<◌, ◌⊎◌, ℕ, zero, suc, ◌+◌, max, nat_lt, ◌==◌, ◌||◌, Bool, true, false, if◌then◌else◌, List, [], ◌∷◌, length, get_or, slice_set, replicate, refl, sym, ap, ◌∙◌, subst, arith}
+use Rattle.std.proofs.Common.{◌≡◌, ◌≢◌, ◌≤◌, ◌<◌, ℕ, zero, suc, max, nat_lt, ◌==◌, ◌||◌, Bool, true, false, List, [], ◌∷◌, length, get_or, slice_set, replicate, refl, sym, ap, ◌∙◌, subst, arith}
 use Rattle.std.proofs.lemmas.Bool.Decides.{nat_tests}
 use Rattle.std.proofs.lemmas.List.{get_or-set_same, get_or-set_other, length-set}
 use Rattle.ckrt_order.specs.declared.operation.Place.{Place}
 use Rattle.ckrt_order.specs.declared.operation.TheConstants.{THREADS}
 use Rattle.ckrt_order.specs.declared.clock.Clock.{Clock}
 use Rattle.ckrt_order.specs.Histories.{is_before, moment}
-use Rattle.ckrt_order.specs.Detection.{clock_at, clock_of, joined, later, learned, no_clock, nothing, passed}
+use Rattle.ckrt_order.specs.Detection.{clock_at, clock_of, joined, later, no_clock, nothing, passed}
 use Rattle.ckrt_order.proofs.ListLemmas.{chosen, passed_over}
 
 -- the moment before which a holder has seen the accesses of a thread
@@ -97,10 +97,12 @@ at_most n from p cs u m are low place = go (u == from) refl
     beyond : THREADS ≤ from → time_at from p cs u ≤ m
     beyond le = (let e = passed_over (nat_lt from THREADS) (record { seen = slice_set (clock_of from cs).seen from p }) (clock_of from cs) (not_less_test from THREADS le) in
         subst (λ (c : Clock). moment (get_or c.seen u nothing) ≤ m) (sym e) low)
+
     own : u ≡ from → (t : Bool) → nat_lt from THREADS ≡ t → time_at from p cs u ≤ m
     own same true e = (let is_thread : from < THREADS = grind (arith, nat_tests, e) in
         subst (λ v. time_at from p cs v ≤ m) (sym same) (omega (arith, own_time n from p cs are is_thread, place)))
     own same false e = beyond (grind (arith, nat_tests, e))
+
     go : (t : Bool) → (u == from) ≡ t → time_at from p cs u ≤ m
     go true e = own (is_same u from e) (nat_lt from THREADS) refl
     go false e = omega (arith, other_time from p cs u (is_other u from e), low)
@@ -123,8 +125,10 @@ are_passed n from to p cs are there = record { holders = length-set cs to new �
   where
     new : Clock
     new = record { seen = joined (clock_of to cs).seen (clock_at from p cs).seen }
+
     new_size : length new.seen ≡ THREADS
     new_size = joined_length (clock_of to cs).seen (clock_at from p cs).seen (are.sizes to ∙ sym (at_length n from p cs are)) ∙ are.sizes to
+
     size : (h : ℕ) (t : Bool) → (h == to) ≡ t → length (clock_of h (passed from to p cs)).seen ≡ THREADS
     size h true e = subst (λ k. length (clock_of k (passed from to p cs)).seen ≡ THREADS) (sym (is_same h to e))
         (ap (λ (c : Clock). length c.seen) (get_or-set_same cs to new no_clock (omega (arith, are.holders, there))) ∙ new_size)

@@ -1,9 +1,8 @@
 -- Each race with an access that is kept is found.
-use Rattle.std.proofs.Common.{◌≡◌, ◌⊎◌, inl, inr, ◌≤◌, ◌<◌, ℕ, zero, suc, ◌+◌, nat_lt, ◌==◌, ◌||◌, ◌&&◌, not, Bool, true, false, if◌then◌else◌, List, [], ◌∷◌, ◌++◌, length, slice_get, Option, Some, None, refl, sym, ap, ◌∙◌, subst, arith}
+use Rattle.std.proofs.Common.{◌≡◌, ◌⊎◌, inl, inr, ◌≤◌, ℕ, nat_lt, ◌==◌, ◌||◌, ◌&&◌, not, Bool, true, false, List, [], ◌∷◌, ◌++◌, length, slice_get, Option, Some, None, refl, sym, ap, ◌∙◌, subst, arith}
 use Rattle.std.proofs.lemmas.Bool.Decides.{nat_tests}
 use Rattle.std.specs.List.{list_any}
 use Rattle.ckrt_order.specs.declared.operation.Access.{Access}
-use Rattle.ckrt_order.specs.declared.operation.Operation.{Operation}
 use Rattle.ckrt_order.specs.declared.operation.Operation.TheVariants as operation
 use Rattle.ckrt_order.specs.declared.operation.TheConstants.{THREADS}
 use Rattle.ckrt_order.specs.declared.clock.Clock.{Clock}
@@ -11,7 +10,7 @@ use Rattle.ckrt_order.specs.declared.shadow.Cell.{Cell}
 use Rattle.ckrt_order.specs.declared.pair.Pair.{Pair}
 use Rattle.ckrt_order.specs.declared.pair.TheConstants.{PAIRS}
 use Rattle.ckrt_order.specs.Histories.{History, conflict}
-use Rattle.ckrt_order.specs.Detection.{Found, Watched, access_at, behind, compared, compared_all, counted, first_pair, is_at, knows, noted, one_more, races, watched, with_pair, word_of}
+use Rattle.ckrt_order.specs.Detection.{Found, Watched, access_at, compared, compared_all, counted, first_pair, is_at, knows, noted, one_more, races, watched, with_pair, word_of}
 use Rattle.ckrt_order.specs.Laws.{AreFound, KeptRacesAreFound, MeetsKept}
 use Rattle.ckrt_order.proofs.ListLemmas.{chosen, passed_over}
 use Rattle.ckrt_order.proofs.SeenLemmas.{tells}

@@ -1,18 +1,16 @@
 -- Only races are found.
-use Rattle.std.proofs.Common.{◌≡◌, ◌≢◌, ◌≤◌, ◌<◌, ℕ, zero, suc, ◌+◌, nat_lt, ◌==◌, ◌||◌, ◌&&◌, not, Bool, true, false, if◌then◌else◌, List, [], ◌∷◌, ◌++◌, length, get_or, slice_get, slice_set, replicate, Option, Some, None, refl, sym, ap, ◌∙◌, subst, arith}
+use Rattle.std.proofs.Common.{◌≡◌, ◌≤◌, ◌<◌, ℕ, zero, suc, nat_lt, ◌==◌, ◌&&◌, not, Bool, true, false, List, [], ◌∷◌, ◌++◌, length, slice_get, slice_set, replicate, Option, Some, None, refl, sym, ap, ◌∙◌, subst, arith}
 use Rattle.std.proofs.lemmas.Bool.Decides.{nat_tests}
 use Rattle.std.specs.List.{AllByRecursion, list_any}
-use Rattle.ckrt_order.specs.declared.operation.Place.{Place}
 use Rattle.ckrt_order.specs.declared.operation.Access.{Access}
 use Rattle.ckrt_order.specs.declared.operation.Operation.{Operation}
 use Rattle.ckrt_order.specs.declared.operation.Operation.TheVariants as operation
 use Rattle.ckrt_order.specs.declared.operation.TheConstants.{THREADS}
-use Rattle.ckrt_order.specs.declared.clock.Clock.{Clock}
 use Rattle.ckrt_order.specs.declared.shadow.Cell.{Cell}
 use Rattle.ckrt_order.specs.declared.pair.Pair.{Pair}
 use Rattle.ckrt_order.specs.declared.pair.TheConstants.{PAIRS}
-use Rattle.ckrt_order.specs.Histories.{History, IsRace, conflict, moment, op_at, seen}
-use Rattle.ckrt_order.specs.Detection.{Found, Watched, access_at, behind, compared, compared_all, counted, first_pair, is_at, is_by, kept, knows, no_accesses, noted, one_more, races, watched, with_load, with_pair, word_of}
+use Rattle.ckrt_order.specs.Histories.{History, IsRace, conflict, op_at}
+use Rattle.ckrt_order.specs.Detection.{Found, access_at, compared, compared_all, counted, first_pair, is_at, is_by, kept, knows, no_accesses, noted, one_more, races, watched, with_load, with_pair, word_of}
 use Rattle.ckrt_order.specs.Laws.{ClocksAreExact, IsOrderly, IsRaceOf, OnlyRacesAreFound}
 use Rattle.ckrt_order.proofs.ListLemmas.{chosen, passed_over}
 use Rattle.ckrt_order.proofs.SeenLemmas.{Tell, op_stays, tells}
@@ -163,9 +161,9 @@ access_races n words past b None is told thread are = (
 )
 access_races n words past b (Some c) is told thread are = (
   all_set (AreAccesses (operation.Access b ∷ past)) (watched past n words).shadow (word_of b) (kept b c) (all_stay past (operation.Access b) (watched past n words).shadow are.shadow)
-  (is_kept past b c b.is_store refl (at_place (AreAccesses past) (watched past n words).shadow (word_of b) c are.shadow is)),
+      (is_kept past b c b.is_store refl (at_place (AreAccesses past) (watched past n words).shadow (word_of b) c are.shadow is)),
   all_of_cell n words past b told thread c (watched past n words).found (at_place (AreAccesses past) (watched past n words).shadow (word_of b) c are.shadow is)
-  (all_go_on past (operation.Access b) (watched past n words).found.pairs are.pairs),
+      (all_go_on past (operation.Access b) (watched past n words).found.pairs are.pairs),
 )
 
 are_races : (n words : ℕ) (past : History) → THREADS ≤ n → IsOrderly n past → AreRaces n words past

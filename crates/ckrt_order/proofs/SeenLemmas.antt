@@ -1,6 +1,5 @@
 -- What is seen, and what clocks tell of it.
-use Rattle.std.proofs.Common.{◌≡◌, ◌≢◌, ◌≤◌, ◌<◌, ℕ, zero, suc, ◌+◌, max, nat_lt, ◌==◌, ◌||◌, ◌&&◌, Bool, true, false, if◌then◌else◌, List, [], ◌∷◌, length, get_or, slice_get, Option, Some, None, refl, sym, ap, ◌∙◌, subst, arith}
-use Rattle.std.proofs.lemmas.Bool.Decides.{nat_tests}
+use Rattle.std.proofs.Common.{◌≡◌, ◌≢◌, ◌≤◌, ◌<◌, ℕ, suc, ◌+◌, max, nat_lt, ◌==◌, ◌||◌, ◌&&◌, Bool, true, false, List, [], ◌∷◌, length, slice_get, Option, Some, None, refl, sym, ap, ◌∙◌, subst, arith}
 use Rattle.ckrt_order.specs.declared.operation.Place.{Place}
 use Rattle.ckrt_order.specs.declared.operation.Access.{Access}
 use Rattle.ckrt_order.specs.declared.operation.Operation.{Operation}
@@ -9,8 +8,8 @@ use Rattle.ckrt_order.specs.declared.operation.TheConstants.{THREADS}
 use Rattle.ckrt_order.specs.declared.clock.Clock.{Clock}
 use Rattle.ckrt_order.specs.declared.shadow.Cell.{Cell}
 use Rattle.ckrt_order.specs.Histories.{History, moment, op_at, seen}
-use Rattle.ckrt_order.specs.Detection.{Watched, access_at, behind, knows, no_clock, passed, watched, word_of}
-use Rattle.ckrt_order.specs.Laws.{IsOrderly, HasNumbers, moment_of, next_moment}
+use Rattle.ckrt_order.specs.Detection.{Watched, access_at, passed, watched, word_of}
+use Rattle.ckrt_order.specs.Laws.{IsOrderly, next_moment}
 use Rattle.ckrt_order.proofs.ListLemmas.{chosen, passed_over}
 use Rattle.ckrt_order.proofs.ClockLemmas.{AreClocks, are_fresh, are_passed, at_most, fresh_time, is_other, is_same, kept_time, less_test, lt_max, not_less_test, other_test, other_time, own_time, passed_time, same_test, time, time_at}
 
@@ -172,22 +171,24 @@ module _ (n words : ℕ) (past : History) (from to : ℕ) (p : Place) (told : Te
     where
       cs : List Clock
       cs = clocks_in past n words
+
       Passes : Type 0
       Passes = (seen past to i || seen past from i) ≡ (to == a.thread || nat_lt (moment a.place) (max (time (clocks_in past n words) to a.thread) (time_at from p (clocks_in past n words) a.thread)))
+
       go : (t : Bool) → (from == a.thread) ≡ t → (seen past to i || seen past from i) ≡ (to == a.thread || nat_lt (moment a.place) (max (time (clocks_in past n words) to a.thread) (time_at from p (clocks_in past n words) a.thread)))
       go true e =
           let same : from ≡ a.thread = is_same from a.thread e in
           let own : time_at from p (clocks_in past n words) a.thread ≡ moment p = subst (λ u. time_at from p (clocks_in past n words) u ≡ moment p) same
-              (own_time n from p (clocks_in past n words) told.clocks (subst (λ u. u < THREADS) (sym same) (told.threads i a is))) in
+          (own_time n from p (clocks_in past n words) told.clocks (subst (λ u. u < THREADS) (sym same) (told.threads i a is))) in
           let less : nat_lt (moment a.place) (max (time (clocks_in past n words) to a.thread) (time_at from p (clocks_in past n words) a.thread)) ≡ true =
-              less_test (moment a.place) (max (time (clocks_in past n words) to a.thread) (time_at from p (clocks_in past n words) a.thread)) (omega (arith, own, told.earlier i a is, rises)) in
+          less_test (moment a.place) (max (time (clocks_in past n words) to a.thread) (time_at from p (clocks_in past n words) a.thread)) (omega (arith, own, told.earlier i a is, rises)) in
           let seen_from : seen past from i ≡ true = told.exact from i a has is ∙ ap (λ t. t || nat_lt (moment a.place) (time (clocks_in past n words) from a.thread)) e in
           ap (λ t. seen past to i || t) seen_from ∙ or_true (seen past to i) ∙ sym (ap (λ t. to == a.thread || t) less ∙ or_true (to == a.thread))
       go false e =
           let other : a.thread ≢ from = λ same. is_other from a.thread e (sym same) in
           let seen_from : seen past from i ≡ nat_lt (moment a.place) (time_at from p (clocks_in past n words) a.thread) =
-              told.exact from i a has is ∙ ap (λ t. t || nat_lt (moment a.place) (time (clocks_in past n words) from a.thread)) e
-              ∙ ap (λ m. nat_lt (moment a.place) m) (sym (other_time from p (clocks_in past n words) a.thread other)) in
+          told.exact from i a has is ∙ ap (λ t. t || nat_lt (moment a.place) (time (clocks_in past n words) from a.thread)) e
+          ∙ ap (λ m. nat_lt (moment a.place) m) (sym (other_time from p (clocks_in past n words) a.thread other)) in
           ap (λ t. seen past to i || t) seen_from ∙ ap (λ t. t || nat_lt (moment a.place) (time_at from p (clocks_in past n words) a.thread)) (told.exact to i a there is)
           ∙ or_or (to == a.thread) (nat_lt (moment a.place) (time (clocks_in past n words) to a.thread)) (nat_lt (moment a.place) (time_at from p (clocks_in past n words) a.thread))
           ∙ ap (λ t. to == a.thread || t) (sym (lt_max (moment a.place) (time (clocks_in past n words) to a.thread) (time_at from p (clocks_in past n words) a.thread)))
@@ -200,7 +201,7 @@ module _ (n words : ℕ) (past : History) (from to : ℕ) (p : Place) (told : Te
       go true e =
           ap (λ t. seen past h i || (t && seen past from i)) e
           ∙ subst (λ k. (seen past k i || seen past from i) ≡ (k == a.thread || nat_lt (moment a.place) (time (passed from to p (clocks_in past n words)) k a.thread))) (sym (is_same h to e))
-            (passes i a is ∙ ap (λ m. to == a.thread || nat_lt (moment a.place) m) (sym (passed_time n from to p (clocks_in past n words) a.thread told.clocks there)))
+          (passes i a is ∙ ap (λ m. to == a.thread || nat_lt (moment a.place) m) (sym (passed_time n from to p (clocks_in past n words) a.thread told.clocks there)))
       go false e =
           ap (λ t. seen past h i || (t && seen past from i)) e ∙ or_false (seen past h i) ∙ told.exact h i a l is
           ∙ ap (λ m. h == a.thread || nat_lt (moment a.place) m) (sym (kept_time from to p (clocks_in past n words) h a.thread (is_other h to e)))

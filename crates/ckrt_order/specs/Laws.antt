@@ -1,7 +1,6 @@
 -- What the clocks tell, and what is found.
-use Rattle.std.specs.Prelude.{◌≡◌, ◌⊎◌, ◌≤◌, ◌<◌, ℕ, ◌+◌, true, false, List, [], ◌∷◌, ◌++◌, slice_get, Some}
+use Rattle.std.specs.Prelude.{◌≡◌, ◌⊎◌, ◌≤◌, ◌<◌, ℕ, ◌+◌, true, false, [], ◌∷◌, ◌++◌, slice_get, Some}
 use Rattle.std.specs.List.{AllByRecursion, list_any}
-use Rattle.ckrt_order.specs.declared.operation.Place.{Place}
 use Rattle.ckrt_order.specs.declared.operation.Access.{Access}
 use Rattle.ckrt_order.specs.declared.operation.Operation.{Operation}
 use Rattle.ckrt_order.specs.declared.operation.Operation.TheVariants as operation

@@ -115,7 +115,12 @@ impl Detector {
         match operation {
             Operation::Access(access) => self.access(access),
             Operation::Pass(from, to, place) => {
-                pass(&mut self.clocks, usize::from(*from), usize::from(*to), *place);
+                pass(
+                    &mut self.clocks,
+                    usize::from(*from),
+                    usize::from(*to),
+                    *place,
+                );
             }
         }
     }

@@ -1,8 +1,7 @@
-use Rattle.std.proofs.Common.{◌≡◌, ◌<◌, ◌+◌, take, get_or, length, true, false, if◌then◌else◌, Bool, refl, sym, ap, ◌∙◌, subst, slice_set, arith}
-use Rattle.std.proofs.lemmas.List.{set-get_or, take_all}
+use Rattle.std.proofs.Common.{◌≡◌, ◌+◌, take, get_or, true, false, if◌then◌else◌, Bool, sym, ap, ◌∙◌, slice_set, arith}
+use Rattle.std.proofs.lemmas.List.{set-get_or}
 use Rattle.ckrt_order.specs.Histories.{is_before}
 use Rattle.ckrt_order.specs.Detection.{joined, later, nothing}
-use Rattle.ckrt_order.specs.declared.operation.Place.{Place}
 use Rattle.ckrt_order.proofs.ListLemmas.{joined_at, joined_more, joined_none}
 use Rattle.ckrt_order.proofs.clock.join.Goals.{then-is_before, else-is_before}
 use Rattle.ckrt_order.proofs.clock.join.Goals as goal
@@ -24,6 +23,6 @@ loop-thread-preserved c =
     → slice_set now i (if t then get_or ys i nothing else get_or now i nothing) ≡ joined xs (take (i + 1) ys) =
     λ t e. sym (ap (λ (u : Bool). slice_set now i (if u then get_or ys i nothing else get_or now i nothing)) e) ∙ more in
     elim c.if-is_before.branch as (λ _. c.if-is_before.seen ≡ joined xs (take (i + 1) ys)) [
-      then-is_before w ↦ w.seen-is ∙ picked true (sym c.is_before.ensures ∙ w.if-is_before.true)
-    | else-is_before w ↦ w.seen-is ∙ sym (set-get_or now i nothing) ∙ picked false (sym c.is_before.ensures ∙ w.if-is_before.false)
+      | then-is_before w ↦ w.seen-is ∙ picked true (sym c.is_before.ensures ∙ w.if-is_before.true)
+      | else-is_before w ↦ w.seen-is ∙ sym (set-get_or now i nothing) ∙ picked false (sym c.is_before.ensures ∙ w.if-is_before.false)
     ]

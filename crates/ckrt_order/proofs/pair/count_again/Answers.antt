@@ -1,4 +1,4 @@
-use Rattle.std.proofs.Common.{◌≡◌, ◌<◌, ◌∙◌, length, sym, ap, arith, rules}
+use Rattle.std.proofs.Common.{◌≡◌, ◌<◌, ◌∙◌, length, sym, ap, rules}
 use Rattle.ckrt_order.proofs.ListLemmas.{any_at, counted_none, counts_on, none_in_all, none_more, read_at}
 use Rattle.ckrt_order.proofs.pair.count_again.Goals as goal
 

@@ -1,4 +1,4 @@
-use Rattle.std.proofs.Common.{◌≡◌, ◌∙◌, ◌++◌, ◌∷◌, [], sym, arith, rules}
+use Rattle.std.proofs.Common.{◌≡◌, ◌∙◌, ◌++◌, ◌∷◌, [], sym, rules}
 use Rattle.ckrt_order.specs.Detection.{found_in, first_pair}
 use Rattle.ckrt_order.proofs.FoundLemmas.{noted_again, noted_first, noted_full}
 use Rattle.ckrt_order.proofs.found.Findings.note.Goals as goal
