@@ -5,3 +5,4 @@ pub mod Orders
 pub mod Steps
 pub mod Texts
 pub mod Disks
+pub mod Laws

@@ -8,6 +8,7 @@ mod accesses;
 mod calls;
 mod disk;
 mod holders;
+mod laws;
 mod looking;
 mod orders;
 mod texts;
@@ -15,4 +16,5 @@ mod walk;
 
 pub use disk::write_races;
 pub use holders::Lock;
+pub use laws::{found_is_of_the_history, histories_are_orderly, only_races_are_told};
 pub use walk::watch_event;
