@@ -4,3 +4,4 @@ pub mod ClockLemmas
 pub mod SeenLemmas
 pub mod RaceLemmas
 pub mod KeptLemmas
+pub mod ChainLemmas

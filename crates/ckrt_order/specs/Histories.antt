@@ -1,6 +1,6 @@
 -- What threads do to one memory, what happens before what, and which accesses race (C11, 5.1.2.4, Multi-threaded executions
 -- and data races; POSIX.1-2017, 4.12, Memory Synchronization). Threads and locks are holders of what they have seen.
-use Rattle.std.specs.Prelude.{◌≡◌, ℕ, ◌+◌, ◌*◌, ◌^◌, ◌==◌, nat_lt, Bool, true, false, ◌&&◌, ◌||◌, not, if◌then◌else◌, List, [], ◌∷◌, ◌++◌, length, Option, Some, None}
+use Rattle.std.specs.Prelude.{◌≡◌, ◌<◌, ℕ, ◌+◌, ◌*◌, ◌^◌, ◌==◌, nat_lt, Bool, true, false, ◌&&◌, ◌||◌, not, if◌then◌else◌, List, [], ◌∷◌, ◌++◌, length, Option, Some, None}
 use Rattle.ckrt_order.specs.declared.operation.Place.{Place}
 use Rattle.ckrt_order.specs.declared.operation.Access.{Access}
 use Rattle.ckrt_order.specs.declared.operation.Operation.{Operation}
@@ -22,6 +22,16 @@ abbrev pub seen : History → (holder i : ℕ) → Bool
 seen [] h i = false
 seen (operation.Access a ∷ past) h i = (h == a.thread && i == length past) || seen past h i
 seen (operation.Pass from to p ∷ past) h i = seen past h i || (h == to && seen past from i)
+
+-- The same as the closure of single passes: a chain leads from an access to its thread, and from there by passes, each later than the
+-- one before and from the holder that this one went to. The numbers of the passes stand latest first, each below the bound.
+
+abbrev pub IsChain : History → (bound i : ℕ) → (passes : List ℕ) → (holder : ℕ) → Type 0
+IsChain past n i [] h =
+    (i < n) × ((a : Access) × (op_at past i ≡ Some (operation.Access a)) × (a.thread ≡ h))
+IsChain past n i (k ∷ ks) h =
+    (k < n) × ((from : ℕ) × (p : Place) × (op_at past k ≡ Some (operation.Pass from h p))
+    × IsChain past k i ks from)
 
 -- AN ACCESS HAPPENS BEFORE another that comes later where the thread of that has seen it by then.
 

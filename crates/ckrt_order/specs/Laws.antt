@@ -1,5 +1,5 @@
 -- What the clocks tell, and what is found.
-use Rattle.std.specs.Prelude.{◌≡◌, ◌⊎◌, ◌≤◌, ◌<◌, ℕ, ◌+◌, true, false, [], ◌∷◌, ◌++◌, slice_get, Some}
+use Rattle.std.specs.Prelude.{◌≡◌, ◌⊎◌, ◌↔◌, ◌≤◌, ◌<◌, ℕ, ◌+◌, true, false, List, length, [], ◌∷◌, ◌++◌, slice_get, Some}
 use Rattle.std.specs.List.{AllByRecursion, list_any}
 use Rattle.ckrt_order.specs.declared.operation.Access.{Access}
 use Rattle.ckrt_order.specs.declared.operation.Operation.{Operation}
@@ -7,8 +7,14 @@ use Rattle.ckrt_order.specs.declared.operation.Operation.TheVariants as operatio
 use Rattle.ckrt_order.specs.declared.operation.TheConstants.{THREADS}
 use Rattle.ckrt_order.specs.declared.pair.Pair.{Pair}
 use Rattle.ckrt_order.specs.declared.shadow.Cell.{Cell}
-use Rattle.ckrt_order.specs.Histories.{History, IsRace, conflict, moment, op_at, seen}
+use Rattle.ckrt_order.specs.Histories.{History, IsChain, IsRace, conflict, moment, op_at, seen}
 use Rattle.ckrt_order.specs.Detection.{Found, is_at, knows, watched, word_of}
+
+-- WHAT IS SEEN IS WHAT CHAINS LEAD TO
+abbrev pub SeenByChains : Type 0
+SeenByChains =
+    (past : History) (h i : ℕ)
+    → (seen past h i ≡ true) ↔ ((passes : List ℕ) × IsChain past (length past) i passes h)
 
 -- AN ORDERLY HISTORY: its numbers are those of threads and holders, and its places rise, an access having one alone
 

@@ -14,7 +14,7 @@ mod shadow;
 
 pub use clock::Clock;
 pub use detector::Detector;
-pub use laws::{clocks_are_exact, kept_races_are_found, only_races_are_found};
+pub use laws::{clocks_are_exact, kept_races_are_found, only_races_are_found, seen_by_chains};
 pub use operation::{Access, Operation, Place, THREADS};
 pub use pair::{PAIRS, Pair};
 pub use shadow::Cell;
