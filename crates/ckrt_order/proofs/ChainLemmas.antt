@@ -1,5 +1,5 @@
 -- What is seen is what chains of passes lead to.
-use Rattle.std.proofs.Common.{◌≡◌, ◌≢◌, ◌≤◌, ◌<◌, ℕ, suc, ◌==◌, ◌||◌, ◌&&◌, Bool, true, false, List, [], ◌∷◌, length, Option, Some, None, refl, sym, ap, ◌∙◌, subst, arith}
+use Rattle.std.proofs.Common.{◌≡◌, ◌≤◌, ◌<◌, ℕ, suc, ◌==◌, ◌||◌, ◌&&◌, Bool, true, false, List, [], ◌∷◌, length, Some, refl, sym, ap, ◌∙◌, subst, arith}
 use Rattle.ckrt_order.specs.declared.operation.Place.{Place}
 use Rattle.ckrt_order.specs.declared.operation.Access.{Access}
 use Rattle.ckrt_order.specs.declared.operation.Operation.{Operation}

@@ -1,5 +1,5 @@
 -- The places of operations rise, from step to step and from event to event.
-use Rattle.std.proofs.Common.{◌≡◌, ◌≤◌, ◌<◌, ℕ, zero, suc, ◌+◌, ◌-◌, ◌*◌, ◌^◌, Bool, true, false, if◌then◌else◌, List, [], ◌∷◌, ◌++◌, length, Option, Some, None, refl, sym, ap, ◌∙◌, subst, arith}
+use Rattle.std.proofs.Common.{◌≡◌, ◌≤◌, ℕ, zero, suc, ◌+◌, ◌-◌, ◌*◌, ◌^◌, Bool, true, false, if◌then◌else◌, List, [], ◌∷◌, ◌++◌, length, Option, Some, None, refl, sym, ap, subst, arith}
 use Rattle.std.specs.List.{AllByRecursion}
 use Rattle.ckrt_registers.specs.Registers.{Registers, get}
 use Rattle.ckrt_rv32i.specs.declared.instruction.Instr.{Instr}
@@ -26,10 +26,10 @@ use Rattle.ckrt_order.proofs.RaceLemmas.{only_races}
 use Rattle.ckrt_races.specs.declared.accesses.Stepping.{Stepping}
 use Rattle.ckrt_races.specs.declared.holders.Lock.TheVariants as lock
 use Rattle.ckrt_races.specs.Accesses.{FENCE_RW_W, FENCE_R_RW, access_of, accesses, fetched, is_word_at, load_at, load_operation, may_access, of_instruction, of_registers, store_at, store_operation}
-use Rattle.ckrt_races.specs.Holders.{HOLDERS, acquired, released, thread_holder}
+use Rattle.ckrt_races.specs.Holders.{HOLDERS, acquired, released}
 use Rattle.ckrt_races.specs.Orders.{between}
 use Rattle.ckrt_races.specs.Steps.{at, before_step, of_event, of_events, of_other, of_run, of_step, unless_ended}
-use Rattle.ckrt_races.specs.Disks.{found_by, words_of}
+use Rattle.ckrt_races.specs.Disks.{words_of}
 use Rattle.ckrt_races.specs.Laws.{FoundIsOfTheHistory, HistoriesAreOrderly, OnlyRacesAreTold, history_of, latest_first}
 use Rattle.ckrt_races.proofs.NumberLemmas.{ArePassesAt, IsPassAt, between_passes, is_acquisition, is_release, thread_number, waits_pass}
 

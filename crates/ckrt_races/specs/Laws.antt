@@ -5,7 +5,7 @@ use Rattle.ckrt_events.specs.Bytes.{IsInRange}
 use Rattle.ckrt_events.specs.declared.event.Event.{Event}
 use Rattle.ckrt_machine.specs.Steps.{State}
 use Rattle.ckrt_order.specs.declared.operation.Operation.{Operation}
-use Rattle.ckrt_order.specs.Detection.{fresh, watched}
+use Rattle.ckrt_order.specs.Detection.{watched}
 use Rattle.ckrt_order.specs.Histories.{History}
 use Rattle.ckrt_order.specs.Laws.{IsOrderly, IsRaceOf}
 use Rattle.ckrt_races.specs.Holders.{HOLDERS}
