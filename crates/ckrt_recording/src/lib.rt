@@ -21,4 +21,4 @@ mod same;
 pub use laws::{recordings_are_one, recordings_lead_on};
 pub use reading::read_recording;
 pub use recording::Recording;
-pub use replay::advance;
+pub use replay::make_events;
