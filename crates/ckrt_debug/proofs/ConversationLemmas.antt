@@ -3,7 +3,7 @@ use Rattle.std.proofs.Common.{◌≡◌, ◌⊎◌, inl, inr, ℕ, zero, suc, �
 use Rattle.std.proofs.lemmas.Bool.{leb-false, leb-true}
 use Rattle.std.proofs.lemmas.List.{take_min}
 use Rattle.std.specs.Prelude.{IfErr, IfOk, IsErrOf, Result, Ok, Err, codes}
-use Rattle.std.specs.Io.KnownBytes.{Appends, Consumes, IsAtEnd, Keeps}
+use Rattle.std.specs.Io.KnownBytes.{Appends, Consumes, Keeps}
 use Rattle.ckrt_commands.specs.Writing.{AppendsPart}
 use Rattle.ckrt_commands.proofs.WriteLemmas.{Appends-append, Appends-nothing}
 use Rattle.ckrt_packets.specs.Framing.{frame_of, line_after}

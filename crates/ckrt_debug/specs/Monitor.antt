@@ -1,12 +1,9 @@
 -- What the stub makes of a command of gdb's user, and what it tells.
 use Rattle.std.specs.Prelude.{◌≡◌, ℕ, ◌+◌, ◌-◌, ◌^◌, ◌==◌, min, Bool, true, false, if◌then◌else◌, List, [], ◌++◌, length, codes, decimal, Option, Some, None}
 use Rattle.ckrt_history.specs.declared.position.Position.{Position}
-use Rattle.ckrt_history.specs.Positions.{History}
 use Rattle.ckrt_inspect.specs.Listing.{listing_by}
 use Rattle.ckrt_debug.specs.declared.command.Command.{Command}
 use Rattle.ckrt_debug.specs.declared.command.Command.TheVariants.{Events, GoTo, Help, Inspect, Limit, Until}
-use Rattle.ckrt_debug.specs.declared.command.Place.{Place}
-use Rattle.ckrt_debug.specs.declared.limits.Bounds.{Bounds}
 use Rattle.ckrt_debug.specs.declared.monitor.TheConstants.{HELP}
 use Rattle.ckrt_debug.specs.declared.stub.Stub.{Stub}
 use Rattle.ckrt_debug.specs.Commands.{command_of}

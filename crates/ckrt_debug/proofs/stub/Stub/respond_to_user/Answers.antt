@@ -1,4 +1,4 @@
-use Rattle.std.proofs.Common.{◌≡◌, Err, refl, rules, ap, ◌∙◌, ◌++◌}
+use Rattle.std.proofs.Common.{◌≡◌, Err, rules, ap, ◌∙◌, ◌++◌}
 use Rattle.ckrt_debug.specs.Conversation.{RepliesToUser}
 use Rattle.ckrt_debug.proofs.ConversationLemmas.{answers_err, ok_broke, replay_broke, tell_broke, user_told}
 use Rattle.ckrt_debug.proofs.stub.Stub.respond_to_user.Goals as goal
