@@ -25,6 +25,9 @@ impl History {
         self.known();
         self.step_forward();
         self.known();
+        if stops.watches.is_empty() {
+            return self.is_halt(stops);
+        }
         let bytes = self.watched(stops);
         let same = bytes.as_slice() == seen.as_slice();
         *seen = bytes;

@@ -77,3 +77,53 @@ fn positions_are_those_of_single_steps(rt: HostRuntime) {
         compare(&rt, &SIX_WORDS, steps, kept);
     }
 }
+
+/// Counts in x5, a round each two steps, without an end.
+const COUNTING: [u32; 2] = [0x0012_8293, 0xffdf_f06f];
+
+/// How many steps a run has.
+const LONG: u32 = 20_000;
+
+/// Runs by their numbers, and steps within them. Shortly before some others, and far from others.
+const PLACES: [(u32, u32); 10] = [
+    (70, 19_999),
+    (70, 19_998),
+    (70, 12_000),
+    (69, 1),
+    (3, 12_345),
+    (40, 7_000),
+    (40, 6_999),
+    (40, 2),
+    (0, 19_000),
+    (0, 0),
+];
+
+/// What x5 has is half of the steps so far, rounded up.
+fn expect_counted<R: Abort>(rt: &R, history: &History, steps: u32) {
+    match history.machine().tables().threads.regs(1) {
+        Some(regs) => expect_eq(rt, regs.get(5), steps.div_ceil(2)),
+        None => panic!(rt; "no thread"),
+    }
+}
+
+/// Goes to a place, and back by a step. The run with a number is behind one event more than three times as many.
+fn count_at<R: Abort>(rt: &R, history: &mut History, run: u32, steps: u32) {
+    assert!(rt; run < 80 && steps < LONG);
+    let events = 3 * run as usize + 1;
+    go_to(rt, history, Position { events, steps });
+    expect_counted(rt, history, run * LONG + steps);
+    history.step_back();
+    if steps > 0 {
+        expect_counted(rt, history, run * LONG + steps - 1);
+    }
+}
+
+#[test]
+fn positions_within_long_runs_are_found(rt: HostRuntime) {
+    for kept in [1, 9] {
+        let mut history = history_of(&rt, &COUNTING, LONG, kept);
+        for (run, steps) in &PLACES {
+            count_at(&rt, &mut history, *run, *steps);
+        }
+    }
+}

@@ -19,9 +19,9 @@ returns-else-not-same-clause-stop c =
     let bytes = c.watched-bytes.result.items in let seen = c.args.seen.now.items in
     let tells = slice_eq-Decides Decides-eqb xs ys c.eq-same.result c.eq-same.ensures in
     let same : seen ≡ bytes = sym c.as_slice-2.ensures.value ∙ sym (tells.0 c.if-not-same.false) ∙ c.as_slice.ensures.value in (
-      λ halts. inl (sym c.is_halt.ensures ∙ halts),
+      λ halts. inl (sym c.is_halt-else-not-same.ensures ∙ halts),
       λ stops. (elim stops [
-        | inl halts ↦ c.is_halt.ensures ∙ halts
+        | inl halts ↦ c.is_halt-else-not-same.ensures ∙ halts
         | inr other ↦ absurd (unchanged c.args.stops.now c.args.self.now c.step_forward.new.self c.step_forward.ensures c.known.ensures.position seen bytes c.requires.seen c.watched-bytes.ensures same other)
       ]),
     )
