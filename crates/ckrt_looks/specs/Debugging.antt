@@ -1,5 +1,5 @@
 -- A session with a debugger over what a disk has recorded. The disk is closed before the session begins.
-use Rattle.std.specs.Prelude.{⊥, ◌≡◌, ◌⊎◌, ℕ, List, Option, Some, None, Result, Ok, Err}
+use Rattle.std.specs.Prelude.{◌≡◌, ◌⊎◌, ℕ, List, Option, Some, None, Result, Ok, Err}
 use Rattle.ckrt_disk.specs.Frame.{IsOnlyRead}
 use Rattle.ckrt_disk.specs.declared.disk.Disk.{Ghosts}
 use Rattle.ckrt_machine.specs.Events.{AllAccepted}
@@ -104,14 +104,18 @@ abbrev pub Talks : Stub → (old new : Line) → Result (Unit {0}) DebugFault �
 Talks stub old new (Ok done) = Serves stub old.unread new.unread old.written new.written
 Talks stub old new (Err f) = BreaksOff f stub old.unread new.unread old.written new.written
 
+-- a session was served
+abbrev pub ServesStub : Stub → (old new : Line) → Result (Unit {0}) JobFault → Type 0
+ServesStub stub old new result =
+    (answer : Result (Unit {0}) DebugFault) × (result ≡ answer_of answer) × Talks stub old new answer
+
 -- it begins where the words ask, and was served
 pub record ServesSession (at : Option ℕ) (r : Recorded) (old new : Line)
     (result : Result (Unit {0}) JobFault) : Type 0 where
   pub stub : Stub
+  pub there : IsOutside at r.first (run_of r.start r.events) → ⊥
   pub begins : BeginsAt at r.first (run_of r.start r.events) stub
-  pub answer : Result (Unit {0}) DebugFault
-  pub gives : result ≡ answer_of answer
-  pub talks : Talks stub old new answer
+  pub serves : ServesStub stub old new result
 
 abbrev pub DebugsRecorded : Option ℕ → Recorded → (old new : Line)
     → Result (Unit {0}) JobFault → Type 0

@@ -3,7 +3,7 @@ ghost use Rattle.std.specs.Prelude.{◌≡◌};
 ghost use Rattle.ckrt_words.specs.Jobs.{debugging_of};
 ghost use Rattle.ckrt_outcomes.specs.Outside.{outside};
 ghost use Rattle.ckrt_recording.specs.Recording.{recorded_of};
-ghost use Rattle.ckrt_looks.specs.Debugging.{DebugsPath, DebugsRecorded, ReadsOpened, ReadsPath, Talks, answer_of, fault_of, line};
+ghost use Rattle.ckrt_looks.specs.Debugging.{DebugsPath, DebugsRecorded, ReadsOpened, ReadsPath, ServesStub, fault_of, line};
 
 use ckrt_debug::{DebugFault, Stub};
 use ckrt_disk::Disk;
@@ -65,9 +65,8 @@ fn fault_of(fault: DebugFault) -> JobFault
 
 /// Serves a session.
 fn serve<R: Read, W: Write>(stub: Stub, reader: &mut R, writer: &mut W) -> Result<(), JobFault>
-    ensures serves { (answer : Result (Unit {0}) DebugFault) × (result ≡ answer_of answer)
-        × Talks stub.entry (line (W.contents writer.old) (R.remaining reader.old))
-        (line (W.contents writer.new) (R.remaining reader.new)) answer }
+    ensures serves { ServesStub stub (line (W.contents writer.old) (R.remaining reader.old))
+        (line (W.contents writer.new) (R.remaining reader.new)) result }
 {
     match stub.serve(reader, writer) {
         Ok(()) => Ok(()),
@@ -83,7 +82,7 @@ fn debug_recorded<R: Read, W: Write>(
     reader: &mut R,
     writer: &mut W,
 ) -> Result<(), JobFault>
-    ensures debugs { DebugsRecorded at (recorded_of recording.entry)
+    ensures debugs { DebugsRecorded at (recorded_of recording)
         (line (W.contents writer.old) (R.remaining reader.old))
         (line (W.contents writer.new) (R.remaining reader.new)) result }
 {

@@ -17,8 +17,12 @@ use std::io::{Read, Write};
 
 /// A way of telling what a disk has recorded, as a text.
 pub(crate) trait Telling {
+    ghost use Rattle.ckrt_inspect.specs.declared.fault.InspectFault.{InspectFault};
+    ghost use Rattle.ckrt_trace.specs.declared.disk.Stretch.{Stretch};
+
     /// What is told of a stretch of a content, and how what was written goes on with it.
-    ghost Tells: { Self → Stretch → List ℕ → (old new : Option (List ℕ)) → Result (Unit {0}) InspectFault → Type 0 };
+    ghost Tells: { Self → Stretch → (content : List ℕ) → (old new : Option (List ℕ))
+        → Result (Unit {0}) InspectFault → Type 0 };
 
     /// Tells it. The disk is only read.
     fn tell<D: Disk, W: Write>(
