@@ -4,6 +4,7 @@
  * is one step of a sequentially consistent memory and needs none; a store does, as it mustn't come between another
  * call's load and store.
  */
+#include "fenced.h"
 #include "locks.h"
 #include <stdbool.h>
 #include <stddef.h>
@@ -12,6 +13,12 @@
 
 static void lock(void) { pthread_mutex_lock(&__guest_atomic_lock.mutex); }
 static void unlock(void) { pthread_mutex_unlock(&__guest_atomic_lock.mutex); }
+
+/* Where an atomic load or store is a single step it stands beside a fence: see fenced.h. */
+#define PUT_1(place, value) store_byte((place), (value))
+#define PUT_2(place, value) store_half((place), (value))
+#define PUT_4(place, value) store_word((place), (value))
+#define PUT_8(place, value) (void)(*(place) = (value))
 
 /* One function under the name of the compiler's call, which C knows with another type. */
 #define CALL(name) __asm__(#name)
@@ -23,7 +30,7 @@ static void unlock(void) { pthread_mutex_unlock(&__guest_atomic_lock.mutex); }
         (void)order;                                                                                                  \
         lock();                                                                                                       \
         type old = *place;                                                                                            \
-        *place = (type)(new_value);                                                                                   \
+        PUT_##bytes(place, (type)(new_value));                                                                        \
         unlock();                                                                                                     \
         return old;                                                                                                   \
     }                                                                                                                 \
@@ -47,7 +54,7 @@ static void unlock(void) { pthread_mutex_unlock(&__guest_atomic_lock.mutex); }
     void store##bytes(volatile type *place, type value, int order) {                                                  \
         (void)order;                                                                                                  \
         lock();                                                                                                       \
-        *place = value;                                                                                               \
+        PUT_##bytes(place, value);                                                                                    \
         unlock();                                                                                                     \
     }                                                                                                                 \
     type exchange##bytes(volatile type *place, type value, int order) CALL(__atomic_exchange_##bytes);                \
@@ -55,7 +62,7 @@ static void unlock(void) { pthread_mutex_unlock(&__guest_atomic_lock.mutex); }
         (void)order;                                                                                                  \
         lock();                                                                                                       \
         type old = *place;                                                                                            \
-        *place = value;                                                                                               \
+        PUT_##bytes(place, value);                                                                                    \
         unlock();                                                                                                     \
         return old;                                                                                                   \
     }                                                                                                                 \
@@ -66,7 +73,7 @@ static void unlock(void) { pthread_mutex_unlock(&__guest_atomic_lock.mutex); }
     type sync_compare##bytes(volatile type *place, type expected, type value) {                                       \
         lock();                                                                                                       \
         type old = *place;                                                                                            \
-        if (old == expected) *place = value;                                                                          \
+        if (old == expected) PUT_##bytes(place, value);                                                               \
         unlock();                                                                                                     \
         return old;                                                                                                   \
     }                                                                                                                 \
@@ -91,16 +98,18 @@ static void unlock(void) { pthread_mutex_unlock(&__guest_atomic_lock.mutex); }
     CHANGE(bytes, type, xor, old ^ by)                                                                                \
     CHANGE(bytes, type, nand, ~(old & by))
 
-#define PLAIN return *place;
+#define FENCED_BYTE return load_byte(place);
+#define FENCED_HALF return load_half(place);
+#define FENCED_WORD return load_word(place);
 #define UNDER_THE_LOCK                                                                                                \
     lock();                                                                                                           \
     uint64_t value = *place;                                                                                          \
     unlock();                                                                                                         \
     return value;
 
-OPERATIONS(1, uint8_t, PLAIN)
-OPERATIONS(2, uint16_t, PLAIN)
-OPERATIONS(4, uint32_t, PLAIN)
+OPERATIONS(1, uint8_t, FENCED_BYTE)
+OPERATIONS(2, uint16_t, FENCED_HALF)
+OPERATIONS(4, uint32_t, FENCED_WORD)
 OPERATIONS(8, uint64_t, UNDER_THE_LOCK)
 
 /* --- Objects of any size ------------------------------------------------------------------------------------------ */

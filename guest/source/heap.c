@@ -1,5 +1,6 @@
 /* What malloc takes its memory from. The C library calls it under its lock. */
 #include "heap.h"
+#include "fenced.h"
 #include <errno.h>
 #include <malloc.h>
 #include <stddef.h>
@@ -12,7 +13,11 @@ void __guest_set_heap(char *begin, char *end) {
     heap_end = end;
 }
 
-size_t __guest_free_bytes(void) { return mallinfo().fordblks + (size_t)(heap_end - heap_top); }
+/* Atomic, since who asks how much is free holds no lock. */
+static char *top_now(void) { return (char *)load_word((const volatile uint32_t *)&heap_top); }
+static void set_top(char *top) { store_word((volatile uint32_t *)&heap_top, (uint32_t)top); }
+
+size_t __guest_free_bytes(void) { return mallinfo().fordblks + (size_t)(heap_end - top_now()); }
 
 void *sbrk(ptrdiff_t bytes) {
     if (bytes > heap_end - heap_top || bytes < heap_begin - heap_top) {
@@ -20,6 +25,6 @@ void *sbrk(ptrdiff_t bytes) {
         return (void *)-1;
     }
     char *old_top = heap_top;
-    heap_top += bytes;
+    set_top(old_top + bytes);
     return old_top;
 }

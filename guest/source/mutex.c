@@ -1,6 +1,7 @@
 /* Mutexes, and pthread_once over them. */
 #include "calls.h"
 #include "clock.h"
+#include "fenced.h"
 #include <pthread.h>
 
 int pthread_mutexattr_init(pthread_mutexattr_t *attributes) {
@@ -51,16 +52,15 @@ int pthread_mutex_unlock(pthread_mutex_t *mutex) { return object_call(CALL_MUTEX
 static void unlock(void *mutex) { pthread_mutex_unlock(mutex); }
 
 int pthread_once(pthread_once_t *once, void (*routine)(void)) {
-    volatile int *is_done = &once->is_done;
-    if (*is_done) return 0;
+    volatile uint32_t *is_done = (volatile uint32_t *)&once->is_done;
+    if (load_word(is_done)) return 0;
     pthread_mutex_t *mutex = (pthread_mutex_t *)once;
     int error = pthread_mutex_lock(mutex);
     if (error) return error;
     pthread_cleanup_push(unlock, mutex);
-    if (!*is_done) {
+    if (!load_word(is_done)) {
         routine();
-        __asm__ volatile("" ::: "memory"); /* what the routine wrote stands before the mark */
-        *is_done = 1;
+        store_word(is_done, 1);
     }
     pthread_cleanup_pop(1);
     return 0;

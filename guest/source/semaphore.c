@@ -1,5 +1,6 @@
 /* Semaphores: a count under one lock of the kit, and a condition of the runtime's under the semaphore's address. */
 #include <semaphore.h>
+#include "fenced.h"
 #include "locks.h"
 #include <errno.h>
 
@@ -44,7 +45,7 @@ int sem_trywait(sem_t *semaphore) {
 }
 
 int sem_getvalue(sem_t *semaphore, int *count) {
-    *count = (int)*(volatile unsigned *)&semaphore->count;
+    *count = (int)load_word((volatile uint32_t *)&semaphore->count);
     return 0;
 }
 

@@ -21,7 +21,7 @@ use ckrt_state::Status;
 use std::io::{Result, Write};
 
 /// A step of a run of the thread on a hart: the first, or a further one.
-fn advance(machine: &mut Machine, hart: u8, is_first: bool)
+pub fn advance(machine: &mut Machine, hart: u8, is_first: bool)
     requires { MayStep is_first hart machine.old }
     ensures state { machine.new.state ≡ (hart_step hart machine.old.state).state }
     ensures output { machine.new.output
@@ -80,8 +80,8 @@ fn trace_step<W: Write>(
     write_fault(out, place, machine.status())
 }
 
-/// Whether a run ends behind a step, and how.
-fn is_stopped(machine: &Machine, hart: u8) -> bool
+/// Whether a run ends behind a step.
+pub fn is_stopped(machine: &Machine, hart: u8) -> bool
     ensures { result ≡ is_some (stop_of hart machine.now.state.tables machine.now.output) }
 {
     let tables = machine.tables();

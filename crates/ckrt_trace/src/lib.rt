@@ -10,7 +10,8 @@ mod lines;
 mod names;
 mod texts;
 
-pub use disk::{Stretch, write_calls};
-pub use events::trace_event;
-pub use lines::{Before, Caller, Place, Waiting};
+pub use disk::{Stretch, bounds, make_events, write_calls};
+pub use events::{advance, is_stopped, trace_event};
+pub use lines::{Before, Caller, Place, Waiting, is_quiet, next_caller};
 pub use names::{Answers, Arguments, answers_of, arguments_of, name_of};
+pub use texts::{write_counted, write_hex, write_number};

@@ -163,7 +163,7 @@ fn calling(threads: &Threads, thread: ThreadId, memory: &Memory) -> Option<Regs>
 }
 
 /// Who makes a call by the next step of the hart.
-fn next_caller(machine: &Machine, hart: u8) -> Option<Caller>
+pub fn next_caller(machine: &Machine, hart: u8) -> Option<Caller>
     ensures { result ≡ caller_of (hart_of machine.now.state.tables hart) machine.now.state }
 {
     let threads = &machine.tables().threads;
@@ -311,7 +311,7 @@ fn is_plain(live: &Live, memory: &Memory) -> bool
 }
 
 /// Whether the next step of the hart changes no wait.
-pub(crate) fn is_quiet(machine: &Machine, hart: u8) -> bool
+pub fn is_quiet(machine: &Machine, hart: u8) -> bool
     ensures { result ≡ is_quiet (hart_of machine.now.state.tables hart) machine.now.state }
 {
     let threads = &machine.tables().threads;

@@ -7,13 +7,13 @@ use Rattle.ckrt_trace.proofs.DiskLemmas.{stretch_told}
 use Rattle.ckrt_trace.proofs.WayLemmas.{accepted_first}
 use Rattle.ckrt_trace.proofs.disk.write_stretch.Goals as goal
 
-pub returns-then-not-advance : goal.returns-then-not-advance
-returns-then-not-advance g c =
+pub returns-then-not-make_events : goal.returns-then-not-make_events
+returns-then-not-make_events g c =
     let es = c.args.events.now in
     let s = c.args.machine.now.state in
     let n = c.in-Some.from - c.args.first in
     let before : c.split_at.result.0.now ≡ take n es = search rules in
-    record { tells = λ all. c.if-not-advance.ensures.refused (subst (λ (l : List Event). AllAccepted l s) (sym before) (accepted_first n es s all)) }
+    record { tells = λ all. c.if-not-make_events.ensures.refused (subst (λ (l : List Event). AllAccepted l s) (sym before) (accepted_first n es s all)) }
 
 pub returns : goal.returns
 returns g c =
@@ -28,8 +28,8 @@ returns g c =
     let before : c.split_at.result.0.now ≡ take (from - first) es = search rules in
     let rest : c.split_at.result.1.now ≡ drop (from - first) es = search rules in
     let told : c.split_at-2.result.0.now ≡ take (to - from) c.split_at.result.1.now = search rules in
-    let state : c.advance.new.machine.state ≡ (fold c.split_at.result.0.now start).state = c.if-not-advance.ensures.state in
+    let state : c.make_events.new.machine.state ≡ (fold c.split_at.result.0.now start).state = c.if-not-make_events.ensures.state in
     record {
-      tells = stretch_told stretch r from to c.split_at-2.result.0.now c.advance.new.machine.state bounds.0 bounds.1 bounds.2 (told ∙ ap (λ (l : List Event). take (to - from) l) rest)
+      tells = stretch_told stretch r from to c.split_at-2.result.0.now c.make_events.new.machine.state bounds.0 bounds.1 bounds.2 (told ∙ ap (λ (l : List Event). take (to - from) l) rest)
           (state ∙ ap (λ (l : List Event). (fold l start).state) before) (g.W.Write.contents c.args.out.now) (g.W.Write.contents c.write_flushed.new.out) c.write_flushed.result c.write_flushed.ensures.lines c.write_flushed.ensures.fault;
     }

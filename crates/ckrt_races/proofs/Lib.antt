@@ -1,0 +1,5 @@
+pub mod BehindLemmas
+pub mod WalkLemmas
+pub mod StretchLemmas
+pub mod NumberLemmas
+pub mod RiseLemmas

@@ -1,0 +1,8 @@
+pub mod Holders
+pub mod Accesses
+pub mod Writers
+pub mod Orders
+pub mod Steps
+pub mod Texts
+pub mod Disks
+pub mod Laws

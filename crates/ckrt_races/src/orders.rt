@@ -1,0 +1,157 @@
+//! What puts accesses in an order: locks that threads have taken.
+ghost use Rattle.std.specs.Prelude.{◌≡◌, is_some};
+ghost use Rattle.std.specs.List.{find, flat_map};
+ghost use Rattle.ckrt_thread.specs.Cancellation.{is_unwinding};
+ghost use Rattle.ckrt_thread.specs.State.{is_live, thread_of};
+ghost use Rattle.ckrt_thread.specs.Waits.{is_of};
+ghost use Rattle.ckrt_order.specs.Detection.{behind_all};
+ghost use Rattle.ckrt_races.specs.Orders.{of_actor, of_reason, of_wait, of_waits, taken_mutex, taken_request, taken_to_read, taken_to_write, waits_now};
+
+use crate::holders::{Lock, acquired, ordered};
+use ckrt_order::{Detector, Place};
+use ckrt_state::Tables;
+use ckrt_thread::{Reason, Thread, ThreadId, Threads, Wait};
+
+/// Whether a thread waits.
+pub(crate) fn waits_now(thread: ThreadId, after: &Tables) -> bool
+    ensures { result ≡ waits_now thread after.now }
+{
+    after.threads.wait_of(thread).is_some()
+}
+
+/// A thread that owns a mutex has taken it.
+pub(crate) fn take_mutex(
+    place: Place,
+    thread: ThreadId,
+    address: u32,
+    after: &Tables,
+    detector: &mut Detector,
+)
+    ensures { detector.new
+        ≡ behind_all (taken_mutex place thread address after.now) detector.old }
+{
+    if after.mutexes.mutex(address).is_owned_by(thread) {
+        detector.note(&acquired(thread, Lock::Mutex(address), place));
+    }
+}
+
+/// A thread that reads under a read-write lock has taken what writers gave up.
+pub(crate) fn take_to_read(
+    place: Place,
+    thread: ThreadId,
+    address: u32,
+    after: &Tables,
+    detector: &mut Detector,
+)
+    ensures { detector.new
+        ≡ behind_all (taken_to_read place thread address after.now) detector.old }
+{
+    if after.rwlocks.lock(address).is_reader(thread) {
+        detector.note(&acquired(thread, Lock::Writers(address), place));
+    }
+}
+
+/// A thread that writes under a read-write lock has taken what writers and readers gave up.
+pub(crate) fn take_to_write(
+    place: Place,
+    thread: ThreadId,
+    address: u32,
+    after: &Tables,
+    detector: &mut Detector,
+)
+    ensures { detector.new
+        ≡ behind_all (taken_to_write place thread address after.now) detector.old }
+{
+    if after.rwlocks.lock(address).is_writer(thread) {
+        detector.note(&acquired(thread, Lock::Writers(address), place));
+        detector.note(&acquired(thread, Lock::Readers(address), place));
+    }
+}
+
+/// Whether a thread unwinds.
+fn unwinds(threads: &Threads, thread: ThreadId) -> bool
+    ensures { result ≡ is_unwinding (thread_of threads.now thread) }
+{
+    match threads.thread(u32::from(thread)) {
+        Some(Thread::Live(live)) => live.cancellation.unwinding.is_some(),
+        _ => false,
+    }
+}
+
+/// A thread that unwinds has seen what those did who cancelled it.
+fn take_request(place: Place, thread: ThreadId, after: &Tables, detector: &mut Detector)
+    ensures { detector.new
+        ≡ behind_all (taken_request place thread after.now) detector.old }
+{
+    if unwinds(&after.threads, thread) {
+        detector.note(&acquired(thread, Lock::Request(u32::from(thread)), place));
+    }
+}
+
+/// Whether there is such a thread, and it has not ended.
+fn is_live(threads: &Threads, thread: ThreadId) -> bool
+    ensures { result ≡ is_live threads.now thread }
+{
+    matches!(threads.thread(u32::from(thread)), Some(Thread::Live(_)))
+}
+
+/// What a thread has by now that waited for it.
+fn watch_reason(
+    place: Place,
+    thread: ThreadId,
+    reason: Reason,
+    after: &Tables,
+    detector: &mut Detector,
+)
+    ensures { detector.new
+        ≡ behind_all (of_reason place thread reason after.now) detector.old }
+{
+    match reason {
+        Reason::Lock(mutex) => take_mutex(place, thread, mutex, after, detector),
+        Reason::Retake(mutex, _) => take_mutex(place, thread, mutex, after, detector),
+        Reason::Condition(_, mutex) => take_mutex(place, thread, mutex, after, detector),
+        Reason::Join(other) => {
+            if !is_live(&after.threads, other) {
+                detector.note(&ordered(u32::from(other), u32::from(thread), place));
+            }
+        }
+        Reason::Read(lock) => take_to_read(place, thread, lock, after, detector),
+        Reason::Write(lock) => take_to_write(place, thread, lock, after, detector),
+        Reason::Barrier(_) | Reason::Input | Reason::Sleep => {}
+    }
+}
+
+/// A wait, if it is over.
+#[tactic(auto, using(crate::proofs::BehindLemmas::behind_both))]
+fn watch_wait(place: Place, after: &Tables, wait: &Wait, detector: &mut Detector)
+    ensures { detector.new ≡ behind_all (of_wait place after.now wait.now) detector.old }
+{
+    if waits_now(wait.thread, after) {
+        return;
+    }
+    watch_reason(place, wait.thread, wait.reason, after, detector);
+    take_request(place, wait.thread, after, detector);
+}
+
+/// Those waits that are over.
+pub(crate) fn watch_waits(place: Place, before: &[Wait], after: &Tables, detector: &mut Detector)
+    ensures { detector.new ≡ behind_all (of_waits place before.now after.now) detector.old }
+{
+    for wait in before {
+        watch_wait(place, after, wait, detector);
+    }
+}
+
+/// The thread that made the step.
+pub(crate) fn watch_actor(
+    place: Place,
+    actor: Option<ThreadId>,
+    after: &Tables,
+    detector: &mut Detector,
+)
+    ensures { detector.new ≡ behind_all (of_actor place actor after.now) detector.old }
+{
+    if let Some(thread) = actor {
+        take_request(place, thread, after, detector);
+    }
+}
