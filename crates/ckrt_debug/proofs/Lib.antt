@@ -2,3 +2,4 @@ pub mod WordLemmas
 pub mod NumberLemmas
 pub mod MotionLemmas
 pub mod SessionLemmas
+pub mod ConversationLemmas

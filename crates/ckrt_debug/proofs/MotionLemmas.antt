@@ -1,5 +1,5 @@
 -- Where motions stop.
-use Rattle.std.proofs.Common.{◌≡◌, ◌⊎◌, inl, inr, ℕ, Bool, true, refl, sym, ap, subst, ◌∙◌}
+use Rattle.std.proofs.Common.{◌≡◌, ◌⊎◌, inl, inr, ℕ, Bool, refl, sym, ap, subst, ◌∙◌}
 use Rattle.ckrt_history.specs.declared.position.Position.{Position}
 use Rattle.ckrt_history.specs.declared.stop.Stops.{Stops}
 use Rattle.ckrt_history.specs.Positions.{History, IsLeast, next_position, previous_position}

@@ -1,5 +1,5 @@
 -- What a session answers, by what is asked.
-use Rattle.std.proofs.Common.{◌≡◌, ℕ, true, false, Option, Some, None, List, refl, sym, subst, ◌∙◌}
+use Rattle.std.proofs.Common.{◌≡◌, ℕ, true, false, Option, Some, None, List, refl, sym, subst}
 use Rattle.std.proofs.lemmas.Bool.{false≢true}
 use Rattle.std.specs.Prelude.{IfOk, IfSome, Result, Ok, Err, is_some}
 use Rattle.ckrt_debug.specs.declared.fault.DebugFault.{DebugFault}
@@ -9,7 +9,7 @@ use Rattle.ckrt_debug.specs.declared.stub.Stub.{Stub}
 use Rattle.ckrt_debug.specs.Look.{fitting}
 use Rattle.ckrt_debug.specs.Playback.{history_of}
 use Rattle.ckrt_debug.specs.Requests.{last_text}
-use Rattle.ckrt_debug.specs.Session.{AnswersBy, HasMoved, HasSet, IsOfRun, IsSame, set_text_in}
+use Rattle.ckrt_debug.specs.Session.{AnswersBy, HasMoved, IsOfRun, IsSame}
 use Rattle.ckrt_debug.proofs.MotionLemmas.{is_run, moved_run}
 
 pub same : (s : Stub) → IsSame s s

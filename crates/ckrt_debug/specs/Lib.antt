@@ -1,9 +1,11 @@
 pub mod Commands
+pub mod Conversation
 pub mod Faults
 pub mod Playback
 pub mod Limits
 pub mod Look
 pub mod Marks
+pub mod Monitor
 pub mod Motions
 pub mod Requests
 pub mod Session

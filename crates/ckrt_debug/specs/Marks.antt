@@ -6,7 +6,7 @@ use Rattle.ckrt_history.specs.declared.stop.Watch.{Watch}
 use Rattle.ckrt_history.specs.declared.stop.Stops.{Stops}
 use Rattle.ckrt_history.specs.Stops.{widths}
 use Rattle.ckrt_packets.specs.declared.request.Mark.{Mark}
-use Rattle.ckrt_packets.specs.declared.request.Mark.TheVariants.{Execution, Writes, Reads, Accesses}
+use Rattle.ckrt_packets.specs.declared.request.Mark.TheVariants.{Execution, Writes}
 use Rattle.ckrt_debug.specs.declared.marks.Marked.{Marked}
 use Rattle.ckrt_debug.specs.declared.marks.Marked.TheVariants.{Done, Full, Unsupported}
 

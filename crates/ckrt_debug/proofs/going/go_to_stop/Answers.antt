@@ -1,5 +1,3 @@
-use Rattle.std.proofs.Common.{ap, ◌∙◌}
-use Rattle.ckrt_debug.specs.Told.{has_moved}
 use Rattle.ckrt_debug.proofs.MotionLemmas.{moved_on}
 use Rattle.ckrt_debug.proofs.going.go_to_stop.Goals as goal
 

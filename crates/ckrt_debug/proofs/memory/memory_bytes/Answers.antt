@@ -1,5 +1,5 @@
-use Rattle.std.proofs.Common.{◌≡◌, ◌≤◌, ◌+◌, ◌-◌, ◌∷◌, [], ◌++◌, length, sym, ap, ◌∙◌, arith, append_assoc, length-append}
-use Rattle.ckrt_debug.specs.Look.{byte_there, bytes_there}
+use Rattle.std.proofs.Common.{◌≡◌, ◌+◌, ◌-◌, ◌∷◌, [], ◌++◌, length, sym, ap, ◌∙◌, arith, append_assoc, length-append}
+use Rattle.ckrt_debug.specs.Look.{bytes_there}
 use Rattle.ckrt_debug.proofs.WordLemmas.{goes_on}
 use Rattle.ckrt_debug.proofs.memory.memory_bytes.Goals as goal
 

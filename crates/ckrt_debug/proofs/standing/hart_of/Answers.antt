@@ -1,4 +1,4 @@
-use Rattle.std.proofs.Common.{◌≡◌, ◌+◌, ◌<◌, length, suc, drop, Bool, true, false, sym, ap, ◌∙◌, arith}
+use Rattle.std.proofs.Common.{◌≡◌, ◌+◌, ◌<◌, length, suc, drop, sym, ap, ◌∙◌, arith}
 use Rattle.ckrt_thread.specs.State.{holds}
 use Rattle.ckrt_debug.specs.Standing.{hart_from}
 use Rattle.ckrt_debug.proofs.WordLemmas.{not_there, there}

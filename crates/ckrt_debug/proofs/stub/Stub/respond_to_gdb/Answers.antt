@@ -1,0 +1,13 @@
+use Rattle.std.proofs.Common.{◌≡◌, Err, refl, rules}
+use Rattle.ckrt_packets.specs.Framing.{frame_of}
+use Rattle.ckrt_debug.specs.Conversation.{RepliesToGdb}
+use Rattle.ckrt_debug.proofs.ConversationLemmas.{answers_err, writer_broke}
+use Rattle.ckrt_debug.proofs.stub.Stub.respond_to_gdb.Goals as goal
+
+pub returns-in_err-send-clause-broken : goal.returns-in_err-send-clause-broken
+returns-in_err-send-clause-broken g c =
+    let is : c.from_residual-in_err-send.result ≡ Err c.in_err-send.field-0.0 = search rules in
+    let payload = c.answer.new.out.items in
+    answers_err _ _ _ is
+    (writer_broke (RepliesToGdb c.args.request.now c.args.self) c.args.self c.in_ok-stub.stub (g.W.Write.contents c.args.writer.now) (g.W.Write.contents c.send.new.writer)
+    (frame_of payload) (frame_of payload) c.in_err-send.field-0.0 c.in_err-send.ensures.fault (payload, c.in_ok-stub.ensures.answered, refl, refl) c.in_err-send.ensures.part)

@@ -1,0 +1,83 @@
+-- What the stub makes of a command of gdb's user, and what it tells.
+use Rattle.std.specs.Prelude.{◌≡◌, ℕ, ◌+◌, ◌-◌, ◌^◌, ◌==◌, min, Bool, true, false, if◌then◌else◌, List, [], ◌++◌, length, codes, decimal, Option, Some, None}
+use Rattle.ckrt_history.specs.declared.position.Position.{Position}
+use Rattle.ckrt_inspect.specs.Listing.{listing_by}
+use Rattle.ckrt_debug.specs.declared.command.Command.{Command}
+use Rattle.ckrt_debug.specs.declared.command.Command.TheVariants.{Events, GoTo, Help, Inspect, Limit, Until}
+use Rattle.ckrt_debug.specs.declared.monitor.TheConstants.{HELP}
+use Rattle.ckrt_debug.specs.declared.stub.Stub.{Stub}
+use Rattle.ckrt_debug.specs.Commands.{command_of}
+use Rattle.ckrt_debug.specs.Playback.{history_of, state_of}
+use Rattle.ckrt_debug.specs.Session.{HasBounds, IsSame, Names, Reaches}
+use Rattle.ckrt_debug.specs.Told.{is_before, is_same}
+
+-- WHERE IT STANDS: `event K+S, from F to L`
+
+-- so many events of all, as a number of 64 bits
+abbrev pub count_of : (first k : ℕ) → ℕ
+count_of first k = min (first + k) (2 ^ 64 - 1)
+
+-- `+S`, where it is inside an event
+abbrev pub steps_text : ℕ → List ℕ
+steps_text s = if s == 0 then [] else codes "+" ++ decimal s
+
+-- `event K+S`
+abbrev pub event_text : (first : ℕ) → Position → List ℕ
+event_text first p = (codes "event " ++ decimal (count_of first p.events)) ++ steps_text p.steps
+
+-- `, from F to L`
+abbrev pub range_text : (first count : ℕ) → List ℕ
+range_text first count =
+    (codes ", from " ++ decimal first) ++ ((codes " to " ++ decimal (count_of first count)) ++ codes "\n")
+
+abbrev pub standing_line : Stub → List ℕ
+standing_line s =
+    event_text s.desk.first (history_of s.playback).position ++ range_text s.desk.first (length (history_of s.playback).events)
+
+abbrev pub nowhere : List ℕ
+nowhere = codes "no such position\n"
+
+-- WHAT IS TOLD
+
+-- where it stands, and before that whether that isn't where it was to go
+abbrev pub gone_text : (is_there : Bool) → Stub → List ℕ
+gone_text true s = standing_line s
+gone_text false s = nowhere ++ standing_line s
+
+-- by which motion it goes there
+abbrev pub until_text : (here there : Position) → List ℕ
+until_text here there =
+    if is_same here there then codes "here\n"
+    else if is_before here there then codes "continue goes there\n"
+    else codes "reverse-continue goes there\n"
+
+-- the listing of `ckrt inspect`
+abbrev pub listing_text : Stub → List ℕ
+listing_text s =
+    listing_by false (count_of s.desk.first (history_of s.playback).position.events) (state_of s.playback)
+
+abbrev pub limit_text : ℕ → List ℕ
+limit_text n = (codes "limit " ++ decimal n) ++ codes "\n"
+
+-- it ends motions there from now on, or there is no such position
+abbrev pub named_text : Option Position → (here : Position) → List ℕ
+named_text None here = nowhere
+named_text (Some there) here = until_text here there
+
+-- WHAT IT DOES
+
+abbrev pub Does : Command → (old new : Stub) → (console : List ℕ) → Type 0
+Does (GoTo p) old new console =
+    (is_there : Bool) × Reaches p.events p.steps old is_there new × (console ≡ gone_text is_there new)
+Does (Until p) old new console =
+    (there : Option Position) × Names p.events p.steps old there new
+    × (console ≡ named_text there (history_of old.playback).position)
+Does (Limit n) old new console =
+    HasBounds (record old.desk.bounds { limit = n }) old new × (console ≡ limit_text n)
+Does Events old new console = IsSame old new × (console ≡ standing_line old)
+Does Inspect old new console = IsSame old new × (console ≡ listing_text old)
+Does Help old new console = IsSame old new × (console ≡ HELP.now)
+
+-- from old to new it does what a text commands, and tells this
+abbrev pub Obeys : (text : List ℕ) → (old new : Stub) → (console : List ℕ) → Type 0
+Obeys text old new console = Does (command_of text) old new console

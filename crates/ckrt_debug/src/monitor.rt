@@ -1,0 +1,196 @@
+//! What the stub makes of a command of gdb's user, and what it tells.
+ghost use Rattle.std.specs.Prelude.{◌≡◌, ◌⊎◌, ◌++◌, ℕ, List, IfErr, IfOk, IsErrOf, OnOk, decimal};
+ghost use Rattle.ckrt_machine.specs.Events.{AllAccepted};
+ghost use Rattle.ckrt_debug.specs.declared.fault.DebugFault.TheVariants.{OutOfMemory, Refused};
+ghost use Rattle.ckrt_debug.specs.Monitor.{Does, Obeys, count_of, event_text, gone_text, limit_text, listing_text, named_text, range_text, standing_line, steps_text, until_text};
+ghost use Rattle.ckrt_debug.specs.Playback.{history_of};
+
+use crate::command::{Command, Place, command_of};
+use crate::fault::DebugFault;
+use crate::stub::Stub;
+use crate::told::is_same;
+use ckrt_history::Position;
+use ckrt_inspect::write_listing;
+use std::alloc::AllocError;
+
+const HELP: &[u8] = b"monitor events      the events that there are, and where it stands\n\
+monitor inspect     threads, locks and waits, as ckrt inspect lists them\n\
+monitor goto K+S    stand where K events are done and S steps of the next; then: maintenance flush register-cache\n\
+monitor until K+S   continue or reverse-continue stop there\n\
+monitor limit N     a continue makes N steps at most, by and large\n";
+
+/// A text and a number in decimal.
+fn push_counted(out: &mut Vec<u8>, text: &[u8], number: u64) -> Result<(), AllocError>
+    ensures { OnOk result (out.new.items ≡ out.old.items ++ (text.now ++ decimal number)) }
+{
+    out.extend_from_slice(text)?;
+    out.extend_from_slice(itoa::Buffer::new().format(number).as_bytes())
+}
+
+/// The steps of the next event, where it is inside one.
+fn push_steps(out: &mut Vec<u8>, steps: u32) -> Result<(), AllocError>
+    ensures { OnOk result (out.new.items ≡ out.old.items ++ steps_text steps) }
+{
+    if steps == 0 {
+        return Ok(());
+    }
+    push_counted(out, b"+", u64::from(steps))
+}
+
+/// So many events of all, as a number of 64 bits.
+fn count_of(first: u64, events: usize) -> u64
+    ensures { result ≡ count_of first events }
+{
+    first.saturating_add(events as u64)
+}
+
+/// Where somebody stands, before that `first` events were done.
+fn push_event(out: &mut Vec<u8>, first: u64, position: Position) -> Result<(), AllocError>
+    ensures { OnOk result (out.new.items ≡ out.old.items ++ event_text first position) }
+{
+    push_counted(out, b"event ", count_of(first, position.events))?;
+    push_steps(out, position.steps)
+}
+
+/// Which events there are.
+fn push_range(out: &mut Vec<u8>, first: u64, events: usize) -> Result<(), AllocError>
+    ensures { OnOk result (out.new.items ≡ out.old.items ++ range_text first events) }
+{
+    push_counted(out, b", from ", first)?;
+    push_counted(out, b" to ", count_of(first, events))?;
+    out.extend_from_slice(b"\n")
+}
+
+/// By which motion it goes from one position to another.
+fn until_text(here: Position, there: Position) -> &'static [u8]
+    ensures { result.now ≡ until_text here there }
+{
+    if is_same(here, there) {
+        b"here\n"
+    } else if here.is_before(there) {
+        b"continue goes there\n"
+    } else {
+        b"reverse-continue goes there\n"
+    }
+}
+
+/// By which motion it goes to the position that was named, if there is one.
+fn named_text(there: Option<Position>, here: Position) -> &'static [u8]
+    ensures { result.now ≡ named_text there here }
+{
+    match there {
+        Some(position) => until_text(here, position),
+        None => b"no such position\n",
+    }
+}
+
+/// The limit of steps.
+fn push_limit(out: &mut Vec<u8>, limit: u32) -> Result<(), AllocError>
+    ensures { OnOk result (out.new.items ≡ out.old.items ++ limit_text limit) }
+{
+    push_counted(out, b"limit ", u64::from(limit))?;
+    out.extend_from_slice(b"\n")
+}
+
+impl Stub {
+    /// Where it stands.
+    fn push_standing(&self, out: &mut Vec<u8>) -> Result<(), AllocError>
+        ensures { OnOk result (out.new.items ≡ out.old.items ++ standing_line self.now) }
+    {
+        push_event(out, self.desk.first, self.playback.position())?;
+        push_range(out, self.desk.first, self.playback.event_count())
+    }
+
+    /// Where it stands, and before that whether that isn't where it was to go.
+    fn push_gone(&self, is_there: bool, out: &mut Vec<u8>) -> Result<(), AllocError>
+        ensures { OnOk result (out.new.items ≡ out.old.items ++ gone_text is_there self.now) }
+    {
+        if !is_there {
+            out.extend_from_slice(b"no such position\n")?;
+        }
+        self.push_standing(out)
+    }
+
+    /// The listing of `ckrt inspect`.
+    fn push_listing(&self, out: &mut Vec<u8>) -> Result<(), AllocError>
+        ensures { OnOk result (out.new.items ≡ out.old.items ++ listing_text self.now) }
+    {
+        let count = count_of(self.desk.first, self.playback.position().events);
+        match write_listing(self.alloc, count, self.playback.machine(), out) {
+            Ok(()) => Ok(()),
+            Err(_) => Err(AllocError),
+        }
+    }
+
+    /// Goes to a place, and tells where it stands then.
+    fn go_to(self, place: Place, out: &mut Vec<u8>) -> Result<Stub, DebugFault>
+        ensures does { IfOk result (λ stub. (console : List ℕ)
+            × Does (Command.GoTo place) self stub console
+            × (out.new.items ≡ out.old.items ++ console)) }
+        ensures refused { IsErrOf result Refused
+            → AllAccepted (history_of self.playback).events (history_of self.playback).start → ⊥ }
+        ensures fault { IfErr result (λ e. (e ≡ Refused) ⊎ (e ≡ OutOfMemory)) }
+    {
+        let (stub, is_there) = self.reach(place.events, place.steps)?;
+        stub.push_gone(is_there, out)?;
+        Ok(stub)
+    }
+
+    /// Motions end at a place from now on, if there is one, and it is told by which motion it goes there.
+    fn stop_at(self, place: Place, out: &mut Vec<u8>) -> Result<Stub, DebugFault>
+        ensures does { IfOk result (λ stub. (console : List ℕ)
+            × Does (Command.Until place) self stub console
+            × (out.new.items ≡ out.old.items ++ console)) }
+        ensures refused { IsErrOf result Refused
+            → AllAccepted (history_of self.playback).events (history_of self.playback).start → ⊥ }
+        ensures fault { IfErr result (λ e. (e ≡ Refused) ⊎ (e ≡ OutOfMemory)) }
+    {
+        let (stub, there) = self.name(place.events, place.steps)?;
+        out.extend_from_slice(named_text(there, stub.playback.position()))?;
+        Ok(stub)
+    }
+
+    /// A motion makes so many steps at most.
+    fn limit(self, limit: u32, out: &mut Vec<u8>) -> Result<Stub, DebugFault>
+        ensures does { IfOk result (λ stub. (console : List ℕ)
+            × Does (Command.Limit limit) self stub console
+            × (out.new.items ≡ out.old.items ++ console)) }
+        ensures fault { IfErr result (λ e. e ≡ OutOfMemory) }
+    {
+        push_limit(out, limit)?;
+        let mut stub = self;
+        stub.desk.bounds.limit = limit;
+        Ok(stub)
+    }
+
+    /// Does what gdb's user commands. What is told goes behind what is in `out`.
+    ///
+    /// # Errors
+    ///
+    /// `Refused` only where an event isn't accepted at its turn, and `OutOfMemory`.
+    pub(crate) fn obey(self, text: &[u8], out: &mut Vec<u8>) -> Result<Stub, DebugFault>
+        ensures obeyed { IfOk result (λ stub. (console : List ℕ)
+            × Obeys text.now self stub console × (out.new.items ≡ out.old.items ++ console)) }
+        ensures refused { IsErrOf result Refused
+            → AllAccepted (history_of self.playback).events (history_of self.playback).start → ⊥ }
+        ensures fault { IfErr result (λ e. (e ≡ Refused) ⊎ (e ≡ OutOfMemory)) }
+    {
+        match command_of(text) {
+            Command::GoTo(place) => self.go_to(place, out),
+            Command::Until(place) => self.stop_at(place, out),
+            Command::Limit(limit) => self.limit(limit, out),
+            Command::Events => {
+                self.push_standing(out)?;
+                Ok(self)
+            }
+            Command::Inspect => {
+                self.push_listing(out)?;
+                Ok(self)
+            }
+            Command::Help => {
+                out.extend_from_slice(HELP)?;
+                Ok(self)
+            }
+        }
+    }
+}
