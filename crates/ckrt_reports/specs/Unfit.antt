@@ -2,7 +2,7 @@
 use Rattle.std.specs.Prelude.{ℕ, nat_lt, Bool, not, ◌||◌, if◌then◌else◌, List, [], ◌++◌, codes, decimal}
 use Rattle.ckrt_checkpoint.specs.declared.config.Config.{Config}
 use Rattle.ckrt_outcomes.specs.Ranges.{config_for, is_interval, is_target}
-use Rattle.ckrt_words.specs.Jobs.{Driving, Request, calls, drive, format, hunt}
+use Rattle.ckrt_words.specs.Jobs.{Driving, Request, calls, drive, format, hunt, races}
 
 -- a number between two texts
 abbrev pub size_text : (before : List ℕ) → ℕ → (behind : List ℕ) → List ℕ
@@ -30,10 +30,15 @@ unfit_drive_text j =
     else if not (is_target j.output j.from) then codes "--from doesn't go with --output: "
     else codes "--input-from is below 2^62, and goes with --input: "
 
+-- a stretch that would end before it begins
+abbrev pub turned_text : List ℕ
+turned_text = codes "--from is above --to: "
+
 -- what was asked for with such numbers
 abbrev pub unfit_of : Request → List ℕ
 unfit_of (drive j) = unfit_drive_text j
-unfit_of (calls t) = codes "--from is above --to: "
+unfit_of (calls s) = turned_text
+unfit_of (races s) = turned_text
 unfit_of (hunt h) = codes "--seeds isn't FIRST-LAST, two numbers below 2^64 - 1, the first one not above the last: "
 unfit_of _ = []
 

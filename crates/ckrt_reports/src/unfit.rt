@@ -58,7 +58,7 @@ fn say_unfit_drive<E: Reporter>(reporter: &mut E, job: &DriveJob<'_>) -> Result<
     reporter.say(b"--input-from is below 2^62, and goes with --input: ")
 }
 
-/// Says which number of the words is the fault Range, where they ask for a drive, for calls or for a hunt.
+/// Says which number of the words is the fault Range, where they ask for a drive, for a stretch or for a hunt.
 pub(crate) fn say_unfit<E: Reporter>(reporter: &mut E, job: &Job<'_>) -> Result<(), Unsaid>
     ensures said { OnOk result (Appends (E.said reporter.old) (E.said reporter.new)
         (unfit_of (request_of job.now))) }
@@ -66,7 +66,7 @@ pub(crate) fn say_unfit<E: Reporter>(reporter: &mut E, job: &Job<'_>) -> Result<
 {
     match job {
         Job::Drive(job) => say_unfit_drive(reporter, job),
-        Job::Calls(_) => reporter.say(b"--from is above --to: "),
+        Job::Calls(_) | Job::Races(_) => reporter.say(b"--from is above --to: "),
         Job::Hunt(_) => reporter.say(SEEDS_TEXT),
         _ => reporter.say(b""),
     }

@@ -17,7 +17,7 @@ use Rattle.clap.specs.declared.builder.value_parser.ValueParser.TheVariants as v
 use Rattle.clap.proofs.CallerReads.{signed_reads}
 use Rattle.clap.proofs.ValueTestLemmas.{accepts-Accepts}
 use Rattle.ckrt_words.specs.Commands.{ckrt_app}
-use Rattle.ckrt_words.specs.Jobs.{DiskStretch, Request, calls, core, debug, disk_stretch_in, drive, flag_in, format, hunt, inspect, run, number_in, number_of, place_in, request_in, sizes_in}
+use Rattle.ckrt_words.specs.Jobs.{DiskStretch, Request, calls, core, debug, disk_stretch_in, drive, flag_in, format, hunt, inspect, races, run, number_in, number_of, place_in, request_in, sizes_in}
 use Rattle.clap.proofs.WalkLemmas.{both}
 use Rattle.ckrt_words.proofs.MatchLemmas.{AreRows, AreRules, defaults_give, given_found, has_command, has_required, level_kept, level_valid, row_found, taken_levels, value_there}
 use Rattle.ckrt_words.proofs.NumberLemmas.{number_reads}
@@ -47,8 +47,11 @@ calls_shape = unwrap_or (slice_get built_app.subs 5) built_app.top
 abbrev debug_shape : Shape
 debug_shape = unwrap_or (slice_get built_app.subs 6) built_app.top
 
+abbrev races_shape : Shape
+races_shape = unwrap_or (slice_get built_app.subs 7) built_app.top
+
 abbrev hunt_shape : Shape
-hunt_shape = unwrap_or (slice_get built_app.subs 7) built_app.top
+hunt_shape = unwrap_or (slice_get built_app.subs 8) built_app.top
 
 format_rules : AreRules format_shape refl format_shape.rules
 format_rules = ((refl, inl (refl, refl)), ((refl, inl (refl, refl)), ((refl, inl (refl, refl)), ((refl, inl (refl, refl)), ((refl, inl (refl, refl)), ((refl, inr (inl refl)), tt))))))
@@ -70,6 +73,9 @@ calls_rules = ((refl, inl (refl, refl)), ((refl, inl (refl, refl)), ((refl, inl 
 
 debug_rules : AreRules debug_shape refl debug_shape.rules
 debug_rules = ((refl, inl (refl, refl)), ((refl, inl (refl, refl)), ((refl, inr (inl refl)), tt)))
+
+races_rules : AreRules races_shape refl races_shape.rules
+races_rules = ((refl, inl (refl, refl)), ((refl, inl (refl, refl)), ((refl, inl (refl, refl)), ((refl, inr (inl refl)), tt))))
 
 hunt_rules : AreRules hunt_shape refl hunt_shape.rules
 hunt_rules = ((refl, inl (refl, refl)), ((refl, inl (refl, refl)), ((refl, inl (refl, refl)), ((refl, inl (refl, refl)), ((refl, inl (refl, refl)), ((refl, inl (refl, refl)), ((refl, inr (inl refl)), tt)))))))
@@ -126,6 +132,14 @@ debug_named words pass =
     let given = has_required debug_shape rows false (level_valid debug_shape [] nothing_held words false pass) refl in
     let disk = value_there debug_shape refl (codes "disk") rows _ kept refl (given_found (codes "disk") rows (both (is_given (codes "disk") rows) true given).0) in
     (debug (record { disk = disk.0; at = place_in (codes "at") rows }), rw disk.1 refl)
+
+races_named : (words : List Text) → level_passes races_shape [] nothing_held words false ≡ true → (r : Request) × (request_in (rows_at races_shape words) ≡ Some r)
+races_named words pass =
+    let rows = finished races_shape.rules (walk races_shape.rules [] nothing_held words).held in
+    let kept = level_kept races_shape refl races_rules [] nothing_held words false pass tt in
+    let given = has_required races_shape rows false (level_valid races_shape [] nothing_held words false pass) refl in
+    let stretch = stretch_there races_shape refl rows _ kept refl (both (is_given (codes "disk") rows) true given).0 in
+    (races stretch.0, ap (option_map races) stretch.1)
 
 abbrev slot : Shape → ℕ → Rule
 slot shape i = slice_index_or shape.rules i (new_rule [])
@@ -218,7 +232,7 @@ found_named is_it words [] named = λ pass some. absurd (true≢false (sym some)
 found_named is_it words (s ∷ rest) named = either_named words s (find is_it rest) (is_it s) named.0 (found_named is_it words rest named.1)
 
 all_named : AreNamed built_app.subs
-all_named = (format_named, (run_named, (inspect_named, (drive_named, (core_named, (calls_named, (debug_named, (hunt_named, tt))))))))
+all_named = (format_named, (run_named, (inspect_named, (drive_named, (core_named, (calls_named, (debug_named, (races_named, (hunt_named, tt)))))))))
 
 -- what a command that takes the words is asked for
 entered_named : (stop : Option (Text × List Text)) → entered_passes built_app stop ≡ true → is_some (entered built_app stop) ≡ true

@@ -1,5 +1,6 @@
 -- The program's command line, as `clap` sees it: `format DISK IMAGE [--pages P] [--harts H] [--journal J]`, `run DISK`,
 -- `inspect DISK [--at K] [--code]`, `core DISK FILE [--at K]`, `calls DISK [--from K] [--to K]`, `debug DISK [--at K]`,
+-- `races DISK [--from K] [--to K]`,
 -- `hunt IMAGE [--seeds A-B] [--pages P] [--harts H] [--steps N] [--keep DISK]` and `drive DISK [--image IMAGE] [--pages P] [--harts H]
 -- [--journal J] [--input FILE] [--input-from OFFSET] [--output FILE] [--turn N] [--rounds-per-commit R] [--events N] [--seed S]
 -- [--progress SECONDS] [--status FILE] [--from OFFSET]`.
@@ -92,6 +93,9 @@ debug_app =
     (needed_rule (codes "disk")))
     (place_rule (codes "at"))
 
+abbrev pub races_app : App
+races_app = stretch_app (new_app (codes "races"))
+
 abbrev pub hunt_app : App
 hunt_app =
     with_rule (with_rule (with_rule (with_rule (with_rule (with_rule (new_app (codes "hunt"))
@@ -135,4 +139,4 @@ app_with commands = fold (λ whole command. with_subcommand whole command.top) b
 
 abbrev pub ckrt_app : App
 ckrt_app =
-    app_with (format_app ∷ run_app ∷ inspect_app ∷ drive_app ∷ core_app ∷ calls_app ∷ debug_app ∷ hunt_app ∷ [])
+    app_with (format_app ∷ run_app ∷ inspect_app ∷ drive_app ∷ core_app ∷ calls_app ∷ debug_app ∷ races_app ∷ hunt_app ∷ [])

@@ -88,6 +88,7 @@ pub data Request : Type 0 where
   core : CoreMaking → Request
   calls : DiskStretch → Request
   debug : Debugging → Request
+  races : DiskStretch → Request
   hunt : Hunting → Request
 
 abbrev pub formatting_of : FormatJob → Formatting
@@ -149,6 +150,7 @@ request_of (job.Drive d) = drive (driving_of d)
 request_of (job.Core c) = core (core_making_of c)
 request_of (job.Calls s) = calls (disk_stretch_of s)
 request_of (job.Debug d) = debug (debugging_of d)
+request_of (job.Races s) = races (disk_stretch_of s)
 request_of (job.Hunt h) = hunt (hunting_of h)
 
 -- decimal digits, one or more, after a plus or not, of a number of so many bits
@@ -252,6 +254,7 @@ request_in p =
     else if bytes_eq p.0 (codes "core") then option_map core (core_making_in p.1)
     else if bytes_eq p.0 (codes "calls") then option_map calls (disk_stretch_in p.1)
     else if bytes_eq p.0 (codes "debug") then option_map debug (debugging_in p.1)
+    else if bytes_eq p.0 (codes "races") then option_map races (disk_stretch_in p.1)
     else if bytes_eq p.0 (codes "hunt") then option_map hunt (hunting_in p.1)
     else None
 

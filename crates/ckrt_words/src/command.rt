@@ -3,7 +3,7 @@ ghost use Rattle.std.specs.Prelude.{◌≡◌, ◌∷◌, [], IfOk, codes, false
 ghost use Rattle.std.specs.List.{list_all};
 ghost use Rattle.clap.specs.Words.{App, app_of, new_app, rule_of, with_rule, with_subcommand};
 ghost use Rattle.clap.specs.declared.builder.command.Command.TheViews.{out-Command};
-ghost use Rattle.ckrt_words.specs.Commands.{app_with, bare_app, calls_app, ckrt_app, core_app, debug_app, drive_app, flag_rule, format_app, hunt_app, inspect_app, needed_rule, number_rule, option_rule, place_rule, run_app, size_rule, stretch_app, text_rule};
+ghost use Rattle.ckrt_words.specs.Commands.{app_with, bare_app, calls_app, ckrt_app, core_app, debug_app, drive_app, flag_rule, format_app, hunt_app, inspect_app, needed_rule, number_rule, option_rule, place_rule, races_app, run_app, size_rule, stretch_app, text_rule};
 
 use clap::{Arg, ArgAction, Command, value_parser};
 use std::alloc::{AllocError, Global};
@@ -271,6 +271,19 @@ fn debug_arguments<'a>(alloc: Global) -> Result<Vec<Arg<'a>>, AllocError>
     Ok(arguments)
 }
 
+/// `races DISK [--from K] [--to K]`.
+fn races_command<'a>(alloc: Global) -> Result<Command<'a>, AllocError>
+    ensures app { IfOk result (λ c. app_of c ≡ races_app) }
+    ensures local { IfOk result (λ c. (out-Command c).has_globals ≡ false) }
+{
+    let arguments = stretch_arguments(alloc)?;
+    Command::new(alloc, "races")
+        .about(
+            "Tells the data races of a stopped guest, and changes nothing, as `ckrt races pi.disk`",
+        )
+        .args(arguments)
+}
+
 /// `hunt IMAGE` with its options: which seeds, on what machine, how long a run is, and where the first run is kept.
 fn hunt_command<'a>(alloc: Global) -> Result<Command<'a>, AllocError>
     ensures app { IfOk result (λ c. app_of c ≡ hunt_app) }
@@ -494,11 +507,22 @@ fn command_with_calls<'a>(alloc: Global) -> Result<Command<'a>, AllocError>
     with_command(with_core, calls_command(alloc))
 }
 
+/// The program with these, `debug` and `races`.
+fn command_with_races<'a>(alloc: Global) -> Result<Command<'a>, AllocError>
+    ensures { IfOk result (λ c.
+        app_of c ≡ app_with
+        (format_app ∷ run_app ∷ inspect_app ∷ drive_app ∷ core_app ∷ calls_app ∷ debug_app
+        ∷ races_app ∷ [])) }
+{
+    let with_calls = command_with_calls(alloc)?;
+    let with_debug = with_command(with_calls, debug_command(alloc))?;
+    with_command(with_debug, races_command(alloc))
+}
+
 /// The program's command line.
 pub(crate) fn command<'a>(alloc: Global) -> Result<Command<'a>, AllocError>
     ensures { IfOk result (λ c. app_of c ≡ ckrt_app) }
 {
-    let with_calls = command_with_calls(alloc)?;
-    let with_debug = with_command(with_calls, debug_command(alloc))?;
-    with_command(with_debug, hunt_command(alloc))
+    let with_races = command_with_races(alloc)?;
+    with_command(with_races, hunt_command(alloc))
 }

@@ -21,6 +21,8 @@ pub enum Job<'a> {
     Calls(StretchJob<'a>),
     /// Serve what a disk holds to a debugger: `debug DISK`.
     Debug(DebugJob<'a>),
+    /// Tell the data races of what a disk holds: `races DISK`.
+    Races(StretchJob<'a>),
     /// Run an image by one schedule after another: `hunt IMAGE`.
     Hunt(HuntJob<'a>),
 }

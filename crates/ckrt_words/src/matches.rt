@@ -1,7 +1,7 @@
 //! What the matches of a command line name.
 ghost use Rattle.std.specs.Prelude.{◌≡◌, codes, option_and_then, option_map};
 ghost use Rattle.clap.specs.Words.{first_of, found_of, rows_of, subcommand_rows_of};
-ghost use Rattle.ckrt_words.specs.Jobs.{calls, core, core_making_in, core_making_of, debug, debugging_in, debugging_of, disk_stretch_in, disk_stretch_of, drive, driving_in, driving_of, flag_in, format, formatting_in, formatting_of, hunt, hunting_in, hunting_of, inspect, inspection_in, inspection_of, number_in, place_in, request_in, request_of, run, sizes_in};
+ghost use Rattle.ckrt_words.specs.Jobs.{calls, core, core_making_in, core_making_of, debug, debugging_in, debugging_of, disk_stretch_in, disk_stretch_of, drive, driving_in, driving_of, flag_in, format, formatting_in, formatting_of, hunt, hunting_in, hunting_of, inspect, inspection_in, inspection_of, number_in, place_in, races, request_in, request_of, run, sizes_in};
 
 use crate::job::{
     CoreJob, DebugJob, DriveJob, FormatJob, HuntJob, InspectJob, Job, Sizes, StretchJob,
@@ -202,6 +202,14 @@ fn debug_named<'a>(given: &ArgMatches<'a>) -> Option<Job<'a>>
     Some(Job::Debug(debugging(given)?))
 }
 
+/// The job of `races` with these matches.
+fn races_named<'a>(given: &ArgMatches<'a>) -> Option<Job<'a>>
+    ensures { option_map request_of result
+        ≡ option_map races (disk_stretch_in (rows_of (found_of given.now))) }
+{
+    Some(Job::Races(stretch(given)?))
+}
+
 /// The job of `hunt` with these matches.
 fn hunt_named<'a>(given: &ArgMatches<'a>) -> Option<Job<'a>>
     ensures { option_map request_of result
@@ -234,6 +242,9 @@ fn job_of<'a>(name: &str, given: &ArgMatches<'a>) -> Option<Job<'a>>
     }
     if name == "debug" {
         return debug_named(given);
+    }
+    if name == "races" {
+        return races_named(given);
     }
     if name == "hunt" {
         return hunt_named(given);

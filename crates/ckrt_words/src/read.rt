@@ -42,6 +42,10 @@ const CALLS_USAGE: &str =
 /// What follows a number of `debug` that isn't one.
 const DEBUG_USAGE: &str = "Usage: ckrt debug <DISK> [--at NUMBER OF EVENTS]";
 
+/// What follows a number of `races` that isn't one.
+const RACES_USAGE: &str =
+    "Usage: ckrt races <DISK> [--from NUMBER OF EVENTS] [--to NUMBER OF EVENTS]";
+
 /// What follows a number of `hunt` that isn't one.
 const HUNT_USAGE: &str =
     "Usage: ckrt hunt <IMAGE> [--seeds FIRST-LAST] [--pages 16 to 1024] [--harts 1 to 8] [--steps NUMBER OF STEPS] [--keep <DISK>]";
@@ -58,6 +62,7 @@ fn number_usage(words: &[&str]) -> &'static str {
         Some(&"core") => CORE_USAGE,
         Some(&"calls") => CALLS_USAGE,
         Some(&"debug") => DEBUG_USAGE,
+        Some(&"races") => RACES_USAGE,
         Some(&"hunt") => HUNT_USAGE,
         _ => FORMAT_USAGE,
     }
@@ -128,7 +133,7 @@ fn is_version(words: &[&str]) -> bool
 /// and a journal of 65,536 bytes; one that is given has to be a number below 2^32. `inspect` shows the disk after the last
 /// event where `--at` isn't given, which has to be a number below 2^64, and so does `core`. `calls` begins at the first one
 /// that the disk still has, and ends at the last one where its numbers aren't given, which have to be below 2^64 too. So does
-/// `debug` begin, where `--at` isn't given.
+/// `debug` begin, where `--at` isn't given. `races` takes a stretch as `calls` does.
 ///
 /// `hunt` has seeds 1-200, 64 pages, 1 hart, runs of at most 10,000,000 steps and no disk where these aren't given; the numbers that are have to
 /// be below 2^32, and the text of the seeds is handed on as it is.

@@ -16,6 +16,11 @@ returns-in-Calls g c =
     let unread = g.R.Read.remaining c.args.reader.now in
     record { performs = rw c.in-Calls.is (c.calls_path.result, c.without_end-in-Calls.ensures, c.calls_path.ensures.traces unread) }
 
+pub returns-in-Races : goal.returns-in-Races
+returns-in-Races g c =
+    let unread = g.R.Read.remaining c.args.reader.now in
+    record { performs = rw c.in-Races.is (c.races_path.result, c.without_end-in-Races.ensures, c.races_path.ensures.races unread) }
+
 pub returns-in-Hunt : goal.returns-in-Hunt
 returns-in-Hunt g c =
     let unread = g.R.Read.remaining c.args.reader.now in

@@ -1,13 +1,11 @@
-use Rattle.std.proofs.Common.{ap, [], ◌∷◌, ◌≡◌, ◌∙◌}
+use Rattle.std.proofs.Common.{ap, ◌≡◌, ◌∙◌}
 use Rattle.std.proofs.lemmas.Result.{IfOk-weaker}
 use Rattle.clap.specs.Words.{App, app_of, with_subcommand}
-use Rattle.ckrt_words.specs.Commands.{app_with, calls_app, ckrt_app, core_app, debug_app, drive_app, format_app, hunt_app, inspect_app, run_app}
+use Rattle.ckrt_words.specs.Commands.{ckrt_app, hunt_app}
 use Rattle.ckrt_words.proofs.command.command.Goals as goal
 
 -- command by command
 pub returns : goal.returns
 returns c =
-    let debug : app_of c.in_ok-with_debug.with_debug ≡ app_with (format_app ∷ run_app ∷ inspect_app ∷ drive_app ∷ core_app ∷ calls_app ∷ debug_app ∷ []) =
-    c.in_ok-with_debug.ensures debug_app c.debug_command.ensures.app ∙ ap (λ (a : App). with_subcommand a debug_app.top) c.in_ok-with_calls.ensures in
-    IfOk-weaker c.with_command-2.result _ (λ whole. app_of whole ≡ ckrt_app)
-    (λ _ is. is hunt_app c.hunt_command.ensures.app ∙ ap (λ (a : App). with_subcommand a hunt_app.top) debug) c.with_command-2.ensures
+    IfOk-weaker c.with_command.result _ (λ whole. app_of whole ≡ ckrt_app)
+    (λ _ is. is hunt_app c.hunt_command.ensures.app ∙ ap (λ (a : App). with_subcommand a hunt_app.top) c.in_ok-with_races.ensures) c.with_command.ensures

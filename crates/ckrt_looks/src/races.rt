@@ -1,0 +1,55 @@
+//! Telling the data races of what a disk has recorded.
+ghost use Rattle.std.specs.Prelude.{ℕ, List, Option};
+ghost use Rattle.ckrt_words.specs.Jobs.{disk_stretch_of};
+ghost use Rattle.ckrt_outcomes.specs.Outside.{outside};
+ghost use Rattle.ckrt_looks.specs.Tellings.{RacesPath};
+
+use crate::looking::{Telling, look_path};
+use ckrt_disk::Disk;
+use ckrt_inspect::InspectFault;
+use ckrt_outcomes::JobFault;
+use ckrt_races::write_races;
+use ckrt_sources::Sources;
+use ckrt_trace::Stretch;
+use ckrt_words::StretchJob;
+use std::alloc::Global;
+use std::io::{Read, Write};
+
+/// Its data races, a line for each pair of places.
+struct Races;
+
+impl Telling for Races {
+    ghost use Rattle.ckrt_races.specs.Disks.{Finds};
+
+    ghost Tells = { λ _. Finds };
+
+    fn tell<D: Disk, W: Write>(
+        &self,
+        alloc: Global,
+        disk: &mut D,
+        stretch: Stretch,
+        writer: &mut W,
+    ) -> Result<(), InspectFault> {
+        write_races(alloc, disk, stretch, writer)
+    }
+}
+
+/// Tells the data races of what the disk of a path has recorded, a line for each pair of places: of all, or of the events behind so
+/// many and up to so many. The disk is only read.
+///
+/// # Errors
+///
+/// As those of [`calls_path`](crate::calls_path).
+pub fn races_path<'a, I: Read, D: Disk, S: Sources<'a, I, D>, W: Write>(
+    alloc: Global,
+    job: &StretchJob<'a>,
+    sources: &mut S,
+    writer: &mut W,
+) -> Result<(), JobFault>
+    ensures races { (left : Option (List ℕ))
+        → RacesPath D.Disk (S.opens sources.old job.now.disk.now) (disk_stretch_of job.now)
+        (outside (S.openings sources.old) (W.contents writer.old) left)
+        (outside (S.openings sources.new) (W.contents writer.new) left) result }
+{
+    look_path::<I, D, S, Races, W>(alloc, job, &Races, sources, writer)
+}
