@@ -76,21 +76,21 @@ module _ (a b c : Option (List ℕ)) (text rest done part more : List ℕ) (k : 
       let backs : drop 2000 rest ≡ more = sym (drop_min 2000 rest) ∙ ap (λ n. drop n rest) (sym count) ∙ sym back in
       console_next rest some ∙ ap (λ l. frame_of (console_text l) ++ console_frames (drop 2000 rest)) fronts ∙ ap (λ l. frame_of (console_text part) ++ console_frames l) backs
 
-  all_told : console_frames text ≡ done ++ (frame_of (console_text part) ++ console_frames more)
-  all_told = is ∙ ap (λ l. done ++ l) told_next
+  whole_told : console_frames text ≡ done ++ (frame_of (console_text part) ++ console_frames more)
+  whole_told = is ∙ ap (λ l. done ++ l) told_next
 
   -- a packet was sent
   pub told_more : Appends b c (frame_of (console_text part)) → (x : List ℕ) × Appends a c x × (console_frames text ≡ x ++ console_frames more)
   told_more sent = (
     done ++ frame_of (console_text part),
     Appends-append a b c done (frame_of (console_text part)) so sent,
-    all_told ∙ sym (append_assoc done (frame_of (console_text part)) (console_frames more)),
+    whole_told ∙ sym (append_assoc done (frame_of (console_text part)) (console_frames more)),
   )
 
   -- or broken off
   pub told_part : AppendsPart b c (frame_of (console_text part)) → AppendsPart a c (console_frames text)
   told_part sent =
-      subst (AppendsPart a c) (sym all_told)
+      subst (AppendsPart a c) (sym whole_told)
       (part_behind a b c done (frame_of (console_text part) ++ console_frames more) so (part_front b c (frame_of (console_text part)) (console_frames more) sent))
 
 -- BYTES
@@ -153,6 +153,10 @@ replay_broke Is old a e (inl is) why = subst (λ f. Breaks f Is old a a) (sym is
 replay_broke Is old a e (inr is) why = subst (λ f. Breaks f Is old a a) (sym is) (Appends-nothing a)
 
 -- A COMMAND OF THE USER'S
+
+-- what stands in an empty console is what was told
+pub all_told : (seen out begun told : List ℕ) → seen ≡ out → out ≡ begun ++ told → begun ≡ [] → seen ≡ told
+all_told seen out begun told same is none = same ∙ (is ∙ ap (λ l. l ++ told) none)
 
 module _ (text told console : List ℕ) (old new : Stub) (obeys : Obeys text old new console) (same : told ≡ console) (a b : Option (List ℕ)) where
   pub user_reply : RepliesToUser text old new (console_frames console ++ frame_of (codes "OK")) (frame_of (codes "OK"))

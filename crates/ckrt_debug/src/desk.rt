@@ -87,7 +87,8 @@ impl Desk {
         ensures view { self.new.view ≡ view_after request.now self.old.view threads.now }
         ensures stops { HasSetStops request.now self.old.stops self.new.stops }
         ensures kept { (self.new.bounds ≡ self.old.bounds) × (self.new.first ≡ self.old.first) }
-        ensures payload { out.new.items ≡ fitting (set_text request.now self.old.stops threads.now) }
+        ensures payload { out.new.items
+            ≡ fitting (set_text request.now self.old.stops threads.now) }
     {
         match request {
             Request::Examine(choice) => examine(&mut self.view, *choice, threads, out),

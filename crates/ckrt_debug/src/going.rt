@@ -41,7 +41,8 @@ fn go_to_stop(history: &mut History, stops: &Stops, bounds: Bounds, thread: u8) 
 fn go_step(history: &mut History, stops: &mut Stops, bounds: Bounds, thread: u8) -> Stopped
     requires { widths stops.old.watches.items ≤ 256 }
     ensures stops { stops.new ≡ stops.old }
-    ensures moved { (found : Found) × Moved bounds (Way.StepOn thread) stops.old history.old history.new found
+    ensures moved { (found : Found)
+        × Moved bounds (Way.StepOn thread) stops.old history.old history.new found
         × (result ≡ told bounds (Way.StepOn thread) found thread history.old history.new) }
 {
     let here = history.position();
@@ -66,7 +67,8 @@ fn go_back_to_stop(history: &mut History, stops: &Stops, bounds: Bounds, thread:
 fn go_back_step(history: &mut History, stops: &mut Stops, bounds: Bounds, thread: u8) -> Stopped
     requires { widths stops.old.watches.items ≤ 256 }
     ensures stops { stops.new ≡ stops.old }
-    ensures moved { (found : Found) × Moved bounds (Way.StepBack thread) stops.old history.old history.new found
+    ensures moved { (found : Found)
+        × Moved bounds (Way.StepBack thread) stops.old history.old history.new found
         × (result ≡ told bounds (Way.StepBack thread) found thread history.old history.new) }
 {
     let end = end_back(history, bounds);

@@ -33,7 +33,8 @@ fn only(watch: Watch) -> Stops
 /// The first address of the first watch under which the step that led here changed a byte.
 fn watch_of(history: &mut History, watches: &[Watch]) -> u32
     requires width { widths watches.now ≤ 256 }
-    requires changed { HasChanged watches.now history.old.position history.old.events history.old.start }
+    requires changed { HasChanged watches.now history.old.position history.old.events
+        history.old.start }
     ensures history { history.new ≡ history.old }
     ensures watch { (w : Watch) × Contains watches.now w × (w.first ≡ result)
         × HasChanged (w ∷ []) history.old.position history.old.events history.old.start }

@@ -82,8 +82,10 @@ impl Stub {
         at: Option<u64>,
     ) -> Result<Stub, DebugFault>
         ensures begun { IfOk result (BeginsAt at first (run_of machine.state events.items)) }
-        ensures within { IfOk result (λ _. IsOutside at first (run_of machine.state events.items) → ⊥) }
-        ensures range { IsErrOf result Range → IsOutside at first (run_of machine.state events.items) }
+        ensures within { IfOk result
+            (λ _. IsOutside at first (run_of machine.state events.items) → ⊥) }
+        ensures range { IsErrOf result Range
+            → IsOutside at first (run_of machine.state events.items) }
         ensures refused { IsErrOf result Refused → AllAccepted events.items machine.state → ⊥ }
         ensures fault { IfErr result (λ e. (e ≡ Refused) ⊎ (e ≡ OutOfMemory) ⊎ (e ≡ Range)) }
         ensures sure { at ≡ None → IsOk result }

@@ -1,7 +1,7 @@
 use Rattle.std.proofs.Common.{◌≡◌, Err, Option, rules, sym, subst}
 use Rattle.std.specs.Prelude.{option_map}
 use Rattle.ckrt_debug.specs.declared.stub.Stub.{Stub}
-use Rattle.ckrt_debug.specs.Conversation.{Advances, HasHeard, Talk, begun, talk_of}
+use Rattle.ckrt_debug.specs.Conversation.{Advances, BreaksOff, HasHeard, Talk, begun, talk_of}
 use Rattle.ckrt_debug.proofs.ConversationLemmas.{answers_err, heard_nothing, heard_on, never_range, read_out}
 use Rattle.ckrt_debug.proofs.stub.Stub.serve.Goals as goal
 
@@ -37,7 +37,8 @@ returns-in-None-clause-whole g c = (
 pub returns-in_err-next-clause-broken : goal.returns-in_err-next-clause-broken
 returns-in_err-next-clause-broken g c =
     let is : c.from_residual.result ≡ Err c.in_err-next.field-0.0 = search rules in
-    answers_err _ _ _ is
+    answers_err c.from_residual.result c.in_err-next.field-0.0
+    (λ e. BreaksOff e c.args.self (g.R.Read.remaining c.args.reader.now) (g.R.Read.remaining c.advance.new.reader) (g.W.Write.contents c.args.writer.now) (g.W.Write.contents c.advance.new.writer)) is
     (g.R.Read.remaining c.loop.reader, g.W.Write.contents c.loop.writer, talk_of c.loop.stub c.loop.line, c.loop.invariant, c.in_err-next.ensures.broken)
 
 pub returns-in_err-next-clause-fault : goal.returns-in_err-next-clause-fault
