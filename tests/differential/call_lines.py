@@ -9,7 +9,8 @@ from events import Eof, Input, Place, Run, Tick
 from listing import OutOfRange, address_text, reason_of_wait, text_of_fault, text_of_wait
 from machine import OUTPUT_OF_RUN
 from processor import ECALL
-from recovery import events_of_journal, read_area, read_superblock, recover
+from recorded import recorded_areas
+from recovery import events_of_journal, recover
 from threads import Status, WaitKind
 
 # How the arguments of a call are told: `a` is a word that may be an address, `n` a number, `m` a moment, of two words.
@@ -147,16 +148,21 @@ def event_text(event):
             return "eof"
 
 
+def told_of_journal(disk, found):
+    """The lines of each event in the journal of an area, from what that saves on."""
+    teller = Teller(found.machine, found.events)
+    return [teller.lines_of_event(event) for event in events_of_journal(disk, found)[0]]
+
+
 class History:
-    """What a disk tells of the events that its journal has, by event. Raises Unrecovered."""
+    """What a disk tells of the events that it has recorded, by event. Raises Unrecovered."""
 
     def __init__(self, contents):
         disk = MemoryDisk(contents)
         self.whole = recover(disk).events
-        found = read_area(disk, read_superblock(disk))
-        self.first = found.events
-        teller = Teller(found.machine, found.events)
-        self.told = [teller.lines_of_event(event) for event in events_of_journal(disk, found)[0]]
+        areas = recorded_areas(disk)
+        self.first = areas[0].events
+        self.told = [lines for found in areas for lines in told_of_journal(disk, found)]
 
     def lines(self, first=None, last=None):
         """Of the events behind the first so many, and up to the last: all, if nothing else is said."""

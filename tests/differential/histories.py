@@ -2,9 +2,11 @@
 from dataclasses import dataclass
 
 from lines import serve_disk
+from older_areas import OlderArea
+from recorded import ends_of_history
 from saved_disks import ChangedArea, asks, serve_and_save, with_checkpoints
 from streams import joined
-from traced_cases import ends_of_journal, listed_disk
+from traced_cases import listed_disk
 
 
 @dataclass
@@ -17,9 +19,18 @@ class HistoriesCase:
         return bytearray(self.contents)
 
 
+def with_saves(chance, lines):
+    """The lines with one or several checkpoints among them, most with a commit before: only then no event is missing."""
+    fed = list(lines)
+    for _ in range(chance.choice([1, 1, 2, 3, 5])):
+        at = chance.randrange(len(fed) + 1)
+        fed[at:at] = [b"commit", b"checkpoint"] if chance.random() < 0.85 else [b"checkpoint"]
+    return fed
+
+
 def recorded_disk(chance, case):
     """A disk with events in its journal: a guest's from its begin on, or from a checkpoint on; a crowd's; or those of a disk that
-    is listed."""
+    is listed. Of most the older area has events too, and of some that area is changed."""
     disk, lines, kind = case.disk(), case.lives[0].splitlines(), chance.random()
     if kind < 0.1:
         return listed_disk(chance, case)
@@ -27,18 +38,19 @@ def recorded_disk(chance, case):
         serve_and_save(chance, disk, lines[:chance.choice([1, 20, len(lines)])])
         ChangedArea(chance, disk).crowd()
         lines = asks(chance, case.geometry.harts)[:-1]
-    elif kind < 0.6:
-        lines.insert(chance.randrange(len(lines) + 1), b"checkpoint")
-    elif kind < 0.7:
-        lines = with_checkpoints(chance, lines, 0.02)
+    is_saved, is_changed = chance.random() < 0.8, chance.random() < 0.5
+    if is_saved:
+        lines = with_checkpoints(chance, lines, 0.02) if chance.random() < 0.1 else with_saves(chance, lines)
     serve_disk(disk, joined(chance, [*lines, b"commit"]))
+    if is_saved and is_changed:
+        OlderArea(chance, disk).change()
     return disk
 
 
 def histories_case(chance, case):
     """A disk, told whole, in parts that begin or end anywhere, and in stretches that it mostly hasn't."""
     disk = recorded_disk(chance, case)
-    first, whole = ends_of_journal(disk)
+    first, whole = ends_of_history(disk)
     begin, end, *both = (chance.randrange(first, whole + 1) for _ in range(4))
     outside = [max(first - 1, 0), whole + 1, chance.choice([0, 2 ** 32, 2 ** 64 - 1])]
     odd = [(chance.choice(outside), None), (None, chance.choice(outside)), (chance.choice(outside), whole), (whole, first)]

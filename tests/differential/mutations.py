@@ -14,7 +14,7 @@ TIME_LIMIT = 900
 # That of the module first, then the quick ones.
 FIRST = {"lives.py": "test_lives", "foreseen.py": "test_lives", "ledger.py": "test_fates", "devices.py": "test_fates",
          "key_calls.py": "test_keys", "events.py": "test_long_runs", "plans.py": "test_plans",
-         "feeding.py": "test_feeding", "driven.py": "test_feeding", "call_lines.py": "test_call_lines"}
+         "feeding.py": "test_feeding", "driven.py": "test_feeding", "call_lines.py": "test_call_lines", "recorded.py": "test_call_lines"}
 TESTS = ["test_plans", "test_feeding", "test_calls", "test_call_lines", "test_keys", "test_long_runs", "test_listings", "test_rows", "test_tables", "test_texts", "test_fates", "test_lives", "test_stops"]
 MUTATIONS = [
     ("plans.py", "place = count % round_length(machine)", "place = 0"),
@@ -306,9 +306,27 @@ MUTATIONS = [
     ("call_lines.py", "self.first <= first <= last", "first <= last"),
     ("call_lines.py", "<= last <= self.whole", "<= last"),
     ("call_lines.py", "<= first <= last <= self.whole", "<= first and last <= self.whole"),
-    ("call_lines.py", "        self.first = found.events\n", "        self.first = 0\n"),
+    ("call_lines.py", "        self.first = areas[0].events\n", "        self.first = 0\n"),
+    ("call_lines.py", "        self.first = areas[0].events\n", "        self.first = areas[-1].events\n"),
+    ("call_lines.py", "for found in areas for", "for found in areas[-1:] for"),
     ("call_lines.py", "Teller(found.machine, found.events)", "Teller(found.machine, 0)"),
     ("call_lines.py", "data.hex()", "data.hex().upper()"),
+    ("recorded.py", "return is_open and generation > 0", "return generation > 0"),
+    ("recorded.py", " and generation > 0", ""),
+    ("recorded.py", " and generation + 1 == newer.generation", ""),
+    ("recorded.py", "generation + 1 == newer.generation", "generation < newer.generation"),
+    ("recorded.py", "return bytes(machine.memory.bytes), encode", "return bytes(machine.memory.bytes[:-1]), encode"),
+    ("recorded.py", "return bytes(machine.memory.bytes), encode", "return encode"),
+    ("recorded.py", 'bytes(machine.memory.bytes), encode_tables(machine, b"")', "bytes(machine.memory.bytes)"),
+    ("recorded.py", "if older.machine.refusal_of(event, 0) is not None:", "if False:"),
+    ("recorded.py", "older.events == newer.events and ", ""),
+    ("recorded.py", "older.events == newer.events and memory_and_tables(older.machine) == memory_and_tables(newer.machine)", "older.events == newer.events"),
+    ("recorded.py", " and memory_and_tables(older.machine)", " and older.held == newer.held and memory_and_tables(older.machine)"),
+    ("recorded.py", " and memory_and_tables(older.machine)", " and older.output_length == newer.output_length and memory_and_tables(older.machine)"),
+    ("recorded.py", " and memory_and_tables(older.machine)", " and older.version == newer.version and memory_and_tables(older.machine)"),
+    ("recorded.py", "    except Unrecovered:\n        return False", "    except Unrecovered:\n        raise"),
+    ("recorded.py", "if has_older(disk, newer) else []", "if is_one_older(disk, newer) else []"),
+    ("recorded.py", "if has_older(disk, newer) else []", "if False else []"),
 ]
 
 

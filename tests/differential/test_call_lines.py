@@ -5,15 +5,17 @@ from abi import KEY_CALLS, RETURN_GATE, Call
 from call_lines import FORMS, SECOND_ANSWERS, History, kind_of_line
 from calls import CALLS
 from cases import case_of
-from devices import MemoryDisk
+from damage import batch
+from devices import MemoryDisk, StoppingDisk, filled
 from events import Eof, Input, Place, Run, Tick
-from layout import Geometry, format_disk
+from layout import HEADER_AT, Geometry, Header, format_disk, header_of
 from lines import serve_disk
 from listing import OutOfRange
-from recovery import Unrecovered
+from recovery import Unrecovered, saved_in
 from record_guest import LABELS, STEPS_TO_CALL, STEPS_TO_TOP, image_with
 from session import Session
 from switches import switched
+from tables import encode_tables
 from test_rows import GETS, JOINS, PUTS_A, SMALL, image
 
 TOP, HANDLER, BEHIND_CALL = LABELS["top"], LABELS["handler 1"], LABELS["behind the call"]
@@ -107,7 +109,7 @@ class Stretches(WithKeys):
                 history.lines(*stretch)
 
     def test_behind_a_checkpoint(self):
-        """A wait from before has its end alone, and events from before are gone."""
+        """Without a commit before it a wait from before has its end alone, and events from before are gone."""
         history = history_of(GETS, "place 0 1", "run 0 9", "checkpoint", "in 41")
         self.assertEqual(history.lines(), ["2+0 input 41", "2+0 thread 1 input is over = 65"])
         self.assertEqual(history.lines(2), history.lines())
@@ -131,6 +133,135 @@ class Stretches(WithKeys):
             self.assertEqual(places, sorted(places))
             self.assertTrue(all(history.first <= events < history.whole for events, _ in places))
             self.assertFalse([line for line in lines[:-1] if kind_of_line(line) == "fault"])
+
+
+LED = ["place 0 1", "run 0 9", "commit", "checkpoint", "in 41", "commit"]
+LED_LINES = ["0+0 place 0 1", "1+1 thread 1 getc() waits input", "2+0 input 41", "2+0 thread 1 input is over = 65"]
+
+
+class TwoAreas:
+    """A disk whose area 0, with 2 events in its journal, leads to area 1, with one event in its own; and changes of it."""
+
+    def __init__(self, *lines, version=None):
+        self.disk = MemoryDisk(format_disk(SMALL, GETS, version))
+        serve_disk(self.disk.bytes, "\n".join([*(lines or LED), ""]).encode())
+
+    def put(self, at, data):
+        self.disk.write(at, bytes(data))
+        return self
+
+    def header(self, area, **fields):
+        values = {**vars(header_of(self.disk, SMALL, area)), **fields}
+        return self.put(SMALL.area_at(area) + HEADER_AT, Header(**values).encoding())
+
+    def tables(self, area, held=b"", version=2):
+        """The same state with other output, or in tables of another version."""
+        tables = encode_tables(saved_in(self.disk, SMALL, area).machine, held, version)
+        return self.put(SMALL.tables_at(area), tables).header(area, tables_length=len(tables), version=version)
+
+    def flip(self, at):
+        return self.put(at, [self.disk.read(at, 1)[0] ^ 1])
+
+
+class HowFarBack(WithKeys):
+    def begins(self, areas, first, lines=None):
+        history = History(areas.disk.bytes)
+        self.assertEqual((history.first, history.whole, history.lines()), (first, 3, LED_LINES[first:] if lines is None else lines))
+
+    def test_leads(self):
+        self.begins(TwoAreas(), 0)
+        history = History(TwoAreas().disk.bytes)
+        self.assertEqual((history.lines(1, 2), history.lines(3)), (LED_LINES[1:2], []))
+        for stretch in ((4, None), (None, 4), (2, 1)):
+            with self.assertRaises(OutOfRange):
+                history.lines(*stretch)
+
+    def test_begin_of_the_newer_area(self):
+        """Nothing before it is there where a checkpoint came in place of a commit, or for some of the events."""
+        self.begins(TwoAreas(*LED[:2], *LED[3:]), 2)
+        self.begins(TwoAreas(LED[0], "commit", LED[1], *LED[3:]), 2)
+
+    def test_several_checkpoints(self):
+        self.begins(TwoAreas(LED[0], "commit", "checkpoint", *LED[1:]), 1)
+        self.begins(TwoAreas(*LED, "checkpoint"), 2)
+        self.begins(TwoAreas(*LED, "checkpoint", "checkpoint"), 3, [])
+        self.begins(TwoAreas(*LED[:4], "checkpoint", *LED[4:]), 2)
+
+    def test_versions(self):
+        """Tables of either version say the same of a program whose keys are off."""
+        self.begins(TwoAreas(version=1), 0)
+        self.begins(TwoAreas(version=1).tables(1, version=1).tables(0, version=2), 0)
+        self.begins(TwoAreas().tables(1, version=1), 2)
+
+    def test_generations(self):
+        for older, newer, first in ((0, 1, 2), (1, 2, 0), (1, 3, 2), (6, 7, 0), (2 ** 64 - 2, 2 ** 64 - 1, 0)):
+            self.begins(TwoAreas().header(0, generation=older).header(1, generation=newer), first)
+        with self.assertRaises(Unrecovered):
+            History(TwoAreas().header(0, generation=2).disk.bytes)
+        history = History(TwoAreas().header(0, generation=3).disk.bytes)
+        self.assertEqual((history.first, history.lines()), (0, LED_LINES[:2]))
+
+    def test_counts(self):
+        self.begins(TwoAreas().header(0, events=1), 2)
+        areas = TwoAreas().header(0, events=5).header(1, events=7)
+        self.assertEqual(History(areas.disk.bytes).lines()[::3], ["5+0 place 0 1", "7+0 thread 1 input is over = 65"])
+
+    def test_output(self):
+        """It isn't compared; but what the older tables hold has to end below 2^62, as for a recovery."""
+        for area in (0, 1):
+            self.begins(TwoAreas().tables(area, b"output"), 0)
+            self.begins(TwoAreas().header(area, offset=7), 0)
+        for offset, held, first in ((2 ** 62 - 1, b"", 0), (2 ** 62, b"", 2), (2 ** 62 - 2, b"x", 0), (2 ** 62 - 1, b"x", 2)):
+            self.begins(TwoAreas().tables(0, held).header(0, offset=offset), first)
+
+    def test_changed_bytes(self):
+        """Another byte of the older area, or of its journal, is no fault; those that nobody reads change nothing."""
+        area, tables, journal = SMALL.area_at(0), SMALL.tables_at(0), SMALL.journal_at(0)
+        for at in (area, area + 8, area + 16, area + 32, area + 36, tables, tables + 175, SMALL.page_at(0, 1), SMALL.page_at(0, 16) - 1,
+                   journal, journal + 1, journal + 3, journal + 5):
+            self.begins(TwoAreas().flip(at), 2)
+        for at in (area + 1, area + 40, tables + 176, SMALL.page_at(0, 0), SMALL.page_at(0, 1) - 1, journal + 3 + 3 + 4, journal + 12):
+            self.begins(TwoAreas().flip(at), 0)
+        for at in (SMALL.tables_at(1), SMALL.page_at(1, 1) + 900, SMALL.page_at(1, 16) - 1):
+            self.begins(TwoAreas().flip(at), 2)
+
+    def test_gate(self):
+        self.begins(TwoAreas().put(SMALL.area_at(0), [0]), 2)
+
+    def test_journals(self):
+        """The same events in other batches lead to the same; fewer, more, others, and a chain that isn't whole don't."""
+        place, run, more = (event.encoding() for event in (Place(0, 1), Run(0, 9), Tick(1)))
+        for batches, first in (([place + run], 0), ([place, run], 0), ([place], 2), ([], 2), ([place + run, more], 2), ([run + place], 2),
+                               ([place, Run(0, 8).encoding()], 0), ([place, Run(0, 1).encoding()], 2), ([place + run[:-1]], 2)):
+            chain = b"".join(batch(events, b"") for events in batches) + b"\0"
+            self.begins(TwoAreas().put(SMALL.journal_at(0), chain), first)
+        self.begins(TwoAreas().put(SMALL.journal_at(0), batch(place + run, b"\xa5\0\0")), 2)
+
+    def test_refused_event(self):
+        """The count and the state would fit, but the last event of the older journal comes behind the end."""
+        disk = format_disk(SMALL, PUTS_A)
+        serve_disk(disk, b"place 0 1\nrun 0 6\ncommit\ncheckpoint\n")
+        self.assertEqual(History(disk).first, 0)
+        areas = TwoAreas()
+        areas.disk = MemoryDisk(disk)
+        events = Place(0, 1).encoding() + Run(0, 6).encoding() + Run(0, 1).encoding()
+        areas.header(1, events=3).put(SMALL.journal_at(0), batch(events))
+        self.assertEqual((History(disk).first, History(disk).lines()), (3, []))
+
+    def test_half_overwritten(self):
+        """A stop at each call of a further checkpoint. Only while its gate is written may the older area still be open, and whole."""
+        for call in range(1, 24):
+            for fill in (b"\0", b"\xa5"):
+                stopping = StoppingDisk(TwoAreas().disk.bytes, 1 + call, filled(fill))
+                self.assertEqual(Session(stopping).checkpoint(), "no 25 Device")
+                areas = TwoAreas()
+                areas.disk = MemoryDisk(stopping.bytes)
+                self.begins(areas, 0 if call <= 2 and fill == b"\xa5" else 2)
+
+    def test_half_copied(self):
+        """An area with an open gate whose tables, or some of whose pages, are those of another state."""
+        for at, data in ((SMALL.tables_at(0), TwoAreas().disk.read(SMALL.tables_at(1), 176)), (SMALL.page_at(0, 9), b"\1" * 4096)):
+            self.begins(TwoAreas().put(at, data), 2)
 
 
 class Waits(WithKeys):
