@@ -9,12 +9,12 @@ from contextlib import suppress
 from itertools import groupby
 
 from call_lines import History
-from devices import DeviceFault
+from devices import DeviceFault, MemoryDisk
 from feeding import Undriven
-from layout import Geometry, format_onto
+from layout import CLOSED, Geometry, format_onto, write_gate
 from lines import reply_lines
 from listing import OutOfRange, listing
-from recovery import Unrecovered
+from recovery import Unrecovered, pick_area, read_superblock
 from session import Session
 from stand_in_drives import WRONG_DRIVES, drive
 from switches import SWITCHES
@@ -161,11 +161,19 @@ def backward(lines):
     return [line for (_, are_ends), group in groups for line in (reversed(list(group)) if are_ends else group)]
 
 
-def calls(path, *options, told=lambda lines: lines):
-    """`told` says which lines are printed."""
+def without_older(contents):
+    """The disk with the gate of the area that isn't in use closed."""
+    disk = MemoryDisk(contents)
+    geometry = read_superblock(disk)
+    write_gate(disk, geometry.area_at(1 - pick_area(disk, geometry)), CLOSED)
+    return contents
+
+
+def calls(path, *options, told=lambda lines: lines, seen=lambda contents: contents):
+    """`told` says which lines are printed, `seen` what is read."""
     ends = dict(zip(options[::2], map(int, options[1::2])))
     with open(path, "rb") as file:
-        Printer().show(told(History(bytearray(file.read())).lines(ends.get("--from"), ends.get("--to"))))
+        Printer().show(told(History(seen(bytearray(file.read()))).lines(ends.get("--from"), ends.get("--to"))))
 
 
 def make(path, image, *options, disk=FileDisk):
@@ -177,7 +185,8 @@ def make(path, image, *options, disk=FileDisk):
 
 WRONG = {"without a sync": {"disk": Without}, "short": {"disk": Short}, "again": {"disk": Again}, "split": {"disk": Split},
          "hopeful": {"session": Hopeful}, "late": {"printer": Late}}
-WRONG_CALLS = {"without ends": {"told": lambda lines: [line for line in lines if not is_end(line)]}, "backward": {"told": backward}}
+WRONG_CALLS = {"without ends": {"told": lambda lines: [line for line in lines if not is_end(line)]}, "backward": {"told": backward},
+               "short-sighted": {"seen": without_older}}
 
 
 def main(**switches):

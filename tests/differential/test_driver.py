@@ -15,8 +15,8 @@ HERE = Path(__file__).parent
 KINDS_WITH_KEYS = {"lists": 2, "fates": 2, "listings": 3, "lives": 2, "cuts": 2}
 KINDS_OF_DRIVES = {"drives": 2, "inputs": 2, "mixed": 3}
 KINDS = {"lists": 4, "fates": 4, "parts": 3, "listings": 3, "lives": 2, "cuts": 8}
-SHORT_HISTORIES = [2, 3, 7, 10]
-CALLS_FOUND_BY = [("without ends", 2), ("backward", 2)]
+SHORT_HISTORIES = [2, 4, 7, 22, 23]
+CALLS_FOUND_BY = [("without ends", 2), ("backward", 2), ("short-sighted", 13)]
 # Programs are started by the thousand: what they import is kept compiled, beside them, and they are started without what a site adds.
 COMPILED = tempfile.TemporaryDirectory()
 FOUND_BY = [("without a sync", "lists"), ("split", "lists"), ("late", "lists"), ("short", "parts"), ("again", "fates"),
