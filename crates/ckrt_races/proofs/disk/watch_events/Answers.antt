@@ -3,7 +3,7 @@ use Rattle.std.proofs.lemmas.Option.{slice_get_read}
 use Rattle.ckrt_events.specs.declared.event.Event.{Event}
 use Rattle.ckrt_machine.specs.Steps.{State}
 use Rattle.ckrt_machine.specs.Events.{step}
-use Rattle.ckrt_trace.proofs.WayLemmas.{IsOnWay, next_ahead, way_next}
+use Rattle.ckrt_recording.proofs.WayLemmas.{IsOnWay, next_ahead, way_next}
 use Rattle.ckrt_order.specs.Detection.{Watched, behind_all}
 use Rattle.ckrt_races.specs.Steps.{of_event, of_events}
 use Rattle.ckrt_races.proofs.BehindLemmas.{behind_both}

@@ -1,5 +1,5 @@
 use Rattle.std.proofs.Common.{◌≡◌, ◌+◌, drop}
-use Rattle.ckrt_trace.proofs.WayLemmas.{IsOnWay}
+use Rattle.ckrt_recording.proofs.WayLemmas.{IsOnWay}
 use Rattle.ckrt_order.specs.Detection.{behind_all}
 use Rattle.ckrt_races.specs.Steps.{of_events}
 use Rattle.ckrt_races.proofs.disk.watch_events.Given as goal

@@ -3,7 +3,7 @@ use Rattle.ckrt_events.specs.declared.event.Event.{Event}
 use Rattle.ckrt_machine.specs.Events.{AllAccepted, fold}
 use Rattle.ckrt_recording.specs.Recording.{Recorded}
 use Rattle.ckrt_trace.specs.Disks.{IsWithin, from_of, last_of, to_of}
-use Rattle.ckrt_trace.proofs.WayLemmas.{accepted_first}
+use Rattle.ckrt_recording.proofs.WayLemmas.{accepted_first}
 use Rattle.ckrt_races.proofs.StretchLemmas.{stretch_found}
 use Rattle.ckrt_races.proofs.disk.write_stretch.Goals as goal
 
