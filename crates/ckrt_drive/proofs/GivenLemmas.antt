@@ -21,9 +21,9 @@ use Rattle.ckrt_drive.specs.declared.plan.Next.{Next}
 use Rattle.ckrt_drive.specs.declared.plan.Next.TheVariants.{Submit, End}
 use Rattle.ckrt_drive.specs.declared.plan.Sought.TheVariants.{Busy}
 use Rattle.ckrt_drive.specs.declared.plan.Turn.{Turn}
-use Rattle.ckrt_drive.specs.declared.progress.Ending.TheVariants.{Ended}
-use Rattle.ckrt_drive.specs.declared.progress.Progress.{Progress}
-use Rattle.ckrt_drive.specs.declared.progress.Progress.TheVariants.{Submitted, Committed, Checkpointed, Released, Stopped}
+use Rattle.ckrt_drive.specs.declared.step_done.DriveEnd.TheVariants.{Ended}
+use Rattle.ckrt_drive.specs.declared.step_done.StepDone.{StepDone}
+use Rattle.ckrt_drive.specs.declared.step_done.StepDone.TheVariants.{Submitted, Committed, Checkpointed, Released, Stopped}
 use Rattle.ckrt_drive.specs.declared.supply.Supply.{Supply}
 use Rattle.ckrt_drive.specs.Given.{given_in, record_of}
 use Rattle.ckrt_drive.specs.Plan.{RUN_LIMIT, Schedule, earliest_deadline, event_at, idle_until, next_by, next_event, next_sought, of_runner, on_hart, or_scheduled, plan, run_by, runner_at, schedule_of, turn_at}
@@ -92,7 +92,7 @@ none_taken (RunLong h n) never = refl
 few_given : (given : Option Event) (taken : ℕ) (e : Event) → IfSome given (λ e. taken + taken_by (e ∷ []) < 2 ^ 64) → given ≡ Some e → taken + taken_by (e ∷ []) < 2 ^ 64
 few_given given taken e few is = subst (λ o. IfSome o (λ e. taken + taken_by (e ∷ []) < 2 ^ 64)) is few
 
-pub few_taken : (o : Options) (w : Supply) (v : View) (taken : ℕ) (did : Progress) → taken < 2 ^ 64 → IfSome w.given (λ e. taken + taken_by (e ∷ []) < 2 ^ 64) → plan o w v ≡ Ok did → taken + taken_by (accepted_by did) < 2 ^ 64
+pub few_taken : (o : Options) (w : Supply) (v : View) (taken : ℕ) (did : StepDone) → taken < 2 ^ 64 → IfSome w.given (λ e. taken + taken_by (e ∷ []) < 2 ^ 64) → plan o w v ≡ Ok did → taken + taken_by (accepted_by did) < 2 ^ 64
 few_taken o w v taken (Submitted e answer) low few is = ⊎_elim
     (λ (given : _). few_given w.given taken e few given)
     (λ (none : _). omega (arith, low, none_taken e none))

@@ -14,7 +14,7 @@ use Rattle.ckrt_machine.specs.Events.{step}
 use Rattle.ckrt_machine.specs.Steps.{hart_of}
 use Rattle.ckrt_machine.specs.Runs.{is_running}
 use Rattle.ckrt_machine.specs.Plans.{or_else, planned}
-use Rattle.ckrt_image.specs.Recovery.{room_of}
+use Rattle.ckrt_stored.specs.Recovery.{room_of}
 use Rattle.ckrt_recovery.specs.declared.fault.SubmitFault.{SubmitFault}
 use Rattle.ckrt_recovery.specs.declared.fault.SubmitFault.TheVariants as fault
 use Rattle.ckrt_recovery.specs.View.{View, refusal_of, version_of}
@@ -22,9 +22,9 @@ use Rattle.ckrt_drive.specs.Lots.{lot_of}
 use Rattle.ckrt_drive.specs.declared.options.Options.{Options}
 use Rattle.ckrt_drive.specs.declared.fault.DriveFault.{DriveFault}
 use Rattle.ckrt_drive.specs.declared.fault.DriveFault.TheVariants.{Refused}
-use Rattle.ckrt_drive.specs.declared.progress.Ending.TheVariants.{Ended, WaitsForInput, Deadlock, Enough}
-use Rattle.ckrt_drive.specs.declared.progress.Progress.{Progress}
-use Rattle.ckrt_drive.specs.declared.progress.Progress.TheVariants.{Submitted, Committed, Checkpointed, Released, Stopped}
+use Rattle.ckrt_drive.specs.declared.step_done.DriveEnd.TheVariants.{Ended, WaitsForInput, Deadlock, Enough}
+use Rattle.ckrt_drive.specs.declared.step_done.StepDone.{StepDone}
+use Rattle.ckrt_drive.specs.declared.step_done.StepDone.TheVariants.{Submitted, Committed, Checkpointed, Released, Stopped}
 use Rattle.ckrt_drive.specs.declared.plan.Next.{Next}
 use Rattle.ckrt_drive.specs.declared.plan.Next.TheVariants.{Submit, End}
 use Rattle.ckrt_drive.specs.declared.plan.Sought.{Sought}
@@ -174,7 +174,7 @@ is_commit_due o v =
     || nat_le (o.rounds * places_of v.recovered.state.tables) (v.recovered.count - v.acknowledged)
 
 -- room for an event that the session has no place for
-abbrev pub make_room : View → Progress
+abbrev pub make_room : View → StepDone
 make_room v = if is_settled v then Checkpointed else Committed
 
 -- a commit or a checkpoint makes room for the event
@@ -190,29 +190,29 @@ is_shortage fault.CountersUsed = false
 -- THE PLAN
 
 -- an event that the session takes, with what it comes to, or refuses so
-abbrev pub offered : View → Event → Option SubmitFault → Result Progress DriveFault
+abbrev pub offered : View → Event → Option SubmitFault → Result StepDone DriveFault
 offered v e None = Ok (Submitted e (step e v.recovered.state).answer)
 offered v e (Some why) = if is_shortage why then Ok (make_room v) else Err (Refused why)
 
 -- an event is offered, and an end waits until all is acknowledged
-abbrev pub plan_for : Next → View → Result Progress DriveFault
+abbrev pub plan_for : Next → View → Result StepDone DriveFault
 plan_for (Submit e) v = offered v e (refusal_of v e)
 plan_for (End ending) v = if is_settled v then Ok (Stopped ending) else Ok Committed
 
 -- what is planned where nothing has to be saved first
-abbrev pub plan_next : Options → Supply → View → Result Progress DriveFault
+abbrev pub plan_next : Options → Supply → View → Result StepDone DriveFault
 plan_next o w v = plan_for (next (schedule_of o) w v.recovered.count v.recovered.state.tables) v
 
 -- what is planned where all released output is confirmed
-abbrev pub plan_onward : Options → Supply → View → Result Progress DriveFault
+abbrev pub plan_onward : Options → Supply → View → Result StepDone DriveFault
 plan_onward o w v = if is_checkpoint_due v then Ok Checkpointed else if is_commit_due o v then Ok Committed else plan_next o w v
 
 -- released output goes out first
-abbrev pub plan : Options → Supply → View → Result Progress DriveFault
+abbrev pub plan : Options → Supply → View → Result StepDone DriveFault
 plan o w v = if nat_lt v.recovered.confirmed v.released then Ok Released else plan_onward o w v
 
 -- how many events are left behind what the drive did
-abbrev pub left_after : Progress → (left : ℕ) → ℕ
+abbrev pub left_after : StepDone → (left : ℕ) → ℕ
 left_after (Submitted e answer) left = left - 1
 left_after Committed left = left
 left_after Checkpointed left = left

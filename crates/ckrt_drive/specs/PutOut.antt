@@ -4,7 +4,7 @@ use Rattle.std.specs.Prelude.{◌≡◌, ◌⊎◌, ◌+◌, ℕ, Bool, true, fa
 use Rattle.std.specs.List.{concat}
 use Rattle.ckrt_disk.specs.declared.disk.Disk.{Ghosts}
 use Rattle.ckrt_events.specs.declared.event.Event.{Event}
-use Rattle.ckrt_image.specs.Programs.{Program}
+use Rattle.ckrt_stored.specs.Programs.{Program}
 use Rattle.ckrt_recovery.specs.declared.session.Session.{Session}
 use Rattle.ckrt_recovery.specs.Represents.{Represents}
 use Rattle.ckrt_recovery.specs.View.{View, view_of, released_output}

@@ -3,13 +3,13 @@ use Rattle.std.specs.Prelude.{◌≡◌, List, [], IfSome, Ok}
 use Rattle.ckrt_disk.specs.declared.disk.Disk.{Ghosts}
 use Rattle.ckrt_events.specs.Bytes.{IsInRange}
 use Rattle.ckrt_events.specs.declared.event.Event.{Event}
-use Rattle.ckrt_image.specs.Programs.{Program}
+use Rattle.ckrt_stored.specs.Programs.{Program}
 use Rattle.ckrt_recovery.specs.Represents.{Represents}
 use Rattle.ckrt_recovery.specs.View.{View, checkpointed, view_of}
 use Rattle.ckrt_recovery.specs.declared.session.Session.{Session}
 use Rattle.ckrt_drive.specs.Plan.{plan}
 use Rattle.ckrt_drive.specs.declared.options.Options.{Options}
-use Rattle.ckrt_drive.specs.declared.progress.Progress.TheVariants.{Checkpointed}
+use Rattle.ckrt_drive.specs.declared.step_done.StepDone.TheVariants.{Checkpointed}
 use Rattle.ckrt_drive.specs.declared.supply.Supply.{Supply}
 
 -- where a checkpoint is planned all accepted events are acknowledged

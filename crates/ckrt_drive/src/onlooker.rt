@@ -1,13 +1,13 @@
 //! Who looks on while a drive runs.
 
-use crate::progress::Progress;
+use crate::step_done::StepDone;
 use ckrt_disk::Disk;
 use ckrt_recovery::Session;
 
 /// Who looks on while a drive runs. It is told each step, and nothing of the drive depends on it.
 pub trait Onlooker {
     /// The drive did this, and its session stands so then.
-    fn look<D: Disk>(&mut self, did: &Progress, session: &Session<D>);
+    fn look<D: Disk>(&mut self, did: &StepDone, session: &Session<D>);
 }
 
 /// Nobody looks on.
@@ -15,5 +15,5 @@ pub trait Onlooker {
 pub struct Nobody;
 
 impl Onlooker for Nobody {
-    fn look<D: Disk>(&mut self, _did: &Progress, _session: &Session<D>) {}
+    fn look<D: Disk>(&mut self, _did: &StepDone, _session: &Session<D>) {}
 }

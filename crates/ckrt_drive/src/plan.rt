@@ -10,7 +10,7 @@ ghost use Rattle.ckrt_drive.specs.Plan.{IsInRangeNext, earliest_deadline, event_
 
 use crate::lot::lot_of;
 use crate::options::Options;
-use crate::progress::Ending;
+use crate::step_done::DriveEnd;
 use crate::supply::Supply;
 use ckrt_events::{Event, LONG_RUN_LIMIT, RUN_LIMIT};
 use ckrt_machine::Machine;
@@ -21,7 +21,7 @@ use ckrt_thread::{Object, Wait};
 #[derive(Clone, Debug, Drop, PartialEq, Eq)]
 pub enum Next {
     Submit(Event),
-    End(Ending),
+    End(DriveEnd),
 }
 
 /// Which hart is sought.
@@ -117,9 +117,9 @@ pub fn idle(tables: &Tables) -> Next
         return Next::Submit(Event::Tick(ticks_to(deadline, tables.clock)));
     }
     if tables.threads.first_waiter(Object::Input).is_some() {
-        return Next::End(Ending::WaitsForInput);
+        return Next::End(DriveEnd::WaitsForInput);
     }
-    Next::End(Ending::Deadlock)
+    Next::End(DriveEnd::Deadlock)
 }
 
 /// The turn of a seed, or of none, at a place of a round: behind so many events, among so many harts.
@@ -247,7 +247,7 @@ fn next_event(machine: &Machine, options: &Options, given: Option<Event>, behind
     ensures in_range { IsInRangeNext result }
 {
     if !matches!(machine.status(), Status::Running) {
-        return Next::End(Ending::Ended);
+        return Next::End(DriveEnd::Ended);
     }
     match given {
         Some(event) => Next::Submit(event),
@@ -263,7 +263,7 @@ pub(crate) fn next_for(machine: &Machine, options: &Options, supply: Supply, beh
     ensures in_range { IsInRangeNext result }
 {
     if matches!(machine.status(), Status::Running) && supply.left == 0 {
-        return Next::End(Ending::Enough);
+        return Next::End(DriveEnd::Enough);
     }
     next_event(machine, options, supply.given, behind)
 }

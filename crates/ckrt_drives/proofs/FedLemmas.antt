@@ -6,9 +6,9 @@ use Rattle.ckrt_checkpoint.specs.declared.config.Config.{Config}
 use Rattle.ckrt_disk.specs.Frame.{MayBeLeft}
 use Rattle.ckrt_disk.specs.declared.disk.Disk.{Ghosts}
 use Rattle.ckrt_events.specs.declared.event.Event.{Event}
-use Rattle.ckrt_image.specs.Programs.{Program, RecoversTo, RecoversToStart, start_of}
-use Rattle.ckrt_image.specs.Recovery.{◌>>=◌, events_of_batches}
-use Rattle.ckrt_image.specs.declared.fault.RecoverFault.{RecoverFault}
+use Rattle.ckrt_stored.specs.Programs.{Program, RecoversTo, RecoversToStart, start_of}
+use Rattle.ckrt_stored.specs.Recovery.{◌>>=◌, events_of_batches}
+use Rattle.ckrt_stored.specs.declared.fault.RecoverFault.{RecoverFault}
 use Rattle.ckrt_input.specs.Next.{AreGiven}
 use Rattle.ckrt_input.specs.Taken.{bytes_of, taken_by}
 use Rattle.ckrt_input.proofs.NextLemmas.{beginning, end_behind, goes_on}

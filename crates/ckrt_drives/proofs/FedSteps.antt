@@ -6,7 +6,7 @@ use Rattle.ckrt_disk.specs.Disk.{IsImage}
 use Rattle.ckrt_disk.specs.Frame.{MayBeLeft}
 use Rattle.ckrt_disk.specs.declared.disk.Disk.{Ghosts}
 use Rattle.ckrt_events.specs.declared.event.Event.{Event}
-use Rattle.ckrt_image.specs.Programs.{Program}
+use Rattle.ckrt_stored.specs.Programs.{Program}
 use Rattle.ckrt_input.specs.Taken.{taken_by}
 use Rattle.ckrt_record.specs.Fed.{IsFed}
 use Rattle.ckrt_record.specs.Keeping.{KeepsInput, RecoversFedEither}

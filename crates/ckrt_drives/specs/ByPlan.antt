@@ -4,9 +4,9 @@ use Rattle.ckrt_drive.specs.Given.{given_in}
 use Rattle.ckrt_drive.specs.Plan.{Schedule, next_event}
 use Rattle.ckrt_drive.specs.declared.plan.Next.{Next}
 use Rattle.ckrt_drive.specs.declared.plan.Next.TheVariants.{Submit, End}
-use Rattle.ckrt_drive.specs.declared.progress.Ending.{Ending}
+use Rattle.ckrt_drive.specs.declared.step_done.DriveEnd.{DriveEnd}
 use Rattle.ckrt_events.specs.declared.event.Event.{Event}
-use Rattle.ckrt_image.specs.Programs.{Program, state_after}
+use Rattle.ckrt_stored.specs.Programs.{Program, state_after}
 use Rattle.ckrt_input.specs.Taken.{taken_by}
 use Rattle.ckrt_recovery.specs.Between.{IsBeginningOf}
 
@@ -42,7 +42,7 @@ IsByPlan u p events = IsByPlanFrom u p [] events
 
 -- nothing is next behind these events
 abbrev pub IsOver : Course → Program → List Event → Type 0
-IsOver u p events = (ending : Ending) × (next_behind u p events ≡ End ending)
+IsOver u p events = (ending : DriveEnd) × (next_behind u p events ≡ End ending)
 
 -- the list of a drive that nothing stops
 pub record IsUnbroken (u : Course) (p : Program) (first events : List Event) : Type 0 where

@@ -2,7 +2,7 @@
 use Rattle.std.specs.Prelude.{◌≡◌, ℕ, List, ◌∷◌, ◌++◌, Some}
 use Rattle.ckrt_events.specs.declared.event.Event.{Event}
 use Rattle.ckrt_events.specs.declared.event.Event.TheVariants.{Eof}
-use Rattle.ckrt_image.specs.Programs.{Program}
+use Rattle.ckrt_stored.specs.Programs.{Program}
 use Rattle.ckrt_input.specs.Taken.{input_of}
 use Rattle.ckrt_drives.specs.ByPlan.{Course, IsByPlan}
 

@@ -12,7 +12,7 @@ ghost use Rattle.ckrt_hunt.specs.Turns.{IsFitNext, IsNumbered, IsWithin, best_am
 use crate::lots::{CLOCK, HART, LENGTH, SCALE, lot_at, shortest_of};
 use crate::made::Made;
 use crate::plan::Plan;
-use ckrt_drive::{Ending, Next, idle, run_by};
+use ckrt_drive::{DriveEnd, Next, idle, run_by};
 use ckrt_events::Event;
 use ckrt_machine::Machine;
 use ckrt_state::{Status, Tables};
@@ -297,7 +297,7 @@ fn or_enough(machine: &Machine, next: Next) -> Next
     match next {
         Next::Submit(event) => match machine.accept(0, &event) {
             Ok(()) => Next::Submit(event),
-            Err(_) => Next::End(Ending::Enough),
+            Err(_) => Next::End(DriveEnd::Enough),
         },
         Next::End(ending) => Next::End(ending),
     }
@@ -310,10 +310,10 @@ pub fn next(machine: &Machine, plan: &Plan, made: &Made) -> Next
     ensures fit { IsFitNext plan.now made.now machine.now.state.tables result }
 {
     if !matches!(machine.status(), Status::Running) {
-        return Next::End(Ending::Ended);
+        return Next::End(DriveEnd::Ended);
     }
     if is_enough(plan, made) {
-        return Next::End(Ending::Enough);
+        return Next::End(DriveEnd::Enough);
     }
     let next = next_for(plan, made, machine.tables());
     or_enough(machine, next)

@@ -3,12 +3,12 @@ use Rattle.std.specs.Prelude.{ℕ, Bool, true, false, List, Option, Some, None, 
 use Rattle.std.specs.Io.KnownBytes.{Appends}
 use Rattle.ckrt_disk.specs.Frame.{IsOnlyRead}
 use Rattle.ckrt_disk.specs.declared.disk.Disk.{Ghosts}
-use Rattle.ckrt_image.specs.declared.fault.RecoverFault.{RecoverFault}
-use Rattle.ckrt_image.specs.declared.fault.RecoverFault.TheVariants as recover
-use Rattle.ckrt_image.specs.Recovery.{Recovered, Recovers}
-use Rattle.ckrt_image.specs.Past.{HasPast}
-use Rattle.ckrt_image.specs.declared.progress.Progress.{Progress}
-use Rattle.ckrt_image.specs.Progress.{recovered_of}
+use Rattle.ckrt_stored.specs.declared.fault.RecoverFault.{RecoverFault}
+use Rattle.ckrt_stored.specs.declared.fault.RecoverFault.TheVariants as recover
+use Rattle.ckrt_stored.specs.Recovery.{Recovered, Recovers}
+use Rattle.ckrt_stored.specs.Past.{HasPast}
+use Rattle.ckrt_stored.specs.declared.progress.Progress.{Progress}
+use Rattle.ckrt_stored.specs.Progress.{recovered_of}
 use Rattle.ckrt_inspect.specs.declared.fault.InspectFault.{InspectFault}
 use Rattle.ckrt_inspect.specs.declared.fault.InspectFault.TheVariants.{NotFormatted, Version, Damaged, Device, OutOfMemory, Write, Range}
 use Rattle.ckrt_inspect.specs.declared.shown.Shown.{Shown}

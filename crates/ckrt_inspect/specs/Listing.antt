@@ -15,7 +15,7 @@ use Rattle.ckrt_barrier.specs.declared.barrier.Barrier.{Barrier}
 use Rattle.ckrt_rwlock.specs.declared.records.RwLock.{RwLock}
 use Rattle.ckrt_tables.specs.declared.reading_objects.Reader.{Reader}
 use Rattle.ckrt_thread.specs.Keys.{KeyTable}
-use Rattle.ckrt_tables.specs.declared.reading_keys.KeyWord.{KeyWord}
+use Rattle.ckrt_tables.specs.declared.reading_keys.KeyEntry.{KeyEntry}
 use Rattle.ckrt_tables.specs.Records.{id_or_0, readers_of, words_from, value_words, specific_of}
 use Rattle.ckrt_state.specs.declared.table.Status.{Status}
 use Rattle.ckrt_state.specs.declared.table.Tables.{Tables}
@@ -129,13 +129,13 @@ rwlock_line e = codes "rwlock " ++ hex_text e.address ++ holders_text e.value.wr
 abbrev pub mark_line : Bool → List ℕ
 mark_line is_on = if is_on then [] else codes "keys off\n"
 
-abbrev pub key_line : KeyWord → List ℕ
+abbrev pub key_line : KeyEntry → List ℕ
 key_line w = codes "key " ++ decimal w.key ++ codes " " ++ hex_text w.word ++ codes "\n"
 
 abbrev pub keys_lines : KeyTable → List ℕ
 keys_lines keys = mark_line keys.is_on ++ flat_map key_line (words_from 0 keys.destructors)
 
-abbrev pub value_line : ℕ → KeyWord → List ℕ
+abbrev pub value_line : ℕ → KeyEntry → List ℕ
 value_line t w = codes "value " ++ decimal t ++ codes " " ++ decimal w.key ++ codes " " ++ decimal w.word ++ codes "\n"
 
 abbrev pub value_lines : ThreadRow → List ℕ

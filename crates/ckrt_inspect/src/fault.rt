@@ -1,4 +1,4 @@
-use ckrt_image::RecoverFault;
+use ckrt_stored::RecoverFault;
 use std::alloc::AllocError;
 use thiserror::Error;
 

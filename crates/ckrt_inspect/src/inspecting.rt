@@ -8,7 +8,7 @@ use crate::fault::InspectFault;
 use crate::listing::write_listing_by;
 use crate::shown::Shown;
 use ckrt_disk::Disk;
-use ckrt_image::{Progress, read_past, read_progress};
+use ckrt_stored::{Progress, read_past, read_progress};
 use std::alloc::Global;
 use std::io::Write;
 

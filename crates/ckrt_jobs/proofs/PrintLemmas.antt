@@ -4,7 +4,7 @@ use Rattle.std.specs.List.{AllByRecursion}
 use Rattle.ckrt_disk.specs.declared.disk.Disk.{Ghosts}
 use Rattle.ckrt_disk.proofs.Images.{image_of_image}
 use Rattle.ckrt_events.specs.declared.event.Event.{Event}
-use Rattle.ckrt_image.specs.Programs.{Program, output_after}
+use Rattle.ckrt_stored.specs.Programs.{Program, output_after}
 use Rattle.ckrt_recovery.specs.Between.{IsBeginningOf, StandsIn}
 use Rattle.ckrt_commands.specs.Replies.{outs_of}
 use Rattle.ckrt_commands.proofs.AcceptLemmas.{output_begins}

@@ -5,8 +5,8 @@ use Rattle.ckrt_core.specs.Core.{core_of}
 use Rattle.ckrt_disk.specs.Disk.{HasFailed}
 use Rattle.ckrt_disk.specs.Frame.{IsOnlyRead}
 use Rattle.ckrt_disk.specs.declared.disk.Disk.{Ghosts}
-use Rattle.ckrt_image.specs.Progress.{recovered_of}
-use Rattle.ckrt_image.specs.declared.progress.Progress.{Progress}
+use Rattle.ckrt_stored.specs.Progress.{recovered_of}
+use Rattle.ckrt_stored.specs.declared.progress.Progress.{Progress}
 use Rattle.ckrt_inspect.specs.Inspect.{AgreesAt, is_device}
 use Rattle.ckrt_inspect.specs.declared.fault.InspectFault.{InspectFault}
 use Rattle.ckrt_words.specs.Jobs.{CoreMaking}

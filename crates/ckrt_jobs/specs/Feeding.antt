@@ -3,9 +3,9 @@ use Rattle.std.specs.Prelude.{◌≡◌, ◌⊎◌, ◌≤◌, ◌<◌, ◌+◌,
 use Rattle.ckrt_checkpoint.specs.Layout.{size_needed}
 use Rattle.ckrt_disk.specs.Frame.{IsOnlyRead}
 use Rattle.ckrt_disk.specs.declared.disk.Disk.{Ghosts}
-use Rattle.ckrt_image.specs.Reads.{is_device}
-use Rattle.ckrt_image.specs.Recovery.{◌>>=◌, Agrees, Is, in_use}
-use Rattle.ckrt_image.specs.declared.fault.RecoverFault.{RecoverFault}
+use Rattle.ckrt_stored.specs.Reads.{is_device}
+use Rattle.ckrt_stored.specs.Recovery.{◌>>=◌, Agrees, Is, in_use}
+use Rattle.ckrt_stored.specs.declared.fault.RecoverFault.{RecoverFault}
 use Rattle.ckrt_record.specs.Offset.{Tells, fails_by_device, offset_from}
 use Rattle.ckrt_record.specs.Slot.{RECORD_BYTES}
 use Rattle.ckrt_record.specs.declared.fault.OffsetFault.{OffsetFault}

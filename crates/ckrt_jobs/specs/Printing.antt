@@ -4,7 +4,7 @@ use Rattle.std.specs.List.{AllByRecursion}
 use Rattle.ckrt_disk.specs.Frame.{MayBeLeft}
 use Rattle.ckrt_disk.specs.declared.disk.Disk.{Ghosts}
 use Rattle.ckrt_events.specs.declared.event.Event.{Event}
-use Rattle.ckrt_image.specs.Programs.{Program, RecoversTo, output_after}
+use Rattle.ckrt_stored.specs.Programs.{Program, RecoversTo, output_after}
 use Rattle.ckrt_recovery.specs.Between.{IsBeginningOf, StandsIn}
 
 -- the image recovers to a list that begins with these events

@@ -6,10 +6,10 @@ use Rattle.ckrt_disk.specs.Disk.{HasFailed}
 use Rattle.ckrt_disk.specs.Frame.{IsSameDisk, MayBeLeft}
 use Rattle.ckrt_disk.specs.declared.disk.Disk.{Ghosts}
 use Rattle.ckrt_events.specs.declared.event.Event.{Event}
-use Rattle.ckrt_image.specs.Programs.{Program, RecoversTo, output_after}
-use Rattle.ckrt_image.specs.Reads.{is_device}
-use Rattle.ckrt_image.specs.Recovery.{AgreesOnFault, Recovered, Recovers}
-use Rattle.ckrt_image.specs.declared.fault.RecoverFault.{RecoverFault}
+use Rattle.ckrt_stored.specs.Programs.{Program, RecoversTo, output_after}
+use Rattle.ckrt_stored.specs.Reads.{is_device}
+use Rattle.ckrt_stored.specs.Recovery.{AgreesOnFault, Recovered, Recovers}
+use Rattle.ckrt_stored.specs.declared.fault.RecoverFault.{RecoverFault}
 use Rattle.ckrt_recovery.specs.Between.{IsBeginningOf, RecoversBetween, StandsIn}
 use Rattle.ckrt_recovery.specs.Opening.{IsSyncedAndRead}
 use Rattle.ckrt_commands.specs.Replies.{acks_of, oks_of, outs_of, shown_up_to, text_of}

@@ -2,8 +2,8 @@
 ghost use Rattle.std.specs.Prelude.{◌≡◌, ◌≤◌, ◌<◌, IfSome, Ok, OnOk, option_map, true};
 ghost use Rattle.ckrt_disk.specs.Frame.{IsOnlyRead};
 ghost use Rattle.ckrt_words.specs.Jobs.{driving_of};
-ghost use Rattle.ckrt_image.specs.Reads.{is_device};
-ghost use Rattle.ckrt_image.specs.Recovery.{Agrees, Is};
+ghost use Rattle.ckrt_stored.specs.Reads.{is_device};
+ghost use Rattle.ckrt_stored.specs.Recovery.{Agrees, Is};
 ghost use Rattle.ckrt_outcomes.specs.Ranges.{is_in_range};
 ghost use Rattle.ckrt_jobs.specs.Feeding.{EndsWithRoom, LooksUp, MakesRoom, Supplies, SuppliesFrom, SuppliesOpened, SuppliesTaken, TakesInput, file_of, size_wanted, spare_for, taken_by_words};
 ghost use Rattle.ckrt_sources.specs.Openings.{with_both_closed};
@@ -11,11 +11,11 @@ ghost use Rattle.ckrt_sources.specs.Sources.{GivesNoMore};
 ghost use Rattle.ckrt_record.specs.Slot.{TAKEN_LIMIT};
 
 use ckrt_disk::Disk;
-use ckrt_image::read_in_use;
 use ckrt_outcomes::{InputLengths, JobFault};
 use ckrt_record::{OffsetFault, RECORD_BYTES, read_offset};
 use ckrt_recovery::RecoverFault;
 use ckrt_sources::{Closes, JobFile, Sources};
+use ckrt_stored::read_in_use;
 use ckrt_words::DriveJob;
 use std::io::Read;
 

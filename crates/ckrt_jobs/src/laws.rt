@@ -1,7 +1,7 @@
 //! Laws of runs. Each is the contract of a function with an empty body.
 ghost use Rattle.std.specs.Prelude.{◌++◌, ℕ, List, Option};
 ghost use Rattle.ckrt_events.specs.declared.event.Event.{Event};
-ghost use Rattle.ckrt_image.specs.Programs.{Program};
+ghost use Rattle.ckrt_stored.specs.Programs.{Program};
 ghost use Rattle.ckrt_jobs.specs.Printing.{HoldsEvents, PrintsOn};
 ghost use Rattle.ckrt_jobs.specs.Running.{IsUnrecovered, Serves};
 ghost use Rattle.ckrt_outcomes.specs.declared.fault.JobFault.{JobFault};

@@ -2,8 +2,8 @@
 use Rattle.std.specs.Prelude.{◌≡◌, ◌⊎◌, ◌≤◌, ◌<◌, ◌+◌, ◌-◌, ℕ, List, [], ◌∷◌, ◌++◌, length, take, drop, slice_get, slice_index, All, Some, None, Ok}
 use Rattle.ckrt_events.specs.declared.event.Event.{Event}
 use Rattle.ckrt_events.specs.Line.{IsInRangeCommand}
-use Rattle.ckrt_image.specs.Programs.{RecoversToStart, Program, RecoversTo, output_after}
-use Rattle.ckrt_image.specs.Recovery.{Recovered, Recovers}
+use Rattle.ckrt_stored.specs.Programs.{RecoversToStart, Program, RecoversTo, output_after}
+use Rattle.ckrt_stored.specs.Recovery.{Recovered, Recovers}
 use Rattle.ckrt_recovery.specs.Between.{IsBeginningOf}
 use Rattle.ckrt_recovery.specs.View.{View, opened}
 use Rattle.ckrt_commands.specs.Transcript.{Transcript}

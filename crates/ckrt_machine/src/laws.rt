@@ -31,7 +31,7 @@ pub fn folds_on()
 {}
 
 /// No event changes how many harts there are, nor whether the program may have keys.
-pub fn events_change_neither()
+pub fn events_keep_harts_and_keys()
     ensures harts { (es : List Event) (s : State)
         → (fold es s).state.tables.threads.hart_count ≡ s.tables.threads.hart_count }
     ensures keys { (es : List Event) (s : State)

@@ -8,7 +8,7 @@ use Rattle.ckrt_events.specs.declared.event.Event.{Event}
 use Rattle.ckrt_main.specs.declared.fault.ServeFault.{ServeFault}
 use Rattle.ckrt_main.specs.declared.fault.ServeFault.TheVariants.{Read, Write, OutOfMemory, Format}
 use Rattle.ckrt_recovery.specs.declared.session.Session.{Session}
-use Rattle.ckrt_image.specs.Programs.{Program}
+use Rattle.ckrt_stored.specs.Programs.{Program}
 use Rattle.ckrt_recovery.specs.Between.{IsBeginningOf, RecoversBetween}
 use Rattle.ckrt_commands.specs.Accepts.{Accepts, AreOutput}
 use Rattle.ckrt_commands.specs.Pieces.{Tells, Responds, Interrupted}

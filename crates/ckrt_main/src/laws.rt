@@ -1,7 +1,7 @@
 //! Laws of transcripts and of services. Each is the contract of a function with an empty body.
 ghost use Rattle.std.specs.Prelude.{◌≡◌, ◌+◌, ◌++◌, ℕ, List, length};
 ghost use Rattle.ckrt_events.specs.declared.event.Event.{Event};
-ghost use Rattle.ckrt_image.specs.Programs.{Program};
+ghost use Rattle.ckrt_stored.specs.Programs.{Program};
 ghost use Rattle.ckrt_machine.specs.Events.{fold, output_of};
 ghost use Rattle.ckrt_machine.specs.Steps.{State};
 ghost use Rattle.ckrt_recovery.specs.Represents.{Represents};

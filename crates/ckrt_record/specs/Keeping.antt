@@ -5,8 +5,8 @@ use Rattle.ckrt_disk.specs.Frame.{MayBeLeft, WritesWithin}
 use Rattle.ckrt_disk.specs.declared.disk.Disk.{Ghosts}
 use Rattle.ckrt_checkpoint.specs.Write.{WritesAt}
 use Rattle.ckrt_events.specs.declared.event.Event.{Event}
-use Rattle.ckrt_image.specs.Programs.{Program}
-use Rattle.ckrt_image.specs.Progress.{recovered_of}
+use Rattle.ckrt_stored.specs.Programs.{Program}
+use Rattle.ckrt_stored.specs.Progress.{recovered_of}
 use Rattle.ckrt_recovery.specs.Calls.{Commits, Journals, checkpoint_calls, checkpoint_refusal, dirty_of, is_device}
 use Rattle.ckrt_recovery.specs.Opening.{IsSettled}
 use Rattle.ckrt_recovery.specs.Represents.{RecoversAtAnyMoment, Represents, RepresentsDisk, RepresentsSame, acknowledged_of}

@@ -1,4 +1,4 @@
-use ckrt_image::RecoverFault;
+use ckrt_stored::RecoverFault;
 use thiserror::Error;
 
 /// Why it isn't known how much of its input the program of a disk has taken.

@@ -1,7 +1,7 @@
 -- What a stop leaves between two moments, and what a reader of the output is told of it.
 use Rattle.std.specs.Prelude.{◌≡◌, ℕ, List, ◌++◌, length}
 use Rattle.ckrt_events.specs.declared.event.Event.{Event}
-use Rattle.ckrt_image.specs.Programs.{Program, RecoversTo}
+use Rattle.ckrt_stored.specs.Programs.{Program, RecoversTo}
 
 -- a list begins with another
 abbrev pub IsBeginningOf : {A : Type 0} → List A → List A → Type 0

@@ -5,7 +5,7 @@ use Rattle.ckrt_disk.specs.declared.disk.Disk.{Ghosts}
 use Rattle.ckrt_events.specs.Bytes.{encodings_of}
 use Rattle.ckrt_events.specs.declared.event.Event.{Event}
 use Rattle.ckrt_machine.specs.Events.{AllAccepted}
-use Rattle.ckrt_image.specs.Programs.{Program, start_of, state_after, output_after, RecoversTo}
+use Rattle.ckrt_stored.specs.Programs.{Program, start_of, state_after, output_after, RecoversTo}
 use Rattle.ckrt_recovery.specs.Represents.{RecoversLike, RecoversToEither, Represents, RepresentsDisk, RepresentsOneMore, RepresentsSame, acknowledged_of}
 use Rattle.ckrt_recovery.specs.declared.session.Session.{Session}
 

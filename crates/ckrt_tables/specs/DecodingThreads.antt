@@ -9,17 +9,17 @@ use Rattle.ckrt_thread.specs.declared.keys.SpecificData.{SpecificData}
 use Rattle.ckrt_thread.specs.Keys.{KeyTable, all_keys, are_proper_keys}
 use Rattle.ckrt_thread.specs.State.{State, IsWellFormed}
 use Rattle.ckrt_thread.specs.Contents.{ThreadRow, thread_rows, empty, with_keys}
-use Rattle.ckrt_tables.specs.declared.reading_keys.KeyWord.{KeyWord}
+use Rattle.ckrt_tables.specs.declared.reading_keys.KeyEntry.{KeyEntry}
 use Rattle.ckrt_tables.specs.Records.{counted, one_byte, hart_bytes, flags_of, value_of, registers_of, handlers_of, specific_of, thread_bytes, wait_bytes, keys_bytes}
-use Rattle.ckrt_tables.specs.Savable.{if_there, is_id, is_byte, is_word, fits_thread, fits_data, fits_slot, fits_wait, fit_keys, is_bare, is_bare_slot}
+use Rattle.ckrt_tables.specs.Savable.{if_there, is_id, is_byte, is_word, fits_thread, fits_data, fits_slot, fits_wait, fit_keys, is_without_data, is_slot_without_data}
 
 -- WORDS BY KEY
 
-abbrev pub fits_key_word : KeyWord → Bool
-fits_key_word w = is_word w.key && is_word w.word
+abbrev pub fits_key_entry : KeyEntry → Bool
+fits_key_entry w = is_word w.key && is_word w.word
 
 -- the words, with these at their keys
-abbrev pub with_words : List KeyWord → List (Option ℕ) → List (Option ℕ)
+abbrev pub with_words : List KeyEntry → List (Option ℕ) → List (Option ℕ)
 with_words [] os = os
 with_words (w ∷ ws) os = with_words ws (slice_set os w.key (Some w.word))
 
@@ -29,7 +29,7 @@ AreWords os = (length os ≡ 32) × (list_all (if_there is_word) os ≡ true)
 
 -- what a thread has under keys, as it fits a version
 abbrev pub fits_data_in : ℕ → SpecificData → Bool
-fits_data_in version d = fits_data d && (if version == 1 then is_bare d else true)
+fits_data_in version d = fits_data d && (if version == 1 then is_without_data d else true)
 
 -- keys that a program may have, as they fit a version
 pub record AreKeys (version : ℕ) (keys : KeyTable) : Type 0 where
@@ -55,7 +55,7 @@ pub record AreThreadBytes (flags value : ℕ) (regs : Registers) (handlers : Lis
 
 -- a thread whose numbers fit its record in a version
 abbrev pub fits_row : ℕ → ThreadRow → Bool
-fits_row version r = is_byte r.id && (fits_thread r.thread && (if version == 1 then is_bare (specific_of r.thread) else true))
+fits_row version r = is_byte r.id && (fits_thread r.thread && (if version == 1 then is_without_data (specific_of r.thread) else true))
 
 -- ON THE WAY TO A TABLE OF THREADS. First its threads are there, then its waits, and then who is on a hart. Until its keys
 -- are known, each number is one.
@@ -98,7 +98,7 @@ pub record AreThreads (version : ℕ) (s : State) : Type 0 where
   pub harts_fit : list_all (if_there is_id) s.harts ≡ true
   pub slots_fit : list_all fits_slot s.threads ≡ true
   pub waits_fit : list_all fits_wait s.waits ≡ true
-  pub said : version ≡ 1 → list_all is_bare_slot s.threads ≡ true
+  pub said : version ≡ 1 → list_all is_slot_without_data s.threads ≡ true
 
 -- who is on each hart, the threads and the waits, as they are saved
 abbrev pub threads_bytes : ℕ → State → List ℕ

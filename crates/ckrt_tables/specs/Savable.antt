@@ -108,15 +108,15 @@ fits_status (status.Faulted t pc c) = is_byte t && is_word pc
 -- WHAT VERSION 1 CAN SAY
 
 -- no value, and no round of destructors
-abbrev pub is_bare : SpecificData → Bool
-is_bare d = d.round == 0 && (d.next_key == 0 && list_all (λ v. v == 0) d.values)
+abbrev pub is_without_data : SpecificData → Bool
+is_without_data d = d.round == 0 && (d.next_key == 0 && list_all (λ v. v == 0) d.values)
 
-abbrev pub is_bare_slot : Option Thread → Bool
-is_bare_slot o = is_bare (data_of o)
+abbrev pub is_slot_without_data : Option Thread → Bool
+is_slot_without_data o = is_without_data (data_of o)
 
 -- keys are off, and no thread has anything under one
 abbrev pub is_without_keys : State → Bool
-is_without_keys s = not s.keys.is_on && list_all is_bare_slot s.threads
+is_without_keys s = not s.keys.is_on && list_all is_slot_without_data s.threads
 
 -- TABLES
 
