@@ -1,15 +1,12 @@
 //! Steps of a drive.
-ghost use Rattle.std.specs.Prelude.{◌≡◌, ◌≤◌, ◌<◌, ◌+◌, ◌-◌, ◌*◌, ◌^◌, ℕ, [], ◌∷◌, length, is_err, true, Err, None, Ok, Option, Some, OnErr, OnOk, IfErr, IfOk, IfSome};
-ghost use Rattle.ckrt_disk.specs.Disk.{IsOverwritten, IsWithin};
-ghost use Rattle.ckrt_disk.specs.Frame.{WritesWithin};
+ghost use Rattle.std.specs.Prelude.{◌≡◌, ◌≤◌, ◌<◌, ◌+◌, ◌-◌, ◌*◌, ◌^◌, [], ◌∷◌, is_err, true, Err, None, Ok, Option, Some, OnErr, IfErr, IfOk, IfSome};
+ghost use Rattle.ckrt_disk.specs.Disk.{CountsFault};
 ghost use Rattle.ckrt_events.specs.Bytes.{IsInRange};
 ghost use Rattle.ckrt_recovery.specs.declared.fault.SubmitFault.{SubmitFault};
 ghost use Rattle.ckrt_recovery.specs.View.{view_of, refusal_of};
 ghost use Rattle.ckrt_drive.specs.declared.fault.DriveFault.TheVariants.{Input};
 ghost use Rattle.ckrt_drive.specs.declared.step_done.StepDone.TheVariants.{Committed, Checkpointed, Released};
-ghost use Rattle.ckrt_disk.specs.Disk.{CountsFault};
 ghost use Rattle.ckrt_drive.specs.Plan.{is_checkpoint_due, is_commit_due, is_filled, is_old, is_settled, is_shortage, left_after, make_room, offered, places_of, plan, plan_for, plan_next, plan_onward};
-ghost use Rattle.ckrt_drive.specs.PutOut.{PutsOrFails};
 ghost use Rattle.ckrt_drive.specs.Given.{CountsRead, IsSupplied};
 ghost use Rattle.ckrt_drive.specs.Stages.{TakesStep, stage};
 ghost use Rattle.ckrt_drive.specs.Steps.{Advances, Steps, accepted_by, aim, aim_of};
@@ -21,7 +18,7 @@ use crate::options::Options;
 use crate::plan::{Next, next_for};
 use crate::step_done::StepDone;
 use crate::supply::Supply;
-use ckrt_disk::{DeviceFault, Disk};
+use ckrt_disk::{DeviceFault, Disk, write_synced};
 use ckrt_events::Event;
 use ckrt_input::taken_by;
 use ckrt_journal::FRAME_LIMIT;
@@ -174,21 +171,6 @@ fn offer<D: Disk>(
     }
 }
 
-/// Writes the bytes from the offset `at` on, and syncs the output.
-fn put_out<O: Disk>(output: &mut O, at: usize, bytes: &[u8]) -> Result<(), DeviceFault>
-    requires { at + length bytes.now ≤ O.size output.old }
-    ensures within { WritesWithin O.Disk (IsWithin at (length bytes.now)) 2 output.old output.new
-        (is_err result) }
-    ensures written { OnOk result (O.is_honest output.new
-        → IsOverwritten (O.content output.old) at bytes.now (O.content output.new)) }
-    ensures nothing_pending { OnOk result
-        (O.is_honest output.new → (i : ℕ) → ¬ O.pending output.new i) }
-    ensures puts { PutsOrFails O.Disk at bytes.now output.old output.new (is_err result) }
-{
-    output.write(at, bytes)?;
-    output.sync()
-}
-
 /// Writes the released bytes at their offset, syncs the output, and then confirms them.
 fn release<D: Disk, O: Disk>(
     session: &mut Session<D>,
@@ -204,7 +186,7 @@ fn release<D: Disk, O: Disk>(
         return Err(DriveFault::OutputFull);
     }
     let (offset, bytes) = session.take_output();
-    if put_out(output, offset as usize, bytes).is_err() {
+    if write_synced(output, offset as usize, bytes).is_err() {
         return Err(DriveFault::Output);
     }
     session.confirm(released);

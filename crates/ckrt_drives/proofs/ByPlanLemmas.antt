@@ -23,11 +23,11 @@ use Rattle.ckrt_record.proofs.FedLemmas.{taken-append}
 use Rattle.ckrt_state.specs.declared.table.Tables.{Tables}
 use Rattle.ckrt_machine.specs.Runs.{is_running}
 use Rattle.ckrt_machine.specs.Steps.{State}
-use Rattle.ckrt_recovery.specs.Between.{IsBeginningOf}
+use Rattle.ckrt_recovery.specs.Lists.{IsBeginningOf}
 use Rattle.ckrt_recovery.specs.Represents.{Represents}
 use Rattle.ckrt_recovery.specs.View.{view_of}
 use Rattle.ckrt_recovery.specs.declared.session.Session.{Session}
-use Rattle.ckrt_commands.proofs.ReplyLemmas.{begins_behind, begins_through}
+use Rattle.ckrt_recovery.proofs.ListLemmas.{begins_behind, begins_through}
 use Rattle.ckrt_drives.specs.ByPlan.{AreByPlan, Course, IsByPlanFrom, IsUnbroken, course, next_behind}
 use Rattle.ckrt_drives.specs.Drives.{AllByPlan, AllKeep, AllOnCourse, AllTold, ComeBehind, HasEnded, IsTold, Keeps, OneDrive, course_of, past_behind}
 use Rattle.ckrt_drives.specs.Together.{Past}

@@ -18,7 +18,7 @@ use Rattle.ckrt_machine.specs.Steps.{State}
 use Rattle.ckrt_record.specs.Fed.{IsFed}
 use Rattle.ckrt_record.specs.Offset.{journaled, offset_from, or_said, saved_offset, taken_in, with_saved}
 use Rattle.ckrt_record.proofs.FedLemmas.{as_recovered, begins, taken-append}
-use Rattle.ckrt_recovery.specs.Between.{IsBeginningOf}
+use Rattle.ckrt_recovery.specs.Lists.{IsBeginningOf}
 use Rattle.ckrt_drives.specs.ByPlan.{Course}
 use Rattle.ckrt_drives.specs.Drives.{AllHaveInput, AllKeep, AllOnCourse, AllTold, AllToldByRecord, ComeBehind, IsTold, IsToldByRecord, Keeps, OneDrive, course_of, past_behind}
 use Rattle.ckrt_drives.specs.Giving.{AllGiveFile, GiveFile}

@@ -11,10 +11,10 @@ use Rattle.ckrt_input.specs.Taken.{taken_by}
 use Rattle.ckrt_record.specs.Fed.{IsFed}
 use Rattle.ckrt_record.specs.Keeping.{KeepsInput, RecoversFedEither}
 use Rattle.ckrt_record.proofs.FedLemmas.{as_recovered}
-use Rattle.ckrt_recovery.specs.Between.{IsBeginningOf}
+use Rattle.ckrt_recovery.specs.Lists.{IsBeginningOf}
 use Rattle.ckrt_recovery.specs.Represents.{RecoversToEither, Represents, acknowledged_of}
 use Rattle.ckrt_recovery.specs.declared.session.Session.{Session}
-use Rattle.ckrt_commands.proofs.ReplyLemmas.{begins_itself, begins_through}
+use Rattle.ckrt_recovery.proofs.ListLemmas.{begins_itself, begins_through}
 use Rattle.ckrt_drive.specs.Feeding.{Feeds, FeedsIfRecorded}
 use Rattle.ckrt_drive.specs.Given.{record_of}
 use Rattle.ckrt_drives.specs.Drives.{IsTold}

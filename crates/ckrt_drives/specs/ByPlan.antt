@@ -8,7 +8,7 @@ use Rattle.ckrt_drive.specs.declared.step_done.DriveEnd.{DriveEnd}
 use Rattle.ckrt_events.specs.declared.event.Event.{Event}
 use Rattle.ckrt_stored.specs.Programs.{Program, state_after}
 use Rattle.ckrt_input.specs.Taken.{taken_by}
-use Rattle.ckrt_recovery.specs.Between.{IsBeginningOf}
+use Rattle.ckrt_recovery.specs.Lists.{IsBeginningOf}
 
 -- by what the events of drives are chosen: their schedule, and the bytes of their input, where they have one
 pub record Course : Type 0 where

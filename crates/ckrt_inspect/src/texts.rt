@@ -1,6 +1,5 @@
 //! Words and numbers.
 ghost use Rattle.std.specs.Prelude.{◌≡◌, ◌++◌, length, decimal, OnOk};
-ghost use Rattle.ckrt_rv32i.specs.Names.{cause_name};
 ghost use Rattle.ckrt_thread.specs.declared.records.Reason.TheVariants as reason;
 ghost use Rattle.ckrt_state.specs.declared.table.Status.TheVariants as status;
 ghost use Rattle.ckrt_inspect.specs.Texts.{flag_text, hex_text, kind_text, reason_text, retake_text, status_text};
@@ -72,24 +71,7 @@ fn push_fault(out: &mut Vec<u8>, thread: ThreadId, pc: u32, cause: Cause) -> Res
     push(out, b" ")?;
     push_hex(out, pc)?;
     push(out, b" ")?;
-    push(out, cause_name(cause))
-}
-
-/// The name of a fault's cause.
-fn cause_name(cause: Cause) -> &'static [u8]
-    ensures { result.now ≡ cause_name cause }
-{
-    match cause {
-        Cause::FetchRange => b"FetchRange".as_slice(),
-        Cause::Illegal => b"Illegal".as_slice(),
-        Cause::JumpMisaligned => b"JumpMisaligned".as_slice(),
-        Cause::LoadMisaligned => b"LoadMisaligned".as_slice(),
-        Cause::LoadRange => b"LoadRange".as_slice(),
-        Cause::StoreMisaligned => b"StoreMisaligned".as_slice(),
-        Cause::StoreRange => b"StoreRange".as_slice(),
-        Cause::Breakpoint => b"Breakpoint".as_slice(),
-        Cause::Gate => b"Gate".as_slice(),
-    }
+    push(out, cause.name().as_bytes())
 }
 
 /// What a thread gets with its mutex.

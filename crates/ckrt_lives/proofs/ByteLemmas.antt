@@ -9,9 +9,9 @@ use Rattle.ckrt_stored.specs.Programs.{RecoversToStart, Program, start_of, state
 use Rattle.ckrt_stored.proofs.ReplayLemmas.{output-append}
 use Rattle.ckrt_lives.specs.declared.life.Life.{Life}
 use Rattle.ckrt_lives.specs.declared.life.LifeReport.{LifeReport}
-use Rattle.ckrt_recovery.specs.Between.{IsBeginningOf}
+use Rattle.ckrt_recovery.specs.Lists.{IsBeginningOf}
 use Rattle.ckrt_lives.specs.Lives.{HasRecovered, IsLife, AreLivesFrom, AreSameBytes, Releases, acknowledged_in}
-use Rattle.ckrt_lives.proofs.BeginningLemmas.{begins_taken}
+use Rattle.ckrt_recovery.proofs.ListLemmas.{begins_taken}
 use Rattle.ckrt_lives.proofs.ManyLemmas.{durable_all}
 
 -- a life of the list, with its own

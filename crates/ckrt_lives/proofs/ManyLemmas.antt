@@ -7,11 +7,10 @@ use Rattle.ckrt_stored.specs.Recovery.{Recovered}
 use Rattle.ckrt_stored.proofs.RecoverLemmas.{recovered_once}
 use Rattle.ckrt_lives.specs.declared.life.Life.{Life}
 use Rattle.ckrt_lives.specs.declared.life.LifeReport.{LifeReport}
-use Rattle.ckrt_recovery.specs.Between.{IsBeginningOf}
+use Rattle.ckrt_recovery.specs.Lists.{IsBeginningOf}
 use Rattle.ckrt_lives.specs.Lives.{HasRecovered, HasNotRecovered, IsLife, AreLives, AreLivesFrom, AreDurable, acknowledged_in, released_to}
 use Rattle.ckrt_lives.specs.Pieces.{Stands, last_left, last_list, LivedSoFar}
-use Rattle.ckrt_commands.proofs.ReplyLemmas.{begins_itself, begins_through}
-use Rattle.ckrt_lives.proofs.BeginningLemmas.{begins_taken, fewer_begin}
+use Rattle.ckrt_recovery.proofs.ListLemmas.{begins_itself, begins_taken, begins_through, fewer_begin}
 
 -- AFTER ONE LIFE
 

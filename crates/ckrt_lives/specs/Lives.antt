@@ -4,7 +4,7 @@ use Rattle.ckrt_events.specs.declared.event.Event.{Event}
 use Rattle.ckrt_events.specs.Line.{IsInRangeCommand}
 use Rattle.ckrt_stored.specs.Programs.{RecoversToStart, Program, RecoversTo, output_after}
 use Rattle.ckrt_stored.specs.Recovery.{Recovered, Recovers}
-use Rattle.ckrt_recovery.specs.Between.{IsBeginningOf}
+use Rattle.ckrt_recovery.specs.Lists.{IsBeginningOf}
 use Rattle.ckrt_recovery.specs.View.{View, opened}
 use Rattle.ckrt_commands.specs.Transcript.{Transcript}
 use Rattle.ckrt_lives.specs.declared.life.Life.{Life}

@@ -12,7 +12,7 @@ use Rattle.ckrt_lives.specs.declared.life.LifeReport.{LifeReport}
 use Rattle.ckrt_commands.specs.Pieces.{HasTaken}
 use Rattle.ckrt_lives.specs.Commands.{commands_of_life}
 use Rattle.ckrt_lives.specs.declared.life.Life.{Life}
-use Rattle.ckrt_recovery.specs.Between.{IsBeginningOf}
+use Rattle.ckrt_recovery.specs.Lists.{IsBeginningOf}
 use Rattle.ckrt_lives.specs.Lives.{AreLivesFrom}
 
 -- the session took all events of a transcript, and is the one that it leaves
