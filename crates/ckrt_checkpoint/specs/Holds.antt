@@ -1,13 +1,13 @@
 -- What an area holds, page by page.
 use Rattle.std.specs.Prelude.{◌≡◌, ◌≤◌, ◌<◌, ◌+◌, ◌*◌, ℕ, false, List, [], ◌∷◌, take, drop, Result, IfOk}
 use Rattle.ckrt_disk.specs.declared.disk.Disk.{Ghosts}
-use Rattle.ckrt_journal.specs.Chain.{OPEN}
+use Rattle.ckrt_journal.specs.Chain.{CLOSED, OPEN}
 use Rattle.ckrt_memory.specs.Marks.{Memory, is_dirty}
 use Rattle.ckrt_memory.specs.Pages.{page_of}
 use Rattle.ckrt_checkpoint.specs.declared.config.Config.{Config}
 use Rattle.ckrt_checkpoint.specs.declared.header.Header.{Header}
 use Rattle.ckrt_checkpoint.specs.Fields.{HasBytes, header_fields}
-use Rattle.ckrt_checkpoint.specs.Layout.{CLOSED, area_at, tables_at, journal_at}
+use Rattle.ckrt_checkpoint.specs.Layout.{area_at, tables_at, journal_at}
 
 -- the place of page p in an area, from 1 on
 abbrev pub slot_at : Config → ℕ → ℕ → ℕ

@@ -1,5 +1,5 @@
 -- Where things lie on a disk, and the fields of an area's header (this project's own format). Numbers have their lowest byte first.
-use Rattle.std.specs.Prelude.{◌+◌, ◌-◌, ◌*◌, ◌%◌, ◌&&◌, ◌==◌, ℕ, Bool, List, take, drop, slice_index, nat_le, nat_eq}
+use Rattle.std.specs.Prelude.{◌+◌, ◌-◌, ◌*◌, ◌%◌, ◌&&◌, ◌==◌, ℕ, Bool, List, take, drop, slice_index, nat_le, nat_eq, ◌^◌}
 use Rattle.byteorder.specs.Endian.{little_number}
 use Rattle.ckrt_journal.specs.Chain.{OPEN}
 use Rattle.ckrt_journal.specs.declared.journal.Journal.{Journal}
@@ -56,9 +56,9 @@ journal_of c area version =
 unfoldable pub number_at : (n at : ℕ) → List ℕ → ℕ
 number_at n at bytes = little_number n (take n (drop at bytes))
 
--- the byte that a gate is closed with
-abbrev pub CLOSED : ℕ
-CLOSED = 0
+-- the counts of events and of output bytes stay below this
+abbrev pub COUNT_LIMIT : ℕ
+COUNT_LIMIT = 2 ^ 62
 
 -- a gate is open exactly where it is the byte A5
 abbrev pub is_open : List ℕ → Bool

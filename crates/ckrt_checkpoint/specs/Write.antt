@@ -4,7 +4,7 @@ use Rattle.ckrt_disk.specs.Disk.{IsWithin}
 use Rattle.ckrt_disk.specs.Frame.{AtAnyMoment, IsSameOutside, WritesWithin}
 use Rattle.ckrt_disk.specs.declared.disk.Disk.{Ghosts}
 use Rattle.ckrt_memory.specs.Marks.{Memory, is_dirty}
-use Rattle.ckrt_tables.specs.Encoding.{VERSION}
+use Rattle.ckrt_tables.specs.Encoding.{AREA_VERSION}
 use Rattle.ckrt_checkpoint.specs.declared.config.Config.{Config}
 use Rattle.ckrt_checkpoint.specs.declared.fault.AreaFault.{AreaFault}
 use Rattle.ckrt_checkpoint.specs.declared.fault.AreaFault.TheVariants.{Device, GenerationsUsed}
@@ -28,7 +28,7 @@ next_header point tables = record {
   count = point.count;
   offset = point.offset;
   tables = length tables;
-  version = VERSION;
+  version = AREA_VERSION;
 }
 
 -- WHERE IT WRITES: in the area, and the first byte of its journal

@@ -4,9 +4,9 @@ ghost use Rattle.ckrt_checkpoint.specs.Layout.{number_at, header_in};
 ghost use Rattle.ckrt_checkpoint.specs.Fields.{header_fields};
 
 use crate::header::Header;
-use crate::layout::OPEN;
 use arrayvec::ArrayVec;
 use byteorder::{ByteOrder, LittleEndian};
+use ckrt_journal::OPEN;
 
 /// How many bytes of a header are read.
 pub(crate) const HEADER_BYTES: usize = 40;

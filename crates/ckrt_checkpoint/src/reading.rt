@@ -1,7 +1,7 @@
 // How an area is read: its tables, which are decoded, and its memory. Nothing here writes or syncs.
 ghost use Rattle.std.specs.Prelude.{◌≡◌, ◌≢◌, ◌≤◌, ◌⊎◌, Err, IfOk, IfErr, length, true};
 ghost use Rattle.ckrt_disk.specs.Frame.{IsOnlyRead};
-ghost use Rattle.ckrt_tables.specs.declared.encoding.TheConstants.{HELD_LIMIT};
+ghost use Rattle.ckrt_state.specs.Output.{HELD_LIMIT};
 ghost use Rattle.ckrt_checkpoint.specs.declared.fault.AreaFault.TheVariants.{Damaged, Device, GenerationsUsed, OutOfMemory, Version};
 ghost use Rattle.ckrt_checkpoint.specs.Answers.{is_device};
 ghost use Rattle.ckrt_checkpoint.specs.Areas.{IsPicked};

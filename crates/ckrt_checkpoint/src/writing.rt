@@ -2,6 +2,7 @@
 ghost use Rattle.std.specs.Prelude.{◌≡◌, ◌≤◌, ◌<◌, ◌+◌, ◌∷◌, [], true, false, length, is_err, IfOk, OnOk};
 ghost use Rattle.ckrt_disk.specs.Disk.{IsOverwritten, IsWithin};
 ghost use Rattle.ckrt_disk.specs.Frame.{AtAnyMoment, WritesWithin};
+ghost use Rattle.ckrt_journal.specs.Chain.{OPEN};
 ghost use Rattle.ckrt_memory.specs.Pages.{page_of};
 ghost use Rattle.ckrt_tables.specs.declared.encoding.TheConstants.{TABLES_ROOM};
 ghost use Rattle.ckrt_checkpoint.specs.Holds.{slot, slot_at, AllPagesStand, CleanPagesStand, CleanPagesStandOn};
@@ -12,11 +13,12 @@ use crate::config::Config;
 use crate::fault::AreaFault;
 use crate::fields::header_fields;
 use crate::header::Header;
-use crate::layout::{CLOSED, FIELDS_AT, OPEN};
+use crate::layout::FIELDS_AT;
 use crate::save_point::SavePoint;
 use ckrt_disk::{DeviceFault, Disk, write_part, write_synced};
+use ckrt_journal::{CLOSED, OPEN};
 use ckrt_memory::Memory;
-use ckrt_tables::VERSION;
+use ckrt_tables::AREA_VERSION;
 
 // Closes a gate, where it is open, and says whether it was. A gate that stands closed isn't written: a byte that is written
 // again may be left as any byte by a stop, also as an open gate.
@@ -169,7 +171,7 @@ pub fn write_area<D: Disk>(
         count: point.count,
         offset: point.offset,
         tables: tables.len() as u32,
-        version: VERSION,
+        version: AREA_VERSION,
     };
     let gate_at = config.area_at(area);
     close_gate(disk, gate_at)?;

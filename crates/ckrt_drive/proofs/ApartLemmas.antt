@@ -7,7 +7,7 @@ use Rattle.ckrt_thread.specs.State as threads
 use Rattle.ckrt_state.specs.declared.table.Tables.{Tables}
 use Rattle.ckrt_checkpoint.specs.Layout.{is_valid}
 use Rattle.ckrt_checkpoint.specs.declared.config.Config.{Config}
-use Rattle.ckrt_events.specs.Bytes.{IsInRange, encoding_of, is_known_in}
+use Rattle.ckrt_events.specs.Bytes.{IsInRange, encoding_of, is_known_in, RUN_LIMIT}
 use Rattle.ckrt_events.specs.declared.event.Event.{Event}
 use Rattle.ckrt_events.specs.declared.event.Event.TheVariants.{Place, Run, Tick, Input, Eof, RunLong}
 use Rattle.ckrt_stored.specs.Recovery.{are_counters_used}
@@ -32,7 +32,7 @@ use Rattle.ckrt_drive.specs.declared.step_done.DriveEnd.TheVariants.{Ended, Enou
 use Rattle.ckrt_drive.specs.declared.step_done.StepDone.{StepDone}
 use Rattle.ckrt_drive.specs.declared.step_done.StepDone.TheVariants.{Checkpointed, Committed, Released, Stopped}
 use Rattle.ckrt_drive.specs.declared.supply.Supply.{Supply}
-use Rattle.ckrt_drive.specs.Plan.{RUN_LIMIT, Schedule, earliest_deadline, event_at, idle_until, is_commit_due, is_settled, is_shortage, make_room, next, next_by, next_event, next_sought, of_runner, offered, on_hart, or_scheduled, plan, plan_for, plan_next, plan_onward, run_by, runner_at, schedule_of, turn_at}
+use Rattle.ckrt_drive.specs.Plan.{Schedule, earliest_deadline, event_at, idle_until, is_commit_due, is_settled, is_shortage, make_room, next, next_by, next_event, next_sought, of_runner, offered, on_hart, or_scheduled, plan, plan_for, plan_next, plan_onward, run_by, runner_at, schedule_of, turn_at}
 use Rattle.ckrt_drive.proofs.Choices.{either}
 
 -- THE EVENTS OF A PLAN ARE SHORT

@@ -7,7 +7,7 @@ use Rattle.std.proofs.lemmas.Bool.Decides.{nat_tests}
 use Rattle.std.proofs.lemmas.List.{drop_all, length-drop, length-take}
 use Rattle.ckrt_events.specs.declared.event.Event.{Event}
 use Rattle.ckrt_events.specs.declared.event.Event.TheVariants.{Place, Run, Input, Eof, Tick, RunLong}
-use Rattle.ckrt_events.specs.Bytes.{IsInRange}
+use Rattle.ckrt_events.specs.Bytes.{IsInRange, RUN_LIMIT}
 use Rattle.ckrt_input.specs.Next.{given_by, has_room, next_bytes, next_input}
 use Rattle.ckrt_input.specs.Taken.{bytes_of, taken_by}
 use Rattle.ckrt_input.proofs.NextLemmas.{always_taken, given_bytes, hangs_on_next, next_is, next_slice}
@@ -26,7 +26,7 @@ use Rattle.ckrt_drive.specs.declared.step_done.StepDone.{StepDone}
 use Rattle.ckrt_drive.specs.declared.step_done.StepDone.TheVariants.{Submitted, Committed, Checkpointed, Released, Stopped}
 use Rattle.ckrt_drive.specs.declared.supply.Supply.{Supply}
 use Rattle.ckrt_drive.specs.Given.{given_in, record_of}
-use Rattle.ckrt_drive.specs.Plan.{RUN_LIMIT, Schedule, earliest_deadline, event_at, idle_until, next_by, next_event, next_sought, of_runner, on_hart, or_scheduled, plan, run_by, runner_at, schedule_of, turn_at}
+use Rattle.ckrt_drive.specs.Plan.{Schedule, earliest_deadline, event_at, idle_until, next_by, next_event, next_sought, of_runner, on_hart, or_scheduled, plan, run_by, runner_at, schedule_of, turn_at}
 use Rattle.ckrt_drive.specs.Steps.{accepted_by}
 use Rattle.ckrt_drive.proofs.Choices.{either}
 use Rattle.ckrt_drive.proofs.PlannedLemmas.{planned_event}

@@ -2,11 +2,12 @@
 -- events were accepted since the disk was formatted, and of the tables; what is saved when is one of what is pending and of the journal's room.
 -- A drive remembers nothing of it but how many events are left to it, and how many bytes of its input the program has taken.
 use Rattle.std.specs.Prelude.{ℕ, zero, suc, ◌+◌, ◌-◌, ◌*◌, ◌/◌, ◌%◌, ◌==◌, ◌||◌, ◌&&◌, nat_lt, nat_le, min, max, Bool, true, false, if◌then◌else◌, Option, Some, None, is_some, unwrap_or, List, [], ◌∷◌, Result, Ok, Err}
+use Rattle.ckrt_journal.specs.Chain.{FRAME_BYTES}
 use Rattle.ckrt_thread.specs.declared.records.Wait.{Wait}
 use Rattle.ckrt_thread.specs.declared.records.Object.TheVariants.{Input}
 use Rattle.ckrt_thread.specs.State.{first_waiter}
 use Rattle.ckrt_state.specs.declared.table.Tables.{Tables}
-use Rattle.ckrt_events.specs.Bytes.{IsInRange}
+use Rattle.ckrt_events.specs.Bytes.{IsInRange, BATCH_LIMIT, RUN_LIMIT}
 use Rattle.ckrt_events.specs.declared.event.Event.{Event}
 use Rattle.ckrt_events.specs.declared.event.Event.TheVariants.{Place, Run, Tick, RunLong}
 use Rattle.ckrt_machine.specs.declared.event.Refusal.TheVariants.{OutputFull}
@@ -31,10 +32,6 @@ use Rattle.ckrt_drive.specs.declared.plan.Sought.{Sought}
 use Rattle.ckrt_drive.specs.declared.plan.Sought.TheVariants.{Busy, Occupied}
 use Rattle.ckrt_drive.specs.declared.plan.Turn.{Turn}
 use Rattle.ckrt_drive.specs.declared.supply.Supply.{Supply}
-
--- how many steps a Run may have; a RunLong has more
-abbrev pub RUN_LIMIT : ℕ
-RUN_LIMIT = 65535
 
 -- THE PROGRAM
 
@@ -146,9 +143,9 @@ next u w n s = if is_running s.status && (w.left == 0) then End Enough else next
 
 -- SAVING
 
--- the most bytes that a batch takes of a journal behind its gate: two of length, 4,096 of events, and the next gate
+-- the most bytes that a batch takes of a journal
 abbrev pub LONGEST_BATCH : ℕ
-LONGEST_BATCH = 4099
+LONGEST_BATCH = BATCH_LIMIT + FRAME_BYTES
 
 -- nothing is pending: all events are acknowledged
 abbrev pub is_settled : View → Bool

@@ -8,10 +8,8 @@ use crate::hart::{RUN_OUTPUT, is_running};
 use arrayvec::ArrayVec;
 use ckrt_calls::{INPUT_LIMIT, Tables};
 use ckrt_events::Event;
+use ckrt_state::HELD_LIMIT;
 use ckrt_thread::MOMENT_END;
-
-/// How many bytes of output may be held.
-const OUTPUT_LIMIT: usize = 16_384;
 
 /// The first reason to refuse the event where so many bytes of output are held, if there is one.
 pub fn refusal(tables: &Tables, held: usize, event: &Event) -> Option<Refusal>
@@ -61,7 +59,7 @@ fn run_refusal(tables: &Tables, held: usize, hart: u8) -> Option<Refusal>
     if tables.threads.on_hart(usize::from(hart)).is_none() {
         return Some(Refusal::HartIdle);
     }
-    if held > OUTPUT_LIMIT - RUN_OUTPUT {
+    if held > HELD_LIMIT - RUN_OUTPUT {
         return Some(Refusal::OutputFull);
     }
     None

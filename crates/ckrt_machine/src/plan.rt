@@ -5,10 +5,10 @@ ghost use Rattle.ckrt_machine.specs.Plans.{planned, least_ready, next_ready, or_
 
 use crate::hart::is_running;
 use ckrt_calls::Tables;
-use ckrt_thread::Threads;
+use ckrt_thread::{MAX_THREADS, Threads};
 
 /// How many threads there may be, with ids from 1.
-const THREADS: u8 = 64;
+const THREADS: u8 = MAX_THREADS as u8;
 
 /// The thread to put onto the hart next: the least ready one that is on no hart and above the
 /// hart's own, else the least at all. None where nobody is ready, where the program has ended, and

@@ -12,7 +12,7 @@ ghost use Rattle.ckrt_mutex.specs.WellFormed.{IsWellFormedWith, can_retake, may_
 ghost use Rattle.ckrt_mutex.specs.declared.records.Kind.TheVariants.{Normal};
 
 use crate::entries::{append_entry, kept_count, kept_of, mutex_of, put_entry};
-use crate::records::{Kind, Mutex};
+use crate::records::{Kind, MAX_RECURSIVE_COUNT, Mutex};
 use arrayvec::ArrayVec;
 use ckrt_objects::{
     Entry, Named, Places, are_limit_in_use, are_too_few, is_full, is_named_by_wait, remove,
@@ -270,7 +270,7 @@ impl Mutexes {
         ensures result { result ≡ (taken mutex thread address threads.now self.old).result }
         ensures mutexes { self.new ≡ (taken mutex thread address threads.now self.old).mutexes }
     {
-        if mutex.count >= 65535 || self.has_no_room(threads, mutex, address) {
+        if mutex.count >= MAX_RECURSIVE_COUNT || self.has_no_room(threads, mutex, address) {
             return CallResult::Done(EAGAIN);
         }
         self.known();

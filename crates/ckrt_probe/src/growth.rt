@@ -5,7 +5,7 @@
 
 use ckrt_disk::{Disk, MemoryDisk};
 use ckrt_recovery::{Config, FormatFault, RecoverFault, format, recover};
-use ckrt_tables::{VERSION, decode_tables};
+use ckrt_tables::{AREA_VERSION, decode_tables};
 use std::alloc::{AllocError, Global};
 
 /// A guest of one word that is no instruction.
@@ -99,7 +99,7 @@ fn fresh_tables() -> [u8; 176] {
 
 /// What decoding saved tables met.
 pub fn report_tables(alloc: Global) -> &'static str {
-    match decode_tables(alloc, VERSION, &fresh_tables(), 1) {
+    match decode_tables(alloc, AREA_VERSION, &fresh_tables(), 1) {
         Ok(Some(_)) => "decoded",
         Ok(None) => "decoding met something else",
         Err(_) => "decoding: OutOfMemory",

@@ -9,8 +9,8 @@ use Rattle.ckrt_record.specs.declared.slot.Slot.{Slot}
 abbrev pub MAGIC : ℕ
 MAGIC = 4919414336336841539
 
-abbrev pub VERSION : ℕ
-VERSION = 1
+abbrev pub RECORD_VERSION : ℕ
+RECORD_VERSION = 1
 
 -- the bytes of a slot
 abbrev pub SLOT_BYTES : ℕ
@@ -27,13 +27,13 @@ TAKEN_LIMIT = 2 ^ 62
 -- a slot as bytes
 abbrev pub slot_bytes : Slot → List ℕ
 slot_bytes s =
-    little_bytes 8 MAGIC ++ little_bytes 8 VERSION ++ little_bytes 8 s.generation
+    little_bytes 8 MAGIC ++ little_bytes 8 RECORD_VERSION ++ little_bytes 8 s.generation
     ++ little_bytes 8 s.count ++ little_bytes 8 s.taken
 
 -- the slot that 40 bytes are, if they are one: those that no drive wrote have another magic number
 abbrev pub slot_in : List ℕ → Option Slot
 slot_in block =
-    if nat_eq (number_at 8 0 block) MAGIC && (nat_eq (number_at 8 8 block) VERSION && nat_lt (number_at 8 32 block) TAKEN_LIMIT)
+    if nat_eq (number_at 8 0 block) MAGIC && (nat_eq (number_at 8 8 block) RECORD_VERSION && nat_lt (number_at 8 32 block) TAKEN_LIMIT)
     then Some (record { generation = number_at 8 16 block; count = number_at 8 24 block; taken = number_at 8 32 block })
     else None
 

@@ -254,7 +254,7 @@ impl RwLocks {
         requires room { has_room 64 address self.old ≡ true }
         requires proper { is_proper lock ≡ true }
         requires unwritten { is_written lock ≡ false }
-        requires count { read_count thread lock < 65535 }
+        requires count { read_count thread lock < MAX_READ_COUNT }
         ensures { self.new
             ≡ put address (with_read_count thread (read_count thread lock + 1) lock) self.old }
     {
@@ -264,7 +264,7 @@ impl RwLocks {
         );
     }
 
-    /// A thread that has a read lock gets one more, up to 65,535.
+    /// A thread that has a read lock gets one more, up to [`MAX_READ_COUNT`].
     fn read_again(
         &mut self,
         threads: &Threads,

@@ -1,12 +1,12 @@
 -- What a freshly formatted disk has (this project's own format).
 use Rattle.std.specs.Prelude.{◌≡◌, ◌+◌, ◌-◌, ℕ, true, List, [], ◌∷◌, ◌++◌, replicate, length}
-use Rattle.ckrt_journal.specs.Chain.{OPEN}
+use Rattle.ckrt_journal.specs.Chain.{CLOSED, OPEN}
 use Rattle.ckrt_tables.specs.Fresh.{fresh_bytes}
-use Rattle.ckrt_tables.specs.Encoding.{VERSION}
+use Rattle.ckrt_tables.specs.Encoding.{AREA_VERSION}
 use Rattle.ckrt_checkpoint.specs.declared.config.Config.{Config}
 use Rattle.ckrt_checkpoint.specs.declared.header.Header.{Header}
 use Rattle.ckrt_checkpoint.specs.Fields.{HasBytes, header_fields}
-use Rattle.ckrt_checkpoint.specs.Layout.{CLOSED, memory_size, area_at, tables_at, memory_at, journal_at}
+use Rattle.ckrt_checkpoint.specs.Layout.{memory_size, area_at, tables_at, memory_at, journal_at}
 use Rattle.ckrt_stored.specs.Superblock.{superblock_fields}
 
 -- how many bytes the saved tables of a program have before its first event
@@ -22,7 +22,7 @@ fresh_header =
       count = 0;
       offset = 0;
       tables = FRESH_TABLES_SIZE;
-      version = VERSION;
+      version = AREA_VERSION;
     }
 
 -- the guest's memory before the first event: the image, and zeros behind it

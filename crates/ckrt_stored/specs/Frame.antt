@@ -4,7 +4,7 @@ use Rattle.ckrt_disk.specs.Disk.{IsWithin}
 use Rattle.ckrt_disk.specs.Frame.{IsSameOutside}
 use Rattle.ckrt_journal.specs.Chain.{journal_bytes}
 use Rattle.ckrt_tables.specs.Decoding.{Saved}
-use Rattle.ckrt_tables.specs.Encoding.{VERSION, encoding_of}
+use Rattle.ckrt_tables.specs.Encoding.{AREA_VERSION, encoding_of}
 use Rattle.ckrt_tables.specs.Savable.{CanBeSaved}
 use Rattle.ckrt_checkpoint.specs.declared.area.Area.{Area}
 use Rattle.ckrt_checkpoint.specs.declared.config.Config.{Config}
@@ -73,5 +73,5 @@ in_other_area r =
     record r {
       area = 1 - r.area;
       generation = r.generation + 1;
-      journal = journal_of r.config (1 - r.area) VERSION;
+      journal = journal_of r.config (1 - r.area) AREA_VERSION;
     }

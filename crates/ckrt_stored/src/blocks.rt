@@ -7,7 +7,7 @@ ghost use Rattle.ckrt_stored.specs.Recovery.{Agrees, Is};
 
 use crate::fault::RecoverFault;
 use arrayvec::ArrayVec;
-use ckrt_checkpoint::{Config, FIELDS_AT, OPEN, VERSION, number_32, number_64, put};
+use ckrt_checkpoint::{Config, FIELDS_AT, OPEN, SUPERBLOCK_VERSION, number_32, number_64, put};
 
 /// How many bytes of a superblock are read.
 pub(crate) const SUPERBLOCK_BYTES: usize = 32;
@@ -41,7 +41,7 @@ pub(crate) fn superblock(size: usize, block: &[u8]) -> Result<Config, RecoverFau
     if block[0] != OPEN || number_64(block, FIELDS_AT) != MAGIC {
         return Err(RecoverFault::NotFormatted);
     }
-    if number_32(block, 16) != VERSION {
+    if number_32(block, 16) != SUPERBLOCK_VERSION {
         return Err(RecoverFault::Version);
     }
     let config = config_within(
@@ -61,7 +61,7 @@ pub(crate) fn superblock_fields(config: &Config) -> ArrayVec<u8, 24>
 {
     let mut fields = ArrayVec::new();
     put(&mut fields, &MAGIC.to_le_bytes());
-    put(&mut fields, &VERSION.to_le_bytes());
+    put(&mut fields, &SUPERBLOCK_VERSION.to_le_bytes());
     put(&mut fields, &config.pages.to_le_bytes());
     put(&mut fields, &config.harts.to_le_bytes());
     put(&mut fields, &config.journal.to_le_bytes());

@@ -12,7 +12,7 @@ use crate::fault::FormatFault;
 use crate::fresh::{FRESH_TABLES_SIZE, fresh_tables};
 use ckrt_checkpoint::{CLOSED, Config, FIELDS_AT, Header, OPEN, header_fields};
 use ckrt_disk::{DeviceFault, Disk, write_part, write_synced};
-use ckrt_tables::VERSION;
+use ckrt_tables::AREA_VERSION;
 use std::alloc::{AllocError, Global};
 
 impl From<DeviceFault> for FormatFault {
@@ -99,7 +99,7 @@ fn write_area<D: Disk>(disk: &mut D, config: &Config, memory: &[u8]) -> Result<(
         count: 0,
         offset: 0,
         tables: FRESH_TABLES_SIZE as u32,
-        version: VERSION,
+        version: AREA_VERSION,
     });
     let tables = fresh_tables(config);
     write_part(disk, config.area_at(0), &[OPEN])?;

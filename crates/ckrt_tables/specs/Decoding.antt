@@ -7,7 +7,8 @@ use Rattle.circular_buffer.specs.Buffer.{Buffer, buffer}
 use Rattle.ckrt_thread.specs.Keys.{all_keys}
 use Rattle.ckrt_thread.specs.Contents.{empty}
 use Rattle.ckrt_state.specs.declared.table.Tables.{Tables}
-use Rattle.ckrt_tables.specs.Encoding.{encoding_of, HELD_LIMIT}
+use Rattle.ckrt_state.specs.Output.{HELD_LIMIT}
+use Rattle.ckrt_tables.specs.Encoding.{encoding_of}
 use Rattle.ckrt_tables.specs.Savable.{CanBeSaved}
 
 -- THE WHOLE

@@ -1,13 +1,14 @@
 //! Bytes as tables and held output.
 ghost use Rattle.std.specs.Prelude.{◌⊎◌, ◌≡◌, ◌≤◌, ◌∷◌, [], ◌↔◌, IsTrue, IfOk, IfSome, length, true};
 ghost use Rattle.ckrt_state.specs.WellFormed.{IsWellFormed};
+ghost use Rattle.ckrt_state.specs.Output.{HELD_LIMIT};
 ghost use Rattle.ckrt_tables.specs.Decoding.{DecodesTo, Finds, IsBegun, IsEncodingOf, Saved, saved};
 ghost use Rattle.ckrt_tables.specs.Encoding.{encoding_of, status_bytes, status_from, IsHeld};
 ghost use Rattle.ckrt_tables.specs.Records.{cause_from, flag};
 ghost use Rattle.ckrt_tables.specs.Savable.{fits_status};
 
 use crate::cursor::Cursor;
-use crate::encoding::{HELD_LIMIT, Held, most_bytes, put_tables};
+use crate::encoding::{Held, most_bytes, put_tables};
 use crate::fitting::{is_without_keys, known_savable};
 use crate::reading::read_mark;
 use crate::reading_keys::read_keys;
@@ -18,7 +19,7 @@ use ckrt_barrier::Barriers;
 use ckrt_mutex::Mutexes;
 use ckrt_rv32i::Cause;
 use ckrt_rwlock::RwLocks;
-use ckrt_state::{InputQueue, Status, Tables};
+use ckrt_state::{HELD_LIMIT, InputQueue, Status, Tables};
 use ckrt_thread::{Keys, Threads};
 use std::alloc::{AllocError, Global};
 

@@ -11,7 +11,7 @@ ghost use Rattle.ckrt_tables.specs.Records.{counted, flag, flags_of, one_byte, r
 ghost use Rattle.ckrt_tables.specs.Savable.{fit_registers};
 
 use crate::cursor::Cursor;
-use crate::encoding::VERSION;
+use crate::encoding::AREA_VERSION;
 use crate::reading::{Row, read_few, read_rows};
 use crate::reading_keys::read_data;
 use crate::reading_objects::read_id;
@@ -210,7 +210,7 @@ impl Row for ThreadRecord {
     ghost LeadsTo = { ThreadsLeadTo };
 
     fn read(cursor: &mut Cursor<'_>) -> Self {
-        let (id, thread) = read_thread(cursor, VERSION);
+        let (id, thread) = read_thread(cursor, AREA_VERSION);
         ThreadRecord { id, thread }
     }
 

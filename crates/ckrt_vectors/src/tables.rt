@@ -2,7 +2,7 @@
 
 use anyhow::{Context, Result, ensure};
 use ckrt_state::Tables;
-use ckrt_tables::{HELD_LIMIT, Held, TABLES_ROOM, VERSION, decode_tables, encode_tables};
+use ckrt_tables::{AREA_VERSION, HELD_LIMIT, Held, TABLES_ROOM, decode_tables, encode_tables};
 use ckrt_thread::MAX_HARTS;
 use std::alloc::Global;
 
@@ -39,7 +39,7 @@ fn is_encoded_as(
     bytes: &[u8],
 ) -> Result<bool> {
     let length = encoded_length(tables, held, room)?;
-    if version == VERSION {
+    if version == AREA_VERSION {
         Ok(room.get(..length) == Some(bytes))
     } else {
         Ok(length.wrapping_sub(bytes.len()) == growth(tables))
