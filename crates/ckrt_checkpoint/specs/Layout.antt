@@ -37,7 +37,7 @@ area_at c area = 4096 + area * area_size c
 abbrev pub tables_at : Config → ℕ → ℕ
 tables_at c area = area_at c area + 4096
 
--- the guest's memory from page 1 on: page p of an area lies 102,400 + 4096·p behind its beginning
+-- the guest's memory from page 1 on: page p of an area lies 102,400 + 4096·p after its beginning
 abbrev pub memory_at : Config → ℕ → ℕ
 memory_at c area = area_at c area + 106496
 

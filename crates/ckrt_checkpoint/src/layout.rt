@@ -1,4 +1,4 @@
-// Where things lie on a disk.
+//! Where things lie on a disk.
 ghost use Rattle.std.specs.Prelude.{◌≡◌, ◌≤◌, ◌+◌, true};
 ghost use Rattle.ckrt_checkpoint.specs.Holds.{slot_at};
 ghost use Rattle.ckrt_checkpoint.specs.Layout.{is_valid, memory_size, area_size, size_needed, area_at, tables_at, memory_at, journal_at, journal_of};

@@ -1,4 +1,4 @@
-// How an area is written: its gate is closed, all behind the gate is written and made durable, and then the gate is opened.
+//! How an area is written: its gate is closed, all after the gate is written and made durable, and then the gate is opened.
 ghost use Rattle.std.specs.Prelude.{◌≡◌, ◌≤◌, ◌<◌, ◌+◌, ◌∷◌, [], true, false, length, is_err, IfOk, OnOk};
 ghost use Rattle.ckrt_disk.specs.Disk.{IsOverwritten, IsWithin};
 ghost use Rattle.ckrt_disk.specs.Frame.{AtAnyMoment, WritesWithin};
@@ -20,8 +20,8 @@ use ckrt_journal::{CLOSED, OPEN};
 use ckrt_memory::Memory;
 use ckrt_tables::AREA_VERSION;
 
-// Closes a gate, where it is open, and says whether it was. A gate that stands closed isn't written: a byte that is written
-// again may be left as any byte by a stop, also as an open gate.
+/// Closes a gate, where it is open, and says whether it was. A gate that stands closed isn't written: a byte that is written
+/// again may be left as any byte by a stop, also as an open gate.
 fn close_gate<D: Disk>(disk: &mut D, gate_at: usize) -> Result<bool, DeviceFault>
     requires { gate_at + 1 ≤ D.size disk.old }
     ensures any_moment { IsDurable D.Disk disk.old
@@ -44,7 +44,7 @@ fn close_gate<D: Disk>(disk: &mut D, gate_at: usize) -> Result<bool, DeviceFault
     Ok(true)
 }
 
-// Writes a page of the guest's memory into its slot.
+/// Writes a page of the guest's memory into its slot.
 fn write_page<D: Disk>(
     disk: &mut D,
     config: &Config,
@@ -65,7 +65,7 @@ fn write_page<D: Disk>(
     write_part(disk, config.slot_at(area, page), memory.page(page))
 }
 
-// Writes the pages of the guest's memory that are dirty for the area, each into its slot, by rising number.
+/// Writes the pages of the guest's memory that are dirty for the area, each into its slot, by rising number.
 fn write_pages<D: Disk>(
     disk: &mut D,
     config: &Config,
@@ -90,7 +90,7 @@ fn write_pages<D: Disk>(
     Ok(())
 }
 
-// Writes all behind the gate of an area, and that its journal has no batch, and makes it durable.
+/// Writes all after the gate of an area, and that its journal has no batch, and makes it durable.
 fn fill<D: Disk>(
     disk: &mut D,
     config: &Config,
@@ -119,7 +119,7 @@ fn fill<D: Disk>(
     write_synced(disk, config.area_at(area) + FIELDS_AT, fields.as_slice())
 }
 
-// Opens a gate.
+/// Opens a gate.
 fn open_gate<D: Disk>(disk: &mut D, gate_at: usize) -> Result<(), DeviceFault>
     requires { gate_at + 1 ≤ D.size disk.old }
     ensures within { WritesWithin D.Disk (IsWithin gate_at 1) 2 disk.old disk.new (is_err result) }

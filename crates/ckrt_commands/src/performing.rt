@@ -159,7 +159,7 @@ fn checkpoint<L: Listener<T>, T, D: Disk>(
 /// Does what a command says, tells the listener, and answers whether the command was `quit`.
 ///
 /// An event or a commit that is refused is told, and no fault. Each reply is told before the next call of the session, and what
-/// a commit or a checkpoint releases is told behind its acknowledgement and then confirmed.
+/// a commit or a checkpoint releases is told after its acknowledgement and then confirmed.
 pub fn perform<L: Listener<T>, T, D: Disk>(
     session: &mut Session<D>,
     to: &mut T,

@@ -1,4 +1,4 @@
--- A write and the sync behind it, as the words of a kind of disk for its own calls say them: what such a word says of each call holds of just
+-- A write and the sync after it, as the words of a kind of disk for its own calls say them: what such a word says of each call holds of just
 -- these two.
 use Rattle.std.specs.Prelude.{◌⊎◌, ℕ, Bool, true, false, List}
 use Rattle.ckrt_disk.specs.declared.disk.Disk.{Ghosts}
@@ -9,7 +9,7 @@ pub record WritesSynced {D : Type 0} (d : Ghosts D) (at : ℕ) (bytes : List ℕ
   pub write : d.write_gives a at bytes true written
   pub sync : d.sync_gives written true b
 
--- the write failed, or the sync behind it did
+-- the write failed, or the sync after it did
 abbrev pub FailsToWriteSynced : {D : Type 0} → Ghosts D → (at : ℕ) → (bytes : List ℕ) → (a b : D)
     → Type 0
 FailsToWriteSynced {D} d at bytes a b =

@@ -1,4 +1,4 @@
-// Writes that are alike wherever they are made.
+//! Writes that are alike wherever they are made.
 ghost use Rattle.std.specs.Prelude.{◌≤◌, ◌+◌, ℕ, length, is_ok, is_err, OnOk};
 ghost use Rattle.ckrt_disk.specs.Disk.{IsOverwritten, IsWithin};
 ghost use Rattle.ckrt_disk.specs.Frame.{WritesWithin};

@@ -78,13 +78,13 @@ schedule_of o = record { turn = o.turn; seed = o.seed }
 abbrev pub places_of : Tables → ℕ
 places_of s = 2 * s.threads.hart_count + 1
 
--- a turn at the place behind n events: the hart that is looked at first, and how many steps a run has
+-- a turn at the place after n events: the hart that is looked at first, and how many steps a run has
 abbrev pub turn_by : (seed : Option ℕ) → (most place n harts : ℕ) → Turn
 turn_by None most place n harts = record { place = place; first = place / 2; steps = most }
 turn_by (Some seed) most place n harts =
     record { place = place; first = lot_of seed n % harts; steps = lot_of seed n / 8 % most + 1 }
 
--- the turn behind n events
+-- the turn after n events
 abbrev pub turn_at : Schedule → (n : ℕ) → Tables → Turn
 turn_at u n s = turn_by u.seed u.turn (n % places_of s) n s.threads.hart_count
 
@@ -98,7 +98,7 @@ run_by h n = if nat_le n RUN_LIMIT then Run h n else RunLong h n
 abbrev pub runner_at : Turn → Tables → Option ℕ
 runner_at turn s = if turn.place % 2 == 1 then or_else (next_sought Occupied turn.first s) (next_sought Occupied 0 s) else None
 
--- who is planned for a hart goes onto it, and where nobody is, its thread runs
+-- the thread that is planned for a hart goes onto it, and where nobody is, its thread runs
 abbrev pub on_hart : (who : Option ℕ) → (h n : ℕ) → Event
 on_hart (Some t) h n = Place h t
 on_hart None h n = run_by h n
@@ -130,7 +130,7 @@ abbrev pub or_scheduled : (given : Option Event) → Next → Next
 or_scheduled (Some e) scheduled = Submit e
 or_scheduled None scheduled = scheduled
 
--- the event that is next behind n others, or why there is none
+-- the event that is next after n others, or why there is none
 abbrev pub next_event : Schedule → (given : Option Event) → (n : ℕ) → Tables → Next
 next_event u given n s =
     if is_running s.status
@@ -208,7 +208,7 @@ plan_onward o w v = if is_checkpoint_due v then Ok Checkpointed else if is_commi
 abbrev pub plan : Options → Supply → View → Result StepDone DriveFault
 plan o w v = if nat_lt v.recovered.confirmed v.released then Ok Released else plan_onward o w v
 
--- how many events are left behind what the drive did
+-- how many events are left after what the drive did
 abbrev pub left_after : StepDone → (left : ℕ) → ℕ
 left_after (Submitted e answer) left = left - 1
 left_after Committed left = left

@@ -1,4 +1,4 @@
--- What a drive gives to its output: which bytes, at which offsets, and a sync behind each write. What a kind of output says of its writes and
+-- What a drive gives to its output: which bytes, at which offsets, and a sync after each write. What a kind of output says of its writes and
 -- syncs holds of just these calls, in their order.
 use Rattle.std.specs.Prelude.{◌≡◌, ◌⊎◌, ◌+◌, ℕ, Bool, true, false, List, [], ◌∷◌, ◌++◌, length, take, drop, Result, Ok, Err}
 use Rattle.std.specs.List.{concat}
@@ -40,8 +40,8 @@ PutsAllOut {O} o at (piece ∷ more) a b =
 abbrev pub between : (from to : ℕ) → List ℕ → List ℕ
 between from to out = drop from (take to out)
 
--- behind that it was given nothing more; or, where it failed a call, that was the write of the released bytes that aren't confirmed, or the
--- sync behind it
+-- after that it was given nothing more; or, where it failed a call, that was the write of the released bytes that aren't confirmed, or the
+-- sync after it
 abbrev pub EndsOrFails : {O : Type 0} → Ghosts O → View → (a b : O) → (failed : Bool) → Type 0
 EndsOrFails o v a b false = b ≡ a
 EndsOrFails o v a b true = FailsToWriteSynced o v.recovered.confirmed (released_output v) a b

@@ -54,7 +54,7 @@ stand left v = record { left = left; view = v }
 abbrev pub stand_of : {D : Type 0} {g : Ghosts D} → (left : ℕ) → Session D g → Stand
 stand_of left s = stand left (view_of s)
 
--- behind what it did
+-- after what it did
 abbrev pub stand_after : StepDone → Stand → Stand
 stand_after did x = record { left = left_after did x.left; view = view_after did x.view }
 
@@ -91,7 +91,7 @@ IsFault o x y OutputFull = IsPlanned o x (Ok Released) × (y ≡ x)
 IsFault o x y GenerationsUsed = (x.view.recovered.generation ≡ 2 ^ 64 - 1) × (y ≡ x)
 IsFault o x y (Refused why) = IsPlanned o x (Err (Refused why)) × (y ≡ x)
 
--- Why a drive that may make so many steps makes no more than these, behind which it stood at x: it made them all, an end is planned, or it
+-- Why a drive that may make that many steps makes no more than these, after which it stood at x: it made them all, an end is planned, or it
 -- couldn't do what is planned.
 abbrev pub IsWhyNoMore : Options → (steps made : ℕ) → (x y : Stand)
     → Result (Option DriveEnd) DriveFault → Type 0
@@ -100,7 +100,7 @@ IsWhyNoMore o steps made x y (Ok (Some ending)) =
     IsPlanned o x (Ok (Stopped ending)) × (y ≡ x) × IsAtEnd y.left y.view ending
 IsWhyNoMore o steps made x y (Err fault) = (made < steps) × IsFault o x y fault
 
--- From x to y a drive took these events, in at most so many steps.
+-- From x to y a drive took these events, in at most that many steps.
 pub record GoesByPlan (o : Options) (steps : ℕ) (accepted : List Event) (x y : Stand)
     (result : Result (Option DriveEnd) DriveFault) : Type 0 where
   pub did : List StepDone
@@ -114,7 +114,7 @@ pub record GoesByPlan (o : Options) (steps : ℕ) (accepted : List Event) (x y :
 
 -- WHAT IS LEFT
 
--- From s to t, with the output from a to b, a drive made at most so many steps by its plan, whatever they answered.
+-- From s to t, with the output from a to b, a drive made at most that many steps by its plan, whatever they answered.
 pub record Runs {D O : Type 0} {g : Ghosts D} (o : Ghosts O) (options : Options)
     (steps left left' : ℕ) (s t : Session D g) (a b : O)
     (result : Result (Option DriveEnd) DriveFault) : Type 0 where

@@ -23,7 +23,7 @@ FindsNothingPending o s =
     (w : Supply) (p : Program) (events : List Event) → Represents p events s
     → plan o w (view_of s) ≡ Ok Checkpointed → s.pending.items ≡ []
 
--- Behind a checkpoint no other one is planned: an event, an end, a commit or a release is, so there are no checkpoints without end. What is
+-- After a checkpoint no other one is planned: an event, an end, a commit or a release is, so there are no checkpoints without end. What is
 -- given is an event with its fields in their ranges.
 abbrev pub NoneIsNext : {D : Type 0} {g : Ghosts D} → Options → Session D g → Type 0
 NoneIsNext o s =

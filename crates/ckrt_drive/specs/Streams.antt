@@ -71,7 +71,7 @@ SyncsNothing old ok new = HandsNothingOn old ok new × (ok ≡ false → HasBrok
 -- A WHOLE RUN OF A DRIVE
 
 -- From a to b a stream handed on these bytes, from an offset up to another, but for those below the offset that it had got to; and where it
--- failed a call, also a beginning of what is behind.
+-- failed a call, also a beginning of what comes after that.
 abbrev pub HandsBetween : {W : Type 0} → (contents : W → Option (List ℕ)) → (from to : ℕ)
     → (out : List ℕ) → (a b : StreamOutput W) → (failed : Bool) → Type 0
 HandsBetween contents from to out a b false =
@@ -88,7 +88,7 @@ pub record StreamsOutput {D W : Type 0} {g : Ghosts D} (contents : W → Option 
   pub hands : g.is_honest t.disk → (p : Program) (events : List Event) → Represents p events s
       → HandsBetween contents s.progress.confirmed t.progress.confirmed
       (acknowledged_output p (events ++ accepted) t) a b failed
-  -- it leaves out as much of what is behind as before
+  -- it leaves out as much of what comes after as before
   pub left_out : failed ≡ false
       → max (got_to b) t.progress.confirmed ≡ max (got_to a) t.progress.confirmed
   -- it has broken where it failed a call

@@ -122,7 +122,7 @@ pub fn idle(tables: &Tables) -> Next
     Next::End(DriveEnd::Deadlock)
 }
 
-/// The turn of a seed, or of none, at a place of a round: behind so many events, among so many harts.
+/// The turn of a seed, or of none, at a place of a round: after that many events, among that many harts.
 fn turn_by(seed: Option<u64>, most: u32, place: u8, behind: u64, harts: u32) -> Turn
     requires some { 1 ≤ most }
     requires place { place ≤ 16 }
@@ -148,7 +148,7 @@ fn turn_by(seed: Option<u64>, most: u32, place: u8, behind: u64, harts: u32) -> 
     }
 }
 
-/// The turn behind so many events.
+/// The turn after that many events.
 fn turn_at(machine: &Machine, options: &Options, behind: u64) -> Turn
     requires { 1 ≤ machine.now.state.tables.threads.hart_count }
     ensures turn { result ≡ turn_at (schedule_of options.now) behind machine.now.state.tables }
@@ -160,7 +160,7 @@ fn turn_at(machine: &Machine, options: &Options, behind: u64) -> Turn
     turn_by(options.seed, options.turn, place as u8, behind, harts)
 }
 
-/// A run of so many steps, by the shortest event that has as many.
+/// A run of that many steps, by the shortest event that has as many.
 pub fn run_by(hart: u8, steps: u32) -> Event
     requires hart { hart ≤ 7 }
     requires some { 1 ≤ steps }
@@ -190,7 +190,7 @@ fn runner_at(machine: &Machine, turn: Turn) -> Option<u8>
     }
 }
 
-/// The event of a busy hart: who is planned for it goes onto it, and where nobody is, its thread runs.
+/// The event of a busy hart: the thread that is planned for it goes onto it, and where nobody is, its thread runs.
 fn of_busy(machine: &Machine, hart: u8, steps: u32) -> Event
     requires hart { hart ≤ 7 }
     requires some { 1 ≤ steps }
@@ -239,7 +239,7 @@ fn next_scheduled(machine: &Machine, options: &Options, behind: u64) -> Next
     Next::Submit(event_at(machine, turn, least))
 }
 
-/// The event that is next behind so many others, or why there is none: what is given, and else what the schedule has.
+/// The event that is next after that many others, or why there is none: what is given, and else what the schedule has.
 fn next_event(machine: &Machine, options: &Options, given: Option<Event>, behind: u64) -> Next
     requires { IfSome given IsInRange }
     ensures next { result ≡ next_event (schedule_of options.now) given behind

@@ -1,3 +1,4 @@
+//! What a step of a drive did, and why a drive is over.
 use ckrt_events::Event;
 use ckrt_machine::Answer;
 

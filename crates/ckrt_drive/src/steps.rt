@@ -253,7 +253,7 @@ fn advance<D: Disk, O: Disk>(
     go_on(session, options, supply)
 }
 
-/// How many events are left behind what the drive did.
+/// How many events are left after what the drive did.
 fn left_after(did: &StepDone, left: u64) -> u64
     ensures { result ≡ left_after did.now left }
 {

@@ -20,7 +20,7 @@ pub struct StreamOutput<'a, W> {
     failures: u64,
 }
 
-/// The ones of these bytes, from the offset `at` on, that lie at or behind `next`.
+/// The ones of these bytes, from the offset `at` on, that lie at or after `next`.
 fn behind(bytes: &[u8], at: usize, next: usize) -> &[u8]
     ensures { result.now ≡ drop (next - at) bytes.now }
 {

@@ -72,7 +72,7 @@ const PUTS_ONCE: [u32; 6] = [
 /// Puts its argument for ever.
 const PUTS_FOR_EVER: [u32; 3] = [0x00200893, 0x00000073, 0xffdff06f];
 
-/// Two threads that put eight letters each, with no lock: in which order hangs on their turns.
+/// Two threads that put eight letters each, with no lock: in which order depends on their turns.
 pub const RACERS: [u32; 26] = [
     0x00001537, // lui x10, 1
     0x03c50513, // addi x10, x10, puts
@@ -110,7 +110,7 @@ pub fn usual(events: u64) -> Options {
     Options::new(65_535, 16, events)
 }
 
-/// A disk of zeros with an image formatted onto it, for so many harts.
+/// A disk of zeros with an image formatted onto it, for that many harts.
 pub fn formatted_for<R: Abort + AllocGlobal>(rt: &R, words: &[u32], harts: u32) -> Vec<u8> {
     let image = image_of(rt, words);
     let mut disk = memory_disk(rt, filled(rt, 0, SIZE));
@@ -137,7 +137,7 @@ pub fn ended<R: Abort, D: Disk, O: Disk>(
     (session, output)
 }
 
-/// The output holds these bytes from its beginning on, and zeros behind them.
+/// The output holds these bytes from its beginning on, and zeros after them.
 pub fn expect_held<R: Abort + AllocGlobal>(rt: &R, output: MemoryDisk, want: &[u8]) {
     let image = output.into_image();
     let count = want.len();
@@ -208,7 +208,7 @@ fn expect_told<R: Abort, D: Disk, O: Disk>(
     );
 }
 
-/// A journal of 4,096 bytes has no room for a full batch behind another one, so a checkpoint follows each commit.
+/// A journal of 4,096 bytes has no room for a full batch after another one, so a checkpoint follows each commit.
 #[test]
 fn an_onlooker_is_told_each_step(rt: HostRuntime) {
     let session = recovered_in_memory(&rt, formatted_for(&rt, &PUTS_ONCE, 1));
@@ -352,7 +352,7 @@ fn output_that_fails(rt: HostRuntime) {
     expect_held(&rt, output, &[0x14]);
 }
 
-/// Takes so many bytes, and no more.
+/// Takes that many bytes, and no more.
 #[derive(Drop)]
 struct Narrow {
     bytes: Vec<u8>,
@@ -375,7 +375,7 @@ impl Write for Narrow {
     }
 }
 
-/// A writer that takes so many bytes.
+/// A writer that takes that many bytes.
 fn narrow_writer<R: AllocGlobal>(rt: &R, takes: usize) -> Narrow {
     let bytes = Vec::new(rt.alloc());
     Narrow { bytes, takes }
@@ -386,7 +386,7 @@ fn drive_to_end<R: Abort, D: Disk + Drop, O: Disk + Drop>(rt: &R, session: Sessi
     let _ended = ended(rt, session, output, usual(u64::MAX), DriveEnd::Ended);
 }
 
-/// The session is driven to its end, and hands these bytes on, which lie at or behind an offset.
+/// The session is driven to its end, and hands these bytes on, which lie at or after an offset.
 fn expect_streamed<R: Abort + AllocGlobal, D: Disk + Drop>(
     rt: &R,
     session: Session<D>,
@@ -422,7 +422,7 @@ fn expect_broken<R: Abort, D: Disk + Drop, O: Disk + Drop>(rt: &R, session: Sess
     expect_eq(rt, drive.session().confirmed(), 0);
 }
 
-/// The writer takes two bytes of five, and then no more; another one gets those behind them.
+/// The writer takes two bytes of five, and then no more; another one gets those after them.
 #[test]
 fn a_stream_that_breaks(rt: HostRuntime) {
     let formatted = formatted_for(&rt, &ROUNDS, 3);
@@ -435,7 +435,7 @@ fn a_stream_that_breaks(rt: HostRuntime) {
     expect_streamed(&rt, again, 2, &[0x12, 0x18, 0x00]);
 }
 
-/// What is left of a disk that stops at a call, behind a drive of small turns with a commit after each round.
+/// What is left of a disk that stops at a call, after a drive of small turns with a commit after each round.
 fn left_by_drive<R: Abort + AllocGlobal, O: Disk + Drop>(
     rt: &R,
     disk: StoppingDisk,
@@ -459,7 +459,7 @@ fn left_by_drive<R: Abort + AllocGlobal, O: Disk + Drop>(
 }
 
 /// A drive onto a stream, over a disk that stops at a call, and then one to the end over what is left, onto a stream that
-/// begins behind what the first one handed on: each byte is handed on once.
+/// begins after what the first one handed on: each byte is handed on once.
 fn expect_streamed_once<R: Abort + AllocGlobal>(rt: &R, formatted: &[u8], at_call: u64) {
     let bytes = formatted.to_vec(rt.alloc()).expect(rt, "memory for bytes");
     let disk = stopping_disk(rt, bytes, at_call, &[0xa5]);

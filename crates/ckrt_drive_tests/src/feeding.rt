@@ -50,7 +50,7 @@ fn offset<R: Abort, D: Disk>(rt: &R, disk: &mut D) -> u64 {
     }
 }
 
-/// What a drive answers, and what it leaves of its disk and of its output. It commits behind each round.
+/// What a drive answers, and what it leaves of its disk and of its output. It commits after each round.
 fn driven<R: Abort + AllocGlobal, D: Disk>(
     rt: &R,
     disk: D,

@@ -39,7 +39,7 @@ struct Left {
     is_stopped: bool,
 }
 
-/// A drive that is stopped, from a formatted disk and an output of zeros, and one behind it, to the end.
+/// A drive that is stopped, from a formatted disk and an output of zeros, and one after it, to the end.
 #[derive(Clone, Copy)]
 struct TwoDrives<'a> {
     formatted: &'a [u8],
@@ -116,7 +116,7 @@ impl TwoDrives<'_> {
         left_by_output(rt, Drive::new(session, output, self.stopped))
     }
 
-    /// The output once the drive behind has come to its end, over what is left.
+    /// The output once the following drive has come to its end, over what is left.
     fn finished<R: Abort + AllocGlobal>(&self, rt: &R, disk: Vec<u8>, output: Vec<u8>) -> Vec<u8> {
         let session = recovered_in_memory(rt, disk);
         let output = memory_disk(rt, output);
@@ -124,12 +124,12 @@ impl TwoDrives<'_> {
         output.into_image()
     }
 
-    /// The output of the drive behind alone, which nothing stopped before.
+    /// The output of the following drive alone, which nothing stopped before.
     fn unbroken<R: Abort + AllocGlobal>(&self, rt: &R) -> Vec<u8> {
         self.finished(rt, copied(rt, self.formatted), filled(rt, 0, OUTPUT_BYTES))
     }
 
-    /// The output is as it is to be behind this stop. Whether the drive came to the stop at all.
+    /// The output is as it is to be after this stop. Whether the drive came to the stop at all.
     fn expect_whole<R: Abort + AllocGlobal>(&self, rt: &R, stop: Stop<'_>, wanted: &[u8]) -> bool {
         let left = match stop.device {
             Device::Disk => self.left_by_disk(rt, stop),
@@ -160,7 +160,7 @@ impl TwoDrives<'_> {
         is_stopped
     }
 
-    /// So it is behind each call of a device. How many calls the drive makes of it.
+    /// It is so after each call of a device. How many calls the drive makes of it.
     fn calls_behind_which_it_is_whole<R: Abort + AllocGlobal>(
         &self,
         rt: &R,
@@ -177,7 +177,7 @@ impl TwoDrives<'_> {
         calls
     }
 
-    /// So it is behind each call of the disk, of which there are so many or more, and of the output, in pairs of a write and a
+    /// It is so after each call of the disk, of which there are that many or more, and of the output, in pairs of a write and a
     /// sync.
     fn expect_whole_behind_each_call<R: Abort + AllocGlobal>(
         &self,
@@ -192,7 +192,7 @@ impl TwoDrives<'_> {
     }
 }
 
-/// These bytes, and zeros behind them.
+/// These bytes, and zeros after them.
 fn padded<R: Abort + AllocGlobal>(rt: &R, bytes: &[u8]) -> Vec<u8> {
     let mut padded = copied(rt, bytes);
     padded

@@ -12,7 +12,7 @@ GiveBeginning =
     (u : Course) (p : Program) (events : List Event) (file : List ℕ) → u.file ≡ Some file
     → IsByPlan u p events → (rest : List ℕ) × (file ≡ input_of events ++ rest)
 
--- the end of input comes only behind all of it
+-- the end of input comes only after all of it
 abbrev pub EndBehindAll : Type 0
 EndBehindAll =
     (u : Course) (p : Program) (front back : List Event) (file : List ℕ) → u.file ≡ Some file

@@ -20,7 +20,7 @@ use Rattle.ckrt_recovery.specs.declared.session.Session.{Session}
 use Rattle.ckrt_drives.specs.Drives.{IsDrive, IsToldByRecord, OneDrive}
 
 -- A run of the program: the disk that it recovered, how it was to go, its input as it began and as it ended, where it had one, the session and
--- the output before and behind it, and what it came to.
+-- the output before and after it, and what it came to.
 pub record ProgramRun {D O : Type 0} (d : Ghosts D) (o : Ghosts O) : Type 0 where
   pub start : D
   pub options : Options

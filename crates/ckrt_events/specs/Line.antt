@@ -52,7 +52,7 @@ place_of args = do
   t ← number_in 1 LAST_THREAD w.1
   Ok (Submit (Place h t))
 
--- the arguments `h n`, with so many steps at most
+-- the arguments `h n`, with that many steps at most
 abbrev pub hart_and_steps_of : ℕ → List (List ℕ) → Result (ℕ × ℕ) LineFault
 hart_and_steps_of most args = do
   w ← two_of args

@@ -1,3 +1,4 @@
+//! The commands of lines, and the faults of lines.
 ghost use Rattle.std.specs.Prelude.{IsTrue, ◌↔◌};
 
 use crate::event::{Event, LAST_HART};

@@ -1,3 +1,4 @@
+//! From a line to its command.
 ghost use Rattle.std.specs.Prelude.{◌≡◌, ◌≤◌, length, IfOk, MatchResult, Ok, Err};
 ghost use Rattle.ckrt_events.specs.Words.{words_of};
 ghost use Rattle.ckrt_events.specs.Bytes.{LAST_HART};
@@ -91,7 +92,7 @@ fn two_words(args: &[u8]) -> Result<(&[u8], &[u8]), LineFault>
     Ok((first, only_word(rest)?))
 }
 
-/// The arguments `h n`: a hart and a number of steps, so many at most.
+/// The arguments `h n`: a hart and a number of steps, that many at most.
 fn hart_and_steps(args: &[u8], most: u32) -> Result<(u8, u32), LineFault>
     ensures value { result ≡ hart_and_steps_of most (words_of args.now) }
     ensures in_range { IfOk result (λ s. (s.0 ≤ LAST_HART) × (1 ≤ s.1) × (s.1 ≤ most)) }

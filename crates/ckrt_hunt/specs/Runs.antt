@@ -31,7 +31,7 @@ on p e x = record {
   state = (step e x.state).state;
 }
 
--- behind some events
+-- after some events
 abbrev pub behind : Plan → List Event → Point → Point
 behind p [] x = x
 behind p (e ∷ es) x = behind p es (on p e x)
@@ -53,7 +53,7 @@ pub record HasCome (p : Plan) (start : State) (events : List Event) (x : Point) 
   pub folded : x.state ≡ (fold events start).state
   pub output : Holds256 hasher (output_of events start)
 
--- A run from this state comes to what is told of it: its events are those of the schedule, up to the one that has none behind it; each is
+-- A run from this state comes to what is told of it: its events are those of the schedule, up to the one that has none after it; each is
 -- accepted at its turn; and the outcome and the digest are those of the plain fold over them.
 pub record ComesTo (p : Plan) (start : State) (told : Told) : Type 0 where
   pub events : List Event

@@ -164,7 +164,7 @@ steps_in (Run h n) = n
 steps_in (RunLong h n) = n
 steps_in _ = 0
 
--- who is on the hart of a run
+-- the thread on the hart of a run
 abbrev pub runner_of : Event → Tables → Option ℕ
 runner_of (Run h n) s = hart_of s h
 runner_of (RunLong h n) s = hart_of s h

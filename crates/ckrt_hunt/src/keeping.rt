@@ -58,7 +58,7 @@ fn submit<D: Disk>(session: &mut Session<D>, event: &Event) -> Result<Answer, Su
     }
 }
 
-/// Hands an event in behind a commit.
+/// Hands an event in after a commit.
 fn submit_saved<D: Disk>(session: &mut Session<D>, event: &Event) -> Result<Answer, KeepFault>
     requires { IsInRange event.now }
     ensures { Takes event.now session.old session.new result }

@@ -68,7 +68,7 @@ fn awaited_by(reason: Reason) -> Awaited
     }
 }
 
-/// The thread goes behind the others, with what it waits for, if it waits.
+/// The thread goes after the others, with what it waits for, if it waits.
 fn push_waiting(waiting: &mut ArrayVec<Waiting, 64>, thread: ThreadId, wait: Option<Wait>)
     requires { length waiting.old.items < 64 }
     ensures items { waiting.new.items ≡ waiting.old.items ++ waiting_by thread wait }

@@ -19,7 +19,7 @@ pub fn write_number<W: Write>(out: &mut W, number: u64) -> Result<()>
     out.write_all(itoa::Buffer::new().format(number).as_bytes())
 }
 
-/// A word, and a number behind it.
+/// A word, and a number after it.
 #[tactic(auto, using(crate::proofs::AppendLemmas::appends_both))]
 pub fn write_counted<W: Write>(out: &mut W, word: &[u8], number: u64) -> Result<()>
     ensures { OnOk result
@@ -41,7 +41,7 @@ fn write_hex<W: Write>(out: &mut W, number: u32) -> Result<()>
     }
 }
 
-/// A word, and an address behind it.
+/// A word, and an address after it.
 #[tactic(auto, using(crate::proofs::AppendLemmas::appends_both))]
 fn write_at<W: Write>(out: &mut W, word: &[u8], address: u32) -> Result<()>
     ensures { OnOk result
@@ -122,7 +122,7 @@ fn write_no_end<W: Write>(out: &mut W, limit: u32) -> Result<()>
     out.write_all(b" steps or events")
 }
 
-/// What a run of at most so many steps and events came to.
+/// What a run of at most that many steps and events came to.
 pub fn write_outcome<W: Write>(out: &mut W, limit: u32, outcome: &Outcome) -> Result<()>
     ensures { OnOk result
         (Appends (W.contents out.old) (W.contents out.new) (outcome_text limit outcome.now)) }

@@ -216,7 +216,7 @@ fn on_or_onto(plan: &Plan, made: &Made, tables: &Tables, thread: ThreadId) -> Ev
     Event::Place(hart as u8, thread)
 }
 
-/// One turn in so many is the clock's.
+/// One turn in that many is the clock's.
 fn clock_period(plan: &Plan) -> u32
     ensures period { result ≡ clock_period plan.now }
     ensures some { 1 ≤ result }
@@ -319,7 +319,7 @@ pub fn next(machine: &Machine, plan: &Plan, made: &Made) -> Next
     or_enough(machine, next)
 }
 
-/// Who is on the hart of a run.
+/// The thread on the hart of a run.
 pub fn runner_of(tables: &Tables, event: &Event) -> Option<ThreadId>
     ensures { result ≡ runner_of event.now tables.now }
 {

@@ -73,11 +73,11 @@ cancellation_text c =
 abbrev pub ending_text : Live → List ℕ
 ending_text l = codes " handlers " ++ decimal (length l.handlers.items) ++ unwinding_text l.cancellation.unwinding
 
--- a thread that hasn't ended: what stands behind its number
+-- a thread that hasn't ended: what stands after its number
 abbrev pub live_text : (blocked : Bool) → Live → List ℕ
 live_text blocked l = standing_text blocked l ++ cancellation_text l.cancellation ++ ending_text l
 
--- what stands behind a thread's number
+-- what stands after a thread's number
 abbrev pub thread_text : (blocked : Bool) → Thread → List ℕ
 thread_text blocked (thread.Ended value) = codes " ended " ++ decimal value
 thread_text blocked (thread.Live l) = live_text blocked l
@@ -162,7 +162,7 @@ all_thread_lines with_code memory s =
 abbrev pub head_lines : ℕ → Tables → List ℕ
 head_lines count t = events_line count ++ clock_line t.clock ++ status_line t.status
 
--- a program after so many events, with the code that each thread is about to run or without it
+-- a program after that many events, with the code that each thread is about to run or without it
 abbrev pub listing_by : (with_code : Bool) (count : ℕ) → State → List ℕ
 listing_by with_code count s =
     head_lines count s.tables

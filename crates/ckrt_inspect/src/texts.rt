@@ -36,7 +36,7 @@ pub fn push_hex(out: &mut Vec<u8>, number: u32) -> Result<(), AllocError>
     }
 }
 
-/// One of two words, behind a space.
+/// One of two words, after a space.
 pub fn push_flag(out: &mut Vec<u8>, yes: &[u8], no: &[u8], is: bool) -> Result<(), AllocError>
     ensures { OnOk result (out.new.items ≡ out.old.items ++ flag_text yes.now no.now is) }
 {
@@ -85,7 +85,7 @@ fn retake_text(retake: RetakeResult) -> &'static [u8]
     }
 }
 
-/// A word, and an address behind it.
+/// A word, and an address after it.
 fn push_at(out: &mut Vec<u8>, word: &[u8], address: u32) -> Result<(), AllocError>
     ensures { OnOk result (out.new.items ≡ out.old.items ++ (word.now ++ hex_text address)) }
 {

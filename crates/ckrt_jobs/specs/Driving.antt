@@ -216,7 +216,7 @@ abbrev pub DrivesInto : {D : Type 0} {d : Ghosts D} → (OpenedOutput D → Type
 DrivesInto Outputs path options it old new result =
     LacksOutput path it old new result ⊎ OpensOutput Outputs path options it old new result
 
--- A stream is lent the job's writer, from its beginning to its end: that holds what the writer held before, and in the end what it holds behind
+-- A stream is lent the job's writer, from its beginning to its end: that holds what the writer held before, and in the end what it holds after
 -- the job. What writers hold goes from a to b.
 pub record IsLent {W : Type 0} (contents : W → Option (List ℕ)) (a b : Option (List ℕ))
     (stream end : StreamOutput W) : Type 0 where
@@ -294,7 +294,7 @@ DrivesOpened {d = d} set start old new result =
 
 -- THE INPUT
 
--- it was driven with the input that it goes with, where it was found
+-- it was driven with the input that that belongs to it, where it was found
 abbrev pub DrivesSupplied : {D W : Type 0} {d : Ghosts D} → Setting d W → (old new : Openings D)
     → Result Driven JobFault → (found : Result (Supplied D) JobFault) → Type 0
 DrivesSupplied set old new result (Ok it) = DrivesOpened set it old new result

@@ -88,7 +88,7 @@ EndsOnImage config known image old new (job.Format format.ImageTooLong) =
 EndsOnImage config known image old new _ = ⊥
 
 module _ {D : Type 0} (d : Ghosts D) (config : Config) (known : Option (List ℕ)) (Fills : D → Type 0) (image disk : List ℕ) (old new : Openings D) where
-  -- its disk was asked for, behind an image that fits, and was made
+  -- its disk was asked for, after an image that fits, and was made
   abbrev pub MakesItsDisk : Result (Unit {0}) JobFault → Type 0
   MakesItsDisk result =
       IsFit config known

@@ -1,4 +1,4 @@
--- What runs of a disk print, one behind another, with a stop between them.
+-- What runs of a disk print, one after another, with a stop between them.
 use Rattle.std.specs.Prelude.{◌≡◌, ◌<◌, ◌+◌, ℕ, List, length, get_or}
 use Rattle.std.specs.List.{AllByRecursion}
 use Rattle.ckrt_disk.specs.Frame.{MayBeLeft}
@@ -31,7 +31,7 @@ pub record PrintsOn {D : Type 0} (d : Ghosts D) (p : Program) (before : List Eve
     (lines : List (ℕ × List ℕ)) (end : D) : Type 0 where
   -- the events that are acknowledged then
   pub acknowledged : List Event
-  -- go on behind those before
+  -- go on after those before
   pub more : IsBeginningOf before acknowledged
   -- each line is of their output
   pub outs : AllByRecursion (StandsIn (output_after p acknowledged)) lines

@@ -19,7 +19,7 @@ use ckrt_words::DriveJob;
 use std::alloc::Global;
 use std::io::{Read, Write};
 
-/// A session, its output and its input behind a drive, and what it came to.
+/// A session, its output and its input after a drive, and what it came to.
 #[derive(Drop)]
 pub(crate) struct Undertaken<D: Disk, O, F> {
     pub(crate) session: Session<D>,
@@ -68,7 +68,7 @@ fn driven_of(
     }
 }
 
-/// Drives a session, with its output in a disk of its own and its input from a feed, of which the program has taken so many
+/// Drives a session, with its output in a disk of its own and its input from a feed, of which the program has taken that many
 /// bytes.
 fn undertake<D: Disk, O: Disk, F: Feed, M: Meter>(
     session: Session<D>,

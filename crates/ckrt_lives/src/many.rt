@@ -1,4 +1,4 @@
-// Lives, one after another.
+//! Lives, one after another.
 ghost use Rattle.std.specs.Prelude.{◌≡◌, ◌↔◌, ◌⊎◌, List, [], ◌∷◌, ◌++◌, ℕ, true, None, replicate, All, Ok, IfOk, IfErr, IsErrOf};
 ghost use Rattle.ckrt_checkpoint.specs.Layout.{is_valid, size_needed};
 ghost use Rattle.ckrt_events.specs.Line.{IsInRangeCommand};

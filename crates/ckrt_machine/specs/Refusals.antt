@@ -20,7 +20,7 @@ run_refusal held h s =
     else if nat_lt HELD_LIMIT (held + RUN_OUTPUT) then Some OutputFull
     else None
 
--- while the program runs and so many bytes of output are held
+-- while the program runs and that many bytes of output are held
 abbrev pub running_refusal : ℕ → Event → Tables → Option Refusal
 running_refusal held (Place h t) s =
     if nat_le s.threads.hart_count h then Some NoSuchHart
@@ -39,6 +39,6 @@ running_refusal held (Tick k) s = if nat_le MOMENT_END (s.clock + k) then Some C
 abbrev pub refusal_in : ℕ → Event → Tables → Option Refusal
 refusal_in held e s = if is_running s.status then running_refusal held e s else Some Ended
 
--- why the event is refused where so many bytes of output are held, if it is
+-- why the event is refused where that many bytes of output are held, if it is
 abbrev pub refusal_of : ℕ → Event → State → Option Refusal
 refusal_of held e s = refusal_in held e s.tables

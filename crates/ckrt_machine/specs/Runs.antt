@@ -70,7 +70,7 @@ stop_after k h s out = stop_of h (after_steps k h s out).state.tables (after_ste
 -- a run of at most n steps of the thread on hart h made m of them
 pub record HasMade (n m h : ℕ) (s : State) (out : List ℕ) (ran : Ran) : Type 0 where
   pub count : ran.left + m ≡ n
-  -- it is where so many steps lead
+  -- it is where that many steps lead
   pub state : ran.state ≡ (after_steps m h s out).state
   pub output : ran.output ≡ (after_steps m h s out).output
   -- nothing ended it after fewer

@@ -11,7 +11,7 @@ use ckrt_events::Event;
 use ckrt_state::HELD_LIMIT;
 use ckrt_thread::MOMENT_END;
 
-/// The first reason to refuse the event where so many bytes of output are held, if there is one.
+/// The first reason to refuse the event where that many bytes of output are held, if there is one.
 pub fn refusal(tables: &Tables, held: usize, event: &Event) -> Option<Refusal>
     ensures { result ≡ refusal_in held event.now tables.now }
 {

@@ -19,7 +19,7 @@ use ckrt_registers::Regs;
 /// How many bytes a run puts at most.
 pub const RUN_OUTPUT: usize = 1_024;
 
-/// A ready thread goes onto a hart. Who was there goes off, and stays ready.
+/// A ready thread goes onto a hart. The thread that was there goes off, and stays ready.
 pub fn place(tables: &mut Tables, hart: u8, thread: u8)
     requires hart { hart < tables.old.threads.hart_count }
     requires ready { is_ready tables.old.threads thread ≡ true }
@@ -55,7 +55,7 @@ fn stop(tables: &Tables, hart: usize, output: &ArrayVec<u8, 1024>) -> Option<Run
     None
 }
 
-/// Who is on the hart, which isn't idle.
+/// The thread on the hart, which isn't idle.
 fn runner(tables: &Tables, hart: usize) -> u8
     requires { IsSome (hart_of tables.now hart) }
     ensures on { hart_of tables.now hart ≡ Some result }

@@ -188,7 +188,7 @@ impl Machine {
         }
     }
 
-    /// Goes on with a run that was cut: so many steps more at most of the thread on the hart, behind the bytes that the run has
+    /// Goes on with a run that was cut: that many steps more at most of the thread on the hart, after the bytes that the run has
     /// put. The result is how many of them are left, and how the run ended. A page whose mark is changed was stored to.
     pub fn go_on(&mut self, hart: u8, limit: u32) -> (u32, RunEnd)
         requires { stop_of hart self.old.state.tables self.old.output ≡ None }
@@ -228,7 +228,7 @@ impl Machine {
     }
 
     /// The thread to put onto the hart next, if there is one: the least ready id on no hart that is
-    /// above the id of who is on the hart (0 if it is idle), else the least such id at all. None
+    /// above the id of the thread on the hart (0 if it is idle), else the least such id at all. None
     /// where the program has ended or the machine has no such hart.
     pub fn planned(&self, hart: u8) -> Option<u8>
         ensures { result ≡ planned hart self.now.state.tables }

@@ -22,7 +22,7 @@ pub fn plan(tables: &Tables, hart: u8) -> Option<u8>
     next_ready(tables, hart)
 }
 
-/// The least ready thread above who is on the hart, else the least.
+/// The least ready thread above the thread on the hart, else the least.
 fn next_ready(tables: &Tables, hart: u8) -> Option<u8>
     ensures { result ≡ next_ready hart tables.now }
 {
@@ -33,7 +33,7 @@ fn next_ready(tables: &Tables, hart: u8) -> Option<u8>
     }
 }
 
-/// Who is on the hart, or 0.
+/// The thread on the hart, or 0.
 fn present(tables: &Tables, hart: u8) -> u8
     ensures present { result ≡ or_zero (hart_of tables.now hart) }
     ensures small { result ≤ 64 }

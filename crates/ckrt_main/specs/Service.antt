@@ -118,12 +118,12 @@ abbrev pub rest_of : {D : Type 0} {g : Ghosts D} → Bool → Session D g → Li
     → Transcript
 rest_of quit s line more f = unless_quit quit f (view_of s) (respond_all (lines (line ++ more)))
 
--- what these bytes get behind a line's first bytes, and then others
+-- what these bytes get after a line's first bytes, and then others
 abbrev pub lines_behind : {D : Type 0} {g : Ghosts D} → Session D g → (line bytes : List ℕ) → List ℕ
     → Fate → Transcript
 lines_behind s line bytes more f = respond_all (lines (line ++ (bytes ++ more))) f (view_of s)
 
--- bytes of input, behind a line's first bytes, whatever bytes follow
+-- bytes of input, after a line's first bytes, whatever bytes follow
 abbrev pub Processed : {D : Type 0} {g : Ghosts D} → Option (List ℕ) → Option (List ℕ)
     → (line bytes : List ℕ) → Session D g → Session D g → List ℕ → Bool → Type 0
 Processed a b line bytes old new rest quit =

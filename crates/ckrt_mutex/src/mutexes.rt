@@ -118,7 +118,7 @@ impl Mutexes {
         self.rows()[place]
     }
 
-    /// A mutex goes behind the others, where a table may have it: its address is above theirs, it isn't free and normal,
+    /// A mutex goes after the others, where a table may have it: its address is above theirs, it isn't free and normal,
     /// its count is one that its kind and its owner allow, and there are fewer than 256. Says whether it did; else nothing
     /// changes.
     pub fn append(&mut self, entry: Entry<Mutex>) -> bool

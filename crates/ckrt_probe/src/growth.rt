@@ -51,7 +51,7 @@ fn report_unformatted(disk: MemoryDisk, fault: FormatFault) -> &'static str {
     }
 }
 
-/// What to say of a recovery behind one that was refused memory: there may be none for it either.
+/// What to say of a recovery after one that was refused memory: there may be none for it either.
 fn report_second_recovery(alloc: Global, disk: MemoryDisk) -> &'static str {
     match recovery_refusal(alloc, disk) {
         None => "recovery: OutOfMemory",

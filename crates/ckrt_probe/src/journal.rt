@@ -64,7 +64,7 @@ fn time_append<D: Disk>(
     Ok(())
 }
 
-/// Appends `count` batches of at most so many bytes to a journal that is the whole file.
+/// Appends `count` batches of at most that many bytes to a journal that is the whole file.
 pub fn time_appends(rt: &HostRuntime, path: &str, bytes: usize, count: u32) -> Result<()> {
     let batch = batch_of(bytes);
     let mut disk = FileDisk::<SystemFile<Brand>>::open(rt, path)?;

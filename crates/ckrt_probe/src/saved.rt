@@ -40,7 +40,7 @@ fn time_both(rt: &HostRuntime, bytes: &[u8], harts: usize, room: &mut [u8]) -> R
     Ok(())
 }
 
-/// Does so `count` times with the saved tables of a file, in version 2, those of a program with so many harts.
+/// Does so `count` times with the saved tables of a file, in version 2, those of a program with that many harts.
 pub fn time_tables(rt: &HostRuntime, path: &str, harts: usize, count: u32) -> Result<()> {
     let bytes = fs::read(rt, path)?;
     let mut room = vec![in rt.alloc(); 0u8; TABLES_ROOM]?;

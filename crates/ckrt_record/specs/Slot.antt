@@ -1,4 +1,4 @@
--- The slots of a drive's record, behind the bytes of the format (this project's own format). Numbers have their lowest byte first.
+-- The slots of a drive's record, after the bytes of the format (this project's own format). Numbers have their lowest byte first.
 use Rattle.std.specs.Prelude.{◌+◌, ◌*◌, ◌^◌, ◌&&◌, ℕ, List, ◌++◌, length, take, drop, nat_eq, nat_lt, if◌then◌else◌, Option, Some, None}
 use Rattle.byteorder.specs.Endian.{little_bytes}
 use Rattle.ckrt_checkpoint.specs.declared.config.Config.{Config}
@@ -37,7 +37,7 @@ slot_in block =
     then Some (record { generation = number_at 8 16 block; count = number_at 8 24 block; taken = number_at 8 32 block })
     else None
 
--- Where the slot of an area lies behind the bytes of the format: each has half of 4,096 bytes, so that no sector has bytes of both.
+-- Where the slot of an area lies after the bytes of the format: each has half of 4,096 bytes, so that no sector has bytes of both.
 abbrev pub slot_offset : (area : ℕ) → ℕ
 slot_offset area = 2048 * area
 

@@ -1,4 +1,4 @@
-// A slot, from its bytes and as bytes. Numbers have their lowest byte first.
+//! A slot, from its bytes and as bytes. Numbers have their lowest byte first.
 ghost use Rattle.std.specs.Prelude.{◌≡◌, ◌<◌, length};
 ghost use Rattle.ckrt_record.specs.Slot.{slot_bytes, slot_in};
 

@@ -73,7 +73,7 @@ impl fmt::Display for Cause {
 pub enum Outcome {
     /// The next step may follow.
     Next,
-    /// ECALL: the pc is behind it, and the caller makes the call.
+    /// ECALL: the pc is after it, and the caller makes the call.
     Call,
     /// Nothing changed, for this cause.
     Fault(Cause),

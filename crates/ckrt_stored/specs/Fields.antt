@@ -25,7 +25,7 @@ fresh_header =
       version = AREA_VERSION;
     }
 
--- the guest's memory before the first event: the image, and zeros behind it
+-- the guest's memory before the first event: the image, and zeros after it
 abbrev pub fresh_memory : Config → List ℕ → List ℕ
 fresh_memory c image = image ++ replicate (memory_size c - length image) 0
 
@@ -36,7 +36,7 @@ pub record HasFreshArea (c : Config) (memory content : List ℕ) : Type 0 where
   pub tables : HasBytes content (tables_at c 0) (fresh_bytes c.pages)
   pub pages : HasBytes content (memory_at c 0) memory
 
--- all that a freshly formatted disk has beside its first gate
+-- all that a freshly formatted disk has besides its first gate
 pub record IsFresh (c : Config) (memory content : List ℕ) : Type 0 where
   pub area : HasFreshArea c memory content
   pub journal : HasBytes content (journal_at c 0) (CLOSED ∷ [])

@@ -11,7 +11,7 @@ use Rattle.ckrt_checkpoint.specs.Layout.{is_valid, memory_size, size_needed, jou
 use Rattle.ckrt_stored.specs.Recovery.{Recovers}
 use Rattle.ckrt_stored.specs.Programs.{RecoversToStart, formatted_program}
 
--- Why a disk of so many bytes isn't formatted with this configuration and this image: the first that applies.
+-- Why a disk of that many bytes isn't formatted with this configuration and this image: the first that applies.
 abbrev pub format_refusal : ℕ → Config → List ℕ → Option FormatFault
 format_refusal size c image =
     if not (is_valid c) then Some BadConfig
@@ -41,15 +41,15 @@ IsFormatting c guest d disk image =
 abbrev pub LeavesFormatting : {D : Type 0} → Config → List ℕ → Ghosts D → (old new : D) → Type 0
 LeavesFormatting c guest d old new = AtAnyMoment d old new (IsFormatting c guest d old)
 
--- where formatting writes: neither in journal 1 nor behind the size that the configuration needs
+-- where formatting writes: neither in journal 1 nor after the size that the configuration needs
 abbrev pub FormatsAt : Config → ℕ → Type 0
 FormatsAt c i = (i < size_needed c) × ¬ IsWithin (journal_at c 1) c.journal i
 
--- and behind the first gate
+-- and after the first gate
 abbrev pub FormatsBehindGate : Config → ℕ → Type 0
 FormatsBehindGate c i = (1 ≤ i) × FormatsAt c i
 
--- the disk failed it
+-- the disk failed a call of it
 abbrev pub is_device : {X : Type 0} → Result X FormatFault → Bool
 is_device (Ok x) = false
 is_device (Err AlreadyFormatted) = false

@@ -25,11 +25,11 @@ IsFramed =
     → IsSameOutside (BelongsTo r.config (1 - r.area)) before image
     → (header_of r.config (1 - r.area) image).is_open ≡ false → Recovers image (Ok r)
 
--- the offsets behind the bytes that the configuration needs
+-- the offsets after the bytes that the configuration needs
 abbrev pub IsSpare : Config → ℕ → Type 0
 IsSpare c i = size_needed c ≤ i
 
--- Spare: the bytes behind those that the configuration needs don't matter.
+-- Spare: the bytes after those that the configuration needs don't matter.
 abbrev pub IsSpareFree : Type 0
 IsSpareFree =
     (before image : List ℕ) (r : Recovered) → Recovers before (Ok r)
@@ -67,7 +67,7 @@ IsSwitched =
 
 -- CHECKPOINTS
 
--- what was recovered, in the other area, of one generation more and the latest version, and no event is journaled behind it
+-- what was recovered, in the other area, of one generation more and the latest version, and no event is journaled after it
 abbrev pub in_other_area : Recovered → Recovered
 in_other_area r =
     record r {

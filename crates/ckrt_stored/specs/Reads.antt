@@ -5,7 +5,7 @@ use Rattle.ckrt_stored.specs.declared.fault.RecoverFault.{RecoverFault}
 use Rattle.ckrt_stored.specs.declared.fault.RecoverFault.TheVariants.{NotFormatted, Version, Damaged, Device, OutOfMemory}
 use Rattle.ckrt_stored.specs.Recovery.{Agrees}
 
--- the disk failed it
+-- the disk failed a call of it
 abbrev pub is_device : {X : Type 0} → Result X RecoverFault → Bool
 is_device (Ok x) = false
 is_device (Err NotFormatted) = false

@@ -10,7 +10,7 @@ use Rattle.ckrt_stored.specs.declared.fault.RecoverFault.TheVariants.{NotFormatt
 abbrev pub MAGIC : ℕ
 MAGIC = 5427762533732862787
 
--- the configuration that a disk of so many bytes may have
+-- the configuration that a disk of that many bytes may have
 abbrev pub config_within : ℕ → Config → Result Config RecoverFault
 config_within size c = if is_valid c && nat_le (size_needed c) size then Ok c else Err Damaged
 

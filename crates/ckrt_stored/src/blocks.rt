@@ -1,4 +1,4 @@
-// The superblock, from its bytes and as bytes.
+//! The superblock, from its bytes and as bytes.
 ghost use Rattle.std.specs.Prelude.{◌≡◌, ◌≢◌, Err, ◌≤◌, length, IfOk, true};
 ghost use Rattle.ckrt_stored.specs.declared.fault.RecoverFault.TheVariants.{Device, OutOfMemory};
 ghost use Rattle.ckrt_checkpoint.specs.Layout.{is_valid, size_needed};
@@ -15,7 +15,7 @@ pub(crate) const SUPERBLOCK_BYTES: usize = 32;
 /// "CKRTDISK".
 const MAGIC: u64 = 0x4b53_4944_5452_4b43;
 
-// The configuration, where it's valid and a disk of so many bytes is large enough for it.
+/// The configuration, where it's valid and a disk of that many bytes is large enough for it.
 fn config_within(size: usize, config: Config) -> Result<Config, RecoverFault>
     ensures exact { Agrees (λ c. c) (λ e. e) result (Is (config_within size config)) }
     ensures no_device { result ≢ Err Device }
@@ -29,7 +29,7 @@ fn config_within(size: usize, config: Config) -> Result<Config, RecoverFault>
     Ok(config)
 }
 
-/// The configuration that a superblock's first 32 bytes have, on a disk of so many bytes.
+/// The configuration that a superblock's first 32 bytes have, on a disk of that many bytes.
 pub(crate) fn superblock(size: usize, block: &[u8]) -> Result<Config, RecoverFault>
     requires { length block.now ≡ 32 }
     ensures exact { Agrees (λ c. c) (λ e. e) result (Is (superblock_in size block.now)) }

@@ -1,3 +1,4 @@
+//! The faults of formatting and of recovery.
 ghost use Rattle.std.specs.Prelude.{◌≡◌};
 
 use ckrt_checkpoint::AreaFault;
@@ -38,7 +39,7 @@ pub enum RecoverFault {
     /// The superblock or the area is of a version that this program doesn't know.
     #[error("Version")]
     Version,
-    /// The disk has an open superblock, and what stands behind it is no state of a program.
+    /// The disk has an open superblock, and what stands after it is no state of a program.
     #[error("Damaged")]
     Damaged,
     /// The disk failed a call.

@@ -1,5 +1,5 @@
-// Formatting a disk. Its first byte is the superblock's gate, which is opened last: until then a stop leaves a disk that
-// isn't formatted.
+//! Formatting a disk. Its first byte is the superblock's gate, which is opened last: until then a stop leaves a disk that
+//! isn't formatted.
 ghost use Rattle.std.specs.Prelude.{◌≡◌, ◌≤◌, ◌+◌, ℕ, true, Some, None, length, is_err, IfOk, IfErr, OnOk};
 ghost use Rattle.ckrt_disk.specs.Frame.{Nowhere, WritesWithin};
 ghost use Rattle.ckrt_stored.specs.declared.fault.FormatFault.TheVariants.{AlreadyFormatted, Device, OutOfMemory};
@@ -31,7 +31,7 @@ impl From<AllocError> for FormatFault {
     }
 }
 
-// Whether a disk of so many bytes can be formatted so.
+/// Whether a disk of that many bytes can be formatted so.
 fn check(size: usize, config: &Config, image: &[u8]) -> Result<(), FormatFault>
     ensures refused { IfErr result
         (λ fault. format_refusal size config.now image.now ≡ Some fault) }
@@ -52,7 +52,7 @@ fn check(size: usize, config: &Config, image: &[u8]) -> Result<(), FormatFault>
     Ok(())
 }
 
-// The guest's memory: the image, and zeros behind it.
+/// The guest's memory: the image, and zeros after it.
 fn guest_memory(alloc: Global, config: &Config, image: &[u8]) -> Result<Vec<u8>, AllocError>
     requires valid { is_valid config.now ≡ true }
     requires image { length image.now ≤ memory_size config.now }
@@ -66,7 +66,7 @@ fn guest_memory(alloc: Global, config: &Config, image: &[u8]) -> Result<Vec<u8>,
     Ok(memory)
 }
 
-// Syncs, and looks whether the first gate is open.
+/// Syncs, and looks whether the first gate is open.
 fn is_formatted<D: Disk>(disk: &mut D) -> Result<bool, DeviceFault>
     requires { 1 ≤ D.size disk.old }
     ensures within { WritesWithin D.Disk Nowhere 1 disk.old disk.new (is_err result) }
@@ -83,7 +83,7 @@ fn is_formatted<D: Disk>(disk: &mut D) -> Result<bool, DeviceFault>
     Ok(gate[0] == OPEN)
 }
 
-// Area 0, open, with this memory and no event.
+/// Area 0, open, with this memory and no event.
 fn write_area<D: Disk>(disk: &mut D, config: &Config, memory: &[u8]) -> Result<(), DeviceFault>
     requires valid { is_valid config.now ≡ true }
     requires memory { length memory.now ≡ memory_size config.now }
@@ -108,7 +108,7 @@ fn write_area<D: Disk>(disk: &mut D, config: &Config, memory: &[u8]) -> Result<(
     write_part(disk, config.memory_at(0), memory)
 }
 
-// No batch in journal 0, area 1 closed, and the superblock's fields.
+/// No batch in journal 0, area 1 closed, and the superblock's fields.
 fn write_blocks<D: Disk>(disk: &mut D, config: &Config) -> Result<(), DeviceFault>
     requires valid { is_valid config.now ≡ true }
     requires room { size_needed config.now ≤ D.size disk.old }
@@ -123,7 +123,7 @@ fn write_blocks<D: Disk>(disk: &mut D, config: &Config) -> Result<(), DeviceFaul
     write_part(disk, FIELDS_AT, superblock.as_slice())
 }
 
-// All that a freshly formatted disk has beside its first gate, durably.
+/// All that a freshly formatted disk has besides its first gate, durably.
 fn write_behind_gate<D: Disk>(
     disk: &mut D,
     config: &Config,
@@ -150,7 +150,7 @@ fn write_behind_gate<D: Disk>(
 /// needs, `OutOfMemory` where there was no memory for a copy of the guest's memory. Then it syncs and reads the first
 /// byte, and answers `AlreadyFormatted` where that is an open gate, without a write. `Device` comes where the disk failed
 /// a call. A stop at any moment leaves what a stop before might have left, a disk that isn't formatted, or one that is; it
-/// touches neither the second journal nor the bytes behind the size that the configuration needs.
+/// touches neither the second journal nor the bytes after the size that the configuration needs.
 pub fn format<D: Disk>(
     alloc: Global,
     disk: &mut D,

@@ -1,4 +1,4 @@
-// The saved tables of a program that hasn't begun.
+//! The saved tables of a program that hasn't begun.
 ghost use Rattle.std.specs.Prelude.{◌≡◌, true};
 ghost use Rattle.ckrt_checkpoint.specs.Layout.{is_valid};
 ghost use Rattle.ckrt_tables.specs.Fresh.{fresh_bytes};

@@ -14,7 +14,7 @@ pub fn unused_area_is_free()
     ensures { IsFramed }
 {}
 
-/// The bytes behind those that the configuration needs don't matter to what an image recovers to.
+/// The bytes after those that the configuration needs don't matter to what an image recovers to.
 pub fn spare_bytes_are_free()
     ensures { IsSpareFree }
 {}

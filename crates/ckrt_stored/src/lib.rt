@@ -1,4 +1,4 @@
-//! The image of a disk: how it is laid out and formatted, and what it recovers to.
+//! What is stored on a disk: how it is laid out and formatted, and what the image of a disk recovers to.
 #![tactic(auto)]
 
 mod blocks;

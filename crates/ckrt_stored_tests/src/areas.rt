@@ -96,7 +96,7 @@ fn saved<R: Abort + AllocGlobal>(rt: &R) -> Vec<u8> {
     image
 }
 
-/// A checkpoint onto the disk with that gate of area 1 makes so many calls, and leaves what the format says.
+/// A checkpoint onto the disk with that gate of area 1 makes that many calls, and leaves what the format says.
 fn expect_saved<R: Abort + AllocGlobal>(rt: &R, gate: u8, calls: u64) {
     let mut disk = stopping_disk(rt, start(rt, gate), 0, &[]);
     let memory = memory(rt, &IMAGE);
@@ -165,7 +165,7 @@ fn expect_opening<R: Abort + AllocGlobal>(rt: &R, before: u8, at_call: u64, fill
     expect_same_but(rt, left.as_slice(), saved(rt).as_slice(), AREA_1, 1);
 }
 
-/// Each stop of a checkpoint of which so many calls come before the filling.
+/// Each stop of a checkpoint of which that many calls come before the filling.
 fn expect_stops<R: Abort + AllocGlobal>(rt: &R, before: u8, closing: u64, fill: &[u8]) {
     for at_call in 0..closing {
         expect_closing(rt, at_call.saturating_add(1), fill);

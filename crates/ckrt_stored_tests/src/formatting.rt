@@ -1,4 +1,4 @@
-// Worked values of a freshly formatted disk, and what is refused.
+//! Worked values of a freshly formatted disk, and what is refused.
 
 use crate::expect::{expect_eq, expect_eq_at, expect_part, filled, memory_disk, stopping_disk};
 use crate::small_disk::{SMALL, expect_format, format_outcome};
@@ -49,7 +49,7 @@ fn a_fresh_disk_has_these_bytes(rt: HostRuntime) {
     }
 }
 
-/// A disk of so many bytes, formatted with an image of so many zeros.
+/// A disk of that many bytes, formatted with an image of that many zeros.
 fn expect_answer<R: Abort + AllocGlobal>(
     rt: &R,
     size: usize,
@@ -91,7 +91,7 @@ fn sizes_are_tested_in_order(rt: HostRuntime) {
     expect_bad(&rt, 1_025, 1, 4_096);
 }
 
-/// The bytes of a disk with an open first gate, and EE behind it.
+/// The bytes of a disk with an open first gate, and EE after it.
 fn used_but_open<R: Abort + AllocGlobal>(rt: &R) -> Vec<u8> {
     let mut bytes = filled(rt, 0xa5, 1);
     bytes.resize(SIZE, 0xee).expect(rt, "memory for a disk");
@@ -115,7 +115,7 @@ fn expect_gate<R: Abort + AllocGlobal>(rt: &R, at_call: u64, fill: &[u8], is_ope
     expect_eq_at(rt, at_call, left.starts_with(&[0xa5]), is_open);
 }
 
-// A stop before the last write leaves the first gate closed; one in it or its sync leaves it as it was filled.
+/// A stop before the last write leaves the first gate closed; one in it or its sync leaves it as it was filled.
 #[test]
 fn the_first_gate_is_opened_last(rt: HostRuntime) {
     for at_call in 1..12u64 {
@@ -142,7 +142,7 @@ fn expect_again<R: Abort + AllocGlobal>(rt: &R, at_call: u64, again: Result<(), 
     expect_eq_at(rt, at_call, answers, (Err(FormatFault::Device), again));
 }
 
-// A failed call is answered Device, and the disk can be formatted afterwards, unless its gate is open already.
+/// A failed call is answered Device, and the disk can be formatted afterwards, unless its gate is open already.
 #[test]
 fn a_disk_that_failed_can_be_formatted(rt: HostRuntime) {
     for at_call in 1..12u64 {

@@ -85,7 +85,7 @@ fn expect_fault<R: Abort + AllocGlobal>(rt: &R, bytes: Vec<u8>, shown: Shown, wa
     expect_eq(rt, writer.len(), 0);
 }
 
-/// The program after so many events, without code.
+/// The program after that many events, without code.
 fn after(count: u64) -> Shown {
     Shown {
         at: Some(count),
@@ -221,7 +221,7 @@ fn each_failing_read_is_answered(rt: HostRuntime) {
     expect_device_faults(&rt, bytes.as_slice(), after(1));
 }
 
-/// Takes one byte a write, and fails where it has so many.
+/// Takes one byte a write, and fails where it has that many.
 #[derive(Drop)]
 struct Narrow {
     bytes: Vec<u8>,

@@ -133,7 +133,7 @@ pub record Fit (s : Tables) : Type 0 where
   pub rwlocks : list_all fits_rwlock s.rwlocks ≡ true
   pub input : list_all is_byte s.input ≡ true
 
--- well-formed tables with so many harts, and the output that the program holds, in a version
+-- well-formed tables with that many harts, and the output that the program holds, in a version
 pub record CanBeSaved (version harts : ℕ) (s : Tables) (held : List ℕ) : Type 0 where
   -- the rules of tables hold
   pub well_formed : IsWellFormed s
@@ -141,7 +141,7 @@ pub record CanBeSaved (version harts : ℕ) (s : Tables) (held : List ℕ) : Typ
   pub fit : Fit s
   -- version 1 has no keys
   pub said : version ≡ 1 → is_without_keys s.threads ≡ true
-  -- there are so many harts
+  -- there are that many harts
   pub hart_count : s.threads.hart_count ≡ harts
   -- it is no more output than a program holds
   pub is_held : IsHeld held

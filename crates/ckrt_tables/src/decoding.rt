@@ -63,7 +63,7 @@ fn read_status(cursor: &mut Cursor<'_>) -> Status
 }
 
 /// Reads tables and held output part by part, each where it stays. Where the bytes are the encoding, in a version, of a state
-/// for so many harts, it is that state; other bytes may give any.
+/// for that many harts, it is that state; other bytes may give any.
 fn read_tables(bytes: &[u8], version: u32, tables: &mut Tables, held: &mut Held)
     requires version { (version ≡ 1) ⊎ (version ≡ 2) }
     requires begun { IsBegun tables.old.threads.hart_count tables.old held.old }
@@ -86,7 +86,7 @@ fn read_tables(bytes: &[u8], version: u32, tables: &mut Tables, held: &mut Held)
     read_held(&mut cursor, held);
 }
 
-/// So many zeros.
+/// That many zeros.
 fn zeros(alloc: Global, size: usize) -> Result<Vec<u8>, AllocError>
     ensures { IfOk result (λ zeros. length zeros.items ≡ size) }
 {
@@ -128,7 +128,7 @@ fn begin(alloc: Global, harts: usize) -> Result<(Tables, Held), AllocError>
 }
 
 /// Whether the bytes are the encoding, in a version, of these tables and this held output, as a state that can be saved and
-/// of so many harts.
+/// of that many harts.
 fn are_encoded(
     alloc: Global,
     version: u32,
@@ -154,7 +154,7 @@ fn are_encoded(
     Ok(is_encoding(tables, held, version, room.as_mut_slice(), bytes))
 }
 
-/// The tables and the held output that the bytes encode in a version, 1 or 2, for a program with so many harts (at most 8);
+/// The tables and the held output that the bytes encode in a version, 1 or 2, for a program with that many harts (at most 8);
 /// `None` where the bytes are the encoding of no state that can be saved. Version 1 is of a program whose keys are off. The ring of output has room for [`HELD_LIMIT`] bytes. All memory that
 /// tables and ring need is taken here; the only error is that it is refused.
 pub fn decode_tables(

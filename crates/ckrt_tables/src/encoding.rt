@@ -108,7 +108,7 @@ fn put_held(out: &mut [u8], at: usize, held: &Held) -> usize
     put_queue(out, at, first, second)
 }
 
-/// All parts, one behind another.
+/// All parts, one after another.
 fn put_parts(out: &mut [u8], tables: &Tables, held: &Held, version: u32) -> usize
     requires few { IsFew tables.now }
     requires held { IsHeld held.now.items }
@@ -158,7 +158,7 @@ pub(crate) fn put_tables(out: &mut [u8], tables: &Tables, held: &Held, version: 
     put_parts(out, tables, held, version)
 }
 
-/// Writes the encoding of tables and held output, in [`AREA_VERSION`], at the front of `out`, and answers how many bytes it has; what is behind
+/// Writes the encoding of tables and held output, in [`AREA_VERSION`], at the front of `out`, and answers how many bytes it has; what is after
 /// it stays. They decode to these tables and this output. `out` must have room for [`TABLES_ROOM`] bytes.
 #[tactic(auto, using(crate::proofs::Bounds::encoding_bound))]
 pub fn encode_tables(tables: &Tables, held: &Held, out: &mut [u8]) -> usize

@@ -51,7 +51,7 @@ impl Row for KeyEntry {
     }
 }
 
-/// So many words, by their keys.
+/// That many words, by their keys.
 fn read_words(cursor: &mut Cursor<'_>, count: u8) -> [Option<u32>; MAX_KEYS]
     ensures { (os : List (Option ℕ)) (rest : List ℕ) → AreWords os
         → count ≡ length (words_from 0 os)

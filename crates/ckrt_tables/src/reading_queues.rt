@@ -9,7 +9,7 @@ use crate::cursor::Cursor;
 use crate::encoding::Held;
 use ckrt_state::{HELD_LIMIT, INPUT_LIMIT, InputQueue};
 
-/// How many bytes there are, and the bytes; none where there are more than so many, or fewer are left.
+/// How many bytes there are, and the bytes; none where there are more than that many, or fewer are left.
 fn read_queue<'a>(cursor: &mut Cursor<'a>, limit: usize) -> &'a [u8]
     requires { limit ≤ HELD_LIMIT }
     ensures found { FindsAll (AreUpTo limit) queue_bytes cursor.old result.now cursor.new }

@@ -38,7 +38,7 @@ pub struct Cancellation {
     pub is_asynchronous: bool,
     /// Whether a request was made on which it has not acted.
     pub is_requested: bool,
-    /// The value that it is to end with, once its handlers have run. Who unwinds is disabled and deferred.
+    /// The value that it is to end with, once its handlers have run. A thread that unwinds is disabled and deferred.
     pub unwinding: Option<u32>,
 }
 
@@ -58,7 +58,7 @@ impl Cancellation {
         }
     }
 
-    /// Whether a thread can be cancelled so: who unwinds is disabled and deferred.
+    /// Whether a thread can be cancelled so: a thread that unwinds is disabled and deferred.
     pub fn is_consistent(&self) -> bool
         ensures { result ≡ is_consistent self.now }
     {

@@ -36,7 +36,7 @@ impl Model for Slots {
     ghost invariant = { λ a. (length a.slots.items ≡ 65) × (65 ≤ vec_capacity a.slots) };
 }
 
-/// So many free slots. The only error is that the memory for them is refused.
+/// That many free slots. The only error is that the memory for them is refused.
 #[tactic(auto, using(crate::proofs::SlotLemmas::one_more))]
 fn free_slots(alloc: Global, count: usize) -> Result<Vec<Option<Thread>>, AllocError>
     ensures items { IfOk result (λ table. table.items ≡ replicate count None) }

@@ -70,7 +70,7 @@ fn is_to_destroy(keys: &Keys, specific: &SpecificData, key: Key) -> bool
     keys.destructor(u32::from(key)).unwrap_or(0) != 0 && specific.value(key) != 0
 }
 
-/// The first such key from one on.
+/// The first such key from a given one on.
 fn first_to_destroy(keys: &Keys, specific: &SpecificData, from: Key) -> Option<Key>
     ensures { result ≡ first_to_destroy keys.now specific.now from }
 {
@@ -174,8 +174,8 @@ impl Threads {
         self.slots.set_value(thread, key, value);
     }
 
-    /// The keys of the program become these, for who builds a table row by row: no call of a program switches keys on or
-    /// off. False, and nothing changes, where a thread has a value under a number that is none of them.
+    /// The keys of the program become these. Public for the crates that build a table row by row, from saved bytes or from
+    /// another table: no call of a program switches keys on or off. False, and nothing changes, where a thread has a value under a number that is none of them.
     pub fn set_keys(&mut self, keys: Keys) -> bool
         ensures exact { result ≡ are_all_of_keys keys self.old }
         ensures set { result ≡ true → self.new ≡ with_keys keys self.old }

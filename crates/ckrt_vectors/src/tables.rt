@@ -6,7 +6,7 @@ use ckrt_tables::{AREA_VERSION, HELD_LIMIT, Held, TABLES_ROOM, decode_tables, en
 use ckrt_thread::MAX_HARTS;
 use std::alloc::Global;
 
-/// So many zeros.
+/// That many zeros.
 fn zeros(alloc: Global, size: usize) -> Result<Vec<u8>> {
     Ok(vec![in alloc; 0u8; size]?)
 }
@@ -30,7 +30,7 @@ fn growth(tables: &Tables) -> usize {
 }
 
 /// Whether tables and output that these bytes of a version decode to are encoded rightly: those of version 2 as the same
-/// bytes, those of version 1 as so many more.
+/// bytes, those of version 1 as that many more.
 fn is_encoded_as(
     tables: &Tables,
     held: &Held,
@@ -46,7 +46,7 @@ fn is_encoded_as(
     }
 }
 
-/// Whether bytes of a version decode, for so many harts, to what is encoded rightly.
+/// Whether bytes of a version decode, for that many harts, to what is encoded rightly.
 fn is_saved(alloc: Global, version: u32, bytes: &[u8], harts: usize) -> Result<bool> {
     ensure!(version == 1 || version == 2, "a version that isn't known");
     ensure!(harts <= MAX_HARTS, "more harts than there may be");
