@@ -15,7 +15,7 @@ use crate::supply::Supply;
 use ckrt_events::{Event, LONG_RUN_LIMIT, RUN_LIMIT};
 use ckrt_machine::Machine;
 use ckrt_state::{Status, Tables};
-use ckrt_thread::{Object, Wait};
+use ckrt_thread::{Hart, Object, Wait};
 
 /// The event that is next, or why there is none.
 #[derive(Clone, Debug, Drop, PartialEq, Eq)]
@@ -45,7 +45,7 @@ pub struct Turn {
 }
 
 /// Whether the hart is one that is sought.
-fn is_sought(machine: &Machine, sought: Sought, hart: u8) -> bool
+fn is_sought(machine: &Machine, sought: Sought, hart: Hart) -> bool
     ensures { result ≡ is_sought sought machine.now.state.tables hart }
 {
     let is_occupied = machine
@@ -60,7 +60,7 @@ fn is_sought(machine: &Machine, sought: Sought, hart: u8) -> bool
 }
 
 /// The first one from a hart on, up to the last hart.
-fn next_sought(machine: &Machine, sought: Sought, from: u8) -> Option<u8>
+fn next_sought(machine: &Machine, sought: Sought, from: Hart) -> Option<Hart>
     requires { from ≤ 8 }
     ensures found { result ≡ next_sought sought from machine.now.state.tables }
     ensures small { IfSome result (λ hart. hart ≤ 7) }
@@ -161,7 +161,7 @@ fn turn_at(machine: &Machine, options: &Options, behind: u64) -> Turn
 }
 
 /// A run of that many steps, by the shortest event that has as many.
-pub fn run_by(hart: u8, steps: u32) -> Event
+pub fn run_by(hart: Hart, steps: u32) -> Event
     requires hart { hart ≤ 7 }
     requires some { 1 ≤ steps }
     requires few { steps ≤ LONG_RUN_LIMIT }
@@ -176,7 +176,7 @@ pub fn run_by(hart: u8, steps: u32) -> Event
 }
 
 /// The hart whose thread runs at a turn.
-fn runner_at(machine: &Machine, turn: Turn) -> Option<u8>
+fn runner_at(machine: &Machine, turn: Turn) -> Option<Hart>
     requires { turn.first ≤ 8 }
     ensures runner { result ≡ runner_at turn machine.now.state.tables }
     ensures small { IfSome result (λ hart. hart ≤ 7) }
@@ -191,7 +191,7 @@ fn runner_at(machine: &Machine, turn: Turn) -> Option<u8>
 }
 
 /// The event of a busy hart: the thread that is planned for it goes onto it, and where nobody is, its thread runs.
-fn of_busy(machine: &Machine, hart: u8, steps: u32) -> Event
+fn of_busy(machine: &Machine, hart: Hart, steps: u32) -> Event
     requires hart { hart ≤ 7 }
     requires some { 1 ≤ steps }
     requires few { steps ≤ LONG_RUN_LIMIT }

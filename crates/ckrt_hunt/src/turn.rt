@@ -16,7 +16,7 @@ use ckrt_drive::{DriveEnd, Next, idle, run_by};
 use ckrt_events::Event;
 use ckrt_machine::Machine;
 use ckrt_state::{Status, Tables};
-use ckrt_thread::{MAX_HARTS, MAX_THREADS, Thread, ThreadId, Threads};
+use ckrt_thread::{Hart, MAX_HARTS, MAX_THREADS, Thread, ThreadId, Threads};
 
 /// A thread with its rank at a turn.
 #[derive(Clone, Copy, Debug, PartialEq, Eq)]
@@ -185,7 +185,7 @@ fn is_on(tables: &Tables, hart: usize, thread: ThreadId) -> bool
 }
 
 /// The hart that the thread is on.
-fn hart_with(tables: &Tables, thread: ThreadId) -> Option<u8>
+fn hart_with(tables: &Tables, thread: ThreadId) -> Option<Hart>
     ensures hart { result ≡ hart_from 0 thread tables.now }
     ensures small { IfSome result (λ hart. hart ≤ 7) }
 {

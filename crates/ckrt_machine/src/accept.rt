@@ -9,7 +9,7 @@ use arrayvec::ArrayVec;
 use ckrt_calls::{INPUT_LIMIT, Tables};
 use ckrt_events::Event;
 use ckrt_state::HELD_LIMIT;
-use ckrt_thread::MOMENT_END;
+use ckrt_thread::{Hart, MOMENT_END, ThreadId};
 
 /// The first reason to refuse the event where that many bytes of output are held, if there is one.
 pub fn refusal(tables: &Tables, held: usize, event: &Event) -> Option<Refusal>
@@ -35,7 +35,7 @@ fn running_refusal(tables: &Tables, held: usize, event: &Event) -> Option<Refusa
     }
 }
 
-fn place_refusal(tables: &Tables, hart: u8, thread: u8) -> Option<Refusal>
+fn place_refusal(tables: &Tables, hart: Hart, thread: ThreadId) -> Option<Refusal>
     ensures { (held : ℕ) → result ≡ running_refusal held (Place hart thread) tables.now }
 {
     if usize::from(hart) >= tables.threads.hart_count() {
@@ -50,7 +50,7 @@ fn place_refusal(tables: &Tables, hart: u8, thread: u8) -> Option<Refusal>
     None
 }
 
-fn run_refusal(tables: &Tables, held: usize, hart: u8) -> Option<Refusal>
+fn run_refusal(tables: &Tables, held: usize, hart: Hart) -> Option<Refusal>
     ensures { result ≡ run_refusal held hart tables.now }
 {
     if usize::from(hart) >= tables.threads.hart_count() {

@@ -20,7 +20,7 @@ use ckrt_mutex::Mutexes;
 use ckrt_rv32i::Cause;
 use ckrt_rwlock::RwLocks;
 use ckrt_state::{HELD_LIMIT, InputQueue, Status, Tables};
-use ckrt_thread::{Keys, Threads};
+use ckrt_thread::{Keys, ThreadId, Threads};
 use std::alloc::{AllocError, Global};
 
 /// The cause that a number of 1 to 9 stands for.
@@ -41,7 +41,7 @@ fn cause_from(number: u8) -> Cause
 }
 
 /// The status of this kind, 0 to 2, with the thread and the cause of a fault, and the exit status or the pc of the fault.
-fn status_from(kind: u8, thread: u8, cause: u8, word: u32) -> Status
+fn status_from(kind: u8, thread: ThreadId, cause: u8, word: u32) -> Status
     ensures { result ≡ status_from kind thread cause word }
 {
     match kind {

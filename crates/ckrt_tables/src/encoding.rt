@@ -17,7 +17,7 @@ use crate::writing::put;
 use byteorder::{ByteOrder, LittleEndian};
 use circular_buffer::HeapCircularBuffer;
 use ckrt_state::{InputQueue, Status, Tables};
-use ckrt_thread::MAX_KEYS;
+use ckrt_thread::{MAX_KEYS, ThreadId};
 
 /// The output that a program holds, first byte first: at most [`crate::HELD_LIMIT`] bytes.
 pub type Held = HeapCircularBuffer<u8>;
@@ -34,7 +34,7 @@ pub const AREA_VERSION: u32 = 2;
 pub const LONGEST_TABLES: usize = 70_820;
 
 /// What a status and its parts are saved as.
-fn framed(kind: u8, thread: u8, cause: u8, word: u32) -> [u8; 7]
+fn framed(kind: u8, thread: ThreadId, cause: u8, word: u32) -> [u8; 7]
     ensures { result ≡ framed kind thread cause word }
 {
     let mut bytes = [kind, thread, cause, 0, 0, 0, 0];

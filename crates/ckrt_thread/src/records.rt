@@ -8,6 +8,9 @@ use ckrt_registers::Regs;
 /// The number of a thread, 1 to 64.
 pub type ThreadId = u8;
 
+/// The number of a hart, from 0 to [`MAX_HARTS`] - 1.
+pub type Hart = u8;
+
 /// How many threads there may be at a time.
 pub const MAX_THREADS: usize = 64;
 
