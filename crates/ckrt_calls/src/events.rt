@@ -1,5 +1,5 @@
 //! What comes from outside: input, its end, and time.
-ghost use Rattle.std.specs.Prelude.{◌≡◌, ◌≤◌, ◌<◌, ◌+◌, ◌^◌, length};
+ghost use Rattle.std.specs.Prelude.{◌≡◌, ◌≤◌, ◌<◌, ◌+◌, length};
 ghost use Rattle.ckrt_thread.specs.Waits.{MOMENT_END};
 ghost use Rattle.ckrt_state.specs.WellFormed.{IsWellFormed};
 ghost use Rattle.ckrt_calls.specs.Table.{END_OF_INPUT, input_taken, input_closed, ticked, feed};

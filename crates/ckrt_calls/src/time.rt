@@ -1,5 +1,5 @@
 //! The clock, and sleeps.
-ghost use Rattle.std.specs.Prelude.{◌≡◌, ◌<◌, ◌^◌, true, false};
+ghost use Rattle.std.specs.Prelude.{◌≡◌, ◌<◌, true, false};
 ghost use Rattle.ckrt_thread.specs.State.{is_live, is_waiting};
 ghost use Rattle.ckrt_thread.specs.Waits.{MOMENT_END};
 ghost use Rattle.ckrt_calls.specs.Table.{clock_row, moment_of, sleep_row};

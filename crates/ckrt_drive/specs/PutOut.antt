@@ -1,6 +1,6 @@
 -- What a drive gives to its output: which bytes, at which offsets, and a sync after each write. What a kind of output says of its writes and
 -- syncs holds of just these calls, in their order.
-use Rattle.std.specs.Prelude.{◌≡◌, ◌⊎◌, ◌+◌, ℕ, Bool, true, false, List, [], ◌∷◌, ◌++◌, length, take, drop, Result, Ok, Err}
+use Rattle.std.specs.Prelude.{◌≡◌, ◌+◌, ℕ, Bool, true, false, List, [], ◌∷◌, ◌++◌, length, take, drop, Result, Ok, Err}
 use Rattle.std.specs.List.{concat}
 use Rattle.ckrt_disk.specs.Synced.{FailsToWriteSynced, WritesSynced}
 use Rattle.ckrt_disk.specs.declared.disk.Disk.{Ghosts}

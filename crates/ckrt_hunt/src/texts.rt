@@ -1,5 +1,5 @@
 //! Words, numbers and what a run came to, onto a writer.
-ghost use Rattle.std.specs.Prelude.{◌≡◌, ◌++◌, codes, decimal, take, length, OnOk};
+ghost use Rattle.std.specs.Prelude.{◌++◌, codes, decimal, take, length, OnOk};
 ghost use Rattle.std.specs.List.{flat_map};
 ghost use Rattle.std.specs.Io.KnownBytes.{Appends};
 ghost use Rattle.hex.specs.Hex.{encode_lower};

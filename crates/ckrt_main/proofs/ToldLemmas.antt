@@ -1,5 +1,5 @@
 -- What the lines of a service tell a reader is true.
-use Rattle.std.proofs.Common.{◌≡◌, ◌<◌, ◌≤◌, ◌+◌, ℕ, Option, List, ◌++◌, length, take, get_or, refl, sym, ◌∙◌, ap, subst, arith, append_assoc, take-take}
+use Rattle.std.proofs.Common.{◌≡◌, ◌<◌, ◌≤◌, ◌+◌, ℕ, Option, List, ◌++◌, length, take, get_or, refl, sym, ◌∙◌, ap, arith, append_assoc}
 use Rattle.std.proofs.lemmas.List.{get_or_append_left, get_or-append-add}
 use Rattle.std.specs.List.{AllByRecursion}
 use Rattle.ckrt_disk.specs.Disk.{IsImage}
@@ -8,7 +8,6 @@ use Rattle.ckrt_events.specs.declared.event.Event.{Event}
 use Rattle.ckrt_stored.specs.Programs.{Program}
 use Rattle.ckrt_recovery.specs.declared.session.Session.{Session}
 use Rattle.ckrt_recovery.specs.Between.{RecoversBetween, StandsIn}
-use Rattle.ckrt_recovery.specs.Lists.{IsBeginningOf}
 use Rattle.ckrt_commands.specs.Replies.{acks_of}
 use Rattle.ckrt_recovery.specs.Represents.{Represents, acknowledged_of}
 use Rattle.ckrt_recovery.specs.View.{view_of}
@@ -17,7 +16,7 @@ use Rattle.ckrt_commands.specs.Accepts.{Accepts}
 use Rattle.ckrt_main.specs.Told.{AcksAreDurable, LinesAgree}
 use Rattle.ckrt_main.specs.Alike.{IsAlike}
 use Rattle.ckrt_commands.proofs.AcceptLemmas.{between_more, since_start}
-use Rattle.ckrt_recovery.proofs.ListLemmas.{begins_itself, fewer_begin, take_begins}
+use Rattle.ckrt_recovery.proofs.ListLemmas.{begins_itself, fewer_begin}
 use Rattle.ckrt_commands.proofs.ReplyLemmas.{all_weaker}
 
 module _ {D : Type 0} {g : Ghosts D} where
