@@ -98,7 +98,7 @@ fn hart_and_steps(args: &[u8], most: u32) -> Result<(u8, u32), LineFault>
     ensures in_range { IfOk result (λ s. (s.0 ≤ LAST_HART) × (1 ≤ s.1) × (s.1 ≤ most)) }
 {
     let (hart, steps) = two_words(args)?;
-    let hart = number(hart, 0, u32::from(LAST_HART))? as u8;
+    let hart = number(hart, 0, LAST_HART as u32)? as u8;
     let steps = number(steps, 1, most)?;
     Ok((hart, steps))
 }
@@ -108,8 +108,8 @@ fn place(args: &[u8]) -> Result<Command, LineFault>
     ensures in_range { IfOk result IsInRangeCommand }
 {
     let (hart, thread) = two_words(args)?;
-    let hart = number(hart, 0, u32::from(LAST_HART))? as u8;
-    let thread = number(thread, 1, u32::from(LAST_THREAD))? as u8;
+    let hart = number(hart, 0, LAST_HART as u32)? as u8;
+    let thread = number(thread, 1, LAST_THREAD as u32)? as u8;
     Ok(Command::Submit(Event::Place(hart, thread)))
 }
 

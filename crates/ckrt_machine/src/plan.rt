@@ -7,9 +7,6 @@ use crate::hart::is_running;
 use ckrt_calls::Tables;
 use ckrt_thread::{Hart, MAX_THREADS, ThreadId, Threads};
 
-/// How many threads there may be, with ids from 1.
-const THREADS: ThreadId = MAX_THREADS as ThreadId;
-
 /// The thread to put onto the hart next: the least ready one that is on no hart and above the
 /// hart's own, else the least at all. None where nobody is ready, where the program has ended, and
 /// where there is no such hart.
@@ -52,7 +49,7 @@ fn ready(threads: &Threads, from: ThreadId) -> Option<ThreadId>
     requires { from ≤ 65 }
     ensures { result ≡ least_ready from threads.now }
 {
-    for thread in from..THREADS + 1 {
+    for thread in from..MAX_THREADS as ThreadId + 1 {
         if threads.is_ready(thread) {
             return Some(thread);
         }
