@@ -22,7 +22,7 @@ pub record Feeds {D : Type 0} {g : Ghosts D} (accepted : List Event)
       → RepresentsFed p events old → taken ≡ taken_by events
       → LeavesOnly g.moment g.left_since old.disk new.disk (RecoversFedEither p events old)
 
--- so it is where checkpoints record what was taken
+-- this holds where checkpoints record what was taken
 abbrev pub FeedsIfRecorded : {D : Type 0} {g : Ghosts D} → (accepted : List Event)
     → (old new : Session D g) → (recorded : Option ℕ) → Type 0
 FeedsIfRecorded accepted old new recorded = IfSome recorded (Feeds accepted old new)

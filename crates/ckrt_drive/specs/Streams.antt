@@ -32,7 +32,7 @@ got_to stream = stream.next
 abbrev pub news_of : {W : Type 0} → StreamOutput W → (at : ℕ) → List ℕ → List ℕ
 news_of stream at bytes = drop (got_to stream - at) bytes
 
--- its calls failed from some one on
+-- its calls failed from some call on
 abbrev pub HasBroken : {W : Type 0} → StreamOutput W → Type 0
 HasBroken stream = 0 < stream.failures
 

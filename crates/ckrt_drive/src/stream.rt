@@ -11,7 +11,7 @@ const STREAM_SIZE: usize = i64::MAX as usize;
 
 /// An output that hands its bytes on to a writer, each once and in their order, and keeps none: those below the offset that
 /// it has got to are left out. Once its writer has failed it hands nothing more on. It isn't honest: nobody can read it, and
-/// what a stop leaves of its bytes is for who gets them.
+/// what a stop leaves of its bytes is for whoever gets them.
 #[derive(Drop)]
 pub struct StreamOutput<'a, W> {
     writer: &'a mut W,

@@ -294,7 +294,7 @@ DrivesOpened {d = d} set start old new result =
 
 -- THE INPUT
 
--- it was driven with the input that that belongs to it, where it was found
+-- it was driven with its input, where that was found
 abbrev pub DrivesSupplied : {D W : Type 0} {d : Ghosts D} → Setting d W → (old new : Openings D)
     → Result Driven JobFault → (found : Result (Supplied D) JobFault) → Type 0
 DrivesSupplied set old new result (Ok it) = DrivesOpened set it old new result
