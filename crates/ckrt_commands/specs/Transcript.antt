@@ -15,7 +15,7 @@ use Rattle.ckrt_recovery.specs.Calls.{checkpoint_refusal}
 use Rattle.ckrt_recovery.specs.View.{View, refusal_of, after_event, committed, checkpointed, released_output, confirmed_to}
 use Rattle.ckrt_commands.specs.Replies.{Reply, Accepted, Acknowledged, NotAccepted, NotSaved, NotUnderstood, text_of, outputs}
 
--- Which of the commits and checkpoints that have work for the disk the device fails: none, or the one that that many come before.
+-- Which of the commits and checkpoints that have work for the disk the device fails: none, or the one after that many others.
 abbrev pub Fate : Type 0
 Fate = Option ℕ
 
