@@ -17,7 +17,7 @@ const ALL: &[u8] = b"0+0 place 0 1\n2+0 thread 1 putc(65) = 0\n2+3 thread 1 exit
 
 const RANGE: Result<(), InspectFault> = Err(InspectFault::Range);
 
-/// Without a checkpoint, and with one after the first event.
+/// Without a checkpoint, and with one behind the first event.
 const WHOLE: Row = (&[], &[2, 4]);
 
 const SAVED: Row = (&[1], &[2, 4]);

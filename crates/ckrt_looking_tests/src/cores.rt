@@ -11,7 +11,7 @@ const NOTES_HEADER: usize = 52;
 
 const MEMORY_HEADER: usize = 84;
 
-/// Where the notes begin, and what is after one or two of them.
+/// Where the notes begin, and what is behind one or two of them.
 const NOTES: usize = 116;
 
 const BEHIND_ONE: usize = 340;
@@ -123,7 +123,7 @@ fn who_faulted_comes_first(rt: HostRuntime) {
     expect_zeros(&rt, core.as_slice(), BEHIND_TWO + 48);
 }
 
-/// Takes that many bytes more, and then fails.
+/// Takes so many bytes more, and then fails.
 #[derive(Drop)]
 struct Narrow {
     room: usize,

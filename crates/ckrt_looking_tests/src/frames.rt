@@ -25,7 +25,7 @@ fn a_frame_begins_anywhere(rt: HostRuntime) {
     expect_arrivals(&rt, b"g#67$g#67", &[Arrival::Packet]);
 }
 
-/// A payload of that many zeros, its end, and a packet.
+/// A payload of so many zeros, its end, and a packet.
 fn expect_after_zeros<R: Abort>(rt: &R, count: usize, want: Option<Arrival>) {
     let mut receiver = Receiver::new();
     let _ = receiver.receive(b'$');

@@ -30,7 +30,7 @@ fn hunt_of<R: Abort + AllocGlobal>(rt: &R, words: &[u32]) -> Hunt {
     }
 }
 
-/// What that many seeds of a program come to, from seed 0 on.
+/// What so many seeds of a program come to, from seed 0 on.
 pub fn tally_of<R: Abort + AllocGlobal>(rt: &R, words: &[u32], seeds: u64) -> Tally {
     match Tally::new(rt.alloc()) {
         Ok(tally) => {

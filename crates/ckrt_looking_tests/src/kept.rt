@@ -28,13 +28,13 @@ fn session_of<R: Abort + AllocGlobal, D: Disk>(rt: &R, disk: D) -> Session<D> {
     }
 }
 
-/// A disk in memory of that many bytes, all zero.
+/// A disk in memory of so many bytes, all zero.
 fn disk_of<R: Abort + AllocGlobal>(rt: &R, size: usize) -> MemoryDisk {
     let bytes = vec![in rt.alloc(); 0; size].expect(rt, "memory for bytes");
     MemoryDisk::new(rt.alloc(), bytes).expect(rt, "memory for a disk")
 }
 
-/// Keeps a seed of a program on a disk of that many bytes.
+/// Keeps a seed of a program on a disk of so many bytes.
 fn keep_on<R: Abort + AllocGlobal>(
     rt: &R,
     words: &[u32],

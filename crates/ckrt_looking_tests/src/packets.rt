@@ -52,7 +52,7 @@ pub fn expect_reply<R: Abort>(rt: &R, reply: Reply<'_>, line: &[u8]) {
     expect_eq(rt, frame.as_slice(), line);
 }
 
-/// How many bytes the frame of that many bytes of memory has, where a packet has room for it.
+/// How many bytes the frame of so many bytes of memory has, where a packet has room for it.
 pub fn frame_size(bytes: &[u8]) -> Result<usize, Full> {
     let mut payload = Payload::new();
     let mut frame = ArrayVec::new();

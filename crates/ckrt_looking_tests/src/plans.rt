@@ -15,7 +15,7 @@ fn add<R: Abort>(rt: &R, machine: &mut Machine, events: &mut Vec<Event>, event: 
     assert!(rt; events.push(event).is_ok(), "memory for events");
 }
 
-/// A schedule: the threads in turn on two harts, each for that many steps, and a tick after each turn.
+/// A schedule: the threads in turn on two harts, each for so many steps, and a tick behind each turn.
 pub fn plan<R: Abort + AllocGlobal>(rt: &R, words: &[u32], steps: u32) -> Vec<Event> {
     let mut machine = machine_of(rt, words);
     let mut events = Vec::new(rt.alloc());
@@ -30,7 +30,7 @@ pub fn plan<R: Abort + AllocGlobal>(rt: &R, words: &[u32], steps: u32) -> Vec<Ev
     events
 }
 
-/// The history of a guest by its schedule, with that many states kept.
+/// The history of a guest by its schedule, with so many states kept.
 pub fn history_of<R: Abort + AllocGlobal>(rt: &R, words: &[u32], steps: u32, kept: u32) -> History {
     assert!(rt; kept >= 1);
     match History::new(

@@ -21,7 +21,7 @@ const FIRST_AREA: usize = 4_096;
 
 const JOURNAL: usize = 339_968;
 
-/// After which events a checkpoint is made, and the steps of the runs. The first event places thread 1, each other one is a run.
+/// Behind which events a checkpoint is made, and the steps of the runs. The first event places thread 1, each other one is a run.
 pub type Row = (&'static [usize], &'static [u16]);
 
 const ROWS: [Row; 7] = [
@@ -113,7 +113,7 @@ fn machine_behind<R: Abort + AllocGlobal>(rt: &R, runs: &[u16], count: usize) ->
     machine
 }
 
-/// The events of a row after its last checkpoint are recorded, and the machine after those before.
+/// The events of a row behind its last checkpoint are recorded, and the machine behind those before.
 fn expect_recorded<R: Abort + AllocGlobal>(rt: &R, row: &Row, recording: &Recording) {
     let first = match row.0.last() {
         Some(count) => *count,

@@ -67,7 +67,7 @@ fn look<R: Abort + AllocGlobal>(
     panic!(rt; "a history without an end")
 }
 
-/// The least stop after a place and up to the other, if there is one.
+/// The least stop behind a place and up to the other, if there is one.
 fn least(all: &[(Position, bool)], from: usize, last: usize) -> Option<Position> {
     for at in from.saturating_add(1)..last.saturating_add(1) {
         if let Some((position, true)) = all.get(at) {

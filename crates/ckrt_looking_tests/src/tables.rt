@@ -231,7 +231,7 @@ fn hunt_is_told(rt: HostRuntime) {
     expect_eq(&rt, writer.as_slice(), ONE_OUTCOME);
 }
 
-/// Why a hunt of that many zero bytes isn't told.
+/// Why a hunt of so many zero bytes isn't told.
 fn fault_of<R: Abort + AllocGlobal>(rt: &R, size: usize) -> Option<HuntFault> {
     let image = vec![in rt.alloc(); 0; size].expect(rt, "memory for an image");
     let mut writer = Vec::new(rt.alloc());
