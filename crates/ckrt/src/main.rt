@@ -22,7 +22,7 @@ fn run<'a>(rt: &'a HostRuntime, words: &'a [&'a str], why: &'a Cell<OutputReason
     )
 }
 
-/// The job of the arguments behind the program's name.
+/// The job of the arguments after the program's name.
 fn run_arguments(rt: &HostRuntime) -> io::Result<u8> {
     let arguments: Vec<String> = env::args(rt)?.collect(rt.alloc())?;
     let words: Vec<&str> = arguments

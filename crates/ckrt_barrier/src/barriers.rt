@@ -98,7 +98,7 @@ impl Barriers {
         self.rows()[place]
     }
 
-    /// A barrier goes behind the others, where a table may have it: its address is above theirs, its count is at least 1,
+    /// A barrier goes after the others, where a table may have it: its address is above theirs, its count is at least 1,
     /// and there are fewer than [`MAX_BARRIERS`]. Says whether it did; else nothing changes.
     pub fn append(&mut self, entry: Entry<Barrier>) -> bool
         ensures { Appends IsTable entry self.old self.new result }
@@ -138,7 +138,7 @@ impl Barriers {
         self.table.is_full() && !self.exists(address)
     }
 
-    /// Initialises a barrier at which so many threads meet (POSIX.1-2017, pthread_barrier_init). EBUSY where threads wait
+    /// Initialises a barrier at which that many threads meet (POSIX.1-2017, pthread_barrier_init). EBUSY where threads wait
     /// at it; EINVAL where the count is 0; EAGAIN where there is none and there are 64 others; else 0.
     pub fn init(&mut self, threads: &Threads, address: u32, count: u32) -> CallResult
         requires well_formed { IsWellFormedWith threads.now self.old }

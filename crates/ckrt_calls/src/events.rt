@@ -1,5 +1,6 @@
 //! What comes from outside: input, its end, and time.
-ghost use Rattle.std.specs.Prelude.{◌≡◌, ◌≤◌, ◌<◌, ◌+◌, ◌^◌, length};
+ghost use Rattle.std.specs.Prelude.{◌≡◌, ◌≤◌, ◌<◌, ◌+◌, length};
+ghost use Rattle.ckrt_thread.specs.Waits.{MOMENT_END};
 ghost use Rattle.ckrt_state.specs.WellFormed.{IsWellFormed};
 ghost use Rattle.ckrt_calls.specs.Table.{END_OF_INPUT, input_taken, input_closed, ticked, feed};
 
@@ -48,7 +49,7 @@ pub fn close_input(tables: &mut Tables)
 /// Some ticks pass, up to a moment below 2^63. Each wait whose deadline comes ends, in order of deadline and then of
 /// thread; answers how many.
 pub fn tick(tables: &mut Tables, ticks: u32) -> u32
-    requires clock { tables.old.clock + ticks < 2 ^ 63 }
+    requires clock { tables.old.clock + ticks < MOMENT_END }
     requires well_formed { IsWellFormed tables.old }
     ensures well_formed { IsWellFormed tables.new }
     ensures tables { tables.new ≡ (ticked ticks tables.old).tables }

@@ -82,7 +82,7 @@ pub enum ConditionCall {
 /// The calls on barriers.
 #[derive(Clone, Copy, Debug, PartialEq, Eq)]
 pub enum BarrierCall {
-    /// 40 (barrier, count): so many threads are to meet at a barrier.
+    /// 40 (barrier, count): that many threads are to meet at a barrier.
     Init,
     /// 41 (barrier): a barrier is destroyed.
     Destroy,

@@ -1,6 +1,7 @@
 //! The clock, and sleeps.
-ghost use Rattle.std.specs.Prelude.{◌≡◌, ◌<◌, ◌^◌, true, false};
+ghost use Rattle.std.specs.Prelude.{◌≡◌, ◌<◌, true, false};
 ghost use Rattle.ckrt_thread.specs.State.{is_live, is_waiting};
+ghost use Rattle.ckrt_thread.specs.Waits.{MOMENT_END};
 ghost use Rattle.ckrt_calls.specs.Table.{clock_row, moment_of, sleep_row};
 
 use ckrt_state::Tables;
@@ -16,7 +17,7 @@ pub fn moment_of(low: u32, high: u32) -> u64
 /// The clock's low word is the result, and its high word goes to x11.
 pub fn clock(tables: &mut Tables, thread: ThreadId) -> CallResult
     requires live { is_live tables.old.threads thread ≡ true }
-    requires clock { tables.old.clock < 2 ^ 63 }
+    requires clock { tables.old.clock < MOMENT_END }
     ensures result { result ≡ (clock_row thread tables.old).result }
     ensures tables { tables.new ≡ (clock_row thread tables.old).tables }
 {

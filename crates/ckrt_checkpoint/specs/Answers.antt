@@ -4,7 +4,7 @@ use Rattle.ckrt_disk.specs.declared.disk.Disk.{Ghosts}
 use Rattle.ckrt_checkpoint.specs.declared.fault.AreaFault.{AreaFault}
 use Rattle.ckrt_checkpoint.specs.declared.fault.AreaFault.TheVariants.{Device, Damaged, GenerationsUsed, OutOfMemory, Version}
 
--- the disk failed it
+-- the disk failed a call of it
 abbrev pub is_device : {X : Type 0} → Result X AreaFault → Bool
 is_device (Ok x) = false
 is_device (Err Device) = true

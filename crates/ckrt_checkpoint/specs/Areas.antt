@@ -1,16 +1,16 @@
 -- Which of the two areas is in use (this project's own format).
-use Rattle.std.specs.Prelude.{◌≡◌, ◌⊎◌, ◌≤◌, ◌<◌, ◌^◌, ◌||◌, ◌&&◌, not, ℕ, Bool, List, nat_lt, nat_le, nat_eq, if◌then◌else◌, Result, Ok, Err}
+use Rattle.std.specs.Prelude.{◌≡◌, ◌⊎◌, ◌≤◌, ◌<◌, ◌||◌, ◌&&◌, not, ℕ, Bool, List, nat_lt, nat_le, nat_eq, if◌then◌else◌, Result, Ok, Err}
 use Rattle.ckrt_tables.specs.Encoding.{TABLES_ROOM}
 use Rattle.ckrt_checkpoint.specs.declared.config.Config.{Config}
 use Rattle.ckrt_checkpoint.specs.declared.fault.AreaFault.{AreaFault}
 use Rattle.ckrt_checkpoint.specs.declared.fault.AreaFault.TheVariants.{Version, Damaged}
 use Rattle.ckrt_checkpoint.specs.declared.header.Header.{Header}
 use Rattle.ckrt_checkpoint.specs.declared.area.Area.{Area}
-use Rattle.ckrt_checkpoint.specs.Layout.{header_of}
+use Rattle.ckrt_checkpoint.specs.Layout.{COUNT_LIMIT, header_of}
 
 -- the fields are in range: a state of fewer than 2^62 events and bytes of output
 abbrev pub is_in_range : Header → Bool
-is_in_range h = nat_lt h.count (2 ^ 62) && (nat_lt h.offset (2 ^ 62) && nat_le h.tables TABLES_ROOM)
+is_in_range h = nat_lt h.count COUNT_LIMIT && (nat_lt h.offset COUNT_LIMIT && nat_le h.tables TABLES_ROOM)
 
 -- the versions of tables that there are
 abbrev pub is_known_version : ℕ → Bool
@@ -40,6 +40,6 @@ area_of c image = newest_area (header_of c 0 image) (header_of c 1 image)
 pub record IsPicked (area : Area) : Type 0 where
   pub index : area.index ≤ 1
   pub version : (area.header.version ≡ 1) ⊎ (area.header.version ≡ 2)
-  pub count : area.header.count < 2 ^ 62
-  pub offset : area.header.offset < 2 ^ 62
+  pub count : area.header.count < COUNT_LIMIT
+  pub offset : area.header.offset < COUNT_LIMIT
   pub tables : area.header.tables ≤ TABLES_ROOM

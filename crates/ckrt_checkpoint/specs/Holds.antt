@@ -1,13 +1,13 @@
 -- What an area holds, page by page.
 use Rattle.std.specs.Prelude.{◌≡◌, ◌≤◌, ◌<◌, ◌+◌, ◌*◌, ℕ, false, List, [], ◌∷◌, take, drop, Result, IfOk}
 use Rattle.ckrt_disk.specs.declared.disk.Disk.{Ghosts}
-use Rattle.ckrt_journal.specs.Chain.{OPEN}
+use Rattle.ckrt_journal.specs.Chain.{CLOSED, OPEN}
 use Rattle.ckrt_memory.specs.Marks.{Memory, is_dirty}
 use Rattle.ckrt_memory.specs.Pages.{page_of}
 use Rattle.ckrt_checkpoint.specs.declared.config.Config.{Config}
 use Rattle.ckrt_checkpoint.specs.declared.header.Header.{Header}
 use Rattle.ckrt_checkpoint.specs.Fields.{HasBytes, header_fields}
-use Rattle.ckrt_checkpoint.specs.Layout.{CLOSED, area_at, tables_at, journal_at}
+use Rattle.ckrt_checkpoint.specs.Layout.{area_at, tables_at, journal_at}
 
 -- the place of page p in an area, from 1 on
 abbrev pub slot_at : Config → ℕ → ℕ → ℕ
@@ -22,7 +22,7 @@ abbrev pub AllPagesStand : Config → (area : ℕ) → (memory image : List ℕ)
 AllPagesStand c area memory image =
     (p : ℕ) → 1 ≤ p → p < c.pages → slot c area p image ≡ page_of memory p
 
--- A state stands behind an area's gate: the fields of its header, the bytes of its tables, and each page of its memory in its slot.
+-- A state stands after an area's gate: the fields of its header, the bytes of its tables, and each page of its memory in its slot.
 pub record HasState (c : Config) (area : ℕ) (h : Header) (tables memory image : List ℕ)
     : Type 0 where
   pub fields : HasBytes image (area_at c area + 8) (header_fields h)
@@ -38,7 +38,7 @@ IsInSlot c area p memory image =
 abbrev pub CleanPagesStand : Config → (area : ℕ) → Memory → (image : List ℕ) → Type 0
 CleanPagesStand c area memory image = (p : ℕ) → 1 ≤ p → p < c.pages → IsInSlot c area p memory image
 
--- so for both areas
+-- the same for both areas
 abbrev pub BothStand : Config → Memory → (image : List ℕ) → Type 0
 BothStand c memory image = (area : ℕ) → area ≤ 1 → CleanPagesStand c area memory image
 
@@ -52,7 +52,7 @@ abbrev pub GivesPagesThatStand : {D X E : Type 0} → Ghosts D → Config → (o
     → Result X E → Type 0
 GivesPagesThatStand d c old new memory result = d.is_honest new → IfOk result (λ x. BothStand c (memory x) (d.content old))
 
--- An area holds a state whole: it stands behind its gate, and the gate is open.
+-- An area holds a state whole: it stands after its gate, and the gate is open.
 pub record HoldsArea (c : Config) (area : ℕ) (h : Header) (tables memory image : List ℕ)
     : Type 0 where
   pub gate : HasBytes image (area_at c area) (OPEN ∷ [])

@@ -1,5 +1,5 @@
 -- Where things lie on a disk, and the fields of an area's header (this project's own format). Numbers have their lowest byte first.
-use Rattle.std.specs.Prelude.{◌+◌, ◌-◌, ◌*◌, ◌%◌, ◌&&◌, ◌==◌, ℕ, Bool, List, take, drop, slice_index, nat_le, nat_eq}
+use Rattle.std.specs.Prelude.{◌+◌, ◌-◌, ◌*◌, ◌%◌, ◌&&◌, ◌==◌, ℕ, Bool, List, take, drop, slice_index, nat_le, nat_eq, ◌^◌}
 use Rattle.byteorder.specs.Endian.{little_number}
 use Rattle.ckrt_journal.specs.Chain.{OPEN}
 use Rattle.ckrt_journal.specs.declared.journal.Journal.{Journal}
@@ -37,7 +37,7 @@ area_at c area = 4096 + area * area_size c
 abbrev pub tables_at : Config → ℕ → ℕ
 tables_at c area = area_at c area + 4096
 
--- the guest's memory from page 1 on: page p of an area lies 102,400 + 4096·p behind its beginning
+-- the guest's memory from page 1 on: page p of an area lies 102,400 + 4096·p after its beginning
 abbrev pub memory_at : Config → ℕ → ℕ
 memory_at c area = area_at c area + 106496
 
@@ -56,9 +56,9 @@ journal_of c area version =
 unfoldable pub number_at : (n at : ℕ) → List ℕ → ℕ
 number_at n at bytes = little_number n (take n (drop at bytes))
 
--- the byte that a gate is closed with
-abbrev pub CLOSED : ℕ
-CLOSED = 0
+-- the counts of events and of output bytes stay below this
+abbrev pub COUNT_LIMIT : ℕ
+COUNT_LIMIT = 2 ^ 62
 
 -- a gate is open exactly where it is the byte A5
 abbrev pub is_open : List ℕ → Bool

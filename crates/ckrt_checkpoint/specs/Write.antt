@@ -4,7 +4,7 @@ use Rattle.ckrt_disk.specs.Disk.{IsWithin}
 use Rattle.ckrt_disk.specs.Frame.{AtAnyMoment, IsSameOutside, WritesWithin}
 use Rattle.ckrt_disk.specs.declared.disk.Disk.{Ghosts}
 use Rattle.ckrt_memory.specs.Marks.{Memory, is_dirty}
-use Rattle.ckrt_tables.specs.Encoding.{VERSION}
+use Rattle.ckrt_tables.specs.Encoding.{AREA_VERSION}
 use Rattle.ckrt_checkpoint.specs.declared.config.Config.{Config}
 use Rattle.ckrt_checkpoint.specs.declared.fault.AreaFault.{AreaFault}
 use Rattle.ckrt_checkpoint.specs.declared.fault.AreaFault.TheVariants.{Device, GenerationsUsed}
@@ -28,7 +28,7 @@ next_header point tables = record {
   count = point.count;
   offset = point.offset;
   tables = length tables;
-  version = VERSION;
+  version = AREA_VERSION;
 }
 
 -- WHERE IT WRITES: in the area, and the first byte of its journal
@@ -111,7 +111,7 @@ dirty_pages c area m = dirty_count area (c.pages - 1) m
 abbrev pub PagesAt : Config → ℕ → ℕ → Type 0
 PagesAt c area = IsWithin (memory_at c area) (memory_size c)
 
--- what stands behind the gate when it is opened
+-- what stands after the gate when it is opened
 pub record IsFilled (c : Config) (area : ℕ) (h : Header) (tables memory content : List ℕ)
     : Type 0 where
   pub state : HasState c area h tables memory content
@@ -130,7 +130,7 @@ pub record IsAreaWrite {D X : Type 0} (d : Ghosts D) (c : Config) (area : ℕ) (
     (old new : D) (result : Result X AreaFault) : Type 0 where
   -- whether the gate of the area was open
   pub was_open : Bool
-  -- which is what it read as
+  -- which is what the read gave
   pub read : d.is_honest new
       → OnOk result (was_open ≡ is_gate_open (area_at c area) (d.content old))
   pub within : WritesWithin d (WritesAt c area)

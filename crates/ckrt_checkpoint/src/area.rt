@@ -1,3 +1,4 @@
+//! One of the two areas of a disk.
 use crate::header::Header;
 
 /// One of the two areas, with its header.

@@ -1,3 +1,4 @@
+//! The configuration of a disk.
 ghost use Rattle.std.specs.Prelude.{◌≡◌};
 ghost use Rattle.ckrt_checkpoint.specs.Layout.{is_valid};
 

@@ -1,3 +1,4 @@
+//! The faults of areas.
 ghost use Rattle.std.specs.Prelude.{◌≡◌};
 ghost use Rattle.ckrt_checkpoint.specs.declared.fault.AreaFault.TheVariants.{Device, OutOfMemory};
 

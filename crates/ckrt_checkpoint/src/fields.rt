@@ -1,12 +1,13 @@
-// The fields of blocks, from their bytes and as bytes. Numbers have their lowest byte first.
+//! The fields of blocks, from their bytes and as bytes. Numbers have their lowest byte first. The superblock and the record of
+//! the input are read and written by the same functions, in the crates above.
 ghost use Rattle.std.specs.Prelude.{◌≡◌, ◌≤◌, ◌+◌, ◌++◌, length};
 ghost use Rattle.ckrt_checkpoint.specs.Layout.{number_at, header_in};
 ghost use Rattle.ckrt_checkpoint.specs.Fields.{header_fields};
 
 use crate::header::Header;
-use crate::layout::OPEN;
 use arrayvec::ArrayVec;
 use byteorder::{ByteOrder, LittleEndian};
+use ckrt_journal::OPEN;
 
 /// How many bytes of a header are read.
 pub(crate) const HEADER_BYTES: usize = 40;
@@ -29,7 +30,7 @@ pub fn number_64(block: &[u8], at: usize) -> u64
     LittleEndian::read_u64(&block[at..at + 8])
 }
 
-/// Puts bytes behind those that are there.
+/// Puts bytes after those that are there.
 pub fn put<const N: usize>(out: &mut ArrayVec<u8, N>, bytes: &[u8])
     requires { length out.old.items + length bytes.now ≤ N }
     ensures { out.new.items ≡ out.old.items ++ bytes.now }

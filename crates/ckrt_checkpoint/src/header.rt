@@ -1,3 +1,5 @@
+//! The header of an area.
+
 /// The fields of an area's header.
 #[derive(Clone, Copy)]
 pub struct Header {

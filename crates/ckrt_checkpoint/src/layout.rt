@@ -1,4 +1,4 @@
-// Where things lie on a disk.
+//! Where things lie on a disk.
 ghost use Rattle.std.specs.Prelude.{◌≡◌, ◌≤◌, ◌+◌, true};
 ghost use Rattle.ckrt_checkpoint.specs.Holds.{slot_at};
 ghost use Rattle.ckrt_checkpoint.specs.Layout.{is_valid, memory_size, area_size, size_needed, area_at, tables_at, memory_at, journal_at, journal_of};
@@ -8,14 +8,8 @@ use ckrt_journal::Journal;
 use ckrt_memory::PAGE_SIZE;
 use ckrt_tables::TABLES_ROOM;
 
-/// The byte that a gate is where it's open.
-pub const OPEN: u8 = 0xa5;
-
-/// The byte that a gate is written as where it's closed.
-pub const CLOSED: u8 = 0;
-
 /// The version of the superblock. An area has its own.
-pub const VERSION: u32 = 1;
+pub const SUPERBLOCK_VERSION: u32 = 1;
 
 /// The offset of the first field in a superblock and in an area's header.
 pub const FIELDS_AT: usize = 8;

@@ -14,11 +14,12 @@ mod save_point;
 mod writing;
 
 pub use area::Area;
+pub use ckrt_journal::{CLOSED, OPEN};
 pub use config::Config;
 pub use fault::AreaFault;
 pub use fields::{header_fields, number_32, number_64, put};
 pub use header::Header;
-pub use layout::{CLOSED, COUNT_LIMIT, FIELDS_AT, OPEN, VERSION};
+pub use layout::{COUNT_LIMIT, FIELDS_AT, SUPERBLOCK_VERSION};
 pub use picking::pick_area;
 pub use reading::read_area;
 pub use save_point::SavePoint;

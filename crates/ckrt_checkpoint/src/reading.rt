@@ -1,7 +1,7 @@
-// How an area is read: its tables, which are decoded, and its memory. Nothing here writes or syncs.
+//! How an area is read: its tables, which are decoded, and its memory. Nothing here writes or syncs.
 ghost use Rattle.std.specs.Prelude.{◌≡◌, ◌≢◌, ◌≤◌, ◌⊎◌, Err, IfOk, IfErr, length, true};
 ghost use Rattle.ckrt_disk.specs.Frame.{IsOnlyRead};
-ghost use Rattle.ckrt_tables.specs.declared.encoding.TheConstants.{HELD_LIMIT};
+ghost use Rattle.ckrt_state.specs.Output.{HELD_LIMIT};
 ghost use Rattle.ckrt_checkpoint.specs.declared.fault.AreaFault.TheVariants.{Damaged, Device, GenerationsUsed, OutOfMemory, Version};
 ghost use Rattle.ckrt_checkpoint.specs.Answers.{is_device};
 ghost use Rattle.ckrt_checkpoint.specs.Areas.{IsPicked};
@@ -19,7 +19,7 @@ use ckrt_state::Tables;
 use ckrt_tables::{Held, decode_tables};
 use std::alloc::Global;
 
-// The bytes of the tables and the held output, as many as the area's header says.
+/// The bytes of the tables and the held output, as many as the area's header says.
 fn read_table_bytes<D: Disk>(
     alloc: Global,
     disk: &mut D,
@@ -39,7 +39,7 @@ fn read_table_bytes<D: Disk>(
     Ok(bytes)
 }
 
-// The guest's memory. It stands in the area as it is, so it is clean for that.
+/// The guest's memory. It stands in the area as it is, so it is clean for that.
 fn read_memory<D: Disk>(
     alloc: Global,
     disk: &mut D,
@@ -66,7 +66,7 @@ fn read_memory<D: Disk>(
 }
 
 /// Reads the state that an area holds: memory, tables and held output. `Damaged` where the bytes of its tables are the
-/// encoding of no state that can be saved, for so many harts as the configuration has; `Device` where the disk failed a
+/// encoding of no state that can be saved, for as many harts as the configuration has; `Device` where the disk failed a
 /// read; `OutOfMemory` where a growth of memory was refused. The memory is clean for the area that it stands in, and dirty
 /// for the other one. It writes and syncs nothing. The ring of held output has room for [`HELD_LIMIT`] bytes.
 ///

@@ -1,3 +1,5 @@
+//! The numbers that are saved with a program.
+
 /// Where a program stands when it is saved.
 #[derive(Clone, Copy)]
 pub struct SavePoint {

@@ -1,7 +1,8 @@
-// How an area is written: its gate is closed, all behind the gate is written and made durable, and then the gate is opened.
+//! How an area is written: its gate is closed, all after the gate is written and made durable, and then the gate is opened.
 ghost use Rattle.std.specs.Prelude.{◌≡◌, ◌≤◌, ◌<◌, ◌+◌, ◌∷◌, [], true, false, length, is_err, IfOk, OnOk};
 ghost use Rattle.ckrt_disk.specs.Disk.{IsOverwritten, IsWithin};
 ghost use Rattle.ckrt_disk.specs.Frame.{AtAnyMoment, WritesWithin};
+ghost use Rattle.ckrt_journal.specs.Chain.{OPEN};
 ghost use Rattle.ckrt_memory.specs.Pages.{page_of};
 ghost use Rattle.ckrt_tables.specs.declared.encoding.TheConstants.{TABLES_ROOM};
 ghost use Rattle.ckrt_checkpoint.specs.Holds.{slot, slot_at, AllPagesStand, CleanPagesStand, CleanPagesStandOn};
@@ -12,14 +13,15 @@ use crate::config::Config;
 use crate::fault::AreaFault;
 use crate::fields::header_fields;
 use crate::header::Header;
-use crate::layout::{CLOSED, FIELDS_AT, OPEN};
+use crate::layout::FIELDS_AT;
 use crate::save_point::SavePoint;
 use ckrt_disk::{DeviceFault, Disk, write_part, write_synced};
+use ckrt_journal::{CLOSED, OPEN};
 use ckrt_memory::Memory;
-use ckrt_tables::VERSION;
+use ckrt_tables::AREA_VERSION;
 
-// Closes a gate, where it is open, and says whether it was. A gate that stands closed isn't written: a byte that is written
-// again may be left as any byte by a stop, also as an open gate.
+/// Closes a gate, where it is open, and says whether it was. A gate that stands closed isn't written: a byte that is written
+/// again may be left as any byte by a stop, also as an open gate.
 fn close_gate<D: Disk>(disk: &mut D, gate_at: usize) -> Result<bool, DeviceFault>
     requires { gate_at + 1 ≤ D.size disk.old }
     ensures any_moment { IsDurable D.Disk disk.old
@@ -42,7 +44,7 @@ fn close_gate<D: Disk>(disk: &mut D, gate_at: usize) -> Result<bool, DeviceFault
     Ok(true)
 }
 
-// Writes a page of the guest's memory into its slot.
+/// Writes a page of the guest's memory into its slot.
 fn write_page<D: Disk>(
     disk: &mut D,
     config: &Config,
@@ -63,7 +65,7 @@ fn write_page<D: Disk>(
     write_part(disk, config.slot_at(area, page), memory.page(page))
 }
 
-// Writes the pages of the guest's memory that are dirty for the area, each into its slot, by rising number.
+/// Writes the pages of the guest's memory that are dirty for the area, each into its slot, by rising number.
 fn write_pages<D: Disk>(
     disk: &mut D,
     config: &Config,
@@ -88,7 +90,7 @@ fn write_pages<D: Disk>(
     Ok(())
 }
 
-// Writes all behind the gate of an area, and that its journal has no batch, and makes it durable.
+/// Writes all after the gate of an area, and that its journal has no batch, and makes it durable.
 fn fill<D: Disk>(
     disk: &mut D,
     config: &Config,
@@ -117,7 +119,7 @@ fn fill<D: Disk>(
     write_synced(disk, config.area_at(area) + FIELDS_AT, fields.as_slice())
 }
 
-// Opens a gate.
+/// Opens a gate.
 fn open_gate<D: Disk>(disk: &mut D, gate_at: usize) -> Result<(), DeviceFault>
     requires { gate_at + 1 ≤ D.size disk.old }
     ensures within { WritesWithin D.Disk (IsWithin gate_at 1) 2 disk.old disk.new (is_err result) }
@@ -169,7 +171,7 @@ pub fn write_area<D: Disk>(
         count: point.count,
         offset: point.offset,
         tables: tables.len() as u32,
-        version: VERSION,
+        version: AREA_VERSION,
     };
     let gate_at = config.area_at(area);
     close_gate(disk, gate_at)?;

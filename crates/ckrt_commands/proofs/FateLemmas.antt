@@ -14,10 +14,10 @@ use Rattle.ckrt_recovery.specs.declared.fault.CommitFault.TheVariants.{Failed, G
 use Rattle.ckrt_recovery.specs.declared.fault.SubmitFault.{SubmitFault}
 use Rattle.ckrt_recovery.specs.declared.fault.SubmitFault.TheVariants as submit_fault
 use Rattle.ckrt_recovery.specs.Calls.{checkpoint_refusal}
-use Rattle.ckrt_recovery.specs.Between.{IsBeginningOf}
+use Rattle.ckrt_recovery.specs.Lists.{IsBeginningOf}
 use Rattle.ckrt_recovery.specs.View.{View, refusal_of, refusal_when_running, committed, checkpointed}
 use Rattle.ckrt_commands.specs.Transcript.{Fate, Transcript, preceded_by, unless_quit, followed_by, submitted, submit, unless_refused, run_planned, output, commit_by, commit, by_fate, saved, checkpoint, respond, respond_all, transcript}
-use Rattle.ckrt_commands.proofs.ReplyLemmas.{nothing_begins, begins_itself, begins_behind}
+use Rattle.ckrt_recovery.proofs.ListLemmas.{begins_behind, begins_itself, nothing_begins}
 
 -- AFTER A FAILURE
 

@@ -1,28 +1,12 @@
 -- What replies say, one after another.
-use Rattle.std.proofs.Common.{◌≡◌, ℕ, zero, suc, ◌+◌, ◌*◌, ◌-◌, ◌/◌, ◌<◌, ◌≤◌, List, [], ◌∷◌, ◌++◌, length, take, drop, refl, sym, ◌∙◌, ap, subst, arith, append_assoc, append-nil, length-append, length-drop, length-take-le, take_all, inl, inr, min}
+use Rattle.std.proofs.Common.{◌≡◌, ℕ, zero, suc, ◌+◌, ◌*◌, ◌-◌, ◌/◌, ◌<◌, ◌≤◌, List, [], ◌∷◌, ◌++◌, length, take, drop, refl, sym, ◌∙◌, ap, subst, arith, append_assoc, length-append, length-drop, length-take-le, take_all, inl, inr, min}
 use Rattle.std.specs.List.{AllByRecursion}
 use Rattle.std.proofs.lemmas.Bool.Decides.{leb_tells}
 use Rattle.std.proofs.lemmas.List.{drop_all, take-append-drop}
 use Rattle.ckrt_machine.specs.declared.event.Answer.{Answer}
-use Rattle.ckrt_recovery.specs.Between.{IsBeginningOf, StandsIn}
+use Rattle.ckrt_recovery.specs.Between.{StandsIn}
+use Rattle.ckrt_recovery.specs.Lists.{IsBeginningOf}
 use Rattle.ckrt_commands.specs.Replies.{Reply, Accepted, Acknowledged, NotAccepted, NotSaved, NotUnderstood, Output, line_of, told_of, text_of, outputs_by, outputs, oks_of, acks_of, outs_of, output_in, shown_in, shown_up_to}
-
--- BEGINNINGS OF LISTS
-
-pub nothing_begins : {A : Type 0} (all : List A) → IsBeginningOf [] all
-nothing_begins all = (all, refl)
-
-pub begins_itself : {A : Type 0} (all : List A) → IsBeginningOf all all
-begins_itself all = ([], sym (append-nil all))
-
-pub begins_more : {A : Type 0} (front all more : List A) → IsBeginningOf front all → IsBeginningOf front (all ++ more)
-begins_more {A} front all more h = (h.0 ++ more, ap (λ (l : List A). l ++ more) h.1 ∙ append_assoc front h.0 more)
-
-pub begins_behind : {A : Type 0} (front some all : List A) → IsBeginningOf some all → IsBeginningOf (front ++ some) (front ++ all)
-begins_behind {A} front some all h = (h.0, ap (λ (l : List A). front ++ l) h.1 ∙ sym (append_assoc front some h.0))
-
-pub begins_through : {A : Type 0} (few some all : List A) → IsBeginningOf few some → IsBeginningOf some all → IsBeginningOf few all
-begins_through {A} few some all h k = (h.0 ++ k.0, k.1 ∙ (ap (λ (l : List A). l ++ k.0) h.1 ∙ append_assoc few h.0 k.0))
 
 -- WHAT HOLDS OF EACH
 

@@ -7,14 +7,15 @@ use Rattle.std.proofs.lemmas.List.{nil_from_length, take-append-drop}
 use Rattle.ckrt_disk.specs.declared.disk.Disk.{Ghosts}
 use Rattle.ckrt_events.specs.declared.event.Event.{Event}
 use Rattle.ckrt_machine.specs.Events as machine
-use Rattle.ckrt_image.specs.Programs.{Program, output_after}
+use Rattle.ckrt_stored.specs.Programs.{Program, output_after}
 use Rattle.ckrt_recovery.specs.declared.fault.CommitFault.{CommitFault}
 use Rattle.ckrt_recovery.specs.declared.fault.CommitFault.TheVariants.{Failed, Device, GenerationsUsed}
 use Rattle.ckrt_recovery.specs.declared.fault.SubmitFault.{SubmitFault}
 use Rattle.ckrt_recovery.specs.declared.fault.SubmitFault.TheVariants as submit_fault
 use Rattle.ckrt_recovery.specs.declared.session.Session.{Session}
 use Rattle.ckrt_recovery.specs.Calls.{Commits, Checkpoints, checkpoint_refusal}
-use Rattle.ckrt_recovery.specs.Between.{IsBeginningOf, StandsIn}
+use Rattle.ckrt_recovery.specs.Between.{StandsIn}
+use Rattle.ckrt_recovery.specs.Lists.{IsBeginningOf}
 use Rattle.ckrt_commands.specs.Replies.{Reply, Accepted, Acknowledged, NotAccepted, NotSaved, outputs, oks_of, acks_of, outs_of, shown_in, shown_up_to}
 use Rattle.ckrt_recovery.specs.Represents.{Represents, acknowledged_of}
 use Rattle.ckrt_recovery.specs.View.{View, view_of, refusal_of, refusal_when_running, after_event, committed, checkpointed, released_output, confirmed_to}
@@ -24,7 +25,8 @@ use Rattle.ckrt_commands.specs.Accepts.{Accepts, AreOutput}
 use Rattle.ckrt_commands.proofs.AcceptLemmas.{accepts_kept, accepts_more, accepts_still, refused_failed}
 use Rattle.ckrt_commands.proofs.EventLemmas.{accepted_before, refused_alone}
 use Rattle.ckrt_commands.proofs.PieceLemmas.{answers_then, broken_then, broken_followed, interrupted_as, interrupted_then, responds_as, responds_then}
-use Rattle.ckrt_commands.proofs.ReplyLemmas.{nothing_begins, no_acks, no_oks, oks-outputs, fewer_outs, acks-outputs, shown-outputs, shown_behind, shown_in-outputs, shows_none, stands-outputs}
+use Rattle.ckrt_commands.proofs.ReplyLemmas.{no_acks, no_oks, oks-outputs, fewer_outs, acks-outputs, shown-outputs, shown_behind, shown_in-outputs, shows_none, stands-outputs}
+use Rattle.ckrt_recovery.proofs.ListLemmas.{nothing_begins}
 use Rattle.ckrt_commands.proofs.TakenLemmas.{taken_still, taken_output}
 
 -- what is said of an answer that is known

@@ -4,8 +4,8 @@ use Rattle.std.proofs.lemmas.List.{take-append-drop, take-append-le, drop-append
 use Rattle.ckrt_disk.specs.declared.disk.Disk.{Ghosts}
 use Rattle.ckrt_events.specs.declared.event.Event.{Event}
 use Rattle.ckrt_machine.specs.Events.{output_of}
-use Rattle.ckrt_image.specs.Programs.{Program, start_of, state_after, output_after}
-use Rattle.ckrt_image.proofs.ReplayLemmas.{output-append}
+use Rattle.ckrt_stored.specs.Programs.{Program, start_of, state_after, output_after}
+use Rattle.ckrt_stored.proofs.ReplayLemmas.{output-append}
 use Rattle.ckrt_recovery.specs.declared.session.Session.{Session}
 use Rattle.ckrt_recovery.specs.Represents.{Represents, acknowledged_of}
 use Rattle.ckrt_recovery.specs.View.{View, view_of, confirmed_to}

@@ -1,7 +1,7 @@
 -- What a listener is told, one reply after another.
 use Rattle.std.proofs.Common.{◌≡◌, ℕ, List, [], ◌∷◌, ◌++◌, Option, refl, sym, ◌∙◌, ap, subst, append_assoc, append-nil}
 use Rattle.std.specs.Io.KnownBytes.{Appends}
-use Rattle.ckrt_recovery.specs.Between.{IsBeginningOf}
+use Rattle.ckrt_recovery.specs.Lists.{IsBeginningOf}
 use Rattle.ckrt_commands.specs.Pieces.{Tells}
 use Rattle.ckrt_commands.specs.Replies.{Reply, told_of}
 use Rattle.ckrt_commands.specs.Writing.{AppendsPart}

@@ -163,7 +163,7 @@ output_in (Output offset bytes) = bytes
 abbrev pub shown_in : List Reply → List ℕ
 shown_in = told_of output_in
 
--- the offset behind the last line of output; where there is none the given one
+-- the offset after the last line of output; where there is none the given one
 abbrev pub shown_up_to : ℕ → List Reply → ℕ
 shown_up_to from [] = from
 shown_up_to from (Accepted k answer ∷ rs) = shown_up_to from rs

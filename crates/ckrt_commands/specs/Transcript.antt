@@ -15,7 +15,7 @@ use Rattle.ckrt_recovery.specs.Calls.{checkpoint_refusal}
 use Rattle.ckrt_recovery.specs.View.{View, refusal_of, after_event, committed, checkpointed, released_output, confirmed_to}
 use Rattle.ckrt_commands.specs.Replies.{Reply, Accepted, Acknowledged, NotAccepted, NotSaved, NotUnderstood, text_of, outputs}
 
--- Which of the commits and checkpoints that have work for the disk the device fails: none, or the one that so many come before.
+-- Which of the commits and checkpoints that have work for the disk the device fails: none, or the one after that many others.
 abbrev pub Fate : Type 0
 Fate = Option ℕ
 
@@ -86,7 +86,7 @@ abbrev pub output : Fate → View → Transcript
 output f v =
     written (outputs v.recovered.confirmed (released_output v)) f (confirmed_to v v.released)
 
--- all of so many events are acknowledged, and the output that this releases is written
+-- all of that many events are acknowledged, and the output that this releases is written
 abbrev pub acknowledged : ℕ → Fate → View → Transcript
 acknowledged n f v = followed_by (written (Acknowledged n ∷ []) f v) output
 

@@ -1,4 +1,4 @@
-//! Who is told what commands do.
+//! Listeners, which are told what commands do.
 ghost use Rattle.std.specs.Prelude.{◌≡◌, ◌+◌, ◌<◌, ◌^◌, ℕ, [], ◌∷◌, List, length, Option, OnErr, OnOk};
 ghost use Rattle.ckrt_commands.specs.Pieces.{Tells, TellsPart};
 ghost use Rattle.ckrt_commands.specs.Replies.{Reply, Accepted, Acknowledged, NotAccepted, NotSaved, outputs};

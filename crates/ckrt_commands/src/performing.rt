@@ -13,6 +13,7 @@ use crate::listener::Listener;
 use ckrt_disk::Disk;
 use ckrt_events::{Command, Event};
 use ckrt_recovery::Session;
+use ckrt_thread::{Hart, ThreadId};
 
 /// Tells the released output, and then confirms it; where the listener fails nothing is confirmed.
 pub fn release<L: Listener<T>, T, D: Disk>(
@@ -65,8 +66,8 @@ fn submit<L: Listener<T>, T, D: Disk>(
 fn place_and_run<L: Listener<T>, T, D: Disk>(
     session: &mut Session<D>,
     to: &mut T,
-    hart: u8,
-    thread: u8,
+    hart: Hart,
+    thread: ThreadId,
     steps: u16,
 ) -> Result<(), L::Fault>
     requires place { IsInRange (Place hart thread) }
@@ -86,7 +87,7 @@ fn place_and_run<L: Listener<T>, T, D: Disk>(
 }
 
 /// The thread to place onto a hart next, 1 to 64.
-fn planned<D: Disk>(session: &Session<D>, hart: u8) -> Option<u8>
+fn planned<D: Disk>(session: &Session<D>, hart: Hart) -> Option<ThreadId>
     ensures planned { result ≡ machine.planned hart session.now.progress.machine.state.tables }
     ensures in_range { IfSome result (λ thread. (1 ≤ thread) × (thread ≤ 64)) }
 {
@@ -97,7 +98,7 @@ fn planned<D: Disk>(session: &Session<D>, hart: u8) -> Option<u8>
 fn run_planned<L: Listener<T>, T, D: Disk>(
     session: &mut Session<D>,
     to: &mut T,
-    hart: u8,
+    hart: Hart,
     steps: u16,
 ) -> Result<(), L::Fault>
     requires { IsInRange (Run hart steps) }
@@ -159,7 +160,7 @@ fn checkpoint<L: Listener<T>, T, D: Disk>(
 /// Does what a command says, tells the listener, and answers whether the command was `quit`.
 ///
 /// An event or a commit that is refused is told, and no fault. Each reply is told before the next call of the session, and what
-/// a commit or a checkpoint releases is told behind its acknowledgement and then confirmed.
+/// a commit or a checkpoint releases is told after its acknowledgement and then confirmed.
 pub fn perform<L: Listener<T>, T, D: Disk>(
     session: &mut Session<D>,
     to: &mut T,

@@ -5,11 +5,11 @@ use Rattle.ckrt_core.specs.declared.elf.Segment.{Segment}
 use Rattle.ckrt_core.specs.Elf.{PT_LOAD, PT_NOTE, elf_header, program_header}
 use Rattle.ckrt_core.specs.Notes.{all_notes}
 
--- where the notes begin: behind the ELF header and two program headers
+-- where the notes begin: after the ELF header and two program headers
 abbrev pub NOTES_START : ℕ
 NOTES_START = 116
 
--- the segment of so many bytes of notes, which is nowhere in memory
+-- the segment of that many bytes of notes, which is nowhere in memory
 abbrev pub note_segment : ℕ → Segment
 note_segment size =
     record {
@@ -25,7 +25,7 @@ note_segment size =
 abbrev pub MEMORY_START : ℕ
 MEMORY_START = 0x1000
 
--- the segment of the memory, behind so many bytes of notes: a guest may read, write and execute all of it (PF_R, PF_W and PF_X)
+-- the segment of the memory, after that many bytes of notes: a guest may read, write and execute all of it (PF_R, PF_W and PF_X)
 abbrev pub memory_segment : (notes size : ℕ) → Segment
 memory_segment notes size =
     record {
@@ -37,7 +37,7 @@ memory_segment notes size =
       flags = 7;
     }
 
--- what stands before so many bytes of notes and so many of memory
+-- what stands before that many bytes of notes and that many of memory
 abbrev pub headers : (notes memory : ℕ) → List ℕ
 headers notes memory =
     elf_header

@@ -17,7 +17,7 @@ use Rattle.ckrt_core.specs.Elf.{word, words}
 abbrev pub NT_PRSTATUS : ℕ
 NT_PRSTATUS = 1
 
--- of so many bytes of contents
+-- of that many bytes of contents
 abbrev pub note_head : (kind size : ℕ) → List ℕ
 note_head kind size = words (5 ∷ size ∷ kind ∷ []) ++ (codes "CORE" ++ replicate 4 0)
 
@@ -30,7 +30,7 @@ note kind contents = note_head kind (length contents) ++ contents
 abbrev pub general : Registers → List ℕ
 general r = words (r.pc ∷ drop 1 r.x)
 
--- si_signo, and neither code nor number of an error; pr_cursig, in two bytes with two behind it, and no signal pending or held; pr_pid, and
+-- si_signo, and neither code nor number of an error; pr_cursig, in two bytes with two after it, and no signal pending or held; pr_pid, and
 -- neither parent, group nor session; four times, of two words each; the general registers; and no register of floating point (pr_fpvalid)
 abbrev pub prstatus : (signal id : ℕ) → Registers → List ℕ
 prstatus signal id r =

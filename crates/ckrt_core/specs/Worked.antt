@@ -47,18 +47,18 @@ abbrev pub with_status : Status → threads.State → Tables
 with_status st s =
     record { threads = s; mutexes = []; barriers = []; rwlocks = []; clock = 0; input = []; closed = false; status = st }
 
--- so many bytes from an offset on
+-- that many bytes from an offset on
 abbrev pub part : (offset size : ℕ) → List ℕ → List ℕ
 part offset size bytes = take size (drop offset bytes)
 
 pub record WorkedCores : Type 0 where
   -- the ELF header: readelf calls it a core of RISC-V, of 32 bits, with two program headers at 52
   pub header : elf_header ≡ 0x7f ∷ 0x45 ∷ 0x4c ∷ 0x46 ∷ 1 ∷ 1 ∷ 1 ∷ 0 ∷ 0 ∷ 0 ∷ 0 ∷ 0 ∷ 0 ∷ 0 ∷ 0 ∷ 0 ∷ 4 ∷ 0 ∷ 0xf3 ∷ 0 ∷ 1 ∷ 0 ∷ 0 ∷ 0 ∷ 0 ∷ 0 ∷ 0 ∷ 0 ∷ 0x34 ∷ 0 ∷ 0 ∷ 0 ∷ 0 ∷ 0 ∷ 0 ∷ 0 ∷ 0 ∷ 0 ∷ 0 ∷ 0 ∷ 0x34 ∷ 0 ∷ 0x20 ∷ 0 ∷ 2 ∷ 0 ∷ 0 ∷ 0 ∷ 0 ∷ 0 ∷ 0 ∷ 0 ∷ []
-  -- two notes, and 15 pages of memory behind them
+  -- two notes, and 15 pages of memory after them
   pub notes : program_header (note_segment 448) ≡ 4 ∷ 0 ∷ 0 ∷ 0 ∷ 0x74 ∷ 0 ∷ 0 ∷ 0 ∷ 0 ∷ 0 ∷ 0 ∷ 0 ∷ 0 ∷ 0 ∷ 0 ∷ 0 ∷ 0xc0 ∷ 1 ∷ 0 ∷ 0 ∷ 0 ∷ 0 ∷ 0 ∷ 0 ∷ 0 ∷ 0 ∷ 0 ∷ 0 ∷ 4 ∷ 0 ∷ 0 ∷ 0 ∷ []
   pub memory : program_header (memory_segment 448 61440) ≡ 1 ∷ 0 ∷ 0 ∷ 0 ∷ 0x34 ∷ 2 ∷ 0 ∷ 0 ∷ 0 ∷ 0x10 ∷ 0 ∷ 0 ∷ 0 ∷ 0 ∷ 0 ∷ 0 ∷ 0 ∷ 0xf0 ∷ 0 ∷ 0 ∷ 0 ∷ 0xf0 ∷ 0 ∷ 0 ∷ 7 ∷ 0 ∷ 0 ∷ 0 ∷ 4 ∷ 0 ∷ 0 ∷ 0 ∷ []
   pub note : note_head 1 204 ≡ 5 ∷ 0 ∷ 0 ∷ 0 ∷ 0xcc ∷ 0 ∷ 0 ∷ 0 ∷ 1 ∷ 0 ∷ 0 ∷ 0 ∷ 0x43 ∷ 0x4f ∷ 0x52 ∷ 0x45 ∷ 0 ∷ 0 ∷ 0 ∷ 0 ∷ []
-  -- what a debugger looks up in a note: its size, the signal at 12, the id at 24, the pc at 72, and x1, x2 and x31 behind it
+  -- what a debugger looks up in a note: its size, the signal at 12, the id at 24, the pc at 72, and x1, x2 and x31 after it
   pub size : length (prstatus 11 64 (counting 0x1f0c)) ≡ 204
   pub signal : part 12 2 (prstatus 11 64 (counting 0x1f0c)) ≡ 11 ∷ 0 ∷ []
   pub id : part 24 4 (prstatus 11 64 (counting 0x1f0c)) ≡ 64 ∷ 0 ∷ 0 ∷ 0 ∷ []

@@ -9,7 +9,7 @@ use ckrt_machine::Machine;
 use ckrt_memory::{Memory, PAGE_SIZE};
 use std::io::{Result, Write};
 
-/// Where the notes begin: behind the ELF header and two program headers.
+/// Where the notes begin: after the ELF header and two program headers.
 const NOTES_START: u32 = 116;
 
 /// The address of the memory's first byte.
@@ -18,7 +18,7 @@ const MEMORY_START: u32 = 0x1000;
 /// A program may read, write and execute.
 const ALL_FLAGS: u32 = 7;
 
-/// So many bytes of notes, which are nowhere in memory.
+/// That many bytes of notes, which are nowhere in memory.
 fn note_segment(size: u32) -> Segment
     ensures { result ≡ note_segment size }
 {
@@ -32,7 +32,7 @@ fn note_segment(size: u32) -> Segment
     }
 }
 
-/// So many bytes of memory, behind so many of notes.
+/// That many bytes of memory, after that many of notes.
 fn memory_segment(notes: u32, size: u32) -> Segment
     requires { notes ≤ 14784 }
     ensures { result ≡ memory_segment notes size }
@@ -47,7 +47,7 @@ fn memory_segment(notes: u32, size: u32) -> Segment
     }
 }
 
-/// What stands before so many bytes of notes and so many of memory.
+/// What stands before that many bytes of notes and that many of memory.
 fn write_headers<W: Write>(out: &mut W, notes: u32, memory: u32) -> Result<()>
     requires { notes ≤ 14784 }
     ensures { OnOk result

@@ -1,8 +1,9 @@
 -- What calls leave of a disk: how the words for it go on over one more call, join, and widen.
-use Rattle.std.proofs.Common.{◌≡◌, ◌⊎◌, inl, inr, ⊎_elim, ℕ, ◌+◌, ◌-◌, ◌^◌, ◌≤◌, Bool, true, false, List, length, get_or, Result, Ok, Err, Some, OnOk, OnErr, is_err, refl, sym, ◌∙◌, subst, arith}
+use Rattle.std.proofs.Common.{◌≡◌, ◌⊎◌, inl, inr, ⊎_elim, ℕ, ◌+◌, ◌-◌, ◌^◌, ◌≤◌, Bool, true, false, List, length, get_or, Result, Ok, Err, Some, OnOk, OnErr, is_ok, is_err, refl, sym, ◌∙◌, subst, arith}
 use Rattle.std.proofs.lemmas.Bool.{cases_lt}
 use Rattle.ckrt_disk.specs.Disk.{IsImage, IsOverwritten, IsWithin, Elapses, CountsFault, HasFailed, IsStopped, LeavesOnly}
 use Rattle.ckrt_disk.specs.Frame.{IsSameDisk, IsOnlyRead, WritesWithin}
+use Rattle.ckrt_disk.specs.Synced.{WritesSyncedOrFails}
 use Rattle.ckrt_disk.specs.declared.disk.Disk.{Ghosts}
 use Rattle.ckrt_disk.proofs.Images.{wider_image, written_image}
 use Rattle.ckrt_disk.proofs.Moments.{started, weaker, goes_on, over_call}
@@ -218,6 +219,11 @@ module _ {D : Type 0} (d : Ghosts D) where
         well = no_failure (d.failures old) (d.failures new) result failures;
         fault = a_failure (d.failures old) (d.failures new) result failures;
       }
+
+  -- a call of `sync` behind a write that went well
+  pub synced_behind : {E : Type 0} (at : ℕ) (bytes : List ℕ) (a written b : D) (r : Result (Unit {0}) E) → d.write_gives a at bytes true written → d.sync_gives written (is_ok r) b → WritesSyncedOrFails d at bytes a b (is_err r)
+  synced_behind at bytes a written b (Ok x) write sync = record { written = written; write = write; sync = sync }
+  synced_behind at bytes a written b (Err e) write sync = inr (written, write, sync)
 
   -- a call of `read`, by its clauses
   pub read_once : {E : Type 0} (old new : D) (result : Result (Unit {0}) E) → (d.is_honest new → d.content new ≡ d.content old)

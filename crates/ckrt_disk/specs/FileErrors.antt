@@ -9,13 +9,13 @@ abbrev pub GivesUp : {F : Type 0} → Ghosts F → F → F → ℕ → Type 0
 GivesUp g old new n = g.interruptions old + (2 ^ 64 - 1) ≤ g.interruptions new + n
 
 -- One call of a file, from old to new, on the way of a call of a disk for n bytes from `at` on. `done` of them were transferred before it,
--- and so many after it as `next` says.
+-- and as many after it as `next` says.
 pub record GoesOn {F E : Type 0} (g : Ghosts F) (old new : F) (at n done : ℕ) (next : Result ℕ E)
     : Type 0 where
   -- it goes on where the call is no error
   pub well : IfOk next (λ _. g.errors new ≡ g.errors old)
   pub fault : IsErr next → g.errors new ≡ g.errors old + 1
-  -- behind more bytes, or after one interruption more
+  -- after more bytes, or after one interruption more
   pub progress : IfOk next (λ k. g.interruptions old + (done + 1) ≤ g.interruptions new + k)
   pub interruptions : g.interruptions old ≤ g.interruptions new
   -- a reliable file lets it go on to its end
@@ -51,7 +51,7 @@ pub record CountsErrors {F : Type 0} (g : Ghosts F) (start : List F) (file : F) 
   pub interruptions : at_start g.interruptions start ≤ g.interruptions file
   -- each error of the file is a failure of the disk
   pub each : min (since g.errors start file) (2 ^ 64 - 1) ≤ failures
-  -- and nothing else is, unless the file has interrupted so many calls that one may have been given up
+  -- and nothing else is, unless the file has interrupted that many calls that one may have been given up
   pub only : since g.interruptions start file + size < 2 ^ 64 - 1
       → failures ≡ min (since g.errors start file) (2 ^ 64 - 1)
   -- over a reliable file of its size it has never failed

@@ -45,7 +45,7 @@ pub record IsOnlyRead {D : Type 0} (d : Ghosts D) (old new : D) (failed : Bool) 
   pub well : failed ≡ false → d.failures new ≡ d.failures old
   -- where it failed the failures grew
   pub fault : failed ≡ true → HasFailed (d.failures old) (d.failures new)
-  -- where it names a stop it failed only behind that
+  -- where it names a stop it failed only after that
   pub never : (s : ℕ) → d.named_stop old ≡ Some s → failed ≡ true → IsStopped s (d.calls old)
 
 -- The disk was written in a region alone, and read and synced as often as may be; failed is whether the last of these calls failed. No call

@@ -9,5 +9,6 @@ pub mod Marked
 pub mod MemoryFile
 pub mod Stop
 pub mod Stopping
+pub mod Synced
 pub mod SystemFile
 pub mod Transfer

@@ -13,7 +13,7 @@ abbrev pub limit_of : List ℕ → ℕ → ℕ
 limit_of [] n = n
 limit_of (limit ∷ limits) n = limit
 
--- what a call answers that may transfer so many bytes: it fails where there are none in the file, a limit of 0 interrupts it,
+-- what a call answers that may transfer that many bytes: it fails where there are none in the file, a limit of 0 interrupts it,
 -- and else it transfers as many as both allow
 abbrev pub answer_within : ℕ → ℕ → Transfer
 answer_within room limit = if nat_eq room 0 then Failed else if nat_eq limit 0 then Interrupted else Done (min limit room)

@@ -32,5 +32,5 @@ impl<C> Calls<C> {
     }
 }
 
-// It takes no memory.
+/// It takes no memory.
 const _: () = prove!(std::mem::size_of::<Calls<u8>>() == 0);

@@ -1,4 +1,4 @@
-// The disk model, as the layers above see it.
+//! The disk model, as the layers above see it.
 ghost use Rattle.std.specs.Prelude.{◌≡◌, ◌⊎◌, ◌↔◌, ◌≤◌, ◌<◌, ◌+◌, ℕ, Bool, List, Option, Some, length, take, drop, is_ok, OnOk, OnErr};
 ghost use Rattle.ckrt_disk.specs.Disk.{IsOverwritten, IsWithin, IsImage, Elapses, CountsFault, IsStopped, StopsAt};
 

@@ -1,4 +1,4 @@
-// A disk over another one that fails a call of a given number.
+//! A disk over another one that fails a call of a given number.
 ghost use Rattle.std.specs.Prelude.{◌≡◌, ◌⊎◌, ◌↔◌, ◌<◌, ◌^◌, ℕ, false, None, length, refl};
 ghost use Rattle.std.proofs.Common.{inl};
 ghost use Rattle.ckrt_disk.specs.History.{Since, only_now};

@@ -1,4 +1,4 @@
-// A disk that is a file of the system.
+//! A disk that is a file of the system.
 ghost use Rattle.std.specs.Prelude.{◌≡◌, ◌⊎◌, ◌↔◌, ◌≤◌, ◌<◌, ◌+◌, ◌-◌, ◌^◌, ℕ, List, [], ◌∷◌, None, length, take, drop, refl, is_ok, IfOk, OnOk, OnErr};
 ghost use Rattle.std.proofs.Common.{inl, ◌∙◌};
 ghost use Rattle.ckrt_disk.specs.Disk.{IsImage, IsOverwritten, IsWithin};
@@ -105,7 +105,7 @@ impl<H: Holds> FileDisk<SystemFile<H>> {
     }
 }
 
-// Reads some more bytes behind the first `done`: how many are read then.
+/// Reads some more bytes after the first `done`: how many are read then.
 #[tactic(auto, using(crate::proofs::Images::read_behind))]
 fn read_on<F: PositionedFile>(
     file: &mut F,
@@ -134,7 +134,7 @@ fn read_on<F: PositionedFile>(
     }
 }
 
-// Reads until the buffer is full. A file that ends before is a fault.
+/// Reads until the buffer is full. A file that ends before is a fault.
 fn read_all<F: PositionedFile>(file: &mut F, at: usize, buf: &mut [u8]) -> Result<(), DeviceFault>
     requires { at + length buf.old < 2 ^ 64 }
     ensures bytes { OnOk result (F.keeps_model file.new
@@ -160,7 +160,7 @@ fn read_all<F: PositionedFile>(file: &mut F, at: usize, buf: &mut [u8]) -> Resul
     Err(DeviceFault)
 }
 
-// Writes some more bytes behind the first `done`: how many are written then.
+/// Writes some more bytes after the first `done`: how many are written then.
 #[tactic(auto, using(crate::proofs::Images::overwritten_more))]
 fn write_on<F: PositionedFile>(
     file: &mut F,
@@ -193,7 +193,7 @@ fn write_on<F: PositionedFile>(
     }
 }
 
-// Writes until all bytes are written.
+/// Writes until all bytes are written.
 fn write_all<F: PositionedFile>(file: &mut F, at: usize, bytes: &[u8]) -> Result<(), DeviceFault>
     requires { at + length bytes.now < 2 ^ 64 }
     ensures written { OnOk result (F.keeps_model file.new → at + length bytes.now ≤ F.len file.old

@@ -1,4 +1,4 @@
-// A call on a file, with its answer.
+//! A call on a file, with its answer.
 use crate::transfer::Transfer;
 
 /// A call of the system on a file, and what the system answered.

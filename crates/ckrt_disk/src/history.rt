@@ -37,5 +37,5 @@ impl<S> History<S> {
     }
 }
 
-// It takes no memory.
+/// It takes no memory.
 const _: () = prove!(std::mem::size_of::<History<u8>>() == 0);

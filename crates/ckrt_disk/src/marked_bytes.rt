@@ -1,4 +1,4 @@
-// Bytes, and a table of those that are pending.
+//! Bytes, and a table of those that are pending.
 ghost use Rattle.std.specs.Prelude.{◌≡◌, ◌⊎◌, ◌↔◌, ◌+◌, ◌≤◌, ℕ, List, Bool, length, IfOk};
 ghost use Rattle.ckrt_disk.specs.Disk.{IsOverwritten, IsWithin};
 ghost use Rattle.ckrt_disk.specs.Marked.{IsMarked, IsFilled};
@@ -22,7 +22,7 @@ pub(crate) fn unmarked(alloc: Global, bytes: Vec<u8>) -> Result<MarkedBytes, All
     Ok(MarkedBytes { bytes, pending })
 }
 
-// Puts bytes in the place of those from `at` on.
+/// Puts bytes in the place of those from `at` on.
 pub(crate) fn overwrite(bytes: &mut [u8], at: usize, from: &[u8])
     requires { at + length from.now ≤ length bytes.old }
     ensures { IsOverwritten bytes.old at from.now bytes.new }
@@ -30,7 +30,7 @@ pub(crate) fn overwrite(bytes: &mut [u8], at: usize, from: &[u8])
     bytes[at..at + from.len()].copy_from_slice(from);
 }
 
-// Marks n offsets from `at` on.
+/// Marks n offsets from `at` on.
 pub(crate) fn mark(table: &mut [bool], at: usize, n: usize)
     requires { at + n ≤ length table.old }
     ensures { (i : ℕ) → (IsMarked table.new i ↔ (IsMarked table.old i ⊎ IsWithin at n i)) }
@@ -40,7 +40,7 @@ pub(crate) fn mark(table: &mut [bool], at: usize, n: usize)
     }
 }
 
-// Marks nothing.
+/// Marks nothing.
 pub(crate) fn clear(table: &mut [bool])
     ensures { (i : ℕ) → ¬ IsMarked table.new i }
 {
@@ -49,7 +49,7 @@ pub(crate) fn clear(table: &mut [bool])
     }
 }
 
-// The bytes that are marked take the bytes of `fill`, over and over; with no fill they stay.
+/// The bytes that are marked take the bytes of `fill`, over and over; with no fill they stay.
 pub(crate) fn lay(bytes: &mut [u8], table: &[bool], fill: &[u8])
     requires { length table.now ≡ length bytes.old }
     ensures { IsFilled (IsMarked table.now) fill.now bytes.old bytes.new }

@@ -1,4 +1,4 @@
-// A disk in memory, which never fails.
+//! A disk in memory, which never fails.
 ghost use Rattle.std.specs.Prelude.{◌≡◌, ℕ, true, None, length, refl, IfOk};
 ghost use Rattle.std.proofs.Common.{inl};
 ghost use Rattle.ckrt_disk.specs.History.{Since, only_now};

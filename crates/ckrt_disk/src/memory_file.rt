@@ -1,4 +1,4 @@
-// A file in memory, whose calls transfer less than they are asked and are interrupted.
+//! A file in memory, whose calls transfer less than they are asked and are interrupted.
 ghost use Rattle.std.specs.Prelude.{◌≡◌, ◌+◌, ◌-◌, ◌^◌, ◌≤◌, ◌<◌, ℕ, true, [], length, drop, refl};
 ghost use Rattle.ckrt_disk.specs.FileCalls.{pending_of, errors_of, interruptions_of};
 ghost use Rattle.ckrt_disk.specs.FileErrors.{is_patient};
@@ -11,7 +11,7 @@ use crate::marked_bytes::overwrite;
 use crate::positioned::PositionedFile;
 use crate::transfer::Transfer;
 
-/// A file in memory. Its calls transfer at most so many bytes as its limits say, one limit for each call, and all that
+/// A file in memory. Its calls transfer at most as many bytes as its limits say, one limit for each call, and all that
 /// is asked when the limits are used up; a limit of 0 is a signal that interrupts the call. It ends where its bytes end:
 /// a call that reaches beyond them transfers those before, and fails where there are none. It has always kept the disk
 /// model, and it is reliable, so it shows that a file can.
@@ -47,7 +47,7 @@ impl MemoryFile {
         }
     }
 
-    // The answer to a call of `len` bytes from `at` on, which uses up a limit.
+    /// The answer to a call of `len` bytes from `at` on, which uses up a limit.
     fn answer(&mut self, at: usize, len: usize) -> Transfer
         ensures answer { result
             ≡ answer_to (limits_of self.old) at len (length self.old.bytes.items) }

@@ -1,5 +1,5 @@
-// A file that is read and written by offset, as the system offers it: a call may transfer less than it was asked, and a
-// signal may interrupt it.
+//! A file that is read and written by offset, as the system offers it: a call may transfer less than it was asked, and a
+//! signal may interrupt it.
 ghost use Rattle.std.specs.Prelude.{◌≡◌, ◌⊎◌, ◌↔◌, ◌≤◌, ◌<◌, ◌+◌, ◌-◌, ◌^◌, ℕ, Bool, List, length, take, drop, is_ok, OnOk, OnErr};
 ghost use Rattle.ckrt_disk.specs.Disk.{IsImage, IsOverwritten, IsWithin};
 ghost use Rattle.ckrt_disk.specs.Transfer.{OnDone, OnStopped, OnFailed, errors_after, interruptions_after};

@@ -1,4 +1,4 @@
-// A disk in memory that stops at a call of a given number.
+//! A disk in memory that stops at a call of a given number.
 ghost use Rattle.std.specs.Prelude.{ℕ, List, ◌∷◌, ◌≡◌, ◌↔◌, ◌<◌, ◌≤◌, ◌+◌, ◌-◌, ◌^◌, min, Some, length, refl, IfOk, IsErr};
 ghost use Rattle.std.proofs.Common.{inl};
 ghost use Rattle.ckrt_disk.specs.Disk.{CountsFault, IsImage, IsOverwritten, IsStopped, IsWithin};
@@ -21,7 +21,7 @@ pub struct StoppingDisk {
     fill: Vec<u8>,
 }
 
-// The writes and syncs so far, the one at which the disk stops, and the calls that failed.
+/// The writes and syncs so far, the one at which the disk stops, and the calls that failed.
 #[derive(Drop)]
 struct CallCount {
     history: History<MarkedBytes>,
@@ -83,7 +83,7 @@ impl StoppingDisk {
     }
 }
 
-// Where a call stands to the stop.
+/// Whether a call comes before the stop, is the one that stops, or comes after it.
 #[derive(Clone, Copy, PartialEq, Eq)]
 enum Phase {
     Before,
@@ -91,7 +91,7 @@ enum Phase {
     After,
 }
 
-// The phase of the next write or sync.
+/// The phase of the next write or sync.
 fn next_phase(at_call: u64, calls: u64) -> Phase
     ensures at { (result ≡ Phase.At)
         ↔ (at_call ≡ min (calls + 1) (2 ^ 64 - 1)) × (calls < at_call) }
@@ -107,7 +107,7 @@ fn next_phase(at_call: u64, calls: u64) -> Phase
 }
 
 impl CallCount {
-    // Counts a write or sync of a disk in this state: how it stands to the stop.
+    /// Counts a write or sync of a disk in this state: whether it comes before the stop, stops it, or comes after.
     fn note_call(&mut self, state: &MarkedBytes) -> Phase
         ensures at { (result ≡ Phase.At) ↔ (self.old.at_call ≡ length self.old.history.states + 1) }
         ensures after { (result ≡ Phase.After)
@@ -128,7 +128,7 @@ impl CallCount {
         phase
     }
 
-    // Counts a read, which fails after the stop.
+    /// Counts a read, which fails after the stop.
     fn note_read(&mut self) -> Result<(), DeviceFault>
         ensures failures { CountsFault self.old.failures self.new.failures result }
         ensures stop { IsErr result ↔ IsStopped self.old.at_call (length self.old.history.states) }
@@ -143,7 +143,7 @@ impl CallCount {
     }
 }
 
-// Puts bytes from a place on, and at the stop lays the fill over what is marked; after it nothing is written.
+/// Puts bytes from a place on, and at the stop lays the fill over what is marked; after it nothing is written.
 fn put(bytes: &mut [u8], table: &[bool], at: usize, from: &[u8], phase: Phase, fill: &[u8])
     requires room { at + length from.now ≤ length bytes.old }
     requires table { length table.now ≡ length bytes.old }

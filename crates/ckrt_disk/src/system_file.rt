@@ -1,4 +1,4 @@
-// A file of the system, and the record of what it was asked and answered.
+//! A file of the system, and the record of what it was asked and answered.
 ghost use Rattle.std.specs.Prelude.{◌≡◌, ◌≤◌, ℕ, List, [], ◌∷◌, length, Ok};
 ghost use Rattle.ckrt_disk.specs.Transfer.{OnDone, answer_of};
 
@@ -16,7 +16,7 @@ use std::os::unix::fs::FileExt;
 /// the bytes. So what it says of a real file is: if the file held these bytes, and has answered so far as the disk model
 /// says, then.
 pub trait Holds {
-    /// The bytes after so many calls.
+    /// The bytes after that many calls.
     ghost held: { ℕ → List ℕ };
 
     /// The offsets that may have been pending when the file was opened.
@@ -40,7 +40,7 @@ pub struct SystemFile<H> {
     of: PhantomData<H>,
 }
 
-// What a call of the system answered. No byte at all is the end of the file, or no room.
+/// What a call of the system answered. No byte at all is the end of the file, or no room.
 fn transfer_of(answer: io::Result<usize>) -> Transfer
     ensures done { OnDone result (λ n. (answer ≡ Ok n) × (1 ≤ n)) }
     ensures exact { result ≡ answer_of answer }

@@ -7,10 +7,10 @@ use Rattle.ckrt_thread.specs.State as threads
 use Rattle.ckrt_state.specs.declared.table.Tables.{Tables}
 use Rattle.ckrt_checkpoint.specs.Layout.{is_valid}
 use Rattle.ckrt_checkpoint.specs.declared.config.Config.{Config}
-use Rattle.ckrt_events.specs.Bytes.{IsInRange, encoding_of, is_known_in}
+use Rattle.ckrt_events.specs.Bytes.{IsInRange, encoding_of, is_known_in, RUN_LIMIT}
 use Rattle.ckrt_events.specs.declared.event.Event.{Event}
 use Rattle.ckrt_events.specs.declared.event.Event.TheVariants.{Place, Run, Tick, Input, Eof, RunLong}
-use Rattle.ckrt_image.specs.Recovery.{are_counters_used}
+use Rattle.ckrt_stored.specs.Recovery.{are_counters_used}
 use Rattle.ckrt_machine.specs.declared.event.Refusal.{Refusal}
 use Rattle.ckrt_machine.specs.declared.event.Refusal.TheVariants as machine
 use Rattle.ckrt_machine.specs.Plans.{planned}
@@ -28,11 +28,11 @@ use Rattle.ckrt_drive.specs.declared.plan.Next.{Next}
 use Rattle.ckrt_drive.specs.declared.plan.Next.TheVariants.{Submit, End}
 use Rattle.ckrt_drive.specs.declared.plan.Sought.TheVariants.{Busy}
 use Rattle.ckrt_drive.specs.declared.plan.Turn.{Turn}
-use Rattle.ckrt_drive.specs.declared.progress.Ending.TheVariants.{Ended, Enough}
-use Rattle.ckrt_drive.specs.declared.progress.Progress.{Progress}
-use Rattle.ckrt_drive.specs.declared.progress.Progress.TheVariants.{Checkpointed, Committed, Released, Stopped}
+use Rattle.ckrt_drive.specs.declared.step_done.DriveEnd.TheVariants.{Ended, Enough}
+use Rattle.ckrt_drive.specs.declared.step_done.StepDone.{StepDone}
+use Rattle.ckrt_drive.specs.declared.step_done.StepDone.TheVariants.{Checkpointed, Committed, Released, Stopped}
 use Rattle.ckrt_drive.specs.declared.supply.Supply.{Supply}
-use Rattle.ckrt_drive.specs.Plan.{RUN_LIMIT, Schedule, earliest_deadline, event_at, idle_until, is_commit_due, is_settled, is_shortage, make_room, next, next_by, next_event, next_sought, of_runner, offered, on_hart, or_scheduled, plan, plan_for, plan_next, plan_onward, run_by, runner_at, schedule_of, turn_at}
+use Rattle.ckrt_drive.specs.Plan.{Schedule, earliest_deadline, event_at, idle_until, is_commit_due, is_settled, is_shortage, make_room, next, next_by, next_event, next_sought, of_runner, offered, on_hart, or_scheduled, plan, plan_for, plan_next, plan_onward, run_by, runner_at, schedule_of, turn_at}
 use Rattle.ckrt_drive.proofs.Choices.{either}
 
 -- THE EVENTS OF A PLAN ARE SHORT
@@ -154,7 +154,7 @@ and_false false = refl
 
 -- NO CHECKPOINT
 
-abbrev IsNone : Result Progress DriveFault → Type 0
+abbrev IsNone : Result StepDone DriveFault → Type 0
 IsNone planned = planned ≡ Ok Checkpointed → ⊥
 
 refused_by : (b : Bool) (v : View) (why : SubmitFault) → (b ≡ true → ⊥) → IsNone (if b then Ok (make_room v) else Err (Refused why))

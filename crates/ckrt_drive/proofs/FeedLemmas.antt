@@ -6,7 +6,7 @@ use Rattle.ckrt_disk.proofs.Moments.{started}
 use Rattle.ckrt_commands.specs.Accepts.{Accepts}
 use Rattle.ckrt_commands.proofs.AcceptLemmas.{accepts_kept}
 use Rattle.ckrt_events.specs.declared.event.Event.{Event}
-use Rattle.ckrt_image.specs.Programs.{Program}
+use Rattle.ckrt_stored.specs.Programs.{Program}
 use Rattle.ckrt_record.specs.Keeping.{IsCommit, KeepsInput, RecoversFedEither, RepresentsFed, SavesInput}
 use Rattle.ckrt_record.proofs.CallLemmas.{commit_keeps, commit_moment}
 use Rattle.ckrt_record.proofs.KeepLemmas.{kept_input, more_input}

@@ -7,7 +7,7 @@ use Rattle.std.proofs.lemmas.Bool.Decides.{nat_tests}
 use Rattle.std.proofs.lemmas.List.{drop_all, length-drop, length-take}
 use Rattle.ckrt_events.specs.declared.event.Event.{Event}
 use Rattle.ckrt_events.specs.declared.event.Event.TheVariants.{Place, Run, Input, Eof, Tick, RunLong}
-use Rattle.ckrt_events.specs.Bytes.{IsInRange}
+use Rattle.ckrt_events.specs.Bytes.{IsInRange, RUN_LIMIT}
 use Rattle.ckrt_input.specs.Next.{given_by, has_room, next_bytes, next_input}
 use Rattle.ckrt_input.specs.Taken.{bytes_of, taken_by}
 use Rattle.ckrt_input.proofs.NextLemmas.{always_taken, given_bytes, hangs_on_next, next_is, next_slice}
@@ -21,12 +21,12 @@ use Rattle.ckrt_drive.specs.declared.plan.Next.{Next}
 use Rattle.ckrt_drive.specs.declared.plan.Next.TheVariants.{Submit, End}
 use Rattle.ckrt_drive.specs.declared.plan.Sought.TheVariants.{Busy}
 use Rattle.ckrt_drive.specs.declared.plan.Turn.{Turn}
-use Rattle.ckrt_drive.specs.declared.progress.Ending.TheVariants.{Ended}
-use Rattle.ckrt_drive.specs.declared.progress.Progress.{Progress}
-use Rattle.ckrt_drive.specs.declared.progress.Progress.TheVariants.{Submitted, Committed, Checkpointed, Released, Stopped}
+use Rattle.ckrt_drive.specs.declared.step_done.DriveEnd.TheVariants.{Ended}
+use Rattle.ckrt_drive.specs.declared.step_done.StepDone.{StepDone}
+use Rattle.ckrt_drive.specs.declared.step_done.StepDone.TheVariants.{Submitted, Committed, Checkpointed, Released, Stopped}
 use Rattle.ckrt_drive.specs.declared.supply.Supply.{Supply}
 use Rattle.ckrt_drive.specs.Given.{given_in, record_of}
-use Rattle.ckrt_drive.specs.Plan.{RUN_LIMIT, Schedule, earliest_deadline, event_at, idle_until, next_by, next_event, next_sought, of_runner, on_hart, or_scheduled, plan, run_by, runner_at, schedule_of, turn_at}
+use Rattle.ckrt_drive.specs.Plan.{Schedule, earliest_deadline, event_at, idle_until, next_by, next_event, next_sought, of_runner, on_hart, or_scheduled, plan, run_by, runner_at, schedule_of, turn_at}
 use Rattle.ckrt_drive.specs.Steps.{accepted_by}
 use Rattle.ckrt_drive.proofs.Choices.{either}
 use Rattle.ckrt_drive.proofs.PlannedLemmas.{planned_event}
@@ -92,7 +92,7 @@ none_taken (RunLong h n) never = refl
 few_given : (given : Option Event) (taken : ℕ) (e : Event) → IfSome given (λ e. taken + taken_by (e ∷ []) < 2 ^ 64) → given ≡ Some e → taken + taken_by (e ∷ []) < 2 ^ 64
 few_given given taken e few is = subst (λ o. IfSome o (λ e. taken + taken_by (e ∷ []) < 2 ^ 64)) is few
 
-pub few_taken : (o : Options) (w : Supply) (v : View) (taken : ℕ) (did : Progress) → taken < 2 ^ 64 → IfSome w.given (λ e. taken + taken_by (e ∷ []) < 2 ^ 64) → plan o w v ≡ Ok did → taken + taken_by (accepted_by did) < 2 ^ 64
+pub few_taken : (o : Options) (w : Supply) (v : View) (taken : ℕ) (did : StepDone) → taken < 2 ^ 64 → IfSome w.given (λ e. taken + taken_by (e ∷ []) < 2 ^ 64) → plan o w v ≡ Ok did → taken + taken_by (accepted_by did) < 2 ^ 64
 few_taken o w v taken (Submitted e answer) low few is = ⊎_elim
     (λ (given : _). few_given w.given taken e few given)
     (λ (none : _). omega (arith, low, none_taken e none))

@@ -5,7 +5,7 @@ use Rattle.std.specs.Prelude.{◌*◌, ◌-◌}
 use Rattle.ckrt_events.specs.Bytes.{encoding_of, is_known_in}
 use Rattle.ckrt_events.specs.declared.event.Event.{Event}
 use Rattle.ckrt_events.specs.declared.event.Event.TheVariants.{Place, Run, Tick, Input, Eof, RunLong}
-use Rattle.ckrt_image.specs.Recovery.{are_counters_used, room_of}
+use Rattle.ckrt_stored.specs.Recovery.{are_counters_used, room_of}
 use Rattle.ckrt_machine.specs.declared.event.Refusal.{Refusal}
 use Rattle.ckrt_machine.specs.Events as machine
 use Rattle.ckrt_recovery.specs.declared.fault.SubmitFault.{SubmitFault}
@@ -16,8 +16,8 @@ use Rattle.ckrt_drive.specs.declared.fault.DriveFault.TheVariants.{Refused}
 use Rattle.ckrt_drive.specs.declared.options.Options.{Options}
 use Rattle.ckrt_drive.specs.declared.plan.Next.{Next}
 use Rattle.ckrt_drive.specs.declared.plan.Next.TheVariants.{Submit, End}
-use Rattle.ckrt_drive.specs.declared.progress.Progress.{Progress}
-use Rattle.ckrt_drive.specs.declared.progress.Progress.TheVariants.{Checkpointed, Committed, Released, Stopped}
+use Rattle.ckrt_drive.specs.declared.step_done.StepDone.{StepDone}
+use Rattle.ckrt_drive.specs.declared.step_done.StepDone.TheVariants.{Checkpointed, Committed, Released, Stopped}
 use Rattle.ckrt_drive.specs.declared.supply.Supply.{Supply}
 use Rattle.ckrt_drive.specs.Plan.{is_checkpoint_due, is_commit_due, is_old, is_settled, is_shortage, make_room, next, offered, places_of, plan, plan_for, plan_next, plan_onward, schedule_of}
 use Rattle.ckrt_drive.proofs.Choices.{either, neither}
@@ -64,10 +64,10 @@ known version (Tick k) new = refl
 known version (RunLong h n) new = grind (arith, nat_tests, new)
 
 -- it isn't refused so
-abbrev pub IsWell : Result Progress DriveFault → Type 0
+abbrev pub IsWell : Result StepDone DriveFault → Type 0
 IsWell planned = planned ≡ Err (Refused submit.NeedsCheckpoint) → ⊥
 
-same_fault : (why : SubmitFault) (planned : Result Progress DriveFault) → planned ≡ Err (Refused why) → planned ≡ Err (Refused submit.NeedsCheckpoint) → Some why ≡ Some submit.NeedsCheckpoint
+same_fault : (why : SubmitFault) (planned : Result StepDone DriveFault) → planned ≡ Err (Refused why) → planned ≡ Err (Refused submit.NeedsCheckpoint) → Some why ≡ Some submit.NeedsCheckpoint
 same_fault why planned is need = cc
 
 well_offered : (v : View) (e : Event) (o : Option SubmitFault) → IsOther o → IsWell (offered v e o)

@@ -1,21 +1,22 @@
 -- What steps of a drive give to its output, one after another.
-use Rattle.std.proofs.Common.{◌≡◌, inr, ◌+◌, ◌-◌, ◌≤◌, ℕ, Bool, true, false, List, [], ◌∷◌, ◌++◌, length, take, drop, Result, Ok, Err, refl, sym, ◌∙◌, ap, subst, arith, append_assoc, append-nil, length-append}
-use Rattle.std.specs.Prelude.{is_ok, is_err}
+use Rattle.std.proofs.Common.{◌≡◌, ◌+◌, ◌-◌, ◌≤◌, ℕ, Bool, true, false, List, [], ◌∷◌, ◌++◌, length, take, drop, refl, sym, ◌∙◌, ap, subst, arith, append_assoc, append-nil, length-append}
 use Rattle.std.specs.List.{concat}
 use Rattle.std.proofs.lemmas.List.{take_all, drop_all, take-append-le, drop-append-le, drop-take, length-take, length-take-le}
 use Rattle.std.proofs.lemmas.List.Folds.{concat-append}
 use Rattle.std.proofs.Math.Seq.{take-add}
 use Rattle.ckrt_disk.specs.declared.disk.Disk.{Ghosts}
 use Rattle.ckrt_events.specs.declared.event.Event.{Event}
-use Rattle.ckrt_image.specs.Programs.{Program, output_after}
+use Rattle.ckrt_stored.specs.Programs.{Program, output_after}
 use Rattle.ckrt_recovery.specs.declared.session.Session.{Session}
-use Rattle.ckrt_recovery.specs.Between.{IsBeginningOf}
+use Rattle.ckrt_recovery.specs.Lists.{IsBeginningOf}
 use Rattle.ckrt_recovery.specs.Represents.{Represents, acknowledged_of}
 use Rattle.ckrt_recovery.specs.View.{View, view_of, released_output}
 use Rattle.ckrt_commands.specs.Accepts.{Accepts}
-use Rattle.ckrt_commands.proofs.AcceptLemmas.{taken_begins, output_begins}
+use Rattle.ckrt_commands.proofs.AcceptLemmas.{output_begins}
+use Rattle.ckrt_recovery.proofs.ListLemmas.{taken_begins}
 use Rattle.ckrt_drive.specs.Output.{acknowledged_output}
-use Rattle.ckrt_drive.specs.PutOut.{FailsToPutOut, PutsAllOut, PutsOrFails, PutsOutput, between}
+use Rattle.ckrt_disk.specs.Synced.{FailsToWriteSynced, WritesSyncedOrFails}
+use Rattle.ckrt_drive.specs.PutOut.{PutsAllOut, PutsOutput, between}
 
 -- BYTES BETWEEN OFFSETS
 
@@ -47,11 +48,6 @@ output_taken p n events = output_after p (take n events)
 -- PIECES
 
 module _ {O : Type 0} (o : Ghosts O) where
-  -- a sync behind a write
-  pub put_or_fails : {E : Type 0} (at : ℕ) (piece : List ℕ) (a written b : O) (r : Result (Unit {0}) E) → o.write_gives a at piece true written → o.sync_gives written (is_ok r) b → PutsOrFails o at piece a b (is_err r)
-  put_or_fails at piece a written b (Ok x) write sync = record { written = written; write = write; sync = sync }
-  put_or_fails at piece a written b (Err e) write sync = inr (written, write, sync)
-
   puts_more : (at : ℕ) (xs ys : List (List ℕ)) (a b c : O) → PutsAllOut o at xs a b → PutsAllOut o (at + length (concat xs)) ys b c → PutsAllOut o at (xs ++ ys) a c
   puts_more at [] ys a b c h k =
       let none : at + 0 ≡ at = omega arith in
@@ -73,28 +69,28 @@ module _ {O : Type 0} (o : Ghosts O) where
     }
 
     -- the output failed a call for the released bytes
-    pub puts_torn : (s t : Session D g) (a b : O) (bytes : List ℕ) (failed : Bool) → view_of t ≡ view_of s → bytes ≡ released_output (view_of s) → failed ≡ true → PutsOrFails o s.progress.confirmed bytes a b failed → PutsOutput o [] s t a b true
+    pub puts_torn : (s t : Session D g) (a b : O) (bytes : List ℕ) (failed : Bool) → view_of t ≡ view_of s → bytes ≡ released_output (view_of s) → failed ≡ true → WritesSyncedOrFails o s.progress.confirmed bytes a b failed → PutsOutput o [] s t a b true
     unfolding puts_nothing
     puts_torn s t a b bytes failed view are is put =
         let still = puts_nothing [] s t a (ap (λ (v : View). v.recovered.confirmed) view) in
-        let torn : FailsToPutOut o s.progress.confirmed bytes a b = subst (λ f. PutsOrFails o s.progress.confirmed bytes a b f) is put in
+        let torn : FailsToWriteSynced o s.progress.confirmed bytes a b = subst (λ f. WritesSyncedOrFails o s.progress.confirmed bytes a b f) is put in
         record {
           pieces = still.pieces;
           last = a;
           puts = still.puts;
           reach = still.reach;
           are = still.are;
-          rest = subst (λ (v : View). FailsToPutOut o v.recovered.confirmed (released_output v) a b) (sym view) (subst (λ (l : List ℕ). FailsToPutOut o s.progress.confirmed l a b) are torn);
+          rest = subst (λ (v : View). FailsToWriteSynced o v.recovered.confirmed (released_output v) a b) (sym view) (subst (λ (l : List ℕ). FailsToWriteSynced o s.progress.confirmed l a b) are torn);
         }
 
     -- the released bytes were put out, and confirmed
     pub puts_released : (s t : Session D g) (a b : O) (bytes : List ℕ) (failed : Bool) → t.progress.confirmed ≡ s.released → t.acknowledged ≡ s.acknowledged → s.progress.confirmed + length bytes ≡ s.released
         → ((p : Program) (events : List Event) → Represents p events s → bytes ≡ drop s.progress.confirmed (acknowledged_output p events s))
-        → failed ≡ false → PutsOrFails o s.progress.confirmed bytes a b failed → PutsOutput o [] s t a b false
+        → failed ≡ false → WritesSyncedOrFails o s.progress.confirmed bytes a b failed → PutsOutput o [] s t a b false
     puts_released s t a b bytes failed confirmed same end output is put = record {
       pieces = bytes ∷ [];
       last = b;
-      puts = (b, subst (λ f. PutsOrFails o s.progress.confirmed bytes a b f) is put, refl);
+      puts = (b, subst (λ f. WritesSyncedOrFails o s.progress.confirmed bytes a b f) is put, refl);
       reach = omega (arith, end, confirmed, ap length (append-nil bytes));
       are = λ honest p events reps.
           let out = acknowledged_output p events s in

@@ -13,10 +13,10 @@ use Rattle.ckrt_commands.proofs.AcceptLemmas.{accepts_kept, accepts_more, since_
 use Rattle.ckrt_drive.specs.declared.options.Options.{Options}
 use Rattle.ckrt_drive.specs.declared.fault.DriveFault.{DriveFault}
 use Rattle.ckrt_drive.specs.declared.fault.DriveFault.TheVariants.{Device, Input, NoRecord, Output, OutputFull, GenerationsUsed, Refused}
-use Rattle.ckrt_drive.specs.declared.progress.Ending.{Ending}
-use Rattle.ckrt_drive.specs.declared.progress.Ending.TheVariants.{Enough}
-use Rattle.ckrt_drive.specs.declared.progress.Progress.{Progress}
-use Rattle.ckrt_drive.specs.declared.progress.Progress.TheVariants.{Submitted, Committed, Checkpointed, Released, Stopped}
+use Rattle.ckrt_drive.specs.declared.step_done.DriveEnd.{DriveEnd}
+use Rattle.ckrt_drive.specs.declared.step_done.DriveEnd.TheVariants.{Enough}
+use Rattle.ckrt_drive.specs.declared.step_done.StepDone.{StepDone}
+use Rattle.ckrt_drive.specs.declared.step_done.StepDone.TheVariants.{Submitted, Committed, Checkpointed, Released, Stopped}
 use Rattle.ckrt_drive.specs.declared.supply.Supply.{Supply}
 use Rattle.ckrt_drive.specs.Plan.{left_after, plan, schedule_of}
 use Rattle.ckrt_drive.specs.Output.{HasOutput, HoldsOutput, Writes, acknowledged_output}
@@ -34,7 +34,7 @@ reached : (n m : ℕ) → nat_lt n m ≡ false → n ≤ m → n ≡ m
 reached n m e le = grind (arith, nat_tests)
 
 -- an end is planned only where all is saved, and it is what it says
-pub at_end : (o : Options) (w : Supply) (v : View) (ending : Ending) → v.recovered.confirmed ≤ v.released → plan o w v ≡ Ok (Stopped ending) → IsAtEnd w.left v ending
+pub at_end : (o : Options) (w : Supply) (v : View) (ending : DriveEnd) → v.recovered.confirmed ≤ v.released → plan o w v ≡ Ok (Stopped ending) → IsAtEnd w.left v ending
 at_end o w v ending le is =
     let h = planned_end o w v ending is in
     record {
@@ -45,7 +45,7 @@ at_end o w v ending le is =
 -- EVENTS
 
 -- as many events are left as were, less those that were taken
-counted : (o : Options) (did : List Progress) (x y : Stand) → FollowsPlan o did x y → length (events_in did) + y.left ≡ x.left
+counted : (o : Options) (did : List StepDone) (x y : Stand) → FollowsPlan o did x y → length (events_in did) + y.left ≡ x.left
 counted o [] x y h = let same = ap (λ (q : Stand). q.left) h in omega (arith, same)
 counted o (Submitted e answer ∷ more) x y h =
     let rest = counted o more (stand_after (Submitted e answer) x) y h.2 in
@@ -56,35 +56,35 @@ counted o (Released ∷ more) x y h = counted o more (stand_after Released x) y 
 counted o (Stopped ending ∷ more) x y h = absurd h.1
 
 -- whatever isn't an end goes on
-pub onward : (did : Progress) → ((ending : Ending) → did ≡ Stopped ending → ⊥) → IsOnward did
+pub onward : (did : StepDone) → ((ending : DriveEnd) → did ≡ Stopped ending → ⊥) → IsOnward did
 onward (Submitted e answer) no_stop = tt
 onward Committed no_stop = tt
 onward Checkpointed no_stop = tt
 onward Released no_stop = tt
 onward (Stopped ending) no_stop = no_stop ending refl
 
-follows_more : (o : Options) (xs : List Progress) (did : Progress) (x y : Stand) → FollowsPlan o xs x y → IsPlanned o y (Ok did) → IsOnward did → FollowsPlan o (xs ++ did ∷ []) x (stand_after did y)
+follows_more : (o : Options) (xs : List StepDone) (did : StepDone) (x y : Stand) → FollowsPlan o xs x y → IsPlanned o y (Ok did) → IsOnward did → FollowsPlan o (xs ++ did ∷ []) x (stand_after did y)
 follows_more o [] did x y h is on = (subst (λ (q : Stand). IsPlanned o q (Ok did)) h is, on, ap (stand_after did) h)
 follows_more o (first ∷ xs) did x y h is on = (h.0, h.1, follows_more o xs did (stand_after first x) y h.2 is on)
 
-events_more : (xs : List Progress) (did : Progress) → events_in (xs ++ did ∷ []) ≡ events_in xs ++ accepted_by did
+events_more : (xs : List StepDone) (did : StepDone) → events_in (xs ++ did ∷ []) ≡ events_in xs ++ accepted_by did
 events_more [] did = append-nil (accepted_by did)
 events_more (x ∷ xs) did = ap (λ (l : List Event). accepted_by x ++ l) (events_more xs did) ∙ sym (append_assoc (accepted_by x) (events_in xs) (accepted_by did))
 
 same_stand : (c d : ℕ) (v w : View) → c ≡ d → v ≡ w → stand c v ≡ stand d w
 same_stand c d v w e f = ap (λ q. stand q v) e ∙ ap (λ q. stand d q) f
 
-enough_by : (o : Options) (did : List Progress) (x y : Stand) (ending : Ending) → FollowsPlan o did x y → IsAtEnd y.left y.view ending → (result : Result (Option Ending) DriveFault) → result ≡ Ok (Some ending) → result ≡ Ok (Some Enough) → length (events_in did) ≡ x.left
+enough_by : (o : Options) (did : List StepDone) (x y : Stand) (ending : DriveEnd) → FollowsPlan o did x y → IsAtEnd y.left y.view ending → (result : Result (Option DriveEnd) DriveFault) → result ≡ Ok (Some ending) → result ≡ Ok (Some Enough) → length (events_in did) ≡ x.left
 enough_by o did x y ending h at result gives is =
     let same : ending ≡ Enough = cc in
     let none = subst (λ e. IsAtEnd y.left y.view e) same at in
     omega (arith, counted o did x y h, none.is.1)
 
-no_room : (fault : DriveFault) (result : Result (Option Ending) DriveFault) → result ≡ Err fault → result ≡ Err OutputFull → fault ≡ OutputFull
+no_room : (fault : DriveFault) (result : Result (Option DriveEnd) DriveFault) → result ≡ Err fault → result ≡ Err OutputFull → fault ≡ OutputFull
 no_room fault result is full = cc
 
 module _ {D O : Type 0} {g : Ghosts D} (o : Ghosts O) where
-  pub stops_rightly : (options : Options) (w : Supply) (c c' : ℕ) (s t : Session D g) (a b : O) (r : Result Progress DriveFault) → w.left ≡ c → Steps o (aim_of options w (view_of s)) s t a b r
+  pub stops_rightly : (options : Options) (w : Supply) (c c' : ℕ) (s t : Session D g) (a b : O) (r : Result StepDone DriveFault) → w.left ≡ c → Steps o (aim_of options w (view_of s)) s t a b r
       → IfOk r (λ did. c' ≡ left_after did c) → IfOk r (StopsRightly c' (view_of t))
   stops_rightly options w c c' s t a b (Ok (Submitted e answer)) same h turned = tt
   stops_rightly options w c c' s t a b (Ok Committed) same h turned = tt
@@ -134,7 +134,7 @@ module _ {D O : Type 0} {g : Ghosts D} (o : Ghosts O) where
 
   -- steps so far, of which none failed, and none was an end
   pub record SoFar (options : Options) (made : ℕ) (c c' : ℕ) (s t : Session D g) (a b : O) : Type 0 where
-    pub did : List Progress
+    pub did : List StepDone
     pub follows : FollowsPlan options did (stand_of c s) (stand_of c' t)
     pub count : length did ≡ made
     pub accepts : Accepts (events_in did) s t
@@ -145,7 +145,7 @@ module _ {D O : Type 0} {g : Ghosts D} (o : Ghosts O) where
   pub so_far_nothing : (options : Options) (c : ℕ) (s : Session D g) (a : O) → SoFar options 0 c c s s a a
   so_far_nothing options c s a = let accepts = accepts_kept s s refl refl in record { did = []; follows = refl; count = refl; accepts = accepts; writes = writes_kept o [] s s a accepts refl; puts = puts_nothing o [] s s a refl; well = refl }
 
-  pub so_far_more : (options : Options) (w : Supply) (made : ℕ) (c d e : ℕ) (did : Progress) (s m u : Session D g) (x y z : O) → SoFar options made c d s m x y → IsOnward did → w.left ≡ d → Steps o (aim_of options w (view_of m)) m u y z (Ok did)
+  pub so_far_more : (options : Options) (w : Supply) (made : ℕ) (c d e : ℕ) (did : StepDone) (s m u : Session D g) (x y z : O) → SoFar options made c d s m x y → IsOnward did → w.left ≡ d → Steps o (aim_of options w (view_of m)) m u y z (Ok did)
       → e ≡ left_after did d → o.failures z ≡ o.failures y → SoFar options (made + 1) c e s u x z
   so_far_more options w made c d e did s m u x y z h on left k turned well = record {
     did = h.did ++ did ∷ [];
@@ -161,7 +161,7 @@ module _ {D O : Type 0} {g : Ghosts D} (o : Ghosts O) where
   module _ (law : (disk : D) (image : List ℕ) → g.is_honest disk → g.left_since disk (g.moment disk) image → IsImage (g.content disk) (g.pending disk) image)
       (output_law : (disk : O) (image : List ℕ) → o.is_honest disk → o.left_since disk (o.moment disk) image → IsImage (o.content disk) (o.pending disk) image)
       (options : Options) (steps : ℕ) where
-    runs_by : (accepted : List Event) (c e : ℕ) (s u : Session D g) (x z : O) (result : Result (Option Ending) DriveFault) → Accepts accepted s u → Writes o accepted s u x z → PutsOutput o accepted s u x z (is_output_fault result)
+    runs_by : (accepted : List Event) (c e : ℕ) (s u : Session D g) (x z : O) (result : Result (Option DriveEnd) DriveFault) → Accepts accepted s u → Writes o accepted s u x z → PutsOutput o accepted s u x z (is_output_fault result)
         → (result ≡ Err OutputFull → o.size x < u.released) → GoesByPlan options steps accepted (stand_of c s) (stand_of e u) result → Runs o options steps c e s u x z result
     runs_by accepted c e s u x z result accepts writes puts full goes = record {
       accepted = accepted;
@@ -190,7 +190,7 @@ module _ {D O : Type 0} {g : Ghosts D} (o : Ghosts O) where
     })
 
     -- steps so far, and then an end
-    pub runs_to_end : (w : Supply) (made : ℕ) (c d e : ℕ) (ending : Ending) (s m u : Session D g) (x y z : O) → made < steps → SoFar options made c d s m x y → w.left ≡ d → Steps o (aim_of options w (view_of m)) m u y z (Ok (Stopped ending))
+    pub runs_to_end : (w : Supply) (made : ℕ) (c d e : ℕ) (ending : DriveEnd) (s m u : Session D g) (x y z : O) → made < steps → SoFar options made c d s m x y → w.left ≡ d → Steps o (aim_of options w (view_of m)) m u y z (Ok (Stopped ending))
         → e ≡ d → IsAtEnd e (view_of u) ending → Runs o options steps c e s u x z (Ok (Some ending))
     runs_to_end w made c d e ending s m u x y z some h left k same at =
         let there = same_stand e d (view_of u) (view_of m) same k.done.1 in

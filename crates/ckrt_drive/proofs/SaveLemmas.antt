@@ -7,7 +7,7 @@ use Rattle.ckrt_disk.specs.Frame.{WritesWithin}
 use Rattle.ckrt_disk.specs.declared.disk.Disk.{Ghosts}
 use Rattle.ckrt_events.specs.declared.event.Event.{Event}
 use Rattle.ckrt_machine.specs.Events.{step}
-use Rattle.ckrt_image.specs.Programs.{Program}
+use Rattle.ckrt_stored.specs.Programs.{Program}
 use Rattle.ckrt_machine.specs.declared.event.Answer.{Answer}
 use Rattle.ckrt_recovery.specs.declared.fault.CommitFault.{CommitFault}
 use Rattle.ckrt_recovery.specs.declared.fault.CommitFault.TheVariants as commit
@@ -20,8 +20,8 @@ use Rattle.ckrt_recovery.specs.View.{View, view_of, refusal_of, refusal_when_run
 use Rattle.ckrt_commands.proofs.AcceptLemmas.{accepts_all, accepts_commit, accepts_kept, accepts_still, acknowledges_checkpoint}
 use Rattle.ckrt_drive.specs.declared.fault.DriveFault.{DriveFault}
 use Rattle.ckrt_drive.specs.declared.fault.DriveFault.TheVariants.{Device, GenerationsUsed, NoRecord, Refused}
-use Rattle.ckrt_drive.specs.declared.progress.Progress.{Progress}
-use Rattle.ckrt_drive.specs.declared.progress.Progress.TheVariants.{Submitted, Committed, Checkpointed}
+use Rattle.ckrt_drive.specs.declared.step_done.StepDone.{StepDone}
+use Rattle.ckrt_drive.specs.declared.step_done.StepDone.TheVariants.{Submitted, Committed, Checkpointed}
 use Rattle.ckrt_drive.specs.Plan.{make_room, is_shortage, offered}
 use Rattle.ckrt_drive.specs.Feeding.{FeedsIfRecorded, LacksRecord}
 use Rattle.ckrt_drive.specs.Steps.{Advances, aim}
@@ -66,14 +66,14 @@ failed_by false false e = absurd (cc)
 equal : (n m : ℕ) → nat_eq n m ≡ true → n ≡ m
 equal n m e = grind (arith, nat_tests)
 
-choice : (b : Bool) (x y : Result Progress DriveFault) (c : Bool) → b ≡ c → (if b then x else y) ≡ (if c then x else y)
+choice : (b : Bool) (x y : Result StepDone DriveFault) (c : Bool) → b ≡ c → (if b then x else y) ≡ (if c then x else y)
 choice b x y c e = ap (λ d. if d then x else y) e
 
 running : (b : Bool) (o : Option SubmitFault) → (if b then Some submit.Failed else o) ≡ None → b ≡ false
 running true o e = absurd (cc)
 running false o e = refl
 
-abbrev submitted : Event → Answer → Result Progress DriveFault
+abbrev submitted : Event → Answer → Result StepDone DriveFault
 submitted e answer = Ok (Submitted e answer)
 
 module _ {D : Type 0} {g : Ghosts D} (recorded : Option ℕ) where
@@ -189,11 +189,11 @@ module _ {D : Type 0} {g : Ghosts D} (recorded : Option ℕ) where
         feeds = event_feeds old new recorded e accepts acknowledged failed runs disk;
       }
 
-  pub advances_short : (e : Event) (why : SubmitFault) (old mid new : Session D g) (r : Result Progress DriveFault) → refusal_of (view_of old) e ≡ Some why → mid ≡ old → is_shortage why ≡ true
+  pub advances_short : (e : Event) (why : SubmitFault) (old mid new : Session D g) (r : Result StepDone DriveFault) → refusal_of (view_of old) e ≡ Some why → mid ≡ old → is_shortage why ≡ true
       → Advances (aim (Ok (make_room (view_of mid))) recorded) mid new r → Advances (aim (offered (view_of old) e (refusal_of (view_of old) e)) recorded) old new r
   advances_short e why old mid new r is same short saved =
       let planned = ap (offered (view_of old) e) is ∙ choice (is_shortage why) (Ok (make_room (view_of old))) (Err (Refused why)) true short in
-      subst (λ (q : Result Progress DriveFault). Advances (aim q recorded) old new r) (sym planned) (subst (λ (s : Session D g). Advances (aim (Ok (make_room (view_of s))) recorded) s new r) same saved)
+      subst (λ (q : Result StepDone DriveFault). Advances (aim q recorded) old new r) (sym planned) (subst (λ (s : Session D g). Advances (aim (Ok (make_room (view_of s))) recorded) s new r) same saved)
 
   pub advances_refused : (e : Event) (why : SubmitFault) (old new : Session D g) → refusal_of (view_of old) e ≡ Some why → new ≡ old → is_shortage why ≡ false
       → Advances (aim (offered (view_of old) e (refusal_of (view_of old) e)) recorded) old new (Err (Refused why))

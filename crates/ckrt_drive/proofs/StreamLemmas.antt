@@ -7,7 +7,7 @@ use Rattle.std.proofs.lemmas.Bool.Decides.{nat_tests}
 use Rattle.std.proofs.Math.Seq.{drop-nil}
 use Rattle.ckrt_disk.specs.declared.disk.Disk.{Ghosts}
 use Rattle.ckrt_events.specs.declared.event.Event.{Event}
-use Rattle.ckrt_image.specs.Programs.{Program}
+use Rattle.ckrt_stored.specs.Programs.{Program}
 use Rattle.ckrt_recovery.specs.declared.session.Session.{Session}
 use Rattle.ckrt_recovery.specs.Represents.{Represents}
 use Rattle.ckrt_recovery.specs.View.{View, view_of, released_output}
@@ -16,7 +16,8 @@ use Rattle.ckrt_commands.specs.Writing.{AppendsPart}
 use Rattle.ckrt_commands.specs.Accepts.{Accepts}
 use Rattle.ckrt_commands.proofs.WriteLemmas.{Appends-append, Appends-nothing}
 use Rattle.ckrt_drive.specs.Output.{acknowledged_output}
-use Rattle.ckrt_drive.specs.PutOut.{EndsOrFails, FailsToPutOut, PutsAllOut, PutsOutput, between}
+use Rattle.ckrt_disk.specs.Synced.{FailsToWriteSynced}
+use Rattle.ckrt_drive.specs.PutOut.{EndsOrFails, PutsAllOut, PutsOutput, between}
 use Rattle.ckrt_drive.specs.Streams.{HandsBetween, HandsNothingOn, HandsOn, HasBroken, HasSameWriter, StreamsOutput, got_to, writer_of}
 use Rattle.ckrt_drive.specs.declared.stream.StreamOutput.{StreamOutput}
 
@@ -69,7 +70,7 @@ module _ {W : Type 0} (contents : W → Option (List ℕ)) (o : Ghosts (StreamOu
   lent_pieces at [] a b h = subst (λ (x : StreamOutput W). HasSameWriter a x) (sym h) refl
   lent_pieces at (x ∷ xs) a b (mid, put, h) = lent_pieces (at + length x) xs mid b h ∙ (syncs put.written true mid put.sync).lent ∙ (writes a at x true put.written put.write).lent
 
-  lent_part : (at : ℕ) (piece : List ℕ) (a b : StreamOutput W) → FailsToPutOut o at piece a b → HasSameWriter a b
+  lent_part : (at : ℕ) (piece : List ℕ) (a b : StreamOutput W) → FailsToWriteSynced o at piece a b → HasSameWriter a b
   lent_part at piece a b (inl write) = (writes a at piece false b write).lent
   lent_part at piece a b (inr (written, write, sync)) = (syncs written false b sync).lent ∙ (writes a at piece true written write).lent
 
@@ -78,7 +79,7 @@ module _ {W : Type 0} (contents : W → Option (List ℕ)) (o : Ghosts (StreamOu
   lent_by v last b true h = lent_part v.recovered.confirmed (released_output v) last b h
 
   -- of the last piece a part
-  hands_part : (at : ℕ) (piece : List ℕ) (a b : StreamOutput W) → FailsToPutOut o at piece a b → AppendsPart (contents (writer_of a)) (contents (writer_of b)) (drop (got_to a - at) piece)
+  hands_part : (at : ℕ) (piece : List ℕ) (a b : StreamOutput W) → FailsToWriteSynced o at piece a b → AppendsPart (contents (writer_of a)) (contents (writer_of b)) (drop (got_to a - at) piece)
   hands_part at piece a b (inl write) = (writes a at piece false b write).part refl
   hands_part at piece a b (inr (written, write, sync)) = (
     drop (got_to a - at) piece,
@@ -87,7 +88,7 @@ module _ {W : Type 0} (contents : W → Option (List ℕ)) (o : Ghosts (StreamOu
   )
 
   -- a stream that had broken hands nothing on
-  broken_piece : (at : ℕ) (piece : List ℕ) (a b : StreamOutput W) → HasBroken a → FailsToPutOut o at piece a b → writer_of b ≡ writer_of a
+  broken_piece : (at : ℕ) (piece : List ℕ) (a b : StreamOutput W) → HasBroken a → FailsToWriteSynced o at piece a b → writer_of b ≡ writer_of a
   broken_piece at piece a b was (inl write) = ((writes a at piece false b write).broken was).1
   broken_piece at piece a b was (inr (written, write, sync)) = absurd (true_or_false ((writes a at piece true written write).broken was).0)
 
@@ -95,7 +96,7 @@ module _ {W : Type 0} (contents : W → Option (List ℕ)) (o : Ghosts (StreamOu
   broken_pieces at [] a b was h = h
   broken_pieces at (x ∷ xs) a b was (mid, put, h) = absurd (true_or_false ((writes a at x true put.written put.write).broken was).0)
 
-  breaks_by : (at : ℕ) (piece : List ℕ) (a b : StreamOutput W) → FailsToPutOut o at piece a b → HasBroken b
+  breaks_by : (at : ℕ) (piece : List ℕ) (a b : StreamOutput W) → FailsToWriteSynced o at piece a b → HasBroken b
   breaks_by at piece a b (inl write) = (writes a at piece false b write).breaks refl
   breaks_by at piece a b (inr (written, write, sync)) = (syncs written false b sync).breaks refl
 

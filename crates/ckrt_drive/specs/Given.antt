@@ -8,7 +8,7 @@ use Rattle.ckrt_drive.specs.declared.fault.DriveFault.{DriveFault}
 use Rattle.ckrt_drive.specs.declared.fault.DriveFault.TheVariants.{Input}
 use Rattle.ckrt_drive.specs.declared.supply.Supply.{Supply}
 
--- what a program is given next of a file's bytes, where it has taken so many of them; without a file nothing
+-- what a program is given next of a file's bytes, where it has taken that many of them; without a file nothing
 abbrev pub given_in : (file : Option (List ℕ)) → (taken : ℕ) → Tables → Option Event
 given_in None taken s = None
 given_in (Some bytes) taken s = next_input s (drop taken bytes)
@@ -17,7 +17,7 @@ given_in (Some bytes) taken s = next_input s (drop taken bytes)
 abbrev pub record_of : (file : Option (List ℕ)) → (taken : ℕ) → Option ℕ
 record_of file taken = option_map (λ bytes. taken) file
 
--- A step is supplied from a file of which the program has taken so many bytes.
+-- A step is supplied from a file of which the program has taken that many bytes.
 pub record IsSupplied (file : Option (List ℕ)) (taken : ℕ) (s : Tables) (w : Supply) : Type 0 where
   pub given : w.given ≡ given_in file taken s
   pub recorded : w.recorded ≡ record_of file taken

@@ -8,6 +8,6 @@ use Rattle.rand_pcg.specs.Pcg.{multiplier_64, output_xsh_rr}
 abbrev pub generator_of : (seed : ℕ) → Lcg
 generator_of seed = started 64 multiplier_64 seed (increment_of 64 54)
 
--- the number of 32 bits that it draws behind n others
+-- the number of 32 bits that it draws after n others
 abbrev pub lot_of : (seed n : ℕ) → ℕ
 lot_of seed n = output_xsh_rr (advance 64 multiplier_64 n (generator_of seed)).state

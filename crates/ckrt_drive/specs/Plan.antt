@@ -2,11 +2,12 @@
 -- events were accepted since the disk was formatted, and of the tables; what is saved when is one of what is pending and of the journal's room.
 -- A drive remembers nothing of it but how many events are left to it, and how many bytes of its input the program has taken.
 use Rattle.std.specs.Prelude.{ℕ, zero, suc, ◌+◌, ◌-◌, ◌*◌, ◌/◌, ◌%◌, ◌==◌, ◌||◌, ◌&&◌, nat_lt, nat_le, min, max, Bool, true, false, if◌then◌else◌, Option, Some, None, is_some, unwrap_or, List, [], ◌∷◌, Result, Ok, Err}
+use Rattle.ckrt_journal.specs.Chain.{FRAME_BYTES}
 use Rattle.ckrt_thread.specs.declared.records.Wait.{Wait}
 use Rattle.ckrt_thread.specs.declared.records.Object.TheVariants.{Input}
 use Rattle.ckrt_thread.specs.State.{first_waiter}
 use Rattle.ckrt_state.specs.declared.table.Tables.{Tables}
-use Rattle.ckrt_events.specs.Bytes.{IsInRange}
+use Rattle.ckrt_events.specs.Bytes.{IsInRange, BATCH_LIMIT, RUN_LIMIT}
 use Rattle.ckrt_events.specs.declared.event.Event.{Event}
 use Rattle.ckrt_events.specs.declared.event.Event.TheVariants.{Place, Run, Tick, RunLong}
 use Rattle.ckrt_machine.specs.declared.event.Refusal.TheVariants.{OutputFull}
@@ -14,7 +15,7 @@ use Rattle.ckrt_machine.specs.Events.{step}
 use Rattle.ckrt_machine.specs.Steps.{hart_of}
 use Rattle.ckrt_machine.specs.Runs.{is_running}
 use Rattle.ckrt_machine.specs.Plans.{or_else, planned}
-use Rattle.ckrt_image.specs.Recovery.{room_of}
+use Rattle.ckrt_stored.specs.Recovery.{room_of}
 use Rattle.ckrt_recovery.specs.declared.fault.SubmitFault.{SubmitFault}
 use Rattle.ckrt_recovery.specs.declared.fault.SubmitFault.TheVariants as fault
 use Rattle.ckrt_recovery.specs.View.{View, refusal_of, version_of}
@@ -22,19 +23,15 @@ use Rattle.ckrt_drive.specs.Lots.{lot_of}
 use Rattle.ckrt_drive.specs.declared.options.Options.{Options}
 use Rattle.ckrt_drive.specs.declared.fault.DriveFault.{DriveFault}
 use Rattle.ckrt_drive.specs.declared.fault.DriveFault.TheVariants.{Refused}
-use Rattle.ckrt_drive.specs.declared.progress.Ending.TheVariants.{Ended, WaitsForInput, Deadlock, Enough}
-use Rattle.ckrt_drive.specs.declared.progress.Progress.{Progress}
-use Rattle.ckrt_drive.specs.declared.progress.Progress.TheVariants.{Submitted, Committed, Checkpointed, Released, Stopped}
+use Rattle.ckrt_drive.specs.declared.step_done.DriveEnd.TheVariants.{Ended, WaitsForInput, Deadlock, Enough}
+use Rattle.ckrt_drive.specs.declared.step_done.StepDone.{StepDone}
+use Rattle.ckrt_drive.specs.declared.step_done.StepDone.TheVariants.{Submitted, Committed, Checkpointed, Released, Stopped}
 use Rattle.ckrt_drive.specs.declared.plan.Next.{Next}
 use Rattle.ckrt_drive.specs.declared.plan.Next.TheVariants.{Submit, End}
 use Rattle.ckrt_drive.specs.declared.plan.Sought.{Sought}
 use Rattle.ckrt_drive.specs.declared.plan.Sought.TheVariants.{Busy, Occupied}
 use Rattle.ckrt_drive.specs.declared.plan.Turn.{Turn}
 use Rattle.ckrt_drive.specs.declared.supply.Supply.{Supply}
-
--- how many steps a Run may have; a RunLong has more
-abbrev pub RUN_LIMIT : ℕ
-RUN_LIMIT = 65535
 
 -- THE PROGRAM
 
@@ -81,13 +78,13 @@ schedule_of o = record { turn = o.turn; seed = o.seed }
 abbrev pub places_of : Tables → ℕ
 places_of s = 2 * s.threads.hart_count + 1
 
--- a turn at the place behind n events: the hart that is looked at first, and how many steps a run has
+-- a turn at the place after n events: the hart that is looked at first, and how many steps a run has
 abbrev pub turn_by : (seed : Option ℕ) → (most place n harts : ℕ) → Turn
 turn_by None most place n harts = record { place = place; first = place / 2; steps = most }
 turn_by (Some seed) most place n harts =
     record { place = place; first = lot_of seed n % harts; steps = lot_of seed n / 8 % most + 1 }
 
--- the turn behind n events
+-- the turn after n events
 abbrev pub turn_at : Schedule → (n : ℕ) → Tables → Turn
 turn_at u n s = turn_by u.seed u.turn (n % places_of s) n s.threads.hart_count
 
@@ -101,7 +98,7 @@ run_by h n = if nat_le n RUN_LIMIT then Run h n else RunLong h n
 abbrev pub runner_at : Turn → Tables → Option ℕ
 runner_at turn s = if turn.place % 2 == 1 then or_else (next_sought Occupied turn.first s) (next_sought Occupied 0 s) else None
 
--- who is planned for a hart goes onto it, and where nobody is, its thread runs
+-- the thread that is planned for a hart goes onto it, and where nobody is, its thread runs
 abbrev pub on_hart : (who : Option ℕ) → (h n : ℕ) → Event
 on_hart (Some t) h n = Place h t
 on_hart None h n = run_by h n
@@ -133,7 +130,7 @@ abbrev pub or_scheduled : (given : Option Event) → Next → Next
 or_scheduled (Some e) scheduled = Submit e
 or_scheduled None scheduled = scheduled
 
--- the event that is next behind n others, or why there is none
+-- the event that is next after n others, or why there is none
 abbrev pub next_event : Schedule → (given : Option Event) → (n : ℕ) → Tables → Next
 next_event u given n s =
     if is_running s.status
@@ -146,9 +143,9 @@ next u w n s = if is_running s.status && (w.left == 0) then End Enough else next
 
 -- SAVING
 
--- the most bytes that a batch takes of a journal behind its gate: two of length, 4,096 of events, and the next gate
+-- the most bytes that a batch takes of a journal
 abbrev pub LONGEST_BATCH : ℕ
-LONGEST_BATCH = 4099
+LONGEST_BATCH = BATCH_LIMIT + FRAME_BYTES
 
 -- nothing is pending: all events are acknowledged
 abbrev pub is_settled : View → Bool
@@ -174,7 +171,7 @@ is_commit_due o v =
     || nat_le (o.rounds * places_of v.recovered.state.tables) (v.recovered.count - v.acknowledged)
 
 -- room for an event that the session has no place for
-abbrev pub make_room : View → Progress
+abbrev pub make_room : View → StepDone
 make_room v = if is_settled v then Checkpointed else Committed
 
 -- a commit or a checkpoint makes room for the event
@@ -190,29 +187,29 @@ is_shortage fault.CountersUsed = false
 -- THE PLAN
 
 -- an event that the session takes, with what it comes to, or refuses so
-abbrev pub offered : View → Event → Option SubmitFault → Result Progress DriveFault
+abbrev pub offered : View → Event → Option SubmitFault → Result StepDone DriveFault
 offered v e None = Ok (Submitted e (step e v.recovered.state).answer)
 offered v e (Some why) = if is_shortage why then Ok (make_room v) else Err (Refused why)
 
 -- an event is offered, and an end waits until all is acknowledged
-abbrev pub plan_for : Next → View → Result Progress DriveFault
+abbrev pub plan_for : Next → View → Result StepDone DriveFault
 plan_for (Submit e) v = offered v e (refusal_of v e)
 plan_for (End ending) v = if is_settled v then Ok (Stopped ending) else Ok Committed
 
 -- what is planned where nothing has to be saved first
-abbrev pub plan_next : Options → Supply → View → Result Progress DriveFault
+abbrev pub plan_next : Options → Supply → View → Result StepDone DriveFault
 plan_next o w v = plan_for (next (schedule_of o) w v.recovered.count v.recovered.state.tables) v
 
 -- what is planned where all released output is confirmed
-abbrev pub plan_onward : Options → Supply → View → Result Progress DriveFault
+abbrev pub plan_onward : Options → Supply → View → Result StepDone DriveFault
 plan_onward o w v = if is_checkpoint_due v then Ok Checkpointed else if is_commit_due o v then Ok Committed else plan_next o w v
 
 -- released output goes out first
-abbrev pub plan : Options → Supply → View → Result Progress DriveFault
+abbrev pub plan : Options → Supply → View → Result StepDone DriveFault
 plan o w v = if nat_lt v.recovered.confirmed v.released then Ok Released else plan_onward o w v
 
--- how many events are left behind what the drive did
-abbrev pub left_after : Progress → (left : ℕ) → ℕ
+-- how many events are left after what the drive did
+abbrev pub left_after : StepDone → (left : ℕ) → ℕ
 left_after (Submitted e answer) left = left - 1
 left_after Committed left = left
 left_after Checkpointed left = left

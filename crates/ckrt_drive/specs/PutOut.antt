@@ -1,10 +1,11 @@
--- What a drive gives to its output: which bytes, at which offsets, and a sync behind each write. What a kind of output says of its writes and
+-- What a drive gives to its output: which bytes, at which offsets, and a sync after each write. What a kind of output says of its writes and
 -- syncs holds of just these calls, in their order.
-use Rattle.std.specs.Prelude.{◌≡◌, ◌⊎◌, ◌+◌, ℕ, Bool, true, false, List, [], ◌∷◌, ◌++◌, length, take, drop, Result, Ok, Err}
+use Rattle.std.specs.Prelude.{◌≡◌, ◌+◌, ℕ, Bool, true, false, List, [], ◌∷◌, ◌++◌, length, take, drop, Result, Ok, Err}
 use Rattle.std.specs.List.{concat}
+use Rattle.ckrt_disk.specs.Synced.{FailsToWriteSynced, WritesSynced}
 use Rattle.ckrt_disk.specs.declared.disk.Disk.{Ghosts}
 use Rattle.ckrt_events.specs.declared.event.Event.{Event}
-use Rattle.ckrt_image.specs.Programs.{Program}
+use Rattle.ckrt_stored.specs.Programs.{Program}
 use Rattle.ckrt_recovery.specs.declared.session.Session.{Session}
 use Rattle.ckrt_recovery.specs.Represents.{Represents}
 use Rattle.ckrt_recovery.specs.View.{View, view_of, released_output}
@@ -27,43 +28,23 @@ abbrev pub is_output_fault : {X : Type 0} → Result X DriveFault → Bool
 is_output_fault (Ok x) = false
 is_output_fault (Err fault) = output_failed fault
 
--- A PIECE
-
--- from a to b a piece was written at an offset and then synced, both well
-pub record PutsOut {O : Type 0} (o : Ghosts O) (at : ℕ) (piece : List ℕ) (a b : O) : Type 0 where
-  pub written : O
-  pub write : o.write_gives a at piece true written
-  pub sync : o.sync_gives written true b
-
--- the write failed, or the sync behind it did
-abbrev pub FailsToPutOut : {O : Type 0} → Ghosts O → (at : ℕ) → (piece : List ℕ) → (a b : O)
-    → Type 0
-FailsToPutOut {O} o at piece a b =
-    o.write_gives a at piece false b
-    ⊎ ((written : O) × o.write_gives a at piece true written × o.sync_gives written false b)
-
-abbrev pub PutsOrFails : {O : Type 0} → Ghosts O → (at : ℕ) → (piece : List ℕ) → (a b : O)
-    → (failed : Bool) → Type 0
-PutsOrFails o at piece a b false = PutsOut o at piece a b
-PutsOrFails o at piece a b true = FailsToPutOut o at piece a b
-
 -- PIECE BY PIECE
 
 -- from a to b these pieces were put out, the first at an offset, and each where the one before it ended
 abbrev pub PutsAllOut : {O : Type 0} → Ghosts O → (at : ℕ) → List (List ℕ) → (a b : O) → Type 0
 PutsAllOut o at [] a b = b ≡ a
 PutsAllOut {O} o at (piece ∷ more) a b =
-    (mid : O) × PutsOut o at piece a mid × PutsAllOut o (at + length piece) more mid b
+    (mid : O) × WritesSynced o at piece a mid × PutsAllOut o (at + length piece) more mid b
 
 -- the bytes from one offset up to another
 abbrev pub between : (from to : ℕ) → List ℕ → List ℕ
 between from to out = drop from (take to out)
 
--- behind that it was given nothing more; or, where it failed a call, that was the write of the released bytes that aren't confirmed, or the
--- sync behind it
+-- after that it was given nothing more; or, where it failed a call, that was the write of the released bytes that aren't confirmed, or the
+-- sync after it
 abbrev pub EndsOrFails : {O : Type 0} → Ghosts O → View → (a b : O) → (failed : Bool) → Type 0
 EndsOrFails o v a b false = b ≡ a
-EndsOrFails o v a b true = FailsToPutOut o v.recovered.confirmed (released_output v) a b
+EndsOrFails o v a b true = FailsToWriteSynced o v.recovered.confirmed (released_output v) a b
 
 -- From s to t a session took these events, and its output went from a to b, whether it failed a call or not: what was put out is the plain
 -- fold's output of acknowledged events, from the offset that was confirmed in s up to the one that is confirmed in t.

@@ -2,7 +2,7 @@
 use Rattle.std.specs.Prelude.{◌≡◌, ◌++◌, ◌≤◌, ◌<◌, ◌-◌, ◌^◌, ℕ, true, List, [], ◌∷◌, length, Result, Ok, Err, Option, Some, None}
 use Rattle.ckrt_disk.specs.declared.disk.Disk.{Ghosts}
 use Rattle.ckrt_events.specs.declared.event.Event.{Event}
-use Rattle.ckrt_image.specs.Programs.{Program}
+use Rattle.ckrt_stored.specs.Programs.{Program}
 use Rattle.ckrt_recovery.specs.declared.session.Session.{Session}
 use Rattle.ckrt_recovery.specs.Between.{RecoversBetween}
 use Rattle.ckrt_recovery.specs.Represents.{Represents, acknowledged_of}
@@ -11,10 +11,10 @@ use Rattle.ckrt_commands.specs.Accepts.{Accepts}
 use Rattle.ckrt_drive.specs.declared.fault.DriveFault.{DriveFault}
 use Rattle.ckrt_drive.specs.declared.fault.DriveFault.TheVariants.{Device, Input, NoRecord, Output, OutputFull, GenerationsUsed, Refused}
 use Rattle.ckrt_drive.specs.declared.options.Options.{Options}
-use Rattle.ckrt_drive.specs.declared.progress.Ending.{Ending}
-use Rattle.ckrt_drive.specs.declared.progress.Ending.TheVariants.{Enough}
-use Rattle.ckrt_drive.specs.declared.progress.Progress.{Progress}
-use Rattle.ckrt_drive.specs.declared.progress.Progress.TheVariants.{Submitted, Committed, Checkpointed, Released, Stopped}
+use Rattle.ckrt_drive.specs.declared.step_done.DriveEnd.{DriveEnd}
+use Rattle.ckrt_drive.specs.declared.step_done.DriveEnd.TheVariants.{Enough}
+use Rattle.ckrt_drive.specs.declared.step_done.StepDone.{StepDone}
+use Rattle.ckrt_drive.specs.declared.step_done.StepDone.TheVariants.{Submitted, Committed, Checkpointed, Released, Stopped}
 use Rattle.ckrt_drive.specs.declared.supply.Supply.{Supply}
 use Rattle.ckrt_drive.specs.Ends.{IsEnd}
 use Rattle.ckrt_drive.specs.Output.{HasOutput, HoldsOutput, Writes, acknowledged_output}
@@ -30,11 +30,11 @@ pub record IsAllSaved (v : View) : Type 0 where
   pub confirmed : v.recovered.confirmed ≡ v.released
 
 -- at an end all is saved, and the end is what it says
-pub record IsAtEnd (left : ℕ) (v : View) (ending : Ending) : Type 0 where
+pub record IsAtEnd (left : ℕ) (v : View) (ending : DriveEnd) : Type 0 where
   pub saved : IsAllSaved v
   pub is : IsEnd ending left v.recovered.state.tables
 
-abbrev pub StopsRightly : (left : ℕ) → View → Progress → Type 0
+abbrev pub StopsRightly : (left : ℕ) → View → StepDone → Type 0
 StopsRightly left v (Submitted e answer) = Unit {0}
 StopsRightly left v Committed = Unit {0}
 StopsRightly left v Checkpointed = Unit {0}
@@ -54,16 +54,16 @@ stand left v = record { left = left; view = v }
 abbrev pub stand_of : {D : Type 0} {g : Ghosts D} → (left : ℕ) → Session D g → Stand
 stand_of left s = stand left (view_of s)
 
--- behind what it did
-abbrev pub stand_after : Progress → Stand → Stand
+-- after what it did
+abbrev pub stand_after : StepDone → Stand → Stand
 stand_after did x = record { left = left_after did x.left; view = view_after did x.view }
 
 -- this is planned there, by what the input gave then
-abbrev pub IsPlanned : Options → Stand → Result Progress DriveFault → Type 0
+abbrev pub IsPlanned : Options → Stand → Result StepDone DriveFault → Type 0
 IsPlanned o x planned = (w : Supply) × (w.left ≡ x.left) × (plan o w x.view ≡ planned)
 
 -- it isn't an end
-abbrev pub IsOnward : Progress → Type 0
+abbrev pub IsOnward : StepDone → Type 0
 IsOnward (Submitted e answer) = Unit {0}
 IsOnward Committed = Unit {0}
 IsOnward Checkpointed = Unit {0}
@@ -71,13 +71,13 @@ IsOnward Released = Unit {0}
 IsOnward (Stopped ending) = ⊥
 
 -- From one stand to another a drive did these things, each as planned, and none of them was an end.
-abbrev pub FollowsPlan : Options → List Progress → (x y : Stand) → Type 0
+abbrev pub FollowsPlan : Options → List StepDone → (x y : Stand) → Type 0
 FollowsPlan o [] x y = y ≡ x
 FollowsPlan o (did ∷ more) x y = IsPlanned o x (Ok did) × IsOnward did
     × FollowsPlan o more (stand_after did x) y
 
 -- the events among them
-abbrev pub events_in : List Progress → List Event
+abbrev pub events_in : List StepDone → List Event
 events_in [] = []
 events_in (did ∷ more) = accepted_by did ++ events_in more
 
@@ -91,19 +91,19 @@ IsFault o x y OutputFull = IsPlanned o x (Ok Released) × (y ≡ x)
 IsFault o x y GenerationsUsed = (x.view.recovered.generation ≡ 2 ^ 64 - 1) × (y ≡ x)
 IsFault o x y (Refused why) = IsPlanned o x (Err (Refused why)) × (y ≡ x)
 
--- Why a drive that may make so many steps makes no more than these, behind which it stood at x: it made them all, an end is planned, or it
+-- Why a drive that may make that many steps makes no more than these, after which it stood at x: it made them all, an end is planned, or it
 -- couldn't do what is planned.
 abbrev pub IsWhyNoMore : Options → (steps made : ℕ) → (x y : Stand)
-    → Result (Option Ending) DriveFault → Type 0
+    → Result (Option DriveEnd) DriveFault → Type 0
 IsWhyNoMore o steps made x y (Ok None) = (made ≡ steps) × (y ≡ x)
 IsWhyNoMore o steps made x y (Ok (Some ending)) =
     IsPlanned o x (Ok (Stopped ending)) × (y ≡ x) × IsAtEnd y.left y.view ending
 IsWhyNoMore o steps made x y (Err fault) = (made < steps) × IsFault o x y fault
 
--- From x to y a drive took these events, in at most so many steps.
+-- From x to y a drive took these events, in at most that many steps.
 pub record GoesByPlan (o : Options) (steps : ℕ) (accepted : List Event) (x y : Stand)
-    (result : Result (Option Ending) DriveFault) : Type 0 where
-  pub did : List Progress
+    (result : Result (Option DriveEnd) DriveFault) : Type 0 where
+  pub did : List StepDone
   pub last : Stand
   pub follows : FollowsPlan o did x last
   pub few : length did ≤ steps
@@ -114,10 +114,10 @@ pub record GoesByPlan (o : Options) (steps : ℕ) (accepted : List Event) (x y :
 
 -- WHAT IS LEFT
 
--- From s to t, with the output from a to b, a drive made at most so many steps by its plan, whatever they answered.
+-- From s to t, with the output from a to b, a drive made at most that many steps by its plan, whatever they answered.
 pub record Runs {D O : Type 0} {g : Ghosts D} (o : Ghosts O) (options : Options)
     (steps left left' : ℕ) (s t : Session D g) (a b : O)
-    (result : Result (Option Ending) DriveFault) : Type 0 where
+    (result : Result (Option DriveEnd) DriveFault) : Type 0 where
   -- the events that the session took
   pub accepted : List Event
   pub accepts : Accepts accepted s t

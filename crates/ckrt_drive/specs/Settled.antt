@@ -3,13 +3,13 @@ use Rattle.std.specs.Prelude.{◌≡◌, List, [], IfSome, Ok}
 use Rattle.ckrt_disk.specs.declared.disk.Disk.{Ghosts}
 use Rattle.ckrt_events.specs.Bytes.{IsInRange}
 use Rattle.ckrt_events.specs.declared.event.Event.{Event}
-use Rattle.ckrt_image.specs.Programs.{Program}
+use Rattle.ckrt_stored.specs.Programs.{Program}
 use Rattle.ckrt_recovery.specs.Represents.{Represents}
 use Rattle.ckrt_recovery.specs.View.{View, checkpointed, view_of}
 use Rattle.ckrt_recovery.specs.declared.session.Session.{Session}
 use Rattle.ckrt_drive.specs.Plan.{plan}
 use Rattle.ckrt_drive.specs.declared.options.Options.{Options}
-use Rattle.ckrt_drive.specs.declared.progress.Progress.TheVariants.{Checkpointed}
+use Rattle.ckrt_drive.specs.declared.step_done.StepDone.TheVariants.{Checkpointed}
 use Rattle.ckrt_drive.specs.declared.supply.Supply.{Supply}
 
 -- where a checkpoint is planned all accepted events are acknowledged
@@ -23,7 +23,7 @@ FindsNothingPending o s =
     (w : Supply) (p : Program) (events : List Event) → Represents p events s
     → plan o w (view_of s) ≡ Ok Checkpointed → s.pending.items ≡ []
 
--- Behind a checkpoint no other one is planned: an event, an end, a commit or a release is, so there are no checkpoints without end. What is
+-- After a checkpoint no other one is planned: an event, an end, a commit or a release is, so there are no checkpoints without end. What is
 -- given is an event with its fields in their ranges.
 abbrev pub NoneIsNext : {D : Type 0} {g : Ghosts D} → Options → Session D g → Type 0
 NoneIsNext o s =

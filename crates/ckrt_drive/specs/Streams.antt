@@ -3,14 +3,14 @@ use Rattle.std.specs.Prelude.{◌≡◌, ◌<◌, ◌+◌, ◌-◌, ℕ, max, Bo
 use Rattle.std.specs.Io.KnownBytes.{Appends}
 use Rattle.ckrt_disk.specs.declared.disk.Disk.{Ghosts}
 use Rattle.ckrt_events.specs.declared.event.Event.{Event}
-use Rattle.ckrt_image.specs.Programs.{Program}
+use Rattle.ckrt_stored.specs.Programs.{Program}
 use Rattle.ckrt_recovery.specs.declared.session.Session.{Session}
-use Rattle.ckrt_recovery.specs.Between.{IsBeginningOf}
+use Rattle.ckrt_recovery.specs.Lists.{IsBeginningOf}
 use Rattle.ckrt_recovery.specs.Represents.{Represents}
 use Rattle.ckrt_commands.specs.Writing.{AppendsPart}
 use Rattle.ckrt_drive.specs.declared.fault.DriveFault.{DriveFault}
 use Rattle.ckrt_drive.specs.declared.options.Options.{Options}
-use Rattle.ckrt_drive.specs.declared.progress.Ending.{Ending}
+use Rattle.ckrt_drive.specs.declared.step_done.DriveEnd.{DriveEnd}
 use Rattle.ckrt_drive.specs.declared.stream.StreamOutput.{StreamOutput}
 use Rattle.ckrt_drive.specs.Output.{acknowledged_output}
 use Rattle.ckrt_drive.specs.PutOut.{between, is_output_fault}
@@ -32,7 +32,7 @@ got_to stream = stream.next
 abbrev pub news_of : {W : Type 0} → StreamOutput W → (at : ℕ) → List ℕ → List ℕ
 news_of stream at bytes = drop (got_to stream - at) bytes
 
--- its calls failed from some one on
+-- its calls failed from some call on
 abbrev pub HasBroken : {W : Type 0} → StreamOutput W → Type 0
 HasBroken stream = 0 < stream.failures
 
@@ -71,7 +71,7 @@ SyncsNothing old ok new = HandsNothingOn old ok new × (ok ≡ false → HasBrok
 -- A WHOLE RUN OF A DRIVE
 
 -- From a to b a stream handed on these bytes, from an offset up to another, but for those below the offset that it had got to; and where it
--- failed a call, also a beginning of what is behind.
+-- failed a call, also a beginning of what comes after that.
 abbrev pub HandsBetween : {W : Type 0} → (contents : W → Option (List ℕ)) → (from to : ℕ)
     → (out : List ℕ) → (a b : StreamOutput W) → (failed : Bool) → Type 0
 HandsBetween contents from to out a b false =
@@ -88,7 +88,7 @@ pub record StreamsOutput {D W : Type 0} {g : Ghosts D} (contents : W → Option 
   pub hands : g.is_honest t.disk → (p : Program) (events : List Event) → Represents p events s
       → HandsBetween contents s.progress.confirmed t.progress.confirmed
       (acknowledged_output p (events ++ accepted) t) a b failed
-  -- it leaves out as much of what is behind as before
+  -- it leaves out as much of what comes after as before
   pub left_out : failed ≡ false
       → max (got_to b) t.progress.confirmed ≡ max (got_to a) t.progress.confirmed
   -- it has broken where it failed a call
@@ -101,6 +101,6 @@ pub record StreamsOutput {D W : Type 0} {g : Ghosts D} (contents : W → Option 
 abbrev pub GetsTheOutput : {D W : Type 0} {g : Ghosts D} → Ghosts (StreamOutput W)
     → (contents : W → Option (List ℕ)) → (s t : Session D g) → (a b : StreamOutput W) → Type 0
 GetsTheOutput o contents s t a b =
-    (options : Options) (steps first last : ℕ) (result : Result (Option Ending) DriveFault)
+    (options : Options) (steps first last : ℕ) (result : Result (Option DriveEnd) DriveFault)
     → (runs : Runs o options steps first last s t a b result)
     → StreamsOutput contents runs.accepted s t a b (is_output_fault result)

@@ -1,3 +1,4 @@
+//! The faults of a drive.
 use ckrt_recovery::SubmitFault;
 use thiserror::Error;
 

@@ -26,7 +26,7 @@ pub trait Feed {
     fn is_recorded(&self) -> bool
         ensures { result ≡ is_some (file self.now) };
 
-    /// What the program is given next, where it has taken so many bytes; nothing where there is no file.
+    /// What the program is given next, where it has taken that many bytes; nothing where there is no file.
     fn next(&mut self, tables: &Tables, taken: u64) -> Result<Option<Event>, DeviceFault>
         ensures given { IfOk result (λ given. is_honest self.new
             → given ≡ given_in (file self.old) taken tables.now) }
@@ -81,7 +81,7 @@ impl<I: Disk> FromDisk<I> {
     }
 }
 
-/// What is given of the bytes at a place, as many as the window has. Nothing is read where nothing is given: that hangs on their
+/// What is given of the bytes at a place, as many as the window has. Nothing is read where nothing is given: that depends on their
 /// number alone.
 fn given_at<I: Disk>(
     disk: &mut I,

@@ -16,7 +16,7 @@ use std::io::Write;
 
 /// What a run of a drive hands on to a stream is the plain fold's output of acknowledged events, whatever the run answered: each
 /// byte once and in order, from the offset that the stream had got to, or that the session had confirmed if that is higher, up to
-/// the one that is confirmed at its end; and where a call of the stream failed, also a beginning of what is behind. That is said
+/// the one that is confirmed at its end; and where a call of the stream failed, also a beginning of what comes after that. That is said
 /// where the session's disk is honest, and the bytes that the writer holds are known.
 pub fn stream_gets_the_output<'a, D: Disk, W: Write>(
     before: &Session<D>,
@@ -41,7 +41,7 @@ pub fn checkpoints_find_nothing_pending<D: Disk>(options: &Options, session: &Se
     ensures pending { FindsNothingPending options.now session.now }
 {}
 
-/// Behind a checkpoint a drive plans none: the journal is empty, and takes each event of a plan.
+/// After a checkpoint a drive plans none: the journal is empty, and takes each event of a plan.
 pub fn no_checkpoint_behind_a_checkpoint<D: Disk>(options: &Options, session: &Session<D>)
     ensures { NoneIsNext options.now session.now }
 {}

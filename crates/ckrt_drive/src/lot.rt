@@ -8,7 +8,7 @@ use rand_pcg::Pcg32;
 /// The stream of the generator's reference program.
 const STREAM: u64 = 54;
 
-/// The number of 32 bits that the generator of a seed draws behind so many others.
+/// The number of 32 bits that the generator of a seed draws after that many others.
 pub fn lot_of(seed: u64, behind: u64) -> u32
     ensures { result ≡ lot_of seed behind }
 {

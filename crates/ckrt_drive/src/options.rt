@@ -1,10 +1,10 @@
-//! How a drive goes.
+//! The options of a drive.
 ghost use Rattle.std.specs.Prelude.{◌≡◌, ◌≤◌, None, Some};
 ghost use Rattle.ckrt_events.specs.declared.event.TheConstants.{LONG_RUN_LIMIT};
 
 use ckrt_events::LONG_RUN_LIMIT;
 
-/// How a drive goes.
+/// What a drive is run with: steps a turn, rounds a commit, events in all, and the seed of its lots where it has one.
 #[derive(Clone, Copy, Debug, PartialEq, Eq)]
 pub struct Options {
     pub(crate) turn: u32,

@@ -10,18 +10,18 @@ ghost use Rattle.ckrt_drive.specs.Plan.{IsInRangeNext, earliest_deadline, event_
 
 use crate::lot::lot_of;
 use crate::options::Options;
-use crate::progress::Ending;
+use crate::step_done::DriveEnd;
 use crate::supply::Supply;
 use ckrt_events::{Event, LONG_RUN_LIMIT, RUN_LIMIT};
 use ckrt_machine::Machine;
 use ckrt_state::{Status, Tables};
-use ckrt_thread::{Object, Wait};
+use ckrt_thread::{Hart, Object, Wait};
 
 /// The event that is next, or why there is none.
 #[derive(Clone, Debug, Drop, PartialEq, Eq)]
 pub enum Next {
     Submit(Event),
-    End(Ending),
+    End(DriveEnd),
 }
 
 /// Which hart is sought.
@@ -45,7 +45,7 @@ pub struct Turn {
 }
 
 /// Whether the hart is one that is sought.
-fn is_sought(machine: &Machine, sought: Sought, hart: u8) -> bool
+fn is_sought(machine: &Machine, sought: Sought, hart: Hart) -> bool
     ensures { result ≡ is_sought sought machine.now.state.tables hart }
 {
     let is_occupied = machine
@@ -60,7 +60,7 @@ fn is_sought(machine: &Machine, sought: Sought, hart: u8) -> bool
 }
 
 /// The first one from a hart on, up to the last hart.
-fn next_sought(machine: &Machine, sought: Sought, from: u8) -> Option<u8>
+fn next_sought(machine: &Machine, sought: Sought, from: Hart) -> Option<Hart>
     requires { from ≤ 8 }
     ensures found { result ≡ next_sought sought from machine.now.state.tables }
     ensures small { IfSome result (λ hart. hart ≤ 7) }
@@ -117,12 +117,12 @@ pub fn idle(tables: &Tables) -> Next
         return Next::Submit(Event::Tick(ticks_to(deadline, tables.clock)));
     }
     if tables.threads.first_waiter(Object::Input).is_some() {
-        return Next::End(Ending::WaitsForInput);
+        return Next::End(DriveEnd::WaitsForInput);
     }
-    Next::End(Ending::Deadlock)
+    Next::End(DriveEnd::Deadlock)
 }
 
-/// The turn of a seed, or of none, at a place of a round: behind so many events, among so many harts.
+/// The turn of a seed, or of none, at a place of a round: after that many events, among that many harts.
 fn turn_by(seed: Option<u64>, most: u32, place: u8, behind: u64, harts: u32) -> Turn
     requires some { 1 ≤ most }
     requires place { place ≤ 16 }
@@ -148,7 +148,7 @@ fn turn_by(seed: Option<u64>, most: u32, place: u8, behind: u64, harts: u32) -> 
     }
 }
 
-/// The turn behind so many events.
+/// The turn after that many events.
 fn turn_at(machine: &Machine, options: &Options, behind: u64) -> Turn
     requires { 1 ≤ machine.now.state.tables.threads.hart_count }
     ensures turn { result ≡ turn_at (schedule_of options.now) behind machine.now.state.tables }
@@ -160,8 +160,8 @@ fn turn_at(machine: &Machine, options: &Options, behind: u64) -> Turn
     turn_by(options.seed, options.turn, place as u8, behind, harts)
 }
 
-/// A run of so many steps, by the shortest event that has as many.
-pub fn run_by(hart: u8, steps: u32) -> Event
+/// A run of that many steps, by the shortest event that has as many.
+pub fn run_by(hart: Hart, steps: u32) -> Event
     requires hart { hart ≤ 7 }
     requires some { 1 ≤ steps }
     requires few { steps ≤ LONG_RUN_LIMIT }
@@ -176,7 +176,7 @@ pub fn run_by(hart: u8, steps: u32) -> Event
 }
 
 /// The hart whose thread runs at a turn.
-fn runner_at(machine: &Machine, turn: Turn) -> Option<u8>
+fn runner_at(machine: &Machine, turn: Turn) -> Option<Hart>
     requires { turn.first ≤ 8 }
     ensures runner { result ≡ runner_at turn machine.now.state.tables }
     ensures small { IfSome result (λ hart. hart ≤ 7) }
@@ -190,8 +190,8 @@ fn runner_at(machine: &Machine, turn: Turn) -> Option<u8>
     }
 }
 
-/// The event of a busy hart: who is planned for it goes onto it, and where nobody is, its thread runs.
-fn of_busy(machine: &Machine, hart: u8, steps: u32) -> Event
+/// The event of a busy hart: the thread that is planned for it goes onto it, and where nobody is, its thread runs.
+fn of_busy(machine: &Machine, hart: Hart, steps: u32) -> Event
     requires hart { hart ≤ 7 }
     requires some { 1 ≤ steps }
     requires few { steps ≤ LONG_RUN_LIMIT }
@@ -239,7 +239,7 @@ fn next_scheduled(machine: &Machine, options: &Options, behind: u64) -> Next
     Next::Submit(event_at(machine, turn, least))
 }
 
-/// The event that is next behind so many others, or why there is none: what is given, and else what the schedule has.
+/// The event that is next after that many others, or why there is none: what is given, and else what the schedule has.
 fn next_event(machine: &Machine, options: &Options, given: Option<Event>, behind: u64) -> Next
     requires { IfSome given IsInRange }
     ensures next { result ≡ next_event (schedule_of options.now) given behind
@@ -247,7 +247,7 @@ fn next_event(machine: &Machine, options: &Options, given: Option<Event>, behind
     ensures in_range { IsInRangeNext result }
 {
     if !matches!(machine.status(), Status::Running) {
-        return Next::End(Ending::Ended);
+        return Next::End(DriveEnd::Ended);
     }
     match given {
         Some(event) => Next::Submit(event),
@@ -263,7 +263,7 @@ pub(crate) fn next_for(machine: &Machine, options: &Options, supply: Supply, beh
     ensures in_range { IsInRangeNext result }
 {
     if matches!(machine.status(), Status::Running) && supply.left == 0 {
-        return Next::End(Ending::Enough);
+        return Next::End(DriveEnd::Enough);
     }
     next_event(machine, options, supply.given, behind)
 }

@@ -1,15 +1,12 @@
 //! Steps of a drive.
-ghost use Rattle.std.specs.Prelude.{◌≡◌, ◌≤◌, ◌<◌, ◌+◌, ◌-◌, ◌*◌, ◌^◌, ℕ, [], ◌∷◌, length, is_err, true, Err, None, Ok, Option, Some, OnErr, OnOk, IfErr, IfOk, IfSome};
-ghost use Rattle.ckrt_disk.specs.Disk.{IsOverwritten, IsWithin};
-ghost use Rattle.ckrt_disk.specs.Frame.{WritesWithin};
+ghost use Rattle.std.specs.Prelude.{◌≡◌, ◌≤◌, ◌<◌, ◌+◌, ◌-◌, ◌*◌, ◌^◌, [], ◌∷◌, is_err, true, Err, None, Ok, Option, Some, OnErr, IfErr, IfOk, IfSome};
+ghost use Rattle.ckrt_disk.specs.Disk.{CountsFault};
 ghost use Rattle.ckrt_events.specs.Bytes.{IsInRange};
 ghost use Rattle.ckrt_recovery.specs.declared.fault.SubmitFault.{SubmitFault};
 ghost use Rattle.ckrt_recovery.specs.View.{view_of, refusal_of};
 ghost use Rattle.ckrt_drive.specs.declared.fault.DriveFault.TheVariants.{Input};
-ghost use Rattle.ckrt_drive.specs.declared.progress.Progress.TheVariants.{Committed, Checkpointed, Released};
-ghost use Rattle.ckrt_disk.specs.Disk.{CountsFault};
+ghost use Rattle.ckrt_drive.specs.declared.step_done.StepDone.TheVariants.{Committed, Checkpointed, Released};
 ghost use Rattle.ckrt_drive.specs.Plan.{is_checkpoint_due, is_commit_due, is_filled, is_old, is_settled, is_shortage, left_after, make_room, offered, places_of, plan, plan_for, plan_next, plan_onward};
-ghost use Rattle.ckrt_drive.specs.PutOut.{PutsOrFails};
 ghost use Rattle.ckrt_drive.specs.Given.{CountsRead, IsSupplied};
 ghost use Rattle.ckrt_drive.specs.Stages.{TakesStep, stage};
 ghost use Rattle.ckrt_drive.specs.Steps.{Advances, Steps, accepted_by, aim, aim_of};
@@ -19,9 +16,9 @@ use crate::fault::DriveFault;
 use crate::feed::Feed;
 use crate::options::Options;
 use crate::plan::{Next, next_for};
-use crate::progress::Progress;
+use crate::step_done::StepDone;
 use crate::supply::Supply;
-use ckrt_disk::{DeviceFault, Disk};
+use ckrt_disk::{DeviceFault, Disk, write_synced};
 use ckrt_events::Event;
 use ckrt_input::taken_by;
 use ckrt_journal::FRAME_LIMIT;
@@ -30,21 +27,21 @@ use ckrt_record::{RECORD_BYTES, TAKEN_LIMIT};
 use ckrt_recovery::{CommitFault, Session, SubmitFault};
 
 /// Acknowledges the events so far by a commit.
-fn commit<D: Disk>(session: &mut Session<D>, recorded: Option<u64>) -> Result<Progress, DriveFault>
+fn commit<D: Disk>(session: &mut Session<D>, recorded: Option<u64>) -> Result<StepDone, DriveFault>
     ensures { Advances (aim (Ok Committed) recorded) session.old session.new result }
 {
     match session.commit() {
-        Ok(_) => Ok(Progress::Committed),
+        Ok(_) => Ok(StepDone::Committed),
         Err(_) => Err(DriveFault::Device),
     }
 }
 
 /// Acknowledges the events so far by a checkpoint that has no record.
-fn checkpoint_alone<D: Disk>(session: &mut Session<D>) -> Result<Progress, DriveFault>
+fn checkpoint_alone<D: Disk>(session: &mut Session<D>) -> Result<StepDone, DriveFault>
     ensures { Advances (aim (Ok Checkpointed) None) session.old session.new result }
 {
     match session.checkpoint() {
-        Ok(_) => Ok(Progress::Checkpointed),
+        Ok(_) => Ok(StepDone::Checkpointed),
         Err(CommitFault::GenerationsUsed) => Err(DriveFault::GenerationsUsed),
         Err(CommitFault::Failed) => Err(DriveFault::Device),
         Err(CommitFault::Device) => Err(DriveFault::Device),
@@ -55,14 +52,14 @@ fn checkpoint_alone<D: Disk>(session: &mut Session<D>) -> Result<Progress, Drive
 fn checkpoint_recorded<D: Disk>(
     session: &mut Session<D>,
     taken: u64,
-) -> Result<Progress, DriveFault>
+) -> Result<StepDone, DriveFault>
     ensures { Advances (aim (Ok Checkpointed) (Some taken)) session.old session.new result }
 {
     if session.spare_room() < RECORD_BYTES || taken >= TAKEN_LIMIT {
         return Err(DriveFault::NoRecord);
     }
     match ckrt_record::checkpoint(session, taken) {
-        Ok(_) => Ok(Progress::Checkpointed),
+        Ok(_) => Ok(StepDone::Checkpointed),
         Err(CommitFault::GenerationsUsed) => Err(DriveFault::GenerationsUsed),
         Err(CommitFault::Failed) => Err(DriveFault::Device),
         Err(CommitFault::Device) => Err(DriveFault::Device),
@@ -73,7 +70,7 @@ fn checkpoint_recorded<D: Disk>(
 fn checkpoint<D: Disk>(
     session: &mut Session<D>,
     recorded: Option<u64>,
-) -> Result<Progress, DriveFault>
+) -> Result<StepDone, DriveFault>
     ensures { Advances (aim (Ok Checkpointed) recorded) session.old session.new result }
 {
     match recorded {
@@ -130,7 +127,7 @@ fn is_commit_due<D: Disk>(session: &Session<D>, options: &Options) -> bool
 fn make_room<D: Disk>(
     session: &mut Session<D>,
     recorded: Option<u64>,
-) -> Result<Progress, DriveFault>
+) -> Result<StepDone, DriveFault>
     ensures { Advances (aim (Ok (make_room (view_of session.old))) recorded)
         session.old session.new result }
 {
@@ -158,13 +155,13 @@ fn offer<D: Disk>(
     session: &mut Session<D>,
     event: Event,
     recorded: Option<u64>,
-) -> Result<Progress, DriveFault>
+) -> Result<StepDone, DriveFault>
     requires { IsInRange event }
     ensures { Advances (aim (offered (view_of session.old) event
         (refusal_of (view_of session.old) event)) recorded) session.old session.new result }
 {
     match session.submit(&event) {
-        Ok((_, answer)) => Ok(Progress::Submitted(event, answer)),
+        Ok((_, answer)) => Ok(StepDone::Submitted(event, answer)),
         Err(fault) => {
             if is_shortage(fault) {
                 return make_room(session, recorded);
@@ -174,27 +171,12 @@ fn offer<D: Disk>(
     }
 }
 
-/// Writes the bytes from the offset `at` on, and syncs the output.
-fn put_out<O: Disk>(output: &mut O, at: usize, bytes: &[u8]) -> Result<(), DeviceFault>
-    requires { at + length bytes.now ≤ O.size output.old }
-    ensures within { WritesWithin O.Disk (IsWithin at (length bytes.now)) 2 output.old output.new
-        (is_err result) }
-    ensures written { OnOk result (O.is_honest output.new
-        → IsOverwritten (O.content output.old) at bytes.now (O.content output.new)) }
-    ensures nothing_pending { OnOk result
-        (O.is_honest output.new → (i : ℕ) → ¬ O.pending output.new i) }
-    ensures puts { PutsOrFails O.Disk at bytes.now output.old output.new (is_err result) }
-{
-    output.write(at, bytes)?;
-    output.sync()
-}
-
 /// Writes the released bytes at their offset, syncs the output, and then confirms them.
 fn release<D: Disk, O: Disk>(
     session: &mut Session<D>,
     output: &mut O,
     recorded: Option<u64>,
-) -> Result<Progress, DriveFault>
+) -> Result<StepDone, DriveFault>
     ensures steps { Steps O.Disk (aim (Ok Released) recorded) session.old session.new
         output.old output.new result }
     ensures unread { IfErr result (λ fault. fault ≡ Input → ⊥) }
@@ -204,11 +186,11 @@ fn release<D: Disk, O: Disk>(
         return Err(DriveFault::OutputFull);
     }
     let (offset, bytes) = session.take_output();
-    if put_out(output, offset as usize, bytes).is_err() {
+    if write_synced(output, offset as usize, bytes).is_err() {
         return Err(DriveFault::Output);
     }
     session.confirm(released);
-    Ok(Progress::Released)
+    Ok(StepDone::Released)
 }
 
 /// Hands in the next event, or finds that there is none, once all is acknowledged.
@@ -216,7 +198,7 @@ fn do_next<D: Disk>(
     session: &mut Session<D>,
     options: &Options,
     supply: Supply,
-) -> Result<Progress, DriveFault>
+) -> Result<StepDone, DriveFault>
     requires { IfSome supply.given IsInRange }
     ensures { Advances (aim (plan_next options.now supply (view_of session.old)) supply.recorded)
         session.old session.new result }
@@ -229,7 +211,7 @@ fn do_next<D: Disk>(
             if !is_settled(session) {
                 return commit(session, recorded);
             }
-            Ok(Progress::Stopped(ending))
+            Ok(StepDone::Stopped(ending))
         }
     }
 }
@@ -239,7 +221,7 @@ fn go_on<D: Disk>(
     session: &mut Session<D>,
     options: &Options,
     supply: Supply,
-) -> Result<Progress, DriveFault>
+) -> Result<StepDone, DriveFault>
     requires { IfSome supply.given IsInRange }
     ensures { Advances (aim (plan_onward options.now supply (view_of session.old)) supply.recorded)
         session.old session.new result }
@@ -259,7 +241,7 @@ fn advance<D: Disk, O: Disk>(
     output: &mut O,
     options: &Options,
     supply: Supply,
-) -> Result<Progress, DriveFault>
+) -> Result<StepDone, DriveFault>
     requires { IfSome supply.given IsInRange }
     ensures steps { Steps O.Disk (aim_of options.now supply (view_of session.old)) session.old
         session.new output.old output.new result }
@@ -271,24 +253,24 @@ fn advance<D: Disk, O: Disk>(
     go_on(session, options, supply)
 }
 
-/// How many events are left behind what the drive did.
-fn left_after(did: &Progress, left: u64) -> u64
+/// How many events are left after what the drive did.
+fn left_after(did: &StepDone, left: u64) -> u64
     ensures { result ≡ left_after did.now left }
 {
     match did {
-        Progress::Submitted(_, _) => left.saturating_sub(1),
-        Progress::Committed | Progress::Checkpointed | Progress::Released | Progress::Stopped(_) =>
+        StepDone::Submitted(_, _) => left.saturating_sub(1),
+        StepDone::Committed | StepDone::Checkpointed | StepDone::Released | StepDone::Stopped(_) =>
             left,
     }
 }
 
 /// How many bytes of input the program took by what the drive did.
-fn taken_in(did: &Progress) -> u64
+fn taken_in(did: &StepDone) -> u64
     ensures { result ≡ input.taken_by (accepted_by did.now) }
 {
     match did {
-        Progress::Submitted(event, _) => taken_by(event) as u64,
-        Progress::Committed | Progress::Checkpointed | Progress::Released | Progress::Stopped(_) =>
+        StepDone::Submitted(event, _) => taken_by(event) as u64,
+        StepDone::Committed | StepDone::Checkpointed | StepDone::Released | StepDone::Stopped(_) =>
             0,
     }
 }
@@ -328,7 +310,7 @@ pub(crate) fn step<D: Disk, O: Disk, F: Feed>(
     options: &Options,
     left: &mut u64,
     taken: &mut u64,
-) -> Result<Progress, DriveFault>
+) -> Result<StepDone, DriveFault>
     ensures steps { TakesStep options.now (F.is_honest feed.new) (F.file feed.old)
         (stage O.Disk left.old taken.old session.old output.old)
         (stage O.Disk left.new taken.new session.new output.new) result }

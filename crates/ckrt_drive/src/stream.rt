@@ -11,7 +11,7 @@ const STREAM_SIZE: usize = i64::MAX as usize;
 
 /// An output that hands its bytes on to a writer, each once and in their order, and keeps none: those below the offset that
 /// it has got to are left out. Once its writer has failed it hands nothing more on. It isn't honest: nobody can read it, and
-/// what a stop leaves of its bytes is for who gets them.
+/// what a stop leaves of its bytes is for whoever gets them.
 #[derive(Drop)]
 pub struct StreamOutput<'a, W> {
     writer: &'a mut W,
@@ -20,7 +20,7 @@ pub struct StreamOutput<'a, W> {
     failures: u64,
 }
 
-/// The ones of these bytes, from the offset `at` on, that lie at or behind `next`.
+/// The ones of these bytes, from the offset `at` on, that lie at or after `next`.
 fn behind(bytes: &[u8], at: usize, next: usize) -> &[u8]
     ensures { result.now ≡ drop (next - at) bytes.now }
 {

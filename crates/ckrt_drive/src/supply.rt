@@ -1,7 +1,7 @@
 //! What a step of a drive goes by.
 use ckrt_events::Event;
 
-/// What a step of a drive goes by, beside its options and its session.
+/// What a step of a drive goes by, besides its options and its session.
 #[derive(Clone, Debug, Drop, PartialEq, Eq)]
 pub struct Supply {
     /// How many events are left to the drive.

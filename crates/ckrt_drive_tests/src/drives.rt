@@ -8,7 +8,7 @@ use crate::small_disk::{SMALL, format_outcome, recovered_in_memory, recovery_out
 use arrayvec::ArrayVec;
 use ckrt_disk::{Disk, MemoryDisk, StoppingDisk};
 use ckrt_drive::{
-    Drive, DriveFault, Ending, Nobody, Nothing, Onlooker, Options, Progress, StreamOutput,
+    Drive, DriveEnd, DriveFault, Nobody, Nothing, Onlooker, Options, StepDone, StreamOutput,
 };
 use ckrt_events::Event;
 use ckrt_machine::{Answer, RunEnd};
@@ -72,7 +72,7 @@ const PUTS_ONCE: [u32; 6] = [
 /// Puts its argument for ever.
 const PUTS_FOR_EVER: [u32; 3] = [0x00200893, 0x00000073, 0xffdff06f];
 
-/// Two threads that put eight letters each, with no lock: in which order hangs on their turns.
+/// Two threads that put eight letters each, with no lock: in which order depends on their turns.
 pub const RACERS: [u32; 26] = [
     0x00001537, // lui x10, 1
     0x03c50513, // addi x10, x10, puts
@@ -110,7 +110,7 @@ pub fn usual(events: u64) -> Options {
     Options::new(65_535, 16, events)
 }
 
-/// A disk of zeros with an image formatted onto it, for so many harts.
+/// A disk of zeros with an image formatted onto it, for that many harts.
 pub fn formatted_for<R: Abort + AllocGlobal>(rt: &R, words: &[u32], harts: u32) -> Vec<u8> {
     let image = image_of(rt, words);
     let mut disk = memory_disk(rt, filled(rt, 0, SIZE));
@@ -129,7 +129,7 @@ pub fn ended<R: Abort, D: Disk, O: Disk>(
     session: Session<D>,
     output: O,
     options: Options,
-    ending: Ending,
+    ending: DriveEnd,
 ) -> (Session<D>, O) {
     let mut drive = Drive::new(session, output, options);
     expect_eq(rt, drive.run(1_000_000, &mut Nobody), Ok(Some(ending)));
@@ -137,7 +137,7 @@ pub fn ended<R: Abort, D: Disk, O: Disk>(
     (session, output)
 }
 
-/// The output holds these bytes from its beginning on, and zeros behind them.
+/// The output holds these bytes from its beginning on, and zeros after them.
 pub fn expect_held<R: Abort + AllocGlobal>(rt: &R, output: MemoryDisk, want: &[u8]) {
     let image = output.into_image();
     let count = want.len();
@@ -148,7 +148,7 @@ pub fn expect_held<R: Abort + AllocGlobal>(rt: &R, output: MemoryDisk, want: &[u
 }
 
 /// The guest comes to this end on 1, 3 and 8 harts, and puts these bytes.
-fn expect_driven<R: Abort + AllocGlobal>(rt: &R, words: &[u32], ending: Ending, want: &[u8]) {
+fn expect_driven<R: Abort + AllocGlobal>(rt: &R, words: &[u32], ending: DriveEnd, want: &[u8]) {
     for harts in [1, 3, 8] {
         let session = recovered_in_memory(rt, formatted_for(rt, words, harts));
         let output = memory_disk(rt, filled(rt, 0, 64));
@@ -160,22 +160,27 @@ fn expect_driven<R: Abort + AllocGlobal>(rt: &R, words: &[u32], ending: Ending, 
 
 #[test]
 fn guests_are_driven_to_their_ends(rt: HostRuntime) {
-    expect_driven(&rt, &BOUNDED, Ending::Ended, &[0x6e]);
-    expect_driven(&rt, &ROUNDS, Ending::Ended, &[0x06, 0x0c, 0x12, 0x18, 0x00]);
-    expect_driven(&rt, &PAIR, Ending::Ended, &[0x14]);
-    expect_driven(&rt, &COUNTERS, Ending::Ended, &[0x50]);
+    expect_driven(&rt, &BOUNDED, DriveEnd::Ended, &[0x6e]);
+    expect_driven(
+        &rt,
+        &ROUNDS,
+        DriveEnd::Ended,
+        &[0x06, 0x0c, 0x12, 0x18, 0x00],
+    );
+    expect_driven(&rt, &PAIR, DriveEnd::Ended, &[0x14]);
+    expect_driven(&rt, &COUNTERS, DriveEnd::Ended, &[0x50]);
 }
 
 /// Compares what it is told with a list.
 #[derive(Drop)]
 struct Listener<'a> {
-    awaited: &'a [Progress],
+    awaited: &'a [StepDone],
     told: usize,
     first_difference: Option<usize>,
 }
 
 impl Onlooker for Listener<'_> {
-    fn look<D: Disk>(&mut self, did: &Progress, _session: &Session<D>) {
+    fn look<D: Disk>(&mut self, did: &StepDone, _session: &Session<D>) {
         if self.first_difference.is_none() && self.awaited.get(self.told) != Some(did) {
             self.first_difference = Some(self.told);
         }
@@ -187,8 +192,8 @@ impl Onlooker for Listener<'_> {
 fn expect_told<R: Abort, D: Disk, O: Disk>(
     rt: &R,
     drive: &mut Drive<D, O, Nothing>,
-    ending: Ending,
-    awaited: &[Progress],
+    ending: DriveEnd,
+    awaited: &[StepDone],
 ) {
     let mut listener = Listener {
         awaited,
@@ -203,21 +208,21 @@ fn expect_told<R: Abort, D: Disk, O: Disk>(
     );
 }
 
-/// A journal of 4,096 bytes has no room for a full batch behind another one, so a checkpoint follows each commit.
+/// A journal of 4,096 bytes has no room for a full batch after another one, so a checkpoint follows each commit.
 #[test]
 fn an_onlooker_is_told_each_step(rt: HostRuntime) {
     let session = recovered_in_memory(&rt, formatted_for(&rt, &PUTS_ONCE, 1));
     let output = memory_disk(&rt, filled(&rt, 0, 64));
     let awaited = [
-        Progress::Submitted(Event::Place(0, 1), Answer::Placed),
-        Progress::Submitted(Event::Run(0, 65_535), Answer::Ran(6, RunEnd::End)),
-        Progress::Committed,
-        Progress::Released,
-        Progress::Checkpointed,
-        Progress::Stopped(Ending::Ended),
+        StepDone::Submitted(Event::Place(0, 1), Answer::Placed),
+        StepDone::Submitted(Event::Run(0, 65_535), Answer::Ran(6, RunEnd::End)),
+        StepDone::Committed,
+        StepDone::Released,
+        StepDone::Checkpointed,
+        StepDone::Stopped(DriveEnd::Ended),
     ];
     let mut drive = Drive::new(session, output, usual(u64::MAX));
-    expect_told(&rt, &mut drive, Ending::Ended, &awaited);
+    expect_told(&rt, &mut drive, DriveEnd::Ended, &awaited);
 }
 
 /// An area of version 1 is checkpointed first. A round of one hart has a place for placing, where the hart runs if nobody is to
@@ -227,20 +232,20 @@ fn a_disk_of_version_1_is_checkpointed_first(rt: HostRuntime) {
     let session = recovered_in_memory(&rt, old_disk(&rt, &LOOPS));
     let output = memory_disk(&rt, filled(&rt, 0, 64));
     let awaited = [
-        Progress::Checkpointed,
-        Progress::Submitted(Event::Place(0, 1), Answer::Placed),
-        Progress::Submitted(Event::RunLong(0, 100_000), Answer::Ran(100_000, RunEnd::On)),
-        Progress::Submitted(Event::Tick(1), Answer::Ticked(0)),
-        Progress::Committed,
-        Progress::Checkpointed,
-        Progress::Submitted(Event::RunLong(0, 100_000), Answer::Ran(100_000, RunEnd::On)),
-        Progress::Submitted(Event::RunLong(0, 100_000), Answer::Ran(100_000, RunEnd::On)),
-        Progress::Committed,
-        Progress::Checkpointed,
-        Progress::Stopped(Ending::Enough),
+        StepDone::Checkpointed,
+        StepDone::Submitted(Event::Place(0, 1), Answer::Placed),
+        StepDone::Submitted(Event::RunLong(0, 100_000), Answer::Ran(100_000, RunEnd::On)),
+        StepDone::Submitted(Event::Tick(1), Answer::Ticked(0)),
+        StepDone::Committed,
+        StepDone::Checkpointed,
+        StepDone::Submitted(Event::RunLong(0, 100_000), Answer::Ran(100_000, RunEnd::On)),
+        StepDone::Submitted(Event::RunLong(0, 100_000), Answer::Ran(100_000, RunEnd::On)),
+        StepDone::Committed,
+        StepDone::Checkpointed,
+        StepDone::Stopped(DriveEnd::Enough),
     ];
     let mut drive = Drive::new(session, output, Options::new(100_000, 1, 5));
-    expect_told(&rt, &mut drive, Ending::Enough, &awaited);
+    expect_told(&rt, &mut drive, DriveEnd::Enough, &awaited);
 }
 
 #[test]
@@ -250,7 +255,7 @@ fn guests_are_driven_by_lot(rt: HostRuntime) {
             let session = recovered_in_memory(&rt, formatted_for(&rt, &COUNTERS, harts));
             let output = memory_disk(&rt, filled(&rt, 0, 64));
             let options = Options::new(7, 16, u64::MAX).with_seed(seed);
-            let (_, output) = ended(&rt, session, output, options, Ending::Ended);
+            let (_, output) = ended(&rt, session, output, options, DriveEnd::Ended);
             expect_held(&rt, output, &[0x50]);
         }
     }
@@ -258,13 +263,13 @@ fn guests_are_driven_by_lot(rt: HostRuntime) {
 
 #[test]
 fn idle_time_passes_at_once(rt: HostRuntime) {
-    expect_driven(&rt, &SLEEPERS, Ending::Ended, &[0x14, 0x28, 0x3c]);
-    expect_driven(&rt, &SLEEPS_LONG, Ending::Ended, b"Y");
+    expect_driven(&rt, &SLEEPERS, DriveEnd::Ended, &[0x14, 0x28, 0x3c]);
+    expect_driven(&rt, &SLEEPS_LONG, DriveEnd::Ended, b"Y");
 }
 
 #[test]
 fn nobody_can_ever_go_on(rt: HostRuntime) {
-    expect_driven(&rt, &DEADLOCK, Ending::Deadlock, b"");
+    expect_driven(&rt, &DEADLOCK, DriveEnd::Deadlock, b"");
 }
 
 /// Twenty times the bytes 1 and 3, and the end of input.
@@ -283,9 +288,15 @@ fn feed<R: Abort, D: Disk>(rt: &R, session: &mut Session<D>) {
 fn waits_for_input_and_goes_on(rt: HostRuntime) {
     let session = recovered_in_memory(&rt, formatted_for(&rt, &READERS, 3));
     let output = memory_disk(&rt, filled(&rt, 0, 64));
-    let (mut session, output) = ended(&rt, session, output, usual(u64::MAX), Ending::WaitsForInput);
+    let (mut session, output) = ended(
+        &rt,
+        session,
+        output,
+        usual(u64::MAX),
+        DriveEnd::WaitsForInput,
+    );
     feed(&rt, &mut session);
-    let (_, output) = ended(&rt, session, output, usual(u64::MAX), Ending::Ended);
+    let (_, output) = ended(&rt, session, output, usual(u64::MAX), DriveEnd::Ended);
     expect_held(&rt, output, &[0x50]);
 }
 
@@ -293,7 +304,7 @@ fn waits_for_input_and_goes_on(rt: HostRuntime) {
 fn output_goes_on_over_many_checkpoints(rt: HostRuntime) {
     let session = recovered_in_memory(&rt, formatted_for(&rt, &PUTS_FOR_EVER, 1));
     let output = memory_disk(&rt, filled(&rt, 0xff, 200_000));
-    let (session, output) = ended(&rt, session, output, usual(200), Ending::Enough);
+    let (session, output) = ended(&rt, session, output, usual(200), DriveEnd::Enough);
     let end = session.confirmed() as usize;
     let image = output.into_image();
     assert!(rt; end <= image.len());
@@ -336,12 +347,12 @@ fn output_that_fails(rt: HostRuntime) {
         session,
         memory_disk(&rt, output.into_image()),
         usual(u64::MAX),
-        Ending::Ended,
+        DriveEnd::Ended,
     );
     expect_held(&rt, output, &[0x14]);
 }
 
-/// Takes so many bytes, and no more.
+/// Takes that many bytes, and no more.
 #[derive(Drop)]
 struct Narrow {
     bytes: Vec<u8>,
@@ -364,7 +375,7 @@ impl Write for Narrow {
     }
 }
 
-/// A writer that takes so many bytes.
+/// A writer that takes that many bytes.
 fn narrow_writer<R: AllocGlobal>(rt: &R, takes: usize) -> Narrow {
     let bytes = Vec::new(rt.alloc());
     Narrow { bytes, takes }
@@ -372,10 +383,10 @@ fn narrow_writer<R: AllocGlobal>(rt: &R, takes: usize) -> Narrow {
 
 /// The session is driven to its end.
 fn drive_to_end<R: Abort, D: Disk + Drop, O: Disk + Drop>(rt: &R, session: Session<D>, output: O) {
-    let _ended = ended(rt, session, output, usual(u64::MAX), Ending::Ended);
+    let _ended = ended(rt, session, output, usual(u64::MAX), DriveEnd::Ended);
 }
 
-/// The session is driven to its end, and hands these bytes on, which lie at or behind an offset.
+/// The session is driven to its end, and hands these bytes on, which lie at or after an offset.
 fn expect_streamed<R: Abort + AllocGlobal, D: Disk + Drop>(
     rt: &R,
     session: Session<D>,
@@ -411,7 +422,7 @@ fn expect_broken<R: Abort, D: Disk + Drop, O: Disk + Drop>(rt: &R, session: Sess
     expect_eq(rt, drive.session().confirmed(), 0);
 }
 
-/// The writer takes two bytes of five, and then no more; another one gets those behind them.
+/// The writer takes two bytes of five, and then no more; another one gets those after them.
 #[test]
 fn a_stream_that_breaks(rt: HostRuntime) {
     let formatted = formatted_for(&rt, &ROUNDS, 3);
@@ -424,7 +435,7 @@ fn a_stream_that_breaks(rt: HostRuntime) {
     expect_streamed(&rt, again, 2, &[0x12, 0x18, 0x00]);
 }
 
-/// What is left of a disk that stops at a call, behind a drive of small turns with a commit after each round.
+/// What is left of a disk that stops at a call, after a drive of small turns with a commit after each round.
 fn left_by_drive<R: Abort + AllocGlobal, O: Disk + Drop>(
     rt: &R,
     disk: StoppingDisk,
@@ -448,7 +459,7 @@ fn left_by_drive<R: Abort + AllocGlobal, O: Disk + Drop>(
 }
 
 /// A drive onto a stream, over a disk that stops at a call, and then one to the end over what is left, onto a stream that
-/// begins behind what the first one handed on: each byte is handed on once.
+/// begins after what the first one handed on: each byte is handed on once.
 fn expect_streamed_once<R: Abort + AllocGlobal>(rt: &R, formatted: &[u8], at_call: u64) {
     let bytes = formatted.to_vec(rt.alloc()).expect(rt, "memory for bytes");
     let disk = stopping_disk(rt, bytes, at_call, &[0xa5]);

@@ -57,23 +57,23 @@ pub fn copied<R: Abort + AllocGlobal>(rt: &R, bytes: &[u8]) -> Vec<u8> {
     bytes.to_vec(rt.alloc()).expect(rt, "memory for bytes")
 }
 
-/// So many bytes of one value.
+/// That many bytes of one value.
 pub fn filled<R: Abort + AllocGlobal>(rt: &R, byte: u8, size: usize) -> Vec<u8> {
     vec![in rt.alloc(); byte; size].expect(rt, "memory for bytes")
 }
 
-/// Bytes behind others.
+/// Bytes after others.
 fn push<R: Abort>(rt: &R, bytes: &mut Vec<u8>, more: &[u8]) {
     bytes.extend_from_slice(more).expect(rt, "memory for bytes");
 }
 
-/// So many zeros behind the bytes that there are.
+/// That many zeros after the bytes that there are.
 fn push_zeros<R: Abort>(rt: &R, bytes: &mut Vec<u8>, count: usize) {
     let size = bytes.len().saturating_add(count);
     bytes.resize(size, 0).expect(rt, "memory for bytes");
 }
 
-/// Pieces, one behind the other.
+/// Pieces, one after the other.
 fn bytes_of<R: Abort + AllocGlobal>(rt: &R, pieces: &[Piece]) -> Vec<u8> {
     let mut bytes = Vec::new(rt.alloc());
     for (front, zeros) in pieces {

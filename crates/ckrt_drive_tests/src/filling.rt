@@ -1,4 +1,4 @@
-//! Every stop of the making of a disk of a file that is missing. Behind the file's end lie the bytes of another disk, or of none,
+//! Every stop of the making of a disk of a file that is missing. After the file's end lie the bytes of another disk, or of none,
 //! and the file may end anywhere that its writes have come to: from each such file the same command makes the disk.
 
 use crate::expect::{expect_eq_at, filled, memory_disk, stopping_disk};
@@ -18,13 +18,13 @@ const FILLED_AT: u64 = 87;
 /// The write that opens the gate.
 const OPENED_AT: u64 = 96;
 
-/// Whether a disk of a file with so many bytes is filled up, over those that the disk has behind the file's end.
+/// Whether a disk of a file with that many bytes is filled up, over those that the disk has after the file's end.
 fn is_filled_up<R: Abort, D: Disk>(rt: &R, disk: &mut D, length: usize) -> bool {
     assert!(rt; length <= disk.size());
     fill_up(disk, length).is_ok()
 }
 
-/// A disk of a file with so many bytes, and behind its end those that the disk has there: it is filled and formatted.
+/// A disk of a file with that many bytes, and after its end those that the disk has there: it is filled and formatted.
 fn made<R: Abort + AllocGlobal, D: Disk>(
     rt: &R,
     disk: &mut D,
@@ -48,7 +48,7 @@ fn lengths(at_call: u64) -> &'static [usize] {
     }
 }
 
-/// What a stop at a call left is made again, of a file with so many bytes. It holds the program then; only where the gate may
+/// What a stop at a call left is made again, of a file with that many bytes. It holds the program then; only where the gate may
 /// have been opened it may have held it before.
 fn expect_made_again<R: Abort + AllocGlobal>(rt: &R, left: &[u8], at_call: u64, length: usize) {
     let bytes = left.to_vec(rt.alloc()).expect(rt, "memory for bytes");
@@ -108,7 +108,7 @@ fn each_stop_over_open_gates(rt: HostRuntime) {
     }
 }
 
-// A stop behind the last call is none.
+/// A stop after the last call is none.
 #[test]
 fn the_making_has_so_many_calls(rt: HostRuntime) {
     let mut disk = stopping_disk(&rt, another_disk(&rt), CALLS + 1, &[0xa5]);
@@ -116,7 +116,7 @@ fn the_making_has_so_many_calls(rt: HostRuntime) {
     expect_eq_at(&rt, "calls", disk.calls(), CALLS);
 }
 
-// A disk stays as it is where a longer one is asked for, and gets zeros behind its end; one byte less is no disk.
+/// A disk stays as it is where a longer one is asked for, and gets zeros after its end; one byte less is no disk.
 #[test]
 fn a_disk_is_filled_behind_its_end(rt: HostRuntime) {
     let mut bytes = another_disk(&rt);

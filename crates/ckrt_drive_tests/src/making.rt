@@ -29,7 +29,7 @@ const MAKES: &[Step] = &[
         "ended: exit 0\n",
         0,
     ),
-    // what isn't given isn't compared, and the image isn't looked at; the byte was confirmed by the checkpoint behind it
+    // what isn't given isn't compared, and the image isn't looked at; the byte was confirmed by the checkpoint after it
     Ends(
         "drive making_a.disk --image making_none.img",
         "",

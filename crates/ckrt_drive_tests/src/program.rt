@@ -22,13 +22,13 @@ pub enum Step {
     Write(&'static str, &'static [u8]),
     /// A file of this path gets the image of a guest.
     WriteGuest(&'static str, &'static [u32]),
-    /// A file of this path gets so many bytes of one value.
+    /// A file of this path gets that many bytes of one value.
     Fill(&'static str, u8, usize),
     /// A file goes.
     Remove(&'static str),
     /// A file has these bytes.
     Holds(&'static str, &'static [u8]),
-    /// A file has so many bytes, the last of which are these.
+    /// A file has that many bytes, the last of which are these.
     EndsWith(&'static str, usize, &'static [u8]),
     /// No file is there.
     Absent(&'static str),

@@ -58,8 +58,8 @@ fn expect_kept<R: Abort + Files<File = File> + AllocGlobal>(
     expect_eq(rt, after.iter().skip(from).all(|byte| *byte == 0), true);
 }
 
-// Another image in the same configuration changes nothing of the file. A configuration that needs a longer one adds zeros to
-// it, and changes nothing of what was there; and one that needs a shorter one than that changes nothing.
+/// Another image in the same configuration changes nothing of the file. A configuration that needs a longer one adds zeros to
+/// it, and changes nothing of what was there; and one that needs a shorter one than that changes nothing.
 #[test]
 fn a_disk_that_is_formatted_twice_keeps_its_program(rt: HostRuntime) {
     play(&rt, MADE);

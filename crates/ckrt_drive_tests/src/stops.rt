@@ -5,7 +5,7 @@ use crate::drives::{RACERS, ended, formatted_for, usual};
 use crate::expect::{expect_bytes, expect_eq, expect_eq_at, filled, memory_disk, stopping_disk};
 use crate::small_disk::{recovered_in_memory, recovery_outcome};
 use ckrt_disk::{MemoryDisk, StoppingDisk};
-use ckrt_drive::{Drive, DriveFault, Ending, Nobody, Nothing, Options};
+use ckrt_drive::{Drive, DriveEnd, DriveFault, Nobody, Nothing, Options};
 use ckrt_test_data::{COUNTERS, SLEEPERS};
 use std::process::Abort;
 
@@ -39,7 +39,7 @@ struct Left {
     is_stopped: bool,
 }
 
-/// A drive that is stopped, from a formatted disk and an output of zeros, and one behind it, to the end.
+/// A drive that is stopped, from a formatted disk and an output of zeros, and one after it, to the end.
 #[derive(Clone, Copy)]
 struct TwoDrives<'a> {
     formatted: &'a [u8],
@@ -55,13 +55,13 @@ fn copied<R: Abort + AllocGlobal>(rt: &R, bytes: &[u8]) -> Vec<u8> {
 /// The drive has answered this fault, where its device was stopped, or came to its end.
 fn expect_stopped_or_ended<R: Abort>(
     rt: &R,
-    answer: Result<Option<Ending>, DriveFault>,
+    answer: Result<Option<DriveEnd>, DriveFault>,
     fault: DriveFault,
 ) -> bool {
     if answer == Err(fault) {
         return true;
     }
-    expect_eq(rt, answer, Ok(Some(Ending::Ended)));
+    expect_eq(rt, answer, Ok(Some(DriveEnd::Ended)));
     false
 }
 
@@ -116,20 +116,20 @@ impl TwoDrives<'_> {
         left_by_output(rt, Drive::new(session, output, self.stopped))
     }
 
-    /// The output once the drive behind has come to its end, over what is left.
+    /// The output once the following drive has come to its end, over what is left.
     fn finished<R: Abort + AllocGlobal>(&self, rt: &R, disk: Vec<u8>, output: Vec<u8>) -> Vec<u8> {
         let session = recovered_in_memory(rt, disk);
         let output = memory_disk(rt, output);
-        let (_, output) = ended(rt, session, output, self.behind, Ending::Ended);
+        let (_, output) = ended(rt, session, output, self.behind, DriveEnd::Ended);
         output.into_image()
     }
 
-    /// The output of the drive behind alone, which nothing stopped before.
+    /// The output of the following drive alone, which nothing stopped before.
     fn unbroken<R: Abort + AllocGlobal>(&self, rt: &R) -> Vec<u8> {
         self.finished(rt, copied(rt, self.formatted), filled(rt, 0, OUTPUT_BYTES))
     }
 
-    /// The output is as it is to be behind this stop. Whether the drive came to the stop at all.
+    /// The output is as it is to be after this stop. Whether the drive came to the stop at all.
     fn expect_whole<R: Abort + AllocGlobal>(&self, rt: &R, stop: Stop<'_>, wanted: &[u8]) -> bool {
         let left = match stop.device {
             Device::Disk => self.left_by_disk(rt, stop),
@@ -160,7 +160,7 @@ impl TwoDrives<'_> {
         is_stopped
     }
 
-    /// So it is behind each call of a device. How many calls the drive makes of it.
+    /// It is so after each call of a device. How many calls the drive makes of it.
     fn calls_behind_which_it_is_whole<R: Abort + AllocGlobal>(
         &self,
         rt: &R,
@@ -177,7 +177,7 @@ impl TwoDrives<'_> {
         calls
     }
 
-    /// So it is behind each call of the disk, of which there are so many or more, and of the output, in pairs of a write and a
+    /// It is so after each call of the disk, of which there are that many or more, and of the output, in pairs of a write and a
     /// sync.
     fn expect_whole_behind_each_call<R: Abort + AllocGlobal>(
         &self,
@@ -192,7 +192,7 @@ impl TwoDrives<'_> {
     }
 }
 
-/// These bytes, and zeros behind them.
+/// These bytes, and zeros after them.
 fn padded<R: Abort + AllocGlobal>(rt: &R, bytes: &[u8]) -> Vec<u8> {
     let mut padded = copied(rt, bytes);
     padded

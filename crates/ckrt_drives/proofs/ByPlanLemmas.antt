@@ -10,24 +10,24 @@ use Rattle.ckrt_drive.specs.declared.fault.DriveFault.{DriveFault}
 use Rattle.ckrt_drive.specs.declared.options.Options.{Options}
 use Rattle.ckrt_drive.specs.declared.plan.Next.{Next}
 use Rattle.ckrt_drive.specs.declared.plan.Next.TheVariants.{Submit, End}
-use Rattle.ckrt_drive.specs.declared.progress.Ending.{Ending}
-use Rattle.ckrt_drive.specs.declared.progress.Ending.TheVariants.{Enough}
-use Rattle.ckrt_drive.specs.declared.progress.Progress.{Progress}
-use Rattle.ckrt_drive.specs.declared.progress.Progress.TheVariants.{Submitted, Committed, Checkpointed, Released, Stopped}
+use Rattle.ckrt_drive.specs.declared.step_done.DriveEnd.{DriveEnd}
+use Rattle.ckrt_drive.specs.declared.step_done.DriveEnd.TheVariants.{Enough}
+use Rattle.ckrt_drive.specs.declared.step_done.StepDone.{StepDone}
+use Rattle.ckrt_drive.specs.declared.step_done.StepDone.TheVariants.{Submitted, Committed, Checkpointed, Released, Stopped}
 use Rattle.ckrt_drive.specs.declared.supply.Supply.{Supply}
 use Rattle.ckrt_drive.proofs.PlannedLemmas.{planned_event}
 use Rattle.ckrt_events.specs.declared.event.Event.{Event}
-use Rattle.ckrt_image.specs.Programs.{Program, output_after, state_after}
+use Rattle.ckrt_stored.specs.Programs.{Program, output_after, state_after}
 use Rattle.ckrt_input.specs.Taken.{taken_by}
 use Rattle.ckrt_record.proofs.FedLemmas.{taken-append}
 use Rattle.ckrt_state.specs.declared.table.Tables.{Tables}
 use Rattle.ckrt_machine.specs.Runs.{is_running}
 use Rattle.ckrt_machine.specs.Steps.{State}
-use Rattle.ckrt_recovery.specs.Between.{IsBeginningOf}
+use Rattle.ckrt_recovery.specs.Lists.{IsBeginningOf}
 use Rattle.ckrt_recovery.specs.Represents.{Represents}
 use Rattle.ckrt_recovery.specs.View.{view_of}
 use Rattle.ckrt_recovery.specs.declared.session.Session.{Session}
-use Rattle.ckrt_commands.proofs.ReplyLemmas.{begins_behind, begins_through}
+use Rattle.ckrt_recovery.proofs.ListLemmas.{begins_behind, begins_through}
 use Rattle.ckrt_drives.specs.ByPlan.{AreByPlan, Course, IsByPlanFrom, IsUnbroken, course, next_behind}
 use Rattle.ckrt_drives.specs.Drives.{AllByPlan, AllKeep, AllOnCourse, AllTold, ComeBehind, HasEnded, IsTold, Keeps, OneDrive, course_of, past_behind}
 use Rattle.ckrt_drives.specs.Together.{Past}
@@ -35,7 +35,7 @@ use Rattle.ckrt_drives.specs.Together.{Past}
 same_event : (n : Next) (x y : Event) → n ≡ Submit x → n ≡ Submit y → y ≡ x
 same_event n x y is are = cc
 
-no_event_at_end : (n : Next) (x : Event) (ending : Ending) → n ≡ Submit x → n ≡ End ending → ⊥
+no_event_at_end : (n : Next) (x : Event) (ending : DriveEnd) → n ≡ Submit x → n ≡ End ending → ⊥
 no_event_at_end n x ending is ends = absurd (cc)
 
 begins_both : (x : Event) (xs ys : List Event) → IsBeginningOf xs ys → IsBeginningOf (x ∷ xs) (x ∷ ys)
@@ -68,13 +68,13 @@ module _ (u : Course) (p : Program) where
       (⊎_elim (λ (h : _). inl (begins_both x xs ys h)) (λ (h : _). inr (begins_both x ys xs h)) (are_one (b ++ x ∷ []) xs ys h.1 rest))
 
   -- nothing goes on behind an end
-  ends_by : (b xs ys rest : List Event) (ending : Ending) → AreByPlan u p b ys → next_behind u p (b ++ xs) ≡ End ending → ys ≡ xs ++ rest → ys ≡ xs
+  ends_by : (b xs ys rest : List Event) (ending : DriveEnd) → AreByPlan u p b ys → next_behind u p (b ++ xs) ≡ End ending → ys ≡ xs ++ rest → ys ≡ xs
   ends_by b xs ys [] ending h over is = is ∙ append-nil xs
   ends_by b xs ys (z ∷ zs) ending h over is =
       let goes = next_at b xs z zs (subst (AreByPlan u p b) is h) in
       absurd (no_event_at_end (next_behind u p (b ++ xs)) z ending goes over)
 
-  of_whole : (b xs ys : List Event) (ending : Ending) → AreByPlan u p b xs → AreByPlan u p b ys → next_behind u p (b ++ xs) ≡ End ending → IsBeginningOf ys xs
+  of_whole : (b xs ys : List Event) (ending : DriveEnd) → AreByPlan u p b xs → AreByPlan u p b ys → next_behind u p (b ++ xs) ≡ End ending → IsBeginningOf ys xs
   of_whole b xs ys ending h k over = ⊎_elim
       (λ (longer : _). ([], sym (ends_by b xs ys longer.0 ending k over longer.1) ∙ sym (append-nil ys)))
       (λ (shorter : _). shorter)
@@ -159,7 +159,7 @@ module _ {D O : Type 0} {d : Ghosts D} (o : Ghosts O) (options : Options) (file 
       record { rest = e ∷ []; is = refl; by_plan = (next, tt) }
 
   -- an event that is taken is the plan's next one
-  pub step_by_plan : (r : Result Progress DriveFault) → Steps o (aim_of options w (view_of s)) s t a b r → IsByPlanFrom (course (schedule_of options) file) p events (events ++ accepted_in r)
+  pub step_by_plan : (r : Result StepDone DriveFault) → Steps o (aim_of options w (view_of s)) s t a b r → IsByPlanFrom (course (schedule_of options) file) p events (events ++ accepted_in r)
   step_by_plan (Ok (Submitted e answer)) h = event_added e (planned_event options w (view_of s) e answer h.done.0)
   step_by_plan (Ok Committed) h = nothing_added
   step_by_plan (Ok Checkpointed) h = nothing_added
@@ -169,7 +169,7 @@ module _ {D O : Type 0} {d : Ghosts D} (o : Ghosts O) (options : Options) (file 
 
 -- MANY DRIVES
 
-not_enough : (b : Bool) (n : Next) (ending : Ending) → (if b then End Enough else n) ≡ End ending → (ending ≡ Enough → ⊥) → n ≡ End ending
+not_enough : (b : Bool) (n : Next) (ending : DriveEnd) → (if b then End Enough else n) ≡ End ending → (ending ≡ Enough → ⊥) → n ≡ End ending
 not_enough true n ending is other = let same : ending ≡ Enough = cc in absurd (other same)
 not_enough false n ending is other = is
 

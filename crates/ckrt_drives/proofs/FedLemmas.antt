@@ -6,9 +6,9 @@ use Rattle.ckrt_checkpoint.specs.declared.config.Config.{Config}
 use Rattle.ckrt_disk.specs.Frame.{MayBeLeft}
 use Rattle.ckrt_disk.specs.declared.disk.Disk.{Ghosts}
 use Rattle.ckrt_events.specs.declared.event.Event.{Event}
-use Rattle.ckrt_image.specs.Programs.{Program, RecoversTo, RecoversToStart, start_of}
-use Rattle.ckrt_image.specs.Recovery.{◌>>=◌, events_of_batches}
-use Rattle.ckrt_image.specs.declared.fault.RecoverFault.{RecoverFault}
+use Rattle.ckrt_stored.specs.Programs.{Program, RecoversTo, RecoversToStart, start_of}
+use Rattle.ckrt_stored.specs.Recovery.{◌>>=◌, events_of_batches}
+use Rattle.ckrt_stored.specs.declared.fault.RecoverFault.{RecoverFault}
 use Rattle.ckrt_input.specs.Next.{AreGiven}
 use Rattle.ckrt_input.specs.Taken.{bytes_of, taken_by}
 use Rattle.ckrt_input.proofs.NextLemmas.{beginning, end_behind, goes_on}
@@ -18,7 +18,7 @@ use Rattle.ckrt_machine.specs.Steps.{State}
 use Rattle.ckrt_record.specs.Fed.{IsFed}
 use Rattle.ckrt_record.specs.Offset.{journaled, offset_from, or_said, saved_offset, taken_in, with_saved}
 use Rattle.ckrt_record.proofs.FedLemmas.{as_recovered, begins, taken-append}
-use Rattle.ckrt_recovery.specs.Between.{IsBeginningOf}
+use Rattle.ckrt_recovery.specs.Lists.{IsBeginningOf}
 use Rattle.ckrt_drives.specs.ByPlan.{Course}
 use Rattle.ckrt_drives.specs.Drives.{AllHaveInput, AllKeep, AllOnCourse, AllTold, AllToldByRecord, ComeBehind, IsTold, IsToldByRecord, Keeps, OneDrive, course_of, past_behind}
 use Rattle.ckrt_drives.specs.Giving.{AllGiveFile, GiveFile}

@@ -3,8 +3,8 @@ use Rattle.std.proofs.Common.{◌≡◌, ◌⊎◌, inl, inr, ℕ, ◌+◌, Opti
 use Rattle.std.proofs.lemmas.List.{drop-drop}
 use Rattle.ckrt_events.specs.declared.event.Event.{Event}
 use Rattle.ckrt_events.specs.declared.event.Event.TheVariants.{Place, Run, Input, Eof, Tick, RunLong}
-use Rattle.ckrt_image.specs.Programs.{Program, start_of, state_after}
-use Rattle.ckrt_image.proofs.ReplayLemmas.{state-append}
+use Rattle.ckrt_stored.specs.Programs.{Program, start_of, state_after}
+use Rattle.ckrt_stored.proofs.ReplayLemmas.{state-append}
 use Rattle.ckrt_input.specs.Next.{AreGiven, IsNext, next_input}
 use Rattle.ckrt_input.specs.Taken.{bytes_of, taken_by}
 use Rattle.ckrt_input.proofs.NextLemmas.{beginning, end_behind}

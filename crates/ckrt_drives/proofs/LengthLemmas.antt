@@ -5,11 +5,11 @@ use Rattle.std.proofs.lemmas.Bool.Decides.{nat_tests}
 use Rattle.std.proofs.lemmas.List.{take_all}
 use Rattle.ckrt_disk.specs.declared.disk.Disk.{Ghosts}
 use Rattle.ckrt_events.specs.declared.event.Event.{Event}
-use Rattle.ckrt_image.specs.Programs.{Program, output_after}
+use Rattle.ckrt_stored.specs.Programs.{Program, output_after}
 use Rattle.ckrt_recovery.specs.Represents.{Represents, acknowledged_of}
 use Rattle.ckrt_recovery.specs.View.{view_of}
 use Rattle.ckrt_recovery.specs.declared.session.Session.{Session}
-use Rattle.ckrt_commands.proofs.AcceptLemmas.{taken_begins}
+use Rattle.ckrt_recovery.proofs.ListLemmas.{taken_begins}
 use Rattle.ckrt_commands.proofs.AcceptLemmas.{output_begins}
 use Rattle.ckrt_drive.specs.Runs.{IsAllSaved}
 use Rattle.ckrt_drive.specs.declared.fault.DriveFault.{DriveFault}

@@ -4,11 +4,11 @@ use Rattle.ckrt_drive.specs.Given.{given_in}
 use Rattle.ckrt_drive.specs.Plan.{Schedule, next_event}
 use Rattle.ckrt_drive.specs.declared.plan.Next.{Next}
 use Rattle.ckrt_drive.specs.declared.plan.Next.TheVariants.{Submit, End}
-use Rattle.ckrt_drive.specs.declared.progress.Ending.{Ending}
+use Rattle.ckrt_drive.specs.declared.step_done.DriveEnd.{DriveEnd}
 use Rattle.ckrt_events.specs.declared.event.Event.{Event}
-use Rattle.ckrt_image.specs.Programs.{Program, state_after}
+use Rattle.ckrt_stored.specs.Programs.{Program, state_after}
 use Rattle.ckrt_input.specs.Taken.{taken_by}
-use Rattle.ckrt_recovery.specs.Between.{IsBeginningOf}
+use Rattle.ckrt_recovery.specs.Lists.{IsBeginningOf}
 
 -- by what the events of drives are chosen: their schedule, and the bytes of their input, where they have one
 pub record Course : Type 0 where
@@ -18,19 +18,19 @@ pub record Course : Type 0 where
 abbrev pub course : Schedule → (file : Option (List ℕ)) → Course
 course u file = record { schedule = u; file = file }
 
--- what is next behind these events of a program: what the input gives behind those that they took, and else what the schedule has
+-- what is next after these events of a program: what the input gives after those that they took, and else what the schedule has
 abbrev pub next_behind : Course → Program → List Event → Next
 next_behind u p events =
     next_event u.schedule (given_in u.file (taken_by events) (state_after p events).tables)
     (length events) (state_after p events).tables
 
--- behind some events each of these is the next one
+-- after some events each of these is the next one
 abbrev pub AreByPlan : Course → Program → (behind : List Event) → List Event → Type 0
 AreByPlan u p behind [] = Unit {0}
 AreByPlan u p behind (e ∷ es) =
     (next_behind u p behind ≡ Submit e) × AreByPlan u p (behind ++ e ∷ []) es
 
--- a list goes on by plan behind its first events
+-- a list goes on by plan after its first events
 pub record IsByPlanFrom (u : Course) (p : Program) (first events : List Event) : Type 0 where
   pub rest : List Event
   pub is : events ≡ first ++ rest
@@ -40,9 +40,9 @@ pub record IsByPlanFrom (u : Course) (p : Program) (first events : List Event) :
 abbrev pub IsByPlan : Course → Program → List Event → Type 0
 IsByPlan u p events = IsByPlanFrom u p [] events
 
--- nothing is next behind these events
+-- nothing is next after these events
 abbrev pub IsOver : Course → Program → List Event → Type 0
-IsOver u p events = (ending : Ending) × (next_behind u p events ≡ End ending)
+IsOver u p events = (ending : DriveEnd) × (next_behind u p events ≡ End ending)
 
 -- the list of a drive that nothing stops
 pub record IsUnbroken (u : Course) (p : Program) (first events : List Event) : Type 0 where
@@ -51,7 +51,7 @@ pub record IsUnbroken (u : Course) (p : Program) (first events : List Event) : T
 
 -- THERE IS ONE LIST
 
--- of two lists that go on by plan behind the same events, one is a beginning of the other
+-- of two lists that go on by plan after the same events, one is a beginning of the other
 abbrev pub AreOneList : Type 0
 AreOneList =
     (u : Course) (p : Program) (first events others : List Event) → IsByPlanFrom u p first events

@@ -1,14 +1,14 @@
--- What drives give their program of its input, one behind another.
+-- What drives give their program of its input, one after another.
 use Rattle.std.specs.Prelude.{◌≡◌, ℕ, List, [], ◌∷◌, ◌++◌, Some}
 use Rattle.ckrt_disk.specs.declared.disk.Disk.{Ghosts}
 use Rattle.ckrt_events.specs.declared.event.Event.{Event}
 use Rattle.ckrt_events.specs.declared.event.Event.TheVariants.{Eof}
-use Rattle.ckrt_image.specs.Programs.{Program}
+use Rattle.ckrt_stored.specs.Programs.{Program}
 use Rattle.ckrt_input.specs.Taken.{input_of}
 use Rattle.ckrt_drives.specs.Drives.{AllHaveInput, AllKeep, AllToldByRecord, ComeBehind, OneDrive, past_behind}
 use Rattle.ckrt_drives.specs.Together.{Past, StandsFed, past}
 
--- Events give a file: their Inputs, joined, are a beginning of it, and an end of input comes only behind all of it.
+-- Events give a file: their Inputs, joined, are a beginning of it, and an end of input comes only after all of it.
 pub record GiveFile (events : List Event) (file : List ℕ) : Type 0 where
   pub rest : List ℕ
   pub beginning : file ≡ input_of events ++ rest

@@ -2,7 +2,7 @@
 use Rattle.std.specs.Prelude.{◌≡◌, ℕ, List, ◌∷◌, ◌++◌, Some}
 use Rattle.ckrt_events.specs.declared.event.Event.{Event}
 use Rattle.ckrt_events.specs.declared.event.Event.TheVariants.{Eof}
-use Rattle.ckrt_image.specs.Programs.{Program}
+use Rattle.ckrt_stored.specs.Programs.{Program}
 use Rattle.ckrt_input.specs.Taken.{input_of}
 use Rattle.ckrt_drives.specs.ByPlan.{Course, IsByPlan}
 
@@ -12,7 +12,7 @@ GiveBeginning =
     (u : Course) (p : Program) (events : List Event) (file : List ℕ) → u.file ≡ Some file
     → IsByPlan u p events → (rest : List ℕ) × (file ≡ input_of events ++ rest)
 
--- the end of input comes only behind all of it
+-- the end of input comes only after all of it
 abbrev pub EndBehindAll : Type 0
 EndBehindAll =
     (u : Course) (p : Program) (front back : List Event) (file : List ℕ) → u.file ≡ Some file

@@ -1,7 +1,7 @@
 -- How long the file of an output is.
 use Rattle.std.specs.Prelude.{ℕ, ◌+◌, max, List, [], ◌∷◌, length}
 
--- A file has so many bytes, and these pieces are written to it, the first at an offset, and each where the one before it ended. A write makes
+-- A file has that many bytes, and these pieces are written to it, the first at an offset, and each where the one before it ended. A write makes
 -- the file as long as it reaches, and never shorter (POSIX.1-2017, pwrite).
 abbrev pub size_after : (size at : ℕ) → List (List ℕ) → ℕ
 size_after size at [] = size

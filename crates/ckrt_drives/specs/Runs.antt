@@ -5,7 +5,7 @@ use Rattle.ckrt_drive.specs.Runs.{IsAtEnd}
 use Rattle.ckrt_drive.specs.Stages.{IsOver, Stage, stage}
 use Rattle.ckrt_drive.specs.declared.fault.DriveFault.{DriveFault}
 use Rattle.ckrt_drive.specs.declared.options.Options.{Options}
-use Rattle.ckrt_drive.specs.declared.progress.Ending.{Ending}
+use Rattle.ckrt_drive.specs.declared.step_done.DriveEnd.{DriveEnd}
 use Rattle.ckrt_jobs.specs.Driving.{DrivesWay, IsRecovered, Way, way_of}
 use Rattle.ckrt_jobs.specs.Feeding.{SuppliesFrom}
 use Rattle.ckrt_sources.specs.Openings.{Openings}
@@ -20,7 +20,7 @@ use Rattle.ckrt_recovery.specs.declared.session.Session.{Session}
 use Rattle.ckrt_drives.specs.Drives.{IsDrive, IsToldByRecord, OneDrive}
 
 -- A run of the program: the disk that it recovered, how it was to go, its input as it began and as it ended, where it had one, the session and
--- the output before and behind it, and what it came to.
+-- the output before and after it, and what it came to.
 pub record ProgramRun {D O : Type 0} (d : Ghosts D) (o : Ghosts O) : Type 0 where
   pub start : D
   pub options : Options
@@ -53,10 +53,10 @@ drive_of {o = o} r at = record {
 -- it is one, and saves all before an end
 pub record IsRun {D O : Type 0} {d : Ghosts D} {o : Ghosts O} (r : ProgramRun d o) : Type 0 where
   pub is : (at : Stage d o) → IsDrive (drive_of r at)
-  pub ends : (ending : Ending) → r.drives.ran ≡ Ok (Some ending)
+  pub ends : (ending : DriveEnd) → r.drives.ran ≡ Ok (Some ending)
       → IsAtEnd r.drives.left (view_of r.after) ending
   -- which is what the plan has next
-  pub over : (ending : Ending) → r.drives.ran ≡ Ok (Some ending)
+  pub over : (ending : DriveEnd) → r.drives.ran ≡ Ok (Some ending)
       → IsOver (way_of_run r).options (way_of_run r).file
       (stage o r.drives.left r.drives.taken r.after r.end) ending
 

@@ -5,7 +5,7 @@ use Rattle.ckrt_disk.specs.declared.disk.Disk.{Ghosts}
 use Rattle.ckrt_disk.specs.Disk.{LeavesOnly}
 use Rattle.ckrt_disk.specs.Frame.{MayBeLeft}
 use Rattle.ckrt_events.specs.declared.event.Event.{Event}
-use Rattle.ckrt_image.specs.Programs.{Program, RecoversToStart}
+use Rattle.ckrt_stored.specs.Programs.{Program, RecoversToStart}
 use Rattle.ckrt_recovery.specs.Reached.{IsReached}
 use Rattle.ckrt_recovery.specs.Represents.{RecoversAtAnyMoment, RecoversToEither}
 use Rattle.ckrt_recovery.specs.declared.session.Session.{Session}

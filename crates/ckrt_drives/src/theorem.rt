@@ -1,4 +1,4 @@
-// The theorem on one page.
+//! The theorem on one page.
 ghost use Rattle.ckrt_drives.specs.Theorem.{ManyDrives, PowerLoss};
 
 use ckrt_disk::Disk;

@@ -3,7 +3,7 @@ use Rattle.std.specs.Prelude.{ℕ, ◌≤◌, nat_lt, if◌then◌else◌, List,
 use Rattle.std.specs.Str.{bytes_eq}
 use Rattle.hex.specs.Hex.{decode_of}
 use Rattle.hex.specs.declared.error.FromHexError.{FromHexError}
-use Rattle.ckrt_events.specs.Bytes.{IsInRange}
+use Rattle.ckrt_events.specs.Bytes.{IsInRange, LAST_HART, LAST_THREAD, LONG_RUN_LIMIT, RUN_LIMIT}
 use Rattle.ckrt_events.specs.Words.{words_of, number_in}
 use Rattle.ckrt_events.specs.declared.event.Event.TheVariants.{Place, Run, Input, Eof, Tick, RunLong}
 use Rattle.ckrt_events.specs.declared.command.Command.{Command}
@@ -14,7 +14,7 @@ use Rattle.ckrt_events.specs.declared.command.LineFault.TheVariants.{Unknown, He
 -- harts 0 to 7, 1 to 65,535 steps
 abbrev pub IsInRangeCommand : Command → Type 0
 IsInRangeCommand (Submit event) = IsInRange event
-IsInRangeCommand (Auto h n) = (h ≤ 7) × (1 ≤ n) × (n ≤ 65535)
+IsInRangeCommand (Auto h n) = (h ≤ LAST_HART) × (1 ≤ n) × (n ≤ RUN_LIMIT)
 IsInRangeCommand Commit = ⊤
 IsInRangeCommand Checkpoint = ⊤
 IsInRangeCommand Quit = ⊤
@@ -48,34 +48,34 @@ two_of (a ∷ b ∷ c ∷ more) = Err Unknown
 abbrev pub place_of : List (List ℕ) → Result Command LineFault
 place_of args = do
   w ← two_of args
-  h ← number_in 0 7 w.0
-  t ← number_in 1 64 w.1
+  h ← number_in 0 LAST_HART w.0
+  t ← number_in 1 LAST_THREAD w.1
   Ok (Submit (Place h t))
 
--- the arguments `h n`, with so many steps at most
+-- the arguments `h n`, with that many steps at most
 abbrev pub hart_and_steps_of : ℕ → List (List ℕ) → Result (ℕ × ℕ) LineFault
 hart_and_steps_of most args = do
   w ← two_of args
-  h ← number_in 0 7 w.0
+  h ← number_in 0 LAST_HART w.0
   n ← number_in 1 most w.1
   Ok (h, n)
 
 -- `run h n`
 abbrev pub run_of : List (List ℕ) → Result Command LineFault
 run_of args = do
-  s ← hart_and_steps_of 65535 args
+  s ← hart_and_steps_of RUN_LIMIT args
   Ok (Submit (Run s.0 s.1))
 
 -- `runlong h n`
 abbrev pub run_long_of : List (List ℕ) → Result Command LineFault
 run_long_of args = do
-  s ← hart_and_steps_of 1000000 args
+  s ← hart_and_steps_of LONG_RUN_LIMIT args
   Ok (Submit (RunLong s.0 s.1))
 
 -- `auto h n`
 abbrev pub auto_of : List (List ℕ) → Result Command LineFault
 auto_of args = do
-  s ← hart_and_steps_of 65535 args
+  s ← hart_and_steps_of RUN_LIMIT args
   Ok (Auto s.0 s.1)
 
 -- `tick k`

@@ -1,6 +1,7 @@
+//! The commands of lines, and the faults of lines.
 ghost use Rattle.std.specs.Prelude.{IsTrue, ◌↔◌};
 
-use crate::event::Event;
+use crate::event::{Event, LAST_HART};
 use thiserror::Error;
 
 /// What a line asks of the service.
@@ -29,7 +30,7 @@ impl Command {
     {
         match self {
             Command::Submit(event) => event.in_range(),
-            Command::Auto(hart, steps) => *hart <= 7 && 1 <= *steps,
+            Command::Auto(hart, steps) => *hart <= LAST_HART && 1 <= *steps,
             Command::Commit | Command::Checkpoint | Command::Quit | Command::Blank => true,
         }
     }

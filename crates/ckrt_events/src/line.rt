@@ -1,9 +1,11 @@
+//! From a line to its command.
 ghost use Rattle.std.specs.Prelude.{◌≡◌, ◌≤◌, length, IfOk, MatchResult, Ok, Err};
 ghost use Rattle.ckrt_events.specs.Words.{words_of};
+ghost use Rattle.ckrt_events.specs.Bytes.{LAST_HART};
 ghost use Rattle.ckrt_events.specs.Line.{IsInRangeCommand, command_of, named_command, bare_of, one_of, two_of, hart_and_steps_of, place_of, run_of, run_long_of, tick_of, auto_of, input_of};
 
 use crate::command::{Command, LineFault};
-use crate::event::{Event, LONG_RUN_LIMIT, RUN_LIMIT};
+use crate::event::{Event, LAST_HART, LAST_THREAD, LONG_RUN_LIMIT, RUN_LIMIT};
 use crate::words::{next_word, number};
 use arrayvec::ArrayVec;
 
@@ -90,13 +92,13 @@ fn two_words(args: &[u8]) -> Result<(&[u8], &[u8]), LineFault>
     Ok((first, only_word(rest)?))
 }
 
-/// The arguments `h n`: a hart and a number of steps, so many at most.
+/// The arguments `h n`: a hart and a number of steps, that many at most.
 fn hart_and_steps(args: &[u8], most: u32) -> Result<(u8, u32), LineFault>
     ensures value { result ≡ hart_and_steps_of most (words_of args.now) }
-    ensures in_range { IfOk result (λ s. (s.0 ≤ 7) × (1 ≤ s.1) × (s.1 ≤ most)) }
+    ensures in_range { IfOk result (λ s. (s.0 ≤ LAST_HART) × (1 ≤ s.1) × (s.1 ≤ most)) }
 {
     let (hart, steps) = two_words(args)?;
-    let hart = number(hart, 0, 7)? as u8;
+    let hart = number(hart, 0, LAST_HART as u32)? as u8;
     let steps = number(steps, 1, most)?;
     Ok((hart, steps))
 }
@@ -106,8 +108,8 @@ fn place(args: &[u8]) -> Result<Command, LineFault>
     ensures in_range { IfOk result IsInRangeCommand }
 {
     let (hart, thread) = two_words(args)?;
-    let hart = number(hart, 0, 7)? as u8;
-    let thread = number(thread, 1, 64)? as u8;
+    let hart = number(hart, 0, LAST_HART as u32)? as u8;
+    let thread = number(thread, 1, LAST_THREAD as u32)? as u8;
     Ok(Command::Submit(Event::Place(hart, thread)))
 }
 

@@ -1,3 +1,4 @@
+//! The words and numbers of a line.
 ghost use Rattle.std.specs.Prelude.{◌≡◌, ◌<◌, ◌≤◌, ℕ, true, false, [], ◌∷◌, drop, length, slice_index, MatchOption, IfSome, IfOk};
 ghost use Rattle.ckrt_events.specs.Words.{is_blank as blank, words_of, number_in, ends_word, begins_word};
 
@@ -57,7 +58,7 @@ pub(crate) fn number(word: &[u8], low: u32, high: u32) -> Result<u32, LineFault>
     ensures low { IfOk result (λ n. low ≤ n) }
     ensures high { IfOk result (λ n. n ≤ high) }
 {
-    // Above each u32: a greater number counts as this one.
+    /// Above each u32: a greater number counts as this one.
     const CAP: u64 = 1 << 33;
     let mut value = 0u64;
     for b in word {

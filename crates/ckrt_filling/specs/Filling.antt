@@ -1,4 +1,4 @@
--- The filling of a file that is to be a disk. The disk has the bytes of the file and, behind the file's end, what may lie there.
+-- The filling of a file that is to be a disk. The disk has the bytes of the file and, after the file's end, what may lie there.
 use Rattle.std.specs.Prelude.{◌≡◌, ◌⊎◌, ◌<◌, ◌≤◌, ◌-◌, ℕ, false, List, slice_index, Result, is_err}
 use Rattle.ckrt_disk.specs.Frame.{IsSameOutside, MayBeLeft, WritesWithin}
 use Rattle.ckrt_disk.specs.declared.disk.Disk.{Ghosts}
@@ -12,7 +12,7 @@ block = 4096
 abbrev pub smallest_disk : ℕ
 smallest_disk = 348160
 
--- Where a file of so many bytes is filled: wherever it is shorter than any disk, and else behind its end.
+-- Where a file of that many bytes is filled: wherever it is shorter than any disk, and else after its end.
 abbrev pub FillsAt : (length : ℕ) → ℕ → Type 0
 FillsAt length i = (length < smallest_disk) ⊎ (length ≤ i)
 
@@ -26,7 +26,7 @@ WritesOnly d region old new result =
 abbrev pub IsZeroFrom : (from : ℕ) → List ℕ → Type 0
 IsZeroFrom from bytes = (i : ℕ) → from ≤ i → slice_index bytes i ≡ 0
 
--- and wherever a file of so many bytes is filled
+-- and wherever a file of that many bytes is filled
 abbrev pub IsFilled : (length : ℕ) → List ℕ → Type 0
 IsFilled length bytes = (i : ℕ) → FillsAt length i → slice_index bytes i ≡ 0
 

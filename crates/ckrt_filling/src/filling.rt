@@ -1,4 +1,4 @@
-// Filling a file with zero bytes.
+//! Filling a file with zero bytes.
 ghost use Rattle.std.specs.Prelude.{◌≡◌, ◌≤◌, ◌<◌, ◌+◌, ℕ, ⊤, false, length, is_err, slice_index, IfOk, OnOk};
 ghost use Rattle.ckrt_disk.specs.Disk.{IsWithin};
 ghost use Rattle.ckrt_disk.specs.Frame.{AtAnyMoment, IsOnlyRead, MayBeLeft, Nowhere, WritesWithin};
@@ -14,7 +14,7 @@ const SMALLEST_DISK: usize = 348_160;
 /// How many bytes are written at a time, at most. The first of these blocks has the gate of a disk.
 const BLOCK: usize = 4_096;
 
-/// Writes so many zero bytes from the offset `at` on.
+/// Writes that many zero bytes from the offset `at` on.
 fn write_zeros<D: Disk>(disk: &mut D, at: usize, count: usize) -> Result<(), DeviceFault>
     requires inside { at + count ≤ D.size disk.old }
     requires few { count ≤ block }
@@ -90,7 +90,7 @@ fn fill_whole<D: Disk>(disk: &mut D) -> Result<(), DeviceFault>
     fill(disk, BLOCK)
 }
 
-/// Fills a file that is long enough for a disk behind its end, with its gate looked at before.
+/// Fills a file that is long enough for a disk after its end, with its gate looked at before.
 fn fill_behind<D: Disk>(disk: &mut D, length: usize) -> Result<(), DeviceFault>
     requires some { 1 ≤ length }
     requires room { length ≤ D.size disk.old }

@@ -1,10 +1,10 @@
 //! The filling of a file that is to be a disk: a file that is missing or short gets zero bytes up to the disk's size.
 //!
-//! What a file shows behind its end once it has grown, and the power went, may be the bytes of a file that was removed: those of
+//! What a file shows after its end once it has grown, and the power went, may be the bytes of a file that was removed: those of
 //! another disk, too, whose first byte is an open gate. So the first block is filled, and synced, before the file grows any
 //! further; and a file that is shorter than any disk isn't taken for one, whatever its first byte is.
 //!
-//! Proved of [`fill_up`], over any disk: it writes only behind the file's end, and in the first block of a file that is shorter
+//! Proved of [`fill_up`], over any disk: it writes only after the file's end, and in the first block of a file that is shorter
 //! than any disk; where it answers Ok there are zeros. A stop at any moment leaves a file that is still shorter than any disk, or
 //! whose gate is closed, unless it was long enough and its gate stood open before.
 #![tactic(auto)]

@@ -250,7 +250,7 @@ fn placed<R: Abort + AllocGlobal>(rt: &R, words: &[u32]) -> Machine {
     machine
 }
 
-/// A run of so many steps at most gets this answer, and leaves the program so.
+/// A run of that many steps at most gets this answer, and leaves the program so.
 fn expect_run<R: Abort>(rt: &R, machine: &mut Machine, steps: u16, answer: Answer, status: Status) {
     assert!(rt; steps > 0);
     let answered = step_if_accepted(machine, &Event::Run(0, steps));

@@ -84,7 +84,7 @@ fn held_output_fills(rt: HostRuntime) {
     expect_replies(&rt, &PUTS_FOR_EVER, lines.as_slice(), want.as_slice());
 }
 
-/// An image of so many bytes has this fault.
+/// An image of that many bytes has this fault.
 fn expect_image<R: Abort + AllocGlobal>(rt: &R, size: usize, fault: Option<MemoryError>) {
     let image = filled(rt, 0, size);
     let memory = Memory::new(rt.alloc(), 16, image.as_slice());

@@ -43,7 +43,7 @@ fn outcome<R: Abort + AllocGlobal>(
     lives(rt.alloc(), image, config, list)
 }
 
-/// A report: so many events recovered and acknowledged, this output from an offset on, and so many events that the image
+/// A report: that many events recovered and acknowledged, this output from an offset on, and that many events that the image
 /// left by it recovers to.
 #[derive(Drop)]
 struct Want<'a> {

@@ -58,7 +58,7 @@ fn push_round<R: Abort + AllocGlobal>(
     push(rt, lines, b"commit\n");
 }
 
-/// So many rounds.
+/// That many rounds.
 fn push_rounds<R: Abort + AllocGlobal>(
     rt: &R,
     lines: &mut Vec<u8>,

@@ -8,7 +8,7 @@ use ckrt_test_data::IMAGE;
 use std::io::{self, Read};
 use std::process::Abort;
 
-/// Gives so many bytes at once.
+/// Gives that many bytes at once.
 #[derive(Drop)]
 struct Pieces<'a> {
     bytes: &'a [u8],
@@ -28,7 +28,7 @@ impl Read for Pieces<'_> {
 /// How many lines there are of each kind.
 const LINES: u32 = 3_000;
 
-/// So many lines that aren't known, and some that are blank.
+/// That many lines that aren't known, and some that are blank.
 fn many_lines<R: Abort + AllocGlobal>(rt: &R) -> Vec<u8> {
     let mut lines = Vec::new(rt.alloc());
     for _ in 0..LINES {
@@ -48,7 +48,7 @@ fn many_replies<R: Abort + AllocGlobal>(rt: &R) -> Vec<u8> {
     replies
 }
 
-/// All lines are answered where so many bytes come at once.
+/// All lines are answered where that many bytes come at once.
 fn expect_answered<R: Abort + AllocGlobal>(rt: &R, lines: &[u8], size: usize, want: &[u8]) {
     let mut reader = Pieces { bytes: lines, size };
     let mut replies = Vec::new(rt.alloc());
@@ -57,7 +57,7 @@ fn expect_answered<R: Abort + AllocGlobal>(rt: &R, lines: &[u8], size: usize, wa
     expect_bytes(rt, replies.as_slice(), want);
 }
 
-// 18,010 bytes: in 18,010 reads, in 2,573, in 36, and in 3,002.
+/// 18,010 bytes: in 18,010 reads, in 2,573, in 36, and in 3,002.
 #[test]
 fn every_line_is_answered(rt: HostRuntime) {
     let lines = many_lines(&rt);
@@ -84,7 +84,7 @@ const FIRST_64: &[u8] =
 const SECOND_64: &[u8] =
     b"4142434445464748494a4b4c4d4e4f505152535455565758595a5b5c5d5e5f606162636465666768696a6b6c6d6e6f707172737475767778797a7b7c7d7e7f80";
 
-/// A line of output, and the reply to the line behind it.
+/// A line of output, and the reply to the line after it.
 fn push_output<R: Abort>(rt: &R, want: &mut Vec<u8>, offset: &[u8], digits: &[u8]) {
     push(rt, want, b"out ");
     push(rt, want, offset);
@@ -93,7 +93,7 @@ fn push_output<R: Abort>(rt: &R, want: &mut Vec<u8>, offset: &[u8], digits: &[u8
     push(rt, want, b"\n");
 }
 
-// A line of output has 64 bytes at most; the lines behind a full one are answered.
+/// A line of output has 64 bytes at most; the lines after a full one are answered.
 #[test]
 fn full_lines_of_output(rt: HostRuntime) {
     let mut want = Vec::new(rt.alloc());

@@ -6,9 +6,10 @@ use Rattle.ckrt_thread.specs.Waits.{is_of}
 use Rattle.ckrt_state.specs.declared.table.Tables.{Tables}
 use Rattle.ckrt_events.specs.declared.event.Event.{Event}
 use Rattle.ckrt_events.specs.declared.event.Event.TheVariants.{Place, Run, Input, Eof, Tick, RunLong}
+use Rattle.ckrt_events.specs.Bytes.{RUN_LIMIT}
 use Rattle.ckrt_machine.specs.Steps.{State, hart_of}
 use Rattle.ckrt_machine.specs.Events.{step}
-use Rattle.ckrt_drive.specs.Plan.{RUN_LIMIT, idle_until, run_by, ticks_to}
+use Rattle.ckrt_drive.specs.Plan.{idle_until, run_by, ticks_to}
 use Rattle.ckrt_drive.specs.declared.plan.Next.TheVariants.{Submit}
 use Rattle.ckrt_hunt.specs.declared.plan.Plan.{Plan}
 use Rattle.ckrt_hunt.specs.declared.made.Made.{Made}

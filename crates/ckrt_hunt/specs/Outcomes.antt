@@ -10,8 +10,8 @@ use Rattle.ckrt_thread.specs.declared.records.Wait.{Wait}
 use Rattle.ckrt_state.specs.declared.table.Status.{Status}
 use Rattle.ckrt_state.specs.declared.table.Status.TheVariants as status
 use Rattle.ckrt_state.specs.declared.table.Tables.{Tables}
-use Rattle.ckrt_drive.specs.declared.progress.Ending.{Ending}
-use Rattle.ckrt_drive.specs.declared.progress.Ending.TheVariants as ending
+use Rattle.ckrt_drive.specs.declared.step_done.DriveEnd.{DriveEnd}
+use Rattle.ckrt_drive.specs.declared.step_done.DriveEnd.TheVariants as ending
 use Rattle.ckrt_hunt.specs.declared.outcome.Awaited.{Awaited}
 use Rattle.ckrt_hunt.specs.declared.outcome.Awaited.TheVariants as awaited
 use Rattle.ckrt_hunt.specs.declared.outcome.Outcome.{Outcome}
@@ -47,7 +47,7 @@ by_status (status.Exited v) = outcome.Exited v
 by_status (status.Faulted t pc c) = outcome.Faulted t pc c
 
 -- what a run comes to that ends so, with these tables
-abbrev pub outcome_of : Ending → Tables → Outcome
+abbrev pub outcome_of : DriveEnd → Tables → Outcome
 outcome_of ending.Ended s = by_status s.status
 outcome_of ending.WaitsForInput s = outcome.WaitsForInput
 outcome_of ending.Deadlock s = outcome.Deadlock (record { items = waiting_among s.threads 64 })

@@ -24,7 +24,7 @@ use Rattle.ckrt_hunt.specs.Lots.{lot_at, scale_of}
 abbrev pub is_early : (seed : ℕ) → Bool
 is_early seed = lot_at seed 0 CLOCK % 2 == 0
 
--- the step behind which change point i is, of k steps; one that the seed doesn't have is at the end of the priorities, where it changes nothing
+-- the step after which change point i is, of k steps; one that the seed doesn't have is at the end of the priorities, where it changes nothing
 abbrev pub point_of : (seed k i : ℕ) → ℕ
 point_of seed k i =
     if nat_lt i (lot_at seed 0 CHANGES % 4) then lot_at seed 0 (POINTS + i) % k + 1 else k
@@ -48,7 +48,7 @@ by_priorities limit seed k =
 abbrev pub by_lot : (limit seed : ℕ) → Plan
 by_lot limit seed = plan_with limit seed 0 0 0 0
 
--- the plan of a seed, for a run of at most so many steps and events
+-- the plan of a seed, for a run of at most that many steps and events
 abbrev pub plan_of : (limit seed : ℕ) → Plan
 plan_of limit seed =
     if seed % 2 == 0 then by_lot limit seed
@@ -71,7 +71,7 @@ abbrev pub lowered_at : (point steps : ℕ) → (who : Option ℕ) → Option �
 lowered_at point steps who (Some t) = Some t
 lowered_at point steps who None = if nat_le point steps then who else None
 
--- who is lowered where so many steps are made, the last ones by this thread
+-- who is lowered where that many steps are made, the last ones by this thread
 abbrev pub lowered_by : Plan → (steps : ℕ) → (who : Option ℕ) → Lowered → Lowered
 lowered_by p n who l = record {
   first = lowered_at p.first n who l.first;

@@ -7,7 +7,7 @@ use Rattle.ckrt_machine.specs.Steps.{State}
 use Rattle.ckrt_machine.specs.Events.{AllAccepted, fold, output_of, step}
 use Rattle.ckrt_drive.specs.declared.plan.Next.{Next}
 use Rattle.ckrt_drive.specs.declared.plan.Next.TheVariants.{Submit, End}
-use Rattle.ckrt_drive.specs.declared.progress.Ending.{Ending}
+use Rattle.ckrt_drive.specs.declared.step_done.DriveEnd.{DriveEnd}
 use Rattle.ckrt_hunt.specs.declared.plan.Plan.{Plan}
 use Rattle.ckrt_hunt.specs.declared.made.Made.{Made}
 use Rattle.ckrt_hunt.specs.declared.runs.Told.{Told}
@@ -31,7 +31,7 @@ on p e x = record {
   state = (step e x.state).state;
 }
 
--- behind some events
+-- after some events
 abbrev pub behind : Plan → List Event → Point → Point
 behind p [] x = x
 behind p (e ∷ es) x = behind p es (on p e x)
@@ -53,11 +53,11 @@ pub record HasCome (p : Plan) (start : State) (events : List Event) (x : Point) 
   pub folded : x.state ≡ (fold events start).state
   pub output : Holds256 hasher (output_of events start)
 
--- A run from this state comes to what is told of it: its events are those of the schedule, up to the one that has none behind it; each is
+-- A run from this state comes to what is told of it: its events are those of the schedule, up to the one that has none after it; each is
 -- accepted at its turn; and the outcome and the digest are those of the plain fold over them.
 pub record ComesTo (p : Plan) (start : State) (told : Told) : Type 0 where
   pub events : List Event
-  pub ending : Ending
+  pub ending : DriveEnd
   pub scheduled : AreScheduled p events (beginning start)
   pub ended : next_at p (behind p events (beginning start)) ≡ End ending
   pub accepted : AllAccepted events start

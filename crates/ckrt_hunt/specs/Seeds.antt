@@ -5,7 +5,7 @@ use Rattle.std.specs.List.{after_first, before_first, list_all}
 use Rattle.std.specs.Str.Parse.{digits_value, without_leading_plus}
 use Rattle.ckrt_hunt.specs.declared.seeds.Seeds.{Seeds}
 
--- decimal digits, one or more, behind a plus or not, of a number of 64 bits
+-- decimal digits, one or more, after a plus or not, of a number of 64 bits
 abbrev pub is_number : List ℕ → Bool
 is_number t =
     let ds = without_leading_plus t in
@@ -14,12 +14,12 @@ is_number t =
 abbrev pub number_of : List ℕ → Option ℕ
 number_of t = if is_number t then Some (digits_value 10 (without_leading_plus t)) else None
 
--- the first isn't behind the last, which has one more behind it in 64 bits
+-- the first isn't after the last, which has one more after it in 64 bits
 abbrev pub range_of : (first last : ℕ) → Option (ℕ × ℕ)
 range_of first last =
     if nat_le first last && nat_lt last 18446744073709551615 then Some (first, last) else None
 
--- the numbers before and behind the first `-`
+-- the numbers before and after the first `-`
 abbrev pub seeds_of : List ℕ → Option (ℕ × ℕ)
 seeds_of t =
     option_and_then (λ first. option_and_then (range_of first) (number_of (after_first (λ b. b == 45) t)))

@@ -34,7 +34,7 @@ abbrev pub waiting_text : Waiting → List ℕ
 waiting_text w =
     codes ", thread " ++ decimal w.thread ++ codes " waits for " ++ awaited_text w.awaited
 
--- of runs of at most so many steps and events
+-- of runs of at most that many steps and events
 abbrev pub outcome_text : (limit : ℕ) → Outcome → List ℕ
 outcome_text limit (outcome.Exited status) = codes "exit " ++ decimal status
 outcome_text limit (outcome.Faulted t pc c) =

@@ -14,7 +14,7 @@ use Rattle.ckrt_machine.specs.Refusals.{refusal_in}
 use Rattle.ckrt_drive.specs.Plan.{earliest_deadline, idle_until, run_by}
 use Rattle.ckrt_drive.specs.declared.plan.Next.{Next}
 use Rattle.ckrt_drive.specs.declared.plan.Next.TheVariants.{Submit, End}
-use Rattle.ckrt_drive.specs.declared.progress.Ending.TheVariants.{Ended, Enough}
+use Rattle.ckrt_drive.specs.declared.step_done.DriveEnd.TheVariants.{Ended, Enough}
 use Rattle.ckrt_hunt.specs.declared.lots.TheConstants.{CLOCK, HART, LENGTH, SCALE}
 use Rattle.ckrt_hunt.specs.declared.plan.Plan.{Plan}
 use Rattle.ckrt_hunt.specs.declared.made.Lowered.{Lowered}
@@ -164,7 +164,7 @@ steps_in (Run h n) = n
 steps_in (RunLong h n) = n
 steps_in _ = 0
 
--- who is on the hart of a run
+-- the thread on the hart of a run
 abbrev pub runner_of : Event → Tables → Option ℕ
 runner_of (Run h n) s = hart_of s h
 runner_of (RunLong h n) s = hart_of s h

@@ -4,14 +4,14 @@ ghost use Rattle.ckrt_events.specs.declared.event.Event.{Event};
 ghost use Rattle.ckrt_commands.specs.Accepts.{Accepts};
 ghost use Rattle.ckrt_hunt.specs.Kept.{KeepsRun};
 ghost use Rattle.ckrt_disk.specs.Frame.{IsSameDisk};
-ghost use Rattle.ckrt_image.specs.Format.{format_refusal};
-ghost use Rattle.ckrt_image.specs.Programs.{Program, RecoversToStart, formatted_program, start_of};
+ghost use Rattle.ckrt_stored.specs.Format.{format_refusal};
+ghost use Rattle.ckrt_stored.specs.Programs.{Program, RecoversToStart, formatted_program, start_of};
 ghost use Rattle.ckrt_hunt.specs.KeptDisks.{HasReason, IsNoRefusal, IsOverReason, IsRefusedAsFormat, KeepsSeed};
 
 use crate::keeping::{KeepFault, keep};
 use crate::plan::Plan;
 use ckrt_disk::Disk;
-use ckrt_drive::Ending;
+use ckrt_drive::DriveEnd;
 use ckrt_recovery::{Config, FormatFault, RecoverFault, Session, format, recover};
 use std::alloc::Global;
 use thiserror::Error;
@@ -34,11 +34,11 @@ pub enum SeedFault {
 #[derive(Drop)]
 pub struct KeptDisk<D: Disk> {
     pub disk: D,
-    pub result: Result<Ending, SeedFault>,
+    pub result: Result<DriveEnd, SeedFault>,
 }
 
 /// Keeps a run over a session.
-fn keep_over<D: Disk>(session: &mut Session<D>, plan: &Plan) -> Result<Ending, SeedFault>
+fn keep_over<D: Disk>(session: &mut Session<D>, plan: &Plan) -> Result<DriveEnd, SeedFault>
     ensures kept { IfOk result (λ ending. KeepsRun plan.now session.old session.new (Ok ending)) }
     ensures took { (events : List Event) × Accepts events session.old session.new }
     ensures why { IfErr result (IsOverReason plan.now session.old session.new) }

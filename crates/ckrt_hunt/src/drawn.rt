@@ -11,7 +11,7 @@ pub fn is_early(seed: u64) -> bool
     lot_at(seed, 0, CLOCK) % 2 == 0
 }
 
-/// A change point of a seed, of those among so many steps.
+/// A change point of a seed, of those among that many steps.
 pub fn point_of(seed: u64, steps: u32, point: u8) -> u32
     requires some { 1 ≤ steps }
     requires few { steps ≤ 1000000 }

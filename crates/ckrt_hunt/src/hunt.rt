@@ -21,7 +21,7 @@ pub struct Hunt {
     limit: u32,
     /// At the beginning of the program, between two runs.
     machine: Machine,
-    /// The room for the beginning of the run behind the next one.
+    /// The room for the beginning of the run after the next one.
     memory: Memory,
     tables: Tables,
 }

@@ -10,7 +10,7 @@ use crate::made::Made;
 use crate::plan::Plan;
 use crate::turn::{next, runner_of};
 use ckrt_disk::Disk;
-use ckrt_drive::{Ending, Next};
+use ckrt_drive::{DriveEnd, Next};
 use ckrt_events::Event;
 use ckrt_machine::{Answer, Refusal};
 use ckrt_recovery::{Session, SubmitFault};
@@ -58,7 +58,7 @@ fn submit<D: Disk>(session: &mut Session<D>, event: &Event) -> Result<Answer, Su
     }
 }
 
-/// Hands an event in behind a commit.
+/// Hands an event in after a commit.
 fn submit_saved<D: Disk>(session: &mut Session<D>, event: &Event) -> Result<Answer, KeepFault>
     requires { IsInRange event.now }
     ensures { Takes event.now session.old session.new result }
@@ -116,7 +116,7 @@ fn keep_event<D: Disk>(
 }
 
 /// The end of a run: all its events are acknowledged.
-fn finish<D: Disk>(session: &mut Session<D>, ending: Ending) -> Result<Ending, KeepFault>
+fn finish<D: Disk>(session: &mut Session<D>, ending: DriveEnd) -> Result<DriveEnd, KeepFault>
     ensures accepts { Accepts [] session.old session.new }
     ensures ended { IfOk result (λ e. e ≡ ending) }
     ensures saved { OnOk result (session.new.acknowledged ≡ session.new.progress.count) }
@@ -131,7 +131,7 @@ fn finish<D: Disk>(session: &mut Session<D>, ending: Ending) -> Result<Ending, K
 
 /// Runs a program by a plan over a session, from where it stands, and acknowledges the run's events: they are those that
 /// [`run`](crate::run) has from there. Its output isn't kept. It takes no memory.
-pub fn keep<D: Disk>(session: &mut Session<D>, plan: &Plan) -> Result<Ending, KeepFault>
+pub fn keep<D: Disk>(session: &mut Session<D>, plan: &Plan) -> Result<DriveEnd, KeepFault>
     requires { 1 ≤ session.old.progress.machine.state.tables.threads.hart_count }
     ensures { KeepsRun plan.now session.old session.new result }
 {

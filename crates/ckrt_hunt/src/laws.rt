@@ -4,8 +4,8 @@ ghost use Rattle.std.specs.Prelude.{◌≡◌};
 ghost use Rattle.ckrt_machine.specs.Steps.{State};
 ghost use Rattle.ckrt_hunt.specs.declared.plan.Plan.{Plan};
 ghost use Rattle.ckrt_hunt.specs.declared.runs.Told.{Told};
-ghost use Rattle.ckrt_drive.specs.declared.progress.Ending.{Ending};
-ghost use Rattle.ckrt_image.specs.Programs.{Program, start_of};
+ghost use Rattle.ckrt_drive.specs.declared.step_done.DriveEnd.{DriveEnd};
+ghost use Rattle.ckrt_stored.specs.Programs.{Program, start_of};
 ghost use Rattle.ckrt_hunt.specs.KeptDisks.{HasRun, IsToldOf};
 ghost use Rattle.ckrt_hunt.specs.Runs.{ComesTo};
 
@@ -20,7 +20,7 @@ pub fn seed_repeats()
 /// What is told of a run, and what a disk has that the run was kept on, are one thing: whatever a stop leaves of the disk
 /// recovers to the outcome that was told.
 pub fn told_is_kept<D: Disk>()
-    ensures { (program : Program) (p : Plan) (disk : D) (ending : Ending) (told : Told)
+    ensures { (program : Program) (p : Plan) (disk : D) (ending : DriveEnd) (told : Told)
         → (has : HasRun D.Disk program p disk ending)
         → ComesTo p (start_of program) told → IsToldOf has told }
 {}

@@ -28,7 +28,7 @@ pub struct Made {
     pub lowered: Lowered,
 }
 
-/// Who is lowered at a change point, where so many steps are made, the last ones by this thread.
+/// Who is lowered at a change point, where that many steps are made, the last ones by this thread.
 fn lowered_at(
     point: u32,
     steps: u32,
@@ -62,7 +62,7 @@ fn has_left(end: RunEnd) -> bool
 }
 
 impl Lowered {
-    /// The same where so many steps are made, the last ones by this thread.
+    /// The same where that many steps are made, the last ones by this thread.
     fn with(self, plan: &Plan, steps: u32, who: Option<ThreadId>) -> Lowered
         ensures { result ≡ lowered_by plan.now steps who self }
     {

@@ -3,7 +3,7 @@ ghost use Rattle.std.specs.Prelude.{◌≡◌, ◌≤◌, ◌<◌, ◌+◌, ◌+
 ghost use Rattle.ckrt_hunt.specs.Outcomes.{awaited_by, by_status, outcome_of, waiting_among, waiting_by};
 
 use arrayvec::ArrayVec;
-use ckrt_drive::Ending;
+use ckrt_drive::DriveEnd;
 use ckrt_rv32i::Cause;
 use ckrt_state::{Status, Tables};
 use ckrt_thread::{MAX_THREADS, Reason, ThreadId, Threads, Wait};
@@ -68,7 +68,7 @@ fn awaited_by(reason: Reason) -> Awaited
     }
 }
 
-/// The thread goes behind the others, with what it waits for, if it waits.
+/// The thread goes after the others, with what it waits for, if it waits.
 fn push_waiting(waiting: &mut ArrayVec<Waiting, 64>, thread: ThreadId, wait: Option<Wait>)
     requires { length waiting.old.items < 64 }
     ensures items { waiting.new.items ≡ waiting.old.items ++ waiting_by thread wait }
@@ -103,13 +103,13 @@ fn by_status(status: Status) -> Outcome
 }
 
 /// What a run comes to that ends so, with these tables.
-pub fn outcome_of(tables: &Tables, ending: Ending) -> Outcome
+pub fn outcome_of(tables: &Tables, ending: DriveEnd) -> Outcome
     ensures { result ≡ outcome_of ending tables.now }
 {
     match ending {
-        Ending::Ended => by_status(tables.status),
-        Ending::WaitsForInput => Outcome::WaitsForInput,
-        Ending::Deadlock => Outcome::Deadlock(waiting_of(&tables.threads)),
-        Ending::Enough => Outcome::NoEnd,
+        DriveEnd::Ended => by_status(tables.status),
+        DriveEnd::WaitsForInput => Outcome::WaitsForInput,
+        DriveEnd::Deadlock => Outcome::Deadlock(waiting_of(&tables.threads)),
+        DriveEnd::Enough => Outcome::NoEnd,
     }
 }

@@ -7,12 +7,12 @@ use crate::lots::{SCALE, lot_at, scale_of};
 /// The plan of a seed: what it has drawn before its run begins.
 #[derive(Clone, Copy, Debug, PartialEq, Eq)]
 pub struct Plan {
-    /// A run ends at so many steps, and at so many events.
+    /// A run ends at that many steps, and at that many events.
     pub limit: u32,
     pub seed: u64,
-    /// For how many steps the threads run by priorities, at most 1,000,000. Behind them all goes by lot.
+    /// For how many steps the threads run by priorities, at most 1,000,000. After them all goes by lot.
     pub horizon: u32,
-    /// Behind so many steps the first change point lowers a thread.
+    /// After that many steps the first change point lowers a thread.
     pub first: u32,
     pub second: u32,
     pub third: u32,
@@ -23,7 +23,7 @@ pub struct Plan {
 impl Plan {
     ghost use Rattle.ckrt_hunt.specs.Plans.{by_lot, by_priorities, plan_of};
 
-    /// The plan of a seed, for a run of at most so many steps, and as many events.
+    /// The plan of a seed, for a run of at most that many steps, and as many events.
     pub fn new(limit: u32, seed: u64) -> Plan
         ensures { result ≡ plan_of limit seed }
     {
@@ -49,7 +49,7 @@ impl Plan {
         }
     }
 
-    /// Priorities for so many steps.
+    /// Priorities for that many steps.
     fn by_priorities(limit: u32, seed: u64, steps: u32) -> Plan
         requires some { 1 ≤ steps }
         requires few { steps ≤ 1000000 }

@@ -11,7 +11,7 @@ use crate::made::Made;
 use crate::outcome::{Outcome, outcome_of};
 use crate::plan::Plan;
 use crate::turn::{next, runner_of};
-use ckrt_drive::{Ending, Next};
+use ckrt_drive::{DriveEnd, Next};
 use ckrt_events::Event;
 use ckrt_machine::Machine;
 use sha2::{Digest, Sha256};
@@ -59,7 +59,7 @@ fn digest_of(outcome: &Outcome, hasher: Sha256) -> Option<[u8; 32]>
 }
 
 /// What is told of a run that has come to its end.
-fn tell(machine: &Machine, ending: Ending, hasher: Sha256) -> Told
+fn tell(machine: &Machine, ending: DriveEnd, hasher: Sha256) -> Told
     ensures outcome { result.outcome ≡ outcome_of ending machine.now.state.tables }
     ensures digest { (output : List ℕ) → Holds256 hasher output
         → result.digest ≡ digest_of result.outcome output }

@@ -18,7 +18,7 @@ impl Shape {
     ghost use Rattle.std.specs.Prelude.{◌≡◌, option_map};
     ghost use Rattle.ckrt_hunt.specs.Tallies.{numbers_of, shape_of};
 
-    /// A program of so many pages and harts, whose runs have at most so many steps and events. None where the pages aren't
+    /// A program of that many pages and harts, whose runs have at most that many steps and events. None where the pages aren't
     /// 16 to 1,024, or the harts 1 to 8.
     pub fn new(pages: u32, harts: u32, limit: u32) -> Option<Shape>
         ensures { option_map numbers_of result ≡ shape_of pages harts limit }

@@ -1,9 +1,8 @@
 //! Words, numbers and what a run came to, onto a writer.
-ghost use Rattle.std.specs.Prelude.{◌≡◌, ◌++◌, codes, decimal, take, length, OnOk};
+ghost use Rattle.std.specs.Prelude.{◌++◌, codes, decimal, take, length, OnOk};
 ghost use Rattle.std.specs.List.{flat_map};
 ghost use Rattle.std.specs.Io.KnownBytes.{Appends};
 ghost use Rattle.hex.specs.Hex.{encode_lower};
-ghost use Rattle.ckrt_rv32i.specs.Names.{cause_name};
 ghost use Rattle.ckrt_inspect.specs.Texts.{hex_text};
 ghost use Rattle.ckrt_hunt.specs.declared.outcome.Outcome.TheVariants.{Deadlock, Faulted};
 ghost use Rattle.ckrt_hunt.specs.Table.{awaited_text, digest_text, outcome_text, waiting_text};
@@ -20,7 +19,7 @@ pub fn write_number<W: Write>(out: &mut W, number: u64) -> Result<()>
     out.write_all(itoa::Buffer::new().format(number).as_bytes())
 }
 
-/// A word, and a number behind it.
+/// A word, and a number after it.
 #[tactic(auto, using(crate::proofs::AppendLemmas::appends_both))]
 pub fn write_counted<W: Write>(out: &mut W, word: &[u8], number: u64) -> Result<()>
     ensures { OnOk result
@@ -42,7 +41,7 @@ fn write_hex<W: Write>(out: &mut W, number: u32) -> Result<()>
     }
 }
 
-/// A word, and an address behind it.
+/// A word, and an address after it.
 #[tactic(auto, using(crate::proofs::AppendLemmas::appends_both))]
 fn write_at<W: Write>(out: &mut W, word: &[u8], address: u32) -> Result<()>
     ensures { OnOk result
@@ -101,7 +100,7 @@ fn write_fault<W: Write>(out: &mut W, thread: ThreadId, pc: u32, cause: Cause) -
     write_counted(out, b"fault of thread ", u64::from(thread))?;
     write_at(out, b" at ", pc)?;
     out.write_all(b", ")?;
-    out.write_all(cause_name(cause))
+    out.write_all(cause.name().as_bytes())
 }
 
 #[tactic(auto, using(crate::proofs::AppendLemmas::appends_both))]
@@ -123,7 +122,7 @@ fn write_no_end<W: Write>(out: &mut W, limit: u32) -> Result<()>
     out.write_all(b" steps or events")
 }
 
-/// What a run of at most so many steps and events came to.
+/// What a run of at most that many steps and events came to.
 pub fn write_outcome<W: Write>(out: &mut W, limit: u32, outcome: &Outcome) -> Result<()>
     ensures { OnOk result
         (Appends (W.contents out.old) (W.contents out.new) (outcome_text limit outcome.now)) }
@@ -169,22 +168,5 @@ pub fn write_digest<W: Write>(out: &mut W, digest: &Option<[u8; 32]>) -> Result<
     match digest {
         Some(digest) => write_known_digest(out, digest),
         None => Ok(()),
-    }
-}
-
-/// The name of a fault's cause.
-fn cause_name(cause: Cause) -> &'static [u8]
-    ensures { result.now ≡ cause_name cause }
-{
-    match cause {
-        Cause::FetchRange => b"FetchRange".as_slice(),
-        Cause::Illegal => b"Illegal".as_slice(),
-        Cause::JumpMisaligned => b"JumpMisaligned".as_slice(),
-        Cause::LoadMisaligned => b"LoadMisaligned".as_slice(),
-        Cause::LoadRange => b"LoadRange".as_slice(),
-        Cause::StoreMisaligned => b"StoreMisaligned".as_slice(),
-        Cause::StoreRange => b"StoreRange".as_slice(),
-        Cause::Breakpoint => b"Breakpoint".as_slice(),
-        Cause::Gate => b"Gate".as_slice(),
     }
 }

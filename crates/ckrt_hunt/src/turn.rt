@@ -12,11 +12,11 @@ ghost use Rattle.ckrt_hunt.specs.Turns.{IsFitNext, IsNumbered, IsWithin, best_am
 use crate::lots::{CLOCK, HART, LENGTH, SCALE, lot_at, shortest_of};
 use crate::made::Made;
 use crate::plan::Plan;
-use ckrt_drive::{Ending, Next, idle, run_by};
+use ckrt_drive::{DriveEnd, Next, idle, run_by};
 use ckrt_events::Event;
 use ckrt_machine::Machine;
 use ckrt_state::{Status, Tables};
-use ckrt_thread::{MAX_HARTS, MAX_THREADS, Thread, ThreadId, Threads};
+use ckrt_thread::{Hart, MAX_HARTS, MAX_THREADS, Thread, ThreadId, Threads};
 
 /// A thread with its rank at a turn.
 #[derive(Clone, Copy, Debug, PartialEq, Eq)]
@@ -185,7 +185,7 @@ fn is_on(tables: &Tables, hart: usize, thread: ThreadId) -> bool
 }
 
 /// The hart that the thread is on.
-fn hart_with(tables: &Tables, thread: ThreadId) -> Option<u8>
+fn hart_with(tables: &Tables, thread: ThreadId) -> Option<Hart>
     ensures hart { result ≡ hart_from 0 thread tables.now }
     ensures small { IfSome result (λ hart. hart ≤ 7) }
 {
@@ -216,7 +216,7 @@ fn on_or_onto(plan: &Plan, made: &Made, tables: &Tables, thread: ThreadId) -> Ev
     Event::Place(hart as u8, thread)
 }
 
-/// One turn in so many is the clock's.
+/// One turn in that many is the clock's.
 fn clock_period(plan: &Plan) -> u32
     ensures period { result ≡ clock_period plan.now }
     ensures some { 1 ≤ result }
@@ -297,7 +297,7 @@ fn or_enough(machine: &Machine, next: Next) -> Next
     match next {
         Next::Submit(event) => match machine.accept(0, &event) {
             Ok(()) => Next::Submit(event),
-            Err(_) => Next::End(Ending::Enough),
+            Err(_) => Next::End(DriveEnd::Enough),
         },
         Next::End(ending) => Next::End(ending),
     }
@@ -310,16 +310,16 @@ pub fn next(machine: &Machine, plan: &Plan, made: &Made) -> Next
     ensures fit { IsFitNext plan.now made.now machine.now.state.tables result }
 {
     if !matches!(machine.status(), Status::Running) {
-        return Next::End(Ending::Ended);
+        return Next::End(DriveEnd::Ended);
     }
     if is_enough(plan, made) {
-        return Next::End(Ending::Enough);
+        return Next::End(DriveEnd::Enough);
     }
     let next = next_for(plan, made, machine.tables());
     or_enough(machine, next)
 }
 
-/// Who is on the hart of a run.
+/// The thread on the hart of a run.
 pub fn runner_of(tables: &Tables, event: &Event) -> Option<ThreadId>
     ensures { result ≡ runner_of event.now tables.now }
 {

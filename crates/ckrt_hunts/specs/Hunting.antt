@@ -4,8 +4,8 @@ use Rattle.std.specs.Io.KnownBytes.{Appends}
 use Rattle.ckrt_disk.specs.declared.disk.Disk.{Ghosts}
 use Rattle.ckrt_checkpoint.specs.declared.config.Config.{Config}
 use Rattle.ckrt_checkpoint.specs.Layout.{is_valid, size_needed}
-use Rattle.ckrt_image.specs.Programs.{formatted_program}
-use Rattle.ckrt_image.specs.declared.fault.FormatFault.TheVariants as format
+use Rattle.ckrt_stored.specs.Programs.{formatted_program}
+use Rattle.ckrt_stored.specs.declared.fault.FormatFault.TheVariants as format
 use Rattle.ckrt_main.specs.declared.fault.ServeFault.TheVariants as serve
 use Rattle.ckrt_hunt.specs.Plans.{plan_of}
 use Rattle.ckrt_hunt.specs.Seeds.{ends_of, seeds_of}

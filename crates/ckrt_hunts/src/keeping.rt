@@ -1,11 +1,11 @@
 //! The disk that a run of a hunt is kept on.
 ghost use Rattle.std.specs.Prelude.{◌≡◌, Ok, true};
 ghost use Rattle.ckrt_checkpoint.specs.Layout.{is_valid, size_needed};
-ghost use Rattle.ckrt_image.specs.Programs.{formatted_program};
+ghost use Rattle.ckrt_stored.specs.Programs.{formatted_program};
 ghost use Rattle.ckrt_hunts.specs.Keeping.{EndsKeeping, Keeps, KeepsOn, fault_of, keep_fault_of};
 
 use ckrt_disk::Disk;
-use ckrt_drive::Ending;
+use ckrt_drive::DriveEnd;
 use ckrt_hunt::{KeepFault, KeptDisk, Plan, SeedFault, keep_seed};
 use ckrt_outcomes::JobFault;
 use ckrt_recovery::{Config, RecoverFault};
@@ -46,7 +46,7 @@ fn fault_of(fault: SeedFault) -> JobFault
 /// Gives a disk with a whole run the name of its path, or gives it up where it can't have that.
 fn name_kept<'a, I: Read, D: Disk, S: Sources<'a, I, D>>(
     disk: D,
-    ending: Ending,
+    ending: DriveEnd,
     sources: &mut S,
     path: &'a str,
 ) -> Result<(), JobFault>

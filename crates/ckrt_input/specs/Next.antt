@@ -18,12 +18,12 @@ next_bytes rest = take 64 rest
 abbrev pub given_by : List ℕ → Event
 given_by bytes = if length bytes == 0 then Eof else Input (record { items = bytes })
 
--- the program runs, its input hasn't ended, and its queue has room for so many bytes
+-- the program runs, its input hasn't ended, and its queue has room for that many bytes
 abbrev pub has_room : Tables → ℕ → Bool
 has_room s n = is_running s.status && (not s.closed && nat_le (length s.input + n) INPUT_LIMIT)
 
--- What a program is given next, where these bytes of a file are left: the next of them, once its queue has room for them; behind the last one the
--- end of input; and nothing more behind that.
+-- What a program is given next, where these bytes of a file are left: the next of them, once its queue has room for them; after the last one the
+-- end of input; and nothing more after that.
 abbrev pub next_input : Tables → (rest : List ℕ) → Option Event
 next_input s rest = if has_room s (length (next_bytes rest)) then Some (given_by (next_bytes rest)) else None
 
@@ -53,13 +53,13 @@ GivesBeginning =
     (events : List Event) (file : List ℕ) (s : State) → AreGiven events file s
     → (rest : List ℕ) × (file ≡ input_of events ++ rest)
 
--- the end comes only behind all of the file
+-- the end comes only after all of the file
 abbrev pub EndsBehindAll : Type 0
 EndsBehindAll =
     (front back : List Event) (file : List ℕ) (s : State) → AreGiven (front ++ Eof ∷ back) file s
     → input_of front ≡ file
 
--- events behind others are given from the offset on that those before them left
+-- events after others are given from the offset on that those before them left
 abbrev pub GoesOnGiven : Type 0
 GoesOnGiven =
     (front back : List Event) (file : List ℕ) (s : State) → AreGiven front file s
@@ -72,7 +72,7 @@ IsAlwaysTaken =
     (s : State) (rest : List ℕ) (e : Event) → next_input s.tables rest ≡ Some e
     → IsInRange e × ((held : ℕ) → refusal_of held e s ≡ None)
 
--- it hangs on the next 64 bytes alone
+-- it depends on the next 64 bytes alone
 abbrev pub HangsOnNext : Type 0
 HangsOnNext =
     (s : Tables) (rest : List ℕ) (n : ℕ) → 64 ≤ n → next_input s (take n rest) ≡ next_input s rest

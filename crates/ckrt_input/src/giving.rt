@@ -1,4 +1,4 @@
-// What is given next.
+//! What is given next.
 ghost use Rattle.std.specs.Prelude.{◌≡◌, ◌≤◌, length};
 ghost use Rattle.ckrt_input.specs.Next.{given_by, has_room, next_input};
 
@@ -9,7 +9,7 @@ use ckrt_state::{INPUT_LIMIT, Status, Tables};
 /// How many bytes are given at once, at most.
 pub const PIECE: usize = 64;
 
-/// Whether the program runs, its input hasn't ended, and its queue has room for so many bytes.
+/// Whether the program runs, its input hasn't ended, and its queue has room for that many bytes.
 fn has_room(tables: &Tables, count: usize) -> bool
     requires { count ≤ 64 }
     ensures { result ≡ has_room tables.now count }
@@ -34,7 +34,7 @@ fn given_by(bytes: &[u8]) -> Event
 
 /// What a program is given next of its input, of which these bytes are left; of more than [`PIECE`] bytes only the first ones
 /// are looked at. An Input of the next [`PIECE`] bytes, or of all that are left, where the queue has room for them; the end of
-/// input where none is left; nothing where there is no room, behind the end, or once the program has ended.
+/// input where none is left; nothing where there is no room, after the end, or once the program has ended.
 pub fn next_input(tables: &Tables, rest: &[u8]) -> Option<Event>
     ensures { result ≡ next_input tables.now rest.now }
 {

@@ -1,4 +1,4 @@
-// How much of its input a program was given.
+//! How much of its input a program was given.
 ghost use Rattle.std.specs.Prelude.{◌≡◌, length};
 ghost use Rattle.ckrt_input.specs.Taken.{bytes_of};
 

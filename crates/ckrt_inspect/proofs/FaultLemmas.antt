@@ -1,11 +1,11 @@
 -- Faults of recovery as those of the inspector.
 use Rattle.std.proofs.Common.{◌≡◌, ◌≢◌, ℕ, List, Option, Some, Err, refl}
-use Rattle.ckrt_image.specs.declared.fault.RecoverFault.{RecoverFault}
-use Rattle.ckrt_image.specs.declared.fault.RecoverFault.TheVariants as recover
-use Rattle.ckrt_image.specs.Past.{HasPast}
-use Rattle.ckrt_image.specs.Reads as reads
-use Rattle.ckrt_image.specs.Recovery.{AgreesOnFault, Recovers}
-use Rattle.ckrt_image.proofs.PastFaultLemmas.{past_fault}
+use Rattle.ckrt_stored.specs.declared.fault.RecoverFault.{RecoverFault}
+use Rattle.ckrt_stored.specs.declared.fault.RecoverFault.TheVariants as recover
+use Rattle.ckrt_stored.specs.Past.{HasPast}
+use Rattle.ckrt_stored.specs.Reads as reads
+use Rattle.ckrt_stored.specs.Recovery.{AgreesOnFault, Recovers}
+use Rattle.ckrt_stored.proofs.PastFaultLemmas.{past_fault}
 use Rattle.ckrt_inspect.specs.declared.fault.InspectFault.TheVariants.{Range, Write}
 use Rattle.ckrt_inspect.specs.Inspect.{IsFaultOf, is_device, of_recovery}
 

@@ -4,7 +4,7 @@ use Rattle.std.proofs.lemmas.Grind.{flat_map-append}
 use Rattle.std.specs.List.{flat_map}
 use Rattle.ckrt_thread.specs.declared.records.Thread.{Thread}
 use Rattle.ckrt_thread.specs.Contents.{ThreadRow, rows_of, rows_from}
-use Rattle.ckrt_tables.specs.declared.reading_keys.KeyWord.{KeyWord}
+use Rattle.ckrt_tables.specs.declared.reading_keys.KeyEntry.{KeyEntry}
 use Rattle.ckrt_tables.specs.Records.{reader_at, readers_from, word_at, words_from}
 use Rattle.ckrt_tables.proofs.Puts.{parts_more}
 use Rattle.ckrt_tables.proofs.Rows.{from_next}
@@ -38,6 +38,6 @@ pushed_count xs i old now new lt first next = pushed_both old now new (flat_map 
     ∙ ap (λ l. old ++ l) (sym (from_next (λ k n. flat_map reader_text (reader_at k n)) (λ k ns. flat_map reader_text (readers_from k ns)) (λ k. refl) (λ k x more. flat_map-append reader_text (reader_at k x) (readers_from (suc k) more)) xs i 0 lt))
 
 -- one word by its key more
-pub pushed_word : (line : KeyWord → List ℕ) (os : List (Option ℕ)) (i : ℕ) (old now new : List ℕ) → i < length os → now ≡ old ++ flat_map line (words_from 0 (take i os)) → new ≡ now ++ flat_map line (word_at i (get_or os i None)) → new ≡ old ++ flat_map line (words_from 0 (take (i + 1) os))
+pub pushed_word : (line : KeyEntry → List ℕ) (os : List (Option ℕ)) (i : ℕ) (old now new : List ℕ) → i < length os → now ≡ old ++ flat_map line (words_from 0 (take i os)) → new ≡ now ++ flat_map line (word_at i (get_or os i None)) → new ≡ old ++ flat_map line (words_from 0 (take (i + 1) os))
 pushed_word line os i old now new lt first next = pushed_both old now new (flat_map line (words_from 0 (take i os))) (flat_map line (word_at i (get_or os i None))) first next
     ∙ ap (λ l. old ++ l) (sym (from_next (λ k o. flat_map line (word_at k o)) (λ k l. flat_map line (words_from k l)) (λ k. refl) (λ k x more. flat_map-append line (word_at k x) (words_from (suc k) more)) os i None lt))

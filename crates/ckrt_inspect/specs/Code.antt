@@ -1,4 +1,4 @@
--- The lines of code behind a thread's line: what it is about to do (this project's own format).
+-- The lines of code after a thread's line: what it is about to do (this project's own format).
 use Rattle.std.specs.Prelude.{ℕ, ◌+◌, ◌%◌, ◌^◌, List, [], ◌++◌, if◌then◌else◌, codes, Option, Some, None}
 use Rattle.ckrt_rv32i.specs.Decoding.{instruction_of}
 use Rattle.ckrt_rv32i.specs.Memory.{is_valid, loaded}
@@ -20,7 +20,7 @@ word_line address word = codes "  " ++ hex_text address ++ codes " " ++ hex_text
 abbrev pub code_line : List ℕ → ℕ → List ℕ
 code_line memory address = if is_valid memory address size.Word then word_line address (loaded memory address size.Word) else []
 
--- the address so many bytes behind a pc; addresses wrap
+-- the address that many bytes after a pc; addresses wrap
 abbrev pub address_behind : ℕ → ℕ → ℕ
 address_behind pc n = (pc + n) % 2 ^ 32
 

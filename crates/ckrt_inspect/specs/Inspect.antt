@@ -3,12 +3,12 @@ use Rattle.std.specs.Prelude.{ℕ, Bool, true, false, List, Option, Some, None, 
 use Rattle.std.specs.Io.KnownBytes.{Appends}
 use Rattle.ckrt_disk.specs.Frame.{IsOnlyRead}
 use Rattle.ckrt_disk.specs.declared.disk.Disk.{Ghosts}
-use Rattle.ckrt_image.specs.declared.fault.RecoverFault.{RecoverFault}
-use Rattle.ckrt_image.specs.declared.fault.RecoverFault.TheVariants as recover
-use Rattle.ckrt_image.specs.Recovery.{Recovered, Recovers}
-use Rattle.ckrt_image.specs.Past.{HasPast}
-use Rattle.ckrt_image.specs.declared.progress.Progress.{Progress}
-use Rattle.ckrt_image.specs.Progress.{recovered_of}
+use Rattle.ckrt_stored.specs.declared.fault.RecoverFault.{RecoverFault}
+use Rattle.ckrt_stored.specs.declared.fault.RecoverFault.TheVariants as recover
+use Rattle.ckrt_stored.specs.Recovery.{Recovered, Recovers}
+use Rattle.ckrt_stored.specs.Past.{HasPast}
+use Rattle.ckrt_stored.specs.declared.progress.Progress.{Progress}
+use Rattle.ckrt_stored.specs.Progress.{recovered_of}
 use Rattle.ckrt_inspect.specs.declared.fault.InspectFault.{InspectFault}
 use Rattle.ckrt_inspect.specs.declared.fault.InspectFault.TheVariants.{NotFormatted, Version, Damaged, Device, OutOfMemory, Write, Range}
 use Rattle.ckrt_inspect.specs.declared.shown.Shown.{Shown}
@@ -22,17 +22,17 @@ of_recovery recover.Damaged = Damaged
 of_recovery recover.Device = Device
 of_recovery recover.OutOfMemory = OutOfMemory
 
--- what an image recovers to, or recovered to after so many events
+-- what an image recovers to, or recovered to after that many events
 abbrev pub RecoversAt : Option ℕ → List ℕ → Recovered → Type 0
 RecoversAt None image r = Recovers image (Ok r)
 RecoversAt (Some count) image r = HasPast count image (Ok (Some r))
 
--- the image recovers, but not to a state after so many events
+-- the image recovers, but not to a state after that many events
 abbrev pub HasNone : Option ℕ → List ℕ → Type 0
 HasNone None image = ⊥
 HasNone (Some count) image = HasPast count image (Ok None)
 
--- the program that an image recovers to was written behind what the writer had, as it is to be shown
+-- the program that an image recovers to was written after what the writer had, as it is to be shown
 pub record IsListed (shown : Shown) (image : List ℕ) (old new : Option (List ℕ)) : Type 0 where
   pub recovered : Recovered
   pub recovers : RecoversAt shown.at image recovered
@@ -59,7 +59,7 @@ abbrev pub Tells : {X : Type 0} → Shown → List ℕ → Option (List ℕ) →
 Tells shown image old new (Ok x) = IsListed shown image old new
 Tells shown image old new (Err e) = IsFaultOf shown.at image e
 
--- the disk failed it
+-- the disk failed a call of it
 abbrev pub is_device : {X : Type 0} → Result X InspectFault → Bool
 is_device (Ok x) = false
 is_device (Err NotFormatted) = false
@@ -73,7 +73,7 @@ is_device (Err Range) = false
 -- The disk that was handed in was only read, and is gone; what was answered and written is what its content tells, if it was honest to its end.
 pub record IsInspected {D X : Type 0} (d : Ghosts D) (disk : D) (shown : Shown)
     (old new : Option (List ℕ)) (result : Result X InspectFault) : Type 0 where
-  -- the disk as it was let go
+  -- the disk as it was given back
   pub end : D
   pub read : IsOnlyRead d disk end (is_device result)
   pub tells : d.is_honest end → Tells shown (d.content disk) old new result

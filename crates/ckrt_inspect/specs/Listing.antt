@@ -15,7 +15,7 @@ use Rattle.ckrt_barrier.specs.declared.barrier.Barrier.{Barrier}
 use Rattle.ckrt_rwlock.specs.declared.records.RwLock.{RwLock}
 use Rattle.ckrt_tables.specs.declared.reading_objects.Reader.{Reader}
 use Rattle.ckrt_thread.specs.Keys.{KeyTable}
-use Rattle.ckrt_tables.specs.declared.reading_keys.KeyWord.{KeyWord}
+use Rattle.ckrt_tables.specs.declared.reading_keys.KeyEntry.{KeyEntry}
 use Rattle.ckrt_tables.specs.Records.{id_or_0, readers_of, words_from, value_words, specific_of}
 use Rattle.ckrt_state.specs.declared.table.Status.{Status}
 use Rattle.ckrt_state.specs.declared.table.Tables.{Tables}
@@ -73,11 +73,11 @@ cancellation_text c =
 abbrev pub ending_text : Live → List ℕ
 ending_text l = codes " handlers " ++ decimal (length l.handlers.items) ++ unwinding_text l.cancellation.unwinding
 
--- a thread that hasn't ended: what stands behind its number
+-- a thread that hasn't ended: what stands after its number
 abbrev pub live_text : (blocked : Bool) → Live → List ℕ
 live_text blocked l = standing_text blocked l ++ cancellation_text l.cancellation ++ ending_text l
 
--- what stands behind a thread's number
+-- what stands after a thread's number
 abbrev pub thread_text : (blocked : Bool) → Thread → List ℕ
 thread_text blocked (thread.Ended value) = codes " ended " ++ decimal value
 thread_text blocked (thread.Live l) = live_text blocked l
@@ -129,13 +129,13 @@ rwlock_line e = codes "rwlock " ++ hex_text e.address ++ holders_text e.value.wr
 abbrev pub mark_line : Bool → List ℕ
 mark_line is_on = if is_on then [] else codes "keys off\n"
 
-abbrev pub key_line : KeyWord → List ℕ
+abbrev pub key_line : KeyEntry → List ℕ
 key_line w = codes "key " ++ decimal w.key ++ codes " " ++ hex_text w.word ++ codes "\n"
 
 abbrev pub keys_lines : KeyTable → List ℕ
 keys_lines keys = mark_line keys.is_on ++ flat_map key_line (words_from 0 keys.destructors)
 
-abbrev pub value_line : ℕ → KeyWord → List ℕ
+abbrev pub value_line : ℕ → KeyEntry → List ℕ
 value_line t w = codes "value " ++ decimal t ++ codes " " ++ decimal w.key ++ codes " " ++ decimal w.word ++ codes "\n"
 
 abbrev pub value_lines : ThreadRow → List ℕ
@@ -162,7 +162,7 @@ all_thread_lines with_code memory s =
 abbrev pub head_lines : ℕ → Tables → List ℕ
 head_lines count t = events_line count ++ clock_line t.clock ++ status_line t.status
 
--- a program after so many events, with the code that each thread is about to run or without it
+-- a program after that many events, with the code that each thread is about to run or without it
 abbrev pub listing_by : (with_code : Bool) (count : ℕ) → State → List ℕ
 listing_by with_code count s =
     head_lines count s.tables

@@ -57,7 +57,7 @@ kind_of Room = codes "gauge"
 kind_of Drive = codes "gauge"
 kind_of Threads = codes "gauge"
 
--- ONE METRIC: `# HELP NAME TEXT`, `# TYPE NAME KIND`, and behind them `NAME VALUE`
+-- ONE METRIC: `# HELP NAME TEXT`, `# TYPE NAME KIND`, and after them `NAME VALUE`
 
 abbrev pub help_line : Metric → List ℕ
 help_line m = codes "# HELP " ++ name_of m ++ codes " " ++ help_of m ++ codes "\n"

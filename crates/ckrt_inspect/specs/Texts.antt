@@ -16,7 +16,7 @@ use Rattle.ckrt_state.specs.declared.table.Status.TheVariants as status
 abbrev pub hex_text : ℕ → List ℕ
 hex_text n = encode_lower (to_be_bytes w32 n)
 
--- one of two words, behind a space
+-- one of two words, after a space
 abbrev pub flag_text : List ℕ → List ℕ → Bool → List ℕ
 flag_text if_so if_not b = codes " " ++ (if b then if_so else if_not)
 
@@ -29,7 +29,7 @@ status_text (status.Faulted t pc c) = codes "fault " ++ decimal t ++ codes " " +
 
 -- WAITS
 
--- what a thread gets once it has its mutex again, behind a condition wait
+-- what a thread gets once it has its mutex again, after a condition wait
 abbrev pub retake_text : RetakeResult → List ℕ
 retake_text retake.Done = codes "0"
 retake_text retake.TimedOut = codes "110"

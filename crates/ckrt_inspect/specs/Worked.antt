@@ -56,7 +56,7 @@ waits_for_input = record { thread = 1; reason = reason.Input; deadline = None }
 abbrev pub waits_for_2 : Wait
 waits_for_2 = record { thread = 1; reason = reason.Join 2; deadline = None }
 
--- thread 1 waits for input behind its second instruction
+-- thread 1 waits for input after its second instruction
 abbrev pub reading : List ℕ → List ℕ → State
 reading memory x =
     running memory

@@ -44,7 +44,7 @@ fn push_code_line(out: &mut Vec<u8>, memory: &Memory, address: u32) -> Result<()
     }
 }
 
-/// The line of the word so many bytes behind a pc. Addresses wrap.
+/// The line of the word that many bytes after a pc. Addresses wrap.
 #[tactic(auto, using(crate::proofs::CodeLemmas::aligned_behind))]
 fn push_line_behind(
     out: &mut Vec<u8>,

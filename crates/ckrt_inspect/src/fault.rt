@@ -1,4 +1,5 @@
-use ckrt_image::RecoverFault;
+//! The faults of a listing.
+use ckrt_stored::RecoverFault;
 use std::alloc::AllocError;
 use thiserror::Error;
 
@@ -11,7 +12,7 @@ pub enum InspectFault {
     /// The superblock or the area is of a version that this program doesn't know.
     #[error("Version")]
     Version,
-    /// The disk has an open superblock, and what stands behind it is no state of a program.
+    /// The disk has an open superblock, and what stands after it is no state of a program.
     #[error("Damaged")]
     Damaged,
     /// The disk failed a call.
@@ -23,7 +24,7 @@ pub enum InspectFault {
     /// The writer failed.
     #[error("Write")]
     Write,
-    /// The disk recovers, but it has no state any more after so many events, or not yet.
+    /// The disk recovers, but it has no state any more after that many events, or not yet.
     #[error("Range")]
     Range,
 }

@@ -8,7 +8,7 @@ use crate::fault::InspectFault;
 use crate::listing::write_listing_by;
 use crate::shown::Shown;
 use ckrt_disk::Disk;
-use ckrt_image::{Progress, read_past, read_progress};
+use ckrt_stored::{Progress, read_past, read_progress};
 use std::alloc::Global;
 use std::io::Write;
 
@@ -18,7 +18,7 @@ const WHOLE: Shown = Shown {
     with_code: false,
 };
 
-/// The program after so many events, in place of all of them.
+/// The program after that many events, in place of all of them.
 fn read_at<D: Disk>(alloc: Global, disk: &mut D, at: u64) -> Result<Progress, InspectFault>
     ensures exact { D.is_honest disk.new → AgreesAt (Some at) (D.content disk.old) result }
     ensures read { IsOnlyRead D.Disk disk.old disk.new (is_device result) }
@@ -41,12 +41,12 @@ fn read_whole<D: Disk>(alloc: Global, disk: &mut D) -> Result<Progress, InspectF
     Ok(progress)
 }
 
-/// Reads what a disk's content recovers to, or what it recovered to after so many events. The disk is only read.
+/// Reads what a disk's content recovers to, or what it recovered to after that many events. The disk is only read.
 ///
 /// # Errors
 ///
 /// `NotFormatted`, `Version` and `Damaged` where the content recovers to no state, the first that applies; `Range` where it
-/// recovers, but has no state any more after so many events, or not yet; `Device` where the disk failed a read,
+/// recovers, but has no state any more after that many events, or not yet; `Device` where the disk failed a read,
 /// `OutOfMemory` where a growth was refused. `Write` never.
 pub fn read_program<D: Disk>(
     alloc: Global,
@@ -64,13 +64,13 @@ pub fn read_program<D: Disk>(
     }
 }
 
-/// Lists what a disk's content recovers to, or what it recovered to after so many events, with or without code: recovers
+/// Lists what a disk's content recovers to, or what it recovered to after that many events, with or without code: recovers
 /// it, without a sync, and writes the listing. The disk is only read: it is neither written nor synced, at any moment.
 ///
 /// # Errors
 ///
 /// `NotFormatted`, `Version` and `Damaged` where the content recovers to no state, the first that applies; `Range` where it
-/// recovers, but has no state any more after so many events, or not yet; `Device` where the disk failed a read,
+/// recovers, but has no state any more after that many events, or not yet; `Device` where the disk failed a read,
 /// `OutOfMemory` where a growth was refused, both before anything is written; `Write` where the writer failed.
 pub fn inspect_with<D: Disk, W: Write>(
     alloc: Global,

@@ -10,7 +10,7 @@ use crate::texts::{push, push_hex, push_number};
 use ckrt_thread::{Keys, MAX_KEYS, Thread, ThreadId, Threads};
 use std::alloc::AllocError;
 
-/// That the program may have no keys, where it is so.
+/// A line that the program may have no keys, where that is so.
 fn push_mark(out: &mut Vec<u8>, is_on: bool) -> Result<(), AllocError>
     ensures { OnOk result (out.new.items ≡ out.old.items ++ mark_line is_on) }
 {

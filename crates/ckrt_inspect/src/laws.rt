@@ -11,7 +11,7 @@ pub fn worked_lines()
     ensures { WorkedLines }
 {}
 
-/// Lines of instructions, of a word that is none, and of an address outside the memory.
+/// Lines of instructions, of a word that is no instruction, and of an address outside the memory.
 pub fn worked_instructions()
     ensures { WorkedInstructions }
 {}

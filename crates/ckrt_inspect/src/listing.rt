@@ -47,7 +47,7 @@ fn push_head(out: &mut Vec<u8>, count: u64, tables: &Tables) -> Result<(), Alloc
     push_status_line(out, tables.status)
 }
 
-/// The listing of a program after so many events.
+/// The listing of a program after that many events.
 fn listing(
     alloc: Global,
     with_code: bool,
@@ -77,7 +77,7 @@ fn write_text<W: Write>(writer: &mut W, text: &[u8]) -> Result<(), InspectFault>
     Ok(())
 }
 
-/// Writes the listing of a program after so many events, with the code that each thread is about to run or without it.
+/// Writes the listing of a program after that many events, with the code that each thread is about to run or without it.
 pub(crate) fn write_listing_by<W: Write>(
     alloc: Global,
     with_code: bool,
@@ -94,7 +94,7 @@ pub(crate) fn write_listing_by<W: Write>(
     write_text(writer, &text)
 }
 
-/// Writes the listing of a program after so many events: status and clock, harts, threads, waits, mutexes, barriers,
+/// Writes the listing of a program after that many events: status and clock, harts, threads, waits, mutexes, barriers,
 /// read-write locks, keys and values, a line each.
 ///
 /// # Errors
@@ -114,7 +114,7 @@ pub fn write_listing<W: Write>(
     write_listing_by(alloc, false, count, machine, writer)
 }
 
-/// The same, with the four instructions that each thread is about to run behind its line.
+/// The same, with the four instructions that each thread is about to run after its line.
 ///
 /// # Errors
 ///

@@ -50,7 +50,7 @@ pub enum Standing {
     Enough,
 }
 
-/// What is told of a drive beside its program.
+/// What is told of a drive besides its program.
 #[derive(Clone, Copy, Debug, PartialEq, Eq)]
 pub struct Readings {
     /// Events that were accepted since the disk was formatted.
@@ -348,7 +348,7 @@ fn push_program(out: &mut Vec<u8>, standing: Standing, tables: &Tables) -> Resul
     push_all_threads(out, tables)
 }
 
-/// Puts behind a text how a drive stands whose program has these tables. Where the text has the room it takes no memory.
+/// Puts after a text how a drive stands whose program has these tables. Where the text has the room it takes no memory.
 pub fn push_metrics(
     out: &mut Vec<u8>,
     readings: &Readings,

@@ -1,4 +1,4 @@
-//! Rows of a table, one line behind another.
+//! Rows of a table, one line after another.
 ghost use Rattle.std.specs.Prelude.{◌≡◌, ◌++◌, ℕ, List, OnOk};
 ghost use Rattle.std.specs.List.{flat_map};
 
@@ -8,12 +8,12 @@ use std::alloc::AllocError;
 pub trait Row {
     ghost text: { Self → List ℕ };
 
-    /// Puts the line behind what there is.
+    /// Puts the line after what there is.
     fn push_to(&self, out: &mut Vec<u8>) -> Result<(), AllocError>
         ensures { OnOk result (out.new.items ≡ out.old.items ++ text self.now) };
 }
 
-/// Puts the lines of the rows behind what there is.
+/// Puts the lines of the rows after what there is.
 pub fn push_rows<T: Row>(out: &mut Vec<u8>, rows: &[T]) -> Result<(), AllocError>
     ensures { OnOk result (out.new.items ≡ out.old.items ++ flat_map T.text rows.now) }
 {

@@ -1,8 +1,10 @@
+//! What of a disk is listed.
+
 /// What of a disk is listed: by default what it recovers to, without code.
 #[derive(Clone, Copy, Debug, Default, PartialEq, Eq)]
 pub struct Shown {
-    /// The program after so many events, in place of all of them.
+    /// The program after that many events, in place of all of them.
     pub at: Option<u64>,
-    /// Behind each thread's line the code that it is about to run.
+    /// After each thread's line the code that it is about to run.
     pub with_code: bool,
 }

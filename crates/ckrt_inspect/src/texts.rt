@@ -1,6 +1,5 @@
 //! Words and numbers.
 ghost use Rattle.std.specs.Prelude.{◌≡◌, ◌++◌, length, decimal, OnOk};
-ghost use Rattle.ckrt_rv32i.specs.Names.{cause_name};
 ghost use Rattle.ckrt_thread.specs.declared.records.Reason.TheVariants as reason;
 ghost use Rattle.ckrt_state.specs.declared.table.Status.TheVariants as status;
 ghost use Rattle.ckrt_inspect.specs.Texts.{flag_text, hex_text, kind_text, reason_text, retake_text, status_text};
@@ -37,7 +36,7 @@ pub fn push_hex(out: &mut Vec<u8>, number: u32) -> Result<(), AllocError>
     }
 }
 
-/// One of two words, behind a space.
+/// One of two words, after a space.
 pub fn push_flag(out: &mut Vec<u8>, yes: &[u8], no: &[u8], is: bool) -> Result<(), AllocError>
     ensures { OnOk result (out.new.items ≡ out.old.items ++ flag_text yes.now no.now is) }
 {
@@ -72,24 +71,7 @@ fn push_fault(out: &mut Vec<u8>, thread: ThreadId, pc: u32, cause: Cause) -> Res
     push(out, b" ")?;
     push_hex(out, pc)?;
     push(out, b" ")?;
-    push(out, cause_name(cause))
-}
-
-/// The name of a fault's cause.
-fn cause_name(cause: Cause) -> &'static [u8]
-    ensures { result.now ≡ cause_name cause }
-{
-    match cause {
-        Cause::FetchRange => b"FetchRange".as_slice(),
-        Cause::Illegal => b"Illegal".as_slice(),
-        Cause::JumpMisaligned => b"JumpMisaligned".as_slice(),
-        Cause::LoadMisaligned => b"LoadMisaligned".as_slice(),
-        Cause::LoadRange => b"LoadRange".as_slice(),
-        Cause::StoreMisaligned => b"StoreMisaligned".as_slice(),
-        Cause::StoreRange => b"StoreRange".as_slice(),
-        Cause::Breakpoint => b"Breakpoint".as_slice(),
-        Cause::Gate => b"Gate".as_slice(),
-    }
+    push(out, cause.name().as_bytes())
 }
 
 /// What a thread gets with its mutex.
@@ -103,7 +85,7 @@ fn retake_text(retake: RetakeResult) -> &'static [u8]
     }
 }
 
-/// A word, and an address behind it.
+/// A word, and an address after it.
 fn push_at(out: &mut Vec<u8>, word: &[u8], address: u32) -> Result<(), AllocError>
     ensures { OnOk result (out.new.items ≡ out.old.items ++ (word.now ++ hex_text address)) }
 {

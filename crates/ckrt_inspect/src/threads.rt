@@ -12,7 +12,7 @@ use ckrt_memory::Memory;
 use ckrt_thread::{Cancellation, Live, Thread, ThreadId, Threads, Wait};
 use std::alloc::AllocError;
 
-/// Who is on a hart.
+/// The thread on a hart.
 fn push_on_hart(out: &mut Vec<u8>, on: Option<ThreadId>) -> Result<(), AllocError>
     ensures { OnOk result (out.new.items ≡ out.old.items ++ on_hart_text on) }
 {
@@ -109,7 +109,7 @@ fn push_ended(out: &mut Vec<u8>, value: u32) -> Result<(), AllocError>
     push_number(out, u64::from(value))
 }
 
-/// What stands behind a thread's number.
+/// What stands after a thread's number.
 fn push_thread(out: &mut Vec<u8>, is_blocked: bool, thread: &Thread) -> Result<(), AllocError>
     ensures { OnOk result (out.new.items ≡ out.old.items ++ thread_text is_blocked thread.now) }
 {

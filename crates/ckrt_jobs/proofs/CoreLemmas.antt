@@ -1,7 +1,7 @@
 -- The core of a disk, where less is known of the files that may be made for it.
 use Rattle.std.proofs.Common.{ℕ, List, Result, Ok, Err, inl, inr}
 use Rattle.ckrt_disk.specs.declared.disk.Disk.{Ghosts}
-use Rattle.ckrt_image.specs.declared.progress.Progress.{Progress}
+use Rattle.ckrt_stored.specs.declared.progress.Progress.{Progress}
 use Rattle.ckrt_inspect.specs.declared.fault.InspectFault.{InspectFault}
 use Rattle.ckrt_words.specs.Jobs.{CoreMaking}
 use Rattle.ckrt_jobs.specs.CoreFiles.{Cores, CoresFound}

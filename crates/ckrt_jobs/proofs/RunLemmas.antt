@@ -8,10 +8,11 @@ use Rattle.ckrt_disk.specs.Disk.{HasFailed, IsImage}
 use Rattle.ckrt_disk.specs.Frame.{MayBeLeft}
 use Rattle.ckrt_disk.specs.declared.disk.Disk.{Ghosts}
 use Rattle.ckrt_events.specs.declared.event.Event.{Event}
-use Rattle.ckrt_image.specs.Programs.{Program, RecoversTo}
-use Rattle.ckrt_image.specs.Progress.{recovered_of}
-use Rattle.ckrt_image.specs.Recovery.{Recovers}
-use Rattle.ckrt_recovery.specs.Between.{IsBeginningOf, RecoversBetween}
+use Rattle.ckrt_stored.specs.Programs.{Program, RecoversTo}
+use Rattle.ckrt_stored.specs.Progress.{recovered_of}
+use Rattle.ckrt_stored.specs.Recovery.{Recovers}
+use Rattle.ckrt_recovery.specs.Between.{RecoversBetween}
+use Rattle.ckrt_recovery.specs.Lists.{IsBeginningOf}
 use Rattle.ckrt_recovery.specs.Opening.{IsSyncedAndRead}
 use Rattle.ckrt_recovery.specs.Represents.{Represents, RecoversToEither}
 use Rattle.ckrt_commands.specs.Transcript.{Fate, transcript}

@@ -5,8 +5,8 @@ use Rattle.ckrt_core.specs.Core.{core_of}
 use Rattle.ckrt_disk.specs.Disk.{HasFailed}
 use Rattle.ckrt_disk.specs.Frame.{IsOnlyRead}
 use Rattle.ckrt_disk.specs.declared.disk.Disk.{Ghosts}
-use Rattle.ckrt_image.specs.Progress.{recovered_of}
-use Rattle.ckrt_image.specs.declared.progress.Progress.{Progress}
+use Rattle.ckrt_stored.specs.Progress.{recovered_of}
+use Rattle.ckrt_stored.specs.declared.progress.Progress.{Progress}
 use Rattle.ckrt_inspect.specs.Inspect.{AgreesAt, is_device}
 use Rattle.ckrt_inspect.specs.declared.fault.InspectFault.{InspectFault}
 use Rattle.ckrt_words.specs.Jobs.{CoreMaking}
@@ -93,7 +93,7 @@ CoresFound d Fills path old new (Ok found) result =
     MakesCore d Fills (core_of (recovered_of found).state) path old new result
 CoresFound d Fills path old new (Err f) result = (result ≡ Err (job.Inspect f)) × (new ≡ old)
 
--- From disk to end the disk was only read. What was found on it is what it recovers to, or recovered to after so many events, if it was honest to
+-- From disk to end the disk was only read. What was found on it is what it recovers to, or recovered to after that many events, if it was honest to
 -- that end, or the fault is what it says.
 pub record Cores {D : Type 0} (d : Ghosts D) (Fills : ℕ → D → Type 0) (c : CoreMaking)
     (disk end : D) (old new : Openings D) (result : Result (Unit {0}) JobFault) : Type 0 where

@@ -7,12 +7,12 @@ use Rattle.ckrt_disk.specs.Frame.{IsOnlyRead}
 use Rattle.ckrt_disk.specs.declared.disk.DeviceFault.{DeviceFault}
 use Rattle.ckrt_disk.specs.declared.disk.Disk.{Ghosts}
 use Rattle.ckrt_events.specs.declared.event.Event.{Event}
-use Rattle.ckrt_image.specs.Programs.{Program, RecoversTo}
-use Rattle.ckrt_image.specs.Progress.{recovered_of}
-use Rattle.ckrt_image.specs.Reads.{is_device}
-use Rattle.ckrt_image.specs.Recovery.{AgreesOnFault, Recovers}
-use Rattle.ckrt_image.specs.declared.fault.RecoverFault.{RecoverFault}
-use Rattle.ckrt_image.specs.declared.fault.RecoverFault.TheVariants as recover
+use Rattle.ckrt_stored.specs.Programs.{Program, RecoversTo}
+use Rattle.ckrt_stored.specs.Progress.{recovered_of}
+use Rattle.ckrt_stored.specs.Reads.{is_device}
+use Rattle.ckrt_stored.specs.Recovery.{AgreesOnFault, Recovers}
+use Rattle.ckrt_stored.specs.declared.fault.RecoverFault.{RecoverFault}
+use Rattle.ckrt_stored.specs.declared.fault.RecoverFault.TheVariants as recover
 use Rattle.ckrt_recovery.specs.Opening.{IsSyncedAndRead}
 use Rattle.ckrt_recovery.specs.Represents.{Represents}
 use Rattle.ckrt_recovery.specs.View.{opened as opened_view, view_of}
@@ -24,7 +24,7 @@ use Rattle.ckrt_drive.specs.Streams.{got_to, writer_of}
 use Rattle.ckrt_drive.specs.declared.fault.DriveFault.{DriveFault}
 use Rattle.ckrt_drive.specs.declared.fault.DriveFault.TheVariants.{Output}
 use Rattle.ckrt_drive.specs.declared.options.Options.{Options}
-use Rattle.ckrt_drive.specs.declared.progress.Ending.{Ending}
+use Rattle.ckrt_drive.specs.declared.step_done.DriveEnd.{DriveEnd}
 use Rattle.ckrt_drive.specs.declared.stream.StreamOutput.{StreamOutput}
 use Rattle.ckrt_words.specs.Jobs.{Driving}
 use Rattle.ckrt_words.specs.declared.job.Sizes.{Sizes}
@@ -68,7 +68,7 @@ pub record IsAsked (j : Driving) (o : Options) : Type 0 where
 -- THE SESSION
 
 -- what a drive came to where its run answered so, and the machine is in this state
-abbrev pub driven_of : State → Result (Option Ending) DriveFault → Result Driven DriveFault
+abbrev pub driven_of : State → Result (Option DriveEnd) DriveFault → Result Driven DriveFault
 driven_of s (Ok ending) =
     Ok (record { ending = ending; status = s.tables.status; address = fault_address s })
 driven_of s (Err fault) = Err fault
@@ -102,7 +102,7 @@ way_of d options (Some it) (Some end) = fed_from d options it end
 -- From s to t, with its output from a to b, a session was driven this way: by the plan, with all its events left, up to an end.
 pub record DrivesWay {D O : Type 0} {g : Ghosts D} (o : Ghosts O) (way : Way) (s t : Session D g)
     (a b : O) (answer : Result Driven DriveFault) : Type 0 where
-  pub ran : Result (Option Ending) DriveFault
+  pub ran : Result (Option DriveEnd) DriveFault
   -- how many events are left in the end, and how many bytes of input the program has taken
   pub left : ℕ
   pub taken : ℕ
@@ -216,7 +216,7 @@ abbrev pub DrivesInto : {D : Type 0} {d : Ghosts D} → (OpenedOutput D → Type
 DrivesInto Outputs path options it old new result =
     LacksOutput path it old new result ⊎ OpensOutput Outputs path options it old new result
 
--- A stream is lent the job's writer, from its beginning to its end: that holds what the writer held before, and in the end what it holds behind
+-- A stream is lent the job's writer, from its beginning to its end: that holds what the writer held before, and in the end what it holds after
 -- the job. What writers hold goes from a to b.
 pub record IsLent {W : Type 0} (contents : W → Option (List ℕ)) (a b : Option (List ℕ))
     (stream end : StreamOutput W) : Type 0 where
@@ -294,7 +294,7 @@ DrivesOpened {d = d} set start old new result =
 
 -- THE INPUT
 
--- it was driven with the input that it goes with, where it was found
+-- it was driven with its input, where that was found
 abbrev pub DrivesSupplied : {D W : Type 0} {d : Ghosts D} → Setting d W → (old new : Openings D)
     → Result Driven JobFault → (found : Result (Supplied D) JobFault) → Type 0
 DrivesSupplied set old new result (Ok it) = DrivesOpened set it old new result

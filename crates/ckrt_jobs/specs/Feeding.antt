@@ -3,9 +3,9 @@ use Rattle.std.specs.Prelude.{◌≡◌, ◌⊎◌, ◌≤◌, ◌<◌, ◌+◌,
 use Rattle.ckrt_checkpoint.specs.Layout.{size_needed}
 use Rattle.ckrt_disk.specs.Frame.{IsOnlyRead}
 use Rattle.ckrt_disk.specs.declared.disk.Disk.{Ghosts}
-use Rattle.ckrt_image.specs.Reads.{is_device}
-use Rattle.ckrt_image.specs.Recovery.{◌>>=◌, Agrees, Is, in_use}
-use Rattle.ckrt_image.specs.declared.fault.RecoverFault.{RecoverFault}
+use Rattle.ckrt_stored.specs.Reads.{is_device}
+use Rattle.ckrt_stored.specs.Recovery.{◌>>=◌, Agrees, Is, in_use}
+use Rattle.ckrt_stored.specs.declared.fault.RecoverFault.{RecoverFault}
 use Rattle.ckrt_record.specs.Offset.{Tells, fails_by_device, offset_from}
 use Rattle.ckrt_record.specs.Slot.{RECORD_BYTES}
 use Rattle.ckrt_record.specs.declared.fault.OffsetFault.{OffsetFault}
@@ -56,7 +56,7 @@ spare_for (Some path) = RECORD_BYTES
 abbrev pub made_size : Driving → ℕ
 made_size j = size_needed (config_for j.sizes) + spare_for j.input
 
--- the bytes that the disk with this content has to have, with the record behind those of the format
+-- the bytes that the disk with this content has to have, with the record after those of the format
 abbrev pub size_wanted : (image : List ℕ) → Result ℕ RecoverFault
 size_wanted image = in_use image >>= λ used. Ok (size_needed used.0 + RECORD_BYTES)
 
@@ -112,7 +112,7 @@ SuppliesRoomy it asked new found (Ok disk) =
 SuppliesRoomy it asked new found (Err unready) =
     (found ≡ Err unready.fault) × (new ≡ with_both_closed asked (Some it.file) unready.disk)
 
--- the file has the bytes that were taken of it, and the disk goes with it once there is room for the record
+-- the file has the bytes that were taken of it, and the disk comes with it once there is room for the record
 pub record TakesInput {D : Type 0} (d : Ghosts D) (Longer : D → ℕ → D → Type 0) (disk : D)
     (it : Intake D) (old new : Openings D) (found : Result (Supplied D) JobFault) : Type 0 where
   pub long : it.taken ≤ d.size it.file
@@ -159,7 +159,7 @@ SuppliesTaken d gives path disk old new found (Err fault) =
 SuppliesTaken d gives path disk old new found (Ok taken) =
     LacksInput path disk old new found ⊎ OpensInput d gives path disk old new found taken
 
--- How much its program has taken was looked up in a disk, and that goes with the input of a path from there on.
+-- How much its program has taken was looked up in a disk, and from there on the input of a path is used with it.
 pub record SuppliesFrom {D : Type 0} (d : Ghosts D) (gives : Gives D) (path : List ℕ)
     (from : Option ℕ) (start : D) (old new : Openings D) (found : Result (Supplied D) JobFault)
     : Type 0 where
@@ -168,7 +168,7 @@ pub record SuppliesFrom {D : Type 0} (d : Ghosts D) (gives : Gives D) (path : Li
   pub looks : LooksUp d from start disk taken
   pub ends : SuppliesTaken d gives path disk old new found taken
 
--- a disk goes with the input of the words, where they name one, else without
+-- a disk comes with the input that the words name, or without one
 abbrev pub Supplies : {D : Type 0} → Ghosts D → Gives D → (path : Option (List ℕ))
     → (from : Option ℕ) → (start : D) → (old new : Openings D)
     → (found : Result (Supplied D) JobFault) → Type 0

@@ -4,9 +4,9 @@ use Rattle.ckrt_disk.specs.Frame.{AtAnyMoment, WritesWithin}
 use Rattle.ckrt_disk.specs.declared.disk.Disk.{Ghosts}
 use Rattle.ckrt_checkpoint.specs.declared.config.Config.{Config}
 use Rattle.ckrt_checkpoint.specs.Layout.{is_open, is_valid, memory_size, size_needed}
-use Rattle.ckrt_image.specs.declared.fault.FormatFault.{FormatFault}
-use Rattle.ckrt_image.specs.declared.fault.FormatFault.TheVariants as format
-use Rattle.ckrt_image.specs.Format.{FormatsAt, IsFormatting, IsMade, IsRefusedBy, StaysFormatted, WasFormatted, calls_of, format_refusal, is_device}
+use Rattle.ckrt_stored.specs.declared.fault.FormatFault.{FormatFault}
+use Rattle.ckrt_stored.specs.declared.fault.FormatFault.TheVariants as format
+use Rattle.ckrt_stored.specs.Format.{FormatsAt, IsFormatting, IsMade, IsRefusedBy, StaysFormatted, WasFormatted, calls_of, format_refusal, is_device}
 use Rattle.ckrt_sources.specs.Elf.{is_elf}
 use Rattle.ckrt_sources.specs.Openings.{Openings, opened, refused, with_abandoned, with_closed, with_disk, with_image}
 use Rattle.ckrt_outcomes.specs.declared.fault.JobFault.{JobFault}
@@ -88,7 +88,7 @@ EndsOnImage config known image old new (job.Format format.ImageTooLong) =
 EndsOnImage config known image old new _ = ⊥
 
 module _ {D : Type 0} (d : Ghosts D) (config : Config) (known : Option (List ℕ)) (Fills : D → Type 0) (image disk : List ℕ) (old new : Openings D) where
-  -- its disk was asked for, behind an image that fits, and was made
+  -- its disk was asked for, after an image that fits, and was made
   abbrev pub MakesItsDisk : Result (Unit {0}) JobFault → Type 0
   MakesItsDisk result =
       IsFit config known

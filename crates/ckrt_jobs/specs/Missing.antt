@@ -4,8 +4,8 @@ use Rattle.std.specs.Prelude.{◌≡◌, ◌⊎◌, ℕ, List, Option, Some, Non
 use Rattle.ckrt_disk.specs.declared.disk.Disk.{Ghosts}
 use Rattle.ckrt_checkpoint.specs.declared.config.Config.{Config}
 use Rattle.ckrt_checkpoint.specs.Layout.{is_valid}
-use Rattle.ckrt_image.specs.declared.fault.FormatFault.{FormatFault}
-use Rattle.ckrt_image.specs.declared.fault.FormatFault.TheVariants as format
+use Rattle.ckrt_stored.specs.declared.fault.FormatFault.{FormatFault}
+use Rattle.ckrt_stored.specs.declared.fault.FormatFault.TheVariants as format
 use Rattle.ckrt_jobs.specs.Making.{EndsOnImage, Formats, IsFit}
 use Rattle.ckrt_sources.specs.Openings.{Openings, opened, refused, with_abandoned, with_disk, with_image, with_making, with_named}
 use Rattle.ckrt_outcomes.specs.declared.fault.JobFault.{JobFault}

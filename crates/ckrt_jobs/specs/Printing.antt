@@ -1,11 +1,12 @@
--- What runs of a disk print, one behind another, with a stop between them.
+-- What runs of a disk print, one after another, with a stop between them.
 use Rattle.std.specs.Prelude.{◌≡◌, ◌<◌, ◌+◌, ℕ, List, length, get_or}
 use Rattle.std.specs.List.{AllByRecursion}
 use Rattle.ckrt_disk.specs.Frame.{MayBeLeft}
 use Rattle.ckrt_disk.specs.declared.disk.Disk.{Ghosts}
 use Rattle.ckrt_events.specs.declared.event.Event.{Event}
-use Rattle.ckrt_image.specs.Programs.{Program, RecoversTo, output_after}
-use Rattle.ckrt_recovery.specs.Between.{IsBeginningOf, StandsIn}
+use Rattle.ckrt_stored.specs.Programs.{Program, RecoversTo, output_after}
+use Rattle.ckrt_recovery.specs.Between.{StandsIn}
+use Rattle.ckrt_recovery.specs.Lists.{IsBeginningOf}
 
 -- the image recovers to a list that begins with these events
 pub record RecoversBehind (p : Program) (events : List Event) (image : List ℕ) : Type 0 where
@@ -30,7 +31,7 @@ pub record PrintsOn {D : Type 0} (d : Ghosts D) (p : Program) (before : List Eve
     (lines : List (ℕ × List ℕ)) (end : D) : Type 0 where
   -- the events that are acknowledged then
   pub acknowledged : List Event
-  -- go on behind those before
+  -- go on after those before
   pub more : IsBeginningOf before acknowledged
   -- each line is of their output
   pub outs : AllByRecursion (StandsIn (output_after p acknowledged)) lines

@@ -6,11 +6,12 @@ use Rattle.ckrt_disk.specs.Disk.{HasFailed}
 use Rattle.ckrt_disk.specs.Frame.{IsSameDisk, MayBeLeft}
 use Rattle.ckrt_disk.specs.declared.disk.Disk.{Ghosts}
 use Rattle.ckrt_events.specs.declared.event.Event.{Event}
-use Rattle.ckrt_image.specs.Programs.{Program, RecoversTo, output_after}
-use Rattle.ckrt_image.specs.Reads.{is_device}
-use Rattle.ckrt_image.specs.Recovery.{AgreesOnFault, Recovered, Recovers}
-use Rattle.ckrt_image.specs.declared.fault.RecoverFault.{RecoverFault}
-use Rattle.ckrt_recovery.specs.Between.{IsBeginningOf, RecoversBetween, StandsIn}
+use Rattle.ckrt_stored.specs.Programs.{Program, RecoversTo, output_after}
+use Rattle.ckrt_stored.specs.Reads.{is_device}
+use Rattle.ckrt_stored.specs.Recovery.{AgreesOnFault, Recovered, Recovers}
+use Rattle.ckrt_stored.specs.declared.fault.RecoverFault.{RecoverFault}
+use Rattle.ckrt_recovery.specs.Between.{RecoversBetween, StandsIn}
+use Rattle.ckrt_recovery.specs.Lists.{IsBeginningOf}
 use Rattle.ckrt_recovery.specs.Opening.{IsSyncedAndRead}
 use Rattle.ckrt_commands.specs.Replies.{acks_of, oks_of, outs_of, shown_up_to, text_of}
 use Rattle.ckrt_commands.specs.Transcript.{Fate, transcript}
@@ -36,7 +37,7 @@ abbrev pub disk_of : {D : Type 0} → Result D (Unserved D) → D
 disk_of (Ok disk) = disk
 disk_of (Err u) = u.disk
 
--- The disk keeps these events, those that were recovered: all of them are the recovered ones and the accepted ones behind them.
+-- The disk keeps these events, those that were recovered: all of them are the recovered ones and the accepted ones after them.
 pub record KeepsEvents {D : Type 0} (d : Ghosts D) (start end : D) (p : Program)
     (recovered acknowledged all : List Event) (limit : ℕ) : Type 0 where
   -- the recovered ones are acknowledged
@@ -67,7 +68,7 @@ pub record Serves {D : Type 0} (d : Ghosts D) (start end : D) (a b r s : Option 
   pub fated : IsFated d start end fate
   -- what was written
   pub shows : Shows a b (transcript fate (opened recovered) read).replies
-  -- so many events are acknowledged, and each line ack has at most that number
+  -- that many events are acknowledged, and each line ack has at most that number
   pub acknowledged : ℕ
   pub acks : AllByRecursion (λ k. k ≤ acknowledged) (acks_of (shows.replies ++ shows.broken))
   -- output up to this offset is confirmed, which is in lines that were written whole

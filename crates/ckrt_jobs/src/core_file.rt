@@ -132,7 +132,7 @@ fn make_core_of_opened<'a, I: Read, D: Disk, S: Sources<'a, I, D>>(
 }
 
 /// Writes what the disk of a path holds as a core into a file beside the path of that, which gets the path once it is whole and
-/// durable: the program after the last event, or as it was after so many. The disk is only read.
+/// durable: the program after the last event, or as it was after that many. The disk is only read.
 ///
 /// # Errors
 ///

@@ -10,7 +10,7 @@ use crate::feeding::{Intake, Supplied, close_both, file_of, supply};
 use crate::missing::find_disk;
 use crate::sizes::other_sizes;
 use ckrt_disk::Disk;
-use ckrt_drive::{Drive, DriveFault, Ending, Feed, FromDisk, Nothing, Options, StreamOutput};
+use ckrt_drive::{Drive, DriveEnd, DriveFault, Feed, FromDisk, Nothing, Options, StreamOutput};
 use ckrt_machine::Machine;
 use ckrt_outcomes::{Driven, JobFault, Meter, OutputLengths, Watch, is_in_range};
 use ckrt_recovery::{RecoverFault, Session, recover};
@@ -19,7 +19,7 @@ use ckrt_words::DriveJob;
 use std::alloc::Global;
 use std::io::{Read, Write};
 
-/// A session, its output and its input behind a drive, and what it came to.
+/// A session, its output and its input after a drive, and what it came to.
 #[derive(Drop)]
 pub(crate) struct Undertaken<D: Disk, O, F> {
     pub(crate) session: Session<D>,
@@ -54,7 +54,7 @@ fn watch_of<'a>(job: &DriveJob<'a>) -> Watch<'a>
 /// What a drive came to where its run answered so, and the machine stands so.
 fn driven_of(
     machine: &Machine,
-    answer: Result<Option<Ending>, DriveFault>,
+    answer: Result<Option<DriveEnd>, DriveFault>,
 ) -> Result<Driven, DriveFault>
     ensures { result ≡ driven_of machine.now.state answer }
 {
@@ -68,7 +68,7 @@ fn driven_of(
     }
 }
 
-/// Drives a session, with its output in a disk of its own and its input from a feed, of which the program has taken so many
+/// Drives a session, with its output in a disk of its own and its input from a feed, of which the program has taken that many
 /// bytes.
 fn undertake<D: Disk, O: Disk, F: Feed, M: Meter>(
     session: Session<D>,

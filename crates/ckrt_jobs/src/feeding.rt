@@ -2,8 +2,8 @@
 ghost use Rattle.std.specs.Prelude.{◌≡◌, ◌≤◌, ◌<◌, IfSome, Ok, OnOk, option_map, true};
 ghost use Rattle.ckrt_disk.specs.Frame.{IsOnlyRead};
 ghost use Rattle.ckrt_words.specs.Jobs.{driving_of};
-ghost use Rattle.ckrt_image.specs.Reads.{is_device};
-ghost use Rattle.ckrt_image.specs.Recovery.{Agrees, Is};
+ghost use Rattle.ckrt_stored.specs.Reads.{is_device};
+ghost use Rattle.ckrt_stored.specs.Recovery.{Agrees, Is};
 ghost use Rattle.ckrt_outcomes.specs.Ranges.{is_in_range};
 ghost use Rattle.ckrt_jobs.specs.Feeding.{EndsWithRoom, LooksUp, MakesRoom, Supplies, SuppliesFrom, SuppliesOpened, SuppliesTaken, TakesInput, file_of, size_wanted, spare_for, taken_by_words};
 ghost use Rattle.ckrt_sources.specs.Openings.{with_both_closed};
@@ -11,11 +11,11 @@ ghost use Rattle.ckrt_sources.specs.Sources.{GivesNoMore};
 ghost use Rattle.ckrt_record.specs.Slot.{TAKEN_LIMIT};
 
 use ckrt_disk::Disk;
-use ckrt_image::read_in_use;
 use ckrt_outcomes::{InputLengths, JobFault};
 use ckrt_record::{OffsetFault, RECORD_BYTES, read_offset};
 use ckrt_recovery::RecoverFault;
 use ckrt_sources::{Closes, JobFile, Sources};
+use ckrt_stored::read_in_use;
 use ckrt_words::DriveJob;
 use std::io::Read;
 
@@ -66,7 +66,7 @@ pub(crate) fn look_up_taken<D: Disk>(disk: &mut D, from: Option<u64>) -> Result<
     taken_by_words(told, from)
 }
 
-/// How many bytes a disk that is made has behind those of its format.
+/// How many bytes a disk that is made has after those of its format.
 pub(crate) fn spare_for(input: Option<&str>) -> usize
     ensures size { result ≡ spare_for (option_map (λ path. path.now) input.entry) }
     ensures few { result ≤ 4096 }
@@ -77,7 +77,7 @@ pub(crate) fn spare_for(input: Option<&str>) -> usize
     }
 }
 
-/// How many bytes a disk has to have, with the record behind those of its format.
+/// How many bytes a disk has to have, with the record after those of its format.
 fn size_wanted<D: Disk>(disk: &mut D) -> Result<usize, RecoverFault>
     ensures exact { D.is_honest disk.new
         → Agrees (λ n. n) (λ e. e) result (Is (size_wanted (D.content disk.old))) }
@@ -87,7 +87,7 @@ fn size_wanted<D: Disk>(disk: &mut D) -> Result<usize, RecoverFault>
     Ok(config.size_needed() + RECORD_BYTES)
 }
 
-/// A disk of so many bytes or more: as it is, or made longer.
+/// A disk of that many bytes or more: as it is, or made longer.
 fn with_size<'a, I: Read, D: Disk, S: Sources<'a, I, D>>(
     disk: D,
     size: usize,
@@ -194,7 +194,7 @@ fn with_opened<'a, I: Read, D: Disk, S: Sources<'a, I, D>>(
     Err(JobFault::InputTooShort(lengths))
 }
 
-/// A disk with the input of a path, of which its program has taken so many bytes.
+/// A disk with the input of a path, of which its program has taken that many bytes.
 fn with_taken<'a, I: Read, D: Disk, S: Sources<'a, I, D>>(
     disk: D,
     path: &'a str,

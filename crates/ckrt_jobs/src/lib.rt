@@ -17,16 +17,16 @@
 //! read or written; the fault is the content's, and it is Device only where a call of the disk failed. Else what was written
 //! is a beginning of the transcript of what the content recovers to, of a fate that is none exactly where no call of the
 //! disk failed, and all of it where the answer is Ok. What a stop left at any moment since the start was possible before, or
-//! recovers to a list between the recovered events and those with the accepted ones behind them; the disk that comes back
+//! recovers to a list between the recovered events and those with the accepted ones after them; the disk that comes back
 //! recovers to one with every acknowledged event; no line `ack` has a greater number, and each line of output is the plain
 //! fold's of acknowledged events.
 //!
 //! Proved of [`inspect_disk`]: where it answers Ok the disk's content recovers, and what was written is the listing of what
-//! it recovers to, or recovered to after so many events, with code or without, if the disk is honest; NotFormatted, Version,
+//! it recovers to, or recovered to after that many events, with code or without, if the disk is honest; NotFormatted, Version,
 //! Damaged and Range are the content's, Device comes only where a read failed; the disk is only read, at every moment, and
 //! nothing is written with a fault but Write.
 //!
-//! Proved of `core`: the disk is only read, and what is found on it is what it recovers to, or recovered to after so many events. The
+//! Proved of `core`: the disk is only read, and what is found on it is what it recovers to, or recovered to after that many events. The
 //! file of the core is asked for only then, with as many bytes as that state's core has. It gets its path only once it has just these
 //! bytes, durably, and else is given up. Nothing is printed, and no line is read.
 //!
@@ -41,7 +41,7 @@
 //! below their offset, and nothing but that stream writes to the writer, from the job's beginning to its end; else nothing is
 //! printed. An offset beside a file is the fault Range too.
 //!
-//! Proved of the input of a drive: it is asked for only once the disk has told how many bytes the program has taken, and goes on behind
+//! Proved of the input of a drive: it is asked for only once the disk has told how many bytes the program has taken, and goes on after
 //! just these. Where the disk can't tell how many these were when it was saved, the words say so, or NotRecorded comes; where it
 //! can, words that say more are OffsetDiffers. A file with fewer bytes is InputTooShort. A disk that is driven with an input has room for the record, and is made
 //! longer where it hasn't. The steps of the drive were supplied from the bytes of that file, where they read the same to the

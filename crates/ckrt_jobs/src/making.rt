@@ -73,7 +73,7 @@ pub fn fitting_image<'a, I: Read + Drop, D: Disk, S: Sources<'a, I, D>>(
     Ok(image)
 }
 
-/// The disk of a path, filled up to so many bytes.
+/// The disk of a path, filled up to that many bytes.
 fn filled_disk<'a, I: Read, D: Disk, S: Sources<'a, I, D>>(
     sources: &mut S,
     path: &'a str,

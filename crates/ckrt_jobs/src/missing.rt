@@ -68,7 +68,7 @@ fn make_named<'a, I: Read, D: Disk, S: Sources<'a, I, D>>(
     }
 }
 
-/// A disk in the making for a path, of so many bytes.
+/// A disk in the making for a path, of that many bytes.
 fn disk_in_making<'a, I: Read, D: Disk, S: Sources<'a, I, D>>(
     alloc: Global,
     sources: &mut S,
@@ -92,8 +92,8 @@ fn disk_in_making<'a, I: Read, D: Disk, S: Sources<'a, I, D>>(
     }
 }
 
-/// Makes a disk for a path that nothing has: beside it, and by its name once it is formatted and durable. It has so many bytes
-/// to spare behind those of its format.
+/// Makes a disk for a path that nothing has: beside it, and by its name once it is formatted and durable. It has that many bytes
+/// to spare after those of its format.
 ///
 /// # Errors
 ///

@@ -3,7 +3,7 @@ ghost use Rattle.std.specs.Prelude.{◌≡◌, Ok, IfOk, IfErr};
 ghost use Rattle.ckrt_disk.specs.Disk.{HasFailed};
 ghost use Rattle.ckrt_disk.specs.Frame.{IsSameDisk};
 ghost use Rattle.ckrt_main.specs.Service.{Served};
-ghost use Rattle.ckrt_image.specs.Recovery.{Recovered, Recovers};
+ghost use Rattle.ckrt_stored.specs.Recovery.{Recovered, Recovers};
 ghost use Rattle.ckrt_recovery.specs.View.{opened};
 ghost use Rattle.ckrt_jobs.specs.Running.{AgreesOnJob, IsBeforeService, disk_of, RunsDisk};
 

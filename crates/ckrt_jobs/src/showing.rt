@@ -25,7 +25,7 @@ fn shown(job: &InspectJob<'_>) -> Shown
 ///
 /// # Errors
 ///
-/// `Inspect`: where nothing is recovered from it or it has no state after so many events, where the disk failed a read or
+/// `Inspect`: where nothing is recovered from it or it has no state after that many events, where the disk failed a read or
 /// memory was refused, all before anything is written; or where the writer failed.
 pub fn inspect_disk<D: Disk, W: Write>(
     alloc: Global,

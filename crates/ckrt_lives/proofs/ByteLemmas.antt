@@ -5,13 +5,13 @@ use Rattle.std.proofs.lemmas.List.{get_or_append_left}
 use Rattle.std.proofs.lemmas.Bool.Decides.{leb_tells}
 use Rattle.ckrt_events.specs.declared.event.Event.{Event}
 use Rattle.ckrt_machine.specs.Events.{output_of}
-use Rattle.ckrt_image.specs.Programs.{RecoversToStart, Program, start_of, state_after, output_after}
-use Rattle.ckrt_image.proofs.ReplayLemmas.{output-append}
+use Rattle.ckrt_stored.specs.Programs.{RecoversToStart, Program, start_of, state_after, output_after}
+use Rattle.ckrt_stored.proofs.ReplayLemmas.{output-append}
 use Rattle.ckrt_lives.specs.declared.life.Life.{Life}
 use Rattle.ckrt_lives.specs.declared.life.LifeReport.{LifeReport}
-use Rattle.ckrt_recovery.specs.Between.{IsBeginningOf}
+use Rattle.ckrt_recovery.specs.Lists.{IsBeginningOf}
 use Rattle.ckrt_lives.specs.Lives.{HasRecovered, IsLife, AreLivesFrom, AreSameBytes, Releases, acknowledged_in}
-use Rattle.ckrt_lives.proofs.BeginningLemmas.{begins_taken}
+use Rattle.ckrt_recovery.proofs.ListLemmas.{begins_taken}
 use Rattle.ckrt_lives.proofs.ManyLemmas.{durable_all}
 
 -- a life of the list, with its own

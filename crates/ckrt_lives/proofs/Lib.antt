@@ -1,5 +1,4 @@
 pub mod TranscriptLemmas
-pub mod BeginningLemmas
 pub mod PieceLemmas
 pub mod StepLemmas
 pub mod LifeLemmas

@@ -5,12 +5,12 @@ use Rattle.ckrt_disk.specs.Disk.{IsImage}
 use Rattle.ckrt_disk.specs.declared.disk.Disk.{Ghosts}
 use Rattle.ckrt_events.specs.declared.event.Event.{Event}
 use Rattle.ckrt_machine.specs.Events.{output_of}
-use Rattle.ckrt_image.specs.Programs.{Program, RecoversTo, state_after, output_after}
-use Rattle.ckrt_image.specs.Progress.{recovered_of}
-use Rattle.ckrt_image.specs.declared.fault.RecoverFault.{RecoverFault}
-use Rattle.ckrt_image.specs.declared.fault.RecoverFault.TheVariants.{NotFormatted, Version, Damaged, Device, OutOfMemory}
-use Rattle.ckrt_image.specs.Recovery.{AgreesOnFault, Recovered, Recovers}
-use Rattle.ckrt_image.proofs.RecoverLemmas.{recovers_once}
+use Rattle.ckrt_stored.specs.Programs.{Program, RecoversTo, state_after, output_after}
+use Rattle.ckrt_stored.specs.Progress.{recovered_of}
+use Rattle.ckrt_stored.specs.declared.fault.RecoverFault.{RecoverFault}
+use Rattle.ckrt_stored.specs.declared.fault.RecoverFault.TheVariants.{NotFormatted, Version, Damaged, Device, OutOfMemory}
+use Rattle.ckrt_stored.specs.Recovery.{AgreesOnFault, Recovered, Recovers}
+use Rattle.ckrt_stored.proofs.RecoverLemmas.{recovers_once}
 use Rattle.ckrt_recovery.specs.Opening.{IsSyncedAndRead}
 use Rattle.std.proofs.lemmas.Grind.{same_number_lists}
 use Rattle.ckrt_recovery.specs.declared.session.Session.{Session}

@@ -2,16 +2,15 @@
 use Rattle.std.proofs.Common.{◌≡◌, ⊎_elim, ℕ, zero, suc, ◌≤◌, ◌<◌, List, [], ◌∷◌, ◌++◌, length, take, Some, None, Option, refl, sym, ◌∙◌, ap, subst, arith, length-take-le}
 use Rattle.std.specs.Prelude.{slice_get}
 use Rattle.ckrt_events.specs.declared.event.Event.{Event}
-use Rattle.ckrt_image.specs.Programs.{RecoversToStart, Program, RecoversTo, formatted}
-use Rattle.ckrt_image.specs.Recovery.{Recovered}
-use Rattle.ckrt_image.proofs.RecoverLemmas.{recovered_once}
+use Rattle.ckrt_stored.specs.Programs.{RecoversToStart, Program, RecoversTo, formatted}
+use Rattle.ckrt_stored.specs.Recovery.{Recovered}
+use Rattle.ckrt_stored.proofs.RecoverLemmas.{recovered_once}
 use Rattle.ckrt_lives.specs.declared.life.Life.{Life}
 use Rattle.ckrt_lives.specs.declared.life.LifeReport.{LifeReport}
-use Rattle.ckrt_recovery.specs.Between.{IsBeginningOf}
+use Rattle.ckrt_recovery.specs.Lists.{IsBeginningOf}
 use Rattle.ckrt_lives.specs.Lives.{HasRecovered, HasNotRecovered, IsLife, AreLives, AreLivesFrom, AreDurable, acknowledged_in, released_to}
 use Rattle.ckrt_lives.specs.Pieces.{Stands, last_left, last_list, LivedSoFar}
-use Rattle.ckrt_commands.proofs.ReplyLemmas.{begins_itself, begins_through}
-use Rattle.ckrt_lives.proofs.BeginningLemmas.{begins_taken, fewer_begin}
+use Rattle.ckrt_recovery.proofs.ListLemmas.{begins_itself, begins_taken, begins_through, fewer_begin}
 
 -- AFTER ONE LIFE
 

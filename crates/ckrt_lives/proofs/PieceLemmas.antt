@@ -6,12 +6,12 @@ use Rattle.ckrt_disk.specs.declared.disk.Disk.{Ghosts}
 use Rattle.ckrt_events.specs.declared.command.Command.{Command}
 use Rattle.ckrt_events.specs.declared.event.Event.{Event}
 use Rattle.ckrt_recovery.specs.declared.session.Session.{Session}
-use Rattle.ckrt_recovery.specs.Between.{IsBeginningOf}
+use Rattle.ckrt_recovery.specs.Lists.{IsBeginningOf}
 use Rattle.ckrt_recovery.specs.View.{View, view_of}
 use Rattle.ckrt_commands.specs.Pieces.{Tells, Answers, HasTaken, ends}
 use Rattle.ckrt_commands.specs.Replies.{Reply, output_in, shown_in}
 use Rattle.ckrt_commands.specs.Transcript.{Fate, Transcript, preceded_by, unless_quit, followed_by, output, respond}
-use Rattle.ckrt_commands.proofs.ReplyLemmas.{nothing_begins, begins_more, begins_behind}
+use Rattle.ckrt_recovery.proofs.ListLemmas.{begins_behind, begins_more, nothing_begins}
 use Rattle.ckrt_commands.proofs.TakenLemmas.{no_more, taken_still}
 use Rattle.ckrt_commands.proofs.TellLemmas.{told_whole}
 use Rattle.ckrt_lives.specs.Pieces.{IsConfirmed, IsWhole, Does}

@@ -2,9 +2,9 @@
 use Rattle.std.specs.Prelude.{◌≡◌, ◌⊎◌, ◌≤◌, ◌<◌, ◌+◌, ◌-◌, ℕ, List, [], ◌∷◌, ◌++◌, length, take, drop, slice_get, slice_index, All, Some, None, Ok}
 use Rattle.ckrt_events.specs.declared.event.Event.{Event}
 use Rattle.ckrt_events.specs.Line.{IsInRangeCommand}
-use Rattle.ckrt_image.specs.Programs.{RecoversToStart, Program, RecoversTo, output_after}
-use Rattle.ckrt_image.specs.Recovery.{Recovered, Recovers}
-use Rattle.ckrt_recovery.specs.Between.{IsBeginningOf}
+use Rattle.ckrt_stored.specs.Programs.{RecoversToStart, Program, RecoversTo, output_after}
+use Rattle.ckrt_stored.specs.Recovery.{Recovered, Recovers}
+use Rattle.ckrt_recovery.specs.Lists.{IsBeginningOf}
 use Rattle.ckrt_recovery.specs.View.{View, opened}
 use Rattle.ckrt_commands.specs.Transcript.{Transcript}
 use Rattle.ckrt_lives.specs.declared.life.Life.{Life}
@@ -17,7 +17,7 @@ IsInRangeLife life = All IsInRangeCommand life.commands.items
 
 -- ONE LIFE
 
--- the offset behind what a life released
+-- the offset after what a life released
 abbrev pub released_to : LifeReport → ℕ
 released_to report = report.released_from + length report.released.items
 
@@ -25,7 +25,7 @@ released_to report = report.released_from + length report.released.items
 abbrev pub acknowledged_in : LifeReport → List Event → List Event
 acknowledged_in report events = take report.acknowledged events
 
--- An image recovers to what a session has acknowledged: so many events, in its area, of its generation, with the journal at its last gate.
+-- An image recovers to what a session has acknowledged: that many events, in its area, of its generation, with the journal at its last gate.
 pub record IsLeftBy (v : View) (image : List ℕ) : Type 0 where
   pub recovered : Recovered
   pub recovers : Recovers image (Ok recovered)
@@ -49,10 +49,10 @@ pub record HasRecovered (p : Program) (life : Life) (report : LifeReport) (image
   -- what the image recovers to
   pub opening : Recovered
   pub recovers : Recovers image (Ok opening)
-  -- so many events, and its first held byte has that offset
+  -- that many events, and its first held byte has that offset
   pub recovered : report.recovered ≡ Some opening.count
   pub released_from : report.released_from ≡ opening.confirmed
-  -- its list begins with so many events of the list before
+  -- its list begins with that many events of the list before
   pub among : opening.count ≤ length before
   -- and goes on with a beginning of those that its commands get accepted
   pub accepted : List Event

@@ -3,7 +3,7 @@ use Rattle.std.specs.Prelude.{◌≡◌, ◌⊎◌, ◌≤◌, ◌<◌, ℕ, tru
 use Rattle.ckrt_disk.specs.declared.disk.Disk.{Ghosts}
 use Rattle.ckrt_events.specs.declared.command.Command.{Command}
 use Rattle.ckrt_events.specs.declared.event.Event.{Event}
-use Rattle.ckrt_image.specs.Programs.{Program, RecoversTo, output_after}
+use Rattle.ckrt_stored.specs.Programs.{Program, RecoversTo, output_after}
 use Rattle.ckrt_recovery.specs.declared.session.Session.{Session}
 use Rattle.ckrt_recovery.specs.Represents.{Represents, RecoversToEither}
 use Rattle.ckrt_recovery.specs.View.{View, view_of}
@@ -12,7 +12,7 @@ use Rattle.ckrt_lives.specs.declared.life.LifeReport.{LifeReport}
 use Rattle.ckrt_commands.specs.Pieces.{HasTaken}
 use Rattle.ckrt_lives.specs.Commands.{commands_of_life}
 use Rattle.ckrt_lives.specs.declared.life.Life.{Life}
-use Rattle.ckrt_recovery.specs.Between.{IsBeginningOf}
+use Rattle.ckrt_recovery.specs.Lists.{IsBeginningOf}
 use Rattle.ckrt_lives.specs.Lives.{AreLivesFrom}
 
 -- the session took all events of a transcript, and is the one that it leaves

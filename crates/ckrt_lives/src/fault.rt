@@ -1,3 +1,4 @@
+//! The faults of lives.
 ghost use Rattle.std.specs.Prelude.{◌≡◌};
 
 use std::alloc::AllocError;

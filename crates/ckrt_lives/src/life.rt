@@ -1,4 +1,4 @@
-// A life, and what is reported of it.
+//! A life, and what is reported of it.
 ghost use Rattle.std.specs.Prelude.{IsTrue, ◌↔◌, All};
 ghost use Rattle.ckrt_events.specs.Line.{IsInRangeCommand};
 

@@ -1,11 +1,11 @@
-// Lives, one after another.
+//! Lives, one after another.
 ghost use Rattle.std.specs.Prelude.{◌≡◌, ◌↔◌, ◌⊎◌, List, [], ◌∷◌, ◌++◌, ℕ, true, None, replicate, All, Ok, IfOk, IfErr, IsErrOf};
 ghost use Rattle.ckrt_checkpoint.specs.Layout.{is_valid, size_needed};
 ghost use Rattle.ckrt_events.specs.Line.{IsInRangeCommand};
 ghost use Rattle.ckrt_events.specs.declared.event.Event.{Event};
-ghost use Rattle.ckrt_image.specs.Format.{IsFormatted};
-ghost use Rattle.ckrt_image.specs.Programs.{Program, formatted_program};
-ghost use Rattle.ckrt_image.specs.Recovery.{Recovered, Recovers};
+ghost use Rattle.ckrt_stored.specs.Format.{IsFormatted};
+ghost use Rattle.ckrt_stored.specs.Programs.{Program, formatted_program};
+ghost use Rattle.ckrt_stored.specs.Recovery.{Recovered, Recovers};
 ghost use Rattle.ckrt_recovery.specs.View.{is_refused};
 ghost use Rattle.ckrt_recovery.specs.declared.session.Session.{Session};
 ghost use Rattle.ckrt_disk.specs.declared.stopping.StoppingDisk.{StoppingDisk};

@@ -7,12 +7,12 @@ ghost use Rattle.ckrt_looks.specs.Debugging.{DebugsPath, DebugsRecorded, ReadsOp
 
 use ckrt_debug::{DebugFault, Stub};
 use ckrt_disk::Disk;
-use ckrt_image::RecoverFault;
 use ckrt_inspect::InspectFault;
 use ckrt_main::ServeFault;
 use ckrt_outcomes::JobFault;
 use ckrt_recording::{Recording, read_recording};
 use ckrt_sources::{JobFile, Sources};
+use ckrt_stored::RecoverFault;
 use ckrt_words::DebugJob;
 use std::alloc::Global;
 use std::io::{Read, Write};

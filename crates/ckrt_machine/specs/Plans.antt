@@ -22,7 +22,7 @@ abbrev pub or_zero : Option ℕ → ℕ
 or_zero None = 0
 or_zero (Some t) = t
 
--- the least above who is on the hart, else the least at all
+-- the least above the thread on the hart, else the least at all
 abbrev pub next_ready : ℕ → Tables → Option ℕ
 next_ready h s =
     or_else (least_ready (or_zero (hart_of s h) + 1) s.threads) (least_ready 1 s.threads)

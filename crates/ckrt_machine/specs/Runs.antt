@@ -12,6 +12,10 @@ is_running Running = true
 is_running (Exited v) = false
 is_running (Faulted t p c) = false
 
+-- how many bytes a run puts at most: it ends with the step that puts the last of them
+abbrev pub RUN_OUTPUT : ℕ
+RUN_OUTPUT = 1024
+
 -- what a run leaves: how many of its steps it didn't make, how it ended, the state, and the bytes put
 pub record Ran : Type 0 where
   pub left : ℕ
@@ -28,7 +32,7 @@ abbrev pub stop_of : ℕ → Tables → List ℕ → Option RunEnd
 stop_of h s out =
     if is_running s.status then
     (if is_none (hart_of s h) then Some Off
-    else if nat_le 1024 (length out) then Some On
+    else if nat_le RUN_OUTPUT (length out) then Some On
     else None)
     else Some End
 
@@ -66,7 +70,7 @@ stop_after k h s out = stop_of h (after_steps k h s out).state.tables (after_ste
 -- a run of at most n steps of the thread on hart h made m of them
 pub record HasMade (n m h : ℕ) (s : State) (out : List ℕ) (ran : Ran) : Type 0 where
   pub count : ran.left + m ≡ n
-  -- it is where so many steps lead
+  -- it is where that many steps lead
   pub state : ran.state ≡ (after_steps m h s out).state
   pub output : ran.output ≡ (after_steps m h s out).output
   -- nothing ended it after fewer

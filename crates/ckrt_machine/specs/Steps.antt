@@ -34,7 +34,7 @@ pub record Stepped : Type 0 where
 abbrev pub quiet : State → Stepped
 quiet s = record { state = s; put = None }
 
--- who is on the hart
+-- the thread on the hart
 abbrev pub hart_of : Tables → ℕ → Option ℕ
 hart_of s h = option_flatten (slice_get s.threads.harts h)
 
@@ -57,7 +57,7 @@ abbrev pub called : ℕ → List ℕ → calls.After → Stepped
 called t m a =
     record { state = record { bytes = m; tables = with_result a.result t a.tables }; put = a.put }
 
--- an instruction of the thread, whose effect this is; an ECALL makes its call once the pc has moved behind it
+-- an instruction of the thread, whose effect this is; an ECALL makes its call once the pc has moved after it
 abbrev pub performed : Outcome → ℕ → Registers → List ℕ → State → Stepped
 performed Next t r m s = quiet (record { bytes = m; tables = with_regs t r s.tables })
 performed Call t r m s = called t m (calls.called t (with_regs t r s.tables))

@@ -8,12 +8,10 @@ use crate::hart::{RUN_OUTPUT, is_running};
 use arrayvec::ArrayVec;
 use ckrt_calls::{INPUT_LIMIT, Tables};
 use ckrt_events::Event;
-use ckrt_thread::MOMENT_END;
+use ckrt_state::HELD_LIMIT;
+use ckrt_thread::{Hart, MOMENT_END, ThreadId};
 
-/// How many bytes of output may be held.
-const OUTPUT_LIMIT: usize = 16_384;
-
-/// The first reason to refuse the event where so many bytes of output are held, if there is one.
+/// The first reason to refuse the event where that many bytes of output are held, if there is one.
 pub fn refusal(tables: &Tables, held: usize, event: &Event) -> Option<Refusal>
     ensures { result ≡ refusal_in held event.now tables.now }
 {
@@ -37,7 +35,7 @@ fn running_refusal(tables: &Tables, held: usize, event: &Event) -> Option<Refusa
     }
 }
 
-fn place_refusal(tables: &Tables, hart: u8, thread: u8) -> Option<Refusal>
+fn place_refusal(tables: &Tables, hart: Hart, thread: ThreadId) -> Option<Refusal>
     ensures { (held : ℕ) → result ≡ running_refusal held (Place hart thread) tables.now }
 {
     if usize::from(hart) >= tables.threads.hart_count() {
@@ -52,7 +50,7 @@ fn place_refusal(tables: &Tables, hart: u8, thread: u8) -> Option<Refusal>
     None
 }
 
-fn run_refusal(tables: &Tables, held: usize, hart: u8) -> Option<Refusal>
+fn run_refusal(tables: &Tables, held: usize, hart: Hart) -> Option<Refusal>
     ensures { result ≡ run_refusal held hart tables.now }
 {
     if usize::from(hart) >= tables.threads.hart_count() {
@@ -61,7 +59,7 @@ fn run_refusal(tables: &Tables, held: usize, hart: u8) -> Option<Refusal>
     if tables.threads.on_hart(usize::from(hart)).is_none() {
         return Some(Refusal::HartIdle);
     }
-    if held > OUTPUT_LIMIT - RUN_OUTPUT {
+    if held > HELD_LIMIT - RUN_OUTPUT {
         return Some(Refusal::OutputFull);
     }
     None

@@ -11,11 +11,11 @@ ghost use Rattle.ckrt_machine.specs.Bursts.{ending};
 
 use ckrt_calls::{Status, Tables, begin_unwind, call, next_handler};
 use ckrt_rv32i::{Cause, Outcome};
-use ckrt_thread::{CallResult, RETURN_GATE, UNWIND_GATE};
+use ckrt_thread::{CallResult, RETURN_GATE, ThreadId, UNWIND_GATE};
 
 /// What follows the last instruction of a burst, whose registers are back in the table: nothing, a call, or what a
 /// fault comes to. The result is the byte that a call puts.
-pub fn end_burst(tables: &mut Tables, outcome: Outcome, thread: u8) -> Option<u8>
+pub fn end_burst(tables: &mut Tables, outcome: Outcome, thread: ThreadId) -> Option<u8>
     requires live { is_live tables.old.threads thread ≡ true }
     requires free { is_waiting tables.old.threads thread ≡ false }
     requires id { thread ≤ 64 }
@@ -37,7 +37,7 @@ pub fn end_burst(tables: &mut Tables, outcome: Outcome, thread: u8) -> Option<u8
 }
 
 /// Makes the call that the thread's registers name, and gives the byte that it puts.
-fn make_call(tables: &mut Tables, thread: u8) -> Option<u8>
+fn make_call(tables: &mut Tables, thread: ThreadId) -> Option<u8>
     requires live { is_live tables.old.threads thread ≡ true }
     requires free { is_waiting tables.old.threads thread ≡ false }
     requires id { thread ≤ 64 }
@@ -56,7 +56,7 @@ fn make_call(tables: &mut Tables, thread: u8) -> Option<u8>
 }
 
 /// The result of a call goes to x10 of the thread that made it.
-fn put_result(tables: &mut Tables, thread: u8, value: u32)
+fn put_result(tables: &mut Tables, thread: ThreadId, value: u32)
     requires id { thread ≤ 64 }
     requires well_formed { IsWellFormed tables.old }
     ensures well_formed { IsWellFormed tables.new }
@@ -68,7 +68,7 @@ fn put_result(tables: &mut Tables, thread: u8, value: u32)
 
 /// A fault of a thread. Where it is at a gate, which no instruction is at, it returned from its first function, from a
 /// clean-up handler or from a destructor.
-fn end_at_fault(tables: &mut Tables, cause: Cause, thread: u8)
+fn end_at_fault(tables: &mut Tables, cause: Cause, thread: ThreadId)
     requires live { is_live tables.old.threads thread ≡ true }
     requires free { is_waiting tables.old.threads thread ≡ false }
     requires running { tables.old.status ≡ Running }
@@ -94,7 +94,7 @@ fn end_at_fault(tables: &mut Tables, cause: Cause, thread: u8)
 
 /// The first function of a thread returned with a value: the initial thread ends the program with it, and any other
 /// unwinds to end with it.
-fn leave(tables: &mut Tables, initial: bool, thread: u8, value: u32)
+fn leave(tables: &mut Tables, initial: bool, thread: ThreadId, value: u32)
     requires live { is_live tables.old.threads thread ≡ true }
     requires free { is_waiting tables.old.threads thread ≡ false }
     requires running { tables.old.status ≡ Running }
@@ -113,7 +113,7 @@ fn leave(tables: &mut Tables, initial: bool, thread: u8, value: u32)
 
 /// A clean-up handler or a destructor returned: a thread that unwinds goes to its next handler, else to its next
 /// destructor, or ends, and any other faults.
-fn leave_handler(tables: &mut Tables, unwinds: bool, thread: u8, pc: u32)
+fn leave_handler(tables: &mut Tables, unwinds: bool, thread: ThreadId, pc: u32)
     requires live { is_live tables.old.threads thread ≡ true }
     requires free { is_waiting tables.old.threads thread ≡ false }
     requires running { tables.old.status ≡ Running }
@@ -132,7 +132,7 @@ fn leave_handler(tables: &mut Tables, unwinds: bool, thread: u8, pc: u32)
 }
 
 /// A fault ends the program: thread, pc and cause stay in its status.
-fn fault(tables: &mut Tables, cause: Cause, thread: u8, pc: u32)
+fn fault(tables: &mut Tables, cause: Cause, thread: ThreadId, pc: u32)
     requires live { is_live tables.old.threads thread ≡ true }
     requires aligned { pc % 4 ≡ 0 }
     requires well_formed { IsWellFormed tables.old }

@@ -15,12 +15,13 @@ use arrayvec::ArrayVec;
 use ckrt_calls::{Status, Tables, act_on_request};
 use ckrt_memory::Memory;
 use ckrt_registers::Regs;
+use ckrt_thread::{Hart, ThreadId};
 
 /// How many bytes a run puts at most.
 pub const RUN_OUTPUT: usize = 1_024;
 
-/// A ready thread goes onto a hart. Who was there goes off, and stays ready.
-pub fn place(tables: &mut Tables, hart: u8, thread: u8)
+/// A ready thread goes onto a hart. The thread that was there goes off, and stays ready.
+pub fn place(tables: &mut Tables, hart: Hart, thread: ThreadId)
     requires hart { hart < tables.old.threads.hart_count }
     requires ready { is_ready tables.old.threads thread ≡ true }
     requires well_formed { IsWellFormed tables.old }
@@ -55,7 +56,7 @@ fn stop(tables: &Tables, hart: usize, output: &ArrayVec<u8, 1024>) -> Option<Run
     None
 }
 
-/// Who is on the hart, which isn't idle.
+/// The thread on the hart, which isn't idle.
 fn runner(tables: &Tables, hart: usize) -> u8
     requires { IsSome (hart_of tables.now hart) }
     ensures on { hart_of tables.now hart ≡ Some result }
@@ -71,7 +72,7 @@ fn runner(tables: &Tables, hart: usize) -> u8
 }
 
 /// A thread's registers go back into the table.
-fn put_back(tables: &mut Tables, thread: u8, regs: &Regs)
+fn put_back(tables: &mut Tables, thread: ThreadId, regs: &Regs)
     requires live { is_live tables.old.threads thread ≡ true }
     requires free { is_waiting tables.old.threads thread ≡ false }
     requires aligned { regs.now.pc % 4 ≡ 0 }
@@ -188,7 +189,7 @@ pub fn answer_run(
     memory: &mut Memory,
     tables: &mut Tables,
     output: &mut ArrayVec<u8, 1024>,
-    hart: u8,
+    hart: Hart,
     limit: u32,
 ) -> Answer
     requires going { stop_of hart tables.old output.old.items ≡ None }

@@ -19,7 +19,7 @@ ghost use Rattle.ckrt_machine.specs.Plans.{planned};
 ghost use Rattle.ckrt_machine.specs.Refusals.{refusal_of};
 ghost use Rattle.ckrt_machine.specs.Events.{AllAccepted, IsAccepted, fold, fresh, output_of, reached, step, with_keys_off};
 
-/// One more event is applied behind the others: its effect is that of a step on what they left, its
+/// One more event is applied after the others: its effect is that of a step on what they left, its
 /// bytes follow theirs, and where they are accepted and it is, all are.
 pub fn folds_on()
     ensures state { (es : List Event) (e : Event) (s : State)
@@ -31,7 +31,7 @@ pub fn folds_on()
 {}
 
 /// No event changes how many harts there are, nor whether the program may have keys.
-pub fn events_change_neither()
+pub fn events_keep_harts_and_keys()
     ensures harts { (es : List Event) (s : State)
         → (fold es s).state.tables.threads.hart_count ≡ s.tables.threads.hart_count }
     ensures keys { (es : List Event) (s : State)
@@ -39,7 +39,7 @@ pub fn events_change_neither()
 {}
 
 /// What well-formed tables imply, in plain words: nobody is left waiting at a free mutex, no read-write lock has a writer
-/// beside readers or a first waiter that could be granted it, no thread waits twice, and who is on a hart has not ended and
+/// beside readers or a first waiter that could be granted it, no thread waits twice, and a thread on a hart has not ended and
 /// waits for nothing.
 pub fn well_formed_implies()
     ensures mutexes { (s : Tables) (a : ℕ) → IsWellFormed s
@@ -55,7 +55,7 @@ pub fn well_formed_implies()
         (λ t. (is_live s.threads t ≡ true) × (is_waiting s.threads t ≡ false)) }
 {}
 
-/// What they imply of threads: who waits has not ended, a thread is on one hart at most, and who is joined has not ended
+/// What they imply of threads: a thread that waits has not ended, a thread is on one hart at most, and a joined thread has not ended
 /// and is not detached, and is joined by one thread, another.
 pub fn well_formed_implies_of_threads()
     ensures waiting { (s : Tables) (t : ℕ) → IsWellFormed s → is_waiting s.threads t ≡ true
@@ -83,7 +83,7 @@ pub fn run_is_its_steps()
 {}
 
 /// Whatever well-formed state stands at the start, and whatever events are accepted one after another: the state that they
-/// lead to is well-formed, the first who waits for a mutex or a read-write lock could not be granted it, and nobody is left
+/// lead to is well-formed, the first thread that waits for a mutex or a read-write lock could not be granted it, and nobody is left
 /// waiting at a free lock. Such a state every program starts with, on at most 8 harts: one whose keys are on, and one whose
 /// keys are off, as on a disk that was formatted in version 1. So this speaks of every program.
 pub fn accepted_events_keep_well_formed()
@@ -106,7 +106,7 @@ pub fn accepted_events_keep_well_formed()
 {}
 
 /// Whatever program begins whose keys are on, on at most 8 harts, and whatever events are accepted one after another: the
-/// state that they lead to is well-formed. So the first who waits for a mutex or a read-write lock could not be granted it,
+/// state that they lead to is well-formed. So the first thread that waits for a mutex or a read-write lock could not be granted it,
 /// and nobody is left waiting at a free lock. Where keys are off, and of any start, [`accepted_events_keep_well_formed`] says
 /// the same.
 pub fn reached_is_well_formed()

@@ -13,7 +13,7 @@ mod plan;
 pub use event::{Answer, Refusal, RunEnd};
 pub use hart::RUN_OUTPUT;
 pub use laws::{
-    accepted_events_keep_well_formed, events_change_neither, folds_on, planned_is_accepted,
+    accepted_events_keep_well_formed, events_keep_harts_and_keys, folds_on, planned_is_accepted,
     reached_is_well_formed, run_is_its_steps, well_formed_implies, well_formed_implies_of_threads,
 };
 pub use machine::Machine;

@@ -17,6 +17,7 @@ use ckrt_calls::{Status, Tables, close_input, take_input, tick};
 use ckrt_events::Event;
 use ckrt_memory::{Memory, MemoryError};
 use ckrt_rv32i::Bus;
+use ckrt_thread::{Hart, ThreadId};
 use std::alloc::Global;
 use std::marker::Model;
 use std::mem;
@@ -188,9 +189,9 @@ impl Machine {
         }
     }
 
-    /// Goes on with a run that was cut: so many steps more at most of the thread on the hart, behind the bytes that the run has
+    /// Goes on with a run that was cut: that many steps more at most of the thread on the hart, after the bytes that the run has
     /// put. The result is how many of them are left, and how the run ended. A page whose mark is changed was stored to.
-    pub fn go_on(&mut self, hart: u8, limit: u32) -> (u32, RunEnd)
+    pub fn go_on(&mut self, hart: Hart, limit: u32) -> (u32, RunEnd)
         requires { stop_of hart self.old.state.tables self.old.output ≡ None }
         ensures within { result.0 ≤ limit }
         ensures run { record {
@@ -228,9 +229,9 @@ impl Machine {
     }
 
     /// The thread to put onto the hart next, if there is one: the least ready id on no hart that is
-    /// above the id of who is on the hart (0 if it is idle), else the least such id at all. None
+    /// above the id of the thread on the hart (0 if it is idle), else the least such id at all. None
     /// where the program has ended or the machine has no such hart.
-    pub fn planned(&self, hart: u8) -> Option<u8>
+    pub fn planned(&self, hart: Hart) -> Option<ThreadId>
         ensures { result ≡ planned hart self.now.state.tables }
     {
         plan(&self.tables, hart)

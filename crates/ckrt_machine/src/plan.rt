@@ -5,15 +5,12 @@ ghost use Rattle.ckrt_machine.specs.Plans.{planned, least_ready, next_ready, or_
 
 use crate::hart::is_running;
 use ckrt_calls::Tables;
-use ckrt_thread::Threads;
-
-/// How many threads there may be, with ids from 1.
-const THREADS: u8 = 64;
+use ckrt_thread::{Hart, MAX_THREADS, ThreadId, Threads};
 
 /// The thread to put onto the hart next: the least ready one that is on no hart and above the
 /// hart's own, else the least at all. None where nobody is ready, where the program has ended, and
 /// where there is no such hart.
-pub fn plan(tables: &Tables, hart: u8) -> Option<u8>
+pub fn plan(tables: &Tables, hart: Hart) -> Option<ThreadId>
     ensures { result ≡ planned hart tables.now }
 {
     if !is_running(tables) || usize::from(hart) >= tables.threads.hart_count() {
@@ -22,8 +19,8 @@ pub fn plan(tables: &Tables, hart: u8) -> Option<u8>
     next_ready(tables, hart)
 }
 
-/// The least ready thread above who is on the hart, else the least.
-fn next_ready(tables: &Tables, hart: u8) -> Option<u8>
+/// The least ready thread above the thread on the hart, else the least.
+fn next_ready(tables: &Tables, hart: Hart) -> Option<ThreadId>
     ensures { result ≡ next_ready hart tables.now }
 {
     let present = present(tables, hart);
@@ -33,8 +30,8 @@ fn next_ready(tables: &Tables, hart: u8) -> Option<u8>
     }
 }
 
-/// Who is on the hart, or 0.
-fn present(tables: &Tables, hart: u8) -> u8
+/// The thread on the hart, or 0.
+fn present(tables: &Tables, hart: Hart) -> ThreadId
     ensures present { result ≡ or_zero (hart_of tables.now hart) }
     ensures small { result ≤ 64 }
 {
@@ -48,11 +45,11 @@ fn present(tables: &Tables, hart: u8) -> u8
 }
 
 /// The least ready thread from this id on.
-fn ready(threads: &Threads, from: u8) -> Option<u8>
+fn ready(threads: &Threads, from: ThreadId) -> Option<ThreadId>
     requires { from ≤ 65 }
     ensures { result ≡ least_ready from threads.now }
 {
-    for thread in from..THREADS + 1 {
+    for thread in from..MAX_THREADS as ThreadId + 1 {
         if threads.is_ready(thread) {
             return Some(thread);
         }

@@ -24,7 +24,7 @@ pub fn expect_bytes<R: Abort>(rt: &R, got: &[u8], want: &[u8]) {
     expect_eq(rt, got, want);
 }
 
-/// Bytes behind others.
+/// Bytes after others.
 pub fn push<R: Abort>(rt: &R, bytes: &mut Vec<u8>, more: &[u8]) {
     bytes.extend_from_slice(more).expect(rt, "memory for bytes");
 }

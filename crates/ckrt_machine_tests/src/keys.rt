@@ -78,7 +78,7 @@ fn there_are_32_keys(rt: HostRuntime) {
 }
 
 /// Key 0 has no destructor, keys 1, 2 and 3 have one. The handler goes first, then the destructors by rising key; what one of
-/// them sets under a key behind it is met in its round, and what it sets under one before it in the next.
+/// them sets under a key after it is met in its round, and what it sets under one before it in the next.
 const ROUNDS: [Step; 27] = [
     Call(2, CREATE_KEY, [0, 0, 0], Done(0)),
     Call(2, CREATE_KEY, [0x1100, 0, 0], Done(0)),

@@ -13,7 +13,7 @@ use std::process::Abort;
 /// How many calls the fixed list has.
 const CALLS: u32 = 10_000;
 
-/// At most so many entries are reached when the first waiter is taken out.
+/// At most that many entries are reached when the first waiter is taken out.
 const MOST_REACHED: u8 = 8;
 
 /// A wait in a form that can be compared: who, the kind of its reason, the object, the second object, and the deadline.
@@ -228,7 +228,7 @@ fn expect_few<R: Abort>(rt: &R, threads: &mut Threads, mutex: u32, thread: Threa
     }
 }
 
-/// With 63 waits in the table a hand-over reaches few entries, of a queue whose first is behind 60 others as of one whose
+/// With 63 waits in the table a hand-over reaches few entries, of a queue whose first is after 60 others as of one whose
 /// first is the first of all.
 #[test]
 fn few_entries_are_reached_among_63_waits(rt: HostRuntime) {

@@ -67,7 +67,7 @@ impl Program {
         expect_eq_at(rt, self.step, result, want);
     }
 
-    /// The thread makes the call on so many objects, four bytes from one to the next; it answers 0.
+    /// The thread makes the call on that many objects, four bytes from one to the next; it answers 0.
     pub fn answers_each<R: Abort>(
         &mut self,
         rt: &R,
@@ -84,7 +84,7 @@ impl Program {
         }
     }
 
-    /// Some ticks pass, and so many waits end.
+    /// Some ticks pass, and that many waits end.
     pub fn ends_by_tick<R: Abort>(&mut self, rt: &R, ticks: u32, want: u32) {
         let ended = tick_by(rt, &mut self.tables, ticks);
         expect_eq_at(rt, self.step, ended, want);
@@ -132,7 +132,7 @@ impl Program {
         assert!(rt; !self.tables.threads.is_ready(thread));
     }
 
-    /// So many threads wait for the object.
+    /// That many threads wait for the object.
     pub fn has_waiters<R: Abort>(&self, rt: &R, object: Object, count: usize) {
         expect_eq_at(
             rt,
@@ -170,7 +170,7 @@ impl Program {
         );
     }
 
-    /// The thread has so many read locks of the lock at this address.
+    /// The thread has that many read locks of the lock at this address.
     pub fn has_read_locks<R: Abort>(&self, rt: &R, address: u32, thread: ThreadId, count: u16) {
         assert!(rt; thread <= 64);
         expect_eq_at(

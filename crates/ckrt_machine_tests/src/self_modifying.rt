@@ -28,7 +28,7 @@ const CHANGED_BEFORE_IT_IS_RUN: Guest = Guest {
     x10: 7,
 };
 
-/// The word right behind the store.
+/// The word right after the store.
 const CHANGED_ONE_WORD_AHEAD: Guest = Guest {
     words: &[
         0x0000_12b7, // lui x5, 1
@@ -88,7 +88,7 @@ fn memory_of<R: Abort + AllocGlobal>(rt: &R, image: &[u8]) -> Memory {
     Memory::new(rt.alloc(), 128, image).expect(rt, "memory for a guest")
 }
 
-/// Runs in bursts of so many instructions up to the call, 1,000 of them at most: how many instructions came before it.
+/// Runs in bursts of that many instructions up to the call, 1,000 of them at most: how many instructions came before it.
 fn run_bursts<R: Abort>(rt: &R, memory: &mut Memory, regs: &mut Regs, budget: u32) -> u32 {
     let mut made = 0u32;
     for _ in 0..1_000 {
@@ -168,7 +168,7 @@ fn another_hart_changes_the_code(rt: HostRuntime) {
     expect_eq(&rt, regs.get(10), 17);
 }
 
-/// 100 pages, each of which begins by adding 1 to x10 and jumping to the next, and a page with a call behind them.
+/// 100 pages, each of which begins by adding 1 to x10 and jumping to the next, and a page with a call after them.
 fn hundred_pages<R: Abort + AllocGlobal>(rt: &R) -> Vec<u8> {
     let mut image = Vec::new(rt.alloc());
     for _page in 0..100 {

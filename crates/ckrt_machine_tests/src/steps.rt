@@ -9,9 +9,9 @@ use std::process::Abort;
 pub enum Step {
     /// The thread makes the call of this number with these arguments, and it answers this.
     Call(ThreadId, u32, [u32; 3], CallResult),
-    /// The thread makes the call on so many objects, four bytes from one to the next; it answers 0.
+    /// The thread makes the call on that many objects, four bytes from one to the next; it answers 0.
     CallEach(u16, ThreadId, u32, [u32; 3]),
-    /// Some ticks pass, and so many waits end.
+    /// Some ticks pass, and that many waits end.
     Tick(u32, u32),
     /// These bytes of input come.
     Input(&'static [u8]),
@@ -29,7 +29,7 @@ pub enum Step {
     Routine(ThreadId, u32, u32, u32),
     /// The thread is not ready.
     Waits(ThreadId),
-    /// So many threads wait for the object.
+    /// That many threads wait for the object.
     Waiters(Object, usize),
     /// The thread has a request on which it has not acted.
     Requested(ThreadId),
@@ -37,7 +37,7 @@ pub enum Step {
     Owner(u32, ThreadId),
     /// Who writes under the read-write lock at this address.
     Writer(u32, Option<ThreadId>),
-    /// The thread has so many read locks of the lock at this address.
+    /// The thread has that many read locks of the lock at this address.
     Reads(u32, ThreadId, u16),
 }
 

@@ -23,7 +23,7 @@ use Rattle.ckrt_recovery.specs.declared.fault.SubmitFault.{SubmitFault}
 use Rattle.ckrt_recovery.specs.declared.fault.SubmitFault.TheVariants as submit_fault
 use Rattle.ckrt_recovery.specs.Calls.{checkpoint_refusal}
 use Rattle.ckrt_commands.specs.Replies.{Reply, Accepted, Acknowledged, NotAccepted, NotSaved, NotUnderstood, Output, outputs, outputs_by}
-use Rattle.ckrt_image.specs.Recovery.{room_of, are_counters_used}
+use Rattle.ckrt_stored.specs.Recovery.{room_of, are_counters_used}
 use Rattle.ckrt_recovery.specs.View.{View, output_end, refusal_of, refusal_when_known, refusal_when_running, version_of, first_refusal, shortage_of, after_event, committed, checkpointed, confirmed_to, released_output}
 use Rattle.ckrt_commands.specs.Transcript.{Fate, Transcript, preceded_by, unless_quit, followed_by, written, submitted, submit, unless_refused, run_planned, output, acknowledged, commit_by, by_fate, saved, respond, respond_all, transcript}
 use Rattle.ckrt_main.specs.Alike.{IsAlike, is_output_full, is_own, is_local, NoneIsLocal, answers_of, AnswerAlike}

@@ -8,7 +8,7 @@ use Rattle.ckrt_disk.specs.declared.disk.Disk.{Ghosts}
 use Rattle.ckrt_events.specs.declared.event.Event.{Event}
 use Rattle.ckrt_events.specs.Line.{command_of}
 use Rattle.ckrt_recovery.specs.declared.session.Session.{Session}
-use Rattle.ckrt_recovery.specs.Between.{IsBeginningOf}
+use Rattle.ckrt_recovery.specs.Lists.{IsBeginningOf}
 use Rattle.ckrt_commands.specs.Replies.{Reply, line_of, text_of}
 use Rattle.ckrt_recovery.specs.View.{View, view_of}
 use Rattle.ckrt_commands.specs.Transcript.{Fate, Transcript, transcript, preceded_by, view_after, unless_quit, followed_by, respond, respond_all, output}
@@ -21,7 +21,7 @@ use Rattle.ckrt_commands.proofs.FateLemmas.{events_of_fate}
 use Rattle.ckrt_main.proofs.LineLemmas.{respond-newline, respond-last, respond-full, nothing_more}
 use Rattle.ckrt_commands.proofs.TellLemmas.{told_whole}
 use Rattle.ckrt_commands.proofs.PieceLemmas.{responds_then, interrupted_then, responds_as, interrupted_as, silent, answers_followed, broken_followed}
-use Rattle.ckrt_commands.proofs.ReplyLemmas.{begins_through, begins_more}
+use Rattle.ckrt_recovery.proofs.ListLemmas.{begins_more, begins_through}
 
 pub consumes_nothing : (r : Option (List ℕ)) → Consumes r r []
 consumes_nothing None = tt

@@ -1,13 +1,13 @@
 -- What the lines of a service tell a reader is true.
-use Rattle.std.proofs.Common.{◌≡◌, ◌<◌, ◌≤◌, ◌+◌, ℕ, Option, List, ◌++◌, length, take, get_or, refl, sym, ◌∙◌, ap, subst, arith, append_assoc, take-take}
+use Rattle.std.proofs.Common.{◌≡◌, ◌<◌, ◌≤◌, ◌+◌, ℕ, Option, List, ◌++◌, length, take, get_or, refl, sym, ◌∙◌, ap, arith, append_assoc}
 use Rattle.std.proofs.lemmas.List.{get_or_append_left, get_or-append-add}
 use Rattle.std.specs.List.{AllByRecursion}
 use Rattle.ckrt_disk.specs.Disk.{IsImage}
 use Rattle.ckrt_disk.specs.declared.disk.Disk.{Ghosts}
 use Rattle.ckrt_events.specs.declared.event.Event.{Event}
-use Rattle.ckrt_image.specs.Programs.{Program}
+use Rattle.ckrt_stored.specs.Programs.{Program}
 use Rattle.ckrt_recovery.specs.declared.session.Session.{Session}
-use Rattle.ckrt_recovery.specs.Between.{IsBeginningOf, RecoversBetween, StandsIn}
+use Rattle.ckrt_recovery.specs.Between.{RecoversBetween, StandsIn}
 use Rattle.ckrt_commands.specs.Replies.{acks_of}
 use Rattle.ckrt_recovery.specs.Represents.{Represents, acknowledged_of}
 use Rattle.ckrt_recovery.specs.View.{view_of}
@@ -15,11 +15,9 @@ use Rattle.ckrt_main.specs.Service.{Processes}
 use Rattle.ckrt_commands.specs.Accepts.{Accepts}
 use Rattle.ckrt_main.specs.Told.{AcksAreDurable, LinesAgree}
 use Rattle.ckrt_main.specs.Alike.{IsAlike}
-use Rattle.ckrt_commands.proofs.AcceptLemmas.{between_more, since_start, take_begins}
-use Rattle.ckrt_commands.proofs.ReplyLemmas.{all_weaker, begins_itself}
-
-fewer_taken : (n m : ℕ) (xs : List Event) → n ≤ m → IsBeginningOf (take n xs) (take m xs)
-fewer_taken n m xs le = subst (λ (l : List Event). IsBeginningOf l (take m xs)) (take-take n m xs le) (take_begins n (take m xs))
+use Rattle.ckrt_commands.proofs.AcceptLemmas.{between_more, since_start}
+use Rattle.ckrt_recovery.proofs.ListLemmas.{begins_itself, fewer_begin}
+use Rattle.ckrt_commands.proofs.ReplyLemmas.{all_weaker}
 
 module _ {D : Type 0} {g : Ghosts D} where
   pub acks_durable : (law : (disk : D) (image : List ℕ) → g.is_honest disk → g.left_since disk (g.moment disk) image → IsImage (g.content disk) (g.pending disk) image)
@@ -29,7 +27,7 @@ module _ {D : Type 0} {g : Ghosts D} where
       let here = service.accepts.represents (accepts.honest honest) p events reps in
       let between = since_start law more after later accepts honest p (events ++ service.accepted) here image left in
       all_weaker (λ k. k ≤ after.acknowledged) (λ k. RecoversBetween p (take k (events ++ service.accepted)) ((events ++ service.accepted) ++ more) later.progress.confirmed image)
-      (λ k le. between_more p (acknowledged_of all after) (take k all) (all ++ more) (all ++ more) later.progress.confirmed later.progress.confirmed image (fewer_taken k after.acknowledged all le) (begins_itself (all ++ more)) (omega arith) between)
+      (λ k le. between_more p (acknowledged_of all after) (take k all) (all ++ more) (all ++ more) later.progress.confirmed later.progress.confirmed image (fewer_begin k after.acknowledged all le) (begins_itself (all ++ more)) (omega arith) between)
       (acks_of (service.shows.replies ++ service.shows.broken)) service.acks
 
 -- sessions that represent the same events, over whatever disks

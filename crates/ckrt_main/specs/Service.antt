@@ -8,8 +8,9 @@ use Rattle.ckrt_events.specs.declared.event.Event.{Event}
 use Rattle.ckrt_main.specs.declared.fault.ServeFault.{ServeFault}
 use Rattle.ckrt_main.specs.declared.fault.ServeFault.TheVariants.{Read, Write, OutOfMemory, Format}
 use Rattle.ckrt_recovery.specs.declared.session.Session.{Session}
-use Rattle.ckrt_image.specs.Programs.{Program}
-use Rattle.ckrt_recovery.specs.Between.{IsBeginningOf, RecoversBetween}
+use Rattle.ckrt_stored.specs.Programs.{Program}
+use Rattle.ckrt_recovery.specs.Between.{RecoversBetween}
+use Rattle.ckrt_recovery.specs.Lists.{IsBeginningOf}
 use Rattle.ckrt_commands.specs.Accepts.{Accepts, AreOutput}
 use Rattle.ckrt_commands.specs.Pieces.{Tells, Responds, Interrupted}
 use Rattle.ckrt_commands.specs.Replies.{Reply, line_of, text_of, oks_of, acks_of, shown_up_to}
@@ -117,12 +118,12 @@ abbrev pub rest_of : {D : Type 0} {g : Ghosts D} → Bool → Session D g → Li
     → Transcript
 rest_of quit s line more f = unless_quit quit f (view_of s) (respond_all (lines (line ++ more)))
 
--- what these bytes get behind a line's first bytes, and then others
+-- what these bytes get after a line's first bytes, and then others
 abbrev pub lines_behind : {D : Type 0} {g : Ghosts D} → Session D g → (line bytes : List ℕ) → List ℕ
     → Fate → Transcript
 lines_behind s line bytes more f = respond_all (lines (line ++ (bytes ++ more))) f (view_of s)
 
--- bytes of input, behind a line's first bytes, whatever bytes follow
+-- bytes of input, after a line's first bytes, whatever bytes follow
 abbrev pub Processed : {D : Type 0} {g : Ghosts D} → Option (List ℕ) → Option (List ℕ)
     → (line bytes : List ℕ) → Session D g → Session D g → List ℕ → Bool → Type 0
 Processed a b line bytes old new rest quit =

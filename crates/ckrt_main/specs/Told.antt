@@ -3,7 +3,7 @@ use Rattle.std.specs.Prelude.{◌≡◌, ◌<◌, ◌+◌, ℕ, List, ◌++◌, 
 use Rattle.std.specs.List.{AllByRecursion}
 use Rattle.ckrt_disk.specs.declared.disk.Disk.{Ghosts}
 use Rattle.ckrt_events.specs.declared.event.Event.{Event}
-use Rattle.ckrt_image.specs.Programs.{Program}
+use Rattle.ckrt_stored.specs.Programs.{Program}
 use Rattle.ckrt_recovery.specs.declared.session.Session.{Session}
 use Rattle.ckrt_recovery.specs.Between.{RecoversBetween, StandsIn}
 use Rattle.ckrt_commands.specs.Replies.{acks_of}
@@ -31,7 +31,7 @@ OutsAreOutput {D} {g} before after =
     → (p : Program) (events : List Event) → Represents p events before
     → AreOutput p (events ++ service.accepted) after (service.shows.replies ++ service.shows.broken)
 
--- where one output goes on behind another, two lines of them have the same byte at the same offset
+-- where one output goes on after another, two lines of them have the same byte at the same offset
 abbrev pub LinesAgree : List ℕ → List ℕ → Type 0
 LinesAgree out more =
     (x y : ℕ × List ℕ) → StandsIn out x → StandsIn (out ++ more) y → (i j : ℕ) → i < length x.1 → j < length y.1 → x.0 + i ≡ y.0 + j → get_or x.1 i 0 ≡ get_or y.1 j 0

@@ -1,3 +1,4 @@
+//! The faults of a service.
 ghost use Rattle.std.specs.Prelude.{◌≡◌};
 
 use ckrt_commands::WriteFault;

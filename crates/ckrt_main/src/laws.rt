@@ -1,7 +1,7 @@
 //! Laws of transcripts and of services. Each is the contract of a function with an empty body.
 ghost use Rattle.std.specs.Prelude.{◌≡◌, ◌+◌, ◌++◌, ℕ, List, length};
 ghost use Rattle.ckrt_events.specs.declared.event.Event.{Event};
-ghost use Rattle.ckrt_image.specs.Programs.{Program};
+ghost use Rattle.ckrt_stored.specs.Programs.{Program};
 ghost use Rattle.ckrt_machine.specs.Events.{fold, output_of};
 ghost use Rattle.ckrt_machine.specs.Steps.{State};
 ghost use Rattle.ckrt_recovery.specs.Represents.{Represents};
@@ -27,7 +27,7 @@ pub fn transcript_folds_events()
 /// What a reader of the lines is told is durable: for each `ack K` that a service wrote, and whatever it answered, every image
 /// that a stop leaves after the service has ended recovers to a list with the first K events; and each line of output is the
 /// plain fold's output of acknowledged events, at its offset. A stop within the service is a disk that fails each call from
-/// there on, behind which the service ends.
+/// there on, after which the service ends.
 pub fn told_is_durable<D: Disk>(before: &Session<D>, after: &Session<D>, later: &Session<D>)
     ensures acks { AcksAreDurable before.now after.now later.now }
     ensures outs { OutsAreOutput before.now after.now }
@@ -48,7 +48,7 @@ pub fn same_events_are_alike<D: Disk, E: Disk>(one: &Session<D>, other: &Session
         → Represents p events other.now → IsAlike (view_of one.now) (view_of other.now) }
 {}
 
-/// The output of more events goes on behind that of the first, so that lines of both have the same byte at the same offset.
+/// The output of more events goes on after that of the first, so that lines of both have the same byte at the same offset.
 pub fn output_goes_on()
     ensures output { (events more : List Event) (s : State)
         → output_of (events ++ more) s

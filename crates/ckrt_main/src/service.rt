@@ -205,7 +205,7 @@ fn serve_lines<R: Read, W: Write, D: Disk>(
 
 /// Writes the committed output that isn't confirmed, and then answers the lines of a reader, up to its end or a line `quit`.
 ///
-/// Each line gets its reply before more lines are waited for, and what a commit releases is written behind its `ack` and then
+/// Each line gets its reply before more lines are waited for, and what a commit releases is written after its `ack` and then
 /// confirmed. Nothing is committed but by a line `commit`. After a commit that the disk failed the lines go on: events
 /// and commits are then refused as `21 Failed`. Where the writer fails nothing more is confirmed.
 pub fn serve<R: Read, W: Write, D: Disk>(

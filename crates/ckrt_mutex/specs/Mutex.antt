@@ -22,10 +22,14 @@ is_errorcheck Normal = false
 is_errorcheck Recursive = false
 is_errorcheck ErrorCheck = true
 
--- How often its owner can lock a mutex. POSIX leaves the bound of a recursive one open; it is this project's choice.
+-- how often its owner can lock a recursive mutex: POSIX leaves it open, so this is this project's choice
+abbrev pub MAX_RECURSIVE_COUNT : ℕ
+MAX_RECURSIVE_COUNT = 65535
+
+-- how often its owner can lock a mutex
 abbrev pub max_count : Kind → ℕ
 max_count Normal = 1
-max_count Recursive = 65535
+max_count Recursive = MAX_RECURSIVE_COUNT
 max_count ErrorCheck = 1
 
 abbrev pub free : Kind → Mutex

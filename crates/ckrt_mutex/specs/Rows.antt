@@ -16,7 +16,7 @@ use Rattle.ckrt_mutex.specs.declared.records.Kind.TheVariants.{Normal, Recursive
 use Rattle.ckrt_mutex.specs.declared.records.Mutex.{Mutex}
 use Rattle.ckrt_thread.specs.Errors.{EPERM, EAGAIN, EBUSY, EINVAL, EDEADLK, ETIMEDOUT}
 use Rattle.ckrt_objects.specs.InUse as in_use
-use Rattle.ckrt_mutex.specs.Mutex.{free, owned, is_owned, is_owner, is_available, is_normal, is_errorcheck, mutex_at, put}
+use Rattle.ckrt_mutex.specs.Mutex.{free, owned, is_owned, is_owner, is_available, is_normal, is_errorcheck, mutex_at, put, MAX_RECURSIVE_COUNT}
 
 -- what a call answers and leaves
 pub record After : Type 0 where
@@ -87,7 +87,7 @@ destroy_row a s ms =
 -- An available mutex is locked once more: a free one, which is locked 0 times, for the first time.
 abbrev pub taken : Mutex → ℕ → ℕ → State → List (Entry Mutex) → After
 taken m t a s ms =
-    if nat_le 65535 m.count || is_full a s ms then unchanged (Done EAGAIN) s ms
+    if nat_le MAX_RECURSIVE_COUNT m.count || is_full a s ms then unchanged (Done EAGAIN) s ms
     else (record { result = Done 0; threads = s; mutexes = put a (owned m.kind t (m.count + 1)) ms })
 
 -- An error-checking mutex finds the deadlock of an owner that locks it again; a normal one has it. `wait` is what comes

@@ -7,7 +7,7 @@ use Rattle.ckrt_thread.specs.declared.records.Reason.TheVariants as reason
 use Rattle.ckrt_thread.specs.State.{State}
 use Rattle.ckrt_objects.specs.declared.address_map.Entry.{Entry}
 use Rattle.ckrt_mutex.specs.declared.records.Mutex.{Mutex}
-use Rattle.ckrt_mutex.specs.Mutex.{is_owned, is_owner, is_normal, is_recursive, mutex_at, IsTable}
+use Rattle.ckrt_mutex.specs.Mutex.{is_owned, is_owner, is_normal, is_recursive, mutex_at, IsTable, MAX_RECURSIVE_COUNT}
 use Rattle.ckrt_mutex.specs.Rows.{named, used_count}
 
 abbrev pub is_lock : Reason → Bool
@@ -38,7 +38,7 @@ retakes_of_another m w = if is_retake w.reason then not (is_owner w.thread m) el
 
 -- A thread owns a mutex that it will retake only if the mutex is recursive, and can be locked once more.
 abbrev pub can_retake : ℕ → Mutex → Bool
-can_retake t m = if is_owner t m then is_recursive m.kind && nat_lt m.count 65535 else true
+can_retake t m = if is_owner t m then is_recursive m.kind && nat_lt m.count MAX_RECURSIVE_COUNT else true
 
 -- A condition waiter can retake its mutex.
 abbrev pub can_wake : Mutex → Wait → Bool

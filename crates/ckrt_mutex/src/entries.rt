@@ -77,7 +77,7 @@ pub fn kept_count(entries: &[Entry<Mutex>]) -> usize
         .count()
 }
 
-/// Appends an entry behind those of mutexes that aren't free and normal, where a table goes on so, and says whether it
+/// Appends an entry after those of mutexes that aren't free and normal, where a table goes on so, and says whether it
 /// did. The entries of free normal mutexes go where they are in the way.
 pub fn append_entry(entries: &mut ArrayVec<Entry<Mutex>, 256>, entry: Entry<Mutex>) -> bool
     requires entries { AreEntries entries.old.items }

@@ -12,14 +12,14 @@ ghost use Rattle.ckrt_mutex.specs.WellFormed.{IsWellFormedWith, can_retake, may_
 ghost use Rattle.ckrt_mutex.specs.declared.records.Kind.TheVariants.{Normal};
 
 use crate::entries::{append_entry, kept_count, kept_of, mutex_of, put_entry};
-use crate::records::{Kind, Mutex};
+use crate::records::{Kind, MAX_RECURSIVE_COUNT, Mutex};
 use arrayvec::ArrayVec;
 use ckrt_objects::{
     Entry, Named, Places, are_limit_in_use, are_too_few, is_full, is_named_by_wait, remove,
 };
 use ckrt_thread::{
     CallResult, EAGAIN, EBUSY, EDEADLK, EINVAL, EPERM, ETIMEDOUT, MOMENT_END, Object, Reason,
-    RetakeResult, Threads, Wait,
+    RetakeResult, ThreadId, Threads, Wait,
 };
 use std::marker::Model;
 
@@ -118,7 +118,7 @@ impl Mutexes {
         self.rows()[place]
     }
 
-    /// A mutex goes behind the others, where a table may have it: its address is above theirs, it isn't free and normal,
+    /// A mutex goes after the others, where a table may have it: its address is above theirs, it isn't free and normal,
     /// its count is one that its kind and its owner allow, and there are fewer than 256. Says whether it did; else nothing
     /// changes.
     pub fn append(&mut self, entry: Entry<Mutex>) -> bool
@@ -261,7 +261,13 @@ impl Mutexes {
     }
 
     /// A mutex that is available to the thread is locked once more.
-    fn take(&mut self, threads: &Threads, mutex: Mutex, thread: u8, address: u32) -> CallResult
+    fn take(
+        &mut self,
+        threads: &Threads,
+        mutex: Mutex,
+        thread: ThreadId,
+        address: u32,
+    ) -> CallResult
         requires id { (0 < thread) × (thread ≤ 64) }
         requires few { used_count threads.now self.old ≤ 256 }
         requires mutex { mutex ≡ mutex_at address self.old }
@@ -270,7 +276,7 @@ impl Mutexes {
         ensures result { result ≡ (taken mutex thread address threads.now self.old).result }
         ensures mutexes { self.new ≡ (taken mutex thread address threads.now self.old).mutexes }
     {
-        if mutex.count >= 65535 || self.has_no_room(threads, mutex, address) {
+        if mutex.count >= MAX_RECURSIVE_COUNT || self.has_no_room(threads, mutex, address) {
             return CallResult::Done(EAGAIN);
         }
         self.known();
@@ -281,7 +287,7 @@ impl Mutexes {
     /// Locks a mutex, or waits for it (POSIX.1-2017, pthread_mutex_lock). EAGAIN where it is free and 256 others are
     /// in use, or where it is recursive and the thread has locked it 65,535 times; EDEADLK where it is error-checking
     /// and the thread's own; else 0, now or when the wait ends.
-    pub fn lock(&mut self, threads: &mut Threads, thread: u8, address: u32) -> CallResult
+    pub fn lock(&mut self, threads: &mut Threads, thread: ThreadId, address: u32) -> CallResult
         requires live { is_live threads.old thread ≡ true }
         requires free { is_waiting threads.old thread ≡ false }
         requires well_formed { IsWellFormedWith threads.old self.old }
@@ -295,7 +301,7 @@ impl Mutexes {
     }
 
     /// The row of `lock`.
-    fn take_or_wait(&mut self, threads: &mut Threads, thread: u8, address: u32) -> CallResult
+    fn take_or_wait(&mut self, threads: &mut Threads, thread: ThreadId, address: u32) -> CallResult
         requires live { is_live threads.old thread ≡ true }
         requires free { is_waiting threads.old thread ≡ false }
         requires few { used_count threads.old self.old ≤ 256 }
@@ -321,7 +327,7 @@ impl Mutexes {
     pub fn timedlock(
         &mut self,
         threads: &mut Threads,
-        thread: u8,
+        thread: ThreadId,
         address: u32,
         moment: u64,
         clock: u64,
@@ -345,7 +351,7 @@ impl Mutexes {
     fn take_or_wait_until(
         &mut self,
         threads: &mut Threads,
-        thread: u8,
+        thread: ThreadId,
         address: u32,
         moment: u64,
         clock: u64,
@@ -380,7 +386,7 @@ impl Mutexes {
 
     /// Locks a mutex where that needs no wait (POSIX.1-2017, pthread_mutex_trylock). EAGAIN as `lock`; EBUSY where it
     /// is owned, unless it is recursive and the thread's own; else 0.
-    pub fn trylock(&mut self, threads: &Threads, thread: u8, address: u32) -> CallResult
+    pub fn trylock(&mut self, threads: &Threads, thread: ThreadId, address: u32) -> CallResult
         requires live { is_live threads.now thread ≡ true }
         requires free { is_waiting threads.now thread ≡ false }
         requires well_formed { IsWellFormedWith threads.now self.old }
@@ -394,7 +400,7 @@ impl Mutexes {
     }
 
     /// The row of `trylock`.
-    fn take_or_refuse(&mut self, threads: &Threads, thread: u8, address: u32) -> CallResult
+    fn take_or_refuse(&mut self, threads: &Threads, thread: ThreadId, address: u32) -> CallResult
         requires live { is_live threads.now thread ≡ true }
         requires few { used_count threads.now self.old ≤ 256 }
         ensures result { result ≡ (trylock_row thread address threads.now self.old).result }
@@ -412,7 +418,7 @@ impl Mutexes {
     /// Unlocks a mutex once (POSIX.1-2017, pthread_mutex_unlock). EPERM where it is not the thread's own; else 0. One
     /// that the thread has locked no more often goes at once to the thread that waits longest for it, whose wait ends; if
     /// that thread was cancelled it goes to its next handler.
-    pub fn unlock(&mut self, threads: &mut Threads, thread: u8, address: u32) -> CallResult
+    pub fn unlock(&mut self, threads: &mut Threads, thread: ThreadId, address: u32) -> CallResult
         requires live { is_live threads.old thread ≡ true }
         requires well_formed { IsWellFormedWith threads.old self.old }
         ensures well_formed { IsWellFormedWith threads.new self.new }
@@ -425,7 +431,7 @@ impl Mutexes {
     }
 
     /// The row of `unlock`.
-    fn give_up(&mut self, threads: &mut Threads, thread: u8, address: u32) -> CallResult
+    fn give_up(&mut self, threads: &mut Threads, thread: ThreadId, address: u32) -> CallResult
         requires live { is_live threads.old thread ≡ true }
         ensures result { result ≡ (unlock_row thread address threads.old self.old).result }
         ensures threads { threads.new ≡ (unlock_row thread address threads.old self.old).threads }
@@ -466,7 +472,7 @@ impl Mutexes {
     pub fn retake(
         &mut self,
         threads: &mut Threads,
-        thread: u8,
+        thread: ThreadId,
         address: u32,
         outcome: RetakeResult,
     ) -> CallResult
@@ -491,7 +497,7 @@ impl Mutexes {
     fn take_again(
         &mut self,
         threads: &mut Threads,
-        thread: u8,
+        thread: ThreadId,
         address: u32,
         outcome: RetakeResult,
     ) -> CallResult

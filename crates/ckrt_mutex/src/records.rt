@@ -5,7 +5,7 @@ ghost use Rattle.ckrt_mutex.specs.Rows.{kind_of};
 ghost use Rattle.ckrt_mutex.specs.WellFormed.{can_retake, may_wait_at};
 
 use ckrt_objects::Named;
-use ckrt_thread::{Reason, Wait};
+use ckrt_thread::{Reason, ThreadId, Wait};
 
 /// How often the owner of a recursive mutex can lock it.
 pub const MAX_RECURSIVE_COUNT: u32 = 65535;
@@ -27,7 +27,7 @@ pub enum Kind {
 pub struct Mutex {
     pub kind: Kind,
     /// The thread that owns it, 1 to 64.
-    pub owner: Option<u8>,
+    pub owner: Option<ThreadId>,
     /// How often its owner has locked it: 0 if it is free, at most 65,535 if it is recursive, else 1.
     pub count: u32,
 }
@@ -69,7 +69,7 @@ impl Mutex {
     }
 
     /// A mutex that a thread has locked so often.
-    pub fn owned(kind: Kind, thread: u8, count: u32) -> Self
+    pub fn owned(kind: Kind, thread: ThreadId, count: u32) -> Self
         ensures { result ≡ owned kind thread count }
     {
         Mutex {
@@ -87,7 +87,7 @@ impl Mutex {
     }
 
     /// Whether this thread owns the mutex.
-    pub fn is_owned_by(&self, thread: u8) -> bool
+    pub fn is_owned_by(&self, thread: ThreadId) -> bool
         ensures { result ≡ is_owner thread self.now }
     {
         match self.owner {
@@ -97,14 +97,14 @@ impl Mutex {
     }
 
     /// Whether this thread can have the mutex at once: it is free, or recursive and the thread's own.
-    pub fn is_available_to(&self, thread: u8) -> bool
+    pub fn is_available_to(&self, thread: ThreadId) -> bool
         ensures { result ≡ is_available thread self.now }
     {
         self.owner.is_none() || (self.is_owned_by(thread) && matches!(self.kind, Kind::Recursive))
     }
 
     /// Whether this thread owns the mutex, and is told so where it locks it again.
-    pub fn finds_deadlock_of(&self, thread: u8) -> bool
+    pub fn finds_deadlock_of(&self, thread: ThreadId) -> bool
         ensures { result ≡ (is_owner thread self.now && is_errorcheck self.now.kind) }
     {
         self.is_owned_by(thread) && matches!(self.kind, Kind::ErrorCheck)
@@ -131,7 +131,7 @@ impl Mutex {
     }
 
     /// Whether this thread, where it owns the mutex, can lock it once more.
-    fn can_be_retaken_by(&self, thread: u8) -> bool
+    fn can_be_retaken_by(&self, thread: ThreadId) -> bool
         ensures { result ≡ can_retake thread self.now }
     {
         !self.is_owned_by(thread)

@@ -11,13 +11,13 @@ pub trait Grant {
     /// What always holds of it.
     ghost IsProper: { Self → Type 0 };
 
-    /// Whether the first who waits for it can have it.
+    /// Whether the first thread that waits for it can have it.
     ghost is_admissible: { Self → Wait → Bool };
 
     /// What it is when who waits has been granted it.
     ghost granted: { Self → Wait → Self };
 
-    /// Whether the first who waits for it can have it.
+    /// Whether the first thread that waits for it can have it.
     fn admits(&self, wait: &Wait) -> bool
         ensures { result ≡ is_admissible self.now wait.now };
 
@@ -30,7 +30,7 @@ pub trait Grant {
         ensures proper { IsProper self.new };
 }
 
-/// Grants an object to its waiters: while the first who waits for it is admissible, that wait ends, and its thread gets
+/// Grants an object to its waiters: while the first thread that waits for it is admissible, that wait ends, and its thread gets
 /// the wait's result in x10, or goes to its next handler where it was cancelled.
 #[tactic(auto, using(crate::proofs::Granting::none_up_to, crate::proofs::Granting::stop_up_to, crate::proofs::Granting::step_up_to))]
 pub fn grant_waiters<T: Grant>(threads: &mut Threads, object: Object, value: &mut T)

@@ -100,7 +100,7 @@ fn new_at<T: Named + Copy>(waits: &[Wait], entries: &[Entry<T>], place: usize) -
     }
 }
 
-/// Whether so many objects are in use. Once the waits that are left are too few for that, it looks at none of them.
+/// Whether that many objects are in use. Once the waits that are left are too few for that, it looks at none of them.
 #[tactic(auto, using(crate::proofs::InUse::count_at, crate::proofs::InUse::count_done))]
 fn are_limit_named<T: Named + Copy>(waits: &[Wait], entries: &[Entry<T>], limit: usize) -> bool
     requires rising { is_rising entries.now ≡ true }
@@ -119,7 +119,7 @@ fn are_limit_named<T: Named + Copy>(waits: &[Wait], entries: &[Entry<T>], limit:
     limit <= count
 }
 
-/// Whether there are too few entries, and objects that the waits may name, for so many objects to be in use. It looks at
+/// Whether there are too few entries, and objects that the waits may name, for that many objects to be in use. It looks at
 /// no wait.
 #[tactic(auto, using(crate::proofs::InUse::count_named))]
 pub fn are_too_few<T: Named + Copy>(threads: &Threads, entries: &[Entry<T>], limit: usize) -> bool
@@ -131,7 +131,7 @@ pub fn are_too_few<T: Named + Copy>(threads: &Threads, entries: &[Entry<T>], lim
     entries.len() + threads.wait_count() < limit || entries.len() + threads.named_at_most() < limit
 }
 
-/// Whether so many objects are in use. Where entries and waits can't make up so many, it looks at none of them.
+/// Whether that many objects are in use. Where entries and waits can't make up that many, it looks at none of them.
 pub fn are_limit_in_use<T: Named + Copy>(
     threads: &Threads,
     entries: &[Entry<T>],
@@ -148,7 +148,7 @@ pub fn are_limit_in_use<T: Named + Copy>(
     are_limit_named(threads.waits().as_slice(), entries, limit)
 }
 
-/// Whether the object at an address is not in use, and so many others are.
+/// Whether the object at an address is not in use, and that many others are.
 pub fn is_full<T: Named + Copy>(
     threads: &Threads,
     entries: &[Entry<T>],

@@ -1,9 +1,9 @@
 -- Which file a fault is of, what is wrong in plain words, and what to do about it.
 use Rattle.std.specs.Prelude.{if◌then◌else◌, ℕ, nat_lt, List, codes, Option, Some, None}
-use Rattle.ckrt_image.specs.declared.fault.FormatFault.{FormatFault}
-use Rattle.ckrt_image.specs.declared.fault.FormatFault.TheVariants as format
-use Rattle.ckrt_image.specs.declared.fault.RecoverFault.{RecoverFault}
-use Rattle.ckrt_image.specs.declared.fault.RecoverFault.TheVariants as recover
+use Rattle.ckrt_stored.specs.declared.fault.FormatFault.{FormatFault}
+use Rattle.ckrt_stored.specs.declared.fault.FormatFault.TheVariants as format
+use Rattle.ckrt_stored.specs.declared.fault.RecoverFault.{RecoverFault}
+use Rattle.ckrt_stored.specs.declared.fault.RecoverFault.TheVariants as recover
 use Rattle.ckrt_drive.specs.declared.fault.DriveFault.{DriveFault}
 use Rattle.ckrt_drive.specs.declared.fault.DriveFault.TheVariants as drive
 use Rattle.ckrt_main.specs.declared.fault.ServeFault.{ServeFault}

@@ -3,10 +3,10 @@ use Rattle.std.specs.Prelude.{ℕ, List, codes}
 use Rattle.ckrt_outcomes.specs.declared.fault.JobFault.{JobFault}
 use Rattle.ckrt_outcomes.specs.declared.fault.JobFault.TheVariants as job
 use Rattle.ckrt_sources.specs.declared.file.FileFault.TheVariants as fault
-use Rattle.ckrt_image.specs.declared.fault.FormatFault.{FormatFault}
-use Rattle.ckrt_image.specs.declared.fault.FormatFault.TheVariants as format
-use Rattle.ckrt_image.specs.declared.fault.RecoverFault.{RecoverFault}
-use Rattle.ckrt_image.specs.declared.fault.RecoverFault.TheVariants as recover
+use Rattle.ckrt_stored.specs.declared.fault.FormatFault.{FormatFault}
+use Rattle.ckrt_stored.specs.declared.fault.FormatFault.TheVariants as format
+use Rattle.ckrt_stored.specs.declared.fault.RecoverFault.{RecoverFault}
+use Rattle.ckrt_stored.specs.declared.fault.RecoverFault.TheVariants as recover
 use Rattle.ckrt_inspect.specs.declared.fault.InspectFault.{InspectFault}
 use Rattle.ckrt_inspect.specs.declared.fault.InspectFault.TheVariants as look
 use Rattle.ckrt_drive.specs.declared.fault.DriveFault.{DriveFault}

@@ -101,7 +101,7 @@ fn time_recorded(rt: &HostRuntime, session: &mut Session<RealDisk>) -> Result<()
     Ok(())
 }
 
-/// Makes `count` checkpoints of what a disk recovers to, each with its record behind a commit of one event. The disk is one of
+/// Makes `count` checkpoints of what a disk recovers to, each with its record after a commit of one event. The disk is one of
 /// `stores-4`.
 pub fn time_recorded_checkpoints(rt: &HostRuntime, path: &str, count: u32) -> Result<()> {
     let (mut session, _) = recovered(rt, path)?;

@@ -5,7 +5,7 @@
 
 use ckrt_disk::{Disk, MemoryDisk};
 use ckrt_recovery::{Config, FormatFault, RecoverFault, format, recover};
-use ckrt_tables::{VERSION, decode_tables};
+use ckrt_tables::{AREA_VERSION, decode_tables};
 use std::alloc::{AllocError, Global};
 
 /// A guest of one word that is no instruction.
@@ -51,7 +51,7 @@ fn report_unformatted(disk: MemoryDisk, fault: FormatFault) -> &'static str {
     }
 }
 
-/// What to say of a recovery behind one that was refused memory: there may be none for it either.
+/// What to say of a recovery after one that was refused memory: there may be none for it either.
 fn report_second_recovery(alloc: Global, disk: MemoryDisk) -> &'static str {
     match recovery_refusal(alloc, disk) {
         None => "recovery: OutOfMemory",
@@ -99,7 +99,7 @@ fn fresh_tables() -> [u8; 176] {
 
 /// What decoding saved tables met.
 pub fn report_tables(alloc: Global) -> &'static str {
-    match decode_tables(alloc, VERSION, &fresh_tables(), 1) {
+    match decode_tables(alloc, AREA_VERSION, &fresh_tables(), 1) {
         Ok(Some(_)) => "decoded",
         Ok(None) => "decoding met something else",
         Err(_) => "decoding: OutOfMemory",

@@ -5,7 +5,7 @@ use arrayvec::ArrayVec;
 use ckrt_disk::{Disk, FileDisk, MemoryDisk, SystemFile};
 use ckrt_events::{BATCH_LIMIT, Event, decode_events, encode_event};
 use ckrt_journal::{Journal, JournalFault};
-use ckrt_tables::VERSION;
+use ckrt_tables::AREA_VERSION;
 use std::marker::Brand;
 use std::time::Instant;
 
@@ -64,11 +64,11 @@ fn time_append<D: Disk>(
     Ok(())
 }
 
-/// Appends `count` batches of at most so many bytes to a journal that is the whole file.
+/// Appends `count` batches of at most that many bytes to a journal that is the whole file.
 pub fn time_appends(rt: &HostRuntime, path: &str, bytes: usize, count: u32) -> Result<()> {
     let batch = batch_of(bytes);
     let mut disk = FileDisk::<SystemFile<Brand>>::open(rt, path)?;
-    let mut journal = Journal::start(0, disk.size(), VERSION);
+    let mut journal = Journal::start(0, disk.size(), AREA_VERSION);
     for _ in 0..count {
         time_append(rt, &mut journal, &mut disk, &batch)?;
     }
@@ -79,7 +79,7 @@ pub fn time_appends(rt: &HostRuntime, path: &str, bytes: usize, count: u32) -> R
 fn full_journal(rt: &HostRuntime) -> Result<MemoryDisk> {
     let bytes = vec![in rt.alloc(); 0u8; JOURNAL_SIZE]?;
     let mut disk = MemoryDisk::new(rt.alloc(), bytes)?;
-    let mut journal = Journal::start(0, JOURNAL_SIZE, VERSION);
+    let mut journal = Journal::start(0, JOURNAL_SIZE, AREA_VERSION);
     let batch = batch_of(BATCH_LIMIT);
     for _ in 0..JOURNAL_SIZE {
         if append(rt, &mut journal, &mut disk, &batch)?.is_none() {
@@ -96,7 +96,7 @@ fn full_journal(rt: &HostRuntime) -> Result<MemoryDisk> {
 /// The bytes of the journal's events.
 fn read(rt: &HostRuntime, disk: &mut MemoryDisk) -> Result<Vec<u8>> {
     ensure!(disk.size() == JOURNAL_SIZE, "no journal");
-    match Journal::start(0, JOURNAL_SIZE, VERSION).read_chain(rt.alloc(), disk) {
+    match Journal::start(0, JOURNAL_SIZE, AREA_VERSION).read_chain(rt.alloc(), disk) {
         Ok(events) => Ok(events),
         Err(JournalFault::Damaged) => bail!("the journal is damaged"),
         Err(_) => bail!("the journal isn't read"),
@@ -106,7 +106,7 @@ fn read(rt: &HostRuntime, disk: &mut MemoryDisk) -> Result<Vec<u8>> {
 /// How many events the bytes encode, and a sum over them.
 fn count_events(bytes: &[u8]) -> Result<(u64, u64)> {
     let (mut count, mut sum) = (0u64, 0u64);
-    for event in decode_events(VERSION, bytes).context("no events")? {
+    for event in decode_events(AREA_VERSION, bytes).context("no events")? {
         count = count.wrapping_add(1);
         sum = sum.wrapping_add(match event {
             Event::Place(_, thread) => u64::from(thread),

@@ -10,7 +10,7 @@
 //! - `ckrt_probe checkpoint FILE COUNT` recovers a disk and makes checkpoints.
 //! - `ckrt_probe changed FILE COUNT` makes checkpoints of a disk of the guest `stores-4`, with four changed pages each.
 //! - `ckrt_probe unchanged FILE COUNT` makes checkpoints with no changed page.
-//! - `ckrt_probe recorded FILE COUNT` and `recorded-changed FILE COUNT` make checkpoints as a drive with an input does: each behind a
+//! - `ckrt_probe recorded FILE COUNT` and `recorded-changed FILE COUNT` make checkpoints as a drive with an input does: each after a
 //!   commit, and with its record; of all pages of `stores-4`, and as `changed` does.
 //! - `ckrt_probe hunt SEEDS IMAGE` hunts a guest, and says which kinds of outcomes its seeds came to.
 //! - `ckrt_probe grow` formats a disk and recovers it, and says which growth of memory was refused, if one was.
@@ -46,7 +46,7 @@ fn number(word: &str) -> Result<u32> {
     word.parse::<u32>().context(USAGE)
 }
 
-/// Each job answers the words behind its own.
+/// Each job answers the words after its own.
 type Rest<'a> = Result<&'a [String]>;
 
 fn run_guest<'a>(rt: &HostRuntime, words: &'a [String]) -> Rest<'a> {

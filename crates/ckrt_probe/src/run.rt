@@ -22,7 +22,7 @@ pub struct Shape {
     ghost few_harts: { (1 ≤ harts) × (harts ≤ 8) },
 }
 
-/// A Run has at most so many steps.
+/// A Run has at most that many steps.
 pub fn shape_of(pages: u32, harts: u32, steps: u32) -> Result<Shape> {
     ensure!(16 <= pages && pages <= 1024, "PAGES from 16 to 1024");
     ensure!(1 <= harts && harts <= 8, "HARTS from 1 to 8");

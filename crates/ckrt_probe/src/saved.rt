@@ -2,7 +2,7 @@
 
 use anyhow::{Context, Result, ensure};
 use ckrt_state::Tables;
-use ckrt_tables::{HELD_LIMIT, Held, TABLES_ROOM, VERSION, decode_tables, encode_tables};
+use ckrt_tables::{AREA_VERSION, HELD_LIMIT, Held, TABLES_ROOM, decode_tables, encode_tables};
 use std::fs;
 use std::time::Instant;
 
@@ -10,7 +10,7 @@ use std::time::Instant;
 fn decode(rt: &HostRuntime, bytes: &[u8], harts: usize) -> Result<((Tables, Held), u128)> {
     ensure!(harts <= 8, "HARTS from 1 to 8");
     let start = Instant::now(rt)?;
-    let decoded = decode_tables(rt.alloc(), VERSION, bytes, harts)?;
+    let decoded = decode_tables(rt.alloc(), AREA_VERSION, bytes, harts)?;
     let nanoseconds = start.elapsed(rt)?.as_nanos();
     Ok((decoded.context("no saved tables")?, nanoseconds))
 }
@@ -40,7 +40,7 @@ fn time_both(rt: &HostRuntime, bytes: &[u8], harts: usize, room: &mut [u8]) -> R
     Ok(())
 }
 
-/// Does so `count` times with the saved tables of a file, in version 2, those of a program with so many harts.
+/// Does so `count` times with the saved tables of a file, in version 2, those of a program with that many harts.
 pub fn time_tables(rt: &HostRuntime, path: &str, harts: usize, count: u32) -> Result<()> {
     let bytes = fs::read(rt, path)?;
     let mut room = vec![in rt.alloc(); 0u8; TABLES_ROOM]?;

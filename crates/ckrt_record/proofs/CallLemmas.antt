@@ -10,7 +10,7 @@ use Rattle.ckrt_disk.proofs.Moments.{started, weaker}
 use Rattle.ckrt_events.specs.declared.event.Event.{Event}
 use Rattle.ckrt_events.specs.Bytes.{events_in}
 use Rattle.ckrt_events.proofs.EventLemmas.{events_of-encodings}
-use Rattle.ckrt_image.specs.Programs.{Program}
+use Rattle.ckrt_stored.specs.Programs.{Program}
 use Rattle.ckrt_recovery.specs.Calls.{Checkpoints, Saves, WritesOtherArea, WritesSpare, checkpoint_refusal}
 use Rattle.ckrt_recovery.specs.Represents.{RecoversAtAnyMoment, RecoversToEither, Represents, RepresentsSame, acknowledged_of}
 use Rattle.ckrt_recovery.specs.View.{View, view_of}

@@ -16,16 +16,16 @@ use Rattle.ckrt_checkpoint.specs.declared.area.Area.{Area}
 use Rattle.ckrt_checkpoint.specs.declared.config.Config.{Config}
 use Rattle.ckrt_checkpoint.specs.declared.header.Header.{Header}
 use Rattle.ckrt_checkpoint.specs.Layout.{area_at, area_size, header_in, header_of, journal_at, journal_of, size_needed}
-use Rattle.ckrt_image.specs.declared.fault.RecoverFault.{RecoverFault}
-use Rattle.ckrt_image.specs.Programs.{Program, RecoversTo, formatted}
-use Rattle.ckrt_image.specs.Recovery.{◌>>=◌, Recovered, Recovers, events_of_batches, in_use}
-use Rattle.ckrt_image.proofs.AreaLemmas.{IsInUse, is_in_use}
-use Rattle.ckrt_image.proofs.RecoverLemmas.{IsKnown, found, known, same_found}
-use Rattle.ckrt_image.proofs.GrowthLemmas.{had_chain, kept_area, uses}
+use Rattle.ckrt_stored.specs.declared.fault.RecoverFault.{RecoverFault}
+use Rattle.ckrt_stored.specs.Programs.{Program, RecoversTo, formatted}
+use Rattle.ckrt_stored.specs.Recovery.{◌>>=◌, Recovered, Recovers, events_of_batches, in_use}
+use Rattle.ckrt_stored.proofs.AreaLemmas.{IsInUse, is_in_use}
+use Rattle.ckrt_stored.proofs.RecoverLemmas.{IsKnown, found, known, same_found}
+use Rattle.ckrt_stored.proofs.GrowthLemmas.{had_chain, kept_area, uses}
 use Rattle.ckrt_input.specs.Taken.{bytes_of, input_of, taken_by}
 use Rattle.ckrt_record.specs.declared.slot.Slot.{Slot}
 use Rattle.ckrt_record.specs.Slot.{slot_at, slot_of}
-use Rattle.ckrt_record.specs.Offset.{is_first, journaled, offset_of, said_of, saved_offset, taken_in, with_saved}
+use Rattle.ckrt_record.specs.Offset.{is_first, journaled, offset_of, recorded_in, saved_offset, taken_in, with_saved}
 use Rattle.ckrt_record.specs.Fed.{BeginsFed, FedAsRecovered, IsFed, IsFedIn, TellsOffset}
 use Rattle.ckrt_record.proofs.SlotLemmas.{slot_stays}
 
@@ -96,7 +96,7 @@ stays_fed events before image r recovers still region same header_apart journal_
       fed = record {
         saved = f.saved;
         count = f.count;
-        known = ap (λ (o : Option Slot). if is_first (area_of r before) then Some 0 else said_of (area_of r before) o) (slot_stays r.config r.area region before image same slot_apart) ∙ f.known;
+        known = ap (λ (o : Option Slot). if is_first (area_of r before) then Some 0 else recorded_in (area_of r before) o) (slot_stays r.config r.area region before image same slot_apart) ∙ f.known;
         batches = f.batches;
         chain = ap (batches_of (area_of r before).header.version) bytes ∙ f.chain;
         all = f.all;
@@ -137,7 +137,7 @@ module _ (events : List Event) (before image : List ℕ) (r : Recovered) (recove
     fed = record {
       saved = f.saved;
       count = f.count;
-      known = ap (λ (o : Option Slot). if is_first old.area then Some 0 else said_of old.area o) (slot_stays old.config old.area.index (IsInJournal r.journal) before image same apart) ∙ f.known;
+      known = ap (λ (o : Option Slot). if is_first old.area then Some 0 else recorded_in old.area o) (slot_stays old.config old.area.index (IsInJournal r.journal) before image same apart) ∙ f.known;
       batches = old.batches ++ more;
       chain = ap (λ (j : Journal). batches_of j.version (journal_bytes j image)) (sym journal) ∙ chain;
       all = ap (λ (es : List Event). es ++ events_of_batches more) (f.all ∙ ap (λ (l : List (List ℕ)). f.saved ++ events_of_batches l) batches)
@@ -175,13 +175,13 @@ none_taken [] is = refl
 none_taken (e ∷ es) is = absurd (omega (arith, is))
 
 said : (a : Area) (s : Slot) (events : List Event) → s.generation ≡ a.header.generation → s.count ≡ a.header.count → a.header.count ≡ length events → s.taken ≡ taken_by events
-    → (if is_first a then Some 0 else said_of a (Some s)) ≡ Some (taken_by events)
+    → (if is_first a then Some 0 else recorded_in a (Some s)) ≡ Some (taken_by events)
 said a s events generation count number taken = by_first (is_first a) refl
   where
     same : (nat_eq s.generation a.header.generation && nat_eq s.count a.header.count) ≡ true
     same = grind (arith, nat_tests, generation, count)
 
-    by_first : (b : Bool) → is_first a ≡ b → (if b then Some 0 else said_of a (Some s)) ≡ Some (taken_by events)
+    by_first : (b : Bool) → is_first a ≡ b → (if b then Some 0 else recorded_in a (Some s)) ≡ Some (taken_by events)
     by_first true is = ap (λ n. Some n) (sym (none_taken events (let none : a.header.count ≡ 0 = grind (arith, nat_tests, is) in omega (arith, none, number))))
     by_first false is = rw same (ap (λ n. Some n) taken)
 
@@ -222,7 +222,7 @@ module _ (image : List ℕ) (r : Recovered) (recovers : Recovers image (Ok r)) (
       let index : now.area.index ≡ r.area = ap (λ (x : Recovered). x.area) now.is_replayed in
       let there : slot_of now.config now.area.index image ≡ Some s = ap (λ (c : Config). slot_of c now.area.index image) config ∙ ap (λ i. slot_of r.config i image) index ∙ has in
       let generation : now.area.header.generation ≡ r.generation = ap (λ (x : Recovered). x.generation) now.is_replayed in
-      fresh_fed (ap (λ (o : Option Slot). if is_first now.area then Some 0 else said_of now.area o) there ∙ said now.area s events (sym generation) (number ∙ sym counted) counted refl)
+      fresh_fed (ap (λ (o : Option Slot). if is_first now.area then Some 0 else recorded_in now.area o) there ∙ said now.area s events (sym generation) (number ∙ sym counted) counted refl)
 
 -- LAWS
 
@@ -240,7 +240,7 @@ begins p image recovers =
     let generation : now.area.header.generation ≡ 1 = ap (λ (x : Recovered). x.generation) now.is_replayed in
     let count : now.area.header.count ≡ 0 = counted image (formatted p) recovers refl [] refl in
     let first : is_first now.area ≡ true = grind (arith, nat_tests, generation, count) in
-    fresh_fed image (formatted p) recovers refl [] refl (ap (λ b. if b then Some 0 else said_of now.area (slot_of now.config now.area.index image)) first)
+    fresh_fed image (formatted p) recovers refl [] refl (ap (λ b. if b then Some 0 else recorded_in now.area (slot_of now.config now.area.index image)) first)
 
 pub as_recovered : FedAsRecovered
 as_recovered p xs ys limit image to is = sym to.has_events.count ∙ fed_count image to.recovered to.recovers ys is

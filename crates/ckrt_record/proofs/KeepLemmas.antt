@@ -16,12 +16,12 @@ use Rattle.ckrt_checkpoint.specs.declared.config.Config.{Config}
 use Rattle.ckrt_checkpoint.specs.Layout.{area_at, area_size, is_valid, journal_at, size_needed}
 use Rattle.ckrt_checkpoint.specs.Write.{WritesAt}
 use Rattle.ckrt_checkpoint.proofs.PickLemmas.{area_end}
-use Rattle.ckrt_image.specs.declared.progress.Progress.{Progress}
-use Rattle.ckrt_image.specs.Frame.{BelongsTo, IsSpare, in_other_area}
-use Rattle.ckrt_image.specs.Programs.{Program, RecoversTo}
-use Rattle.ckrt_image.specs.Progress.{RecoversToOldOrNew, recovered_of}
-use Rattle.ckrt_image.specs.Recovery.{Recovered, Recovers}
-use Rattle.ckrt_image.proofs.GrowthLemmas.{area_0_or_1, journal_spared}
+use Rattle.ckrt_stored.specs.declared.progress.Progress.{Progress}
+use Rattle.ckrt_stored.specs.Frame.{BelongsTo, IsSpare, in_other_area}
+use Rattle.ckrt_stored.specs.Programs.{Program, RecoversTo}
+use Rattle.ckrt_stored.specs.Progress.{RecoversToOldOrNew, recovered_of}
+use Rattle.ckrt_stored.specs.Recovery.{Recovered, Recovers}
+use Rattle.ckrt_stored.proofs.GrowthLemmas.{area_0_or_1, journal_spared}
 use Rattle.ckrt_recovery.specs.Calls.{spare_at}
 use Rattle.ckrt_recovery.specs.Represents.{RecoversLike, RecoversToEither, Represents, acknowledged_of}
 use Rattle.ckrt_recovery.specs.View.{View, view_of}

@@ -11,8 +11,8 @@ use Rattle.ckrt_checkpoint.specs.declared.config.Config.{Config}
 use Rattle.ckrt_checkpoint.specs.Write.{WritesAt, dirty_pages}
 use Rattle.ckrt_events.specs.declared.event.Event.{Event}
 use Rattle.ckrt_machine.specs.Events.{Machine, memory_in}
-use Rattle.ckrt_image.specs.Programs.{Program}
-use Rattle.ckrt_image.specs.Recovery.{Recovered}
+use Rattle.ckrt_stored.specs.Programs.{Program}
+use Rattle.ckrt_stored.specs.Recovery.{Recovered}
 use Rattle.ckrt_recovery.specs.Calls.{Checkpoints, Saves, WritesOtherArea, WritesSpare, checkpoint_calls, checkpoint_refusal, dirty_of, is_device}
 use Rattle.ckrt_recovery.specs.Represents.{RecoversToEither, Represents, RepresentsSame}
 use Rattle.ckrt_memory.specs.Marks.{IsCleaned}

@@ -11,9 +11,9 @@ use Rattle.ckrt_checkpoint.specs.Layout.{number_at}
 use Rattle.ckrt_checkpoint.proofs.ByteLemmas.{number_is}
 use Rattle.ckrt_record.specs.declared.slot.Slot.{Slot}
 use Rattle.ckrt_record.specs.SlotLaws.{IsInRange, ReadsBack}
-use Rattle.ckrt_record.specs.Slot.{MAGIC, SLOT_BYTES, TAKEN_LIMIT, VERSION, slot_at, slot_bytes, slot_in, slot_of}
+use Rattle.ckrt_record.specs.Slot.{MAGIC, SLOT_BYTES, TAKEN_LIMIT, RECORD_VERSION, slot_at, slot_bytes, slot_in, slot_of}
 
-slot_is : (block : List ℕ) (s : Slot) → number_at 8 0 block ≡ MAGIC → number_at 8 8 block ≡ VERSION → nat_lt s.taken TAKEN_LIMIT ≡ true
+slot_is : (block : List ℕ) (s : Slot) → number_at 8 0 block ≡ MAGIC → number_at 8 8 block ≡ RECORD_VERSION → nat_lt s.taken TAKEN_LIMIT ≡ true
     → number_at 8 16 block ≡ s.generation → number_at 8 24 block ≡ s.count → number_at 8 32 block ≡ s.taken → slot_in block ≡ Some s
 slot_is block s magic version few generation count taken = rw (magic, version, generation, count, taken, few) refl
 
@@ -28,7 +28,7 @@ reads_back s fit =
     ap slot_in (sym all)
     ∙ slot_is (take 40 block) s
     (number_is 8 0 40 MAGIC block 0 0 block refl (omega arith) (omega arith) has refl (lit< tt))
-    (number_is 8 8 40 VERSION block 0 8 block refl (omega arith) (omega arith) has refl (lit< tt))
+    (number_is 8 8 40 RECORD_VERSION block 0 8 block refl (omega arith) (omega arith) has refl (lit< tt))
     few
     (number_is 8 16 40 s.generation block 0 16 block refl (omega arith) (omega arith) has refl fit.generation)
     (number_is 8 24 40 s.count block 0 24 block refl (omega arith) (omega arith) has refl fit.count)

@@ -3,8 +3,8 @@ use Rattle.std.specs.Prelude.{◌≡◌, ℕ, List, [], ◌++◌, length, Some, 
 use Rattle.ckrt_events.specs.declared.event.Event.{Event}
 use Rattle.ckrt_checkpoint.specs.declared.area.Area.{Area}
 use Rattle.ckrt_checkpoint.specs.declared.config.Config.{Config}
-use Rattle.ckrt_image.specs.Programs.{Program, RecoversTo, RecoversToStart}
-use Rattle.ckrt_image.specs.Recovery.{events_of_batches, in_use}
+use Rattle.ckrt_stored.specs.Programs.{Program, RecoversTo, RecoversToStart}
+use Rattle.ckrt_stored.specs.Recovery.{events_of_batches, in_use}
 use Rattle.ckrt_input.specs.Taken.{taken_by}
 use Rattle.ckrt_record.specs.Offset.{journaled, offset_of, saved_offset}
 

@@ -5,8 +5,8 @@ use Rattle.ckrt_disk.specs.Frame.{MayBeLeft, WritesWithin}
 use Rattle.ckrt_disk.specs.declared.disk.Disk.{Ghosts}
 use Rattle.ckrt_checkpoint.specs.Write.{WritesAt}
 use Rattle.ckrt_events.specs.declared.event.Event.{Event}
-use Rattle.ckrt_image.specs.Programs.{Program}
-use Rattle.ckrt_image.specs.Progress.{recovered_of}
+use Rattle.ckrt_stored.specs.Programs.{Program}
+use Rattle.ckrt_stored.specs.Progress.{recovered_of}
 use Rattle.ckrt_recovery.specs.Calls.{Commits, Journals, checkpoint_calls, checkpoint_refusal, dirty_of, is_device}
 use Rattle.ckrt_recovery.specs.Opening.{IsSettled}
 use Rattle.ckrt_recovery.specs.Represents.{RecoversAtAnyMoment, Represents, RepresentsDisk, RepresentsSame, acknowledged_of}
@@ -52,7 +52,7 @@ pub record IsSaved {D : Type 0} {g : Ghosts D} (p : Program) (events : List Even
   -- a stop at any moment leaves what recovers to the acknowledged ones or to all, and keeps what just these took
   pub any_moment : LeavesOnly g.moment g.left_since old.disk new.disk
       (RecoversFedEither p events old)
-  -- the session behind it represents them, and keeps what they took
+  -- the session after it represents them, and keeps what they took
   pub after : RepresentsFed p events new
 
 -- On an honest disk: so it is of whatever events old represents and keeps, where it was told what they took.
@@ -110,7 +110,7 @@ pub record IsOpened {D : Type 0} {g : Ghosts D} (disk : D) (s : Session D g) : T
   pub view : view_of s ≡ opened (recovered_of s.progress)
   pub settled : IsSettled g disk s.disk
 
--- a commit keeps what the events took, at any moment and behind it
+-- a commit keeps what the events took, at any moment and after it
 abbrev pub CommitsKeep : {D : Type 0} {g : Ghosts D} → (old new : Session D g) → Type 0
 CommitsKeep old new =
     (result : Result ℕ CommitFault) → IsCommit old result new

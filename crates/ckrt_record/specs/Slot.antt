@@ -1,4 +1,4 @@
--- The slots of a drive's record, behind the bytes of the format (this project's own format). Numbers have their lowest byte first.
+-- The slots of a drive's record, after the bytes of the format (this project's own format). Numbers have their lowest byte first.
 use Rattle.std.specs.Prelude.{◌+◌, ◌*◌, ◌^◌, ◌&&◌, ℕ, List, ◌++◌, length, take, drop, nat_eq, nat_lt, if◌then◌else◌, Option, Some, None}
 use Rattle.byteorder.specs.Endian.{little_bytes}
 use Rattle.ckrt_checkpoint.specs.declared.config.Config.{Config}
@@ -9,8 +9,8 @@ use Rattle.ckrt_record.specs.declared.slot.Slot.{Slot}
 abbrev pub MAGIC : ℕ
 MAGIC = 4919414336336841539
 
-abbrev pub VERSION : ℕ
-VERSION = 1
+abbrev pub RECORD_VERSION : ℕ
+RECORD_VERSION = 1
 
 -- the bytes of a slot
 abbrev pub SLOT_BYTES : ℕ
@@ -27,17 +27,17 @@ TAKEN_LIMIT = 2 ^ 62
 -- a slot as bytes
 abbrev pub slot_bytes : Slot → List ℕ
 slot_bytes s =
-    little_bytes 8 MAGIC ++ little_bytes 8 VERSION ++ little_bytes 8 s.generation
+    little_bytes 8 MAGIC ++ little_bytes 8 RECORD_VERSION ++ little_bytes 8 s.generation
     ++ little_bytes 8 s.count ++ little_bytes 8 s.taken
 
 -- the slot that 40 bytes are, if they are one: those that no drive wrote have another magic number
 abbrev pub slot_in : List ℕ → Option Slot
 slot_in block =
-    if nat_eq (number_at 8 0 block) MAGIC && (nat_eq (number_at 8 8 block) VERSION && nat_lt (number_at 8 32 block) TAKEN_LIMIT)
+    if nat_eq (number_at 8 0 block) MAGIC && (nat_eq (number_at 8 8 block) RECORD_VERSION && nat_lt (number_at 8 32 block) TAKEN_LIMIT)
     then Some (record { generation = number_at 8 16 block; count = number_at 8 24 block; taken = number_at 8 32 block })
     else None
 
--- Where the slot of an area lies behind the bytes of the format: each has half of 4,096 bytes, so that no sector has bytes of both.
+-- Where the slot of an area lies after the bytes of the format: each has half of 4,096 bytes, so that no sector has bytes of both.
 abbrev pub slot_offset : (area : ℕ) → ℕ
 slot_offset area = 2048 * area
 

@@ -1,4 +1,4 @@
-// A checkpoint with the record of the input.
+//! A checkpoint with the record of the input.
 ghost use Rattle.std.specs.Prelude.{◌≡◌, ◌≤◌, ◌<◌, ◌+◌};
 ghost use Rattle.ckrt_checkpoint.specs.Layout.{size_needed};
 ghost use Rattle.ckrt_recovery.specs.Calls.{Checkpoints, KeepsRooms};
@@ -10,7 +10,7 @@ use crate::slot::{SLOT_DISTANCE, Slot, slot_bytes};
 use ckrt_disk::Disk;
 use ckrt_recovery::{CommitFault, Session};
 
-/// How many bytes the record has behind those that the format needs.
+/// How many bytes the record has after those that the format needs.
 pub const RECORD_BYTES: usize = 4_096;
 
 /// Saves a session in the disk's other area, as its checkpoint does, and before that the number of bytes of input that its events

@@ -1,4 +1,4 @@
-// A slot, from its bytes and as bytes. Numbers have their lowest byte first.
+//! A slot, from its bytes and as bytes. Numbers have their lowest byte first.
 ghost use Rattle.std.specs.Prelude.{◌≡◌, ◌<◌, length};
 ghost use Rattle.ckrt_record.specs.Slot.{slot_bytes, slot_in};
 
@@ -9,7 +9,7 @@ use ckrt_checkpoint::{number_64, put};
 const MAGIC: u64 = 0x4445_4546_5452_4b43;
 
 /// The version of the record.
-const VERSION: u64 = 1;
+const RECORD_VERSION: u64 = 1;
 
 /// How many bytes a slot has.
 pub(crate) const SLOT_BYTES: usize = 40;
@@ -37,7 +37,10 @@ pub(crate) fn slot_in(block: &[u8]) -> Option<Slot>
     ensures { result ≡ slot_in block.now }
 {
     let taken = number_64(block, 32);
-    if number_64(block, 0) == MAGIC && number_64(block, 8) == VERSION && taken < TAKEN_LIMIT {
+    if number_64(block, 0) == MAGIC
+        && number_64(block, 8) == RECORD_VERSION
+        && taken < TAKEN_LIMIT
+    {
         Some(Slot {
             generation: number_64(block, 16),
             count: number_64(block, 24),
@@ -54,7 +57,7 @@ pub(crate) fn slot_bytes(slot: &Slot) -> ArrayVec<u8, 40>
 {
     let mut bytes = ArrayVec::new();
     put(&mut bytes, &MAGIC.to_le_bytes());
-    put(&mut bytes, &VERSION.to_le_bytes());
+    put(&mut bytes, &RECORD_VERSION.to_le_bytes());
     put(&mut bytes, &slot.generation.to_le_bytes());
     put(&mut bytes, &slot.count.to_le_bytes());
     put(&mut bytes, &slot.taken.to_le_bytes());

@@ -15,21 +15,21 @@ const SMALL: Config = Config {
     journal: 4_096,
 };
 
-/// The slot of area 1 behind the first checkpoint, of two events that took five bytes: the name, version 1, generation 2, two
+/// The slot of area 1 after the first checkpoint, of two events that took five bytes: the name, version 1, generation 2, two
 /// events, five bytes.
 const SLOT: [u8; 40] = [
     0x43, 0x4b, 0x52, 0x54, 0x46, 0x45, 0x45, 0x44, 1, 0, 0, 0, 0, 0, 0, 0, 2, 0, 0, 0, 0, 0, 0, 0,
     2, 0, 0, 0, 0, 0, 0, 0, 5, 0, 0, 0, 0, 0, 0, 0,
 ];
 
-/// Where that slot lies: half of the record behind the size needed.
+/// Where that slot lies: half of the record after the size needed.
 const SLOT_AT: usize = SIZE + 2_048;
 
-/// Calls at which a disk stops while two checkpoints are made, which are behind it at call 35: the writes and syncs of both slots, and
+/// Calls at which a disk stops while two checkpoints are made, which are after it at call 35: the writes and syncs of both slots, and
 /// those of each checkpoint around its gates.
 const CALLS: [u64; 8] = [2, 3, 24, 25, 26, 28, 34, 35];
 
-/// So many bytes of one value.
+/// That many bytes of one value.
 fn filled<R: Abort + AllocGlobal>(rt: &R, byte: u8, size: usize) -> Vec<u8> {
     vec![in rt.alloc(); byte; size].expect(rt, "memory for bytes")
 }
@@ -39,7 +39,7 @@ fn memory_disk<R: Abort + AllocGlobal>(rt: &R, bytes: Vec<u8>) -> MemoryDisk {
     MemoryDisk::new(rt.alloc(), bytes).expect(rt, "memory for a disk")
 }
 
-/// A formatted disk of so many bytes more than it needs.
+/// A formatted disk of that many bytes more than it needs.
 fn formatted<R: Abort + AllocGlobal>(rt: &R, more: usize) -> Vec<u8> {
     let mut disk = memory_disk(rt, filled(rt, 0xff, SIZE.saturating_add(more)));
     let outcome = format(rt.alloc(), &mut disk, SMALL, &IMAGE);
@@ -122,7 +122,7 @@ fn a_checkpoint_without_a_record_is_told(rt: HostRuntime) {
     assert!(rt; offset(&rt, image) == Err(OffsetFault::NotRecorded));
 }
 
-/// A disk whose area was saved without a record, with two bytes of input in the journal behind it.
+/// A disk whose area was saved without a record, with two bytes of input in the journal after it.
 fn saved_by_hand<R: Abort + AllocGlobal>(rt: &R) -> Vec<u8> {
     let mut session = recovered(rt, memory_disk(rt, formatted(rt, RECORD_BYTES)));
     feed(rt, &mut session, b"abc");
@@ -132,7 +132,7 @@ fn saved_by_hand<R: Abort + AllocGlobal>(rt: &R) -> Vec<u8> {
     session.into_disk().into_image()
 }
 
-/// What is said counts only where the record doesn't say it, and the journal's bytes come behind it.
+/// What is said counts only where the record doesn't say it, and the journal's bytes come after it.
 #[test]
 fn what_is_said_counts_without_a_record(rt: HostRuntime) {
     assert!(rt; offset_from(&rt, saved_by_hand(&rt)) == Ok(12));

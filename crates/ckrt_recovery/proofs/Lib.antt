@@ -1,3 +1,4 @@
+pub mod ListLemmas
 mod PageLemmas
 mod PendingLemmas
 mod SubmitLemmas

@@ -3,7 +3,7 @@ use Rattle.std.proofs.Common.{◌≡◌, ◌++◌, List, [], ◌∷◌, Option, 
 use Rattle.std.proofs.lemmas.List.{append-nil, append_assoc}
 use Rattle.ckrt_disk.specs.declared.disk.Disk.{Ghosts}
 use Rattle.ckrt_events.specs.declared.event.Event.{Event}
-use Rattle.ckrt_image.specs.Programs.{Program}
+use Rattle.ckrt_stored.specs.Programs.{Program}
 use Rattle.ckrt_recovery.specs.Reached.{AreCalls, Call, Fits, IsReached, SurvivesCall, Takes, accepted_by, behind, event_and}
 use Rattle.ckrt_recovery.specs.Represents.{RecoversAtAnyMoment, Represents}
 use Rattle.ckrt_recovery.specs.declared.session.Session.{Session}

@@ -11,12 +11,12 @@ use Rattle.ckrt_checkpoint.proofs.SlotLemmas.{journal_stand}
 use Rattle.ckrt_events.specs.declared.event.Event.{Event}
 use Rattle.ckrt_events.specs.Bytes.{encodings_of}
 use Rattle.ckrt_machine.specs.Events.{memory_in}
-use Rattle.ckrt_image.specs.declared.progress.Progress.{Progress}
-use Rattle.ckrt_image.specs.Frame.{IsSpare}
-use Rattle.ckrt_image.specs.Progress.{PagesStand}
-use Rattle.ckrt_image.specs.Programs.{Program, output_after, state_after}
-use Rattle.ckrt_image.specs.Recovery.{Recovers, is_replayable}
-use Rattle.ckrt_image.proofs.GrowthLemmas.{spare_free}
+use Rattle.ckrt_stored.specs.declared.progress.Progress.{Progress}
+use Rattle.ckrt_stored.specs.Frame.{IsSpare}
+use Rattle.ckrt_stored.specs.Progress.{PagesStand}
+use Rattle.ckrt_stored.specs.Programs.{Program, output_after, state_after}
+use Rattle.ckrt_stored.specs.Recovery.{Recovers, is_replayable}
+use Rattle.ckrt_stored.proofs.GrowthLemmas.{spare_free}
 use Rattle.ckrt_recovery.specs.declared.session.Session.{Session}
 use Rattle.ckrt_recovery.specs.Calls.{spare_at}
 use Rattle.ckrt_recovery.specs.Represents.{RecoversLike, RecoversToEither, Represents, acknowledged_of}

@@ -1,3 +1,4 @@
+pub mod Lists
 pub mod Represents
 pub mod Reached
 pub mod Between

@@ -5,11 +5,11 @@ use Rattle.ckrt_disk.specs.declared.disk.Disk.{Ghosts}
 use Rattle.ckrt_events.specs.Bytes.{encodings_of}
 use Rattle.ckrt_events.specs.declared.event.Event.{Event}
 use Rattle.ckrt_machine.specs.Events.{AllAccepted}
-use Rattle.ckrt_image.specs.Programs.{Program, start_of, state_after, output_after, RecoversTo}
+use Rattle.ckrt_stored.specs.Programs.{Program, start_of, state_after, output_after, RecoversTo}
 use Rattle.ckrt_recovery.specs.Represents.{RecoversLike, RecoversToEither, Represents, RepresentsDisk, RepresentsOneMore, RepresentsSame, acknowledged_of}
 use Rattle.ckrt_recovery.specs.declared.session.Session.{Session}
 
--- These events fit the session: those behind the acknowledged ones are pending, the machine is the plain fold over them, and whatever a stop
+-- These events fit the session: those after the acknowledged ones are pending, the machine is the plain fold over them, and whatever a stop
 -- leaves of the disk recovers to the acknowledged ones; where the session has failed, to these or to all. (Represents has two facts more.)
 pub record Fits {D : Type 0} {g : Ghosts D} (p : Program) (events : List Event) (s : Session D g)
     : Type 0 where
@@ -41,7 +41,7 @@ abbrev pub AreCalls : {D : Type 0} {g : Ghosts D} → Session D g → List (Call
 AreCalls s [] = ⊤
 AreCalls {g = g} s (c ∷ calls) = g.is_honest c.after.disk × (Takes s c.event c.after × AreCalls c.after calls)
 
--- the session behind them
+-- the session after them
 abbrev pub behind : {D : Type 0} {g : Ghosts D} → Session D g → List (Call g) → Session D g
 behind s [] = s
 behind s (c ∷ calls) = behind c.after calls

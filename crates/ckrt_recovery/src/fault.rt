@@ -1,3 +1,4 @@
+//! The faults of a session.
 use ckrt_machine::Refusal;
 use thiserror::Error;
 

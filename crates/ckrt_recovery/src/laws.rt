@@ -1,4 +1,4 @@
-// Laws of sessions. Each is the contract of a function with an empty body.
+//! Laws of sessions. Each is the contract of a function with an empty body.
 ghost use Rattle.ckrt_recovery.specs.Reached.{FitsItsCalls, RepresentsItsCalls, SurvivesCall};
 ghost use Rattle.ckrt_recovery.specs.Represents.{RecoversAtAnyMoment};
 

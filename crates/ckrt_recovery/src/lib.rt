@@ -7,7 +7,7 @@ mod laws;
 mod opening;
 mod session;
 
-pub use ckrt_image::{Config, FormatFault, RecoverFault, format};
+pub use ckrt_stored::{Config, FormatFault, RecoverFault, format};
 pub use fault::{CommitFault, SubmitFault};
 pub use laws::{calls_give_represented, calls_survive_a_stop};
 pub use opening::{Unrecovered, recover};

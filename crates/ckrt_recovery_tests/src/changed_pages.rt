@@ -19,11 +19,11 @@ const STORED: [u8; 4] = [0x00, 0x20, 0x00, 0x00];
 /// 4 of a commit.
 const CALLS_BEFORE: u64 = 30;
 
-/// Those behind each later checkpoint: of page 2 into area 0, of page 2 into area 1, and of no page. Each closes a gate by 2
+/// Those after each later checkpoint: of page 2 into area 0, of page 2 into area 1, and of no page. Each closes a gate by 2
 /// calls, and makes 6 beside its pages.
 const CALLS: [u64; 3] = [39, 48, 56];
 
-/// A checkpoint, behind which so many writes and syncs were made.
+/// A checkpoint, after which that many writes and syncs were made.
 fn expect_saved<R: Abort>(rt: &R, session: &mut Session<StoppingDisk>, calls: u64) {
     expect_checkpoint(rt, session, Ok(2));
     expect_eq(rt, session.disk().calls(), calls);
@@ -56,7 +56,7 @@ fn a_checkpoint_writes_the_pages_that_changed(rt: HostRuntime) {
     expect_eq(&rt, generation, 5);
 }
 
-/// The checkpoints behind the store, up to the first that fails.
+/// The checkpoints after the store, up to the first that fails.
 fn save_until_it_fails(session: &mut Session<StoppingDisk>) {
     for _ in CALLS {
         if !is_saved(session) {
@@ -65,7 +65,7 @@ fn save_until_it_fails(session: &mut Session<StoppingDisk>) {
     }
 }
 
-/// The run is stopped at a call of the checkpoints behind the store.
+/// The run is stopped at a call of the checkpoints after the store.
 fn stop_at<R: Abort + AllocGlobal>(rt: &R, image: &[u8], at_call: u64, fill: &[u8]) {
     let mut session = recovered(rt, stopping_disk(rt, copied(rt, image), at_call, fill));
     save_once(rt, &mut session);

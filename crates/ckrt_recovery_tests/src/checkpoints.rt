@@ -69,7 +69,7 @@ fn output_is_held_over_a_checkpoint(rt: HostRuntime) {
     expect_output(&rt, &mut session, 0, &[0x41]);
 }
 
-/// So many writes and syncs were made.
+/// That many writes and syncs were made.
 fn expect_calls<R: Abort>(rt: &R, session: &Session<StoppingDisk>, calls: u64) {
     expect_eq(rt, session.disk().calls(), calls);
 }

@@ -44,7 +44,7 @@ fn commit_and_save_twice<R: Abort, D: Disk>(rt: &R, session: &mut Session<D>) ->
     4
 }
 
-/// The machine after so many of the events, by the plain fold.
+/// The machine after that many of the events, by the plain fold.
 fn folded<R: Abort + AllocGlobal>(rt: &R, count: u64) -> Machine {
     let mut machine = Machine::new(rt.alloc(), 16, 1, &IMAGE).expect(rt, "a machine");
     for number in 0..count {
@@ -53,7 +53,7 @@ fn folded<R: Abort + AllocGlobal>(rt: &R, count: u64) -> Machine {
     machine
 }
 
-/// The output of so many of the events.
+/// The output of that many of the events.
 fn output(count: u64) -> &'static [u8] {
     if count < 2 { b"" } else { b"A" }
 }
@@ -214,8 +214,8 @@ fn first_harmless<R: Abort + AllocGlobal>(rt: &R) -> u64 {
     0
 }
 
-// A format makes 11 writes and syncs and 1 read, recovery a sync and 6 reads, a commit no read, and a checkpoint one, of the
-// gate of its area.
+/// A format makes 11 writes and syncs and 1 read, recovery a sync and 6 reads, a commit no read, and a checkpoint one, of the
+/// gate of its area.
 #[test]
 fn every_call_fails_once(rt: HostRuntime) {
     expect_eq(&rt, first_harmless(&rt), 12 + 7 + 4 + 22 + 9 + 1);

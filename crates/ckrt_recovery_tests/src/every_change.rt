@@ -14,7 +14,7 @@ const OTHER_HEADER: usize = 172_032;
 
 const JOURNALS: [usize; 2] = [339_968, 344_064];
 
-/// What a disk recovers to: how many events, of which generation, behind how many bytes of confirmed output.
+/// What a disk recovers to: how many events, of which generation, after how many bytes of confirmed output.
 type Outcome = Result<(u64, u64, u64), RecoverFault>;
 
 /// That of a disk that has just been formatted.

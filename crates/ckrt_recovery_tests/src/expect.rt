@@ -45,7 +45,7 @@ pub fn copied<R: Abort + AllocGlobal>(rt: &R, bytes: &[u8]) -> Vec<u8> {
     bytes.to_vec(rt.alloc()).expect(rt, "memory for bytes")
 }
 
-/// So many bytes of one value.
+/// That many bytes of one value.
 pub fn filled<R: Abort + AllocGlobal>(rt: &R, byte: u8, size: usize) -> Vec<u8> {
     vec![in rt.alloc(); byte; size].expect(rt, "memory for bytes")
 }

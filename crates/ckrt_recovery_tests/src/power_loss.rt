@@ -34,7 +34,7 @@ fn three_commits<R: Abort, D: Disk>(rt: &R, session: &mut Session<D>) -> u64 {
     3
 }
 
-/// The machine after so many of the three events, by the plain fold.
+/// The machine after that many of the three events, by the plain fold.
 fn folded<R: Abort + AllocGlobal>(rt: &R, count: u64) -> Machine {
     let mut machine = Machine::new(rt.alloc(), 16, 1, &IMAGE).expect(rt, "a machine");
     if count > 0 {

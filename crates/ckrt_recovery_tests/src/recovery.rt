@@ -14,10 +14,10 @@ const SECOND_AREA: usize = 172_032;
 
 const JOURNAL: usize = 339_968;
 
-// One event: Place(0, 1).
+/// One event: Place(0, 1).
 const PLACED: [u8; 7] = [0xa5, 3, 0, 1, 0, 1, 0];
 
-// A program that puts 1, 2, 3 and so on: addi x5, x5, 1; addi x10, x5, 0; addi x17, x0, 2; ecall; jal x0, -16.
+/// A program that puts 1, 2, 3 and so on: addi x5, x5, 1; addi x10, x5, 0; addi x17, x0, 2; ecall; jal x0, -16.
 const COUNTS: [u8; 20] = [
     0x93, 0x82, 0x12, 0x00, 0x13, 0x85, 0x02, 0x00, 0x93, 0x08, 0x20, 0x00, 0x73, 0x00, 0x00, 0x00,
     0x6f, 0xf0, 0x1f, 0xff,
@@ -50,10 +50,10 @@ const CHANGES: [Row; 26] = [
     // Area 1: open, with generation 0 and with area 0's.
     (&[(SECOND_AREA, &[0xa5])], Ok((0, 1))),
     (&[(SECOND_AREA, &[0xa5]), (SECOND_AREA + 8, &[1])], DAMAGED),
-    // Batches in journal 0: one; a second gate that is open, with no batch behind it.
+    // Batches in journal 0: one; a second gate that is open, with no batch after it.
     (&[(JOURNAL, &PLACED)], Ok((1, 1))),
     (&[(JOURNAL, &[0xa5, 3, 0, 1, 0, 1, 0xa5])], DAMAGED),
-    // Run on an idle hart, Tick of 0, no room for a gate behind 4,093 bytes.
+    // Run on an idle hart, Tick of 0, no room for a gate after 4,093 bytes.
     (&[(JOURNAL, &[0xa5, 4, 0, 2, 0, 1, 0, 0])], DAMAGED),
     (&[(JOURNAL, &[0xa5, 5, 0, 5, 0, 0, 0, 0, 0])], DAMAGED),
     (&[(JOURNAL, &[0xa5, 0xfd, 0x0f])], DAMAGED),
@@ -100,7 +100,7 @@ fn lay_long_batch<R: Abort>(rt: &R, bytes: &mut Vec<u8>) {
     lay(rt, bytes, JOURNAL + 74, &[2, 0, 5, 0]);
 }
 
-// 17 runs put 1,024 bytes each, and one more puts the next: of 17,409 bytes the first 1,025 are dropped.
+/// 17 runs put 1,024 bytes each, and one more puts the next: of 17,409 bytes the first 1,025 are dropped.
 #[test]
 fn the_last_output_is_held(rt: HostRuntime) {
     let mut bytes = formatted(&rt, &COUNTS);
@@ -131,7 +131,7 @@ fn expect_stop<R: Abort + AllocGlobal>(rt: &R, at_call: u64, want: Option<Recove
     expect_eq_at(rt, at_call, disk.calls(), 1);
 }
 
-// Its one write or sync is the sync at its start.
+/// Its one write or sync is the sync at its start.
 #[test]
 fn a_stop_at_the_first_call_is_device(rt: HostRuntime) {
     expect_stop(&rt, 0, None);
@@ -162,7 +162,7 @@ fn expect_failure<R: Abort + AllocGlobal>(rt: &R, at_call: u64) {
     expect_eq_at(rt, at_call, fault, Some(RecoverFault::Device));
 }
 
-// A sync, and then reads of superblock, both headers, tables, memory and one gate. The disk recovers afterwards.
+/// A sync, and then reads of superblock, both headers, tables, memory and one gate. The disk recovers afterwards.
 #[test]
 fn each_call_that_fails_is_device(rt: HostRuntime) {
     for at_call in 1..8u64 {

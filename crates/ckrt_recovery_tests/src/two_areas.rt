@@ -2,8 +2,8 @@
 //! either.
 //!
 //! The program puts an `A` by its first three steps and ends with its sixth. Area 0 is formatted and its journal has the
-//! first event; area 1 is saved behind that event, and its journal has the second, of two steps. On the other disk area 0
-//! is saved once more, behind a third event of one step, and its journal has a fourth of one step.
+//! first event; area 1 is saved after that event, and its journal has the second, of two steps. On the other disk area 0
+//! is saved once more, after a third event of one step, and its journal has a fourth of one step.
 
 use crate::changes::{Change, DAMAGED, Row, UNKNOWN, changed, expect_rows, outcome};
 use crate::expect::{expect_eq, expect_eq_at};
@@ -154,7 +154,7 @@ const OF_TWICE: [Row; 22] = [
     (&[(PAGES, &[1, 4])], DAMAGED),
 ];
 
-/// The program goes on behind so many events: it ends with its sixth step.
+/// The program goes on after that many events: it ends with its sixth step.
 fn expect_end<R: Abort, D: Disk>(rt: &R, session: &mut Session<D>, count: u64, steps: u32) {
     let ended = Answer::Ran(steps, RunEnd::End);
     expect_answer(rt, session, &Event::Run(0, 9), count, ended);
@@ -170,7 +170,7 @@ fn each_change_of_a_disk_that_was_saved_twice(rt: HostRuntime) {
     expect_rows(&rt, saved_twice(&rt).as_slice(), &OF_TWICE);
 }
 
-/// A disk with one change recovers to a program that has so many steps left after so many events.
+/// A disk with one change recovers to a program that has that many steps left after that many events.
 fn expect_steps_left<R: Abort + AllocGlobal>(
     rt: &R,
     disk: &[u8],
@@ -183,7 +183,7 @@ fn expect_steps_left<R: Abort + AllocGlobal>(
     expect_end(rt, &mut session, events.saturating_add(1), steps);
 }
 
-// Each area comes with its own pages, tables and journal.
+/// Each area comes with its own pages, tables and journal.
 #[test]
 fn each_area_goes_on_from_its_own_state(rt: HostRuntime) {
     let once = saved_once(&rt);
@@ -198,7 +198,7 @@ fn each_area_goes_on_from_its_own_state(rt: HostRuntime) {
     expect_steps_left(&rt, twice.as_slice(), change, 4, 1);
 }
 
-// With 17 pages on a larger disk area 0 is where it was and its journal is in what was added: no event.
+/// With 17 pages on a larger disk area 0 is where it was and its journal is in what was added: no event.
 #[test]
 fn the_number_of_pages_moves_the_journal(rt: HostRuntime) {
     let mut disk = saved_once(&rt);

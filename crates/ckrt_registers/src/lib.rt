@@ -84,7 +84,7 @@ impl Regs {
         }
     }
 
-    /// The register file: x0 to x31, and behind them a place that no instruction reads.
+    /// The register file: x0 to x31, and after them a place that no instruction reads.
     #[inline(always)]
     pub fn file(&self) -> [u32; 33]
         ensures registers { registers_of self.now.pc result ≡ self.now }

@@ -5,10 +5,10 @@ use Rattle.ckrt_state.specs.declared.table.Status.TheVariants as status
 use Rattle.ckrt_inspect.specs.Texts.{hex_text, status_text}
 use Rattle.ckrt_inspect.specs.declared.metrics.Standing.{Standing}
 use Rattle.ckrt_inspect.specs.declared.metrics.Standing.TheVariants as stands
-use Rattle.ckrt_drive.specs.declared.progress.Ending.{Ending}
-use Rattle.ckrt_drive.specs.declared.progress.Ending.TheVariants.{Ended, WaitsForInput, Deadlock, Enough}
-use Rattle.ckrt_drive.specs.declared.progress.Progress.{Progress}
-use Rattle.ckrt_drive.specs.declared.progress.Progress.TheVariants.{Stopped}
+use Rattle.ckrt_drive.specs.declared.step_done.DriveEnd.{DriveEnd}
+use Rattle.ckrt_drive.specs.declared.step_done.DriveEnd.TheVariants.{Ended, WaitsForInput, Deadlock, Enough}
+use Rattle.ckrt_drive.specs.declared.step_done.StepDone.{StepDone}
+use Rattle.ckrt_drive.specs.declared.step_done.StepDone.TheVariants.{Stopped}
 use Rattle.ckrt_outcomes.specs.declared.driven.Driven.{Driven}
 
 -- the address that a fault is about, behind a space
@@ -35,7 +35,7 @@ abbrev pub ended_text : Status → Option ℕ → List ℕ
 ended_text status address = hint_text status address ++ (codes "ended: " ++ (status_text status ++ address_text address))
 
 -- the end in words
-abbrev pub end_text : Option Ending → Status → Option ℕ → List ℕ
+abbrev pub end_text : Option DriveEnd → Status → Option ℕ → List ℕ
 end_text None status address = codes "enough"
 end_text (Some Ended) status address = ended_text status address
 end_text (Some WaitsForInput) status address = codes "waits for input"
@@ -46,7 +46,7 @@ abbrev pub end_line : Driven → List ℕ
 end_line driven = end_text driven.ending driven.status driven.address ++ 10 ∷ []
 
 -- how a drive stands behind a step: at the end that it came to, or before one
-abbrev pub standing_of : Progress → Standing
+abbrev pub standing_of : StepDone → Standing
 standing_of (Stopped Ended) = stands.Ended
 standing_of (Stopped WaitsForInput) = stands.WaitsForInput
 standing_of (Stopped Deadlock) = stands.Deadlock

@@ -1,7 +1,7 @@
 -- What the program prints on standard error for a fault: a line in plain words, and a line with the fault's name.
 use Rattle.std.specs.Prelude.{ℕ, List, [], ◌∷◌, ◌++◌, codes, decimal, string_bytes, Option, Some, None}
 use Rattle.ckrt_checkpoint.specs.declared.config.Config.{Config}
-use Rattle.ckrt_image.specs.declared.fault.FormatFault.TheVariants as format
+use Rattle.ckrt_stored.specs.declared.fault.FormatFault.TheVariants as format
 use Rattle.ckrt_words.specs.declared.job.WordsFault.{WordsFault}
 use Rattle.ckrt_words.specs.declared.job.WordsFault.TheVariants as words
 use Rattle.ckrt_words.specs.Jobs.{Request, format as asks_format, run as asks_run, inspect as asks_inspect, drive as asks_drive, core as asks_core, calls as asks_calls, debug as asks_debug, races as asks_races, hunt as asks_hunt, stored}

@@ -4,7 +4,7 @@ ghost use Rattle.ckrt_reports.specs.Ends.{standing_of};
 
 use crate::status::StatusFile;
 use ckrt_disk::Disk;
-use ckrt_drive::{Ending, Onlooker, Progress};
+use ckrt_drive::{DriveEnd, Onlooker, StepDone};
 use ckrt_events::Event;
 use ckrt_input::taken_by;
 use ckrt_inspect::{Readings, Standing};
@@ -17,18 +17,18 @@ use std::rt::Clock;
 use std::time::{Duration, Instant};
 
 /// How a drive stands behind a step that did this.
-fn standing_of(did: &Progress) -> Standing
+fn standing_of(did: &StepDone) -> Standing
     ensures { result ≡ standing_of did.now }
 {
     match did {
-        Progress::Stopped(Ending::Ended) => Standing::Ended,
-        Progress::Stopped(Ending::WaitsForInput) => Standing::WaitsForInput,
-        Progress::Stopped(Ending::Deadlock) => Standing::Deadlock,
-        Progress::Stopped(Ending::Enough) => Standing::Enough,
-        Progress::Submitted(_, _)
-        | Progress::Committed
-        | Progress::Checkpointed
-        | Progress::Released => Standing::Running,
+        StepDone::Stopped(DriveEnd::Ended) => Standing::Ended,
+        StepDone::Stopped(DriveEnd::WaitsForInput) => Standing::WaitsForInput,
+        StepDone::Stopped(DriveEnd::Deadlock) => Standing::Deadlock,
+        StepDone::Stopped(DriveEnd::Enough) => Standing::Enough,
+        StepDone::Submitted(_, _)
+        | StepDone::Committed
+        | StepDone::Checkpointed
+        | StepDone::Released => Standing::Running,
     }
 }
 
@@ -204,16 +204,16 @@ impl<'a, R: Clock + Eprint + Files<File = File>> SystemMeter<'a, R> {
 }
 
 impl<'a, R: Clock + Eprint + Files<File = File>> Onlooker for SystemMeter<'a, R> {
-    fn look<D: Disk>(&mut self, did: &Progress, session: &Session<D>) {
+    fn look<D: Disk>(&mut self, did: &StepDone, session: &Session<D>) {
         // no event of the drive is acknowledged before it first looks on
         let is_first = self.counts.earlier_events.is_none();
         if is_first {
             self.counts.earlier_events = Some(session.acknowledged());
         }
-        if let Progress::Submitted(event, answer) = did {
+        if let StepDone::Submitted(event, answer) = did {
             self.counts.count(event, answer);
         }
-        if is_first || matches!(did, Progress::Stopped(_)) {
+        if is_first || matches!(did, StepDone::Stopped(_)) {
             self.write_status(session, standing_of(did));
         } else if self.looks() {
             self.tell_due(session);

@@ -16,7 +16,7 @@ use crate::reporter::{Reporter, Unsaid};
 use crate::unfit::{say_unfit, say_unfit_sizes};
 use crate::version::VERSION;
 use arrayvec::ArrayVec;
-use ckrt_drive::Ending;
+use ckrt_drive::DriveEnd;
 use ckrt_main::write_reply;
 use ckrt_outcomes::{Done, Driven, InputLengths, JobFault, OutputLengths};
 use ckrt_recovery::{Config, FormatFault};
@@ -404,10 +404,10 @@ fn say_end_text<E: Reporter>(reporter: &mut E, driven: Driven) -> Result<(), Uns
     ensures failed { OnErr result (E.has_failed reporter.new ≡ true) }
 {
     match driven.ending {
-        Some(Ending::Ended) => say_ended(reporter, driven.status, driven.address),
-        Some(Ending::WaitsForInput) => reporter.say(b"waits for input"),
-        Some(Ending::Deadlock) => reporter.say(b"deadlock"),
-        Some(Ending::Enough) | None => reporter.say(b"enough"),
+        Some(DriveEnd::Ended) => say_ended(reporter, driven.status, driven.address),
+        Some(DriveEnd::WaitsForInput) => reporter.say(b"waits for input"),
+        Some(DriveEnd::Deadlock) => reporter.say(b"deadlock"),
+        Some(DriveEnd::Enough) | None => reporter.say(b"enough"),
     }
 }
 

@@ -55,7 +55,7 @@ fn copied_keys(keys: &Keys) -> Keys
     }
 }
 
-/// The thread goes behind those that there are.
+/// The thread goes after those that there are.
 fn append_thread(threads: &mut Threads, id: ThreadId, thread: &Thread)
     ensures { GoesOn ThreadsLeadTo threads.old (row id thread.now) threads.new }
 {
@@ -76,7 +76,7 @@ fn append_threads(threads: &mut Threads, kept: &Threads)
     }
 }
 
-/// The wait goes behind those that there are.
+/// The wait goes after those that there are.
 fn append_wait(threads: &mut Threads, wait: Wait)
     ensures { GoesOn WaitsLeadTo threads.old wait threads.new }
 {

@@ -97,7 +97,7 @@ register_place a imm b = register_number a (signed_decimal imm ++ codes "(" ++ r
 abbrev pub registers_number : ℕ → ℕ → List ℕ → List ℕ
 registers_number a b imm = register_number a (register b ++ codes ", " ++ imm)
 
--- what stands behind the name
+-- what stands after the name
 abbrev pub operands_of : Instr → List ℕ
 -- `NAME xD, IMM`
 operands_of (Lui rd imm) = register_number rd (decimal imm)

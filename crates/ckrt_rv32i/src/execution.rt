@@ -36,14 +36,14 @@ pub enum Cause {
     Gate,
 }
 
-impl fmt::Display for Cause {
-    ghost use Rattle.std.specs.Prelude.{Some};
+impl Cause {
     ghost use Rattle.ckrt_rv32i.specs.Names.{cause_name};
 
-    ghost output = { λ c. Some (cause_name c) };
-
-    fn fmt<W: fmt::Write>(&self, f: &mut fmt::Formatter<W>) -> fmt::Result {
-        f.write_str(match self {
+    /// The name of the cause, as listings and messages print it.
+    pub fn name(self) -> &'static str
+        ensures { result.now ≡ cause_name self }
+    {
+        match self {
             Cause::FetchRange => "FetchRange",
             Cause::Illegal => "Illegal",
             Cause::JumpMisaligned => "JumpMisaligned",
@@ -53,7 +53,18 @@ impl fmt::Display for Cause {
             Cause::StoreRange => "StoreRange",
             Cause::Breakpoint => "Breakpoint",
             Cause::Gate => "Gate",
-        })
+        }
+    }
+}
+
+impl fmt::Display for Cause {
+    ghost use Rattle.std.specs.Prelude.{Some};
+    ghost use Rattle.ckrt_rv32i.specs.Names.{cause_name};
+
+    ghost output = { λ c. Some (cause_name c) };
+
+    fn fmt<W: fmt::Write>(&self, f: &mut fmt::Formatter<W>) -> fmt::Result {
+        f.write_str(self.name())
     }
 }
 
@@ -62,7 +73,7 @@ impl fmt::Display for Cause {
 pub enum Outcome {
     /// The next step may follow.
     Next,
-    /// ECALL: the pc is behind it, and the caller makes the call.
+    /// ECALL: the pc is after it, and the caller makes the call.
     Call,
     /// Nothing changed, for this cause.
     Fault(Cause),

@@ -18,11 +18,11 @@ pub trait Bus {
     /// The bytes. Address a names item a - 4096.
     ghost bytes: { Self → List ℕ };
 
-    /// What stores to these addresses keep between the memory before and the memory after, beside the bytes: its marks of
+    /// What stores to these addresses keep between the memory before and the memory after, besides the bytes: its marks of
     /// what was changed, or its size.
     ghost Follows: { List ℕ → Self → Self → Type 0 };
 
-    /// The value of so many bytes from `address` on, the low byte first. `None` where one of them isn't in the memory.
+    /// The value of that many bytes from `address` on, the low byte first. `None` where one of them isn't in the memory.
     fn load(&self, address: u32, size: Size) -> Option<u32>
         requires { IsTrue (is_aligned address size) }
         ensures small { IfSome result (λ value. value < value_end size) }

@@ -198,7 +198,7 @@ fn push_place(text: &mut ArrayString<TEXT_LIMIT>, offset: i32, r: u8)
     text.push_str(")");
 }
 
-/// Appends what stands behind the name.
+/// Appends what stands after the name.
 fn push_operands(text: &mut ArrayString<TEXT_LIMIT>, instr: &Instr)
     requires in_range { IsInRange instr.now }
     requires room { array_string_len text.old ≤ 6 }

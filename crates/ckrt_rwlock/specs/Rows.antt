@@ -12,7 +12,7 @@ use Rattle.ckrt_thread.specs.Granting.{GrantRule, grant_waiters}
 use Rattle.ckrt_objects.specs.declared.address_map.Entry.{Entry}
 use Rattle.ckrt_rwlock.specs.declared.records.RwLock.{RwLock}
 use Rattle.ckrt_objects.specs.InUse as objects
-use Rattle.ckrt_rwlock.specs.RwLock.{read_count, is_writer, is_reader, is_holder, is_written, is_held, with_writer, with_read_count, given_up, lock_at, put}
+use Rattle.ckrt_rwlock.specs.RwLock.{read_count, is_writer, is_reader, is_holder, is_written, is_held, with_writer, with_read_count, given_up, lock_at, put, MAX_READ_COUNT}
 
 -- what a call answers and leaves
 pub record After : Type 0 where
@@ -80,7 +80,7 @@ reading l t a s ls = changed (with_read_count t (read_count t l + 1) l) a s ls
 
 -- it has one already, and may have 65,535
 abbrev pub reading_again : RwLock → ℕ → ℕ → State → List (Entry RwLock) → After
-reading_again l t a s ls = if nat_le 65535 (read_count t l) then unchanged (Done EAGAIN) s ls else reading l t a s ls
+reading_again l t a s ls = if nat_le MAX_READ_COUNT (read_count t l) then unchanged (Done EAGAIN) s ls else reading l t a s ls
 
 abbrev pub rdlock_of : RwLock → ℕ → ℕ → State → List (Entry RwLock) → After
 rdlock_of l t a s ls =

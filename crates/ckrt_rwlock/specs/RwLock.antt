@@ -48,9 +48,13 @@ abbrev pub is_thread_or_none : Option ℕ → Bool
 is_thread_or_none None = true
 is_thread_or_none (Some t) = nat_lt 0 t && nat_le t 64
 
--- There is a count for each thread by its number, nothing at 0, and none is above 65,535.
+-- how many read locks of one lock a thread has at most (this project's choice)
+abbrev pub MAX_READ_COUNT : ℕ
+MAX_READ_COUNT = 65535
+
+-- There is a count for each thread by its number, nothing at 0, and none is above the most.
 abbrev pub are_proper_counts : List ℕ → Bool
-are_proper_counts ns = length ns == 65 && slice_index_or ns 0 0 == 0 && list_all (λ n. nat_le n 65535) ns
+are_proper_counts ns = length ns == 65 && slice_index_or ns 0 0 == 0 && list_all (λ n. nat_le n MAX_READ_COUNT) ns
 
 -- writer and readers are threads
 abbrev pub is_proper : RwLock → Bool

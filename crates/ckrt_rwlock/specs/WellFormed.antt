@@ -26,7 +26,7 @@ pub record IsWellFormedWith (s : State) (ls : List (Entry RwLock)) : Type 0 wher
 
 -- THE SAME AS A TEST of the table's size and of each wait: at other addresses nobody waits.
 
--- a thread that waits for the lock does not hold it, and the first who waits for it is not admissible
+-- a thread that waits for the lock does not hold it, and the first thread that waits for it is not admissible
 abbrev pub may_wait_at : State → List (Entry RwLock) → ℕ → Option ℕ → Bool
 may_wait_at s ls t None = true
 may_wait_at s ls t (Some a) =

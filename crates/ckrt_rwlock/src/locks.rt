@@ -105,7 +105,7 @@ impl RwLocks {
         &self.rows()[place]
     }
 
-    /// A lock goes behind the others, where a table may have it: its address is above theirs, a thread holds it, writer
+    /// A lock goes after the others, where a table may have it: its address is above theirs, a thread holds it, writer
     /// and readers are threads, no thread reads beside one that writes, and there are fewer than 64. Says whether it did;
     /// else nothing changes.
     pub fn append(&mut self, entry: Entry<RwLock>) -> bool
@@ -205,7 +205,7 @@ impl RwLocks {
 
     /// Locks a lock to read, or waits for it (POSIX.1-2017, pthread_rwlock_rdlock). EDEADLK where the thread writes
     /// under it; EAGAIN where the thread has 65,535 read locks of it, or where it is not in use and 64 others are;
-    /// else 0, now or when the wait ends. A thread that has no read lock waits behind every thread that waits already.
+    /// else 0, now or when the wait ends. A thread that has no read lock waits after every thread that waits already.
     pub fn rdlock(&mut self, threads: &mut Threads, thread: ThreadId, address: u32) -> CallResult
         requires live { is_live threads.old thread ≡ true }
         requires free { is_waiting threads.old thread ≡ false }
@@ -254,7 +254,7 @@ impl RwLocks {
         requires room { has_room 64 address self.old ≡ true }
         requires proper { is_proper lock ≡ true }
         requires unwritten { is_written lock ≡ false }
-        requires count { read_count thread lock < 65535 }
+        requires count { read_count thread lock < MAX_READ_COUNT }
         ensures { self.new
             ≡ put address (with_read_count thread (read_count thread lock + 1) lock) self.old }
     {
@@ -264,7 +264,7 @@ impl RwLocks {
         );
     }
 
-    /// A thread that has a read lock gets one more, up to 65,535.
+    /// A thread that has a read lock gets one more, up to [`MAX_READ_COUNT`].
     fn read_again(
         &mut self,
         threads: &Threads,

@@ -154,7 +154,7 @@ impl RwLock {
         RwLock { writer, readers }
     }
 
-    /// The lock with so many read locks of the thread.
+    /// The lock with that many read locks of the thread.
     pub fn with_read_count(self, thread: ThreadId, count: u16) -> Self
         requires { thread ≤ 64 }
         ensures { result ≡ with_read_count thread count self }

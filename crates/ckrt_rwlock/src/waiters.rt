@@ -22,7 +22,7 @@ pub fn has_to_wait(threads: &Threads, lock: &RwLock, address: u32) -> bool
     lock.is_written() || is_awaited(threads, address)
 }
 
-/// Whether the first who waits for the lock could be granted it.
+/// Whether the first thread that waits for the lock could be granted it.
 pub fn has_admissible_waiter(threads: &Threads, lock: &RwLock, address: u32) -> bool
     ensures { result ≡ has_admissible_waiter (rwlock_rule address) (lock.now, threads.now) }
 {

@@ -196,7 +196,7 @@ fn each_reply_is_flushed_before_the_next_line_is_read(rt: HostRuntime) {
     expect_served(&rt, NEVER, Ok(()), replies_to(&rt, 6).as_slice(), 1);
 }
 
-/// The read behind so many lines fails.
+/// The read after that many lines fails.
 fn expect_failed_read<R: Abort + AllocGlobal>(rt: &R, lines: usize) {
     let breaks = Breaks {
         read: lines,
@@ -213,7 +213,7 @@ fn expect_failed_read<R: Abort + AllocGlobal>(rt: &R, lines: usize) {
     );
 }
 
-// The seventh is that of the end.
+/// The seventh is that of the end.
 #[test]
 fn each_read_fails_in_turn(rt: HostRuntime) {
     for lines in 0..7usize {
@@ -221,7 +221,7 @@ fn each_read_fails_in_turn(rt: HostRuntime) {
     }
 }
 
-/// The write behind so many bytes fails.
+/// The write after that many bytes fails.
 fn expect_failed_write<R: Abort + AllocGlobal>(rt: &R, bytes: usize) {
     let breaks = Breaks { bytes, ..NEVER };
     let confirmed = if bytes < OUTPUT_END { 0 } else { 1 };
@@ -247,7 +247,7 @@ fn each_write_fails_in_turn(rt: HostRuntime) {
 /// How many bytes of replies there are when they are flushed for the first time, for the second, and so on.
 const FLUSHES: [usize; 7] = [12, 26, 32, OUTPUT_END, 55, 70, 76];
 
-/// The flush behind so many bytes fails.
+/// The flush after that many bytes fails.
 fn expect_failed_flush<R: Abort + AllocGlobal>(rt: &R, number: usize, bytes: usize) {
     let breaks = Breaks {
         flush: number,
@@ -281,7 +281,7 @@ fn expect_again<R: Abort + AllocGlobal>(rt: &R, bytes: usize, want: &[u8]) {
 
 #[test]
 fn what_wasnt_confirmed_is_written_again(rt: HostRuntime) {
-    // in the reply to the run, in the `ack`, in the line of output, and behind it
+    // in the reply to the run, in the `ack`, in the line of output, and after it
     expect_again(&rt, 20, b"ok 3 ran 1 on\n");
     expect_again(&rt, 30, b"out 0 41\nok 3 ran 1 on\n");
     expect_again(&rt, 40, b"out 0 41\nok 3 ran 1 on\n");
@@ -298,7 +298,7 @@ fn next_session<R: Abort + AllocGlobal>(rt: &R) -> Session<MemoryDisk> {
 
 const LEFT_OUTPUT: &[u8] = b"out 0 41\n";
 
-/// The write behind so many bytes of the output of the life before fails.
+/// The write after that many bytes of the output of the life before fails.
 fn expect_failed_start<R: Abort + AllocGlobal>(rt: &R, bytes: usize) {
     let mut session = next_session(rt);
     let (done, written) = served(rt, &mut session, Breaks { bytes, ..NEVER });

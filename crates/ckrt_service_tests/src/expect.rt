@@ -52,12 +52,12 @@ pub fn copied<R: Abort + AllocGlobal>(rt: &R, bytes: &[u8]) -> Vec<u8> {
     bytes.to_vec(rt.alloc()).expect(rt, "memory for bytes")
 }
 
-/// So many bytes of one value.
+/// That many bytes of one value.
 pub fn filled<R: Abort + AllocGlobal>(rt: &R, byte: u8, size: usize) -> Vec<u8> {
     vec![in rt.alloc(); byte; size].expect(rt, "memory for bytes")
 }
 
-/// Bytes behind others.
+/// Bytes after others.
 pub fn push<R: Abort>(rt: &R, bytes: &mut Vec<u8>, more: &[u8]) {
     bytes.extend_from_slice(more).expect(rt, "memory for bytes");
 }
@@ -69,13 +69,13 @@ pub fn lay<R: Abort>(rt: &R, image: &mut Vec<u8>, at: usize, bytes: &[u8]) {
     image.as_mut_slice()[at..end].copy_from_slice(bytes);
 }
 
-/// So many zeros behind the bytes that there are.
+/// That many zeros after the bytes that there are.
 pub fn push_zeros<R: Abort>(rt: &R, bytes: &mut Vec<u8>, count: usize) {
     let size = bytes.len().saturating_add(count);
     bytes.resize(size, 0).expect(rt, "memory for bytes");
 }
 
-/// Pieces, one behind the other.
+/// Pieces, one after the other.
 fn bytes_of<R: Abort + AllocGlobal>(rt: &R, pieces: &[Piece]) -> Vec<u8> {
     let mut bytes = Vec::new(rt.alloc());
     for (front, zeros) in pieces {

@@ -42,7 +42,7 @@ fn lived<R: Abort + AllocGlobal, D: Disk + Drop>(rt: &R, disk: D) -> D {
     }
 }
 
-/// The whole run on a disk of zeros, which fails a call of the run, or one behind it.
+/// The whole run on a disk of zeros, which fails a call of the run, or one after it.
 fn run<R: Abort + AllocGlobal>(rt: &R, at_call: u64) -> FailingDisk<MemoryDisk> {
     let mut disk = FailingDisk::new(memory_disk(rt, filled(rt, 0, SIZE)), at_call);
     match format_outcome(rt, &mut disk, SMALL, &IMAGE) {
@@ -58,7 +58,7 @@ fn inspected<R: AllocGlobal, D: Disk>(rt: &R, disk: &mut D) -> (Result<(), Inspe
     (answer, listing)
 }
 
-/// The first line of the listing behind a run whose disk failed this call, and none where there is no program. A format makes
+/// The first line of the listing after a run whose disk failed this call, and none where there is no program. A format makes
 /// 12 calls, of which the 11th opens the gate of the superblock; recovery makes 7, and a commit 4, of which the 22nd call opens
 /// its gate, and the next one is its sync; the first checkpoint makes 22, up to the 45th, and the second 9. A gate is there,
 /// too, whose sync failed.
@@ -96,25 +96,25 @@ fn expect_listing<R: Abort + AllocGlobal, D: Disk>(rt: &R, at_call: u64, disk: &
     expect_eq_at(rt, at_call, listing.starts_with(line), true);
 }
 
-/// How many reads the inspector makes behind the whole run: of the superblock, a header and what it needs of the other one, the
+/// How many reads the inspector makes after the whole run: of the superblock, a header and what it needs of the other one, the
 /// tables, the pages, and the gate of a journal that is empty.
 const READS: u64 = 6;
 
-/// Each call of the run fails in turn, and none of the inspector behind it.
+/// Each call of the run fails in turn, and none of the inspector after it.
 fn fail_each_call<R: Abort + AllocGlobal>(rt: &R) {
     for at_call in 1..=CALLS {
         expect_listing(rt, at_call, &mut run(rt, at_call));
     }
 }
 
-/// No call of the run fails, and each read of the inspector behind it in turn.
+/// No call of the run fails, and each read of the inspector after it in turn.
 fn fail_each_read<R: Abort + AllocGlobal>(rt: &R) {
     for read in 1..=READS {
         expect_device(rt, read, &mut run(rt, CALLS + read));
     }
 }
 
-// The count of one disk rises over the run and the inspector behind it, until nothing fails.
+/// The count of one disk rises over the run and the inspector after it, until nothing fails.
 #[test]
 fn one_failure_of_a_run_or_of_its_inspector(rt: HostRuntime) {
     fail_each_call(&rt);
@@ -135,7 +135,7 @@ fn reads_of<R: Abort + AllocGlobal>(rt: &R, at_call: u64, left: &[u8]) -> u64 {
     0
 }
 
-/// How many reads the inspector makes behind a run whose disk failed this call: of a superblock that isn't there one; and 6 as
+/// How many reads the inspector makes after a run whose disk failed this call: of a superblock that isn't there one; and 6 as
 /// above, with more for the batch that stands in the journal between the commit and the end of the first checkpoint.
 fn is_count_of_reads(at_call: u64, reads: u64) -> bool {
     match at_call {

@@ -18,7 +18,7 @@ const LARGEST: Config = Config {
 /// How many bytes a disk of that configuration needs: a block, two areas of 102,400 bytes and the pages, two journals.
 const LARGEST_SIZE: usize = 4_096 + 2 * (102_400 + 4_096 * 1_024) + 2 * 1_048_576;
 
-/// The image with zeros behind it up to the end of the memory.
+/// The image with zeros after it up to the end of the memory.
 fn largest_image<R: Abort + AllocGlobal>(rt: &R) -> Vec<u8> {
     let mut image = copied(rt, &IMAGE);
     image

@@ -51,7 +51,7 @@ fn a_long_run_is_longer_than_a_run(rt: HostRuntime) {
     lived(&rt, disk, b"run 0 1\n", b"ok 3 ran 1 on\n");
 }
 
-/// Place(0, 1) and RunLong(0, 2), as a batch behind an open gate.
+/// Place(0, 1) and RunLong(0, 2), as a batch after an open gate.
 const LONG_BATCH: [u8; 13] = [0xa5, 9, 0, 1, 0, 1, 6, 0, 2, 0, 0, 0, 0];
 
 /// RunLong(0, 1) alone.
@@ -141,7 +141,7 @@ fn migrate<R: Abort>(rt: &R, session: &mut Session<StoppingDisk>) {
     }
 }
 
-/// What a stop left goes on by a long run: at once where the new area was left whole, and else behind a checkpoint.
+/// What a stop left goes on by a long run: at once where the new area was left whole, and else after a checkpoint.
 fn expect_goes_on<R: Abort + AllocGlobal>(rt: &R, at_call: u64, left: Vec<u8>) {
     let mut session = recovered_in_memory(rt, left);
     let version = session.version();
@@ -163,7 +163,7 @@ fn expect_goes_on<R: Abort + AllocGlobal>(rt: &R, at_call: u64, left: Vec<u8>) {
     expect_output(rt, &mut session, 0, &[0x41]);
 }
 
-/// A migrating checkpoint on a disk that stops at a call behind its recovery. How many calls it counted.
+/// A migrating checkpoint on a disk that stops at a call after its recovery. How many calls it counted.
 fn stop_at<R: Abort + AllocGlobal>(rt: &R, old: &[u8], at_call: u64, fill: &[u8]) -> u64 {
     let mut session = recovered(rt, stopping_disk(rt, copied(rt, old), at_call, fill));
     migrate(rt, &mut session);
@@ -183,7 +183,7 @@ fn first_unreached<R: Abort + AllocGlobal>(rt: &R, old: &[u8], fill: &[u8]) -> u
     0
 }
 
-// One sync of recovery, and the 21 calls of a checkpoint of 15 pages.
+/// One sync of recovery, and the 21 calls of a checkpoint of 15 pages.
 #[test]
 fn every_call_of_the_checkpoint_into_version_2_is_stopped(rt: HostRuntime) {
     let old = old_disk(&rt, &SIX_WORDS);

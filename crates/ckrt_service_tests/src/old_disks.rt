@@ -43,7 +43,7 @@ fn a_program_of_version_1_has_no_keys(rt: HostRuntime) {
 const FRESH: &[u8] = b"events 0\nclock 0\nstatus running\nhart 0 idle\n\
 thread 1 joinable ready pc 00001000 enabled deferred none handlers 0\nkeys off\n";
 
-/// Where the mark and the count of keys stand behind one thread and no object, and what is behind it: neither input nor output.
+/// Where the mark and the count of keys stand after one thread and no object, and what is after it: neither input nor output.
 const MARK: usize = 4_096 + 170;
 
 /// Saved in version 2 before it runs, once in each area, it runs as it would have.

@@ -30,7 +30,7 @@ const FIELDS: [u8; 24] = [
     2, 0, 0, 0, 0, 0, 0, 0, 5, 0, 0, 0, 0, 0, 0, 0, 198, 0, 0, 0, 2, 0, 0, 0,
 ];
 
-/// Thread 1 waits for input behind its first call, on no hart, and "xy" is held. What version 2 has more: the end of the
+/// Thread 1 waits for input after its first call, on no hart, and "xy" is held. What version 2 has more: the end of the
 /// thread's record, and the keys.
 fn tables_with<R: Abort + AllocGlobal>(rt: &R, values: &[u8], keys: &[u8]) -> Vec<u8> {
     let mut bytes = Vec::new(rt.alloc());

@@ -287,7 +287,7 @@ const TO_RETAKES: &[Round] = &[(1, b"tick 10\ncommit\n"), (1, RUN)];
 /// Two deadlines come.
 const TO_DEADLINES: &[Round] = &[(1, b"tick 50\ncommit\n")];
 
-/// The rest, to the end and a run behind it.
+/// The rest, to the end and a run after it.
 const TO_THE_END: &[Round] = &[
     (1, RUN),
     (1, b"tick 10\ncommit\n"),
@@ -385,7 +385,7 @@ fn expect_waits<R: Abort>(rt: &R, session: &Session<MemoryDisk>, want: &[Waiting
     }
 }
 
-/// What a service of the session writes for these lines, behind other replies.
+/// What a service of the session writes for these lines, after other replies.
 fn push_replies<R: Abort>(
     rt: &R,
     session: &mut Session<MemoryDisk>,
@@ -395,7 +395,7 @@ fn push_replies<R: Abort>(
     expect_eq(rt, serve(&mut lines, replies, session), Ok(()));
 }
 
-/// The session of the next life, behind a checkpoint.
+/// The session of the next life, after a checkpoint.
 fn saved<R: Abort + AllocGlobal>(rt: &R, mut session: Session<MemoryDisk>) -> Session<MemoryDisk> {
     assert!(rt; session.checkpoint().is_ok());
     recovered(rt, session.into_disk())
@@ -433,7 +433,7 @@ fn play<R: Abort + AllocGlobal>(
     session
 }
 
-/// The replies to all rounds, of a program that is saved behind each round or never.
+/// The replies to all rounds, of a program that is saved after each round or never.
 fn all_replies<R: Abort + AllocGlobal>(rt: &R, is_saved: bool) -> Vec<u8> {
     let image = image_of(rt, &WAITS);
     let mut replies = Vec::new(rt.alloc());

@@ -11,7 +11,7 @@ use std::io::{self, ErrorKind, Read, Write};
 use std::ops::RangeInclusive;
 use std::process::Abort;
 
-/// Gives its bytes one at a time, with an interruption before each, and fails where so many are left.
+/// Gives its bytes one at a time, with an interruption before each, and fails where that many are left.
 #[derive(Drop)]
 struct Trickle<'a> {
     bytes: &'a [u8],
@@ -39,7 +39,7 @@ impl Read for Trickle<'_> {
     }
 }
 
-/// Takes one byte a write, and fails where it has so many.
+/// Takes one byte a write, and fails where it has that many.
 #[derive(Drop)]
 struct Narrow {
     bytes: Vec<u8>,
@@ -126,7 +126,7 @@ fn expect_failed_write<R: Abort + AllocGlobal>(rt: &R, session: &mut Session<Mem
     expect_eq(rt, done, Err(ServeFault::Write));
 }
 
-/// So many bytes of output are confirmed, and so many released.
+/// That many bytes of output are confirmed, and that many released.
 fn expect_output<R: Abort>(rt: &R, session: &Session<MemoryDisk>, confirmed: u64, released: u64) {
     expect_eq(rt, session.confirmed(), confirmed);
     expect_eq(rt, session.released(), released);
@@ -180,7 +180,7 @@ fn output_of_an_earlier_life_comes_first(rt: HostRuntime) {
     expect_replies(&rt, &mut session, b"run 0 1\n", b"out 0 41\nno 1 Ended\n");
 }
 
-/// So many events are acknowledged.
+/// That many events are acknowledged.
 fn expect_acknowledged<R: Abort>(rt: &R, session: &Session<MemoryDisk>, count: u64) {
     expect_eq(rt, session.acknowledged(), count);
 }
@@ -197,7 +197,7 @@ fn nothing_is_committed_but_by_commit(rt: HostRuntime) {
     expect_acknowledged(&rt, &session, 1);
 }
 
-/// Two commits and a line behind them.
+/// Two commits and a line after them.
 const LINES: &[u8] = b"place 0 1\ncommit\nrun 0 6\ncommit\njump\n";
 
 const NONE_FAILED: &[u8] = b"ok 1 placed\nack 1\nok 2 ran 6 end\nack 2\nout 0 41\nno 31 Unknown\n";
@@ -274,7 +274,7 @@ const STOPPED_IN_FIRST: &[u8] =
 const STOPPED_IN_SECOND: &[u8] =
     b"ok 1 placed\nok 2 ran 2 on\nack 2\nok 3 ran 4 end\nno 25 Device\n";
 
-/// The rest of these lines behind so many events, and what they get.
+/// The rest of these lines after that many events, and what they get.
 fn rest_of_two_commits(events: u64) -> (&'static [u8], &'static [u8]) {
     match events {
         0 => (TWO_COMMITS, BOTH_COMMITTED),

@@ -41,7 +41,7 @@ fn the_empty_image_faults(rt: HostRuntime) {
 /// Where journal 0 begins.
 const JOURNAL: usize = 339_968;
 
-/// Ten bytes behind the gate of the first batch: its length, its two events, and the gate behind it.
+/// Ten bytes after the gate of the first batch: its length, its two events, and the gate after it.
 const BATCH: [u8; 10] = [7, 0, 1, 0, 1, 2, 0, 2, 0, 0];
 
 /// A session's commit of two events, stopped at its gate, and what the stop leaves of the disk.
@@ -55,7 +55,7 @@ fn stopped_at_the_gate<R: Abort + AllocGlobal>(rt: &R, fill: &[u8]) -> Vec<u8> {
     session.into_disk().into_image()
 }
 
-/// What was synced before the gate is there, the gate is this byte, and so many events are recovered.
+/// What was synced before the gate is there, the gate is this byte, and that many events are recovered.
 fn expect_stop_at_the_gate<R: Abort + AllocGlobal>(rt: &R, fill: &[u8], gate: u8, count: u64) {
     let left = stopped_at_the_gate(rt, fill);
     expect_part(rt, left.as_slice(), JOURNAL, &[gate]);

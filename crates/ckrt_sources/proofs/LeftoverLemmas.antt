@@ -1,10 +1,10 @@
 -- Whether a disk's program has begun, by what is recovered from it.
 use Rattle.std.proofs.Common.{◌≡◌, ◌∙◌, ℕ, Bool, false, List, Result, Ok, Err, refl, sym, ap, subst, true≢false}
 use Rattle.std.specs.Prelude.{◌↔◌, IsTrue, is_ok}
-use Rattle.ckrt_image.specs.Recovery.{AgreesOnFault, Recovered, Recovers}
-use Rattle.ckrt_image.specs.declared.fault.RecoverFault.{RecoverFault}
-use Rattle.ckrt_image.specs.declared.fault.RecoverFault.TheVariants.{NotFormatted, Version, Damaged, Device, OutOfMemory}
-use Rattle.ckrt_image.proofs.RecoverLemmas.{recovered_once, recovers_once}
+use Rattle.ckrt_stored.specs.Recovery.{AgreesOnFault, Recovered, Recovers}
+use Rattle.ckrt_stored.specs.declared.fault.RecoverFault.{RecoverFault}
+use Rattle.ckrt_stored.specs.declared.fault.RecoverFault.TheVariants.{NotFormatted, Version, Damaged, Device, OutOfMemory}
+use Rattle.ckrt_stored.proofs.RecoverLemmas.{recovered_once, recovers_once}
 use Rattle.ckrt_sources.specs.Leftovers.{HasNotBegun, IsOfContent}
 
 -- what recovers to a program that is at its start is one that hasn't begun, and nothing else is

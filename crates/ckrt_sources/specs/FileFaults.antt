@@ -30,7 +30,7 @@ file_text file.Output = codes "the output "
 file_text file.Making = codes "the disk in the making "
 file_text file.Core = codes "the core "
 
--- what stands behind the path that the words give: a disk in the making lies beside its path
+-- what stands after the path that the words give: a disk in the making lies beside its path
 abbrev pub file_ending : JobFile → List ℕ
 file_ending file.Making = codes ".making"
 file_ending _ = []

@@ -1,9 +1,9 @@
 -- What a making that was cut leaves beside a disk's path.
 use Rattle.std.specs.Prelude.{◌≡◌, ◌≢◌, ◌⊎◌, ℕ, nat_eq, nat_lt, Bool, true, if◌then◌else◌, List, length, take, Ok}
 use Rattle.ckrt_checkpoint.specs.Layout.{number_at}
-use Rattle.ckrt_image.specs.declared.fault.RecoverFault.{RecoverFault}
-use Rattle.ckrt_image.specs.declared.fault.RecoverFault.TheVariants.{Device, OutOfMemory}
-use Rattle.ckrt_image.specs.Recovery.{Recovered, Recovers}
+use Rattle.ckrt_stored.specs.declared.fault.RecoverFault.{RecoverFault}
+use Rattle.ckrt_stored.specs.declared.fault.RecoverFault.TheVariants.{Device, OutOfMemory}
+use Rattle.ckrt_stored.specs.Recovery.{Recovered, Recovers}
 
 -- the file is empty, or begins with eight zero bytes: its gate is closed
 abbrev pub is_unformatted : List ℕ → Bool

@@ -15,7 +15,7 @@ reason_of kind.BrokenPipe = reason.BrokenPipe
 reason_of kind.WouldBlock = reason.WouldBlock
 reason_of _ = reason.Other
 
--- it stands behind the output's path
+-- it stands after the output's path
 abbrev pub reason_text : OutputReason → List ℕ
 reason_text reason.StorageFull = codes "no space is left for it; make some, then the same command goes on (docs/OPERATING.md)"
 reason_text reason.QuotaExceeded = codes "the disk quota is used up; make some space, then the same command goes on (docs/OPERATING.md)"

@@ -8,7 +8,7 @@ pub record Gives (D : Type 0) : Type 1 where
   pub Outputs : List ℕ → OpenedOutput D → Type 0
   -- the inputs of a path
   pub Inputs : List ℕ → D → Type 0
-  -- what a disk may be once it is made so many bytes long
+  -- what a disk may be once it is made that many bytes long
   pub Longer : D → ℕ → D → Type 0
 
 -- they may give anything

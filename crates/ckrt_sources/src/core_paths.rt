@@ -8,7 +8,7 @@ use crate::files::{fill_file, keep, open_or_make, open_read, remove, sync_folder
 use std::fs::{File, Files};
 use std::os::unix::fs::FileExt;
 
-/// How many bytes tell that a file is a core: up to its type, behind the 16 bytes of its identification.
+/// How many bytes tell that a file is a core: up to its type, after the 16 bytes of its identification.
 const FRONT: usize = 18;
 
 /// Whether a file with these first bytes is an ELF core.
@@ -18,7 +18,7 @@ fn begins_as_core(front: &[u8; FRONT]) -> bool
     front.starts_with(b"\x7fELF") && front[16] == 4 && front[17] == 0
 }
 
-/// The first bytes of a file that has so many.
+/// The first bytes of a file that has that many.
 fn front_of(file: &File) -> Option<[u8; FRONT]> {
     let mut front = [0; FRONT];
     match file.read_exact_at(&mut front, 0) {
@@ -81,7 +81,7 @@ fn begin_anew(file: &File) -> Result<(), FileFault> {
     Ok(())
 }
 
-/// The file of a core in the making for a path, of this name and of so many zero bytes.
+/// The file of a core in the making for a path, of this name and of that many zero bytes.
 pub(crate) fn open_core_file<R: Files<File = File>>(
     rt: &R,
     path: &str,

@@ -93,7 +93,7 @@ impl<'a> FileOpening<'a> {
     }
 }
 
-/// What stands behind a disk's path in that of the disk in the making.
+/// What stands after a disk's path in that of the disk in the making.
 pub(crate) const MAKING: &str = ".making";
 
 impl JobFile {
@@ -111,7 +111,7 @@ impl JobFile {
         }
     }
 
-    /// What stands behind the path that the words give for it.
+    /// What stands after the path that the words give for it.
     pub fn ending(self) -> &'static str
         ensures { result.now ≡ file_ending self }
     {

@@ -157,7 +157,7 @@ pub(crate) fn disk_of<'a, H: Holds>(file: File) -> Result<RealDisk<'a, H>, FileF
     Ok(FileDisk::new(ToldFile::untold(SystemFile::new(file)), told.len() as usize))
 }
 
-/// Fills a file that is shorter than so many bytes up to them. What is no regular file isn't filled.
+/// Fills a file that is shorter than that many bytes up to them. What is no regular file isn't filled.
 pub(crate) fn fill_file(file: &File, size: usize) -> Result<(), FileFault> {
     let told = file.metadata()?;
     let length = told.len() as usize;
@@ -171,7 +171,7 @@ pub(crate) fn fill_file(file: &File, size: usize) -> Result<(), FileFault> {
     }
 }
 
-/// A file of at least so many bytes: one that is missing or shorter is filled with zero bytes.
+/// A file of at least that many bytes: one that is missing or shorter is filled with zero bytes.
 pub(crate) fn open_filled_file<R: Files<File = File>>(
     rt: &R,
     path: &str,
@@ -230,7 +230,7 @@ fn begin_anew<R: Files>(rt: &R, alloc: Global, path: &str, file: &File) -> Resul
     Ok(())
 }
 
-/// The file of a disk in the making for a path, of this name and of so many zero bytes.
+/// The file of a disk in the making for a path, of this name and of that many zero bytes.
 pub(crate) fn open_making_file<R: Files<File = File>>(
     rt: &R,
     alloc: Global,
@@ -274,7 +274,7 @@ pub(crate) fn open_disk_file<R: Files<File = File>>(rt: &R, path: &str) -> Resul
     Ok(file)
 }
 
-/// How many bytes an output has: more than any file. Those behind the end of its file count as zeros until they are written.
+/// How many bytes an output has: more than any file. Those after the end of its file count as zeros until they are written.
 const OUTPUT_SIZE: usize = i64::MAX as usize;
 
 /// The output of an open file, which grows as it is written, and tells why it fails. What isn't a plain file, as a terminal, has no
@@ -331,7 +331,7 @@ pub(crate) fn open_system_input<'a, R: Files<File = File>, H: Holds>(
     Ok(FileDisk::new(ToldFile::untold(SystemFile::new(file)), told.len() as usize))
 }
 
-/// The disk of an open file once zero bytes stand behind its own, up to so many bytes.
+/// The disk of an open file once zero bytes stand after its own, up to that many bytes.
 pub(crate) fn longer_disk<'a, H: Holds>(
     file: &File,
     size: usize,

@@ -11,7 +11,7 @@ use std::fs::File;
 use std::io;
 use std::os::unix::fs::FileExt;
 
-/// A file of the system as a disk of as many bytes as it is to have: it grows where it is written behind its end. It keeps why
+/// A file of the system as a disk of as many bytes as it is to have: it grows where it is written after its end. It keeps why
 /// its last call failed, which a disk doesn't tell. It isn't honest: what a file of the system holds no contract can say.
 #[derive(Drop)]
 pub(crate) struct GrowingFile<'a> {
@@ -23,7 +23,7 @@ pub(crate) struct GrowingFile<'a> {
 }
 
 impl<'a> GrowingFile<'a> {
-    /// A file that is to have so many bytes.
+    /// A file that is to have that many bytes.
     pub(crate) fn new(file: &'a File, size: usize) -> GrowingFile<'a>
         ensures size { result.size ≡ size }
         ensures failures { result.failures ≡ 0 }

@@ -15,7 +15,7 @@ pub(crate) struct Looked<D> {
     pub(crate) is_in_making: Result<bool, RecoverFault>,
 }
 
-/// How many bytes tell that a disk isn't formatted: its gate, and those behind it that nothing writes.
+/// How many bytes tell that a disk isn't formatted: its gate, and those after it that nothing writes.
 const FRONT: usize = 8;
 
 /// Whether a file is empty, or begins as a disk that isn't formatted.

@@ -49,7 +49,7 @@ pub trait Sources<'a, I: Read, D: Disk>: Closes<D> {
     /// The disks that a path may stand for.
     ghost opens: { Self → List ℕ → D → Type 0 };
 
-    /// The disks that it may stand for once what is shorter than so many bytes is filled up to them, under its own name or as a
+    /// The disks that it may stand for once what is shorter than that many bytes is filled up to them, under its own name or as a
     /// disk in the making.
     ghost fills: { Self → List ℕ → ℕ → D → Type 0 };
 
@@ -87,7 +87,7 @@ pub trait Sources<'a, I: Read, D: Disk>: Closes<D> {
         ensures asked { Self.openings self.new
             ≡ with_disk (Self.openings self.old) (opening_of path.now result) };
 
-    /// A disk in the making, for a path that nothing has: a file beside it, made anew with so many zero bytes. What lies there
+    /// A disk in the making, for a path that nothing has: a file beside it, made anew with that many zero bytes. What lies there
     /// and is no disk in the making is refused.
     fn open_making(&mut self, alloc: Global, path: &'a str, size: usize) -> Result<D, FileFault>
         ensures disk { IfOk result (fills self.old path.now size) }
@@ -103,7 +103,7 @@ pub trait Sources<'a, I: Read, D: Disk>: Closes<D> {
         ensures same { GivesSame (image_bytes self.old) (image_bytes self.new) (fills self.old)
             (fills self.new) (gives self.old) (gives self.new) };
 
-    /// A core in the making, for a path that nothing has, or a core, or an empty file: a file beside it, made anew with so many
+    /// A core in the making, for a path that nothing has, or a core, or an empty file: a file beside it, made anew with that many
     /// zero bytes. What else has the path is refused, the disk too, and so is what lies there and is no core in the making.
     fn open_core(&mut self, alloc: Global, path: &'a str, size: usize) -> Result<D, FileFault>
         ensures core { IfOk result (fills self.old path.now size) }
@@ -115,7 +115,7 @@ pub trait Sources<'a, I: Read, D: Disk>: Closes<D> {
         ensures named { Self.openings self.new
             ≡ with_named (Self.openings self.old) (opening_of path.now result) core.now };
 
-    /// The output of a path, which is made where it is missing, and never shortened: what it holds stays, and bytes behind
+    /// The output of a path, which is made where it is missing, and never shortened: what it holds stays, and bytes after
     /// its end are zeros. It comes with the length of its file.
     fn open_output(&mut self, path: &'a str) -> Result<OpenedOutput<D>, FileFault>
         ensures output { IfOk result ((gives self.old).Outputs path.now) }
@@ -133,7 +133,7 @@ pub trait Sources<'a, I: Read, D: Disk>: Closes<D> {
     /// say this.
     fn last_reason(&self) -> OutputReason;
 
-    /// A disk that was opened, made so many bytes long with zero bytes behind its own, durably. Its own bytes stay.
+    /// A disk that was opened, made that many bytes long with zero bytes after its own, durably. Its own bytes stay.
     fn lengthen(&mut self, disk: D, size: usize) -> Result<D, Unlengthened<D>>
         ensures longer { IfOk result ((gives self.old).Longer disk size) }
         ensures kept { IfErr result (λ u. u.disk ≡ disk) }

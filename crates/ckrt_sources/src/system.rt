@@ -166,7 +166,7 @@ impl<'a, R: Files<File = File>, D> SystemSources<'a, R, D> {
         Ok(file)
     }
 
-    /// The file of a disk that is made where it is missing, and filled up to so many bytes.
+    /// The file of a disk that is made where it is missing, and filled up to that many bytes.
     fn open_filled_file(&mut self, path: &'a str, size: usize) -> Result<File, FileFault>
         ensures { openings_of self.new ≡ openings_of self.old }
     {
@@ -246,7 +246,7 @@ impl<'a, R: Files<File = File>, D> SystemSources<'a, R, D> {
 }
 
 impl<'a, R: Files<File = File>, H: Holds> SystemSources<'a, R, RealDisk<'a, H>> {
-    /// The disk that is open, of so many bytes.
+    /// The disk that is open, of that many bytes.
     fn longer(&mut self, size: usize) -> Result<RealDisk<'a, H>, FileFault>
         ensures { openings_of self.new ≡ openings_of self.old }
     {

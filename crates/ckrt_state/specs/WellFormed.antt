@@ -1,10 +1,10 @@
 -- Which tables a program may have: the rules of its parts, and those that join the parts. Where no page is named they are this project's choice.
-use Rattle.std.specs.Prelude.{◌≡◌, ◌==◌, ◌%◌, ◌<◌, ◌≤◌, ◌^◌, ℕ, Bool, true, not, ◌&&◌, if◌then◌else◌, List, [], ◌∷◌, length}
+use Rattle.std.specs.Prelude.{◌≡◌, ◌==◌, ◌%◌, ◌<◌, ◌≤◌, ℕ, Bool, true, not, ◌&&◌, if◌then◌else◌, List, [], ◌∷◌, length}
 use Rattle.std.specs.List.{list_all}
 use Rattle.ckrt_rv32i.specs.declared.execution.Cause.{Cause}
 use Rattle.ckrt_thread.specs.declared.records.Wait.{Wait}
 use Rattle.ckrt_thread.specs.declared.records.Object.TheVariants as object
-use Rattle.ckrt_thread.specs.Waits.{is_for}
+use Rattle.ckrt_thread.specs.Waits.{is_for, MOMENT_END}
 use Rattle.ckrt_thread.specs.Deadlines.{is_ahead}
 use Rattle.ckrt_thread.specs.State as thread
 use Rattle.ckrt_mutex.specs.WellFormed as mutex
@@ -49,7 +49,7 @@ pub record IsWellFormed (s : Tables) : Type 0 where
   -- who waits for input has no byte to read, and the input has not ended
   pub readers : list_all (lacks_input s.input s.closed) s.threads.waits ≡ true
   -- the end of time is never reached
-  pub clock : s.clock < 2 ^ 63
+  pub clock : s.clock < MOMENT_END
   -- no more input waits than may
   pub input : length s.input ≤ INPUT_LIMIT
   -- a thread that faulted has not ended, and the pc of its fault is a multiple of 4

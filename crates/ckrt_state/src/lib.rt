@@ -2,8 +2,10 @@
 #![tactic(auto)]
 
 mod input;
+mod output;
 mod table;
 mod well_formed;
 
 pub use input::{INPUT_LIMIT, InputQueue};
+pub use output::HELD_LIMIT;
 pub use table::{Status, Tables};

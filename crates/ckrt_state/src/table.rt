@@ -39,7 +39,7 @@ pub struct Tables {
 }
 
 impl Tables {
-    /// The tables of a program that begins, with so many pages of memory (16 to 1,024) and so many harts (1 to 8).
+    /// The tables of a program that begins, with that many pages of memory (16 to 1,024) and that many harts (1 to 8).
     /// The only error is that the memory for them is refused.
     pub fn new(alloc: Global, pages: u32, harts: usize) -> Result<Self, AllocError>
         requires pages { pages ≤ 1024 }

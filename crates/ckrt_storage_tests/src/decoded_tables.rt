@@ -75,7 +75,7 @@ fn expect_nothing_of_front<R: Abort + AllocGlobal>(rt: &R, bytes: &[u8], size: u
     expect_nothing(rt, front, 2);
 }
 
-/// No byte may be missing, and none may stand behind.
+/// No byte may be missing, and none may stand after.
 #[test]
 fn a_byte_more_or_fewer_is_nothing(rt: HostRuntime) {
     let mut bytes = bytes_of_everything(&rt);
@@ -481,7 +481,7 @@ const VALUES: [(u8, &[u8], bool); 18] = [
         &[0, 0, 2, 0, 31, 0, 0, 0, 7, 0, 0, 0, 31, 0, 0, 0, 8, 0, 0, 0],
         false,
     ),
-    // The byte behind the count.
+    // The byte after the count.
     (1, &[0, 0, 0, 1], false),
     // A thread that doesn't unwind is in no round.
     (1, &[1, 0, 0, 0], false),
@@ -518,7 +518,7 @@ fn keys_are_decoded_as_they_may_be(rt: HostRuntime) {
     }
 }
 
-/// Values are under keys, and only who unwinds is in a round.
+/// Values are under keys, and only a thread that unwinds is in a round.
 #[test]
 fn values_are_decoded_as_they_may_be(rt: HostRuntime) {
     for (place, (flags, values, is_there)) in VALUES.iter().enumerate() {

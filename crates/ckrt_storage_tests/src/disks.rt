@@ -1,4 +1,4 @@
-// Worked values of the disks in memory, and real files.
+//! Worked values of the disks in memory, and real files.
 
 use crate::expect::{
     copied, expect_bytes, expect_eq, expect_failed_read, expect_read, expect_sync, expect_text,
@@ -36,7 +36,7 @@ fn expect_synced<R: Abort, D: Disk>(rt: &R, disk: &mut D, at: usize, bytes: &[u8
     expect_eq(rt, write_synced(disk, at, bytes), Ok(()));
 }
 
-// Synced bytes stay, and the fill goes over several ranges by rising offset.
+/// Synced bytes stay, and the fill goes over several ranges by rising offset.
 #[test]
 fn fill_leaves_synced_bytes(rt: HostRuntime) {
     let mut disk = stopping_disk(&rt, copied(&rt, &[0; 8]), 4, &[0xa5, 0x5a, 0xc3]);
@@ -60,7 +60,7 @@ fn expect_second_fails<R: Abort, D: Disk>(rt: &R, disk: &mut D) {
     expect_sync(rt, disk, Ok(()));
 }
 
-// Just that call fails, and isn't done.
+/// Just that call fails, and isn't done.
 #[test]
 fn one_call_fails(rt: HostRuntime) {
     let mut disk = memory_disk(&rt, copied(&rt, &[0; 4]));
@@ -109,7 +109,7 @@ fn expect_kept<R: Abort + Files<File = File> + AllocGlobal>(rt: &R, path: &str) 
     let mut disk = opened(rt, path);
     expect_six(rt, &mut disk, &[4, 5, 0]);
 
-    // The file shrinks behind the disk's back: a read past its end is a device fault.
+    // The file shrinks after the disk's back: a read past its end is a device fault.
     write_file(rt, path, &[0; 2]);
     expect_failed_read(rt, &mut disk, 1, 3);
     remove_file(rt, path);
@@ -155,7 +155,7 @@ fn expect_short<R: Abort, D: Disk>(rt: &R, disk: &mut D) {
     expect_read(rt, disk, 1, &[2, 3]);
 }
 
-// A file that ends before what is asked is a device fault, and what is there is still read.
+/// A file that ends before what is asked is a device fault, and what is there is still read.
 #[test]
 fn a_short_file_is_a_device_fault(rt: HostRuntime) {
     let file = MemoryFile::new(copied(&rt, &[1, 2, 3]), Vec::new(rt.alloc()));
@@ -170,8 +170,8 @@ fn expect_full<R: Abort, D: Disk>(rt: &R, disk: &mut D) {
     expect_sync(rt, disk, Err(DeviceFault));
 }
 
-// A device that is always full takes no byte and reads as zeros, and the system has no sync of it (EINVAL, POSIX.1-2017,
-// fdatasync). A machine without one is not tested.
+/// A device that is always full takes no byte and reads as zeros, and the system has no sync of it (EINVAL, POSIX.1-2017,
+/// fdatasync). A machine without one is not tested.
 #[test]
 fn a_full_device_is_a_device_fault(rt: HostRuntime) {
     let opened = OpenOptions::new()

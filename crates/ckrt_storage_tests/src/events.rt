@@ -14,13 +14,13 @@ fn input<R: Abort>(rt: &R, bytes: &[u8]) -> Event {
     Event::Input(input)
 }
 
-/// The bytes of one event behind those of others.
+/// The bytes of one event after those of others.
 fn push_event<R: Abort>(rt: &R, bytes: &mut ArrayVec<u8, BATCH_LIMIT>, event: &Event) {
     assert!(rt; event.in_range());
     assert!(rt; encode_event(event, bytes));
 }
 
-/// The event has so many bytes.
+/// The event has that many bytes.
 fn expect_length<R: Abort>(rt: &R, event: &Event, length: usize) {
     expect_eq(rt, encoded_len(event), length);
 }

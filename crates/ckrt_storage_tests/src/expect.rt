@@ -50,7 +50,7 @@ pub fn stopping_disk<R: Abort + AllocGlobal>(
     StoppingDisk::new(rt.alloc(), bytes, at_call, copied(rt, fill)).expect(rt, "memory for a disk")
 }
 
-/// Whether so many bytes from an offset on are bytes of a disk.
+/// Whether that many bytes from an offset on are bytes of a disk.
 fn is_inside<D: Disk>(disk: &D, at: usize, length: usize) -> bool
     ensures { IsTrue result → at + length ≤ D.size disk.now }
 {
@@ -107,23 +107,23 @@ pub fn copied<R: Abort + AllocGlobal>(rt: &R, bytes: &[u8]) -> Vec<u8> {
     bytes.to_vec(rt.alloc()).expect(rt, "memory for bytes")
 }
 
-/// So many bytes of one value.
+/// That many bytes of one value.
 pub fn filled<R: Abort + AllocGlobal>(rt: &R, byte: u8, size: usize) -> Vec<u8> {
     vec![in rt.alloc(); byte; size].expect(rt, "memory for bytes")
 }
 
-/// Bytes behind others.
+/// Bytes after others.
 pub fn push<R: Abort>(rt: &R, bytes: &mut Vec<u8>, more: &[u8]) {
     bytes.extend_from_slice(more).expect(rt, "memory for bytes");
 }
 
-/// So many zeros behind the bytes that there are.
+/// That many zeros after the bytes that there are.
 pub fn push_zeros<R: Abort>(rt: &R, bytes: &mut Vec<u8>, count: usize) {
     let size = bytes.len().saturating_add(count);
     bytes.resize(size, 0).expect(rt, "memory for bytes");
 }
 
-/// Pieces, one behind the other.
+/// Pieces, one after the other.
 pub fn bytes_of<R: Abort + AllocGlobal>(rt: &R, pieces: &[Piece]) -> Vec<u8> {
     let mut bytes = Vec::new(rt.alloc());
     for (front, zeros) in pieces {

@@ -12,7 +12,7 @@ use ckrt_thread::{
 };
 use std::process::Abort;
 
-/// A thread behind those that there are.
+/// A thread after those that there are.
 fn append_thread<R: Abort>(rt: &R, threads: &mut Threads, id: ThreadId) {
     let thread = Thread::Live(Live {
         regs: Regs::new(0x1000),
@@ -25,7 +25,7 @@ fn append_thread<R: Abort>(rt: &R, threads: &mut Threads, id: ThreadId) {
     expect_eq(rt, threads.append_thread(id, thread), true);
 }
 
-/// A wait behind those that there are.
+/// A wait after those that there are.
 fn append_wait<R: Abort>(
     rt: &R,
     threads: &mut Threads,

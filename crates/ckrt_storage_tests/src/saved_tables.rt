@@ -28,7 +28,7 @@ fn held<R: Abort + AllocGlobal>(rt: &R, bytes: &[u8]) -> Held {
     held
 }
 
-/// What the tables and the output are saved as; the room behind it stays as it was.
+/// What the tables and the output are saved as; the room after it stays as it was.
 pub fn expect_encoding<R: Abort + AllocGlobal>(rt: &R, tables: &Tables, held: &Held, want: &[u8]) {
     let mut room = filled(rt, 0xEE, TABLES_ROOM);
     assert!(rt; room.len() >= TABLES_ROOM);
@@ -154,7 +154,7 @@ fn thread_of(id: ThreadId) -> Thread {
     }
 }
 
-/// A thread behind those that there are is taken, or refused.
+/// A thread after those that there are is taken, or refused.
 fn expect_thread<R: Abort>(
     rt: &R,
     threads: &mut Threads,
@@ -165,7 +165,7 @@ fn expect_thread<R: Abort>(
     expect_eq_at(rt, id, threads.append_thread(id, thread), is_taken);
 }
 
-/// A wait behind those that there are is taken, or refused.
+/// A wait after those that there are is taken, or refused.
 fn expect_wait<R: Abort>(rt: &R, threads: &mut Threads, wait: Wait, is_taken: bool) {
     expect_eq_at(rt, wait.thread, threads.append_wait(wait), is_taken);
 }

@@ -18,11 +18,11 @@ use Rattle.ckrt_state.specs.WellFormed.{IsWellFormed}
 use Rattle.ckrt_thread.specs.declared.keys.SpecificData.{SpecificData}
 use Rattle.ckrt_thread.specs.Keys.{KeyTable, are_proper_keys}
 use Rattle.ckrt_thread.proofs.KeyLemmas.{enough_values}
-use Rattle.ckrt_tables.specs.Records.{hart_bytes, handlers_of, handler_bytes, specific_of, if_not_0, words_from, key_word_bytes, value_words, data_bytes, keys_bytes, thread_bytes, wait_bytes, mutex_bytes, barrier_bytes, reader_at, readers_from, reader_bytes, rwlock_bytes, flag, counted, one_byte}
+use Rattle.ckrt_tables.specs.Records.{hart_bytes, handlers_of, handler_bytes, specific_of, if_not_0, words_from, key_entry_bytes, value_words, data_bytes, keys_bytes, thread_bytes, wait_bytes, mutex_bytes, barrier_bytes, reader_at, readers_from, reader_bytes, rwlock_bytes, flag, counted, one_byte}
 use Rattle.ckrt_tables.specs.Encoding.{encoding_of, IsHeld}
 use Rattle.ckrt_tables.proofs.Few.{few}
 use Rattle.ckrt_tables.proofs.Counts.{readers_fewer}
-use Rattle.ckrt_tables.proofs.KeyWords.{words_fewer}
+use Rattle.ckrt_tables.proofs.KeyEntries.{words_fewer}
 use Rattle.std.proofs.lemmas.List.{length-map}
 use Rattle.ckrt_tables.proofs.Lengths.{encoding_length, status_length}
 
@@ -35,8 +35,8 @@ length_each each n one (x ∷ xs) =
 
 -- THREADS
 
-words_length : (os : List (Option ℕ)) → length os ≡ 32 → length (flat_map key_word_bytes (words_from 0 os)) ≤ 256
-words_length os n = (let each = length_each key_word_bytes 8 (λ w. refl) (words_from 0 os) in let few = words_fewer 0 os in omega (arith, each, few, n))
+words_length : (os : List (Option ℕ)) → length os ≡ 32 → length (flat_map key_entry_bytes (words_from 0 os)) ≤ 256
+words_length os n = (let each = length_each key_entry_bytes 8 (λ w. refl) (words_from 0 os) in let few = words_fewer 0 os in omega (arith, each, few, n))
 
 -- what a thread has under keys, by itself
 abbrev under_keys : ℕ → ThreadRow → List ℕ
@@ -45,7 +45,7 @@ under_keys version r = data_bytes version (specific_of r.thread)
 data_bound : (version : ℕ) (d : SpecificData) → length d.values ≡ 32 → length (data_bytes version d) ≤ 260
 data_bound version d n =
     let words = words_length (map if_not_0 d.values) (length-map d.values if_not_0 ∙ n) in
-    elim (version == 1) as (λ b. length (cond b [] (d.round ∷ d.next_key ∷ length (value_words d) ∷ 0 ∷ flat_map key_word_bytes (value_words d))) ≤ 260) [
+    elim (version == 1) as (λ b. length (cond b [] (d.round ∷ d.next_key ∷ length (value_words d) ∷ 0 ∷ flat_map key_entry_bytes (value_words d))) ≤ 260) [
       | true ↦ omega arith
       | false ↦ omega (arith, words)
     ]
@@ -54,7 +54,7 @@ keys_bound : (version : ℕ) (keys : KeyTable) → are_proper_keys keys ≡ true
 keys_bound version keys p =
     let size : length keys.destructors ≡ 32 = grind (arith, nat_tests, p) in
     let words = words_length keys.destructors size in
-    elim (version == 1) as (λ b. length (cond b [] (flag 1 keys.is_on ∷ counted one_byte key_word_bytes (words_from 0 keys.destructors))) ≤ 258) [
+    elim (version == 1) as (λ b. length (cond b [] (flag 1 keys.is_on ∷ counted one_byte key_entry_bytes (words_from 0 keys.destructors))) ≤ 258) [
       | true ↦ omega arith
       | false ↦ omega (arith, words)
     ]

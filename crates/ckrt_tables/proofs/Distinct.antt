@@ -32,14 +32,14 @@ use Rattle.ckrt_state.specs.declared.table.Status.TheVariants as status
 use Rattle.ckrt_state.specs.declared.table.Tables.{Tables}
 use Rattle.ckrt_state.specs.WellFormed.{IsWellFormed}
 use Rattle.ckrt_tables.specs.declared.reading_objects.Reader.{Reader}
-use Rattle.ckrt_tables.specs.declared.reading_keys.KeyWord.{KeyWord}
-use Rattle.ckrt_tables.specs.Records.{id_or_0, cause_number, cause_from, counted, one_byte, two_bytes, hart_bytes, flag, flags_of, value_of, registers_of, handlers_of, specific_of, registers_bytes, handler_bytes, words_from, key_word_bytes, if_not_0, word_or_0, value_words, data_bytes, keys_bytes, thread_bytes, kind_of, result_of, first_name, second_name, reason_from, wait_bytes, mutex_kind_number, mutex_bytes, barrier_bytes, readers_from, readers_of, reader_bytes, rwlock_bytes}
+use Rattle.ckrt_tables.specs.declared.reading_keys.KeyEntry.{KeyEntry}
+use Rattle.ckrt_tables.specs.Records.{id_or_0, cause_number, cause_from, counted, one_byte, two_bytes, hart_bytes, flag, flags_of, value_of, registers_of, handlers_of, specific_of, registers_bytes, handler_bytes, words_from, key_entry_bytes, if_not_0, word_or_0, value_words, data_bytes, keys_bytes, thread_bytes, kind_of, result_of, first_name, second_name, reason_from, wait_bytes, mutex_kind_number, mutex_bytes, barrier_bytes, readers_from, readers_of, reader_bytes, rwlock_bytes}
 use Rattle.ckrt_tables.specs.Encoding.{status_bytes, queue_bytes}
-use Rattle.ckrt_tables.specs.DecodingThreads.{fits_key_word, AreWords}
-use Rattle.ckrt_tables.specs.Savable.{is_half, is_word, is_long, if_there, fit_registers, fits_handler, fits_data, fit_keys, is_bare, is_bare_slot, is_without_keys, fits_thread, fits_slot, fits_reason, fits_wait, is_id, fits_mutex, fits_barrier, fits_rwlock, fits_status, AreDistinct}
+use Rattle.ckrt_tables.specs.DecodingThreads.{fits_key_entry, AreWords}
+use Rattle.ckrt_tables.specs.Savable.{is_half, is_word, is_long, if_there, fit_registers, fits_handler, fits_data, fit_keys, is_without_data, is_slot_without_data, is_without_keys, fits_thread, fits_slot, fits_reason, fits_wait, is_id, fits_mutex, fits_barrier, fits_rwlock, fits_status, AreDistinct}
 use Rattle.ckrt_tables.specs.Objects.{fits_reader, with_readers}
 use Rattle.ckrt_tables.proofs.Counts.{readers_fit, counts_found}
-use Rattle.ckrt_tables.proofs.KeyWords.{words_fit, words_known, values_again, FitData, data_fits, words_of_data, same_data, bare_data, same_keys, off_keys}
+use Rattle.ckrt_tables.proofs.KeyEntries.{words_fit, words_known, values_again, FitData, data_fits, words_of_data, same_data, is_no_data, same_keys, off_keys}
 use Rattle.ckrt_tables.proofs.Few.{few}
 
 abbrev pub IsPrefixFree : {X : Type 0} → (X → Type 0) → (X → List ℕ) → Type 0
@@ -284,31 +284,31 @@ spelt v r h d a = append_assoc v (r ++ (h ++ d)) a ∙ ap (λ l. v ++ l) (append
 
 -- what a thread has under keys
 
-key_word_free : IsPrefixFree (λ w. fits_key_word w ≡ true) key_word_bytes
+key_word_free : IsPrefixFree (λ w. fits_key_entry w ≡ true) key_entry_bytes
 key_word_free w v a b fw fv e =
     let k = word_free w.key v.key (little_bytes 4 w.word ++ a) (little_bytes 4 v.word ++ b) (both (is_word w.key) (is_word w.word) fw).0 (both (is_word v.key) (is_word v.word) fv).0 (sym (append_assoc (little_bytes 4 w.key) (little_bytes 4 w.word) a) ∙ e ∙ append_assoc (little_bytes 4 v.key) (little_bytes 4 v.word) b) in
     let x = word_free w.word v.word a b (both (is_word w.key) (is_word w.word) fw).1 (both (is_word v.key) (is_word v.word) fv).1 k.1 in
     (same w.key w.word v k.0 x.0, x.1)
   where
-    same : (key word : ℕ) (v : KeyWord) → key ≡ v.key → word ≡ v.word → record { key = key; word = word } ≡ v
+    same : (key word : ℕ) (v : KeyEntry) → key ≡ v.key → word ≡ v.word → record { key = key; word = word } ≡ v
     same key word v e₁ e₂ = rw (e₁, e₂) refl
 
 -- words of 32 keys
 pub words_free : (os qs : List (Option ℕ)) (a b : List ℕ) → AreWords os → AreWords qs → length (words_from 0 os) ≡ length (words_from 0 qs)
-    → flat_map key_word_bytes (words_from 0 os) ++ a ≡ flat_map key_word_bytes (words_from 0 qs) ++ b → (os ≡ qs) × (a ≡ b)
+    → flat_map key_entry_bytes (words_from 0 os) ++ a ≡ flat_map key_entry_bytes (words_from 0 qs) ++ b → (os ≡ qs) × (a ≡ b)
 words_free os qs a b f g n e =
     let so = f.0 in
     let sq = g.0 in
-    let w = parts_free fits_key_word key_word_bytes key_word_free (words_from 0 os) (words_from 0 qs) a b (words_fit 0 os (omega (arith, so)) f.1) (words_fit 0 qs (omega (arith, sq)) g.1) n e in
+    let w = parts_free fits_key_entry key_entry_bytes key_word_free (words_from 0 os) (words_from 0 qs) a b (words_fit 0 os (omega (arith, so)) f.1) (words_fit 0 qs (omega (arith, sq)) g.1) n e in
     (words_known os qs f.0 g.0 w.0, w.1)
 
 abbrev full_data : SpecificData → List ℕ
-full_data d = d.round ∷ d.next_key ∷ length (value_words d) ∷ 0 ∷ flat_map key_word_bytes (value_words d)
+full_data d = d.round ∷ d.next_key ∷ length (value_words d) ∷ 0 ∷ flat_map key_entry_bytes (value_words d)
 
 full_data_free : (d c : SpecificData) (a b : List ℕ) → FitData d → FitData c → full_data d ++ a ≡ full_data c ++ b → (d ≡ c) × (a ≡ b)
 full_data_free d c a b f g e =
-    let da = flat_map key_word_bytes (value_words d) ++ a in
-    let ca = flat_map key_word_bytes (value_words c) ++ b in
+    let da = flat_map key_entry_bytes (value_words d) ++ a in
+    let ca = flat_map key_entry_bytes (value_words c) ++ b in
     let r = byte_free d.round c.round (d.next_key ∷ length (value_words d) ∷ 0 ∷ da) (c.next_key ∷ length (value_words c) ∷ 0 ∷ ca) e in
     let k = byte_free d.next_key c.next_key (length (value_words d) ∷ 0 ∷ da) (length (value_words c) ∷ 0 ∷ ca) r.1 in
     let n = byte_free (length (value_words d)) (length (value_words c)) (0 ∷ da) (0 ∷ ca) k.1 in
@@ -317,25 +317,25 @@ full_data_free d c a b f g e =
     let values : d.values ≡ c.values = sym (values_again d.values) ∙ ap (map word_or_0) w.0 ∙ values_again c.values in
     (same_data d.round d.next_key d.values c r.0 k.0 values, w.1)
 
-data_free : (version : ℕ) (d c : SpecificData) (a b : List ℕ) → fits_data d ≡ true → fits_data c ≡ true → (version ≡ 1 → (is_bare d ≡ true) × (is_bare c ≡ true))
+data_free : (version : ℕ) (d c : SpecificData) (a b : List ℕ) → fits_data d ≡ true → fits_data c ≡ true → (version ≡ 1 → (is_without_data d ≡ true) × (is_without_data c ≡ true))
     → data_bytes version d ++ a ≡ data_bytes version c ++ b → (d ≡ c) × (a ≡ b)
 data_free version d c a b f g bare e =
     elim (version == 1) as (λ x. (version == 1) ≡ x → cond x [] (full_data d) ++ a ≡ cond x [] (full_data c) ++ b → (d ≡ c) × (a ≡ b)) [
       | true ↦ λ v q.
           let is : version ≡ 1 = grind (arith, nat_tests, v) in
           let bs = bare is in
-          (bare_data d (data_fits d f).size bs.0 ∙ sym (bare_data c (data_fits c g).size bs.1), q)
+          (is_no_data d (data_fits d f).size bs.0 ∙ sym (is_no_data c (data_fits c g).size bs.1), q)
       | false ↦ λ v q. full_data_free d c a b (data_fits d f) (data_fits c g) q
     ] refl e
 
 -- the keys of a program
 abbrev full_keys : KeyTable → List ℕ
-full_keys k = flag 1 k.is_on ∷ counted one_byte key_word_bytes (words_from 0 k.destructors)
+full_keys k = flag 1 k.is_on ∷ counted one_byte key_entry_bytes (words_from 0 k.destructors)
 
 full_keys_free : (k q : KeyTable) (a b : List ℕ) → AreWords k.destructors → AreWords q.destructors → full_keys k ++ a ≡ full_keys q ++ b → (k ≡ q) × (a ≡ b)
 full_keys_free k q a b f g e =
-    let ka = flat_map key_word_bytes (words_from 0 k.destructors) ++ a in
-    let qa = flat_map key_word_bytes (words_from 0 q.destructors) ++ b in
+    let ka = flat_map key_entry_bytes (words_from 0 k.destructors) ++ a in
+    let qa = flat_map key_entry_bytes (words_from 0 q.destructors) ++ b in
     let o = byte_free (flag 1 k.is_on) (flag 1 q.is_on) (length (words_from 0 k.destructors) ∷ ka) (length (words_from 0 q.destructors) ∷ qa) e in
     let n = byte_free (length (words_from 0 k.destructors)) (length (words_from 0 q.destructors)) ka qa o.1 in
     let w = words_free k.destructors q.destructors a b f g n.0 n.1 in
@@ -354,13 +354,13 @@ keys_free version k q a b f g off e =
 
 -- a thread that fits its record in a version
 abbrev fits_in : ℕ → ThreadRow → Bool
-fits_in version r = fits_thread r.thread && (if version == 1 then is_bare (specific_of r.thread) else true)
+fits_in version r = fits_thread r.thread && (if version == 1 then is_without_data (specific_of r.thread) else true)
 
-said_bare : (version : ℕ) (r : ThreadRow) → fits_in version r ≡ true → version ≡ 1 → is_bare (specific_of r.thread) ≡ true
-said_bare version r f v =
+row_without_data : (version : ℕ) (r : ThreadRow) → fits_in version r ≡ true → version ≡ 1 → is_without_data (specific_of r.thread) ≡ true
+row_without_data version r f v =
     let here : (version == 1) ≡ true = grind (arith, nat_tests, v) in
-    let c = (both (fits_thread r.thread) (if version == 1 then is_bare (specific_of r.thread) else true) f).1 in
-    sym (ap (λ (b : Bool). if b then is_bare (specific_of r.thread) else true) here) ∙ c
+    let c = (both (fits_thread r.thread) (if version == 1 then is_without_data (specific_of r.thread) else true) f).1 in
+    sym (ap (λ (b : Bool). if b then is_without_data (specific_of r.thread) else true) here) ∙ c
 
 thread_free : (version : ℕ) → IsPrefixFree (λ (r : ThreadRow). fits_in version r ≡ true) (thread_bytes version)
 thread_free version r q a b fr fq e =
@@ -383,31 +383,31 @@ thread_free version r q a b fr fq e =
     let v = word_free (value_of r.thread) (value_of q.thread) (rr ++ (rh ++ (rd ++ a))) (qr ++ (qh ++ (qd ++ b))) p.value k.value (sym (spelt rv rr rh rd a) ∙ z.1 ∙ spelt qv qr qh qd b) in
     let g = registers_free (registers_of r.thread) (registers_of q.thread) (rh ++ (rd ++ a)) (qh ++ (qd ++ b)) p.registers k.registers v.1 in
     let h = parts_free fits_handler handler_bytes handler_free (handlers_of r.thread) (handlers_of q.thread) (rd ++ a) (qd ++ b) p.handlers k.handlers n.0 g.1 in
-    let d = data_free version (specific_of r.thread) (specific_of q.thread) a b p.specific k.specific (λ x. (said_bare version r fr x, said_bare version q fq x)) h.1 in
+    let d = data_free version (specific_of r.thread) (specific_of q.thread) a b p.specific k.specific (λ x. (row_without_data version r fr x, row_without_data version q fq x)) h.1 in
     let t = thread_known r.thread q.thread (record { flags = f.0; value = v.0; registers = g.0; handlers = h.0; specific = d.0 }) in
     (same r.id r.thread q i.0 t, d.1)
   where
     same : (id : ℕ) (x : Thread) (q : ThreadRow) → id ≡ q.id → x ≡ q.thread → record { id = id; thread = x } ≡ q
     same id x q e₁ e₂ = rw (e₁, e₂) refl
 
-bare_specific : (t : Thread) → is_bare_slot (Some t) ≡ true → is_bare (specific_of t) ≡ true
-bare_specific (thread.Ended v) b = refl
-bare_specific (thread.Live l) b = b
+specific_without_data : (t : Thread) → is_slot_without_data (Some t) ≡ true → is_without_data (specific_of t) ≡ true
+specific_without_data (thread.Ended v) b = refl
+specific_without_data (thread.Live l) b = b
 
-pub in_version : (version : ℕ) (t : Thread) → (version ≡ 1 → is_bare_slot (Some t) ≡ true) → (if version == 1 then is_bare (specific_of t) else true) ≡ true
+pub in_version : (version : ℕ) (t : Thread) → (version ≡ 1 → is_slot_without_data (Some t) ≡ true) → (if version == 1 then is_without_data (specific_of t) else true) ≡ true
 in_version version t b =
-    elim (version == 1) as (λ x. (version == 1) ≡ x → cond x (is_bare (specific_of t)) true ≡ true) [
-      | true ↦ λ v. bare_specific t (b (grind (arith, nat_tests, v)))
+    elim (version == 1) as (λ x. (version == 1) ≡ x → cond x (is_without_data (specific_of t)) true ≡ true) [
+      | true ↦ λ v. specific_without_data t (b (grind (arith, nat_tests, v)))
       | false ↦ λ v. refl
     ] refl
 
-pub rows_fit : (version k : ℕ) (slots : List (Option Thread)) → list_all fits_slot slots ≡ true → (version ≡ 1 → list_all is_bare_slot slots ≡ true) → list_all (fits_in version) (rows_from k slots) ≡ true
+pub rows_fit : (version k : ℕ) (slots : List (Option Thread)) → list_all fits_slot slots ≡ true → (version ≡ 1 → list_all is_slot_without_data slots ≡ true) → list_all (fits_in version) (rows_from k slots) ≡ true
 rows_fit version k [] f b = refl
-rows_fit version k (None ∷ slots) f b = rows_fit version (suc k) slots (both (fits_slot None) (list_all fits_slot slots) f).1 (λ v. (both (is_bare_slot None) (list_all is_bare_slot slots) (b v)).1)
+rows_fit version k (None ∷ slots) f b = rows_fit version (suc k) slots (both (fits_slot None) (list_all fits_slot slots) f).1 (λ v. (both (is_slot_without_data None) (list_all is_slot_without_data slots) (b v)).1)
 rows_fit version k (Some x ∷ slots) f b =
-    let rest = rows_fit version (suc k) slots (both (fits_slot (Some x)) (list_all fits_slot slots) f).1 (λ v. (both (is_bare_slot (Some x)) (list_all is_bare_slot slots) (b v)).1) in
+    let rest = rows_fit version (suc k) slots (both (fits_slot (Some x)) (list_all fits_slot slots) f).1 (λ v. (both (is_slot_without_data (Some x)) (list_all is_slot_without_data slots) (b v)).1) in
     let here = (both (fits_slot (Some x)) (list_all fits_slot slots) f).0 in
-    let bare = in_version version x (λ v. (both (is_bare_slot (Some x)) (list_all is_bare_slot slots) (b v)).0) in
+    let bare = in_version version x (λ v. (both (is_slot_without_data (Some x)) (list_all is_slot_without_data slots) (b v)).0) in
     grind (arith, here, bare, rest)
 
 -- WAITS
@@ -605,15 +605,15 @@ words_in keys f =
 
 -- what version 1 says of threads and keys
 
-pub bare_threads : (s : Tables) → is_without_keys s.threads ≡ true → list_all is_bare_slot s.threads.threads ≡ true
-bare_threads s w = (both (not s.threads.keys.is_on) (list_all is_bare_slot s.threads.threads) w).1
+pub threads_without_data : (s : Tables) → is_without_keys s.threads ≡ true → list_all is_slot_without_data s.threads.threads ≡ true
+threads_without_data s w = (both (not s.threads.keys.is_on) (list_all is_slot_without_data s.threads.threads) w).1
 
 not_on : (b : Bool) → not b ≡ true → b ≡ false
 not_on true e = absurd (cc)
 not_on false e = refl
 
 pub keys_off_in : (s : Tables) → is_without_keys s.threads ≡ true → s.threads.keys.is_on ≡ false
-keys_off_in s w = not_on s.threads.keys.is_on (both (not s.threads.keys.is_on) (list_all is_bare_slot s.threads.threads) w).0
+keys_off_in s w = not_on s.threads.keys.is_on (both (not s.threads.keys.is_on) (list_all is_slot_without_data s.threads.threads) w).0
 
 keys_are_off : (s : Tables) → IsWellFormed s → is_without_keys s.threads ≡ true → s.threads.keys ≡ keys_off
 keys_are_off s h w = off_keys s.threads.keys h.threads.proper_keys (keys_off_in s w)
@@ -648,7 +648,7 @@ distinct version harts s t held out h k e =
     let r1 = byte_free (flag 1 s.closed) (flag 1 t.closed) s2 t2 r0.1 in
     let r2 = status_free s.status t.status s3 t3 f.status g.status r1.1 in
     let r3 = parts_free (if_there is_id) hart_bytes hart_free s.threads.harts t.threads.harts s4 t4 f.harts g.harts (ws.threads.harts ∙ sym wt.threads.harts) r2.1 in
-    let r4 = few_free (fits_in version) (thread_bytes version) (thread_free version) (thread_rows s.threads) (thread_rows t.threads) s5 t5 (rows_fit version 0 s.threads.threads f.threads (λ v. bare_threads s (h.said v))) (rows_fit version 0 t.threads.threads g.threads (λ v. bare_threads t (k.said v))) r3.1 in
+    let r4 = few_free (fits_in version) (thread_bytes version) (thread_free version) (thread_rows s.threads) (thread_rows t.threads) s5 t5 (rows_fit version 0 s.threads.threads f.threads (λ v. threads_without_data s (h.said v))) (rows_fit version 0 t.threads.threads g.threads (λ v. threads_without_data t (k.said v))) r3.1 in
     let r5 = few_free fits_wait wait_bytes wait_free s.threads.waits t.threads.waits s6 t6 f.waits g.waits r4.1 in
     let r6 = many_free fits_mutex mutex_bytes mutex_free s.mutexes t.mutexes s7 t7 f.mutexes g.mutexes (few s ws).mutexes (few t wt).mutexes r5.1 in
     let r7 = few_free fits_barrier barrier_bytes barrier_free s.barriers t.barriers s8 t8 f.barriers g.barriers r6.1 in

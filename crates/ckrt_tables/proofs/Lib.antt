@@ -6,7 +6,7 @@ pub mod Few
 pub mod AllFit
 pub mod Fields
 pub mod Counts
-pub mod KeyWords
+pub mod KeyEntries
 pub mod Entries
 pub mod Bounds
 pub mod Distinct

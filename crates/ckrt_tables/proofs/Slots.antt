@@ -6,7 +6,7 @@ use Rattle.std.proofs.lemmas.Grind.{flat_map-append}
 use Rattle.ckrt_thread.specs.declared.records.Thread.{Thread}
 use Rattle.ckrt_thread.specs.Contents.{rows_of, rows_from}
 use Rattle.ckrt_tables.specs.declared.reading_objects.Reader.{Reader}
-use Rattle.ckrt_tables.specs.Records.{reader_at, readers_from, reader_bytes, word_at, words_from, key_word_bytes, thread_bytes}
+use Rattle.ckrt_tables.specs.Records.{reader_at, readers_from, reader_bytes, word_at, words_from, key_entry_bytes, thread_bytes}
 use Rattle.ckrt_tables.specs.Writing.{IsPut}
 use Rattle.ckrt_tables.proofs.Rows.{from_next}
 use Rattle.ckrt_tables.proofs.Puts.{put_place, room_place}
@@ -40,17 +40,17 @@ room_reader_next old at ns i now mid lt first room =
 -- WORDS BY KEY
 
 pub put_word_next : (old : List ℕ) (at : ℕ) (head : List ℕ) (os : List (Option ℕ)) (i : ℕ) (now : List ℕ) (mid : ℕ) (new : List ℕ) (end : ℕ) → i < length os
-    → IsPut old at (head ++ flat_map key_word_bytes (words_from 0 (take i os))) now mid → IsPut now mid (flat_map key_word_bytes (word_at i (get_or os i None))) new end
-    → IsPut old at (head ++ flat_map key_word_bytes (words_from 0 (take (i + 1) os))) new end
+    → IsPut old at (head ++ flat_map key_entry_bytes (words_from 0 (take i os))) now mid → IsPut now mid (flat_map key_entry_bytes (word_at i (get_or os i None))) new end
+    → IsPut old at (head ++ flat_map key_entry_bytes (words_from 0 (take (i + 1) os))) new end
 put_word_next old at head os i now mid new end lt first next =
-    put_place (λ k o. flat_map key_word_bytes (word_at k o)) (λ k l. flat_map key_word_bytes (words_from k l)) (λ k. refl) (λ k o l. flat_map-append key_word_bytes (word_at k o) (words_from (suc k) l))
+    put_place (λ k o. flat_map key_entry_bytes (word_at k o)) (λ k l. flat_map key_entry_bytes (words_from k l)) (λ k. refl) (λ k o l. flat_map-append key_entry_bytes (word_at k o) (words_from (suc k) l))
     old at head os i None now mid new end lt first next
 
 pub room_word_next : (old : List ℕ) (at : ℕ) (head : List ℕ) (os : List (Option ℕ)) (i : ℕ) (now : List ℕ) (mid : ℕ) → i < length os
-    → IsPut old at (head ++ flat_map key_word_bytes (words_from 0 (take i os))) now mid → at + length (head ++ flat_map key_word_bytes (words_from 0 os)) ≤ length old
-    → mid + length (flat_map key_word_bytes (word_at i (get_or os i None))) ≤ length old
+    → IsPut old at (head ++ flat_map key_entry_bytes (words_from 0 (take i os))) now mid → at + length (head ++ flat_map key_entry_bytes (words_from 0 os)) ≤ length old
+    → mid + length (flat_map key_entry_bytes (word_at i (get_or os i None))) ≤ length old
 room_word_next old at head os i now mid lt first room =
-    room_place (λ k o. flat_map key_word_bytes (word_at k o)) (λ k l. flat_map key_word_bytes (words_from k l)) (λ k. refl) (λ k o l. flat_map-append key_word_bytes (word_at k o) (words_from (suc k) l))
+    room_place (λ k o. flat_map key_entry_bytes (word_at k o)) (λ k l. flat_map key_entry_bytes (words_from k l)) (λ k. refl) (λ k o l. flat_map-append key_entry_bytes (word_at k o) (words_from (suc k) l))
     old at head os i None now mid lt first room
 
 pub words_next : (os : List (Option ℕ)) (i : ℕ) → i < length os → words_from 0 (take (i + 1) os) ≡ words_from 0 (take i os) ++ word_at i (get_or os i None)

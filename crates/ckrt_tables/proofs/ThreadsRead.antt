@@ -22,7 +22,7 @@ use Rattle.ckrt_thread.specs.Contents.{ThreadRow, GoesOnWithThread, GoesOnWithWa
 use Rattle.ckrt_thread.proofs.ThreadRows.{thread_behind, known_by_rows}
 use Rattle.ckrt_thread.proofs.Beginnings.{next_thread, next_wait, next_on_hart}
 use Rattle.ckrt_tables.specs.Records.{flag, flags_of, value_of, registers_of, handlers_of, specific_of, kind_of, result_of, first_name, second_name, reason_from}
-use Rattle.ckrt_tables.specs.Savable.{is_byte, is_word, is_long, fits_reason, fits_wait, fit_registers, fits_handler, fits_slot, fits_thread, fits_data, is_bare, is_bare_slot, if_there}
+use Rattle.ckrt_tables.specs.Savable.{is_byte, is_word, is_long, fits_reason, fits_wait, fit_registers, fits_handler, fits_slot, fits_thread, fits_data, is_without_data, is_slot_without_data, if_there}
 use Rattle.ckrt_tables.specs.DecodingThreads.{AreThreadBytes, fits_row, fits_data_in, ThreadsLeadTo, WaitsLeadTo, HartsLeadTo}
 use Rattle.ckrt_tables.proofs.Distinct.{flag_times, live_below_64, in_version, thread_fits, names_fit, moment_fits, reason_is}
 use Rattle.ckrt_tables.proofs.Rows.{at_place}
@@ -153,13 +153,13 @@ placed_all begun goal well leads = known_by_rows begun goal well leads.well_form
 
 -- ROWS THAT FIT THEIR RECORDS
 
-pub rows_fit_records : (version k : ℕ) (slots : List (Option Thread)) → k + length slots ≤ 256 → list_all fits_slot slots ≡ true → (version ≡ 1 → list_all is_bare_slot slots ≡ true) → list_all (fits_row version) (rows_from k slots) ≡ true
+pub rows_fit_records : (version k : ℕ) (slots : List (Option Thread)) → k + length slots ≤ 256 → list_all fits_slot slots ≡ true → (version ≡ 1 → list_all is_slot_without_data slots ≡ true) → list_all (fits_row version) (rows_from k slots) ≡ true
 rows_fit_records version k [] few f b = refl
-rows_fit_records version k (None ∷ slots) few f b = rows_fit_records version (suc k) slots (omega (arith, few)) (both (fits_slot None) (list_all fits_slot slots) f).1 (λ v. (both (is_bare_slot None) (list_all is_bare_slot slots) (b v)).1)
+rows_fit_records version k (None ∷ slots) few f b = rows_fit_records version (suc k) slots (omega (arith, few)) (both (fits_slot None) (list_all fits_slot slots) f).1 (λ v. (both (is_slot_without_data None) (list_all is_slot_without_data slots) (b v)).1)
 rows_fit_records version k (Some x ∷ slots) few f b =
-    let rest = rows_fit_records version (suc k) slots (omega (arith, few)) (both (fits_slot (Some x)) (list_all fits_slot slots) f).1 (λ v. (both (is_bare_slot (Some x)) (list_all is_bare_slot slots) (b v)).1) in
+    let rest = rows_fit_records version (suc k) slots (omega (arith, few)) (both (fits_slot (Some x)) (list_all fits_slot slots) f).1 (λ v. (both (is_slot_without_data (Some x)) (list_all is_slot_without_data slots) (b v)).1) in
     let this : fits_thread x ≡ true = (both (fits_slot (Some x)) (list_all fits_slot slots) f).0 in
-    let bare = in_version version x (λ v. (both (is_bare_slot (Some x)) (list_all is_bare_slot slots) (b v)).0) in
+    let bare = in_version version x (λ v. (both (is_slot_without_data (Some x)) (list_all is_slot_without_data slots) (b v)).0) in
     let id : is_byte k ≡ true = grind (arith, nat_tests, few) in
     grind (arith, rest, this, bare, id)
 
@@ -254,7 +254,7 @@ pub row_fits : (version : ℕ) (r : ThreadRow) → fits_row version r ≡ true �
 row_fits version r f =
     let rest = (both (is_byte r.id) _ f).1 in
     let t : fits_thread r.thread ≡ true = (both (fits_thread r.thread) _ rest).0 in
-    let bare = (both (fits_thread r.thread) (if version == 1 then is_bare (specific_of r.thread) else true) rest).1 in
+    let bare = (both (fits_thread r.thread) (if version == 1 then is_without_data (specific_of r.thread) else true) rest).1 in
     let p = thread_fits r.thread t in
     let own = p.specific in
     let few = few_handlers r.thread t in

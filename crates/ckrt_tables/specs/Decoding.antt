@@ -7,7 +7,8 @@ use Rattle.circular_buffer.specs.Buffer.{Buffer, buffer}
 use Rattle.ckrt_thread.specs.Keys.{all_keys}
 use Rattle.ckrt_thread.specs.Contents.{empty}
 use Rattle.ckrt_state.specs.declared.table.Tables.{Tables}
-use Rattle.ckrt_tables.specs.Encoding.{encoding_of, HELD_LIMIT}
+use Rattle.ckrt_state.specs.Output.{HELD_LIMIT}
+use Rattle.ckrt_tables.specs.Encoding.{encoding_of}
 use Rattle.ckrt_tables.specs.Savable.{CanBeSaved}
 
 -- THE WHOLE
@@ -18,7 +19,7 @@ pub record Saved : Type 0 where
   -- the output that the program holds, first byte first
   pub held : List ℕ
 
--- for a program with so many harts the bytes are the encoding, in a version, of a state that can be saved
+-- for a program with that many harts the bytes are the encoding, in a version, of a state that can be saved
 pub record IsEncodingOf (version harts : ℕ) (bytes : List ℕ) (s : Saved) : Type 0 where
   pub savable : CanBeSaved version harts s.tables s.held
   pub encoded : bytes ≡ encoding_of version s.tables s.held
@@ -44,20 +45,20 @@ pub record IsBegun (harts : ℕ) (tables : Tables) (held : Buffer ℕ) : Type 0 
 
 -- A READER
 
--- Where the bytes begin with the encoding of a value that fits its fields, that value is found, and the bytes behind it are left.
+-- Where the bytes begin with the encoding of a value that fits its fields, that value is found, and the bytes after it are left.
 abbrev pub Finds : {X : Type 0} → (X → Bool) → (X → List ℕ) → List ℕ → X → List ℕ → Type 0
 Finds {X = X} fits encoding bytes found left =
     (x : X) (rest : List ℕ) → fits x ≡ true → bytes ≡ encoding x ++ rest → (found ≡ x) × (left ≡ rest)
 
 -- A READER OF ROWS, each of which goes onto a table at once. `LeadsTo begun rows goal`: the table that is begun is on the way to the
--- other, and has it with these rows behind its own.
+-- other, and has it with these rows after its own.
 
--- The row went behind those that were there: what leads to a table by it and more, leads there by the rest.
+-- The row went after those that were there: what leads to a table by it and more, leads there by the rest.
 abbrev pub GoesOn : {T R : Type 0} → (T → List R → T → Type 0) → T → R → T → Type 0
 GoesOn {T = T} {R = R} LeadsTo begun row new =
     (goal : T) (more : List R) → LeadsTo begun (row ∷ more) goal → LeadsTo new more goal
 
--- Where the bytes begin with the encoding of so many rows, and these lead to a table, that table is reached, and the bytes behind
+-- Where the bytes begin with the encoding of that many rows, and these lead to a table, that table is reached, and the bytes after
 -- the rows are left.
 abbrev pub Reaches : {T R : Type 0} → (T → List R → T → Type 0) → (R → Bool) → (List R → List ℕ)
     → (ℕ → Type 0)
@@ -66,6 +67,6 @@ Reaches {T = T} {R = R} LeadsTo fits encoding IsCount bytes begun reached left =
     (goal : T) (rows : List R) (rest : List ℕ) → IsCount (length rows) → list_all fits rows ≡ true → LeadsTo begun rows goal
     → bytes ≡ encoding rows ++ rest → LeadsTo reached [] goal × (left ≡ rest)
 
--- a vector with room for so many is on the way to another, which has these items behind its own
+-- a vector with room for that many is on the way to another, which has these items after its own
 abbrev pub FillsUp : {X : Type 0} → ℕ → ArrayVec X → List X → ArrayVec X → Type 0
 FillsUp room begun items goal = (goal.items ≡ begun.items ++ items) × (length goal.items ≤ room)

@@ -7,6 +7,7 @@ use Rattle.ckrt_thread.specs.Contents.{thread_rows}
 use Rattle.ckrt_state.specs.declared.table.Status.{Status}
 use Rattle.ckrt_state.specs.declared.table.Status.TheVariants as status
 use Rattle.ckrt_state.specs.declared.table.Tables.{Tables}
+use Rattle.ckrt_state.specs.Output.{HELD_LIMIT}
 use Rattle.ckrt_tables.specs.Records.{flag, cause_number, cause_from, counted, one_byte, two_bytes, hart_bytes, thread_bytes, wait_bytes, mutex_bytes, barrier_bytes, rwlock_bytes, keys_bytes}
 
 -- THE PROGRAM'S STATUS, 7 bytes: whether it runs (0), exited (1) or faulted (2); the thread and the cause of the fault; the
@@ -53,8 +54,8 @@ abbrev pub encoding_of : ℕ → Tables → List ℕ → List ℕ
 encoding_of version s held = concat (parts_of version s held)
 
 -- the version in which tables are saved
-abbrev pub VERSION : ℕ
-VERSION = 2
+abbrev pub AREA_VERSION : ℕ
+AREA_VERSION = 2
 
 -- how many bytes there are for saved tables
 abbrev pub TABLES_ROOM : ℕ
@@ -63,10 +64,6 @@ TABLES_ROOM = 98304
 -- how many bytes the longest saved tables have
 abbrev pub LONGEST_TABLES : ℕ
 LONGEST_TABLES = 70820
-
--- how many bytes of output a program holds at most
-abbrev pub HELD_LIMIT : ℕ
-HELD_LIMIT = 16384
 
 abbrev pub IsHeld : List ℕ → Type 0
 IsHeld held = length held ≤ HELD_LIMIT

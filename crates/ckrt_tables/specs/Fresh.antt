@@ -16,7 +16,7 @@ fresh_front pages more =
     ++ little_bytes 4 (4096 * pages)
     ++ more
 
--- 176 bytes: behind the front no other register, thread, wait or object; the mark of keys, and no key; no input and no output
+-- 176 bytes: after the front no other register, thread, wait or object; the mark of keys, and no key; no input and no output
 abbrev pub fresh_bytes : ℕ → List ℕ
 fresh_bytes pages = fresh_front pages (replicate 125 0 ++ (1 ∷ replicate 5 0))
 

@@ -12,7 +12,7 @@ use Rattle.ckrt_rwlock.specs.RwLock as rwlock
 use Rattle.ckrt_tables.specs.declared.reading_objects.Reader.{Reader}
 use Rattle.ckrt_tables.specs.Savable.{is_byte, is_half, fits_mutex, fits_barrier, fits_rwlock}
 
--- A READER OF A WHOLE LIST. Where the bytes begin with the encoding of such a list, that is found, and the bytes behind it are left.
+-- A READER OF A WHOLE LIST. Where the bytes begin with the encoding of such a list, that is found, and the bytes after it are left.
 abbrev pub FindsAll : {X : Type 0} → (List X → Type 0) → (List X → List ℕ) → List ℕ → List X
     → List ℕ → Type 0
 FindsAll {X = X} Are encoding bytes found left =
@@ -35,7 +35,7 @@ AreBarriers bs = AreEntries barrier.IsTable fits_barrier bs
 abbrev pub AreRwLocks : List (Entry RwLock) → Type 0
 AreRwLocks ls = AreEntries (IsTableUpTo 64 rwlock.IsTable) fits_rwlock ls
 
--- the goal is a table, and has these entries behind those that it began with
+-- the goal is a table, and has these entries after those that it began with
 pub record LeadsToTable {T : Type 0} (IsTable : List (Entry T) → Type 0)
     (begun es goal : List (Entry T)) : Type 0 where
   pub table : IsTable goal
@@ -57,6 +57,6 @@ AreCounts ns = (length ns ≡ 65) × (list_all is_half ns ≡ true)
 
 -- QUEUES
 
--- so many bytes at most
+-- that many bytes at most
 abbrev pub AreUpTo : ℕ → List ℕ → Type 0
 AreUpTo limit bytes = length bytes ≤ limit

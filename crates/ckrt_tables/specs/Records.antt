@@ -24,7 +24,7 @@ use Rattle.ckrt_mutex.specs.declared.records.Mutex.{Mutex}
 use Rattle.ckrt_barrier.specs.declared.barrier.Barrier.{Barrier}
 use Rattle.ckrt_rwlock.specs.declared.records.RwLock.{RwLock}
 use Rattle.ckrt_tables.specs.declared.reading_objects.Reader.{Reader}
-use Rattle.ckrt_tables.specs.declared.reading_keys.KeyWord.{KeyWord}
+use Rattle.ckrt_tables.specs.declared.reading_keys.KeyEntry.{KeyEntry}
 
 -- NUMBERS
 
@@ -77,17 +77,17 @@ hart_bytes h = id_or_0 h ∷ []
 
 -- WORDS BY KEY, 8 bytes: the key, and the word
 
-abbrev pub word_at : ℕ → Option ℕ → List KeyWord
+abbrev pub word_at : ℕ → Option ℕ → List KeyEntry
 word_at k None = []
 word_at k (Some w) = (record { key = k; word = w }) ∷ []
 
 -- the words among some of which the first is that of a key
-abbrev pub words_from : ℕ → List (Option ℕ) → List KeyWord
+abbrev pub words_from : ℕ → List (Option ℕ) → List KeyEntry
 words_from k [] = []
 words_from k (o ∷ os) = word_at k o ++ words_from (suc k) os
 
-abbrev pub key_word_bytes : KeyWord → List ℕ
-key_word_bytes w = little_bytes 4 w.key ++ little_bytes 4 w.word
+abbrev pub key_entry_bytes : KeyEntry → List ℕ
+key_entry_bytes w = little_bytes 4 w.key ++ little_bytes 4 w.word
 
 -- WHAT A THREAD HAS UNDER KEYS, from version 2 on, 4 bytes and 8 a value that isn't 0: the round of destructors, the key with
 -- which it goes on, how many such values there are, 0, and the values by rising key
@@ -98,13 +98,13 @@ if_not_0 v = if v == 0 then None else Some v
 abbrev pub word_or_0 : Option ℕ → ℕ
 word_or_0 o = unwrap_or o 0
 
-abbrev pub value_words : SpecificData → List KeyWord
+abbrev pub value_words : SpecificData → List KeyEntry
 value_words d = words_from 0 (map if_not_0 d.values)
 
 abbrev pub data_bytes : ℕ → SpecificData → List ℕ
 data_bytes version d =
     if version == 1 then []
-    else d.round ∷ d.next_key ∷ length (value_words d) ∷ 0 ∷ flat_map key_word_bytes (value_words d)
+    else d.round ∷ d.next_key ∷ length (value_words d) ∷ 0 ∷ flat_map key_entry_bytes (value_words d)
 
 -- A THREAD, 136 bytes and 8 a handler: its id, its flags, how many handlers it has, 0, the value that it unwinds or ended with,
 -- the pc, x1 to x31, and the handlers, oldest first; from version 2 on, what it has under keys. One that has ended has id,
@@ -264,4 +264,4 @@ rwlock_bytes e = little_bytes 4 e.address ++ (id_or_0 e.value.writer ∷ counts_
 abbrev pub keys_bytes : ℕ → KeyTable → List ℕ
 keys_bytes version keys =
     if version == 1 then []
-    else flag 1 keys.is_on ∷ counted one_byte key_word_bytes (words_from 0 keys.destructors)
+    else flag 1 keys.is_on ∷ counted one_byte key_entry_bytes (words_from 0 keys.destructors)

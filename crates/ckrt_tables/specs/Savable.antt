@@ -108,15 +108,15 @@ fits_status (status.Faulted t pc c) = is_byte t && is_word pc
 -- WHAT VERSION 1 CAN SAY
 
 -- no value, and no round of destructors
-abbrev pub is_bare : SpecificData → Bool
-is_bare d = d.round == 0 && (d.next_key == 0 && list_all (λ v. v == 0) d.values)
+abbrev pub is_without_data : SpecificData → Bool
+is_without_data d = d.round == 0 && (d.next_key == 0 && list_all (λ v. v == 0) d.values)
 
-abbrev pub is_bare_slot : Option Thread → Bool
-is_bare_slot o = is_bare (data_of o)
+abbrev pub is_slot_without_data : Option Thread → Bool
+is_slot_without_data o = is_without_data (data_of o)
 
 -- keys are off, and no thread has anything under one
 abbrev pub is_without_keys : State → Bool
-is_without_keys s = not s.keys.is_on && list_all is_bare_slot s.threads
+is_without_keys s = not s.keys.is_on && list_all is_slot_without_data s.threads
 
 -- TABLES
 
@@ -133,7 +133,7 @@ pub record Fit (s : Tables) : Type 0 where
   pub rwlocks : list_all fits_rwlock s.rwlocks ≡ true
   pub input : list_all is_byte s.input ≡ true
 
--- well-formed tables with so many harts, and the output that the program holds, in a version
+-- well-formed tables with that many harts, and the output that the program holds, in a version
 pub record CanBeSaved (version harts : ℕ) (s : Tables) (held : List ℕ) : Type 0 where
   -- the rules of tables hold
   pub well_formed : IsWellFormed s
@@ -141,7 +141,7 @@ pub record CanBeSaved (version harts : ℕ) (s : Tables) (held : List ℕ) : Typ
   pub fit : Fit s
   -- version 1 has no keys
   pub said : version ≡ 1 → is_without_keys s.threads ≡ true
-  -- there are so many harts
+  -- there are that many harts
   pub hart_count : s.threads.hart_count ≡ harts
   -- it is no more output than a program holds
   pub is_held : IsHeld held

@@ -79,7 +79,7 @@ impl<'a> Cursor<'a> {
         LittleEndian::read_u64(front)
     }
 
-    /// So many bytes; none where fewer are left.
+    /// That many bytes; none where fewer are left.
     pub fn bytes(&mut self, count: usize) -> &'a [u8]
         ensures found { (front rest : List ℕ) → length front ≡ count → self.old ≡ front ++ rest
             → (result.now ≡ front) × (self.new ≡ rest) }

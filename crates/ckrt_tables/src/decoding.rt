@@ -1,13 +1,14 @@
 //! Bytes as tables and held output.
 ghost use Rattle.std.specs.Prelude.{◌⊎◌, ◌≡◌, ◌≤◌, ◌∷◌, [], ◌↔◌, IsTrue, IfOk, IfSome, length, true};
 ghost use Rattle.ckrt_state.specs.WellFormed.{IsWellFormed};
+ghost use Rattle.ckrt_state.specs.Output.{HELD_LIMIT};
 ghost use Rattle.ckrt_tables.specs.Decoding.{DecodesTo, Finds, IsBegun, IsEncodingOf, Saved, saved};
 ghost use Rattle.ckrt_tables.specs.Encoding.{encoding_of, status_bytes, status_from, IsHeld};
 ghost use Rattle.ckrt_tables.specs.Records.{cause_from, flag};
 ghost use Rattle.ckrt_tables.specs.Savable.{fits_status};
 
 use crate::cursor::Cursor;
-use crate::encoding::{HELD_LIMIT, Held, most_bytes, put_tables};
+use crate::encoding::{Held, most_bytes, put_tables};
 use crate::fitting::{is_without_keys, known_savable};
 use crate::reading::read_mark;
 use crate::reading_keys::read_keys;
@@ -18,8 +19,8 @@ use ckrt_barrier::Barriers;
 use ckrt_mutex::Mutexes;
 use ckrt_rv32i::Cause;
 use ckrt_rwlock::RwLocks;
-use ckrt_state::{InputQueue, Status, Tables};
-use ckrt_thread::{Keys, Threads};
+use ckrt_state::{HELD_LIMIT, InputQueue, Status, Tables};
+use ckrt_thread::{Keys, ThreadId, Threads};
 use std::alloc::{AllocError, Global};
 
 /// The cause that a number of 1 to 9 stands for.
@@ -40,7 +41,7 @@ fn cause_from(number: u8) -> Cause
 }
 
 /// The status of this kind, 0 to 2, with the thread and the cause of a fault, and the exit status or the pc of the fault.
-fn status_from(kind: u8, thread: u8, cause: u8, word: u32) -> Status
+fn status_from(kind: u8, thread: ThreadId, cause: u8, word: u32) -> Status
     ensures { result ≡ status_from kind thread cause word }
 {
     match kind {
@@ -62,7 +63,7 @@ fn read_status(cursor: &mut Cursor<'_>) -> Status
 }
 
 /// Reads tables and held output part by part, each where it stays. Where the bytes are the encoding, in a version, of a state
-/// for so many harts, it is that state; other bytes may give any.
+/// for that many harts, it is that state; other bytes may give any.
 fn read_tables(bytes: &[u8], version: u32, tables: &mut Tables, held: &mut Held)
     requires version { (version ≡ 1) ⊎ (version ≡ 2) }
     requires begun { IsBegun tables.old.threads.hart_count tables.old held.old }
@@ -85,7 +86,7 @@ fn read_tables(bytes: &[u8], version: u32, tables: &mut Tables, held: &mut Held)
     read_held(&mut cursor, held);
 }
 
-/// So many zeros.
+/// That many zeros.
 fn zeros(alloc: Global, size: usize) -> Result<Vec<u8>, AllocError>
     ensures { IfOk result (λ zeros. length zeros.items ≡ size) }
 {
@@ -127,7 +128,7 @@ fn begin(alloc: Global, harts: usize) -> Result<(Tables, Held), AllocError>
 }
 
 /// Whether the bytes are the encoding, in a version, of these tables and this held output, as a state that can be saved and
-/// of so many harts.
+/// of that many harts.
 fn are_encoded(
     alloc: Global,
     version: u32,
@@ -153,7 +154,7 @@ fn are_encoded(
     Ok(is_encoding(tables, held, version, room.as_mut_slice(), bytes))
 }
 
-/// The tables and the held output that the bytes encode in a version, 1 or 2, for a program with so many harts (at most 8);
+/// The tables and the held output that the bytes encode in a version, 1 or 2, for a program with that many harts (at most 8);
 /// `None` where the bytes are the encoding of no state that can be saved. Version 1 is of a program whose keys are off. The ring of output has room for [`HELD_LIMIT`] bytes. All memory that
 /// tables and ring need is taken here; the only error is that it is refused.
 pub fn decode_tables(

@@ -2,8 +2,9 @@
 ghost use Rattle.std.specs.Prelude.{◌≡◌, ◌≤◌, ℕ, ◌+◌, ◌∷◌, ◌++◌, [], length, take, drop, Some};
 ghost use Rattle.byteorder.specs.Endian.{little_bytes};
 ghost use Rattle.ckrt_state.specs.WellFormed.{IsWellFormed};
+ghost use Rattle.ckrt_state.specs.Output.{HELD_LIMIT};
 ghost use Rattle.ckrt_tables.specs.Decoding.{DecodesTo};
-ghost use Rattle.ckrt_tables.specs.Encoding.{VERSION, TABLES_ROOM, LONGEST_TABLES, encoding_of, status_bytes, framed, queue_bytes, IsHeld};
+ghost use Rattle.ckrt_tables.specs.Encoding.{AREA_VERSION, TABLES_ROOM, LONGEST_TABLES, encoding_of, status_bytes, framed, queue_bytes, IsHeld};
 ghost use Rattle.ckrt_tables.specs.Records.{flag};
 ghost use Rattle.ckrt_tables.specs.Writing.{HasRoom, IsPut, IsFew};
 
@@ -16,19 +17,16 @@ use crate::writing::put;
 use byteorder::{ByteOrder, LittleEndian};
 use circular_buffer::HeapCircularBuffer;
 use ckrt_state::{InputQueue, Status, Tables};
-use ckrt_thread::MAX_KEYS;
+use ckrt_thread::{MAX_KEYS, ThreadId};
 
-/// The output that a program holds, first byte first: at most [`HELD_LIMIT`] bytes.
+/// The output that a program holds, first byte first: at most [`crate::HELD_LIMIT`] bytes.
 pub type Held = HeapCircularBuffer<u8>;
-
-/// How many bytes of output a program holds at most.
-pub const HELD_LIMIT: usize = 16_384;
 
 /// The room that saved tables have, in bytes.
 pub const TABLES_ROOM: usize = 98_304;
 
 /// The version in which tables are saved. In version 1 there are no keys.
-pub const VERSION: u32 = 2;
+pub const AREA_VERSION: u32 = 2;
 
 /// How many bytes the longest saved tables have: 16 for clock, input and status, 8 for harts, and the counts and records of
 /// 64 threads with 16 handlers and 32 values each, 64 waits, 256 mutexes, 64 barriers, 64 read-write locks with 64 readers
@@ -36,7 +34,7 @@ pub const VERSION: u32 = 2;
 pub const LONGEST_TABLES: usize = 70_820;
 
 /// What a status and its parts are saved as.
-fn framed(kind: u8, thread: u8, cause: u8, word: u32) -> [u8; 7]
+fn framed(kind: u8, thread: ThreadId, cause: u8, word: u32) -> [u8; 7]
     ensures { result ≡ framed kind thread cause word }
 {
     let mut bytes = [kind, thread, cause, 0, 0, 0, 0];
@@ -110,7 +108,7 @@ fn put_held(out: &mut [u8], at: usize, held: &Held) -> usize
     put_queue(out, at, first, second)
 }
 
-/// All parts, one behind another.
+/// All parts, one after another.
 fn put_parts(out: &mut [u8], tables: &Tables, held: &Held, version: u32) -> usize
     requires few { IsFew tables.now }
     requires held { IsHeld held.now.items }
@@ -160,20 +158,20 @@ pub(crate) fn put_tables(out: &mut [u8], tables: &Tables, held: &Held, version: 
     put_parts(out, tables, held, version)
 }
 
-/// Writes the encoding of tables and held output, in [`VERSION`], at the front of `out`, and answers how many bytes it has; what is behind
+/// Writes the encoding of tables and held output, in [`AREA_VERSION`], at the front of `out`, and answers how many bytes it has; what is after
 /// it stays. They decode to these tables and this output. `out` must have room for [`TABLES_ROOM`] bytes.
 #[tactic(auto, using(crate::proofs::Bounds::encoding_bound))]
 pub fn encode_tables(tables: &Tables, held: &Held, out: &mut [u8]) -> usize
     requires well_formed { IsWellFormed tables.now }
     requires held { IsHeld held.now.items }
     requires room { TABLES_ROOM ≤ length out.old }
-    ensures length { result ≡ length (encoding_of VERSION tables.now held.now.items) }
+    ensures length { result ≡ length (encoding_of AREA_VERSION tables.now held.now.items) }
     ensures longest { result ≤ LONGEST_TABLES }
-    ensures front { take result out.new ≡ encoding_of VERSION tables.now held.now.items }
+    ensures front { take result out.new ≡ encoding_of AREA_VERSION tables.now held.now.items }
     ensures back { drop result out.new ≡ drop result out.old }
-    ensures decodes { DecodesTo VERSION tables.now.threads.hart_count (take result out.new)
+    ensures decodes { DecodesTo AREA_VERSION tables.now.threads.hart_count (take result out.new)
         (Some (record { tables = tables.now; held = held.now.items })) }
 {
-    known_savable(tables, held, VERSION);
-    put_tables(out, tables, held, VERSION)
+    known_savable(tables, held, AREA_VERSION);
+    put_tables(out, tables, held, AREA_VERSION)
 }

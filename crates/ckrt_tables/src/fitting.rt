@@ -5,7 +5,7 @@ ghost use Rattle.std.specs.List.{list_all};
 ghost use Rattle.ckrt_thread.specs.State.{is_proper_live};
 ghost use Rattle.ckrt_state.specs.WellFormed.{IsWellFormed};
 ghost use Rattle.ckrt_tables.specs.Encoding.{IsHeld};
-ghost use Rattle.ckrt_tables.specs.Savable.{CanBeSaved, if_there, is_byte, is_half, is_word, is_long, fit_registers, fits_data, fit_keys, fits_thread, fits_wait, fits_status, is_bare, is_bare_slot, is_without_keys};
+ghost use Rattle.ckrt_tables.specs.Savable.{CanBeSaved, if_there, is_byte, is_half, is_word, is_long, fit_registers, fits_data, fit_keys, fits_thread, fits_wait, fits_status, is_without_data, is_slot_without_data, is_without_keys};
 ghost use Rattle.ckrt_thread.specs.declared.records.Thread.TheVariants as thread;
 
 use crate::encoding::Held;
@@ -105,8 +105,8 @@ fn known_keys(keys: &Keys)
 }
 
 /// Whether the thread has nothing under a key, and is in no round of destructors.
-fn is_bare(specific: &SpecificData) -> bool
-    ensures { result ≡ is_bare specific.now }
+fn is_without_data(specific: &SpecificData) -> bool
+    ensures { result ≡ is_without_data specific.now }
 {
     specific.round == 0 && specific.next_key == 0 && are_zeros(specific.values.as_slice())
 }
@@ -119,27 +119,27 @@ fn are_zeros(values: &[u32]) -> bool
 }
 
 /// Whether what stands for a number has nothing under a key, and is in no round of destructors.
-fn is_bare_slot(slot: &Option<Thread>) -> bool
-    ensures { result ≡ is_bare_slot slot.now }
+fn is_slot_without_data(slot: &Option<Thread>) -> bool
+    ensures { result ≡ is_slot_without_data slot.now }
 {
     match slot {
-        Some(Thread::Live(live)) => is_bare(&live.specific),
+        Some(Thread::Live(live)) => is_without_data(&live.specific),
         _ => true,
     }
 }
 
 /// Whether all of these are so.
-fn are_bare(slots: &[Option<Thread>]) -> bool
-    ensures { result ≡ list_all is_bare_slot slots.now }
+fn are_without_data(slots: &[Option<Thread>]) -> bool
+    ensures { result ≡ list_all is_slot_without_data slots.now }
 {
-    slots.iter().all(|slot| is_bare_slot(slot))
+    slots.iter().all(|slot| is_slot_without_data(slot))
 }
 
 /// Whether the program has no keys, and no thread has anything under one.
 pub fn is_without_keys(threads: &Threads) -> bool
     ensures { result ≡ is_without_keys threads.now }
 {
-    !threads.keys().is_on() && are_bare(threads.slots())
+    !threads.keys().is_on() && are_without_data(threads.slots())
 }
 
 fn known_live(live: &Live)

@@ -2,18 +2,18 @@
 ghost use Rattle.std.specs.Prelude.{◌≡◌, ◌≤◌, ◌+◌, ◌∷◌, [], length, map};
 ghost use Rattle.std.specs.List.{flat_map};
 ghost use Rattle.byteorder.specs.Endian.{little_bytes};
-ghost use Rattle.ckrt_tables.specs.Records.{data_bytes, keys_bytes, key_word_bytes, word_at, words_from, if_not_0};
+ghost use Rattle.ckrt_tables.specs.Records.{data_bytes, keys_bytes, key_entry_bytes, word_at, words_from, if_not_0};
 ghost use Rattle.ckrt_tables.specs.Writing.{HasRoom, IsPut};
 
 use crate::numbers::flag;
-use crate::reading_keys::KeyWord;
+use crate::reading_keys::KeyEntry;
 use crate::writing::put;
 use byteorder::{ByteOrder, LittleEndian};
 use ckrt_thread::{Keys, MAX_KEYS, SpecificData};
 
 /// A word by its key.
-fn key_word_bytes(word: KeyWord) -> [u8; 8]
-    ensures { result ≡ key_word_bytes word }
+fn key_entry_bytes(word: KeyEntry) -> [u8; 8]
+    ensures { result ≡ key_entry_bytes word }
 {
     let mut bytes = [0; 8];
     LittleEndian::write_u32(&mut bytes, word.key);
@@ -23,11 +23,11 @@ fn key_word_bytes(word: KeyWord) -> [u8; 8]
 
 /// The word of a key, where there is one.
 fn put_word(out: &mut [u8], at: usize, key: u32, word: Option<u32>) -> usize
-    requires { HasRoom out.old at (flat_map key_word_bytes (word_at key word)) }
-    ensures { IsPut out.old at (flat_map key_word_bytes (word_at key word)) out.new result }
+    requires { HasRoom out.old at (flat_map key_entry_bytes (word_at key word)) }
+    ensures { IsPut out.old at (flat_map key_entry_bytes (word_at key word)) out.new result }
 {
     match word {
-        Some(word) => put(out, at, &key_word_bytes(KeyWord { key, word })),
+        Some(word) => put(out, at, &key_entry_bytes(KeyEntry { key, word })),
         None => at,
     }
 }
@@ -35,8 +35,8 @@ fn put_word(out: &mut [u8], at: usize, key: u32, word: Option<u32>) -> usize
 /// The words by rising key.
 fn put_words(out: &mut [u8], at: usize, words: &[Option<u32>]) -> usize
     requires few { length words.now ≡ 32 }
-    requires room { HasRoom out.old at (flat_map key_word_bytes (words_from 0 words.now)) }
-    ensures { IsPut out.old at (flat_map key_word_bytes (words_from 0 words.now)) out.new result }
+    requires room { HasRoom out.old at (flat_map key_entry_bytes (words_from 0 words.now)) }
+    ensures { IsPut out.old at (flat_map key_entry_bytes (words_from 0 words.now)) out.new result }
 {
     let mut end = at;
     for key in 0..MAX_KEYS {

@@ -26,7 +26,7 @@ pub fn longest_encoding()
         → length (encoding_of 1 s held) ≤ 53922 }
 {}
 
-/// No two savable states of a program with so many harts have one encoding.
+/// No two savable states of a program with that many harts have one encoding.
 pub fn encodings_are_distinct()
     ensures { (version harts : ℕ) → AreDistinct version harts }
 {}

@@ -17,8 +17,9 @@ mod reading_threads;
 mod threads;
 mod writing;
 
+pub use ckrt_state::HELD_LIMIT;
 pub use decoding::decode_tables;
-pub use encoding::{HELD_LIMIT, Held, LONGEST_TABLES, TABLES_ROOM, VERSION, encode_tables};
+pub use encoding::{AREA_VERSION, Held, LONGEST_TABLES, TABLES_ROOM, encode_tables};
 pub use laws::{
     decodes_to_one, encodings_are_distinct, fresh_encoding, fresh_is_savable, longest_encoding,
 };

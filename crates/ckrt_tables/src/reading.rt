@@ -1,4 +1,4 @@
-//! Reading rows, one behind another.
+//! Reading rows, one after another.
 ghost use Rattle.std.specs.Prelude.{◌≡◌, ◌<◌, ◌^◌, ℕ, List, [], ◌∷◌, Bool, true};
 ghost use Rattle.std.specs.List.{flat_map};
 ghost use Rattle.ckrt_tables.specs.Decoding.{Finds, GoesOn, Reaches};
@@ -16,19 +16,19 @@ pub trait Row: Drop {
     // its numbers fit their fields
     ghost fits: { Self → Bool };
 
-    // the table that is begun is on the way to the other, which has these rows behind those that are there
+    // the table that is begun is on the way to the other, which has these rows after those that are there
     ghost LeadsTo: { Self.Table → List Self → Self.Table → Type 0 };
 
     /// The row at the front of the bytes that are left.
     fn read(cursor: &mut Cursor<'_>) -> Self
         ensures { Finds fits encoding cursor.old result cursor.new };
 
-    /// The row goes behind those that are there.
+    /// The row goes after those that are there.
     fn append(self, table: &mut Self::Table)
         ensures { GoesOn LeadsTo table.old self table.new };
 }
 
-/// So many rows, which go onto the table.
+/// That many rows, which go onto the table.
 pub fn read_rows<R: Row>(cursor: &mut Cursor<'_>, table: &mut R::Table, count: usize)
     ensures { Reaches R.LeadsTo R.fits (flat_map R.encoding) (λ n. n ≡ count) cursor.old table.old
         table.new cursor.new }

@@ -3,7 +3,7 @@ ghost use Rattle.std.specs.Prelude.{◌≡◌, ℕ, List, Option, ◌++◌, leng
 ghost use Rattle.std.specs.List.{flat_map};
 ghost use Rattle.ckrt_tables.specs.Decoding.{Finds};
 ghost use Rattle.ckrt_tables.specs.DecodingThreads.{AreWords, FindsKeys, fits_data_in};
-ghost use Rattle.ckrt_tables.specs.Records.{data_bytes, key_word_bytes, words_from, word_or_0};
+ghost use Rattle.ckrt_tables.specs.Records.{data_bytes, key_entry_bytes, words_from, word_or_0};
 
 use crate::cursor::Cursor;
 use crate::reading::{Row, read_mark, read_rows};
@@ -11,7 +11,7 @@ use ckrt_thread::{Keys, MAX_KEYS, SpecificData};
 
 /// A word by its key: a value, or the address of a destructor.
 #[derive(Clone, Copy, Drop)]
-pub struct KeyWord {
+pub struct KeyEntry {
     /// The key, 0 to 31.
     pub key: u32,
     /// The word.
@@ -20,30 +20,30 @@ pub struct KeyWord {
 
 /// The words by their keys.
 #[derive(Drop)]
-pub struct KeyWords {
+pub struct KeyEntries {
     by_key: [Option<u32>; MAX_KEYS],
 }
 
-impl Row for KeyWord {
-    type Table = KeyWords;
+impl Row for KeyEntry {
+    type Table = KeyEntries;
 
     ghost use Rattle.std.specs.Prelude.{◌≡◌};
-    ghost use Rattle.ckrt_tables.specs.Records.{key_word_bytes};
-    ghost use Rattle.ckrt_tables.specs.DecodingThreads.{fits_key_word, with_words};
+    ghost use Rattle.ckrt_tables.specs.Records.{key_entry_bytes};
+    ghost use Rattle.ckrt_tables.specs.DecodingThreads.{fits_key_entry, with_words};
 
-    ghost encoding = { key_word_bytes };
+    ghost encoding = { key_entry_bytes };
 
-    ghost fits = { fits_key_word };
+    ghost fits = { fits_key_entry };
 
     ghost LeadsTo = { λ begun words goal. goal.by_key ≡ with_words words begun.by_key };
 
     fn read(cursor: &mut Cursor<'_>) -> Self {
         let key = cursor.word();
         let word = cursor.word();
-        KeyWord { key, word }
+        KeyEntry { key, word }
     }
 
-    fn append(self, table: &mut KeyWords) {
+    fn append(self, table: &mut KeyEntries) {
         let place = self.key as usize;
         if place < MAX_KEYS {
             table.by_key[place] = Some(self.word);
@@ -51,17 +51,17 @@ impl Row for KeyWord {
     }
 }
 
-/// So many words, by their keys.
+/// That many words, by their keys.
 fn read_words(cursor: &mut Cursor<'_>, count: u8) -> [Option<u32>; MAX_KEYS]
     ensures { (os : List (Option ℕ)) (rest : List ℕ) → AreWords os
         → count ≡ length (words_from 0 os)
-        → cursor.old ≡ flat_map key_word_bytes (words_from 0 os) ++ rest
+        → cursor.old ≡ flat_map key_entry_bytes (words_from 0 os) ++ rest
         → (result ≡ os) × (cursor.new ≡ rest) }
 {
-    let mut words = KeyWords {
+    let mut words = KeyEntries {
         by_key: [None; MAX_KEYS],
     };
-    read_rows::<KeyWord>(cursor, &mut words, usize::from(count));
+    read_rows::<KeyEntry>(cursor, &mut words, usize::from(count));
     words.by_key
 }
 

@@ -11,7 +11,7 @@ ghost use Rattle.ckrt_tables.specs.Records.{counted, flag, flags_of, one_byte, r
 ghost use Rattle.ckrt_tables.specs.Savable.{fit_registers};
 
 use crate::cursor::Cursor;
-use crate::encoding::VERSION;
+use crate::encoding::AREA_VERSION;
 use crate::reading::{Row, read_few, read_rows};
 use crate::reading_keys::read_data;
 use crate::reading_objects::read_id;
@@ -26,7 +26,7 @@ use std::marker::Model;
 /// The clean-up handlers of a thread, oldest first.
 type Handlers = ArrayVec<Handler, MAX_HANDLERS>;
 
-/// Who is on each hart.
+/// The thread on each hart.
 type Harts = ArrayVec<Option<ThreadId>, MAX_HARTS>;
 
 /// What saved tables say of a thread.
@@ -44,7 +44,7 @@ impl Model for ThreadRecord {
     ghost view = { λ r. record { id = r.id; thread = r.thread } };
 }
 
-/// The item goes behind the others, where there is room.
+/// The item goes after the others, where there is room.
 fn push_if_room<T: Drop, const N: usize>(items: &mut ArrayVec<T, N>, item: T)
     ensures { GoesOn (FillsUp N) items.old item items.new }
 {
@@ -210,7 +210,7 @@ impl Row for ThreadRecord {
     ghost LeadsTo = { ThreadsLeadTo };
 
     fn read(cursor: &mut Cursor<'_>) -> Self {
-        let (id, thread) = read_thread(cursor, VERSION);
+        let (id, thread) = read_thread(cursor, AREA_VERSION);
         ThreadRecord { id, thread }
     }
 
@@ -366,7 +366,7 @@ fn read_thread_rows(cursor: &mut Cursor<'_>, threads: &mut Threads, version: u32
     }
 }
 
-/// Who is on each hart, the threads and the waits, in a version, which go onto a new table.
+/// The thread on each hart, the threads and the waits, in a version, which go onto a new table.
 pub fn read_threads(cursor: &mut Cursor<'_>, threads: &mut Threads, version: u32)
     requires { (version ≡ 1) ⊎ (version ≡ 2) }
     ensures { BuildsThreads version threads.old cursor.old threads.new cursor.new }

@@ -17,7 +17,7 @@ use ckrt_thread::{
     Handler, Live, MAX_HARTS, MAX_THREADS, SpecificData, Thread, ThreadId, Threads, Wait,
 };
 
-/// Who is on each hart.
+/// The thread on each hart.
 pub fn put_harts(out: &mut [u8], at: usize, threads: &Threads) -> usize
     requires { HasRoom out.old at (flat_map hart_bytes threads.now.harts) }
     ensures { IsPut out.old at (flat_map hart_bytes threads.now.harts) out.new result }

@@ -1,4 +1,4 @@
-//! Writing into a slice, one part behind another.
+//! Writing into a slice, one part after another.
 ghost use Rattle.std.specs.Prelude.{◌≡◌, ℕ, List, length};
 ghost use Rattle.std.specs.List.{flat_map};
 ghost use Rattle.ckrt_tables.specs.Writing.{HasRoom, IsPut};

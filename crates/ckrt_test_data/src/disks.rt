@@ -5,13 +5,13 @@ use crate::saved_bytes::{INITIAL_THREAD, Piece};
 /// How many bytes such a disk has.
 pub const SIZE: usize = 348_160;
 
-/// Where its areas 0 and 1 begin. Tables stand 4,096 bytes behind, and page 1 of the memory 106,496.
+/// Where its areas 0 and 1 begin. Tables stand 4,096 bytes after, and page 1 of the memory 106,496.
 pub const AREAS: [usize; 2] = [4_096, 172_032];
 
 /// What a stop may lay over the bytes that aren't synced.
 pub const FILLS: [&[u8]; 5] = [&[0xa5], &[0], &[0xff], &[0xa5, 0], &[]];
 
-/// A disk of version 1 up to page 1 of its memory, built from the format. What stands behind are the guest, and zeros.
+/// A disk of version 1 up to page 1 of its memory, built from the format. What stands after are the guest, and zeros.
 pub const OLD_DISK: &[Piece] = &[
     // The superblock: an open gate; the name, version 1, 16 pages, 1 hart, journals of 4,096 bytes.
     (&[0xa5], 7),

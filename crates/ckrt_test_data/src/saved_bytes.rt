@@ -2,19 +2,19 @@
 //!
 //! All numbers have their lowest byte first. No byte here comes from the program: each was written down from the format.
 
-/// Bytes, and so many zeros behind them.
+/// Bytes, and that many zeros after them.
 pub type Piece = (&'static [u8], usize);
 
 /// The count of threads, 1, and the front of the record of the one thread of a program that hasn't begun: its number, the flag
 /// of the initial thread, no handler, and that it doesn't unwind; it begins at 0x1000, returns to 0xFFFFFFF0, and has its
-/// stack at 65,536. Behind it stand 29 registers of 0, and in version 2 that it is in no round of destructors, the next key
+/// stack at 65,536. After it stand 29 registers of 0, and in version 2 that it is in no round of destructors, the next key
 /// 0, and no value.
 pub const INITIAL_THREAD: &[u8] = &[
     1, 1, 1, 0, 0, 0, 0, 0, 0, 0x00, 0x10, 0x00, 0x00, 0xF0, 0xFF, 0xFF, 0xFF, 0x00, 0x00, 0x01,
     0x00,
 ];
 
-/// The zeros behind it in version 2.
+/// The zeros after it in version 2.
 pub const BEHIND_THREAD: usize = 29 * 4 + 4;
 
 /// The tables of a program that hasn't begun.

@@ -10,7 +10,7 @@ use Rattle.ckrt_thread.specs.declared.records.Live.{Live}
 use Rattle.ckrt_thread.specs.declared.records.Thread.{Thread}
 use Rattle.ckrt_thread.specs.declared.records.Thread.TheVariants as thread
 use Rattle.ckrt_thread.specs.Keys.{KeyTable, is_key, destructor_of, with_key, is_aligned_key, are_proper_keys, no_data, is_proper_data, value_under, data_of, HasValuesOf, is_of_key, are_of_keys}
-use Rattle.ckrt_thread.specs.Destructors.{is_to_destroy, first_from, turn_in, rest_of_round, new_round, turn_or, next_turn}
+use Rattle.ckrt_thread.specs.Destructors.{is_to_destroy, first_to_destroy, turn_in, rest_of_round, new_round, turn_or, next_turn}
 use Rattle.ckrt_thread.specs.State.{is_proper_live, is_proper_slot}
 
 -- both of two facts
@@ -164,7 +164,7 @@ pub record IsTurn (turn : Turn) : Type 0 where
   pub few : turn.round ≤ 4
   pub key : turn.key < 32
 
-first_below : (keys : KeyTable) (d : SpecificData) (from k : ℕ) → from ≤ 32 → first_from keys d from ≡ Some k → k < 32
+first_below : (keys : KeyTable) (d : SpecificData) (from k : ℕ) → from ≤ 32 → first_to_destroy keys d from ≡ Some k → k < 32
 first_below keys d from k l e = (let r = found_below (is_to_destroy keys d) from (32 - from) k e in omega (arith, r, l))
 
 turn_of_round : (r : ℕ) (o : Option ℕ) (turn : Turn) → 0 < r → r ≤ 4 → ((k : ℕ) → o ≡ Some k → k < 32) → turn_in r o ≡ Some turn → IsTurn turn
@@ -175,15 +175,15 @@ turn_of_round r (Some k) turn b f i e =
 
 rest_turn : (keys : KeyTable) (d : SpecificData) (turn : Turn) → d.round ≤ 4 → d.next_key ≤ 32 → rest_of_round keys d ≡ Some turn → IsTurn turn
 rest_turn keys d turn f n e =
-    elim (d.round == 0) as (λ b. (d.round == 0) ≡ b → cond b None (turn_in d.round (first_from keys d d.next_key)) ≡ Some turn → IsTurn turn) [
+    elim (d.round == 0) as (λ b. (d.round == 0) ≡ b → cond b None (turn_in d.round (first_to_destroy keys d d.next_key)) ≡ Some turn → IsTurn turn) [
       | true ↦ λ _ x. absurd (cc)
-      | false ↦ λ z x. turn_of_round d.round (first_from keys d d.next_key) turn (grind (arith, nat_tests, z)) f (λ k y. first_below keys d d.next_key k n y) x
+      | false ↦ λ z x. turn_of_round d.round (first_to_destroy keys d d.next_key) turn (grind (arith, nat_tests, z)) f (λ k y. first_below keys d d.next_key k n y) x
     ] refl e
 
 new_turn : (keys : KeyTable) (d : SpecificData) (turn : Turn) → new_round keys d ≡ Some turn → IsTurn turn
 new_turn keys d turn e =
-    elim (nat_lt d.round 4) as (λ b. nat_lt d.round 4 ≡ b → cond b (turn_in (suc d.round) (first_from keys d 0)) None ≡ Some turn → IsTurn turn) [
-      | true ↦ λ l x. turn_of_round (suc d.round) (first_from keys d 0) turn (omega arith) (grind (arith, nat_tests, l)) (λ k y. first_below keys d 0 k (omega arith) y) x
+    elim (nat_lt d.round 4) as (λ b. nat_lt d.round 4 ≡ b → cond b (turn_in (suc d.round) (first_to_destroy keys d 0)) None ≡ Some turn → IsTurn turn) [
+      | true ↦ λ l x. turn_of_round (suc d.round) (first_to_destroy keys d 0) turn (omega arith) (grind (arith, nat_tests, l)) (λ k y. first_below keys d 0 k (omega arith) y) x
       | false ↦ λ l x. absurd (cc)
     ] refl e
 

@@ -10,7 +10,7 @@ use Rattle.ckrt_thread.specs.declared.records.Thread.{Thread}
 use Rattle.ckrt_thread.specs.declared.records.Thread.TheVariants as thread
 use Rattle.ckrt_thread.specs.Cancellation.{is_unwinding}
 use Rattle.ckrt_thread.specs.Keys.{KeyTable, is_key, with_key, are_proper_keys, are_of_keys, data_of, HasValuesOf, setting, value_under}
-use Rattle.ckrt_thread.specs.Destructors.{next_turn, destroying}
+use Rattle.ckrt_thread.specs.Destructors.{next_turn, at_destructor}
 use Rattle.ckrt_thread.specs.Unwinding.{turn_of}
 use Rattle.ckrt_thread.specs.State.{State, IsWellFormed, thread_of, is_live, is_live_thread, is_initial, is_joinable, is_proper_live, is_proper_slot, places, joiners, unwind_waits, change_live, change_thread}
 use Rattle.ckrt_thread.specs.Contents.{with_keys, has_values_of, are_all_of_keys}
@@ -152,18 +152,18 @@ well_formed_value s t k v h l a =
 
 -- A DESTRUCTOR RUNS
 
-proper_destroyed : (keys : KeyTable) (turn : Turn) (l : Live) → are_proper_keys keys ≡ true → is_some l.cancellation.unwinding ≡ true → IsTurn turn → is_proper_live l ≡ true → is_proper_live (destroying keys turn l) ≡ true
+proper_destroyed : (keys : KeyTable) (turn : Turn) (l : Live) → are_proper_keys keys ≡ true → is_some l.cancellation.unwinding ≡ true → IsTurn turn → is_proper_live l ≡ true → is_proper_live (at_destructor keys turn l) ≡ true
 proper_destroyed keys turn l p u t h =
     let size = length-set l.specific.values turn.key 0 in
     let aligned = aligned_destructor keys turn.key p in
     grind (arith, nat_tests, h, u, t.begun, t.few, t.key, size, aligned)
 
-destroyed_proper : (keys : KeyTable) (turn : Turn) (o : Option Thread) → are_proper_keys keys ≡ true → is_unwinding o ≡ true → IsTurn turn → is_proper_slot o ≡ true → is_proper_slot (change_live (destroying keys turn) o) ≡ true
+destroyed_proper : (keys : KeyTable) (turn : Turn) (o : Option Thread) → are_proper_keys keys ≡ true → is_unwinding o ≡ true → IsTurn turn → is_proper_slot o ≡ true → is_proper_slot (change_live (at_destructor keys turn) o) ≡ true
 destroyed_proper keys turn None p u t h = refl
 destroyed_proper keys turn (Some (thread.Ended v)) p u t h = refl
 destroyed_proper keys turn (Some (thread.Live l)) p u t h = proper_destroyed keys turn l p u t h
 
-destroyed_values : (keys other : KeyTable) (turn : Turn) (o : Option Thread) → HasValuesOf keys o → HasValuesOf keys (change_live (destroying other turn) o)
+destroyed_values : (keys other : KeyTable) (turn : Turn) (o : Option Thread) → HasValuesOf keys o → HasValuesOf keys (change_live (at_destructor other turn) o)
 destroyed_values keys other turn None v = v
 destroyed_values keys other turn (Some (thread.Ended x)) v = v
 destroyed_values keys other turn (Some (thread.Live l)) v = λ i e. zero_under l.specific.values turn.key i (v i e)
@@ -181,9 +181,9 @@ has_turn s t turn h e =
       | false ↦ λ _ x. absurd (cc)
     ] refl e
 
-pub well_formed_destroyed : (s : State) (t : ℕ) (turn : Turn) → IsWellFormed s → is_live s t ≡ true → turn_of t s ≡ Some turn → IsWellFormed (record s { threads = change_thread (destroying s.keys turn) t s.threads })
+pub well_formed_destroyed : (s : State) (t : ℕ) (turn : Turn) → IsWellFormed s → is_live s t ≡ true → turn_of t s ≡ Some turn → IsWellFormed (record s { threads = change_thread (at_destructor s.keys turn) t s.threads })
 well_formed_destroyed s t turn h l e =
     let has = has_turn s t turn h e in
-    well_formed_live s t (destroying s.keys turn) h l
-    (may_stand_joinable s t (destroying s.keys turn) h (λ x. refl) (destroyed_proper s.keys turn (thread_of s t) h.proper_keys has.0 has.1 (h.proper t)) (same_unwinding (destroying s.keys turn) (λ x. refl) (thread_of s t))
+    well_formed_live s t (at_destructor s.keys turn) h l
+    (may_stand_joinable s t (at_destructor s.keys turn) h (λ x. refl) (destroyed_proper s.keys turn (thread_of s t) h.proper_keys has.0 has.1 (h.proper t)) (same_unwinding (at_destructor s.keys turn) (λ x. refl) (thread_of s t))
     (destroyed_values s.keys s.keys turn (thread_of s t) (h.values t)) (λ x. refl))

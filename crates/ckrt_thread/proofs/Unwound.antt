@@ -13,7 +13,7 @@ use Rattle.ckrt_thread.specs.State.{State, IsWellFormed, thread_of, is_live, is_
 use Rattle.ckrt_thread.specs.Rows.{end_with, finished}
 use Rattle.ckrt_thread.specs.declared.keys.Turn.{Turn}
 use Rattle.ckrt_thread.specs.Keys.{KeyTable, HasValuesOf}
-use Rattle.ckrt_thread.specs.Destructors.{destroying}
+use Rattle.ckrt_thread.specs.Destructors.{at_destructor}
 use Rattle.ckrt_thread.specs.Unwinding.{newest_handler, turn_of, destroyed_by, next_destructor, handled_by, next_handler, popped}
 use Rattle.ckrt_thread.specs.Granting.{answered, obtained, wait_result}
 use Rattle.ckrt_thread.proofs.Changes.{well_formed_off, well_formed_without, well_formed_word, well_formed_change, well_formed_slot, may_stand_free, changes_popping, changes_entering, aligned_newest}
@@ -40,7 +40,7 @@ waits_finished f t v s a b = end_waits f (first_waiter (object.End t) s) t v (of
 module _ (P : State → Type 0) (t : ℕ) where
   destroyed_ways : (o : Option Turn) (s : State) → ((f : Live → Live) (z : State) → P z → P (record z { threads = change_thread f t z.threads })) → ((v : ℕ) → P s → P (finished t v s)) → P s → P (destroyed_by o t s)
   destroyed_ways None s c e h = e (unwinding_value (thread_of s t)) h
-  destroyed_ways (Some turn) s c e h = c (destroying s.keys turn) s h
+  destroyed_ways (Some turn) s c e h = c (at_destructor s.keys turn) s h
 
   handled_ways : (o : Option Handler) (s : State) → ((f : Live → Live) (z : State) → P z → P (record z { threads = change_thread f t z.threads })) → ((v : ℕ) → P s → P (finished t v s)) → P s → P (handled_by o t s)
   handled_ways None s c e h = destroyed_ways (turn_of t s) s c e h

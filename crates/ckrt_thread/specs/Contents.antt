@@ -1,5 +1,5 @@
 -- What the table of threads holds, row by row: threads by rising id, waits in order of the start of waiting, and who is on
--- which hart. A table is built again so, each row behind those that are there, from the keys of the program on (this
+-- which hart. A table is built again so, each row after those that are there, from the keys of the program on (this
 -- project's choice).
 use Rattle.std.specs.Prelude.{◌≡◌, ℕ, suc, ◌≤◌, ◌<◌, nat_lt, nat_le, Bool, not, ◌&&◌, List, [], ◌∷◌, ◌++◌, drop, replicate, Option, Some, None, is_none, slice_get}
 use Rattle.std.specs.List.{list_any, list_all}
@@ -39,7 +39,7 @@ row id t = record { id = id; thread = t }
 abbrev pub who_is_on : State → ℕ → Option ℕ
 who_is_on s h = option_flatten (slice_get s.harts h)
 
--- these keys, no thread, no wait, and so many harts, all idle
+-- these keys, no thread, no wait, and that many harts, all idle
 abbrev pub empty : KeyTable → ℕ → State
 empty keys harts =
     record {
@@ -101,12 +101,12 @@ pub record HaveSameRows (r s : State) : Type 0 where
   pub hart_count : r.hart_count ≡ s.hart_count
   pub keys : r.keys ≡ s.keys
 
--- s has the keys of `begun`, and this thread behind its threads
+-- s has the keys of `begun`, and this thread after its threads
 pub record HasNextThread (r : ThreadRow) (begun s : State) : Type 0 where
   pub keys : s.keys ≡ begun.keys
   pub threads : (more : List ThreadRow) × (thread_rows s ≡ thread_rows begun ++ r ∷ more)
 
--- s has the keys and threads of `begun` and this wait behind its waits, and nobody is on a hart in `begun` yet
+-- s has the keys and threads of `begun` and this wait after its waits, and nobody is on a hart in `begun` yet
 pub record HasNextWait (w : Wait) (begun s : State) : Type 0 where
   pub keys : s.keys ≡ begun.keys
   pub threads : thread_rows s ≡ thread_rows begun

@@ -16,22 +16,22 @@ use Rattle.ckrt_thread.specs.Keys.{MAX_KEYS, DESTRUCTOR_ROUNDS, KeyTable, destru
 abbrev pub is_to_destroy : KeyTable → SpecificData → ℕ → Bool
 is_to_destroy keys d k = not (destructor_of keys k == 0) && not (value_under k d == 0)
 
--- the first such key from one on
-abbrev pub first_from : KeyTable → SpecificData → ℕ → Option ℕ
-first_from keys d from = find (is_to_destroy keys d) (range_with_len from (MAX_KEYS - from))
+-- the first such key from a given one on
+abbrev pub first_to_destroy : KeyTable → SpecificData → ℕ → Option ℕ
+first_to_destroy keys d from = find (is_to_destroy keys d) (range_with_len from (MAX_KEYS - from))
 
 -- the destructor of a key, in a round
 abbrev pub turn_in : ℕ → Option ℕ → Option Turn
 turn_in round None = None
 turn_in round (Some k) = Some (record { round = round; key = k })
 
--- the round goes on behind the key whose turn was the last; before the first round there is none
+-- the round goes on after the key whose turn was the last; before the first round there is none
 abbrev pub rest_of_round : KeyTable → SpecificData → Option Turn
-rest_of_round keys d = if d.round == 0 then None else turn_in d.round (first_from keys d d.next_key)
+rest_of_round keys d = if d.round == 0 then None else turn_in d.round (first_to_destroy keys d d.next_key)
 
 -- a round begins with key 0, and there are at most 4
 abbrev pub new_round : KeyTable → SpecificData → Option Turn
-new_round keys d = if nat_lt d.round DESTRUCTOR_ROUNDS then turn_in (suc d.round) (first_from keys d 0) else None
+new_round keys d = if nat_lt d.round DESTRUCTOR_ROUNDS then turn_in (suc d.round) (first_to_destroy keys d 0) else None
 
 abbrev pub turn_or : Option Turn → Option Turn → Option Turn
 turn_or None other = other
@@ -42,7 +42,7 @@ next_turn keys d = turn_or (rest_of_round keys d) (new_round keys d)
 
 -- WHAT THE THREAD DOES THEN
 
--- the value is gone before its destructor runs, and the round goes on behind the key
+-- the value is gone before its destructor runs, and the round goes on after the key
 abbrev pub taken : Turn → SpecificData → SpecificData
 taken turn d = record (set_under turn.key 0 d) { round = turn.round; next_key = suc turn.key }
 
@@ -52,6 +52,6 @@ routine_of keys turn d =
     record { routine = destructor_of keys turn.key; argument = value_under turn.key d }
 
 -- the thread goes to the destructor, which returns to the gate where it goes on to unwind
-abbrev pub destroying : KeyTable → Turn → Live → Live
-destroying keys turn l =
+abbrev pub at_destructor : KeyTable → Turn → Live → Live
+at_destructor keys turn l =
     entering UNWIND_GATE (routine_of keys turn l.specific) (with_data (taken turn l.specific) l)

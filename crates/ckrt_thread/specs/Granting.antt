@@ -55,6 +55,6 @@ module _ {O : Type 0} (rule : GrantRule O) where
   is_first_admissible None o = false
   is_first_admissible (Some w) o = rule.is_admissible o w
 
-  -- whether the first who waits could be granted the object
+  -- whether the first thread that waits could be granted the object
   abbrev pub has_admissible_waiter : O × State → Bool
   has_admissible_waiter r = is_first_admissible (first_waiter rule.object r.1) r.0

@@ -47,7 +47,7 @@ abbrev pub is_condition : Object → Bool
 is_condition (object.Condition c) = true
 is_condition o = false
 
--- whether a wait for this may name an object that none of the waits behind it names
+-- whether a wait for this may name an object that none of the waits after it names
 abbrev pub may_name_another : Option Object → List Wait → Bool
 may_name_another None ws = false
 may_name_another (Some o) ws = is_condition o || not (list_any (is_for o) ws)

@@ -84,8 +84,8 @@ detach_at (Some (thread.Live l)) id s =
 abbrev pub detach_row : ℕ → State → After
 detach_row id s = detach_at (thread_of s id) id s
 
--- POSIX.1-2017, pthread_exit. A thread that ends is off its hart. Who joins it gets 0, and the value in x11, and the id is
--- free; else the id of a detached thread is free; else the value stays for who joins it.
+-- POSIX.1-2017, pthread_exit. A thread that ends is off its hart. A thread that joins it gets 0, and the value in x11, and the id is
+-- free; else the id of a detached thread is free; else the value stays for the thread that joins it.
 abbrev pub end_with : Option Wait → ℕ → ℕ → State → State
 end_with None t v s = if is_detached (thread_of s t) then with_slot t None s else with_slot t (Some (thread.Ended v)) s
 end_with (Some w) t v s = with_slot t None (set_word w.thread A1 v (woken w.thread 0 s))

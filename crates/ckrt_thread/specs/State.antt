@@ -18,7 +18,7 @@ use Rattle.ckrt_thread.specs.Cancellation.{at_the_start, is_consistent, are_prop
 use Rattle.ckrt_thread.specs.Keys.{KeyTable, no_keys, are_proper_keys, no_data, is_proper_data, HasValuesOf}
 use Rattle.ckrt_thread.specs.Waits.{is_for, is_of, without, is_deadline_of, has_proper_deadline, joins_another, is_to_unwind, is_unwind_of}
 
--- The threads by id, with nothing at 0; the waits in order of the start of waiting; who is on each of 8 harts,
+-- The threads by id, with nothing at 0; the waits in order of the start of waiting; the thread on each of 8 harts,
 -- and how many of these there are; and the keys of the program.
 pub record State : Type 0 where
   pub threads : List (Option Thread)
@@ -109,7 +109,7 @@ joiners s t = count_of (is_for (object.End t)) s.waits
 abbrev pub is_aligned : Registers → Bool
 is_aligned r = r.pc % 4 == 0
 
--- The pc and each handler's routine are multiples of 4, there are at most 16 handlers, who unwinds is disabled and
+-- The pc and each handler's routine are multiples of 4, there are at most 16 handlers, a thread that unwinds is disabled and
 -- deferred, and what the thread has under keys is proper.
 abbrev pub is_proper_live : Live → Bool
 is_proper_live l =
@@ -135,15 +135,15 @@ pub record IsWellFormed (s : State) : Type 0 where
   pub hart_count : s.hart_count ≤ 8
   -- harts from hart_count on are idle
   pub idle : (h : ℕ) → s.hart_count ≤ h → option_flatten (slice_get s.harts h) ≡ None
-  -- each pc and each handler's routine is a multiple of 4, who unwinds is disabled and deferred, and who is in a round of
+  -- each pc and each handler's routine is a multiple of 4, a thread that unwinds is disabled and deferred, and who is in a round of
   -- destructors, of at most 4, unwinds (who has ended is in none, and has no value)
   pub proper : (t : ℕ) → is_proper_slot (thread_of s t) ≡ true
   -- at most one thread has the mark initial
   pub one_initial : (t q : ℕ) → is_initial (thread_of s t) ≡ true
       → is_initial (thread_of s q) ≡ true → t ≡ q
-  -- who waits or is on a hart has not ended, and does so at one place
+  -- a thread that waits or is on a hart has not ended, and does so at one place
   pub placed : (t : ℕ) → places s t ≤ (if is_live s t then 1 else 0)
-  -- who is joined has not ended and is not detached, and one thread joins it
+  -- a joined thread has not ended and is not detached, and one thread joins it
   pub joined_target : (t : ℕ) → joiners s t ≤ (if is_joinable (thread_of s t) then 1 else 0)
   -- nobody joins itself
   pub joined_by_another : list_all joins_another s.waits ≡ true
@@ -216,7 +216,7 @@ off t h = if holds t h then None else h
 abbrev pub off_hart : ℕ → State → State
 off_hart t s = record s { harts = map (off t) s.harts }
 
--- the thread goes onto the hart, and who was there goes off
+-- the thread goes onto the hart, and the thread that was there goes off
 abbrev pub placed_on : ℕ → ℕ → State → State
 placed_on h t s = record s { harts = slice_set s.harts h (Some t) }
 
@@ -233,7 +233,7 @@ may_unwind t r s = if is_to_unwind r then is_unwinding (thread_of s t) else true
 abbrev pub may_wait : ℕ → Reason → Option ℕ → State → Bool
 may_wait t r d s = is_deadline_of r d && may_join t r s && may_unwind t r s
 
--- the thread waits from now on, behind all others, and is off its hart
+-- the thread waits from now on, after all others, and is off its hart
 abbrev pub blocked : ℕ → Reason → Option ℕ → State → State
 blocked t r d s = record {
   threads = s.threads;

@@ -4,7 +4,7 @@ use Rattle.std.specs.Prelude.{ℕ, if◌then◌else◌, Option, Some, None}
 use Rattle.ckrt_thread.specs.Abi.{UNWIND_GATE}
 use Rattle.ckrt_thread.specs.Cancellation.{handlers_of, is_unwinding, unwinding_value, newest, with_cancellation, pushing, popping, entering}
 use Rattle.ckrt_thread.specs.Keys.{data_of}
-use Rattle.ckrt_thread.specs.Destructors.{next_turn, destroying}
+use Rattle.ckrt_thread.specs.Destructors.{next_turn, at_destructor}
 use Rattle.ckrt_thread.specs.declared.keys.Turn.{Turn}
 use Rattle.ckrt_thread.specs.declared.records.Cancellation.{Cancellation}
 use Rattle.ckrt_thread.specs.declared.records.Handler.{Handler}
@@ -36,7 +36,7 @@ turn_of t s = if is_unwinding (thread_of s t) then next_turn s.keys (data_of (th
 abbrev pub destroyed_by : Option Turn → ℕ → State → State
 destroyed_by None t s = finished t (unwinding_value (thread_of s t)) s
 destroyed_by (Some turn) t s =
-    record s { threads = change_thread (destroying s.keys turn) t s.threads }
+    record s { threads = change_thread (at_destructor s.keys turn) t s.threads }
 
 abbrev pub next_destructor : ℕ → State → State
 next_destructor t s = destroyed_by (turn_of t s) t s

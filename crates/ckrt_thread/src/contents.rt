@@ -67,7 +67,7 @@ impl Threads {
         self.waits().get(place).copied()
     }
 
-    /// A thread goes behind those that there are. False, and nothing changes, where no well-formed table goes on so: its
+    /// A thread goes after those that there are. False, and nothing changes, where no well-formed table goes on so: its
     /// number is to be 1 to 64 and above theirs, its pc and its handlers' routines multiples of 4, it is disabled and
     /// deferred where it unwinds, in a round of destructors only there (of at most 4, which goes on with a key or is over),
     /// with values only under keys that there are, and at most one thread is the initial one.
@@ -84,7 +84,7 @@ impl Threads {
         true
     }
 
-    /// A wait goes behind those that there are. False, and nothing changes, where no well-formed table goes on so: who
+    /// A wait goes after those that there are. False, and nothing changes, where no well-formed table goes on so: who
     /// waits is to have not ended, to wait nowhere else and to be on no hart; a deadline is to be there where the wait
     /// has one, below 2^63; who is joined is to be another that has not ended, is not detached and is not joined yet;
     /// and who is to unwind is to unwind.

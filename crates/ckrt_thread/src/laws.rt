@@ -24,7 +24,7 @@ pub fn known_by_rows()
     ensures { (r s : State) → IsWellFormed r → IsWellFormed s → HaveSameRows r s → r ≡ s }
 {}
 
-/// A thread that is appended is behind those that there are.
+/// A thread that is appended is after those that there are.
 #[tactic(auto, using(crate::proofs::ThreadRows::thread_behind))]
 pub fn thread_behind()
     ensures { (r : ThreadRow) (s : State) → GoesOnWithThread r s

@@ -25,7 +25,7 @@ pub use laws::{
     thread_behind,
 };
 pub use records::{
-    CANCELED, CallResult, Cancellation, Handler, Live, MAX_HANDLERS, MAX_HARTS, MAX_THREADS,
+    CANCELED, CallResult, Cancellation, Handler, Hart, Live, MAX_HANDLERS, MAX_HARTS, MAX_THREADS,
     MOMENT_END, Object, Reason, RetakeResult, Thread, ThreadId, Wait, Waiter,
 };
 pub use table::Threads;

@@ -8,7 +8,7 @@ use crate::records::ThreadId;
 /// How many entries there are: one for each thread's number, and entry 0.
 pub const ENTRIES: usize = 65;
 
-/// The links of each thread's entry, by its number: which thread is behind it in its chain, and which is before it. 0 is
+/// The links of each thread's entry, by its number: which thread is after it in its chain, and which is before it. 0 is
 /// none. Several chains may share the entries, as long as no thread is in two of them.
 #[derive(Drop)]
 pub struct Links {

@@ -160,14 +160,14 @@ impl Queues {
         }
     }
 
-    /// At most so many objects of one kind are named by the waits.
+    /// At most that many objects of one kind are named by the waits.
     pub fn named_at_most(&self) -> usize
         ensures { (ws : List Wait) → AreQueues self.now ws → result ≡ named_at_most ws }
     {
         named_by_all(self.directory.as_slice())
     }
 
-    /// A thread waits from now on, behind all others that wait for the same.
+    /// A thread waits from now on, after all others that wait for the same.
     pub fn push(&mut self, wait: &Wait, reached: &mut u8)
         requires { (ws : List Wait) × MayJoin self.old wait.now ws }
         ensures { (ws : List Wait) → MayJoin self.old wait.now ws

@@ -8,6 +8,9 @@ use ckrt_registers::Regs;
 /// The number of a thread, 1 to 64.
 pub type ThreadId = u8;
 
+/// The number of a hart, from 0 to [`MAX_HARTS`] - 1.
+pub type Hart = u8;
+
 /// How many threads there may be at a time.
 pub const MAX_THREADS: usize = 64;
 
@@ -38,7 +41,7 @@ pub struct Cancellation {
     pub is_asynchronous: bool,
     /// Whether a request was made on which it has not acted.
     pub is_requested: bool,
-    /// The value that it is to end with, once its handlers have run. Who unwinds is disabled and deferred.
+    /// The value that it is to end with, once its handlers have run. A thread that unwinds is disabled and deferred.
     pub unwinding: Option<u32>,
 }
 
@@ -58,7 +61,7 @@ impl Cancellation {
         }
     }
 
-    /// Whether a thread can be cancelled so: who unwinds is disabled and deferred.
+    /// Whether a thread can be cancelled so: a thread that unwinds is disabled and deferred.
     pub fn is_consistent(&self) -> bool
         ensures { result ≡ is_consistent self.now }
     {

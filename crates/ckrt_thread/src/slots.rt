@@ -6,7 +6,7 @@ ghost use Rattle.ckrt_thread.specs.Cancellation.{handlers_of, with_cancellation,
 ghost use Rattle.ckrt_thread.specs.State.{is_live_thread, change_live, change_thread, with_word, with_regs, first_of_program};
 ghost use Rattle.ckrt_thread.specs.Rows.{new_thread, detached};
 ghost use Rattle.ckrt_thread.specs.Keys.{setting};
-ghost use Rattle.ckrt_thread.specs.Destructors.{destroying};
+ghost use Rattle.ckrt_thread.specs.Destructors.{at_destructor};
 
 use crate::abi::{A0, PROGRAM_START, RA, RETURN_GATE, SP, UNWIND_GATE};
 use crate::keys::{Key, Keys, MAX_KEYS, SpecificData, Turn};
@@ -36,7 +36,7 @@ impl Model for Slots {
     ghost invariant = { λ a. (length a.slots.items ≡ 65) × (65 ≤ vec_capacity a.slots) };
 }
 
-/// So many free slots. The only error is that the memory for them is refused.
+/// That many free slots. The only error is that the memory for them is refused.
 #[tactic(auto, using(crate::proofs::SlotLemmas::one_more))]
 fn free_slots(alloc: Global, count: usize) -> Result<Vec<Option<Thread>>, AllocError>
     ensures items { IfOk result (λ table. table.items ≡ replicate count None) }
@@ -202,7 +202,7 @@ impl Slots {
     pub fn destroy(&mut self, thread: ThreadId, keys: &Keys, turn: Turn)
         requires within { thread < length self.old }
         requires key { turn.key < MAX_KEYS }
-        ensures { self.new ≡ change_thread (destroying keys.now turn) thread self.old }
+        ensures { self.new ≡ change_thread (at_destructor keys.now turn) thread self.old }
     {
         let slot = &mut self.slots[thread as usize];
         if let Some(Thread::Live(live)) = slot {
@@ -235,7 +235,7 @@ fn clear_value(slot: &mut Option<Thread>, key: Key)
 /// The thread goes to the destructor whose turn it is, with its value, which it has no more.
 fn destroy_value(live: &mut Live, keys: &Keys, turn: Turn)
     requires { turn.key < MAX_KEYS }
-    ensures { live.new ≡ destroying keys.now turn live.old }
+    ensures { live.new ≡ at_destructor keys.now turn live.old }
 {
     let value = live.specific.value(turn.key);
     live.specific.values[turn.key as usize] = 0;

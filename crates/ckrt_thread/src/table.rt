@@ -31,7 +31,7 @@ use ckrt_registers::Regs;
 use std::alloc::{AllocError, Global};
 use std::marker::Model;
 
-/// The threads of a program by number, the list of waits in order of the start of waiting, and who is on which hart.
+/// The threads of a program by number, the list of waits in order of the start of waiting, and which thread is on which hart.
 /// Only `new` takes memory.
 #[derive(Drop)]
 pub struct Threads {
@@ -236,7 +236,7 @@ impl Threads {
             && !harts_any(self.harts.as_slice(), thread)
     }
 
-    /// Who is on the hart. That thread has not ended and does not wait.
+    /// The thread on the hart. That thread has not ended and does not wait.
     pub fn on_hart(&self, hart: usize) -> Option<ThreadId>
         ensures on { result ≡ option_flatten (slice_get self.now.harts hart) }
         ensures ready { IfSome result
@@ -246,7 +246,7 @@ impl Threads {
         self.who_on(hart)
     }
 
-    /// Who is on the hart.
+    /// The thread on the hart.
     fn who_on(&self, hart: usize) -> Option<ThreadId>
         ensures { result ≡ option_flatten (slice_get self.now.harts hart) }
     {
@@ -293,7 +293,7 @@ impl Threads {
         self.waits.count_for(object)
     }
 
-    /// At most so many objects of one kind are named by the waits: how many wait at conditions, and how many other
+    /// At most that many objects of one kind are named by the waits: how many wait at conditions, and how many other
     /// objects are waited for. It goes over the queues alone.
     pub fn named_at_most(&self) -> usize
         ensures count { result ≡ named_at_most self.now.waits }
@@ -355,7 +355,7 @@ impl Threads {
         self.set_word(thread, A1, value);
     }
 
-    /// A thread that is ready goes onto a hart. Who was there goes off, and stays ready.
+    /// A thread that is ready goes onto a hart. The thread that was there goes off, and stays ready.
     pub fn place(&mut self, hart: usize, thread: ThreadId)
         requires hart { hart < self.old.hart_count }
         requires ready { is_ready self.old thread ≡ true }
@@ -372,7 +372,7 @@ impl Threads {
         take_off(&mut self.harts, thread);
     }
 
-    /// The thread waits from now on, behind all others, and is off its hart.
+    /// The thread waits from now on, after all others, and is off its hart.
     pub fn block(&mut self, thread: ThreadId, reason: Reason, deadline: Option<u64>)
         requires live { is_live self.old thread ≡ true }
         requires free { is_waiting self.old thread ≡ false }
@@ -465,7 +465,7 @@ impl Threads {
 
     // Cancellation and clean-up handlers.
 
-    /// How far a thread that has not ended can be cancelled, and whether it is, from now on. Who unwinds goes on
+    /// How far a thread that has not ended can be cancelled, and whether it is, from now on. A thread that unwinds goes on
     /// unwinding.
     pub fn set_cancellation(&mut self, thread: ThreadId, cancellation: &Cancellation)
         requires live { is_live self.old thread ≡ true }
@@ -648,7 +648,7 @@ impl Threads {
         }
     }
 
-    /// `pthread_exit`: the thread, which does not wait, ends with a value and is off its hart. Who joins it gets 0 and
+    /// `pthread_exit`: the thread, which does not wait, ends with a value and is off its hart. A thread that joins it gets 0 and
     /// the value in x11; its number is free then, and where it is detached.
     pub fn finish(&mut self, thread: ThreadId, value: u32)
         requires live { is_live self.old thread ≡ true }

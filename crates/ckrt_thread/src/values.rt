@@ -4,7 +4,7 @@ ghost use Rattle.std.specs.List.{find, list_all, range_with_len};
 ghost use Rattle.ckrt_thread.specs.State.{is_live, is_waiting, thread_of, change_thread, change_live};
 ghost use Rattle.ckrt_thread.specs.Cancellation.{is_unwinding};
 ghost use Rattle.ckrt_thread.specs.Keys.{is_key, is_of_key, are_of_keys, data_of};
-ghost use Rattle.ckrt_thread.specs.Destructors.{is_to_destroy, first_from, turn_in, rest_of_round, new_round, next_turn, destroying};
+ghost use Rattle.ckrt_thread.specs.Destructors.{is_to_destroy, first_to_destroy, turn_in, rest_of_round, new_round, next_turn, at_destructor};
 ghost use Rattle.ckrt_thread.specs.Contents.{with_keys, has_values_of, are_all_of_keys};
 ghost use Rattle.ckrt_thread.specs.Unwinding.{turn_of, next_destructor};
 ghost use Rattle.ckrt_thread.specs.ThreadKeys.{with_key_of, without_key_of, with_value_of, value_of};
@@ -70,9 +70,9 @@ fn is_to_destroy(keys: &Keys, specific: &SpecificData, key: Key) -> bool
     keys.destructor(u32::from(key)).unwrap_or(0) != 0 && specific.value(key) != 0
 }
 
-/// The first such key from one on.
-fn first_from(keys: &Keys, specific: &SpecificData, from: Key) -> Option<Key>
-    ensures { result ≡ first_from keys.now specific.now from }
+/// The first such key from a given one on.
+fn first_to_destroy(keys: &Keys, specific: &SpecificData, from: Key) -> Option<Key>
+    ensures { result ≡ first_to_destroy keys.now specific.now from }
 {
     for key in from..MAX_KEYS as Key {
         if is_to_destroy(keys, specific, key) {
@@ -101,7 +101,7 @@ fn rest_of_round(keys: &Keys, specific: &SpecificData) -> Option<Turn>
     }
     turn_in(
         specific.round,
-        first_from(keys, specific, specific.next_key),
+        first_to_destroy(keys, specific, specific.next_key),
     )
 }
 
@@ -112,7 +112,7 @@ fn new_round(keys: &Keys, specific: &SpecificData) -> Option<Turn>
     if specific.round >= DESTRUCTOR_ROUNDS {
         return None;
     }
-    turn_in(specific.round + 1, first_from(keys, specific, 0))
+    turn_in(specific.round + 1, first_to_destroy(keys, specific, 0))
 }
 
 /// The next turn of a thread.
@@ -174,8 +174,8 @@ impl Threads {
         self.slots.set_value(thread, key, value);
     }
 
-    /// The keys of the program become these, for who builds a table row by row: no call of a program switches keys on or
-    /// off. False, and nothing changes, where a thread has a value under a number that is none of them.
+    /// The keys of the program become these. Public for the crates that build a table row by row, from saved bytes or from
+    /// another table: no call of a program switches keys on or off. False, and nothing changes, where a thread has a value under a number that is none of them.
     pub fn set_keys(&mut self, keys: Keys) -> bool
         ensures exact { result ≡ are_all_of_keys keys self.old }
         ensures set { result ≡ true → self.new ≡ with_keys keys self.old }
@@ -217,7 +217,7 @@ impl Threads {
         requires turn { turn_of thread self.old ≡ Some turn }
         ensures { self.new
             ≡ record self.old {
-              threads = change_thread (destroying self.old.keys turn) thread self.old.threads;
+              threads = change_thread (at_destructor self.old.keys turn) thread self.old.threads;
             } }
     {
         self.slots.destroy(thread, &self.keys, turn);

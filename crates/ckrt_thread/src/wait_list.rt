@@ -45,7 +45,7 @@ impl Model for WaitList {
         (waits_along a.entries a.links a.ends) };
 }
 
-/// The waits of so many threads along the links, from a first one on.
+/// The waits of that many threads along the links, from a first one on.
 fn waits_from(
     entries: &[Wait],
     next: &[ThreadId],
@@ -150,7 +150,7 @@ impl WaitList {
         ends_of(self.queues.directory.as_slice(), object).count as usize
     }
 
-    /// At most so many objects of one kind are named by the waits.
+    /// At most that many objects of one kind are named by the waits.
     pub fn named_at_most(&self) -> usize
         ensures value { result ≡ named_at_most self.now }
         ensures fits { result ≤ 64 }
@@ -158,7 +158,7 @@ impl WaitList {
         self.queues.named_at_most()
     }
 
-    /// One more wait, behind all others. There must be room, and its thread must not wait.
+    /// One more wait, after all others. There must be room, and its thread must not wait.
     pub fn push(&mut self, wait: Wait)
         requires number { (0 < wait.thread) × (wait.thread ≤ 64) }
         requires free { list_any (is_of wait.thread) self.old ≡ false }

@@ -5,9 +5,9 @@ use Rattle.std.specs.Io.KnownBytes.{Appends}
 use Rattle.ckrt_events.specs.declared.event.Event.{Event}
 use Rattle.ckrt_machine.specs.Steps.{State}
 use Rattle.ckrt_machine.specs.Events.{AllAccepted, fold}
-use Rattle.ckrt_image.specs.Recovery.{AgreesOnFault}
-use Rattle.ckrt_image.specs.declared.fault.RecoverFault.{RecoverFault}
-use Rattle.ckrt_image.specs.declared.fault.RecoverFault.TheVariants as recover
+use Rattle.ckrt_stored.specs.Recovery.{AgreesOnFault}
+use Rattle.ckrt_stored.specs.declared.fault.RecoverFault.{RecoverFault}
+use Rattle.ckrt_stored.specs.declared.fault.RecoverFault.TheVariants as recover
 use Rattle.ckrt_recording.specs.Recording.{HasRecording, Recorded, Records}
 use Rattle.ckrt_recording.proofs.RecordedLemmas.{recorded_leads}
 use Rattle.ckrt_inspect.specs.Inspect.{is_device, of_recovery}

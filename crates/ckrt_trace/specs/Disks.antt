@@ -4,8 +4,8 @@ use Rattle.std.specs.Io.KnownBytes.{Appends}
 use Rattle.ckrt_events.specs.declared.event.Event.{Event}
 use Rattle.ckrt_machine.specs.Events.{AllAccepted, fold, step}
 use Rattle.ckrt_machine.specs.Steps.{State}
-use Rattle.ckrt_image.specs.Recovery.{Recovers}
-use Rattle.ckrt_image.specs.declared.fault.RecoverFault.TheVariants as recover
+use Rattle.ckrt_stored.specs.Recovery.{Recovers}
+use Rattle.ckrt_stored.specs.declared.fault.RecoverFault.TheVariants as recover
 use Rattle.ckrt_recording.specs.Recording.{HasRecording, Recorded}
 use Rattle.ckrt_inspect.specs.declared.fault.InspectFault.{InspectFault}
 use Rattle.ckrt_inspect.specs.declared.fault.InspectFault.TheVariants.{NotFormatted, Version, Damaged, Device, OutOfMemory, Write, Range}

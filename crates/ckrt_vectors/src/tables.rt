@@ -2,11 +2,11 @@
 
 use anyhow::{Context, Result, ensure};
 use ckrt_state::Tables;
-use ckrt_tables::{HELD_LIMIT, Held, TABLES_ROOM, VERSION, decode_tables, encode_tables};
+use ckrt_tables::{AREA_VERSION, HELD_LIMIT, Held, TABLES_ROOM, decode_tables, encode_tables};
 use ckrt_thread::MAX_HARTS;
 use std::alloc::Global;
 
-/// So many zeros.
+/// That many zeros.
 fn zeros(alloc: Global, size: usize) -> Result<Vec<u8>> {
     Ok(vec![in alloc; 0u8; size]?)
 }
@@ -30,7 +30,7 @@ fn growth(tables: &Tables) -> usize {
 }
 
 /// Whether tables and output that these bytes of a version decode to are encoded rightly: those of version 2 as the same
-/// bytes, those of version 1 as so many more.
+/// bytes, those of version 1 as that many more.
 fn is_encoded_as(
     tables: &Tables,
     held: &Held,
@@ -39,14 +39,14 @@ fn is_encoded_as(
     bytes: &[u8],
 ) -> Result<bool> {
     let length = encoded_length(tables, held, room)?;
-    if version == VERSION {
+    if version == AREA_VERSION {
         Ok(room.get(..length) == Some(bytes))
     } else {
         Ok(length.wrapping_sub(bytes.len()) == growth(tables))
     }
 }
 
-/// Whether bytes of a version decode, for so many harts, to what is encoded rightly.
+/// Whether bytes of a version decode, for that many harts, to what is encoded rightly.
 fn is_saved(alloc: Global, version: u32, bytes: &[u8], harts: usize) -> Result<bool> {
     ensure!(version == 1 || version == 2, "a version that isn't known");
     ensure!(harts <= MAX_HARTS, "more harts than there may be");

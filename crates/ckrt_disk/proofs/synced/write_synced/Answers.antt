@@ -1,7 +1,7 @@
-use Rattle.std.proofs.Common.{◌≡◌, ℕ, length, false, is_err, subst, rules}
+use Rattle.std.proofs.Common.{◌≡◌, ℕ, length, true, false, is_ok, is_err, subst, rules}
 use Rattle.ckrt_disk.specs.Disk.{IsWithin}
 use Rattle.ckrt_disk.specs.Frame.{WritesWithin}
-use Rattle.ckrt_disk.proofs.FrameLemmas.{synced, writes_on}
+use Rattle.ckrt_disk.proofs.FrameLemmas.{synced, synced_behind, writes_on}
 use Rattle.ckrt_disk.proofs.synced.write_synced.Goals as goal
 
 pub returns-clause-within : goal.returns-clause-within
@@ -15,3 +15,9 @@ returns-clause-within g c =
 
 pub returns-clause-nothing_pending : goal.returns-clause-nothing_pending
 returns-clause-nothing_pending g c = search rules
+
+pub returns-clause-gives : goal.returns-clause-gives
+returns-clause-gives g c =
+    let d = g.D.Disk in
+    let fine : is_ok c.write_part.result ≡ true = search rules in
+    synced_behind d c.args.at c.args.bytes.now c.args.disk.now c.write_part.new.disk c.sync.new.self c.sync.result (subst (λ ok. d.write_gives c.args.disk.now c.args.at c.args.bytes.now ok c.write_part.new.disk) fine c.write_part.ensures.gives) c.sync.ensures.gives

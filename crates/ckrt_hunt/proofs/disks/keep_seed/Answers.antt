@@ -1,6 +1,6 @@
 use Rattle.std.proofs.Common.{refl}
 use Rattle.std.proofs.lemmas.Result.{IfErr-weaker}
-use Rattle.ckrt_image.specs.Programs.{formatted_program}
+use Rattle.ckrt_stored.specs.Programs.{formatted_program}
 use Rattle.ckrt_hunt.specs.KeptDisks.{IsReason}
 use Rattle.ckrt_hunt.proofs.DiskLemmas.{reason_since, some_harts}
 use Rattle.ckrt_hunt.proofs.disks.keep_seed.Goals as goal

@@ -1,6 +1,6 @@
 use Rattle.std.proofs.Common.{◌≡◌, Some, Err, sym, subst, rules}
-use Rattle.ckrt_image.specs.Past.{HasPast}
-use Rattle.ckrt_image.specs.Recovery.{AgreesOnFault}
+use Rattle.ckrt_stored.specs.Past.{HasPast}
+use Rattle.ckrt_stored.specs.Recovery.{AgreesOnFault}
 use Rattle.ckrt_inspect.specs.Inspect.{AgreesAt, of_recovery}
 use Rattle.ckrt_inspect.proofs.FaultLemmas.{fault_of_past}
 use Rattle.ckrt_inspect.proofs.inspecting.read_at.Goals as goal

@@ -1,5 +1,5 @@
 use Rattle.std.proofs.Common.{◌≡◌, None, Err, sym, subst, rules}
-use Rattle.ckrt_image.specs.Recovery.{AgreesOnFault, Recovers}
+use Rattle.ckrt_stored.specs.Recovery.{AgreesOnFault, Recovers}
 use Rattle.ckrt_inspect.specs.Inspect.{AgreesAt, of_recovery}
 use Rattle.ckrt_inspect.proofs.FaultLemmas.{fault_of_whole}
 use Rattle.ckrt_inspect.proofs.inspecting.read_whole.Goals as goal

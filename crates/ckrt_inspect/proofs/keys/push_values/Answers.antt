@@ -2,7 +2,7 @@ use Rattle.std.proofs.Common.{◌≡◌, ◌<◌, ℕ, List, Option, None, ◌++
 use Rattle.std.specs.List.{flat_map}
 use Rattle.std.proofs.lemmas.List.{take_all, length-map}
 use Rattle.ckrt_tables.specs.Records.{word_at, words_from, if_not_0}
-use Rattle.ckrt_tables.proofs.KeyWords.{map_at}
+use Rattle.ckrt_tables.proofs.KeyEntries.{map_at}
 use Rattle.ckrt_inspect.specs.Listing.{value_line}
 use Rattle.ckrt_inspect.proofs.PushLemmas.{pushed_word}
 use Rattle.ckrt_inspect.proofs.keys.push_values.Goals as goal

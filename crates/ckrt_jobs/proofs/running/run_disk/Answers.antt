@@ -1,9 +1,9 @@
 use Rattle.std.proofs.Common.{◌≡◌, ◌∙◌, false, Ok, Err, refl, sym, ap, subst, inl, inr}
 use Rattle.ckrt_disk.specs.Disk.{HasFailed}
 use Rattle.ckrt_disk.specs.Frame.{IsSameDisk}
-use Rattle.ckrt_image.specs.Progress.{recovered_of}
-use Rattle.ckrt_image.specs.Recovery.{Recovers}
-use Rattle.ckrt_image.proofs.RecoverLemmas.{recovered_once}
+use Rattle.ckrt_stored.specs.Progress.{recovered_of}
+use Rattle.ckrt_stored.specs.Recovery.{Recovers}
+use Rattle.ckrt_stored.proofs.RecoverLemmas.{recovered_once}
 use Rattle.ckrt_main.specs.Service.{Served}
 use Rattle.ckrt_main.specs.declared.fault.ServeFault.{ServeFault}
 use Rattle.ckrt_recovery.specs.View.{View, opened, view_of}

@@ -1,11 +1,11 @@
 use Rattle.std.proofs.Common.{◌≡◌, inl, inr, ℕ, true, false, List, take, Ok, Err, Result, refl, sym, ◌∙◌, ap, subst, arith}
 use Rattle.std.specs.Prelude.{IfOk}
-use Rattle.ckrt_image.specs.Programs.{RecoversTo}
-use Rattle.ckrt_image.specs.Progress.{recovered_of}
-use Rattle.ckrt_image.specs.Recovery.{Recovers, Recovered}
-use Rattle.ckrt_image.specs.declared.fault.RecoverFault.{RecoverFault}
-use Rattle.ckrt_image.specs.declared.fault.RecoverFault.TheVariants.{Device}
-use Rattle.ckrt_image.specs.Reads.{is_device}
+use Rattle.ckrt_stored.specs.Programs.{RecoversTo}
+use Rattle.ckrt_stored.specs.Progress.{recovered_of}
+use Rattle.ckrt_stored.specs.Recovery.{Recovers, Recovered}
+use Rattle.ckrt_stored.specs.declared.fault.RecoverFault.{RecoverFault}
+use Rattle.ckrt_stored.specs.declared.fault.RecoverFault.TheVariants.{Device}
+use Rattle.ckrt_stored.specs.Reads.{is_device}
 use Rattle.ckrt_events.specs.declared.command.Command.{Command}
 use Rattle.ckrt_lives.specs.Pieces.{HasRun}
 use Rattle.ckrt_lives.proofs.LifeLemmas.{has_lived, untouched, only_device_or_memory}

@@ -1,7 +1,7 @@
 use Rattle.std.proofs.Common.{◌≡◌, ◌<◌, ◌+◌, ◌++◌, ◌∷◌, [], List, length, take, arith, sym, subst, ap, ◌∙◌}
 use Rattle.std.proofs.lemmas.List.{take_more, take_all}
 use Rattle.std.proofs.lemmas.List.Elements.{All-get_or}
-use Rattle.ckrt_image.specs.Programs.{Program, formatted_program}
+use Rattle.ckrt_stored.specs.Programs.{Program, formatted_program}
 use Rattle.ckrt_lives.specs.declared.life.Life.{Life}
 use Rattle.ckrt_lives.specs.Lives.{IsInRangeLife}
 use Rattle.ckrt_lives.specs.Pieces.{LivedSoFar}

@@ -1,5 +1,5 @@
 use Rattle.std.proofs.Common.{List, ℕ, take}
-use Rattle.ckrt_image.specs.Programs.{RecoversToStart, formatted_program}
+use Rattle.ckrt_stored.specs.Programs.{RecoversToStart, formatted_program}
 use Rattle.ckrt_lives.specs.Pieces.{LivedSoFar}
 use Rattle.ckrt_lives.proofs.many.lives.Given as goal
 

@@ -1,4 +1,4 @@
-use Rattle.ckrt_image.proofs.ReplayLemmas.{output-append}
+use Rattle.ckrt_stored.proofs.ReplayLemmas.{output-append}
 use Rattle.ckrt_main.proofs.ToldLemmas.{lines_agree}
 use Rattle.ckrt_main.proofs.laws.output_goes_on.Goals as goal
 

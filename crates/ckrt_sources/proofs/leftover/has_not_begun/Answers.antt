@@ -1,7 +1,7 @@
 use Rattle.std.proofs.Common.{◌≡◌, ap, subst}
 use Rattle.std.specs.Prelude.{◌↔◌, IsTrue}
 use Rattle.std.proofs.lemmas.Result.{IfOk-weaker}
-use Rattle.ckrt_image.specs.Progress.{recovered_of}
+use Rattle.ckrt_stored.specs.Progress.{recovered_of}
 use Rattle.ckrt_recovery.specs.View.{View}
 use Rattle.ckrt_sources.proofs.LeftoverLemmas.{begun_by, never_begun}
 use Rattle.ckrt_sources.proofs.leftover.has_not_begun.Goals as goal

@@ -7,7 +7,7 @@ use Rattle.ckrt_tables.specs.Encoding.{status_bytes, queue_bytes}
 use Rattle.ckrt_tables.specs.DecodingThreads.{threads_bytes}
 use Rattle.ckrt_tables.proofs.Few.{few}
 use Rattle.ckrt_tables.proofs.ThreadsRead.{set_whole}
-use Rattle.ckrt_tables.proofs.Distinct.{same_tables, bare_threads, keys_off_in}
+use Rattle.ckrt_tables.proofs.Distinct.{same_tables, threads_without_data, keys_off_in}
 use Rattle.ckrt_tables.proofs.decoding.read_tables.Goals as goal
 
 pub returns-clause-found : goal.returns-clause-found
@@ -31,7 +31,7 @@ returns-clause-found c = λ s is.
     let closed = c.read_mark-tables.ensures t.closed (status_bytes t.status ++ (hs ++ (ts ++ (ws ++ p1)))) refl clock.1 in
     let status = c.read_status-tables.ensures t.status (hs ++ (ts ++ (ws ++ p1))) fit.status closed.1 in
     let begun : c.args.tables.now.threads ≡ empty all_keys t.threads.hart_count = c.requires.begun.threads ∙ ap (empty all_keys) (sym can.hart_count) in
-    let threads = c.read_threads.ensures t.threads p1 (record { well_formed = well.threads; harts_fit = fit.harts; slots_fit = fit.threads; waits_fit = fit.waits; said = λ v. bare_threads t (can.said v) }) begun (status.1 ∙ joined) in
+    let threads = c.read_threads.ensures t.threads p1 (record { well_formed = well.threads; harts_fit = fit.harts; slots_fit = fit.threads; waits_fit = fit.waits; said = λ v. threads_without_data t (can.said v) }) begun (status.1 ∙ joined) in
     let mutexes = c.read_mutexes.ensures t.mutexes p2 (record { table = record { table = well.mutexes.table; size = at_most.mutexes }; fit = fit.mutexes }) threads.1 in
     let barriers = c.read_barriers.ensures t.barriers p3 (record { table = well.barriers.table; fit = fit.barriers }) mutexes.1 in
     let rwlocks = c.read_rwlocks.ensures t.rwlocks pk (record { table = record { table = well.rwlocks.table; size = at_most.rwlocks }; fit = fit.rwlocks }) barriers.1 in

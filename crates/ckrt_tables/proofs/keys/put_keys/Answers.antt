@@ -1,9 +1,9 @@
 use Rattle.std.proofs.Common.{◌≡◌, ◌∷◌, [], ◌++◌, length, sym, ap, subst, ◌∙◌}
 use Rattle.std.specs.List.{flat_map}
-use Rattle.ckrt_tables.specs.Records.{flag, key_word_bytes, words_from}
+use Rattle.ckrt_tables.specs.Records.{flag, key_entry_bytes, words_from}
 use Rattle.ckrt_tables.specs.Writing.{IsPut}
 use Rattle.ckrt_tables.proofs.Puts.{put_next}
-use Rattle.ckrt_tables.proofs.KeyWords.{keys_not_1}
+use Rattle.ckrt_tables.proofs.KeyEntries.{keys_not_1}
 use Rattle.ckrt_tables.proofs.keys.put_keys.Goals as goal
 
 pub returns : goal.returns
@@ -17,6 +17,6 @@ returns c =
     let mid = c.put-end.new.out in
     let last = c.put_words.new.out in
     subst (λ b. IsPut out c.args.at b last c.put_words.result) (sym (keys_not_1 c.args.version k c.if-version-eq1.false))
-    (put_next out c.args.at (flag 1 k.is_on ∷ length words ∷ []) mid c.put-end.result (flat_map key_word_bytes words) last c.put_words.result
+    (put_next out c.args.at (flag 1 k.is_on ∷ length words ∷ []) mid c.put-end.result (flat_map key_entry_bytes words) last c.put_words.result
     (subst (λ m. IsPut out c.args.at (m ∷ length words ∷ []) mid c.put-end.result) mark (subst (λ n. IsPut out c.args.at (c.flag.result ∷ n ∷ []) mid c.put-end.result) count c.put-end.ensures))
-    (subst (λ os. IsPut mid c.put-end.result (flat_map key_word_bytes (words_from 0 os)) last c.put_words.result) same c.put_words.ensures))
+    (subst (λ os. IsPut mid c.put-end.result (flat_map key_entry_bytes (words_from 0 os)) last c.put_words.result) same c.put_words.ensures))

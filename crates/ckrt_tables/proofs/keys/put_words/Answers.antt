@@ -1,7 +1,7 @@
 use Rattle.std.proofs.Common.{◌<◌, [], length, subst, arith}
 use Rattle.std.specs.List.{flat_map}
 use Rattle.std.proofs.lemmas.List.{take_all}
-use Rattle.ckrt_tables.specs.Records.{key_word_bytes, words_from}
+use Rattle.ckrt_tables.specs.Records.{key_entry_bytes, words_from}
 use Rattle.ckrt_tables.specs.Writing.{IsPut}
 use Rattle.ckrt_tables.proofs.Slots.{put_word_next, room_word_next}
 use Rattle.ckrt_tables.proofs.keys.put_words.Goals as goal
@@ -22,4 +22,4 @@ loop-key-preserved c =
 pub returns : goal.returns
 returns c =
     let whole = take_all c.loop-key.key c.args.words.now (omega (arith, c.requires.few, c.loop-key-test.false)) in
-    subst (λ l. IsPut c.args.out.now c.args.at (flat_map key_word_bytes (words_from 0 l)) c.loop-key.out c.loop-key.end) whole c.loop-key.invariant
+    subst (λ l. IsPut c.args.out.now c.args.at (flat_map key_entry_bytes (words_from 0 l)) c.loop-key.out c.loop-key.end) whole c.loop-key.invariant

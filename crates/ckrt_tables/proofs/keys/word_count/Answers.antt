@@ -2,7 +2,7 @@ use Rattle.std.proofs.Common.{◌<◌, None, length, length-append, take, get_or
 use Rattle.std.proofs.lemmas.List.{take_all}
 use Rattle.ckrt_tables.specs.Records.{word_at, words_from}
 use Rattle.ckrt_tables.proofs.Slots.{words_next}
-use Rattle.ckrt_tables.proofs.KeyWords.{length_word_at}
+use Rattle.ckrt_tables.proofs.KeyEntries.{length_word_at}
 use Rattle.ckrt_tables.proofs.keys.word_count.Goals as goal
 
 pub loop-key-preserved : goal.loop-key-preserved

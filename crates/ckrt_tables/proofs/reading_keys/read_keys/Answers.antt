@@ -1,8 +1,8 @@
 use Rattle.std.proofs.Common.{◌≡◌, ◌∷◌, ◌++◌, Some, None, true, length, refl, sym, ap, ◌∙◌, arith}
 use Rattle.std.specs.List.{flat_map}
 use Rattle.ckrt_thread.specs.declared.keys.Keys.{Keys}
-use Rattle.ckrt_tables.specs.Records.{flag, key_word_bytes, words_from}
-use Rattle.ckrt_tables.proofs.KeyWords.{off_keys, keys_in_1, keys_in_2, keys_made, few_keys}
+use Rattle.ckrt_tables.specs.Records.{flag, key_entry_bytes, words_from}
+use Rattle.ckrt_tables.proofs.KeyEntries.{off_keys, keys_in_1, keys_in_2, keys_made, few_keys}
 use Rattle.ckrt_thread.specs.Keys.{KeyTable, keys_if_proper}
 use Rattle.ckrt_thread.proofs.KeyLemmas.{both}
 use Rattle.ckrt_tables.specs.DecodingThreads.{AreKeys}
@@ -16,7 +16,7 @@ returns-then-version-eq1 c = λ keys rest are e.
 pub returns-in-Some : goal.returns-in-Some
 returns-in-Some c = λ keys rest are e.
     let words = words_in keys are.fit in
-    let tail = flat_map key_word_bytes (words_from 0 keys.destructors) ++ rest in
+    let tail = flat_map key_entry_bytes (words_from 0 keys.destructors) ++ rest in
     let m = c.read_mark-is_on.ensures keys.is_on (length (words_from 0 keys.destructors) ∷ tail) refl (e ∙ keys_in_2 c.args.version keys rest c.if-version-eq1.false) in
     let n = c.byte-count.ensures (length (words_from 0 keys.destructors)) tail (few_keys keys.destructors words.0) m.1 in
     let w = c.read_words-words.ensures keys.destructors rest words n.0 n.1 in
@@ -27,7 +27,7 @@ returns-in-Some c = λ keys rest are e.
 pub returns-in-None : goal.returns-in-None
 returns-in-None c = λ keys rest are e.
     let words = words_in keys are.fit in
-    let tail = flat_map key_word_bytes (words_from 0 keys.destructors) ++ rest in
+    let tail = flat_map key_entry_bytes (words_from 0 keys.destructors) ++ rest in
     let m = c.read_mark-is_on.ensures keys.is_on (length (words_from 0 keys.destructors) ∷ tail) refl (e ∙ keys_in_2 c.args.version keys rest c.if-version-eq1.false) in
     let n = c.byte-count.ensures (length (words_from 0 keys.destructors)) tail (few_keys keys.destructors words.0) m.1 in
     let w = c.read_words-words.ensures keys.destructors rest words n.0 n.1 in

@@ -2,7 +2,7 @@ use Rattle.std.proofs.Common.{◌≡◌, ◌<◌, None, length, map, get_or, sym
 use Rattle.std.proofs.lemmas.List.{length-map}
 use Rattle.ckrt_tables.specs.Records.{word_or_0}
 use Rattle.ckrt_tables.proofs.Filled.{filled, filled_next, filled_all}
-use Rattle.ckrt_tables.proofs.KeyWords.{map_at}
+use Rattle.ckrt_tables.proofs.KeyEntries.{map_at}
 use Rattle.ckrt_tables.proofs.reading_keys.values_of.Goals as goal
 
 pub loop-key-preserved : goal.loop-key-preserved

@@ -2,7 +2,8 @@ use Rattle.std.proofs.Common.{◌≡◌, ◌++◌, ◌∙◌, [], ℕ, List, Boo
 use Rattle.std.specs.Prelude.{OnErr, OnOk, is_ok}
 use Rattle.ckrt_commands.specs.Pieces.{Tells, TellsPart}
 use Rattle.ckrt_commands.specs.Replies.{output_in, outputs}
-use Rattle.ckrt_commands.proofs.ReplyLemmas.{nothing_begins, shown_in-outputs}
+use Rattle.ckrt_commands.proofs.ReplyLemmas.{shown_in-outputs}
+use Rattle.ckrt_recovery.proofs.ListLemmas.{nothing_begins}
 use Rattle.ckrt_commands.proofs.TellLemmas.{tells_all, tells_nothing}
 use Rattle.ckrt_commands.proofs.WriteLemmas.{map_err, map_ok}
 use Rattle.ckrt_lives.proofs.session.ReleasedListenerVecU8.output.Goals as goal

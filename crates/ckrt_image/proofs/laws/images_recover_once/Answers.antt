@@ -1,5 +1,0 @@
-use Rattle.ckrt_image.proofs.RecoverLemmas.{recovers_once}
-use Rattle.ckrt_image.proofs.laws.images_recover_once.Goals as goal
-
-pub returns : goal.returns
-returns c = recovers_once

@@ -1,5 +1,0 @@
-use Rattle.ckrt_image.proofs.SwitchLemmas.{switched}
-use Rattle.ckrt_image.proofs.laws.newest_area_takes_over.Goals as goal
-
-pub returns : goal.returns
-returns c = switched

@@ -1,5 +1,0 @@
-use Rattle.ckrt_image.proofs.GrowthLemmas.{spare_free}
-use Rattle.ckrt_image.proofs.laws.spare_bytes_are_free.Goals as goal
-
-pub returns : goal.returns
-returns c = spare_free

@@ -1,5 +1,0 @@
-use Rattle.ckrt_image.proofs.GrowthLemmas.{framed}
-use Rattle.ckrt_image.proofs.laws.unused_area_is_free.Goals as goal
-
-pub returns : goal.returns
-returns c = framed

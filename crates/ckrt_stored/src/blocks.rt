@@ -1,0 +1,69 @@
+//! The superblock, from its bytes and as bytes.
+ghost use Rattle.std.specs.Prelude.{◌≡◌, ◌≢◌, Err, ◌≤◌, length, IfOk, true};
+ghost use Rattle.ckrt_stored.specs.declared.fault.RecoverFault.TheVariants.{Device, OutOfMemory};
+ghost use Rattle.ckrt_checkpoint.specs.Layout.{is_valid, size_needed};
+ghost use Rattle.ckrt_stored.specs.Superblock.{config_within, superblock_in, superblock_fields};
+ghost use Rattle.ckrt_stored.specs.Recovery.{Agrees, Is};
+
+use crate::fault::RecoverFault;
+use arrayvec::ArrayVec;
+use ckrt_checkpoint::{Config, FIELDS_AT, OPEN, SUPERBLOCK_VERSION, number_32, number_64, put};
+
+/// How many bytes of a superblock are read.
+pub(crate) const SUPERBLOCK_BYTES: usize = 32;
+
+/// "CKRTDISK".
+const MAGIC: u64 = 0x4b53_4944_5452_4b43;
+
+/// The configuration, where it's valid and a disk of that many bytes is large enough for it.
+fn config_within(size: usize, config: Config) -> Result<Config, RecoverFault>
+    ensures exact { Agrees (λ c. c) (λ e. e) result (Is (config_within size config)) }
+    ensures no_device { result ≢ Err Device }
+    ensures no_memory { result ≢ Err OutOfMemory }
+    ensures valid { IfOk result (λ c. is_valid c ≡ true) }
+    ensures room { IfOk result (λ c. size_needed c ≤ size) }
+{
+    if !config.is_valid() || size < config.size_needed() {
+        return Err(RecoverFault::Damaged);
+    }
+    Ok(config)
+}
+
+/// The configuration that a superblock's first 32 bytes have, on a disk of that many bytes.
+pub(crate) fn superblock(size: usize, block: &[u8]) -> Result<Config, RecoverFault>
+    requires { length block.now ≡ 32 }
+    ensures exact { Agrees (λ c. c) (λ e. e) result (Is (superblock_in size block.now)) }
+    ensures no_device { result ≢ Err Device }
+    ensures no_memory { result ≢ Err OutOfMemory }
+    ensures valid { IfOk result (λ c. is_valid c ≡ true) }
+    ensures room { IfOk result (λ c. size_needed c ≤ size) }
+{
+    if block[0] != OPEN || number_64(block, FIELDS_AT) != MAGIC {
+        return Err(RecoverFault::NotFormatted);
+    }
+    if number_32(block, 16) != SUPERBLOCK_VERSION {
+        return Err(RecoverFault::Version);
+    }
+    let config = config_within(
+        size,
+        Config {
+            pages: number_32(block, 20),
+            harts: number_32(block, 24),
+            journal: number_32(block, 28),
+        },
+    )?;
+    Ok(config)
+}
+
+/// The fields of a superblock, from its byte 8 on.
+pub(crate) fn superblock_fields(config: &Config) -> ArrayVec<u8, 24>
+    ensures { result.items ≡ superblock_fields config.now }
+{
+    let mut fields = ArrayVec::new();
+    put(&mut fields, &MAGIC.to_le_bytes());
+    put(&mut fields, &SUPERBLOCK_VERSION.to_le_bytes());
+    put(&mut fields, &config.pages.to_le_bytes());
+    put(&mut fields, &config.harts.to_le_bytes());
+    put(&mut fields, &config.journal.to_le_bytes());
+    fields
+}
