@@ -5,7 +5,6 @@ ghost use Rattle.arrayvec.specs.ArrayVec.{array_vec_len};
 ghost use Rattle.ckrt_words.specs.Jobs.{request_of};
 ghost use Rattle.ckrt_state.specs.declared.table.Status.TheVariants.{Exited, Faulted};
 ghost use Rattle.ckrt_inspect.specs.Texts.{hex_text, status_text};
-ghost use Rattle.ckrt_rv32i.specs.Names.{cause_name};
 ghost use Rattle.ckrt_reports.specs.Ends.{address_text, end_line, end_text, ended_text, hex_between, hint_text, place_text};
 ghost use Rattle.ckrt_reports.specs.Lines.{formatted_line, version_line, ReportsOutcome, SaysLine};
 ghost use Rattle.ckrt_outcomes.specs.Statuses.{status_of, status_of_words};
@@ -239,23 +238,6 @@ fn say_fault<E: Reporter>(reporter: &mut E, job: &Job<'_>, fault: JobFault) -> R
     say_line(reporter, b"ckrt: ", fault.name().as_bytes())
 }
 
-/// The name of a fault's cause.
-fn cause_name(cause: Cause) -> &'static str
-    ensures { result.now ≡ cause_name cause }
-{
-    match cause {
-        Cause::FetchRange => "FetchRange",
-        Cause::Illegal => "Illegal",
-        Cause::JumpMisaligned => "JumpMisaligned",
-        Cause::LoadMisaligned => "LoadMisaligned",
-        Cause::LoadRange => "LoadRange",
-        Cause::StoreMisaligned => "StoreMisaligned",
-        Cause::StoreRange => "StoreRange",
-        Cause::Breakpoint => "Breakpoint",
-        Cause::Gate => "Gate",
-    }
-}
-
 /// Says a number in decimal.
 fn say_number<E: Reporter>(reporter: &mut E, number: u64) -> Result<(), Unsaid>
     ensures said { OnOk result
@@ -296,7 +278,7 @@ fn say_program_fault<E: Reporter>(
     reporter.say(b" ")?;
     say_hex(reporter, pc)?;
     reporter.say(b" ")?;
-    reporter.say(cause_name(cause).as_bytes())
+    reporter.say(cause.name().as_bytes())
 }
 
 /// Says with which status the program ended.

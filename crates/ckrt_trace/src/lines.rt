@@ -9,7 +9,7 @@ ghost use Rattle.ckrt_thread.specs.State.{thread_of};
 ghost use Rattle.ckrt_trace.specs.Lines.{answer_text, answered_at, answers_after, call_line, caller_of, calling_of, came_of, came_text, ended_line, fault_line, is_calling, is_ecall_at, is_plain, is_quiet, is_retake, lines_between, over_line, over_lines, pc_of, place_text, still_waits, thread_text, unknown_text, waiting_of, waits_text};
 ghost use Rattle.ckrt_machine.specs.Steps.{hart_of};
 
-use crate::names::{Answers, answers_of, cause_name};
+use crate::names::{Answers, answers_of};
 use crate::texts::{
     write_answers, write_call, write_counted, write_hex, write_number, write_reason, write_until,
 };
@@ -364,7 +364,7 @@ fn write_cause<W: Write>(out: &mut W, thread: ThreadId, pc: u32, cause: Cause) -
     out.write_all(b" ")?;
     write_hex(out, pc)?;
     out.write_all(b" ")?;
-    out.write_all(cause_name(cause))
+    out.write_all(cause.name().as_bytes())
 }
 
 /// The line of a fault that ended the program.

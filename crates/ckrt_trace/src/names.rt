@@ -1,6 +1,5 @@
 //! The table of calls as text: names, and how arguments and answers are told.
 ghost use Rattle.std.specs.Prelude.{◌≡◌};
-ghost use Rattle.ckrt_rv32i.specs.Names.{cause_name};
 ghost use Rattle.ckrt_trace.specs.Calls.{answers_of, arguments_of, barrier_name, cancellation_name, condition_name, key_name, mutex_name, name_of, process_name, rwlock_name, thread_name};
 
 use ckrt_calls::{
@@ -195,22 +194,5 @@ pub fn answers_of(call: Option<Call>) -> Answers
         Some(Call::Key(KeyCall::Create)) => Answers::AndNumber,
         Some(Call::Key(KeyCall::GetSpecific)) => Answers::AndWord,
         _ => Answers::One,
-    }
-}
-
-/// The name of a fault's cause.
-pub fn cause_name(cause: Cause) -> &'static [u8]
-    ensures { result.now ≡ cause_name cause }
-{
-    match cause {
-        Cause::FetchRange => b"FetchRange".as_slice(),
-        Cause::Illegal => b"Illegal".as_slice(),
-        Cause::JumpMisaligned => b"JumpMisaligned".as_slice(),
-        Cause::LoadMisaligned => b"LoadMisaligned".as_slice(),
-        Cause::LoadRange => b"LoadRange".as_slice(),
-        Cause::StoreMisaligned => b"StoreMisaligned".as_slice(),
-        Cause::StoreRange => b"StoreRange".as_slice(),
-        Cause::Breakpoint => b"Breakpoint".as_slice(),
-        Cause::Gate => b"Gate".as_slice(),
     }
 }
