@@ -17,7 +17,9 @@ use Rattle.clap.specs.declared.builder.value_parser.ValueParser.TheVariants as v
 use Rattle.clap.proofs.CallerReads.{signed_reads}
 use Rattle.clap.proofs.ValueTestLemmas.{accepts-Accepts}
 use Rattle.ckrt_words.specs.Commands.{ckrt_app}
-use Rattle.ckrt_words.specs.Jobs.{DiskStretch, Request, calls, core, debug, disk_stretch_in, drive, flag_in, format, hunt, inspect, races, run, number_in, number_of, place_in, request_in, sizes_in}
+use Rattle.ckrt_words.specs.Jobs.{DiskStretch, Request, calls, core, debug, asks_both_forms, disk_stretch_in, drive, flag_in, form_of, format, has_both_forms, hunt, inspect, profile, races, run, number_in, number_of, place_in, request_in, sizes_in, timeline}
+use Rattle.ckrt_words.specs.declared.job.ProfileForm.{ProfileForm}
+use Rattle.ckrt_words.specs.declared.job.ProfileForm.TheVariants as form
 use Rattle.clap.proofs.WalkLemmas.{both}
 use Rattle.ckrt_words.proofs.MatchLemmas.{AreRows, AreRules, defaults_give, given_found, has_command, has_required, level_kept, level_valid, row_found, taken_levels, value_there}
 use Rattle.ckrt_words.proofs.NumberLemmas.{number_reads}
@@ -50,8 +52,14 @@ debug_shape = unwrap_or (slice_get built_app.subs 6) built_app.top
 abbrev races_shape : Shape
 races_shape = unwrap_or (slice_get built_app.subs 7) built_app.top
 
+abbrev timeline_shape : Shape
+timeline_shape = unwrap_or (slice_get built_app.subs 8) built_app.top
+
+abbrev profile_shape : Shape
+profile_shape = unwrap_or (slice_get built_app.subs 9) built_app.top
+
 abbrev hunt_shape : Shape
-hunt_shape = unwrap_or (slice_get built_app.subs 8) built_app.top
+hunt_shape = unwrap_or (slice_get built_app.subs 10) built_app.top
 
 format_rules : AreRules format_shape refl format_shape.rules
 format_rules = ((refl, inl (refl, refl)), ((refl, inl (refl, refl)), ((refl, inl (refl, refl)), ((refl, inl (refl, refl)), ((refl, inl (refl, refl)), ((refl, inr (inl refl)), tt))))))
@@ -76,6 +84,12 @@ debug_rules = ((refl, inl (refl, refl)), ((refl, inl (refl, refl)), ((refl, inr 
 
 races_rules : AreRules races_shape refl races_shape.rules
 races_rules = ((refl, inl (refl, refl)), ((refl, inl (refl, refl)), ((refl, inl (refl, refl)), ((refl, inr (inl refl)), tt))))
+
+timeline_rules : AreRules timeline_shape refl timeline_shape.rules
+timeline_rules = ((refl, inl (refl, refl)), ((refl, inl (refl, refl)), ((refl, inl (refl, refl)), ((refl, inl (refl, refl)), ((refl, inr (inr (refl, (_, [], refl)))), ((refl, inr (inl refl)), tt))))))
+
+profile_rules : AreRules profile_shape refl profile_shape.rules
+profile_rules = ((refl, inl (refl, refl)), ((refl, inl (refl, refl)), ((refl, inl (refl, refl)), ((refl, inl (refl, refl)), ((refl, inr (inr (refl, (_, [], refl)))), ((refl, inr (inr (refl, (_, [], refl)))), ((refl, inr (inl refl)), tt)))))))
 
 hunt_rules : AreRules hunt_shape refl hunt_shape.rules
 hunt_rules = ((refl, inl (refl, refl)), ((refl, inl (refl, refl)), ((refl, inl (refl, refl)), ((refl, inl (refl, refl)), ((refl, inl (refl, refl)), ((refl, inl (refl, refl)), ((refl, inr (inl refl)), tt)))))))
@@ -141,6 +155,23 @@ races_named words pass =
     let stretch = stretch_there races_shape refl rows _ kept refl (both (is_given (codes "disk") rows) true given).0 in
     (races stretch.0, ap (option_map races) stretch.1)
 
+-- two flags, not both of them, ask for a form
+form_there : (folded callgrind : Bool) → (folded && callgrind) ≡ false → (f : ProfileForm) × (form_of folded callgrind ≡ Some f)
+form_there false false one = (form.Table, refl)
+form_there true false one = (form.Folded, refl)
+form_there false true one = (form.Callgrind, refl)
+form_there true true one = absurd (true≢false one)
+
+profile_named : (words : List Text) → level_passes profile_shape [] nothing_held words false ≡ true → has_both_forms (rows_at profile_shape words) ≡ false
+    → (r : Request) × (request_in (rows_at profile_shape words) ≡ Some r)
+profile_named words pass one =
+    let rows = finished profile_shape.rules (walk profile_shape.rules [] nothing_held words).held in
+    let kept = level_kept profile_shape refl profile_rules [] nothing_held words false pass tt in
+    let given = has_required profile_shape rows false (level_valid profile_shape [] nothing_held words false pass) refl in
+    let stretch = stretch_there profile_shape refl rows _ kept refl (both (is_given (codes "disk") rows) true given).0 in
+    let shape = form_there (flag_in (codes "folded") rows) (flag_in (codes "callgrind") rows) one in
+    (profile (record { stretch = stretch.0; elf = first_of (codes "elf") rows; form = shape.0 }), rw (stretch.1, shape.1) refl)
+
 abbrev slot : Shape → ℕ → Rule
 slot shape i = slice_index_or shape.rules i (new_rule [])
 
@@ -175,6 +206,17 @@ format_named words pass =
     let journal = number_at format_shape refl (codes "journal") rows _ kept refl refl (row_found (codes "journal") rows (defaults_give (slots format_shape 4) (after format_shape 5) (slot format_shape 4) before refl)) in
     (format (record { disk = disk.0; image = image.0; pages = pages.0; harts = harts.0; journal = journal.0 }), rw (disk.1, image.1, pages.1, harts.1, journal.1) refl)
 
+timeline_named : (words : List Text) → level_passes timeline_shape [] nothing_held words false ≡ true → (r : Request) × (request_in (rows_at timeline_shape words) ≡ Some r)
+timeline_named words pass =
+    let end = (walk timeline_shape.rules [] nothing_held words).held in
+    let rows = finished timeline_shape.rules end in
+    let kept = level_kept timeline_shape refl timeline_rules [] nothing_held words false pass tt in
+    let given = has_required timeline_shape rows false (level_valid timeline_shape [] nothing_held words false pass) refl in
+    let stretch = stretch_there timeline_shape refl rows _ kept refl (both (is_given (codes "disk") rows) true given).0 in
+    let before = (settled timeline_shape.rules end).rows in
+    let width = number_at timeline_shape refl (codes "width") rows _ kept refl refl (row_found (codes "width") rows (defaults_give (slots timeline_shape 3) (after timeline_shape 4) (slot timeline_shape 3) before refl)) in
+    (timeline (record { stretch = stretch.0; width = width.0; json = flag_in (codes "json") rows }), rw (stretch.1, width.1) refl)
+
 hunt_named : (words : List Text) → level_passes hunt_shape [] nothing_held words false ≡ true → (r : Request) × (request_in (rows_at hunt_shape words) ≡ Some r)
 hunt_named words pass =
     let end = (walk hunt_shape.rules [] nothing_held words).held in
@@ -208,9 +250,10 @@ drive_named words pass =
     let status = first_of (codes "status") rows in
     (drive (record { disk = disk.0; image = first_of (codes "image") rows; sizes = sizes_in rows; input = input; input_from = input_from; output = output; turn = turn.0; rounds = rounds.0; events = events; seed = seed; progress = progress; status = status; from = place_in (codes "from") rows }), rw (disk.1, turn.1, rounds.1) refl)
 
--- words that the command takes ask for something
+-- words that the command takes ask for something, but for both forms of a profile
 abbrev IsNamed : Shape → Type 0
-IsNamed s = (words : List Text) → level_passes s [] nothing_held words false ≡ true → (r : Request) × (request_in (rows_at s words) ≡ Some r)
+IsNamed s = (words : List Text) → level_passes s [] nothing_held words false ≡ true → has_both_forms (rows_at s words) ≡ false
+    → (r : Request) × (request_in (rows_at s words) ≡ Some r)
 
 abbrev AreNamed : List Shape → Type 0
 AreNamed [] = ⊤
@@ -221,35 +264,65 @@ abbrev IsNamedWhereFound : List Text → Option Shape → Type 0
 IsNamedWhereFound words found =
     option_map_or (λ s. level_passes s [] nothing_held words false) found true ≡ true
     → is_some (option_map (λ s. rows_at s words) found) ≡ true
+    → option_map_or has_both_forms (option_map (λ s. rows_at s words) found) false ≡ false
     → (r : Request) × (option_and_then request_in (option_map (λ s. rows_at s words) found) ≡ Some r)
 
 either_named : (words : List Text) (s : Shape) (rest : Option Shape) (is : Bool) → IsNamed s → IsNamedWhereFound words rest → IsNamedWhereFound words (cond is (Some s) rest)
-either_named words s rest true first others = λ pass some. first words pass
+either_named words s rest true first others = λ pass some one. first words pass one
 either_named words s rest false first others = others
 
 found_named : (is_it : Shape → Bool) (words : List Text) (shapes : List Shape) → AreNamed shapes → IsNamedWhereFound words (find is_it shapes)
-found_named is_it words [] named = λ pass some. absurd (true≢false (sym some))
+found_named is_it words [] named = λ pass some one. absurd (true≢false (sym some))
 found_named is_it words (s ∷ rest) named = either_named words s (find is_it rest) (is_it s) named.0 (found_named is_it words rest named.1)
 
+-- a command without such forms
+without_forms : (s : Shape) → ((words : List Text) → level_passes s [] nothing_held words false ≡ true → (r : Request) × (request_in (rows_at s words) ≡ Some r)) → IsNamed s
+without_forms s named = λ words pass one. named words pass
+
 all_named : AreNamed built_app.subs
-all_named = (format_named, (run_named, (inspect_named, (drive_named, (core_named, (calls_named, (debug_named, (races_named, (hunt_named, tt)))))))))
+all_named = (
+  without_forms format_shape format_named,
+  (
+    without_forms run_shape run_named,
+    (
+      without_forms inspect_shape inspect_named,
+      (
+        without_forms drive_shape drive_named,
+        (
+          without_forms core_shape core_named,
+          (
+            without_forms calls_shape calls_named,
+            (
+              without_forms debug_shape debug_named,
+              (
+                without_forms races_shape races_named,
+                (without_forms timeline_shape timeline_named, (profile_named, (without_forms hunt_shape hunt_named, tt))),
+              ),
+            ),
+          ),
+        ),
+      ),
+    ),
+  ),
+)
 
 -- what a command that takes the words is asked for
 entered_named : (stop : Option (Text × List Text)) → entered_passes built_app stop ≡ true → is_some (entered built_app stop) ≡ true
-    → (r : Request) × (option_and_then request_in (entered built_app stop) ≡ Some r)
-entered_named None pass some = absurd (true≢false (sym some))
-entered_named (Some p) pass some = found_named (λ s. answers_to p.0 (label_of s)) p.1 built_app.subs all_named pass some
+    → option_map_or has_both_forms (entered built_app stop) false ≡ false → (r : Request) × (option_and_then request_in (entered built_app stop) ≡ Some r)
+entered_named None pass some one = absurd (true≢false (sym some))
+entered_named (Some p) pass some one = found_named (λ s. answers_to p.0 (label_of s)) p.1 built_app.subs all_named pass some one
 
--- words that the command line takes ask for something
-taken_named : (words : List Text) → takes ckrt_app words ≡ true → (r : Request) × (option_and_then request_in (subcommand_of ckrt_app words) ≡ Some r)
-taken_named words pass =
+-- words that the command line takes ask for something, but for both forms of a profile
+taken_named : (words : List Text) → takes ckrt_app words ≡ true → asks_both_forms words ≡ false → (r : Request) × (option_and_then request_in (subcommand_of ckrt_app words) ≡ Some r)
+taken_named words pass one =
     let levels = taken_levels ckrt_app words pass in
     let end = walk built_app.top.rules (names_of built_app) nothing_held words in
     let valid = level_valid built_app.top (names_of built_app) nothing_held words _ levels.1 in
-    entered_named end.stopped levels.0 (has_command built_app.top (finished built_app.top.rules end.held) _ valid refl)
+    entered_named end.stopped levels.0 (has_command built_app.top (finished built_app.top.rules end.held) _ valid refl) one
 
-pub untaken : (words : List Text) (o : Option (Text × List Row)) → o ≡ subcommand_of ckrt_app words → None ≡ option_and_then request_in o → takes ckrt_app words ≡ true → ⊥
-untaken words o is none pass =
-    let named = taken_named words pass in
+pub untaken : (words : List Text) (o : Option (Text × List Row)) → o ≡ subcommand_of ckrt_app words → None ≡ option_and_then request_in o → takes ckrt_app words ≡ true
+    → asks_both_forms words ≡ false → ⊥
+untaken words o is none pass one =
+    let named = taken_named words pass one in
     let nothing : None ≡ Some named.0 = none ∙ (ap (option_and_then request_in) is ∙ named.1) in
     true≢false (sym (ap (λ (r : Option Request). is_some r) nothing))

@@ -1,6 +1,7 @@
 -- The program's command line, as `clap` sees it: `format DISK IMAGE [--pages P] [--harts H] [--journal J]`, `run DISK`,
 -- `inspect DISK [--at K] [--code]`, `core DISK FILE [--at K]`, `calls DISK [--from K] [--to K]`, `debug DISK [--at K]`,
--- `races DISK [--from K] [--to K]`,
+-- `races DISK [--from K] [--to K]`, `timeline DISK [--from K] [--to K] [--width W] [--json]`,
+-- `profile DISK [--from K] [--to K] [--elf FILE] [--folded | --callgrind]`,
 -- `hunt IMAGE [--seeds A-B] [--pages P] [--harts H] [--steps N] [--keep DISK]` and `drive DISK [--image IMAGE] [--pages P] [--harts H]
 -- [--journal J] [--input FILE] [--input-from OFFSET] [--output FILE] [--turn N] [--rounds-per-commit R] [--events N] [--seed S]
 -- [--progress SECONDS] [--status FILE] [--from OFFSET]`.
@@ -96,6 +97,19 @@ debug_app =
 abbrev pub races_app : App
 races_app = stretch_app (new_app (codes "races"))
 
+abbrev pub timeline_app : App
+timeline_app =
+    with_rule (with_rule (stretch_app (new_app (codes "timeline")))
+    (number_rule (codes "width") (codes "1200")))
+    (flag_rule (codes "json"))
+
+abbrev pub profile_app : App
+profile_app =
+    with_rule (with_rule (with_rule (stretch_app (new_app (codes "profile")))
+    (option_rule (codes "elf")))
+    (flag_rule (codes "folded")))
+    (flag_rule (codes "callgrind"))
+
 abbrev pub hunt_app : App
 hunt_app =
     with_rule (with_rule (with_rule (with_rule (with_rule (with_rule (new_app (codes "hunt"))
@@ -139,4 +153,5 @@ app_with commands = fold (λ whole command. with_subcommand whole command.top) b
 
 abbrev pub ckrt_app : App
 ckrt_app =
-    app_with (format_app ∷ run_app ∷ inspect_app ∷ drive_app ∷ core_app ∷ calls_app ∷ debug_app ∷ races_app ∷ hunt_app ∷ [])
+    app_with (format_app ∷ run_app ∷ inspect_app ∷ drive_app ∷ core_app ∷ calls_app ∷ debug_app
+    ∷ races_app ∷ timeline_app ∷ profile_app ∷ hunt_app ∷ [])

@@ -1,5 +1,5 @@
 -- What the program's words ask for.
-use Rattle.std.specs.Prelude.{ℕ, ◌^◌, ◌&&◌, Bool, false, nat_lt, if◌then◌else◌, List, [], ◌∷◌, length, codes, Option, Some, None, option_and_then, option_map}
+use Rattle.std.specs.Prelude.{ℕ, ◌^◌, ◌&&◌, Bool, true, false, nat_lt, if◌then◌else◌, List, [], ◌∷◌, length, codes, Option, Some, None, option_and_then, option_map}
 use Rattle.std.specs.List.{list_all}
 use Rattle.std.specs.Char.{digit_value}
 use Rattle.std.specs.Option.{option_map_or}
@@ -16,6 +16,10 @@ use Rattle.ckrt_words.specs.declared.job.CoreJob.{CoreJob}
 use Rattle.ckrt_words.specs.declared.job.DebugJob.{DebugJob}
 use Rattle.ckrt_words.specs.declared.job.HuntJob.{HuntJob}
 use Rattle.ckrt_words.specs.declared.job.DriveJob.{DriveJob}
+use Rattle.ckrt_words.specs.declared.job.TimelineJob.{TimelineJob}
+use Rattle.ckrt_words.specs.declared.job.ProfileForm.{ProfileForm}
+use Rattle.ckrt_words.specs.declared.job.ProfileForm.TheVariants as form
+use Rattle.ckrt_words.specs.declared.job.ProfileJob.{ProfileJob}
 use Rattle.ckrt_words.specs.declared.job.Sizes.{Sizes}
 
 -- what `format` makes
@@ -48,6 +52,18 @@ pub record DiskStretch : Type 0 where
 pub record Debugging : Type 0 where
   pub disk : Text
   pub at : Option ℕ
+
+-- what `timeline` draws: which stretch, how wide the picture is, and whether trace events stand in its place
+pub record Drawing : Type 0 where
+  pub stretch : DiskStretch
+  pub width : ℕ
+  pub json : Bool
+
+-- what `profile` counts: which stretch, the program's ELF file with its names, and the form of what is told
+pub record Profiling : Type 0 where
+  pub stretch : DiskStretch
+  pub elf : Option Text
+  pub form : ProfileForm
 
 -- what `hunt` runs: the image, the text of its range of seeds, the sizes, how many steps a run has at most, and the new disk that the run of the
 -- first seed is kept on
@@ -89,6 +105,8 @@ pub data Request : Type 0 where
   calls : DiskStretch → Request
   debug : Debugging → Request
   races : DiskStretch → Request
+  timeline : Drawing → Request
+  profile : Profiling → Request
   hunt : Hunting → Request
 
 abbrev pub formatting_of : FormatJob → Formatting
@@ -112,6 +130,17 @@ disk_stretch_of s = record { disk = s.disk.now; from = s.from; to = s.to }
 
 abbrev pub debugging_of : DebugJob → Debugging
 debugging_of d = record { disk = d.disk.now; at = d.at }
+
+abbrev pub drawing_of : TimelineJob → Drawing
+drawing_of t = record { stretch = disk_stretch_of t.stretch; width = t.width; json = t.json }
+
+abbrev pub profiling_of : ProfileJob → Profiling
+profiling_of p =
+    record {
+      stretch = disk_stretch_of p.stretch;
+      elf = option_map (λ path. path.now) p.elf;
+      form = p.form;
+    }
 
 abbrev pub hunting_of : HuntJob → Hunting
 hunting_of h = record {
@@ -151,6 +180,8 @@ request_of (job.Core c) = core (core_making_of c)
 request_of (job.Calls s) = calls (disk_stretch_of s)
 request_of (job.Debug d) = debug (debugging_of d)
 request_of (job.Races s) = races (disk_stretch_of s)
+request_of (job.Timeline t) = timeline (drawing_of t)
+request_of (job.Profile p) = profile (profiling_of p)
 request_of (job.Hunt h) = hunt (hunting_of h)
 
 -- decimal digits, one or more, after a plus or not, of a number of so many bits
@@ -210,6 +241,28 @@ debugging_in rows = do
   disk ← first_of (codes "disk") rows
   Some (record { disk = disk; at = place_in (codes "at") rows })
 
+abbrev pub drawing_in : List Row → Option Drawing
+drawing_in rows = do
+  stretch ← disk_stretch_in rows
+  width ← number_in (codes "width") rows
+  Some (record { stretch = stretch; width = width; json = flag_in (codes "json") rows })
+
+-- the form that two flags ask for; both ask for none
+abbrev pub form_of : (folded callgrind : Bool) → Option ProfileForm
+form_of false false = Some form.Table
+form_of true false = Some form.Folded
+form_of false true = Some form.Callgrind
+form_of true true = None
+
+abbrev pub form_in : List Row → Option ProfileForm
+form_in rows = form_of (flag_in (codes "folded") rows) (flag_in (codes "callgrind") rows)
+
+abbrev pub profiling_in : List Row → Option Profiling
+profiling_in rows = do
+  stretch ← disk_stretch_in rows
+  shape ← form_in rows
+  Some (record { stretch = stretch; elf = first_of (codes "elf") rows; form = shape })
+
 abbrev pub hunting_in : List Row → Option Hunting
 hunting_in rows = do
   image ← first_of (codes "image") rows
@@ -255,8 +308,18 @@ request_in p =
     else if bytes_eq p.0 (codes "calls") then option_map calls (disk_stretch_in p.1)
     else if bytes_eq p.0 (codes "debug") then option_map debug (debugging_in p.1)
     else if bytes_eq p.0 (codes "races") then option_map races (disk_stretch_in p.1)
+    else if bytes_eq p.0 (codes "timeline") then option_map timeline (drawing_in p.1)
+    else if bytes_eq p.0 (codes "profile") then option_map profile (profiling_in p.1)
     else if bytes_eq p.0 (codes "hunt") then option_map hunt (hunting_in p.1)
     else None
+
+-- `profile` with both of its forms: the only words that `clap` takes and that name no job
+abbrev pub has_both_forms : Text × List Row → Bool
+has_both_forms p = bytes_eq p.0 (codes "profile")
+    && (flag_in (codes "folded") p.1 && flag_in (codes "callgrind") p.1)
+
+abbrev pub asks_both_forms : List Text → Bool
+asks_both_forms words = option_map_or has_both_forms (subcommand_of ckrt_app words) false
 
 -- the one word `--version`
 abbrev pub asks_version : List Text → Bool

@@ -3,7 +3,7 @@ ghost use Rattle.std.specs.Prelude.{◌≡◌, ◌∷◌, [], IfOk, codes, false
 ghost use Rattle.std.specs.List.{list_all};
 ghost use Rattle.clap.specs.Words.{App, app_of, new_app, rule_of, with_rule, with_subcommand};
 ghost use Rattle.clap.specs.declared.builder.command.Command.TheViews.{out-Command};
-ghost use Rattle.ckrt_words.specs.Commands.{app_with, bare_app, calls_app, ckrt_app, core_app, debug_app, drive_app, flag_rule, format_app, hunt_app, inspect_app, needed_rule, number_rule, option_rule, place_rule, races_app, run_app, size_rule, stretch_app, text_rule};
+ghost use Rattle.ckrt_words.specs.Commands.{app_with, bare_app, calls_app, ckrt_app, core_app, debug_app, drive_app, flag_rule, format_app, hunt_app, inspect_app, needed_rule, number_rule, option_rule, place_rule, profile_app, races_app, run_app, size_rule, stretch_app, text_rule, timeline_app};
 
 use clap::{Arg, ArgAction, Command, value_parser};
 use std::alloc::{AllocError, Global};
@@ -221,6 +221,27 @@ fn calls_command<'a>(alloc: Global) -> Result<Command<'a>, AllocError>
         .args(arguments)
 }
 
+/// Where a stretch begins.
+fn beginning<'a>(alloc: Global) -> Arg<'a>
+    ensures rule { rule_of result ≡ place_rule (codes "from") }
+    ensures local { result.global ≡ false }
+{
+    place(
+        alloc,
+        "from",
+        "K",
+        "Begin after K events, not at the first one that the disk has",
+    )
+}
+
+/// Where a stretch ends.
+fn end<'a>(alloc: Global) -> Arg<'a>
+    ensures rule { rule_of result ≡ place_rule (codes "to") }
+    ensures local { result.global ≡ false }
+{
+    place(alloc, "to", "K", "End after K events, not at the last one")
+}
+
 /// The words of a stretch of what a disk has recorded.
 fn stretch_arguments<'a>(alloc: Global) -> Result<Vec<Arg<'a>>, AllocError>
     ensures app { IfOk result (λ arguments. (named : App)
@@ -229,13 +250,8 @@ fn stretch_arguments<'a>(alloc: Global) -> Result<Vec<Arg<'a>>, AllocError>
 {
     let arguments = vec![in alloc;
         needed(alloc, "disk", "DISK", "A disk that `format` made"),
-        place(
-            alloc,
-            "from",
-            "K",
-            "Begin after K events, not at the first one that the disk has"
-        ),
-        place(alloc, "to", "K", "End after K events, not at the last one"),
+        beginning(alloc),
+        end(alloc),
     ]?;
     Ok(arguments)
 }
@@ -282,6 +298,89 @@ fn races_command<'a>(alloc: Global) -> Result<Command<'a>, AllocError>
             "Tells the data races of a stopped guest, and changes nothing, as `ckrt races pi.disk`",
         )
         .args(arguments)
+}
+
+/// `timeline DISK` with its options.
+fn timeline_command<'a>(alloc: Global) -> Result<Command<'a>, AllocError>
+    ensures app { IfOk result (λ c. app_of c ≡ timeline_app) }
+    ensures local { IfOk result (λ c. (out-Command c).has_globals ≡ false) }
+{
+    let arguments = timeline_arguments(alloc)?;
+    Command::new(alloc, "timeline")
+        .about(
+            "Draws what the threads of a stopped guest did, and changes nothing, as `ckrt timeline pi.disk > pi.svg`",
+        )
+        .args(arguments)
+}
+
+/// What `timeline` is given.
+fn timeline_arguments<'a>(alloc: Global) -> Result<Vec<Arg<'a>>, AllocError>
+    ensures app { IfOk result (λ arguments.
+        fold with_rule (new_app (codes "timeline")) (map rule_of arguments.items)
+        ≡ timeline_app) }
+    ensures local { IfOk result (λ arguments. list_all (λ a. not a.global) arguments.items ≡ true) }
+{
+    let arguments = vec![in alloc;
+        needed(alloc, "disk", "DISK", "A disk that `format` made"),
+        beginning(alloc),
+        end(alloc),
+        number(
+            alloc,
+            "width",
+            "1200",
+            "Pixels of the picture's width, 400 to 4000"
+        ),
+        flag(
+            alloc,
+            "json",
+            "Write trace events for Perfetto in place of a picture"
+        ),
+    ]?;
+    Ok(arguments)
+}
+
+/// `profile DISK` with its options.
+fn profile_command<'a>(alloc: Global) -> Result<Command<'a>, AllocError>
+    ensures app { IfOk result (λ c. app_of c ≡ profile_app) }
+    ensures local { IfOk result (λ c. (out-Command c).has_globals ≡ false) }
+{
+    let arguments = profile_arguments(alloc)?;
+    Command::new(alloc, "profile")
+        .about(
+            "Counts where the steps and waits of a stopped guest went, and changes nothing, as `ckrt profile pi.disk --elf pi.elf`",
+        )
+        .args(arguments)
+}
+
+/// What `profile` is given.
+fn profile_arguments<'a>(alloc: Global) -> Result<Vec<Arg<'a>>, AllocError>
+    ensures app { IfOk result (λ arguments.
+        fold with_rule (new_app (codes "profile")) (map rule_of arguments.items)
+        ≡ profile_app) }
+    ensures local { IfOk result (λ arguments. list_all (λ a. not a.global) arguments.items ≡ true) }
+{
+    let arguments = vec![in alloc;
+        needed(alloc, "disk", "DISK", "A disk that `format` made"),
+        beginning(alloc),
+        end(alloc),
+        option(
+            alloc,
+            "elf",
+            "FILE",
+            "The program's ELF file, whose names stand for addresses"
+        ),
+        flag(
+            alloc,
+            "folded",
+            "Write a line for each stack, for flame graphs; not with --callgrind"
+        ),
+        flag(
+            alloc,
+            "callgrind",
+            "Write it as callgrind does, for kcachegrind; not with --folded"
+        ),
+    ]?;
+    Ok(arguments)
 }
 
 /// `hunt IMAGE` with its options: which seeds, on what machine, how long a run is, and where the first run is kept.
@@ -519,10 +618,22 @@ fn command_with_races<'a>(alloc: Global) -> Result<Command<'a>, AllocError>
     with_command(with_debug, races_command(alloc))
 }
 
+/// The program with these, `timeline` and `profile`.
+fn command_with_profile<'a>(alloc: Global) -> Result<Command<'a>, AllocError>
+    ensures { IfOk result (λ c.
+        app_of c ≡ app_with
+        (format_app ∷ run_app ∷ inspect_app ∷ drive_app ∷ core_app ∷ calls_app ∷ debug_app
+        ∷ races_app ∷ timeline_app ∷ profile_app ∷ [])) }
+{
+    let with_races = command_with_races(alloc)?;
+    let with_timeline = with_command(with_races, timeline_command(alloc))?;
+    with_command(with_timeline, profile_command(alloc))
+}
+
 /// The program's command line.
 pub(crate) fn command<'a>(alloc: Global) -> Result<Command<'a>, AllocError>
     ensures { IfOk result (λ c. app_of c ≡ ckrt_app) }
 {
-    let with_races = command_with_races(alloc)?;
-    with_command(with_races, hunt_command(alloc))
+    let with_profile = command_with_profile(alloc)?;
+    with_command(with_profile, hunt_command(alloc))
 }

@@ -23,6 +23,10 @@ pub enum Job<'a> {
     Debug(DebugJob<'a>),
     /// Tell the data races of what a disk holds: `races DISK`.
     Races(StretchJob<'a>),
+    /// Draw what the threads of a disk did: `timeline DISK`.
+    Timeline(TimelineJob<'a>),
+    /// Count where the steps of a disk went: `profile DISK`.
+    Profile(ProfileJob<'a>),
     /// Run an image by one schedule after another: `hunt IMAGE`.
     Hunt(HuntJob<'a>),
 }
@@ -82,6 +86,39 @@ pub struct DebugJob<'a> {
     pub disk: &'a str,
     /// Behind how many events the debugger begins; at the first one that the disk has where this isn't given.
     pub at: Option<u64>,
+}
+
+/// What `timeline` draws. The width is as it was given, and may be out of a picture's range.
+#[derive(Clone, Copy, Debug, PartialEq, Eq)]
+pub struct TimelineJob<'a> {
+    /// Which stretch is drawn.
+    pub stretch: StretchJob<'a>,
+    /// The width of the picture, in pixels.
+    pub width: u32,
+    /// Whether trace events are written in place of a picture.
+    pub json: bool,
+}
+
+/// In which form a profile is told.
+#[derive(Clone, Copy, Debug, PartialEq, Eq)]
+pub enum ProfileForm {
+    /// A table of the functions with the most steps.
+    Table,
+    /// A line for each stack, as scripts for flame graphs read it.
+    Folded,
+    /// As `callgrind` writes it.
+    Callgrind,
+}
+
+/// What `profile` counts, and how it is told.
+#[derive(Clone, Copy, Debug, PartialEq, Eq)]
+pub struct ProfileJob<'a> {
+    /// Which stretch is counted.
+    pub stretch: StretchJob<'a>,
+    /// The path of the program's ELF file; this isn't given where addresses stand for names.
+    pub elf: Option<&'a str>,
+    /// The form of what is told.
+    pub form: ProfileForm,
 }
 
 /// What `hunt` runs, and how. The numbers are as they were given, and may be out of a hunt's ranges.

@@ -4,7 +4,7 @@
 //!
 //! Proved: where it answers Ok its job is the stored guest exactly for no words, the version for the one word `--version`,
 //! else what the command line's meaning in `clap` gives for the words: the command, DISK, IMAGE, each option's value or
-//! default. Usage is never answered for no words, nor for words that `clap` takes. The texts on usage are tested only.
+//! default. Usage is never answered for no words, nor for words that `clap` takes, but for `profile` with both of its forms. The texts on usage are tested only.
 #![tactic(auto)]
 
 mod command;
@@ -13,6 +13,7 @@ mod matches;
 mod read;
 
 pub use job::{
-    CoreJob, DebugJob, DriveJob, FormatJob, HuntJob, InspectJob, Job, Sizes, StretchJob, WordsFault,
+    CoreJob, DebugJob, DriveJob, FormatJob, HuntJob, InspectJob, Job, ProfileForm, ProfileJob,
+    Sizes, StretchJob, TimelineJob, WordsFault,
 };
 pub use read::read_words;

@@ -1,10 +1,11 @@
 //! What the matches of a command line name.
 ghost use Rattle.std.specs.Prelude.{◌≡◌, codes, option_and_then, option_map};
 ghost use Rattle.clap.specs.Words.{first_of, found_of, rows_of, subcommand_rows_of};
-ghost use Rattle.ckrt_words.specs.Jobs.{calls, core, core_making_in, core_making_of, debug, debugging_in, debugging_of, disk_stretch_in, disk_stretch_of, drive, driving_in, driving_of, flag_in, format, formatting_in, formatting_of, hunt, hunting_in, hunting_of, inspect, inspection_in, inspection_of, number_in, place_in, races, request_in, request_of, run, sizes_in};
+ghost use Rattle.ckrt_words.specs.Jobs.{calls, core, core_making_in, core_making_of, debug, debugging_in, debugging_of, disk_stretch_in, disk_stretch_of, drawing_in, drawing_of, drive, driving_in, driving_of, flag_in, form_of, format, formatting_in, formatting_of, hunt, hunting_in, hunting_of, inspect, inspection_in, inspection_of, number_in, place_in, profile, profiling_in, profiling_of, races, request_in, request_of, run, sizes_in, timeline};
 
 use crate::job::{
-    CoreJob, DebugJob, DriveJob, FormatJob, HuntJob, InspectJob, Job, Sizes, StretchJob,
+    CoreJob, DebugJob, DriveJob, FormatJob, HuntJob, InspectJob, Job, ProfileForm, ProfileJob,
+    Sizes, StretchJob, TimelineJob,
 };
 use clap::ArgMatches;
 
@@ -77,6 +78,40 @@ fn debugging<'a>(matches: &ArgMatches<'a>) -> Option<DebugJob<'a>>
 {
     let (disk, at) = (text(matches, "disk")?, place(matches, "at"));
     Some(DebugJob { disk, at })
+}
+
+/// What `timeline` was given.
+fn drawing<'a>(matches: &ArgMatches<'a>) -> Option<TimelineJob<'a>>
+    ensures { option_map drawing_of result ≡ drawing_in (rows_of (found_of matches.now)) }
+{
+    Some(TimelineJob {
+        stretch: stretch(matches)?,
+        width: number(matches, "width")?,
+        json: flag(matches, "json"),
+    })
+}
+
+/// The form that the flags of `profile` ask for.
+fn form_of(folded: bool, callgrind: bool) -> Option<ProfileForm>
+    ensures { result ≡ form_of folded callgrind }
+{
+    match (folded, callgrind) {
+        (false, false) => Some(ProfileForm::Table),
+        (true, false) => Some(ProfileForm::Folded),
+        (false, true) => Some(ProfileForm::Callgrind),
+        (true, true) => None,
+    }
+}
+
+/// What `profile` was given.
+fn profiling<'a>(matches: &ArgMatches<'a>) -> Option<ProfileJob<'a>>
+    ensures { option_map profiling_of result ≡ profiling_in (rows_of (found_of matches.now)) }
+{
+    Some(ProfileJob {
+        stretch: stretch(matches)?,
+        form: form_of(flag(matches, "folded"), flag(matches, "callgrind"))?,
+        elf: text(matches, "elf"),
+    })
 }
 
 /// What `hunt` was given.
@@ -210,6 +245,22 @@ fn races_named<'a>(given: &ArgMatches<'a>) -> Option<Job<'a>>
     Some(Job::Races(stretch(given)?))
 }
 
+/// The job of `timeline` with these matches.
+fn timeline_named<'a>(given: &ArgMatches<'a>) -> Option<Job<'a>>
+    ensures { option_map request_of result
+        ≡ option_map timeline (drawing_in (rows_of (found_of given.now))) }
+{
+    Some(Job::Timeline(drawing(given)?))
+}
+
+/// The job of `profile` with these matches.
+fn profile_named<'a>(given: &ArgMatches<'a>) -> Option<Job<'a>>
+    ensures { option_map request_of result
+        ≡ option_map profile (profiling_in (rows_of (found_of given.now))) }
+{
+    Some(Job::Profile(profiling(given)?))
+}
+
 /// The job of `hunt` with these matches.
 fn hunt_named<'a>(given: &ArgMatches<'a>) -> Option<Job<'a>>
     ensures { option_map request_of result
@@ -245,6 +296,12 @@ fn job_of<'a>(name: &str, given: &ArgMatches<'a>) -> Option<Job<'a>>
     }
     if name == "races" {
         return races_named(given);
+    }
+    if name == "timeline" {
+        return timeline_named(given);
+    }
+    if name == "profile" {
+        return profile_named(given);
     }
     if name == "hunt" {
         return hunt_named(given);

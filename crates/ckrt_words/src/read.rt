@@ -2,7 +2,7 @@
 ghost use Rattle.std.specs.Prelude.{◌≡◌, ◌≢◌, [], IfOk, IfErr, IsErrOf, Some, false, map, option_and_then, option_map, true};
 ghost use Rattle.clap.specs.Words.{fault_of, kind_of, subcommand_of, subcommand_rows_of, takes};
 ghost use Rattle.ckrt_words.specs.Commands.{ckrt_app};
-ghost use Rattle.ckrt_words.specs.Jobs.{asks_version, request_in, request_of, request_of_words};
+ghost use Rattle.ckrt_words.specs.Jobs.{asks_both_forms, asks_version, request_in, request_of, request_of_words};
 
 use crate::job::{Job, WordsFault};
 use crate::{command, matches};
@@ -46,6 +46,17 @@ const DEBUG_USAGE: &str = "Usage: ckrt debug <DISK> [--at NUMBER OF EVENTS]";
 const RACES_USAGE: &str =
     "Usage: ckrt races <DISK> [--from NUMBER OF EVENTS] [--to NUMBER OF EVENTS]";
 
+/// What follows a number of `timeline` that isn't one.
+const TIMELINE_USAGE: &str =
+    "Usage: ckrt timeline <DISK> [--from NUMBER OF EVENTS] [--to NUMBER OF EVENTS] [--width 400 to 4000] [--json]";
+
+/// What follows a number of `profile` that isn't one.
+const PROFILE_USAGE: &str =
+    "Usage: ckrt profile <DISK> [--from NUMBER OF EVENTS] [--to NUMBER OF EVENTS] [--elf <FILE>] [--folded | --callgrind]";
+
+/// What is wrong with `profile` with both of its forms.
+const BOTH_FORMS: &str = "error: the argument '--folded' cannot be used with '--callgrind'";
+
 /// What follows a number of `hunt` that isn't one.
 const HUNT_USAGE: &str =
     "Usage: ckrt hunt <IMAGE> [--seeds FIRST-LAST] [--pages 16 to 1024] [--harts 1 to 8] [--steps NUMBER OF STEPS] [--keep <DISK>]";
@@ -63,6 +74,8 @@ fn number_usage(words: &[&str]) -> &'static str {
         Some(&"calls") => CALLS_USAGE,
         Some(&"debug") => DEBUG_USAGE,
         Some(&"races") => RACES_USAGE,
+        Some(&"timeline") => TIMELINE_USAGE,
+        Some(&"profile") => PROFILE_USAGE,
         Some(&"hunt") => HUNT_USAGE,
         _ => FORMAT_USAGE,
     }
@@ -87,17 +100,9 @@ fn fault(alloc: Global, words: &[&str], error: &Error) -> WordsFault
     }
 }
 
-/// The text on how the program is used.
-fn usage(alloc: Global) -> Result<String, AllocError> {
-    let mut command = command::command(alloc)?;
-    let text = command.render_usage();
-    drop(command);
-    text
-}
-
-/// What is wrong with words that `clap` takes and that name no job: the text is how the program is used.
+/// What is wrong with words that `clap` takes and that name no job: `profile` was asked for both of its forms.
 fn no_job(alloc: Global) -> WordsFault {
-    match usage(alloc) {
+    match format!(in alloc; "{BOTH_FORMS}\n{PROFILE_USAGE}\n") {
         Ok(text) => WordsFault::Usage(text),
         Err(_) => WordsFault::OutOfMemory,
     }
@@ -113,6 +118,7 @@ fn job_of<'a>(alloc: Global, words: &'a [&'a str]) -> Result<Option<Job<'a>>, Wo
         (λ _. fault_of ckrt_app (map (λ s. s.now) words.entry.now) ≡ []) }
     ensures taken { IfErr result (λ e.
         takes ckrt_app (map (λ s. s.now) words.entry.now) ≡ true
+        → asks_both_forms (map (λ s. s.now) words.entry.now) ≡ false
         → e ≡ WordsFault.OutOfMemory) }
 {
     match matches_of(alloc, words) {
@@ -133,10 +139,13 @@ fn is_version(words: &[&str]) -> bool
 /// and a journal of 65,536 bytes; one that is given has to be a number below 2^32. `inspect` shows the disk after the last
 /// event where `--at` isn't given, which has to be a number below 2^64, and so does `core`. `calls` begins at the first one
 /// that the disk still has, and ends at the last one where its numbers aren't given, which have to be below 2^64 too. So does
-/// `debug` begin, where `--at` isn't given. `races` takes a stretch as `calls` does.
+/// `debug` begin, where `--at` isn't given.
 ///
 /// `hunt` has seeds 1-200, 64 pages, 1 hart, runs of at most 10,000,000 steps and no disk where these aren't given; the numbers that are have to
 /// be below 2^32, and the text of the seeds is handed on as it is.
+///
+/// `races`, `timeline` and `profile` take a stretch as `calls` does. A picture is 1,200 pixels wide where `--width` isn't given, which has
+/// to be below 2^32. `profile` has no ELF file and a table where these aren't given; with both of its forms it names no job.
 ///
 /// `drive` has turns of 1,000,000 steps, 16 rounds between two commits, no image, no sizes, no files of its input and its output, no limit of
 /// events, no seed, no line of progress, no file that tells how far it is, and no offsets where these aren't given; the numbers that are have to be
@@ -144,7 +153,7 @@ fn is_version(words: &[&str]) -> bool
 ///
 /// # Errors
 ///
-/// [`WordsFault::Usage`] where the words aren't a command's, or ask for help, with the text for the user;
+/// [`WordsFault::Usage`] where the words aren't a command's, ask for help, or for both forms of a profile, with the text for the user;
 /// [`WordsFault::OutOfMemory`] where memory is refused.
 pub fn read_words<'a>(alloc: Global, words: &'a [&'a str]) -> Result<Job<'a>, WordsFault>
     ensures job { IfOk result
@@ -155,6 +164,7 @@ pub fn read_words<'a>(alloc: Global, words: &'a [&'a str]) -> Result<Job<'a>, Wo
     ensures stored { IfErr result (λ _. words.entry.now ≢ []) }
     ensures taken { IfErr result (λ e.
         takes ckrt_app (map (λ s. s.now) words.entry.now) ≡ true
+        → asks_both_forms (map (λ s. s.now) words.entry.now) ≡ false
         → e ≡ WordsFault.OutOfMemory) }
 {
     if words.is_empty() {
@@ -163,8 +173,9 @@ pub fn read_words<'a>(alloc: Global, words: &'a [&'a str]) -> Result<Job<'a>, Wo
     if is_version(words) {
         return Ok(Job::Version);
     }
-    match job_of(alloc, words)? {
-        Some(job) => Ok(job),
-        None => Err(no_job(alloc)),
+    match job_of(alloc, words) {
+        Ok(Some(job)) => Ok(job),
+        Ok(None) => Err(no_job(alloc)),
+        Err(fault) => Err(fault),
     }
 }

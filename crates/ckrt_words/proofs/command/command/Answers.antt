@@ -8,4 +8,4 @@ use Rattle.ckrt_words.proofs.command.command.Goals as goal
 pub returns : goal.returns
 returns c =
     IfOk-weaker c.with_command.result _ (λ whole. app_of whole ≡ ckrt_app)
-    (λ _ is. is hunt_app c.hunt_command.ensures.app ∙ ap (λ (a : App). with_subcommand a hunt_app.top) c.in_ok-with_races.ensures) c.with_command.ensures
+    (λ _ is. is hunt_app c.hunt_command.ensures.app ∙ ap (λ (a : App). with_subcommand a hunt_app.top) c.in_ok-with_profile.ensures) c.with_command.ensures
