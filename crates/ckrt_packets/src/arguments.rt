@@ -1,4 +1,4 @@
-// The arguments of packets.
+//! The arguments of packets.
 ghost use Rattle.std.specs.Prelude.{◌≡◌, ◌++◌, option_map};
 ghost use Rattle.ckrt_packets.specs.Requests.{choice_of, mark_of, mark_of_kind, motion_among, motion_by, motion_of, pair_of, parts_of, target_of, text_of};
 

@@ -1,3 +1,4 @@
+//! Frames on the line, and their signs.
 ghost use Rattle.std.specs.Prelude.{◌≡◌, ◌+◌, ◌≤◌, ◌++◌, length};
 ghost use Rattle.arrayvec.specs.ArrayVec.{array_vec_len};
 ghost use Rattle.ckrt_packets.specs.Framing.{Line, checksum, frame_of, is_checksum, line_after, arrival_of, sign_of};
@@ -113,7 +114,7 @@ impl Receiver {
         }
     }
 
-    // A frame begins.
+    /// A frame begins.
     fn begin(&mut self)
         ensures { self.new ≡ record { stage = Payload; payload = [] } }
     {
@@ -122,7 +123,7 @@ impl Receiver {
         self.payload.clear();
     }
 
-    // A byte of a payload, or its end.
+    /// A byte of a payload, or its end.
     fn take(&mut self, byte: u8)
         ensures { self.new ≡ with_byte byte self.old }
     {
@@ -137,7 +138,7 @@ impl Receiver {
         }
     }
 
-    // A byte of a payload that is too long, or its end.
+    /// A byte of a payload that is too long, or its end.
     fn skip(&mut self, byte: u8) -> Option<Arrival>
         ensures line { self.new ≡ line_at Overlong byte self.old }
         ensures arrival { result ≡ arrival_at Overlong byte self.old.payload }
@@ -149,7 +150,7 @@ impl Receiver {
         Some(Arrival::Broken)
     }
 
-    // Whether the two bytes behind a payload are its checksum.
+    /// Whether the two bytes behind a payload are its checksum.
     fn checked(&self, high: u8, low: u8) -> Arrival
         ensures { result ≡ (if is_checksum high low self.now.payload then Packet else Broken) }
     {
@@ -194,7 +195,7 @@ pub fn write_frame(payload: &Payload, out: &mut ArrayVec<u8, FRAME_LIMIT>)
     append(out, &[b'#', digit(sum / 16), digit(sum % 16)]);
 }
 
-// Bytes for which there is room.
+/// Bytes for which there is room.
 fn append(out: &mut ArrayVec<u8, FRAME_LIMIT>, bytes: &[u8])
     requires { array_vec_len out.old + length bytes.now ≤ 4100 }
     ensures { out.new.items ≡ out.old.items ++ bytes.now }

@@ -1,4 +1,4 @@
-// What is written reads back.
+//! What is written reads back.
 ghost use Rattle.ckrt_packets.specs.ReadBack.{BytesReadBack, EscapedReadsBack, FramesReadBack, NumbersReadBack, RepliesArePlain};
 
 /// The laws of frames: whatever was on the line before, the frame of a payload without `#` and `$` is heard as a packet with that

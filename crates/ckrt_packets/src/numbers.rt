@@ -1,3 +1,4 @@
+//! Hexadecimal numbers of packets.
 ghost use Rattle.std.specs.Prelude.{◌≡◌, ◌<◌, ◌≤◌, ◌++◌, IfSome};
 ghost use Rattle.hex.specs.Hex.{hex_digit_value};
 ghost use Rattle.ckrt_packets.specs.Numbers.{digit_of, number_of};

@@ -1,4 +1,4 @@
-// Parts of a packet.
+//! Parts of a packet.
 ghost use Rattle.std.specs.Prelude.{◌≡◌, ◌<◌, IfSome, length, option_map};
 ghost use Rattle.ckrt_packets.specs.Requests.{after, before, behind, is_byte, is_separator};
 

@@ -1,4 +1,4 @@
-// Pieces of a payload, one behind the other.
+//! Pieces of a payload, one behind the other.
 ghost use Rattle.std.specs.Prelude.{◌≡◌, [], ◌∷◌, ◌+◌, ◌<◌, ◌≤◌, ◌++◌, IsOk, OnOk, length};
 ghost use Rattle.arrayvec.specs.ArrayVec.{array_vec_len};
 ghost use Rattle.ckrt_packets.specs.Numbers.{byte_text, digit_of, hex_text, number_text};

@@ -1,4 +1,4 @@
-// What gdb is answered.
+//! What gdb is answered.
 ghost use Rattle.std.specs.Prelude.{◌≡◌, ◌+◌, ◌≤◌, ◌++◌, IsOk, OnOk, length};
 ghost use Rattle.arrayvec.specs.ArrayVec.{array_vec_len};
 ghost use Rattle.ckrt_packets.specs.Numbers.{byte_text, hex_text};
@@ -6,7 +6,7 @@ ghost use Rattle.ckrt_packets.specs.Replies.{address_text, cause_text, escaped, 
 
 use crate::payload::{Full, Payload, push, push_digits, push_escaped, push_hex, push_number};
 
-// How many bytes of a part go into a packet, however many of them are special.
+/// How many bytes of a part go into a packet, however many of them are special.
 const PART_LIMIT: u32 = 2_047;
 
 /// Why a program stopped, where gdb is told so.
@@ -78,7 +78,7 @@ pub fn write_reply(reply: &Reply<'_>, out: &mut Payload) -> Result<(), Full>
     }
 }
 
-// A sign, and bytes in two digits each.
+/// A sign, and bytes in two digits each.
 fn push_hex_behind(out: &mut Payload, sign: &[u8], bytes: &[u8]) -> Result<(), Full>
     ensures done { OnOk result (out.new.items ≡ out.old.items ++ (sign.now ++ hex_text bytes.now)) }
     ensures fits { array_vec_len out.old + length (sign.now ++ hex_text bytes.now) ≤ 4096
@@ -88,7 +88,7 @@ fn push_hex_behind(out: &mut Payload, sign: &[u8], bytes: &[u8]) -> Result<(), F
     push_hex(out, bytes)
 }
 
-// A sign, and a byte in two digits.
+/// A sign, and a byte in two digits.
 fn push_byte_behind(out: &mut Payload, sign: &[u8], byte: u8) -> Result<(), Full>
     ensures done { OnOk result (out.new.items ≡ out.old.items ++ (sign.now ++ byte_text byte)) }
     ensures fits { array_vec_len out.old + length (sign.now ++ byte_text byte) ≤ 4096
@@ -98,7 +98,7 @@ fn push_byte_behind(out: &mut Payload, sign: &[u8], byte: u8) -> Result<(), Full
     push_digits(out, byte)
 }
 
-// The ids of threads, with commas between them.
+/// The ids of threads, with commas between them.
 fn push_threads(out: &mut Payload, ids: &[u8]) -> Result<(), Full>
     ensures done { OnOk result (out.new.items ≡ out.old.items ++ threads_text ids.now) }
     ensures fits { array_vec_len out.old + length (threads_text ids.now) ≤ 4096 → IsOk result }
@@ -122,7 +122,7 @@ fn push_ids(out: &mut Payload, ids: &[u8]) -> Result<(), Full>
     Ok(())
 }
 
-// A word, an address, and the sign that ends them.
+/// A word, an address, and the sign that ends them.
 fn push_address(out: &mut Payload, word: &[u8], address: u32) -> Result<(), Full>
     ensures done { OnOk result (out.new.items ≡ out.old.items ++ address_text word.now address) }
     ensures fits { array_vec_len out.old + length (address_text word.now address) ≤ 4096
@@ -178,7 +178,7 @@ fn push_part(out: &mut Payload, text: &[u8], from: u32, count: u32) -> Result<()
     }
 }
 
-// A sign, and bytes, the special ones escaped.
+/// A sign, and bytes, the special ones escaped.
 fn push_part_behind(out: &mut Payload, sign: &[u8], part: &[u8]) -> Result<(), Full>
     ensures done { OnOk result (out.new.items ≡ out.old.items ++ (sign.now ++ escaped part.now)) }
     ensures fits { array_vec_len out.old + length (sign.now ++ escaped part.now) ≤ 4096

@@ -1,4 +1,4 @@
-// What gdb asks.
+//! What gdb asks.
 ghost use Rattle.std.specs.Prelude.{◌≡◌};
 ghost use Rattle.ckrt_packets.specs.Requests.{by_letter, choosing_of, command_of, named, object_of, query_of, request_of, restart_of, with_arguments};
 

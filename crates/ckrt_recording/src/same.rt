@@ -1,4 +1,4 @@
-// Whether two states are the same.
+//! Whether two states are the same.
 ghost use Rattle.std.specs.Prelude.{◌≡◌, ◌↔◌, IfOk, IsTrue};
 ghost use Rattle.ckrt_state.specs.WellFormed.{IsWellFormed};
 
@@ -8,7 +8,7 @@ use ckrt_state::Tables;
 use ckrt_tables::{Held, TABLES_ROOM, encode_tables};
 use std::alloc::{AllocError, Global};
 
-// Whether two memories have the same bytes.
+/// Whether two memories have the same bytes.
 fn are_same_memories(one: &Memory, other: &Memory) -> bool
     ensures { IsTrue result ↔ (one.now.bytes ≡ other.now.bytes) }
 {
@@ -24,7 +24,7 @@ fn are_same_memories(one: &Memory, other: &Memory) -> bool
     true
 }
 
-// Whether tables are the same: no two have one encoding.
+/// Whether tables are the same: no two have one encoding.
 fn are_same_tables(alloc: Global, one: &Tables, other: &Tables) -> Result<bool, AllocError>
     requires one { IsWellFormed one.now }
     requires other { IsWellFormed other.now }

@@ -1,3 +1,4 @@
+//! What the words ask for.
 use thiserror::Error;
 
 /// What the words ask the program to do. Paths are the words themselves.

@@ -1,4 +1,4 @@
-use Rattle.std.proofs.Common.{◌≡◌, ◌⊎◌, ◌+◌, ◌<◌, ◌^◌, true, false, cond, List, Some, Err, sym, ◌∙◌, ap, subst, rules}
+use Rattle.std.proofs.Common.{◌≡◌, ◌+◌, ◌<◌, ◌^◌, true, false, cond, List, Some, Err, sym, ◌∙◌, ap, subst, rules}
 use Rattle.ckrt_journal.specs.declared.journal.Journal.{Journal}
 use Rattle.ckrt_machine.specs.Steps.{State}
 use Rattle.ckrt_tables.specs.Decoding.{Saved}
@@ -53,7 +53,3 @@ invariant_of-result-clause-valid g c = search rules
 pub invariant_of-result-clause-small : goal.invariant_of-result-clause-small
 invariant_of-result-clause-small g c =
     subst (λ (j : Journal). j.at + j.size < 2 ^ 64) (sym c.journal_of.ensures) (small_journal c.args.config.now c.args.area.now.index c.requires.valid c.requires.picked.index)
-
-pub invariant_of-result-clause-known_version : goal.invariant_of-result-clause-known_version
-invariant_of-result-clause-known_version g c =
-    subst (λ (j : Journal). (j.version ≡ 1) ⊎ (j.version ≡ 2)) (sym c.journal_of.ensures) c.requires.picked.version
