@@ -1,3 +1,4 @@
 pub mod AppendLemmas
 pub mod RunLemmas
 pub mod DiskLemmas
+pub mod QuietLemmas

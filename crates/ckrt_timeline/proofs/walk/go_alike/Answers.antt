@@ -1,0 +1,36 @@
+use Rattle.std.proofs.Common.{◌≡◌, ◌∙◌, ◌≤◌, ◌<◌, ◌+◌, ◌-◌, ◌++◌, ℕ, suc, List, replicate, refl, sym, ap, arith}
+use Rattle.ckrt_machine.specs.Runs.{after_steps, with_byte}
+use Rattle.ckrt_machine.specs.Steps.{State, hart_step}
+use Rattle.ckrt_trace.specs.Events.{state_behind}
+use Rattle.ckrt_trace.proofs.RunLemmas.{state_next}
+use Rattle.ckrt_timeline.specs.Activities.{activity_of}
+use Rattle.ckrt_timeline.specs.Tracks.{GoesAlike, in_rest}
+use Rattle.ckrt_timeline.proofs.WalkLemmas.{quiet_rest, quiet_state, rest_next}
+use Rattle.ckrt_timeline.proofs.walk.go_alike.Goals as goal
+
+-- some quiet ones
+pub returns-then-made-gt0 : goal.returns-then-made-gt0
+returns-then-made-gt0 c =
+    let s = c.args.machine.now.state in
+    let out = c.args.machine.now.output in
+    let h = c.args.hart in
+    let all = c.args.limit in
+    let made = c.go_quietly-made.result in
+    let m = c.go_quietly-made.new.machine in
+    let went = c.go_quietly-made.ensures in
+    let n = all - made in
+    let is : all ≡ made + n = omega (arith, went.within) in
+    record {
+      some = omega (arith, c.if-made-gt0.true);
+      within = went.within;
+      state =
+          ap (λ (y : State). state_behind n h y m.output) went.state ∙ ap (λ o. state_behind n h (after_steps made h s out).state o) went.output
+          ∙ sym (quiet_state made n all h s out is went.goes_on);
+      alike = λ t. quiet_rest made n all t h s out is (went.goes_on, went.quiet)
+          ∙ ap (λ (y : State). replicate made (activity_of h t s.tables.threads) ++ in_rest t n h y (after_steps made h s out).output) (sym went.state)
+          ∙ ap (λ o. replicate made (activity_of h t s.tables.threads) ++ in_rest t n h m.state o) (sym went.output);
+    }
+
+-- one that isn't
+pub returns : goal.returns
+returns c = ?
