@@ -1,3 +1,4 @@
 pub mod Debugging
+pub mod Drawings
 pub mod Looking
 pub mod Tellings

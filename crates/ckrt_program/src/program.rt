@@ -14,7 +14,7 @@ use ckrt_disk::Disk;
 use ckrt_drive::StreamOutput;
 use ckrt_hunts::hunt_path;
 use ckrt_jobs::{core_path, drive_path, inspect_disk, make_disk, run_disk};
-use ckrt_looks::{calls_path, debug_path, races_path};
+use ckrt_looks::{calls_path, debug_path, races_path, timeline_path};
 use ckrt_main::serve_image;
 use ckrt_outcomes::{Done, Driven, JobFault, Meter};
 use ckrt_recovery::Config;
@@ -221,6 +221,9 @@ fn perform<
             without_end(debug_path::<I, D, S, R, W>(alloc, job, sources, reader, writer))
         }
         Job::Races(job) => without_end(races_path::<I, D, S, W>(alloc, job, sources, writer)),
+        Job::Timeline(job) => {
+            without_end(timeline_path::<I, D, S, W>(alloc, job, sources, writer))
+        }
         Job::Hunt(job) => of_hunt(hunt_path::<I, D, S, W>(alloc, job, sources, writer)),
         Job::Drive(job) => {
             with_end(drive_path::<I, D, S, W, M>(alloc, job, sources, writer, meter))
@@ -230,7 +233,7 @@ fn perform<
 
 /// Does what the words after the program's name ask for, with images and disks of any sources: `format DISK IMAGE` prints
 /// `formatted SIZE`, `run DISK` answers the lines of the reader, `inspect DISK` shows what the disk holds, `core DISK FILE`
-/// writes it as a core into FILE, `calls DISK` tells its calls, `debug DISK` serves it to gdb, `races DISK` tells its data races, `hunt IMAGE` tells what other schedules come to, `drive DISK`
+/// writes it as a core into FILE, `calls DISK` tells its calls, `debug DISK` serves it to gdb, `races DISK` tells its data races, `timeline DISK` draws what its threads did, `hunt IMAGE` tells what other schedules come to, `drive DISK`
 /// runs its program to its end, with its output in a file or printed, and reports what it came to in a line, `--version`
 /// prints the version and its kit, no words serve the stored program in memory. Of a fault two lines are reported: what is
 /// wrong in plain words, with the path of the file that it is of, and `ckrt: NAME`. Of words that name no job a text is. A

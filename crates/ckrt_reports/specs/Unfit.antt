@@ -2,7 +2,7 @@
 use Rattle.std.specs.Prelude.{ℕ, nat_lt, Bool, not, ◌||◌, if◌then◌else◌, List, [], ◌++◌, codes, decimal}
 use Rattle.ckrt_checkpoint.specs.declared.config.Config.{Config}
 use Rattle.ckrt_outcomes.specs.Ranges.{config_for, is_interval, is_target}
-use Rattle.ckrt_words.specs.Jobs.{Driving, Request, calls, drive, format, hunt, races}
+use Rattle.ckrt_words.specs.Jobs.{Drawing, Driving, Request, calls, drive, format, hunt, races, timeline}
 
 -- a number between two texts
 abbrev pub size_text : (before : List ℕ) → ℕ → (behind : List ℕ) → List ℕ
@@ -34,11 +34,18 @@ unfit_drive_text j =
 abbrev pub turned_text : List ℕ
 turned_text = codes "--from is above --to: "
 
+-- how wide no picture is
+abbrev pub unfit_drawing_text : Drawing → List ℕ
+unfit_drawing_text j =
+    if is_outside 400 4000 j.width then size_text (codes "--width ") j.width (codes " isn't 400 to 4000: ")
+    else turned_text
+
 -- what was asked for with such numbers
 abbrev pub unfit_of : Request → List ℕ
 unfit_of (drive j) = unfit_drive_text j
 unfit_of (calls s) = turned_text
 unfit_of (races s) = turned_text
+unfit_of (timeline j) = unfit_drawing_text j
 unfit_of (hunt h) = codes "--seeds isn't FIRST-LAST, two numbers below 2^64 - 1, the first one not above the last: "
 unfit_of _ = []
 

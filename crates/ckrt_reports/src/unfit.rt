@@ -1,15 +1,18 @@
 //! What is said of numbers in the words that are out of their ranges.
 ghost use Rattle.std.specs.Prelude.{◌≡◌, OnErr, OnOk, true};
 ghost use Rattle.std.specs.Io.KnownBytes.{Appends};
-ghost use Rattle.ckrt_reports.specs.Unfit.{is_outside, unfit_drive_text, unfit_of, unfit_sizes_of, unfit_sizes_text};
-ghost use Rattle.ckrt_words.specs.Jobs.{driving_of, request_of};
+ghost use Rattle.ckrt_reports.specs.Unfit.{is_outside, unfit_drawing_text, unfit_drive_text, unfit_of, unfit_sizes_of, unfit_sizes_text};
+ghost use Rattle.ckrt_words.specs.Jobs.{drawing_of, driving_of, request_of};
 
 use crate::reporter::{Reporter, Unsaid};
 use crate::reporting::say_size;
 use ckrt_events::LONG_RUN_LIMIT;
 use ckrt_outcomes::{config_for, is_target};
 use ckrt_recovery::Config;
-use ckrt_words::{DriveJob, Job};
+use ckrt_words::{DriveJob, Job, TimelineJob};
+
+/// What is said of a stretch that would end before it begins.
+const TURNED_TEXT: &[u8] = b"--from is above --to: ";
 
 /// What is said of a text that is no range of seeds.
 const SEEDS_TEXT: &[u8] =
@@ -58,7 +61,19 @@ fn say_unfit_drive<E: Reporter>(reporter: &mut E, job: &DriveJob<'_>) -> Result<
     reporter.say(b"--input-from is below 2^62, and goes with --input: ")
 }
 
-/// Says which number of the words is the fault Range, where they ask for a drive, for a stretch or for a hunt.
+/// Says which number of a timeline is out of its range.
+fn say_unfit_drawing<E: Reporter>(reporter: &mut E, job: &TimelineJob<'_>) -> Result<(), Unsaid>
+    ensures said { OnOk result (Appends (E.said reporter.old) (E.said reporter.new)
+        (unfit_drawing_text (drawing_of job.now))) }
+    ensures failed { OnErr result (E.has_failed reporter.new ≡ true) }
+{
+    if is_outside(400, 4000, job.width) {
+        return say_size(reporter, b"--width ", job.width, b" isn't 400 to 4000: ");
+    }
+    reporter.say(TURNED_TEXT)
+}
+
+/// Says which number of the words is the fault Range, where they ask for a drive, for a stretch, for a timeline or for a hunt.
 pub(crate) fn say_unfit<E: Reporter>(reporter: &mut E, job: &Job<'_>) -> Result<(), Unsaid>
     ensures said { OnOk result (Appends (E.said reporter.old) (E.said reporter.new)
         (unfit_of (request_of job.now))) }
@@ -66,7 +81,8 @@ pub(crate) fn say_unfit<E: Reporter>(reporter: &mut E, job: &Job<'_>) -> Result<
 {
     match job {
         Job::Drive(job) => say_unfit_drive(reporter, job),
-        Job::Calls(_) | Job::Races(_) => reporter.say(b"--from is above --to: "),
+        Job::Calls(_) | Job::Races(_) => reporter.say(TURNED_TEXT),
+        Job::Timeline(job) => say_unfit_drawing(reporter, job),
         Job::Hunt(_) => reporter.say(SEEDS_TEXT),
         _ => reporter.say(b""),
     }

@@ -1,3 +1,6 @@
+pub mod EventLemmas
 pub mod PieceLemmas
+pub mod QuietLemmas
+pub mod StretchLemmas
 pub mod TrackLemmas
 pub mod WalkLemmas

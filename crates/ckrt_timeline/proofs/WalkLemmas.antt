@@ -9,8 +9,8 @@ use Rattle.ckrt_machine.specs.declared.event.RunEnd.{RunEnd}
 use Rattle.ckrt_machine.specs.Runs.{after_steps, stop_after, stop_of, with_byte}
 use Rattle.ckrt_machine.specs.Steps.{State, hart_step}
 use Rattle.ckrt_trace.specs.Events.{state_behind}
-use Rattle.ckrt_trace.specs.Quiet.{IsStill, is_quiet_after, standing}
-use Rattle.ckrt_trace.proofs.QuietLemmas.{quiet_still}
+use Rattle.ckrt_timeline.specs.Quiet.{IsStill, is_quiet_after, standing}
+use Rattle.ckrt_timeline.proofs.QuietLemmas.{quiet_still}
 use Rattle.ckrt_trace.proofs.RunLemmas.{state_next}
 use Rattle.ckrt_timeline.specs.declared.piece.Activity.{Activity}
 use Rattle.ckrt_timeline.specs.declared.piece.Activity.TheVariants as activity
@@ -71,3 +71,10 @@ quiet_state (suc m) n all h s out is going =
     let next : all ≡ suc (m + n) = omega (arith, is) in
     ap (λ j. state_behind j h s out) next ∙ state_next (m + n) h s out (going 0 (omega arith))
     ∙ quiet_state m n (m + n) h (hart_step h s).state (with_byte (hart_step h s).put out) refl (λ k less. going (suc k) (omega (arith, less)))
+
+-- a run, by its first step and those behind it
+pub run_done : (t n limit h : ℕ) (s z : State) (out : List ℕ) → suc n ≡ limit → z ≡ (hart_step h s).state → out ≡ with_byte (hart_step h s).put []
+    → activity_of h t s.tables.threads ∷ in_rest t n h z out ≡ in_run t limit h s []
+run_done t n limit h s z out all state output =
+    ap (λ (y : State). activity_of h t s.tables.threads ∷ in_rest t n h y out) state ∙ ap (λ o. activity_of h t s.tables.threads ∷ in_rest t n h (hart_step h s).state o) output
+    ∙ ap (λ j. in_run t j h s []) all

@@ -1,6 +1,10 @@
 pub mod Activities
+pub mod Charts
+pub mod Disks
 pub mod Parts
 pub mod Pieces
+pub mod Quiet
 pub mod Texts
 pub mod Tracks
+pub mod Widths
 pub mod Words

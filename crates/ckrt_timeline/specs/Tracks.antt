@@ -50,6 +50,11 @@ abbrev pub begins_of : (x : ℕ) → List Event → State → List ℕ
 begins_of x [] s = []
 begins_of x (e ∷ es) s = x ∷ begins_of (x + steps_in e s) es (step e s).state
 
+-- numbers that are no greater than this
+abbrev pub AreUpTo : (most : ℕ) → List ℕ → Type 0
+AreUpTo most [] = Unit {0}
+AreUpTo most (x ∷ xs) = (x ≤ most) × AreUpTo most xs
+
 -- A TIMELINE: thread i + 1 is at index i
 
 abbrev pub THREADS : ℕ

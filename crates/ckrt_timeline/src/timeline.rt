@@ -1,7 +1,7 @@
 //! What each thread did, in pieces.
-ghost use Rattle.std.specs.Prelude.{◌≡◌, ◌≤◌, ◌<◌, ◌+◌, ◌^◌, IfOk, OnOk, get_or, length, replicate};
+ghost use Rattle.std.specs.Prelude.{◌≡◌, ◌≤◌, ◌<◌, ◌+◌, ◌^◌, ℕ, [], IfOk, OnOk, get_or, length, replicate};
 ghost use Rattle.ckrt_timeline.specs.declared.piece.Activity.TheVariants as activity;
-ghost use Rattle.ckrt_timeline.specs.Tracks.{GoesOn, IsWhole};
+ghost use Rattle.ckrt_timeline.specs.Tracks.{GoesOn, IsWhole, track_in};
 
 use crate::piece::{Activity, Piece};
 use crate::tracks::extend_all;
@@ -21,6 +21,7 @@ pub(crate) struct Timeline {
 pub(crate) fn no_steps(alloc: Global) -> Result<Timeline, AllocError>
     ensures whole { IfOk result (λ z. IsWhole z) }
     ensures none { IfOk result (λ z. z.steps ≡ 0) }
+    ensures empty { IfOk result (λ z. (i : ℕ) → track_in z i ≡ []) }
 {
     let mut tracks = Vec::new(alloc);
     for _thread in 0..MAX_THREADS {

@@ -8,11 +8,12 @@ ghost use Rattle.ckrt_trace.specs.Events.{state_behind};
 ghost use Rattle.ckrt_timeline.specs.Tracks.{GoesAlike, GoesOn, IsWhole, Watches, in_event, in_rest, in_run};
 
 use crate::activity::activities;
+use crate::quiet::go_quietly;
 use crate::timeline::{Timeline, note};
 use ckrt_events::Event;
 use ckrt_machine::Machine;
 use ckrt_thread::Hart;
-use ckrt_trace::{advance, go_quietly, is_stopped};
+use ckrt_trace::{advance, is_stopped};
 use std::alloc::AllocError;
 
 /// Steps at which each thread does the same: quiet ones, or one that isn't. The answer is how many.
@@ -66,7 +67,10 @@ fn watch_rest(
     ensures steps { OnOk result (timeline.new.steps ≤ timeline.old.steps + limit) }
 {
     let mut left = limit;
-    while left > 0 && !is_stopped(machine, hart) {
+    while left > 0 {
+        if is_stopped(machine, hart) {
+            return Ok(());
+        }
         let made = watch_piece(machine, hart, left, timeline)?;
         left -= made;
     }

@@ -2,4 +2,3 @@ pub mod Calls
 pub mod Disks
 pub mod Events
 pub mod Lines
-pub mod Quiet

@@ -25,3 +25,8 @@ pub returns-in-Hunt : goal.returns-in-Hunt
 returns-in-Hunt g c =
     let unread = g.R.Read.remaining c.args.reader.now in
     record { performs = rw c.in-Hunt.is (c.hunt_path.result, c.of_hunt.ensures, c.hunt_path.ensures.hunts unread) }
+
+pub returns-in-Timeline : goal.returns-in-Timeline
+returns-in-Timeline g c =
+    let unread = g.R.Read.remaining c.args.reader.now in
+    record { performs = rw c.in-Timeline.is (c.timeline_path.result, c.without_end-in-Timeline.ensures, c.timeline_path.ensures.draws unread) }

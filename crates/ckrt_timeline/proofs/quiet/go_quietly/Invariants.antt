@@ -1,7 +1,7 @@
 use Rattle.std.proofs.Common.{◌≡◌, ◌≤◌, ◌<◌, ℕ, true, None}
 use Rattle.ckrt_machine.specs.Runs.{after_steps, stop_after}
-use Rattle.ckrt_trace.specs.Quiet.{is_quiet_after}
-use Rattle.ckrt_trace.proofs.quiet.go_quietly.Given as goal
+use Rattle.ckrt_timeline.specs.Quiet.{is_quiet_after}
+use Rattle.ckrt_timeline.proofs.quiet.go_quietly.Given as goal
 
 abbrev pub invariant-loop-made : goal.invariant-loop-made
 invariant-loop-made l = let s = l.fn.machine.state in let out = l.fn.machine.output in record {

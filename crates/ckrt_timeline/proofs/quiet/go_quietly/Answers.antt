@@ -2,10 +2,10 @@ use Rattle.std.proofs.Common.{◌≡◌, ◌∙◌, ◌≤◌, ◌<◌, ◌+◌,
 use Rattle.ckrt_machine.specs.Runs.{after_steps, stop_after, stop_of, with_byte}
 use Rattle.ckrt_machine.specs.Steps.{State, hart_of, hart_step}
 use Rattle.ckrt_trace.specs.Lines.{is_quiet}
-use Rattle.ckrt_trace.specs.Quiet.{is_quiet_after}
-use Rattle.ckrt_trace.proofs.QuietLemmas.{output_more, state_more, up_to}
+use Rattle.ckrt_timeline.specs.Quiet.{is_quiet_after}
+use Rattle.ckrt_timeline.proofs.QuietLemmas.{output_more, state_more, up_to}
 use Rattle.ckrt_trace.proofs.RunLemmas.{is_going}
-use Rattle.ckrt_trace.proofs.quiet.go_quietly.Goals as goal
+use Rattle.ckrt_timeline.proofs.quiet.go_quietly.Goals as goal
 
 -- one step more
 pub loop-made-preserved : goal.loop-made-preserved

@@ -1,10 +1,9 @@
 //! Quiet steps in a row.
 ghost use Rattle.std.specs.Prelude.{◌≡◌, None};
 ghost use Rattle.ckrt_machine.specs.Runs.{stop_of};
-ghost use Rattle.ckrt_trace.specs.Quiet.{GoesQuietly};
+ghost use Rattle.ckrt_timeline.specs.Quiet.{GoesQuietly};
 
-use crate::events::{advance, is_stopped};
-use crate::lines::is_quiet;
+use ckrt_trace::{advance, is_quiet, is_stopped};
 use ckrt_machine::Machine;
 
 /// Makes steps of a run that goes on, of the thread on a hart, as long as they are quiet, and at most so many: those that call nothing,

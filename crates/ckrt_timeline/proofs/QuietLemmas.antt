@@ -16,6 +16,7 @@ use Rattle.ckrt_rv32i.specs.declared.instruction.LoadKind.{LoadKind}
 use Rattle.ckrt_rv32i.specs.declared.execution.Outcome.{Outcome}
 use Rattle.ckrt_rv32i.specs.declared.execution.Outcome.TheVariants.{Next, Call, Fault}
 use Rattle.ckrt_rv32i.specs.declared.execution.Cause.{Cause}
+use Rattle.ckrt_rv32i.specs.declared.execution.Cause.TheVariants as cause
 use Rattle.ckrt_thread.specs.Abi.{RETURN_GATE, UNWIND_GATE}
 use Rattle.ckrt_thread.specs.Cancellation.{is_immediate}
 use Rattle.ckrt_thread.specs.State as threads
@@ -28,7 +29,7 @@ use Rattle.ckrt_machine.specs.Runs.{after_steps, with_byte}
 use Rattle.ckrt_machine.proofs.RegsLaws.{regs_read}
 use Rattle.ckrt_thread.proofs.SlotLemmas.{slot_elsewhere}
 use Rattle.ckrt_trace.specs.Lines.{is_ecall_at, is_plain, is_plain_of, is_quiet}
-use Rattle.ckrt_trace.specs.Quiet.{IsStill, standing}
+use Rattle.ckrt_timeline.specs.Quiet.{IsStill, standing}
 
 -- AN INSTRUCTION CALLS ONLY WHERE ECALL STANDS
 
@@ -43,34 +44,34 @@ either P false x y p q = q
 faults : (P : Type 0) (c : Cause) (h : Registers) (m : List ℕ) → Calls P (fault c h m)
 faults P c h m = λ e. absurd (cc)
 
-goes_next : (P : Type 0) (g : Registers) (b : List ℕ) → Calls P (record { outcome = Next; registers = g; bytes = b })
-goes_next P g b = λ e. absurd (cc)
+goes_next : (P : Type 0) → Next ≡ Call → P
+goes_next P e = absurd (cc)
 
 jumps : (P : Type 0) (target : ℕ) (x : List ℕ) (h : Registers) (m : List ℕ) → Calls P (jump target x h m)
-jumps P target x h m = either P (target % 4 == 0) _ _ (goes_next P _ m) (faults P _ h m)
+jumps P target x h m = either P (target % 4 == 0) _ _ (goes_next P) (faults P _ h m)
 
 loads : (P : Type 0) (k : LoadKind) (rd a : ℕ) (h : Registers) (m : List ℕ) → Calls P (load_effect k rd a h m)
 loads P k rd a h m =
     either P (not (is_aligned a (load_size k))) _ _ (faults P _ h m)
-    (either P (not (is_valid m a (load_size k))) _ _ (faults P _ h m) (goes_next P _ m))
+    (either P (not (is_valid m a (load_size k))) _ _ (faults P _ h m) (goes_next P))
 
 stores : (P : Type 0) (s : Size) (a v : ℕ) (h : Registers) (m : List ℕ) → Calls P (store_effect s a v h m)
 stores P s a v h m =
     either P (not (is_aligned a s)) _ _ (faults P _ h m)
-    (either P (not (is_valid m a s)) _ _ (faults P _ h m) (goes_next P _ _))
+    (either P (not (is_valid m a s)) _ _ (faults P _ h m) (goes_next P))
 
 calls_by : (i : Instr) (h : Registers) (m : List ℕ) → Calls (i ≡ Ecall) (effect i h m)
-calls_by (Lui rd imm) h m = goes_next _ _ m
-calls_by (Auipc rd imm) h m = goes_next _ _ m
+calls_by (Lui rd imm) h m = goes_next _
+calls_by (Auipc rd imm) h m = goes_next _
 calls_by (Jal rd offset) h m = jumps _ _ _ h m
 calls_by (Jalr rd rs1 offset) h m = jumps _ _ _ h m
-calls_by (Branch c rs1 rs2 offset) h m = either _ (holds c (get h rs1) (get h rs2)) _ _ (jumps _ _ _ h m) (goes_next _ _ m)
+calls_by (Branch c rs1 rs2 offset) h m = either _ (holds c (get h rs1) (get h rs2)) _ _ (jumps _ _ _ h m) (goes_next _)
 calls_by (Load k rd rs1 offset) h m = loads _ k rd _ h m
 calls_by (Store s rs1 rs2 offset) h m = stores _ s _ _ h m
-calls_by (AluImm op rd rs1 imm) h m = goes_next _ _ m
-calls_by (Shift op rd rs1 amount) h m = goes_next _ _ m
-calls_by (Alu op rd rs1 rs2) h m = goes_next _ _ m
-calls_by (Fence rd rs1 imm) h m = goes_next _ _ m
+calls_by (AluImm op rd rs1 imm) h m = goes_next _
+calls_by (Shift op rd rs1 amount) h m = goes_next _
+calls_by (Alu op rd rs1 rs2) h m = goes_next _
+calls_by (Fence rd rs1 imm) h m = goes_next _
 calls_by Ecall h m = λ e. refl
 calls_by Ebreak h m = faults _ _ h m
 
@@ -87,7 +88,7 @@ calls_there h m = go (is_valid m h.pc size.Word)
   where
     w : ℕ
     w = loaded m h.pc size.Word
-    go : (b : Bool) → Calls ((b && (w == 0x73)) ≡ true) (cond b (performed (instruction_of w) h m) (fault _ h m))
+    go : (b : Bool) → Calls ((b && (w == 0x73)) ≡ true) (cond b (performed (instruction_of w) h m) (fault cause.FetchRange h m))
     go true = λ e. is_word w (calls_if (instruction_of w) h m e)
     go false = λ e. absurd (cc)
 
@@ -106,9 +107,9 @@ regs_still q r l s live = record { waits = refl; harts = refl; stand = λ t. go 
 
 performed_still : (o : Outcome) (q : ℕ) (l : Live) (r : Registers) (m : List ℕ) (s : State) → threads.thread_of s.tables.threads q ≡ Some (thread.Live l) → o ≢ Call
     → IsStill s.tables.threads (steps.performed o q r m s).state.tables.threads
-performed_still Next q l r m s live no = regs_still q r l s.tables.threads live
-performed_still Call q l r m s live no = absurd (no refl)
-performed_still (Fault c) q l r m s live no = same_still s.tables.threads
+performed_still Next q l r m s live never = regs_still q r l s.tables.threads live
+performed_still Call q l r m s live never = absurd (never refl)
+performed_still (Fault c) q l r m s live never = same_still s.tables.threads
 
 choose : (a b i e : Bool) (x y z w : Stepped) (s : threads.State) → (e ≡ false → IsStill s w.state.tables.threads) → (not a && (not b && (not i && not e))) ≡ true
     → IsStill s (cond i x (cond a y (cond b z w))).state.tables.threads

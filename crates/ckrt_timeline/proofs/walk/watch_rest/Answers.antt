@@ -1,0 +1,57 @@
+use Rattle.std.proofs.Common.{rules, ◌≡◌, ◌∙◌, ◌≤◌, ◌<◌, ◌+◌, ◌-◌, ◌++◌, ℕ, List, sym, ap, true, arith}
+use Rattle.std.proofs.lemmas.List.{append-nil}
+use Rattle.ckrt_machine.specs.Steps.{State}
+use Rattle.ckrt_trace.specs.Events.{state_behind}
+use Rattle.ckrt_trace.proofs.RunLemmas.{state_ended, state_used}
+use Rattle.ckrt_timeline.specs.Tracks.{in_rest, track_in}
+use Rattle.ckrt_timeline.proofs.WalkLemmas.{rest_ended, rest_used}
+use Rattle.ckrt_timeline.proofs.walk.watch_rest.Goals as goal
+
+-- some steps more
+pub loop-left-preserved : goal.loop-left-preserved
+loop-left-preserved c =
+    let so_far = c.loop-left.invariant in
+    let went = c.in_ok-made.ensures.watches in
+    record {
+      state = went.state ∙ so_far.state;
+      whole = went.whole;
+      steps = omega (arith, went.steps, went.within, so_far.steps);
+      tracks = λ i less. went.tracks i less ∙ so_far.tracks i less;
+    }
+
+-- something ended the run
+pub returns-then-is_stopped : goal.returns-then-is_stopped
+returns-then-is_stopped c =
+    let so_far = c.loop-left.invariant in
+    let m = c.loop-left.machine in
+    let h = c.args.hart in
+    let n = c.loop-left.left in
+    record {
+      state = sym (state_ended n h m.state m.output (sym c.is_stopped.ensures ∙ c.if-is_stopped.true)) ∙ so_far.state;
+      goes_on = record {
+        whole = so_far.whole;
+        tracks = λ i less.
+            let all = track_in c.loop-left.timeline i in
+            sym (append-nil all) ∙ ap (λ l. all ++ l) (sym (rest_ended (i + 1) n h m.state m.output (sym c.is_stopped.ensures ∙ c.if-is_stopped.true))) ∙ so_far.tracks i less;
+      };
+      steps = omega (arith, so_far.steps);
+    }
+
+-- none is left
+pub returns : goal.returns
+returns c =
+    let so_far = c.loop-left.invariant in
+    let m = c.loop-left.machine in
+    let h = c.args.hart in
+    let n = c.loop-left.left in
+    let none : n ≡ 0 = omega (arith, c.loop-left-test.false) in
+    record {
+      state = sym (state_used h m.state m.output) ∙ ap (λ j. state_behind j h m.state m.output) (sym none) ∙ so_far.state;
+      goes_on = record {
+        whole = so_far.whole;
+        tracks = λ i less.
+            let all = track_in c.loop-left.timeline i in
+            sym (append-nil all) ∙ ap (λ l. all ++ l) (sym (rest_used (i + 1) h m.state m.output) ∙ ap (λ j. in_rest (i + 1) j h m.state m.output) (sym none)) ∙ so_far.tracks i less;
+      };
+      steps = omega (arith, so_far.steps);
+    }
