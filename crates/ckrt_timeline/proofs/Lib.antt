@@ -1,3 +1,4 @@
+pub mod DrawLemmas
 pub mod EventLemmas
 pub mod PieceLemmas
 pub mod QuietLemmas

@@ -1,8 +1,8 @@
 -- What a quiet step leaves as it is.
-use Rattle.std.proofs.Common.{◌≡◌, ◌≢◌, ◌∙◌, ◌≤◌, ◌<◌, ◌+◌, ◌%◌, ◌==◌, ◌&&◌, not, ℕ, zero, suc, Bool, true, false, cond, List, length, Option, None, Some, refl, sym, ap, subst, true≢false, arith, eqb, eqb-true, ◌⊎◌, inl, inr}
+use Rattle.std.proofs.Common.{◌≡◌, ◌≢◌, ◌∙◌, ◌<◌, ◌+◌, ◌%◌, ◌==◌, ◌&&◌, not, ℕ, zero, suc, Bool, true, false, cond, List, Option, None, Some, refl, sym, ap, subst, true≢false, arith, eqb, eqb-true, ◌⊎◌, inl, inr}
 use Rattle.std.specs.Option.{option_flatten}
 use Rattle.std.proofs.lemmas.Bool.{cases_order}
-use Rattle.std.specs.Prelude.{slice_get, slice_set, slice_index_or}
+use Rattle.std.specs.Prelude.{slice_get}
 use Rattle.ckrt_registers.specs.Registers.{Registers, get}
 use Rattle.ckrt_rv32i.specs.Memory.{is_aligned, is_valid, loaded}
 use Rattle.ckrt_rv32i.specs.Decoding.{instruction_of}
@@ -88,6 +88,7 @@ calls_there h m = go (is_valid m h.pc size.Word)
   where
     w : ℕ
     w = loaded m h.pc size.Word
+
     go : (b : Bool) → Calls ((b && (w == 0x73)) ≡ true) (cond b (performed (instruction_of w) h m) (fault cause.FetchRange h m))
     go true = λ e. is_word w (calls_if (instruction_of w) h m e)
     go false = λ e. absurd (cc)

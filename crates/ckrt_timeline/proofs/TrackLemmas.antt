@@ -1,9 +1,9 @@
 -- The pieces of one of several threads.
-use Rattle.std.proofs.Common.{◌≡◌, ◌≢◌, ◌≤◌, ◌<◌, ◌++◌, ℕ, zero, suc, List, [], replicate, length-append, get_or, length, map, refl, sym, ap, subst, ◌∙◌, ◌+◌, ◌⊎◌, inl, inr, arith}
+use Rattle.std.proofs.Common.{◌≡◌, ◌≢◌, ◌<◌, ◌++◌, ◌∷◌, ℕ, zero, suc, List, [], replicate, length-append, get_or, length, refl, sym, ap, subst, ◌∙◌, ◌+◌, ◌⊎◌, inl, inr, arith}
 use Rattle.std.specs.Global.{Vec}
 use Rattle.std.specs.Prelude.{slice_set}
 use Rattle.std.proofs.lemmas.Bool.{cases_order}
-use Rattle.std.proofs.lemmas.List.{length-map, length-replicate, get_or-map, get_or-set_other, get_or-set_same, map-set}
+use Rattle.std.proofs.lemmas.List.{length-map, length-replicate, map-append, replicate_more, get_or-map, get_or-set_other, get_or-set_same, map-set}
 use Rattle.ckrt_timeline.specs.declared.piece.Activity.{Activity}
 use Rattle.ckrt_timeline.specs.declared.piece.Activity.TheVariants as activity
 use Rattle.ckrt_timeline.specs.declared.piece.Piece.{Piece}
@@ -71,3 +71,7 @@ nothing_yet z is none =
 
 pub nothing_done : (z : Timeline) (i : ℕ) → tracks_of z.tracks.items ≡ replicate 64 [] → track_in z i ≡ []
 nothing_done z i is = ap laid (ap (λ (l : List (List Piece)). get_or l i []) is ∙ none_at 64 i)
+
+pub one_more : (vs : List (Vec Piece)) (v : Vec Piece) (n : ℕ) → tracks_of vs ≡ replicate n [] → v.items ≡ [] → tracks_of (vs ++ v ∷ []) ≡ replicate (n + 1) []
+one_more vs v n is none =
+    map-append (λ (w : Vec Piece). w.items) vs (v ∷ []) ∙ ap (λ (l : List (List Piece)). l ++ v.items ∷ []) is ∙ ap (λ (ps : List Piece). replicate n [] ++ ps ∷ []) none ∙ replicate_more n []

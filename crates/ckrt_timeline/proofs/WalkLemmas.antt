@@ -1,5 +1,5 @@
 -- What a thread does at the steps of a run, one after another.
-use Rattle.std.proofs.Common.{◌≡◌, ◌∙◌, ◌≤◌, ◌<◌, ◌+◌, ℕ, zero, suc, true, if◌then◌else◌, List, [], ◌∷◌, ◌++◌, length, replicate, Option, None, Some, is_some, refl, sym, ap, true≢false, arith}
+use Rattle.std.proofs.Common.{◌≡◌, ◌∙◌, ◌<◌, ◌+◌, ℕ, zero, suc, true, if◌then◌else◌, List, [], ◌∷◌, ◌++◌, replicate, Option, None, Some, is_some, refl, sym, ap, true≢false, arith}
 use Rattle.std.specs.List.{find}
 use Rattle.std.specs.Option.{option_flatten}
 use Rattle.std.specs.Prelude.{slice_get}
@@ -12,7 +12,6 @@ use Rattle.ckrt_trace.specs.Events.{state_behind}
 use Rattle.ckrt_timeline.specs.Quiet.{IsStill, is_quiet_after, standing}
 use Rattle.ckrt_timeline.proofs.QuietLemmas.{quiet_still}
 use Rattle.ckrt_trace.proofs.RunLemmas.{state_next}
-use Rattle.ckrt_timeline.specs.declared.piece.Activity.{Activity}
 use Rattle.ckrt_timeline.specs.declared.piece.Activity.TheVariants as activity
 use Rattle.ckrt_timeline.specs.Activities.{activity_of, aside, by_standing}
 use Rattle.ckrt_timeline.specs.Tracks.{in_rest, in_run, unless_ended}

@@ -1,5 +1,5 @@
 -- A whole picture, and the whole of trace events.
-use Rattle.std.specs.Prelude.{ℕ, zero, suc, ◌+◌, ◌*◌, ◌-◌, ◌/◌, ◌%◌, ◌==◌, ◌&&◌, Bool, true, false, if◌then◌else◌, List, [], ◌∷◌, ◌++◌, codes, decimal}
+use Rattle.std.specs.Prelude.{ℕ, ◌+◌, ◌*◌, ◌-◌, ◌/◌, ◌%◌, ◌==◌, ◌&&◌, Bool, true, if◌then◌else◌, List, [], ◌∷◌, ◌++◌, codes, decimal}
 use Rattle.ckrt_timeline.specs.declared.piece.Piece.{Piece}
 use Rattle.ckrt_timeline.specs.declared.words.Form.{Form}
 use Rattle.ckrt_timeline.specs.declared.words.Form.TheVariants as form
@@ -80,11 +80,12 @@ is_told c k = (k - c.first) % (c.events / STRIDES + 1) == 0
 abbrev pub place_of : Chart → (x : ℕ) → ℕ
 place_of c x = LEFT + x * inner c / (c.steps + 1)
 
-abbrev pub tick_text : Chart → (k x : ℕ) → List ℕ
-tick_text c k x = joined (
-    codes "<line class=\"tick\" x1=\"" ∷ decimal (place_of c x) ∷ codes "\" x2=\"" ∷ decimal (place_of c x)
-    ∷ codes "\" y1=\"74\" y2=\"" ∷ decimal (bottom c) ∷ codes "\"/><text text-anchor=\"middle\" fill=\"#555\" x=\"" ∷ decimal (place_of c x)
-    ∷ codes "\" y=\"" ∷ decimal (bottom c + 14) ∷ codes "\">" ∷ decimal k ∷ codes "</text>\n" ∷ [])
+-- at place x, down to y
+abbrev pub tick_text : (k x y : ℕ) → List ℕ
+tick_text k x y = joined (
+    codes "<line class=\"tick\" x1=\"" ∷ decimal x ∷ codes "\" x2=\"" ∷ decimal x
+    ∷ codes "\" y1=\"74\" y2=\"" ∷ decimal y ∷ codes "\"/><text text-anchor=\"middle\" fill=\"#555\" x=\"" ∷ decimal x
+    ∷ codes "\" y=\"" ∷ decimal (y + 14) ∷ codes "\">" ∷ decimal k ∷ codes "</text>\n" ∷ [])
 
 abbrev pub instant_text : (k x : ℕ) → List ℕ
 instant_text k x = joined (
@@ -92,7 +93,7 @@ instant_text k x = joined (
     ∷ codes ",\"pid\":1,\"tid\":0,\"s\":\"p\"}" ∷ [])
 
 abbrev pub mark_text : Form → Chart → (k x : ℕ) → List ℕ
-mark_text form.Picture c k x = if is_told c k then tick_text c k x else []
+mark_text form.Picture c k x = if is_told c k then tick_text k (place_of c x) (bottom c) else []
 mark_text form.Events c k x = instant_text k x
 
 -- of the events from k on, which begin behind so many steps

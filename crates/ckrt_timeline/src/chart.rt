@@ -1,7 +1,7 @@
 //! A whole picture, and the whole of trace events.
 ghost use Rattle.std.specs.Prelude.{◌≡◌, ◌≤◌, ◌<◌, ◌+◌, ◌^◌, ◌++◌, ℕ, OnOk, length};
 ghost use Rattle.std.specs.Io.KnownBytes.{Appends};
-ghost use Rattle.ckrt_timeline.specs.Charts.{LEGEND, STYLE, begin_text, bottom, chart_text, end_text, foot_text, head_text, inner, instant_text, is_blank, is_told, mark_text, marks_text, name_text, bars_text, page_text, place_of, row_text, rows_in, rows_text, tick_text};
+ghost use Rattle.ckrt_timeline.specs.Charts.{LEGEND, STYLE, begin_text, bottom, chart_text, end_text, foot_text, head_text, instant_text, is_blank, is_told, mark_text, marks_text, name_text, bars_text, page_text, place_of, row_text, rows_in, rows_text, tick_text};
 ghost use Rattle.ckrt_timeline.specs.Tracks.{AreUpTo};
 ghost use Rattle.ckrt_timeline.specs.Pieces.{laid, pieces_at, tracks_of};
 
@@ -10,13 +10,6 @@ use crate::part::{Part, write_parts};
 use crate::piece::{Activity, Piece};
 use crate::words::{Form, write_pieces};
 use std::io::{Result, Write};
-
-/// How wide the bars may be.
-fn inner(chart: &Chart) -> u64
-    ensures { result ≡ inner chart.now }
-{
-    u64::from(chart.width) - 100
-}
 
 /// Where the rows end.
 fn bottom(chart: &Chart) -> u64
@@ -68,7 +61,7 @@ fn write_bars<W: Write>(out: &mut W, chart: &Chart, thread: u64, top: u64) -> Re
             Part::Text(b"</text>\n<svg x=\"80\" y=\""),
             Part::Number(top),
             Part::Text(b"\" width=\""),
-            Part::Number(u64::from(chart.width) - 100),
+            Part::Number(chart.width - 100),
             Part::Text(b"\" height=\"16\" viewBox=\"0 0 "),
             Part::Number(chart.steps),
             Part::Text(b" 16\" preserveAspectRatio=\"none\">\n"),
@@ -93,13 +86,7 @@ fn write_name<W: Write>(out: &mut W, thread: u64) -> Result<()>
 }
 
 /// What stands before the pieces of a thread.
-fn write_head<W: Write>(
-    out: &mut W,
-    form: Form,
-    chart: &Chart,
-    thread: u64,
-    top: u64,
-) -> Result<()>
+fn write_head<W: Write>(out: &mut W, form: Form, chart: &Chart, thread: u64, top: u64) -> Result<()>
     requires { top ≤ 1616 }
     ensures { OnOk result (Appends (W.contents out.old) (W.contents out.new)
         (head_text form chart.now thread top)) }
@@ -151,12 +138,7 @@ fn write_row<W: Write>(
 }
 
 /// The rows of threads, the first of which is thread 1.
-fn write_rows<W: Write>(
-    out: &mut W,
-    form: Form,
-    chart: &Chart,
-    tracks: &[Vec<Piece>],
-) -> Result<()>
+fn write_rows<W: Write>(out: &mut W, form: Form, chart: &Chart, tracks: &[Vec<Piece>]) -> Result<()>
     requires many { length tracks.now ≤ 64 }
     requires few { (i : ℕ) → i < length tracks.now → length (laid (pieces_at tracks.now i)) < 2 ^ 64 }
     ensures { OnOk result (Appends (W.contents out.old) (W.contents out.new)
@@ -179,7 +161,7 @@ fn place_of(chart: &Chart, begin: u64) -> u64
     requires { begin ≤ chart.now.steps }
     ensures { result ≡ place_of chart.now begin }
 {
-    80 + (u128::from(begin) * u128::from(inner(chart)) / (u128::from(chart.steps) + 1)) as u64
+    80 + (u128::from(begin) * u128::from(chart.width - 100) / (u128::from(chart.steps) + 1)) as u64
 }
 
 /// Whether the number of an event is told.
@@ -190,14 +172,12 @@ fn is_told(chart: &Chart, event: u64) -> bool
     (event - chart.first) % (chart.events / 20 + 1) == 0
 }
 
-/// The tick of an event that begins behind so many steps.
-fn write_tick<W: Write>(out: &mut W, chart: &Chart, event: u64, begin: u64) -> Result<()>
-    requires { begin ≤ chart.now.steps }
+/// The tick of an event at a place, down to where the rows end.
+fn write_tick<W: Write>(out: &mut W, event: u64, place: u64, bottom: u64) -> Result<()>
+    requires { bottom ≤ 1616 }
     ensures { OnOk result (Appends (W.contents out.old) (W.contents out.new)
-        (tick_text chart.now event begin)) }
+        (tick_text event place bottom)) }
 {
-    let place = place_of(chart, begin);
-    let bottom = bottom(chart);
     write_parts(
         out,
         &[
@@ -251,7 +231,9 @@ fn write_mark<W: Write>(
 {
     match form {
         Form::Events => write_instant(out, event, begin),
-        Form::Picture if is_told(chart, event) => write_tick(out, chart, event, begin),
+        Form::Picture if is_told(chart, event) => {
+            write_tick(out, event, place_of(chart, begin), bottom(chart))
+        }
         Form::Picture => Ok(()),
     }
 }
@@ -280,11 +262,13 @@ fn write_page<W: Write>(out: &mut W, chart: &Chart) -> Result<()>
         out,
         &[
             Part::Text(b"<svg xmlns=\"http://www.w3.org/2000/svg\" width=\""),
-            Part::Number(u64::from(chart.width)),
+            Part::Number(chart.width),
             Part::Text(b"\" height=\""),
-            Part::Number(bottom(chart) + 24),
+            Part::Number(80 + 24 * chart.rows + 24),
             Part::Text(b"\" font-family=\"sans-serif\" font-size=\"12\">\n"),
-            Part::Text(b"<rect width=\"100%\" height=\"100%\" fill=\"white\"/>\n<text x=\"10\" y=\"20\" font-size=\"14\">events "),
+            Part::Text(
+                b"<rect width=\"100%\" height=\"100%\" fill=\"white\"/>\n<text x=\"10\" y=\"20\" font-size=\"14\">events ",
+            ),
             Part::Number(chart.first),
             Part::Text(b" to "),
             Part::Number(chart.first + chart.events),
@@ -302,8 +286,12 @@ fn write_style<W: Write>(out: &mut W) -> Result<()>
     write_parts(
         out,
         &[
-            Part::Text(b"<style>.running{fill:#2e7d32}.mutex{fill:#d32f2f}.condition{fill:#f9a825}.barrier{fill:#7b1fa2}"),
-            Part::Text(b".rwlock{fill:#ef6c00}.join{fill:#90a4ae}.input{fill:#0288d1}.sleep{fill:#80deea}"),
+            Part::Text(
+                b"<style>.running{fill:#2e7d32}.mutex{fill:#d32f2f}.condition{fill:#f9a825}.barrier{fill:#7b1fa2}",
+            ),
+            Part::Text(
+                b".rwlock{fill:#ef6c00}.join{fill:#90a4ae}.input{fill:#0288d1}.sleep{fill:#80deea}",
+            ),
             Part::Text(b".ready{fill:#616161}.ended{fill:#e0e0e0}.tick{stroke:#ccc}</style>\n"),
         ],
     )
@@ -316,16 +304,36 @@ fn write_legend<W: Write>(out: &mut W) -> Result<()>
     write_parts(
         out,
         &[
-            Part::Text(b"<rect class=\"running\" x=\"10\" y=\"30\" width=\"12\" height=\"12\"/><text x=\"26\" y=\"41\">running</text>\n"),
-            Part::Text(b"<rect class=\"mutex\" x=\"88\" y=\"30\" width=\"12\" height=\"12\"/><text x=\"104\" y=\"41\">mutex</text>\n"),
-            Part::Text(b"<rect class=\"condition\" x=\"166\" y=\"30\" width=\"12\" height=\"12\"/><text x=\"182\" y=\"41\">condition</text>\n"),
-            Part::Text(b"<rect class=\"barrier\" x=\"244\" y=\"30\" width=\"12\" height=\"12\"/><text x=\"260\" y=\"41\">barrier</text>\n"),
-            Part::Text(b"<rect class=\"rwlock\" x=\"322\" y=\"30\" width=\"12\" height=\"12\"/><text x=\"338\" y=\"41\">rwlock</text>\n"),
-            Part::Text(b"<rect class=\"join\" x=\"10\" y=\"48\" width=\"12\" height=\"12\"/><text x=\"26\" y=\"59\">join</text>\n"),
-            Part::Text(b"<rect class=\"input\" x=\"88\" y=\"48\" width=\"12\" height=\"12\"/><text x=\"104\" y=\"59\">input</text>\n"),
-            Part::Text(b"<rect class=\"sleep\" x=\"166\" y=\"48\" width=\"12\" height=\"12\"/><text x=\"182\" y=\"59\">sleep</text>\n"),
-            Part::Text(b"<rect class=\"ready\" x=\"244\" y=\"48\" width=\"12\" height=\"12\"/><text x=\"260\" y=\"59\">ready</text>\n"),
-            Part::Text(b"<rect class=\"ended\" x=\"322\" y=\"48\" width=\"12\" height=\"12\"/><text x=\"338\" y=\"59\">ended</text>\n"),
+            Part::Text(
+                b"<rect class=\"running\" x=\"10\" y=\"30\" width=\"12\" height=\"12\"/><text x=\"26\" y=\"41\">running</text>\n",
+            ),
+            Part::Text(
+                b"<rect class=\"mutex\" x=\"88\" y=\"30\" width=\"12\" height=\"12\"/><text x=\"104\" y=\"41\">mutex</text>\n",
+            ),
+            Part::Text(
+                b"<rect class=\"condition\" x=\"166\" y=\"30\" width=\"12\" height=\"12\"/><text x=\"182\" y=\"41\">condition</text>\n",
+            ),
+            Part::Text(
+                b"<rect class=\"barrier\" x=\"244\" y=\"30\" width=\"12\" height=\"12\"/><text x=\"260\" y=\"41\">barrier</text>\n",
+            ),
+            Part::Text(
+                b"<rect class=\"rwlock\" x=\"322\" y=\"30\" width=\"12\" height=\"12\"/><text x=\"338\" y=\"41\">rwlock</text>\n",
+            ),
+            Part::Text(
+                b"<rect class=\"join\" x=\"10\" y=\"48\" width=\"12\" height=\"12\"/><text x=\"26\" y=\"59\">join</text>\n",
+            ),
+            Part::Text(
+                b"<rect class=\"input\" x=\"88\" y=\"48\" width=\"12\" height=\"12\"/><text x=\"104\" y=\"59\">input</text>\n",
+            ),
+            Part::Text(
+                b"<rect class=\"sleep\" x=\"166\" y=\"48\" width=\"12\" height=\"12\"/><text x=\"182\" y=\"59\">sleep</text>\n",
+            ),
+            Part::Text(
+                b"<rect class=\"ready\" x=\"244\" y=\"48\" width=\"12\" height=\"12\"/><text x=\"260\" y=\"59\">ready</text>\n",
+            ),
+            Part::Text(
+                b"<rect class=\"ended\" x=\"322\" y=\"48\" width=\"12\" height=\"12\"/><text x=\"338\" y=\"59\">ended</text>\n",
+            ),
         ],
     )
 }
@@ -348,7 +356,9 @@ fn write_begin<W: Write>(out: &mut W, form: Form, chart: &Chart) -> Result<()>
 {
     match form {
         Form::Picture => write_opening(out, chart),
-        Form::Events => out.write_all(b"{\"traceEvents\":[\n{\"name\":\"process_name\",\"ph\":\"M\",\"pid\":1,\"args\":{\"name\":\"guest\"}}"),
+        Form::Events => out.write_all(
+            b"{\"traceEvents\":[\n{\"name\":\"process_name\",\"ph\":\"M\",\"pid\":1,\"args\":{\"name\":\"guest\"}}",
+        ),
     }
 }
 

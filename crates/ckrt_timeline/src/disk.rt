@@ -99,6 +99,7 @@ fn write_flushed<W: Write>(
     requires events { length begins.now ≤ chart.now.events }
     requires begins { AreUpTo chart.now.steps begins.now }
     requires whole { IsWhole timeline.now }
+    requires few { timeline.now.steps < 2 ^ 63 }
     ensures written { OnOk result (Appends (W.contents out.old) (W.contents out.new)
         (chart_text form chart.now begins.now (tracks_of timeline.now.tracks.items))) }
     ensures fault { IfErr result (λ e. e ≡ InspectFault.Write) }
@@ -136,7 +137,7 @@ fn write_timeline_of<W: Write>(
     let mut begins = Vec::new(alloc);
     watch_events(machine, events, &mut timeline, &mut begins)?;
     let chart = Chart {
-        width: style.width,
+        width: u64::from(style.width),
         first: count,
         events: events.len() as u64,
         steps: timeline.steps,

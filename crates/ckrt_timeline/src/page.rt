@@ -6,7 +6,7 @@ ghost use Rattle.ckrt_timeline.specs.Widths.{is_width};
 #[derive(Clone, Copy, Debug)]
 pub struct Chart {
     /// The picture's width, in pixels: 400 to 4,000.
-    pub width: u32,
+    pub width: u64,
     /// How many events are done before those that it shows.
     pub first: u64,
     /// How many it shows.

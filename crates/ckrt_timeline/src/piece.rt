@@ -51,7 +51,11 @@ fn push(pieces: &mut Vec<Piece>, activity: Activity, steps: u64) -> Result<(), A
 }
 
 /// So many steps more of an activity: of the last piece where that is of the same, else of a new one.
-pub(crate) fn extend(pieces: &mut Vec<Piece>, activity: Activity, steps: u64) -> Result<(), AllocError>
+pub(crate) fn extend(
+    pieces: &mut Vec<Piece>,
+    activity: Activity,
+    steps: u64,
+) -> Result<(), AllocError>
     requires some { 1 ≤ steps }
     requires few { length (laid pieces.old.items) + steps < 2 ^ 64 }
     ensures extended { OnOk result ((track : List Activity) → ArePieces track pieces.old.items

@@ -3,8 +3,8 @@ ghost use Rattle.std.specs.Prelude.{◌≡◌, None};
 ghost use Rattle.ckrt_machine.specs.Runs.{stop_of};
 ghost use Rattle.ckrt_timeline.specs.Quiet.{GoesQuietly};
 
-use ckrt_trace::{advance, is_quiet, is_stopped};
 use ckrt_machine::Machine;
+use ckrt_trace::{advance, is_quiet, is_stopped};
 
 /// Makes steps of a run that goes on, of the thread on a hart, as long as they are quiet, and at most so many: those that call nothing,
 /// return to no gate and act on no request, so that no wait begins or ends. The answer is how many were made: none where the next one

@@ -18,6 +18,7 @@ pub(crate) struct Timeline {
 }
 
 /// No steps yet.
+#[tactic(auto, using(crate::proofs::TrackLemmas::one_more))]
 pub(crate) fn no_steps(alloc: Global) -> Result<Timeline, AllocError>
     ensures whole { IfOk result (λ z. IsWhole z) }
     ensures none { IfOk result (λ z. z.steps ≡ 0) }

@@ -1,4 +1,4 @@
-use Rattle.std.proofs.Common.{◌≡◌, ◌≤◌, ◌+◌, drop}
+use Rattle.std.proofs.Common.{◌≡◌, ◌+◌, drop}
 use Rattle.ckrt_timeline.specs.Charts.{marks_text}
 use Rattle.ckrt_timeline.specs.Tracks.{AreUpTo}
 use Rattle.ckrt_trace.proofs.AppendLemmas.{Completes}

@@ -1,9 +1,5 @@
-use Rattle.std.proofs.Common.{◌≡◌, ◌∙◌, ◌≤◌, ◌<◌, ◌+◌, ◌∷◌, ◌++◌, [], ℕ, List, drop, length, slice_get, Some, refl, sym, ap, subst, arith}
-use Rattle.std.proofs.lemmas.List.{append-nil}
+use Rattle.std.proofs.Common.{◌≡◌, ◌∙◌, ◌<◌, ◌+◌, ◌∷◌, drop, length, slice_get, Some, refl, subst, arith}
 use Rattle.std.proofs.lemmas.Option.{slice_get_read}
-use Rattle.ckrt_events.specs.declared.event.Event.{Event}
-use Rattle.ckrt_machine.specs.Steps.{State}
-use Rattle.ckrt_machine.specs.Events.{step}
 use Rattle.ckrt_recording.proofs.WayLemmas.{IsOnWay, next_ahead, way_next}
 use Rattle.ckrt_timeline.proofs.EventLemmas.{begins_next, tracks_next}
 use Rattle.ckrt_timeline.proofs.disk.watch_events.Goals as goal

@@ -1,8 +1,6 @@
-use Rattle.std.proofs.Common.{rules, ◌≡◌, ◌≢◌, ◌≤◌, ◌+◌, ◌++◌, ◌∷◌, [], List, replicate, subst, sym, ap, ◌∙◌}
-use Rattle.std.specs.Result.{OnOk}
+use Rattle.std.proofs.Common.{rules, ◌≡◌, ◌≢◌, ◌+◌, ◌++◌, ◌∷◌, [], List, replicate, subst, sym, ap, ◌∙◌}
 use Rattle.ckrt_timeline.specs.declared.piece.Activity.{Activity}
-use Rattle.ckrt_timeline.specs.declared.piece.Piece.{Piece}
-use Rattle.ckrt_timeline.specs.Pieces.{ArePieces, laid}
+use Rattle.ckrt_timeline.specs.Pieces.{ArePieces}
 use Rattle.std.proofs.lemmas.Result.{on_ok_weaker}
 use Rattle.ckrt_timeline.proofs.PieceLemmas.{followed, grown, piece}
 use Rattle.ckrt_timeline.proofs.piece.extend.Goals as goal

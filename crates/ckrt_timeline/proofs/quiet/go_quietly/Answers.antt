@@ -1,4 +1,4 @@
-use Rattle.std.proofs.Common.{◌≡◌, ◌∙◌, ◌≤◌, ◌<◌, ◌+◌, ℕ, suc, Bool, true, false, Option, None, List, refl, sym, ap, arith}
+use Rattle.std.proofs.Common.{◌≡◌, ◌∙◌, ◌+◌, suc, true, None, sym, ap, arith}
 use Rattle.ckrt_machine.specs.Runs.{after_steps, stop_after, stop_of, with_byte}
 use Rattle.ckrt_machine.specs.Steps.{State, hart_of, hart_step}
 use Rattle.ckrt_trace.specs.Lines.{is_quiet}

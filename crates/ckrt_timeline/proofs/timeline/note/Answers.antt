@@ -1,5 +1,4 @@
-use Rattle.std.proofs.Common.{◌≡◌, ◌∙◌, ◌≤◌, ◌<◌, ◌+◌, ◌++◌, ℕ, List, get_or, length, replicate, refl, sym, ap, subst, arith}
-use Rattle.std.proofs.lemmas.Result.{on_ok_weaker}
+use Rattle.std.proofs.Common.{◌+◌, refl}
 use Rattle.ckrt_timeline.proofs.TrackLemmas.{goes_on}
 use Rattle.ckrt_timeline.proofs.timeline.note.Goals as goal
 

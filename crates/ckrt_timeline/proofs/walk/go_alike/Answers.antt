@@ -1,10 +1,10 @@
-use Rattle.std.proofs.Common.{◌≡◌, ◌∙◌, ◌≤◌, ◌<◌, ◌+◌, ◌-◌, ◌++◌, ◌∷◌, ℕ, suc, List, replicate, refl, sym, ap, arith}
+use Rattle.std.proofs.Common.{◌≡◌, ◌∙◌, ◌+◌, ◌-◌, ◌++◌, ◌∷◌, suc, replicate, sym, ap, arith}
 use Rattle.ckrt_machine.specs.Runs.{after_steps, with_byte}
 use Rattle.ckrt_machine.specs.Steps.{State, hart_step}
 use Rattle.ckrt_trace.specs.Events.{state_behind}
 use Rattle.ckrt_trace.proofs.RunLemmas.{state_next}
 use Rattle.ckrt_timeline.specs.Activities.{activity_of}
-use Rattle.ckrt_timeline.specs.Tracks.{GoesAlike, in_rest}
+use Rattle.ckrt_timeline.specs.Tracks.{in_rest}
 use Rattle.ckrt_timeline.proofs.WalkLemmas.{quiet_rest, quiet_state, rest_next}
 use Rattle.ckrt_timeline.proofs.walk.go_alike.Goals as goal
 

@@ -1,4 +1,4 @@
-use Rattle.std.proofs.Common.{rules, ◌≡◌, ◌∙◌, ◌≤◌, ◌<◌, ◌+◌, ◌-◌, ◌++◌, ℕ, List, get_or, replicate, sym, ap, append_assoc, arith}
+use Rattle.std.proofs.Common.{rules, ◌≡◌, ◌∙◌, ◌+◌, ◌-◌, ◌++◌, get_or, replicate, sym, ap, append_assoc}
 use Rattle.ckrt_state.specs.declared.table.Tables.{Tables}
 use Rattle.ckrt_timeline.specs.declared.piece.Activity.{Activity}
 use Rattle.ckrt_timeline.specs.declared.piece.Activity.TheVariants as activity

@@ -1,6 +1,5 @@
-use Rattle.std.proofs.Common.{rules, ◌≡◌, ◌∙◌, ◌≤◌, ◌<◌, ◌+◌, ◌-◌, ◌++◌, ℕ, List, sym, ap, true, arith}
+use Rattle.std.proofs.Common.{◌≡◌, ◌∙◌, ◌+◌, ◌++◌, sym, ap, arith}
 use Rattle.std.proofs.lemmas.List.{append-nil}
-use Rattle.ckrt_machine.specs.Steps.{State}
 use Rattle.ckrt_trace.specs.Events.{state_behind}
 use Rattle.ckrt_trace.proofs.RunLemmas.{state_ended, state_used}
 use Rattle.ckrt_timeline.specs.Tracks.{in_rest, track_in}

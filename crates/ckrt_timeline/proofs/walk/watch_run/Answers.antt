@@ -1,7 +1,6 @@
-use Rattle.std.proofs.Common.{rules, ◌≡◌, ◌∙◌, ◌≤◌, ◌<◌, ◌+◌, ◌-◌, ◌∷◌, ◌++◌, [], ℕ, suc, List, get_or, replicate, sym, ap, append_assoc, arith}
+use Rattle.std.proofs.Common.{◌≡◌, ◌∙◌, ◌+◌, ◌-◌, ◌∷◌, ◌++◌, [], ℕ, suc, get_or, ap, append_assoc, arith}
 use Rattle.std.proofs.lemmas.Result.{on_ok_weaker}
-use Rattle.ckrt_machine.specs.Runs.{run_on, with_byte}
-use Rattle.ckrt_machine.specs.Steps.{State, hart_step}
+use Rattle.ckrt_machine.specs.Runs.{run_on}
 use Rattle.ckrt_state.specs.declared.table.Tables.{Tables}
 use Rattle.ckrt_trace.proofs.RunLemmas.{run_is}
 use Rattle.ckrt_trace.specs.Events.{state_behind}

@@ -1,4 +1,4 @@
-use Rattle.std.proofs.Common.{◌≡◌, ◌≤◌, ◌+◌, drop, length, take}
+use Rattle.std.proofs.Common.{◌≡◌, ◌+◌, drop, length}
 use Rattle.ckrt_timeline.specs.Pieces.{laid}
 use Rattle.ckrt_timeline.specs.Texts.{pieces_text}
 use Rattle.ckrt_trace.proofs.AppendLemmas.{Completes}
