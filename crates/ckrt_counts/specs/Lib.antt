@@ -1,0 +1,6 @@
+pub mod Turns
+pub mod Stacks
+pub mod Words
+pub mod Waits
+pub mod Counts
+pub mod Laws
