@@ -1,14 +1,21 @@
 -- The row that is looked for.
-use Rattle.std.proofs.Common.{◌≡◌, ◌<◌, ◌≤◌, ℕ, zero, suc, ◌+◌, Bool, true, false, if◌then◌else◌, List, [], ◌∷◌, length, drop, get_or, slice_get, Some, refl, sym, ap, ◌∙◌, arith}
+use Rattle.std.proofs.Common.{◌≡◌, ◌<◌, ◌≤◌, ℕ, zero, suc, ◌+◌, nat_lt, Bool, true, false, if◌then◌else◌, List, [], ◌∷◌, length, drop, get_or, slice_get, Some, refl, sym, ap, ◌∙◌, arith}
 use Rattle.std.proofs.lemmas.Option.{slice_get-get_or}
 use Rattle.ckrt_counts.specs.declared.row.Base.{Base}
 use Rattle.ckrt_counts.specs.declared.row.Row.{Row}
 use Rattle.ckrt_counts.specs.declared.waits.Awaited.{Awaited}
 use Rattle.ckrt_counts.specs.declared.waits.Waited.{Waited}
+use Rattle.std.proofs.lemmas.Bool.Decides.{nat_tests}
+use Rattle.std.specs.List.{insert}
+use Rattle.ckrt_counts.specs.declared.shares.Share.{Share}
+use Rattle.ckrt_counts.specs.Shares.{placed, rank_of}
 use Rattle.ckrt_counts.specs.Stacks.{is_row, place_of}
 use Rattle.ckrt_counts.specs.Waits.{is_waited, wait_place}
 
 -- THE FIRST OF A LIST THAT MEETS A TEST, by its number
+
+abbrev pub has_fewer : ℕ → Share → Bool
+has_fewer n y = nat_lt y.steps n
 
 abbrev pub first : {X : Type 0} → (X → Bool) → List X → ℕ
 first test [] = 0
@@ -71,6 +78,35 @@ row_further b p rs i r read lt is =
 
 pub no_row_ahead : (b : Base) (p : ℕ) (rs : List Row) (i : ℕ) → length rs ≤ i → place_of b p (drop i rs) ≡ 0
 no_row_ahead b p rs i le = place_is_first b p (drop i rs) ∙ none_ahead (is_row b p) rs i le
+
+-- A SHARE
+
+rank_is_first : (n : ℕ) (ys : List Share) → rank_of n ys ≡ first (has_fewer n) ys
+rank_is_first n [] = refl
+rank_is_first n (y ∷ ys) = ap (λ m. if nat_lt y.steps n then 0 else suc m) (rank_is_first n ys)
+
+pub rank_here : (n : ℕ) (ys : List Share) (i : ℕ) (y : Share) → y ≡ get_or ys i y → i < length ys → y.steps < n → rank_of n (drop i ys) ≡ 0
+rank_here n ys i y read lt is = rank_is_first n (drop i ys) ∙ here (has_fewer n) ys i y (read_at ys i y read lt) (grind (arith, nat_tests, is))
+
+pub rank_further : (n : ℕ) (ys : List Share) (i : ℕ) (y : Share) → y ≡ get_or ys i y → i < length ys → n ≤ y.steps → rank_of n (drop i ys) ≡ suc (rank_of n (drop (i + 1) ys))
+rank_further n ys i y read lt is =
+    rank_is_first n (drop i ys) ∙ not_here (has_fewer n) ys i y (read_at ys i y read lt) (grind (arith, nat_tests, is))
+    ∙ ap suc (ap (λ j. first (has_fewer n) (drop j ys)) (sym one) ∙ sym (rank_is_first n (drop (i + 1) ys)))
+  where
+    one : i + 1 ≡ suc i
+    one = omega arith
+
+pub no_rank_ahead : (n : ℕ) (ys : List Share) (i : ℕ) → length ys ≤ i → rank_of n (drop i ys) ≡ 0
+no_rank_ahead n ys i le = rank_is_first n (drop i ys) ∙ none_ahead (has_fewer n) ys i le
+
+-- it is placed at its rank
+pub placed_there : (x : Share) (ys : List Share) → insert ys (rank_of x.steps ys) x ≡ placed x ys
+placed_there x [] = refl
+placed_there x (y ∷ ys) = go (nat_lt y.steps x.steps) (placed_there x ys)
+  where
+    go : (t : Bool) → insert ys (rank_of x.steps ys) x ≡ placed x ys → insert (y ∷ ys) (if t then 0 else suc (rank_of x.steps ys)) x ≡ (if t then x ∷ y ∷ ys else y ∷ placed x ys)
+    go true rest = refl
+    go false rest = ap (λ l. y ∷ l) rest
 
 -- A WAIT
 

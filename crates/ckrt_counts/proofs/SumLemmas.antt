@@ -20,7 +20,7 @@ use Rattle.ckrt_counts.specs.declared.turn.Turn.{Turn}
 use Rattle.ckrt_counts.specs.declared.turn.Turn.TheVariants as turn
 use Rattle.ckrt_counts.specs.declared.words.Word.{Word}
 use Rattle.ckrt_counts.specs.Stacks as stacks
-use Rattle.ckrt_counts.specs.Stacks.{Counted, Entered, Stacks, arrived, begin, bottom, counted, counted_at, entered, entered_at, first_row, frame_of, left, next_frame, no_stacks, one_more, place_of, row_at, stepped, with_row}
+use Rattle.ckrt_counts.specs.Stacks.{Counted, Entered, Stacks, arrived, begin, bottom, counted, counted_at, entered, entered_at, first_row, frame_of, left, met_frame, next_frame, no_stacks, one_more, place_of, row_at, stepped, with_row}
 use Rattle.ckrt_counts.specs.Words.{Words, no_word, no_words, word_behind, word_of, word_stepped, word_stepped_at}
 use Rattle.ckrt_counts.specs.Counts.{Counts, behind, behind_all, nothing, number_of}
 use Rattle.ckrt_counts.specs.Laws.{CountsSteps, EachStepCountsOnce, steps_in}
@@ -173,8 +173,25 @@ step_once s c n less is =
       threads = length-set c.stacks.frames t (next_frame f (arrived t s.pc f.position f.last c.stacks.rows).position s.turn) ∙ is.threads;
     }
 
+-- a thread that is met makes no step
+met_same : (t p : ℕ) (c : Counts) (n : ℕ) → IsCounted c n → IsCounted (behind (note.Met t p) c) n
+met_same thread p c n is =
+    let t = number_of thread in
+    let f = frame_of t c.stacks in
+    let e = entered (bottom t) p c.stacks.rows in
+    let there : t < length c.stacks.frames = omega (arith, number_small thread, is.threads) in
+    record {
+      sums = record {
+        by_address = is.sums.by_address;
+        by_stack = ap (λ m. m + c.stacks.unkept) (entry_same (bottom t) p c.stacks.rows) ∙ is.sums.by_stack;
+        by_thread = set_same (λ (x : Frame). x.steps) c.stacks.frames t f (met_frame f e.position p) (read_frame c.stacks.frames t there) refl ∙ is.sums.by_thread;
+      };
+      threads = length-set c.stacks.frames t (met_frame f e.position p) ∙ is.threads;
+    }
+
 all_once : (ns : List Note) (c : Counts) (n : ℕ) → n + steps_in ns < 18446744073709551616 → IsCounted c n → IsCounted (behind_all ns c) (n + steps_in ns)
 all_once [] c n less is = subst (IsCounted c) (omega arith) is
+all_once (note.Met t p ∷ ns) c n less is = all_once ns (behind (note.Met t p) c) n less (met_same t p c n is)
 all_once (note.Step s ∷ ns) c n less is =
     subst (IsCounted (behind_all ns (behind (note.Step s) c))) (omega arith)
     (all_once ns (behind (note.Step s) c) (suc n) (omega (arith, less)) (step_once s c n (omega (arith, less)) is))

@@ -1,4 +1,4 @@
--- All that is counted, note by note: a step of a thread, a thread that waits, and the end of a look at all who wait.
+-- All that is counted, note by note: a thread that is met, a step of a thread, a thread that waits, and the end of a look at all who wait.
 use Rattle.std.specs.Prelude.{ℕ, nat_lt, if◌then◌else◌, List, [], ◌∷◌}
 use Rattle.ckrt_counts.specs.declared.counts.Note.{Note}
 use Rattle.ckrt_counts.specs.declared.counts.Note.TheVariants as note
@@ -7,7 +7,7 @@ use Rattle.ckrt_counts.specs.declared.stacks.Stacks as declared_stacks
 use Rattle.ckrt_counts.specs.declared.stacks.TheConstants.{THREADS}
 use Rattle.ckrt_counts.specs.declared.words.Words as declared_words
 use Rattle.ckrt_counts.specs.declared.waits.Waits as declared_waits
-use Rattle.ckrt_counts.specs.Stacks.{Stacks, frame_of, is_entry, no_stacks, stepped}
+use Rattle.ckrt_counts.specs.Stacks.{Stacks, frame_of, is_entry, met, no_stacks, stepped}
 use Rattle.ckrt_counts.specs.Words.{Words, no_words, word_stepped}
 use Rattle.ckrt_counts.specs.Waits.{Waits, looked, no_waits, passed, waited}
 
@@ -38,6 +38,7 @@ behind_step t s c = record {
 }
 
 abbrev pub behind : Note → Counts → Counts
+behind (note.Met t p) c = record c { stacks = met (number_of t) p c.stacks }
 behind (note.Step s) c = behind_step (number_of s.thread) s c
 behind (note.Wait t a) c = record c { waits = waited t a c.waits }
 behind note.Looked c = record c { waits = looked c.waits }
@@ -47,6 +48,6 @@ abbrev pub behind_all : List Note → Counts → Counts
 behind_all [] c = c
 behind_all (n ∷ ns) c = behind_all ns (behind n c)
 
--- nothing was done yet in a memory of so many words, from address 0 on
+-- nothing was done yet in a memory of so many words
 abbrev pub nothing : (words : ℕ) → Counts
 nothing n = record { words = no_words n; stacks = no_stacks; waits = no_waits }

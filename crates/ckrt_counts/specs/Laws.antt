@@ -8,6 +8,7 @@ use Rattle.ckrt_counts.specs.Counts.{Counts, behind_all, nothing}
 -- how many steps were made
 abbrev pub steps_in : List Note → ℕ
 steps_in [] = 0
+steps_in (note.Met t p ∷ ns) = steps_in ns
 steps_in (note.Step s ∷ ns) = 1 + steps_in ns
 steps_in (note.Wait t a ∷ ns) = steps_in ns
 steps_in (note.Looked ∷ ns) = steps_in ns

@@ -3,4 +3,5 @@ pub mod Stacks
 pub mod Words
 pub mod Waits
 pub mod Counts
+pub mod Shares
 pub mod Laws

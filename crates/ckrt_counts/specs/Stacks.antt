@@ -153,5 +153,19 @@ abbrev pub stepped : (t p : ℕ) → Turn → Stacks → Stacks
 stepped t p u s =
     stepped_from t u (frame_of t s) (arrived t p (frame_of t s).position (frame_of t s).last s.rows) s
 
+-- A thread that made steps before, whose next is at p: its stack begins there, by no call
+abbrev pub met_frame : Frame → Position → (p : ℕ) → Frame
+met_frame f q p = record { position = q; last = Some (turn.Runtime p); steps = f.steps }
+
+abbrev pub met_at : (t p : ℕ) → Entered → Stacks → Stacks
+met_at t p e s = record {
+  rows = e.rows;
+  unkept = s.unkept;
+  frames = slice_set s.frames t (met_frame (frame_of t s) e.position p);
+}
+
+abbrev pub met : (t p : ℕ) → Stacks → Stacks
+met t p s = met_at t p (entered (bottom t) p s.rows) s
+
 abbrev pub no_stacks : Stacks
 no_stacks = record { rows = []; unkept = 0; frames = replicate 65 begin }

@@ -1,15 +1,16 @@
 -- How many steps were made at each address, and how often a function was called that begins there.
-use Rattle.std.specs.Prelude.{ℕ, ◌+◌, ◌/◌, Bool, true, false, if◌then◌else◌, List, slice_get, slice_set, replicate, Option, Some, None}
+use Rattle.std.specs.Prelude.{ℕ, ◌+◌, ◌/◌, ◌%◌, Bool, true, false, if◌then◌else◌, List, slice_get, slice_set, replicate, Option, Some, None}
 use Rattle.ckrt_counts.specs.declared.words.Word.{Word}
 use Rattle.ckrt_counts.specs.Stacks.{one_more}
 
--- of each word from address 0 on; and how many steps were made beyond these
+-- of each word of memory, from 4,096 on; and how many steps were made elsewhere: at a gate, or at an address that has no word
 pub record Words : Type 0 where
   pub words : List Word
   pub outside : ℕ
 
+-- the number of the word at an address: those below 4,096 have none
 abbrev pub word_of : (pc : ℕ) → ℕ
-word_of pc = pc / 4
+word_of pc = (pc + 4294963200) % 4294967296 / 4
 
 abbrev pub word_behind : (is_entry : Bool) → Word → Word
 word_behind e w = record {

@@ -1,6 +1,7 @@
 //! All that is counted.
 ghost use Rattle.std.specs.Prelude.{◌≡◌, IfOk};
 ghost use Rattle.ckrt_counts.specs.Counts.{number_of};
+ghost use Rattle.ckrt_counts.specs.declared.counts.Note.TheVariants as note;
 
 use crate::row::Row;
 use crate::stacks::{Frame, Stacks, THREADS};
@@ -23,6 +24,8 @@ pub struct Step {
 /// What is counted.
 #[derive(Clone, Copy, Debug, Drop)]
 pub enum Note {
+    /// A thread is under way, and its next step is at this address.
+    Met(u8, u32),
     /// A step was made.
     Step(Step),
     /// A thread waits for something, and has since waits were looked at.
@@ -65,7 +68,7 @@ fn number_of(thread: u8) -> u8
 impl Counts {
     ghost use Rattle.ckrt_counts.specs.Counts.{behind, behind_step, nothing};
 
-    /// Nothing was done yet in a memory of so many words, from address 0 on. It takes 16 bytes for each of these, and 60 KB.
+    /// Nothing was done yet in a memory of so many words. It takes 16 bytes for each of these, and 60 KB.
     ///
     /// # Errors
     ///
@@ -78,6 +81,13 @@ impl Counts {
             stacks: Stacks::new(alloc)?,
             waits: Waits::new(alloc)?,
         })
+    }
+
+    /// A thread is under way, and its next step is at this address.
+    fn meet(&mut self, thread: u8, pc: u32)
+        ensures { self.new ≡ behind (note.Met thread pc) self.old }
+    {
+        self.stacks.meet(number_of(thread), pc);
     }
 
     /// A step was made.
@@ -95,20 +105,21 @@ impl Counts {
         ensures { self.new ≡ behind note.now self.old }
     {
         match note {
+            Note::Met(thread, pc) => self.meet(*thread, *pc),
             Note::Step(step) => self.step(step),
             Note::Wait(thread, awaited) => self.waits.wait(*thread, *awaited),
             Note::Looked => self.waits.look(),
         }
     }
 
-    /// What was counted of each word of memory, from address 0 on.
+    /// What was counted of each word of memory, from 4,096 on.
     pub fn words(&self) -> &[Word]
         ensures { result.now ≡ self.now.words.words }
     {
         self.words.words.as_slice()
     }
 
-    /// How many steps were made beyond the memory: at a gate.
+    /// How many steps were made elsewhere: at a gate, or at an address that has no word.
     pub fn outside(&self) -> u64
         ensures { result ≡ self.now.words.outside }
     {

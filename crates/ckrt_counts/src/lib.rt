@@ -7,6 +7,7 @@
 mod counts;
 mod laws;
 mod row;
+mod shares;
 mod stacks;
 mod turn;
 mod waits;
@@ -15,7 +16,8 @@ mod words;
 pub use counts::{Counts, Note, Step};
 pub use laws::each_step_counts_once;
 pub use row::{Base, Position, ROWS, Row};
+pub use shares::{Share, Subject, functions_of, rank, steps_of, threads_of, total_of, waits_of};
 pub use stacks::{Frame, THREADS};
 pub use turn::{Turn, turn_of};
 pub use waits::{Awaited, WAITS, Waited};
-pub use words::Word;
+pub use words::{FIRST, Word};

@@ -95,7 +95,7 @@ fn is_entry(pc: u32, last: Option<Turn>) -> bool
 
 impl Stacks {
     ghost use Rattle.std.specs.Prelude.{get_or};
-    ghost use Rattle.ckrt_counts.specs.Stacks.{frame_of, no_stacks, stepped};
+    ghost use Rattle.ckrt_counts.specs.Stacks.{frame_of, met, no_stacks, stepped};
     ghost use Rattle.ckrt_counts.specs.Counts.{stacks_in};
 
     /// No step was made yet.
@@ -107,6 +107,21 @@ impl Stacks {
             unkept: 0,
             frames: [BEGIN; THREADS],
         })
+    }
+
+    /// A thread that made steps before, whose next one is at `pc`.
+    pub(crate) fn meet(&mut self, thread: u8, pc: u32)
+        requires { thread < threads_limit }
+        ensures { stacks_in self.new ≡ met thread pc (stacks_in self.old) }
+    {
+        let place = usize::from(thread);
+        let steps = self.frames[place].steps;
+        let position = enter(&mut self.rows, bottom(thread), pc);
+        self.frames[place] = Frame {
+            position,
+            last: Some(Turn::Runtime(pc)),
+            steps,
+        };
     }
 
     /// A step of a thread, at the instruction at `pc`, from which it goes on so. The answer is whether that is the first of a function

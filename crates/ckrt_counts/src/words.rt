@@ -13,12 +13,15 @@ pub struct Word {
     pub calls: u64,
 }
 
-/// What was counted of each word from address 0 on, and how many steps were made beyond these.
+/// What was counted of each word of memory, from 4,096 on, and how many steps were made elsewhere.
 #[derive(Drop)]
 pub(crate) struct Words {
     pub(crate) words: Vec<Word>,
     pub(crate) outside: u64,
 }
+
+/// The address of the first word of memory.
+pub const FIRST: u32 = 4096;
 
 /// Nothing was counted.
 const NO_WORD: Word = Word { steps: 0, calls: 0 };
@@ -68,7 +71,7 @@ impl Words {
     pub(crate) fn step(&mut self, pc: u32, is_entry: bool)
         ensures { words_in self.new ≡ word_stepped pc is_entry (words_in self.old) }
     {
-        let place = (pc / 4) as usize;
+        let place = (pc.wrapping_sub(FIRST) / 4) as usize;
         if place < self.words.len() {
             self.words[place] = word_behind(self.words[place], is_entry);
         } else {

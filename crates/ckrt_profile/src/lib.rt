@@ -1,0 +1,12 @@
+//! Where the steps of a guest went: its functions, its stacks of calls and its threads by steps, and how long threads waited for what.
+//!
+//! [`write_profile`] goes over the events that a disk has recorded, or a stretch of them, step by step, and writes what it counted.
+#![tactic(auto)]
+
+mod disk;
+mod texts;
+mod walk;
+
+pub use disk::write_profile;
+pub use texts::Form;
+pub use walk::count_event;
