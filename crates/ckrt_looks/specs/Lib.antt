@@ -1,3 +1,4 @@
 pub mod Debugging
 pub mod Looking
+pub mod Profiling
 pub mod Tellings

@@ -1,10 +1,12 @@
-//! The jobs that look back at what a disk has recorded: telling its calls and its data races, and serving it to a debugger.
+//! The jobs that look back at what a disk has recorded: telling its calls, its data races and where its steps went, and serving it to a debugger.
 //!
 //! Proved of [`calls_path`]: the disk is only read, and closed as it was then; what was written are the lines of the events that it
 //! has recorded, all or a stretch of them; where it hasn't recorded all of that stretch, the fault is Unrecorded; Range comes exactly
 //! where the stretch would end before it begins.
 //!
 //! Proved of [`races_path`]: the same of the pairs of places that race.
+//!
+//! Proved of [`profile_path`]: the same of where the steps went, in each form.
 //!
 //! Proved of [`debug_path`]: the disk is only read, and closed as it was then; the session begins with what its content has recorded,
 //! where the words ask; what was written is what the session says of what was read, or a beginning of it where it broke off. That the
@@ -15,9 +17,11 @@ mod calls;
 mod debug;
 mod laws;
 mod looking;
+mod profile;
 mod races;
 
 pub use calls::calls_path;
 pub use debug::debug_path;
 pub use laws::recorded_events_are_accepted;
+pub use profile::profile_path;
 pub use races::races_path;

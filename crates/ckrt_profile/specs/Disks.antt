@@ -9,7 +9,7 @@ use Rattle.ckrt_inspect.specs.declared.fault.InspectFault.TheVariants.{Range}
 use Rattle.ckrt_trace.specs.declared.disk.Stretch.{Stretch}
 use Rattle.ckrt_trace.specs.Disks.{IsEventsFault, IsFaultOf, IsWithin, events_of, last_of, state_of}
 use Rattle.ckrt_counts.specs.Counts.{Counts, behind_all, nothing}
-use Rattle.ckrt_profile.specs.declared.texts.Form.{Form}
+use Rattle.ckrt_profile.specs.declared.form.Form.{Form}
 use Rattle.ckrt_profile.specs.Steps.{notes}
 use Rattle.ckrt_profile.specs.Texts.{profile_text}
 

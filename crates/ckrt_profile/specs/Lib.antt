@@ -1,3 +1,4 @@
 pub mod Steps
+pub mod Callgrind
 pub mod Texts
 pub mod Disks

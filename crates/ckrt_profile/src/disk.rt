@@ -1,5 +1,5 @@
 //! The profile of a disk's program.
-ghost use Rattle.std.specs.Prelude.{◌≡◌, ◌<◌, ◌+◌, ◌^◌, IfErr, OnOk, length};
+ghost use Rattle.std.specs.Prelude.{◌≡◌, ◌⊎◌, ◌<◌, ◌+◌, ◌^◌, IfErr, OnOk, length};
 ghost use Rattle.std.specs.Bool.{OnFalse, OnTrue};
 ghost use Rattle.std.specs.Io.KnownBytes.{Appends};
 ghost use Rattle.ckrt_disk.specs.Frame.{IsOnlyRead};
@@ -11,7 +11,7 @@ ghost use Rattle.ckrt_profile.specs.Disks.{Profiles, ProfilesIn, text_of, words_
 ghost use Rattle.ckrt_profile.specs.Steps.{notes, of_events};
 ghost use Rattle.ckrt_profile.specs.Texts.{profile_text};
 
-use crate::texts::{Form, write_form};
+use crate::form::{Form, write_form};
 use crate::walk::{count_event, look_last, meet_all};
 use ckrt_counts::Counts;
 use ckrt_disk::Disk;

@@ -3,10 +3,14 @@
 //! [`write_profile`] goes over the events that a disk has recorded, or a stretch of them, step by step, and writes what it counted.
 #![tactic(auto)]
 
+mod callgrind;
 mod disk;
+mod folded;
+mod form;
+mod table;
 mod texts;
 mod walk;
 
 pub use disk::write_profile;
-pub use texts::Form;
+pub use form::Form;
 pub use walk::count_event;

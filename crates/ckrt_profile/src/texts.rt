@@ -1,27 +1,14 @@
 //! A profile as text.
-ghost use Rattle.std.specs.Prelude.{◌≡◌, ◌⊎◌, ◌<◌, ◌≤◌, ◌++◌, List, ℕ, codes, length, IfErr, OnOk};
+ghost use Rattle.std.specs.Prelude.{◌≡◌, ◌≤◌, ◌++◌, codes, OnOk};
 ghost use Rattle.std.specs.List.{flat_map};
 ghost use Rattle.std.specs.Io.KnownBytes.{Appends};
-ghost use Rattle.ckrt_counts.specs.Shares.{functions};
-ghost use Rattle.ckrt_profile.specs.Texts.{awaited_text, base_text, folded_text, functions_text, head_text, hundredths, line_of, others_line, padded, percent_text, profile_text, row_line, share_line, share_text, stack_line, subject_text, table_of, table_text, threads_text, top_text, two_digits, waits_text};
+ghost use Rattle.ckrt_inspect.specs.Texts.{hex_text};
+ghost use Rattle.ckrt_counts.specs.Shares.{steps_of as shares_steps};
+ghost use Rattle.ckrt_profile.specs.Texts.{awaited_text, function_text, head_text, hundredths, line_of, padded, percent_text, section_text, share_line, share_text, subject_text, top_text, two_digits, wait_text};
 
-use ckrt_counts::{
-    Awaited, Base, Counts, Row, Share, Subject, functions_of, rank, steps_of, threads_of, total_of,
-    waits_of,
-};
-use ckrt_inspect::InspectFault;
+use ckrt_counts::{Awaited, Share, Subject, steps_of};
 use ckrt_trace::{write_counted, write_hex, write_number};
-use std::alloc::Global;
 use std::io::{Result, Write};
-
-/// In which form a profile is told.
-#[derive(Clone, Copy, Debug, Drop, PartialEq, Eq)]
-pub enum Form {
-    /// A table of the functions, threads and waits with the most steps.
-    Table,
-    /// A line for each stack of calls.
-    Folded,
-}
 
 /// Twenty spaces.
 const SPACES: [u8; 20] = *b"                    ";
@@ -105,7 +92,7 @@ fn write_awaited<W: Write>(out: &mut W, awaited: Awaited) -> Result<()>
         Awaited::Sleep => out.write_all(b"sleep"),
         Awaited::Join(thread) => write_counted(out, b"join ", u64::from(thread)),
         Awaited::Mutex(address) => write_at(out, b"mutex ", address),
-        Awaited::Condition(address) => write_at(out, b"condition ", address),
+        Awaited::Condition(address) => write_at(out, b"cond ", address),
         Awaited::Barrier(address) => write_at(out, b"barrier ", address),
         Awaited::Read(address) => write_at(out, b"read ", address),
         Awaited::Write(address) => write_at(out, b"write ", address),
@@ -117,8 +104,9 @@ fn write_awaited<W: Write>(out: &mut W, awaited: Awaited) -> Result<()>
 fn write_function<W: Write>(out: &mut W, entry: u32, calls: u64) -> Result<()>
     ensures { OnOk result
         (Appends (W.contents out.old) (W.contents out.new)
-        (subject_text (subjects.Function entry calls))) }
+        (function_text entry calls)) }
 {
+    out.write_all(b"pc ")?;
     write_hex(out, entry)?;
     write_counted(out, b", calls ", calls)
 }
@@ -128,7 +116,7 @@ fn write_function<W: Write>(out: &mut W, entry: u32, calls: u64) -> Result<()>
 fn write_wait<W: Write>(out: &mut W, thread: u8, awaited: Awaited) -> Result<()>
     ensures { OnOk result
         (Appends (W.contents out.old) (W.contents out.new)
-        (subject_text (subjects.Wait thread awaited))) }
+        (wait_text thread awaited)) }
 {
     write_counted(out, b"thread ", u64::from(thread))?;
     out.write_all(b" waits ")?;
@@ -186,4 +174,66 @@ fn write_lines<W: Write>(out: &mut W, all: u64, shares: &[Share]) -> Result<()>
         write_line(out, all, share)?;
     }
     Ok(())
+}
+
+/// How many shares have a line of their own.
+const TOP: usize = 20;
+
+/// The first of shares, and the steps of the others.
+#[tactic(auto, using(ckrt_trace::proofs::AppendLemmas::appends_both))]
+fn write_parts<W: Write>(out: &mut W, all: u64, first: &[Share], others: &[Share]) -> Result<()>
+    ensures { OnOk result
+        (Appends (W.contents out.old) (W.contents out.new)
+        (flat_map (share_line all) first.now
+        ++ line_of all (shares_steps others.now) (codes "others"))) }
+{
+    write_lines(out, all, first)?;
+    write_word_line(out, all, steps_of(others), b"others")
+}
+
+/// The shares with the most steps, which stand first.
+#[tactic(auto, using(std::proofs::lemmas::List::take_min, std::proofs::lemmas::List::drop_min))]
+fn write_top<W: Write>(out: &mut W, all: u64, shares: &[Share]) -> Result<()>
+    ensures { OnOk result
+        (Appends (W.contents out.old) (W.contents out.new) (top_text all shares.now)) }
+{
+    let (first, others) = shares.split_at(TOP.min(shares.len()));
+    write_parts(out, all, first, others)
+}
+
+/// The names of the columns.
+#[tactic(auto, using(ckrt_trace::proofs::AppendLemmas::appends_both))]
+fn write_head<W: Write>(out: &mut W, head: &[u8]) -> Result<()>
+    ensures { OnOk result
+        (Appends (W.contents out.old) (W.contents out.new) (head_text head.now)) }
+{
+    out.write_all(b"\n  share             steps  ")?;
+    out.write_all(head)?;
+    out.write_all(b"\n")
+}
+
+/// What a section of the table is of, and the steps of no share, with a word for them.
+#[derive(Clone, Copy, Drop)]
+pub(crate) struct Section<'a> {
+    pub(crate) head: &'a [u8],
+    pub(crate) shares: &'a [Share],
+    pub(crate) rest: u64,
+    pub(crate) word: &'a [u8],
+}
+
+/// A section of the table.
+#[tactic(auto, using(ckrt_trace::proofs::AppendLemmas::appends_both))]
+pub(crate) fn write_section<W: Write>(
+    out: &mut W,
+    all: u64,
+    section: &Section<'_>,
+) -> Result<()>
+    ensures { OnOk result
+        (Appends (W.contents out.old) (W.contents out.new)
+        (section_text all section.now.head.now section.now.shares.now section.now.rest
+        section.now.word.now)) }
+{
+    write_head(out, section.head)?;
+    write_top(out, all, section.shares)?;
+    write_word_line(out, all, section.rest, section.word)
 }

@@ -16,7 +16,7 @@ use ckrt_machine::Machine;
 use ckrt_memory::Memory;
 use ckrt_rv32i::{Bus, Size};
 use ckrt_state::Tables;
-use ckrt_thread::{MAX_THREADS, Reason, Wait};
+use ckrt_thread::{Reason, Wait};
 use ckrt_trace::{advance, is_quiet, is_stopped};
 
 /// What is waited for.
@@ -119,19 +119,20 @@ fn count_step(machine: &mut Machine, hart: u8, is_first: bool, counts: &mut Coun
     advance(machine, hart, is_first);
 }
 
-/// The steps of a run of the thread on a hart behind its first `made`, of `limit` in all.
-fn count_steps(machine: &mut Machine, hart: u8, made: u32, limit: u32, counts: &mut Counts)
-    requires { made ≤ limit }
+/// So many steps more at most of a run of the thread on a hart.
+fn count_steps(machine: &mut Machine, hart: u8, more: u32, counts: &mut Counts)
     ensures state { machine.new.state
-        ≡ state_behind (limit - made) hart machine.old.state machine.old.output }
+        ≡ state_behind more hart machine.old.state machine.old.output }
     ensures counted { counts.new
-        ≡ behind_all (of_rest (limit - made) hart machine.old.state machine.old.output) counts.old }
+        ≡ behind_all (of_rest more hart machine.old.state machine.old.output) counts.old }
 {
-    for _step in made..limit {
+    let mut made = 0;
+    while made < more {
         if is_stopped(machine, hart) {
             return;
         }
         count_step(machine, hart, false, counts);
+        made += 1;
     }
 }
 
@@ -144,7 +145,7 @@ fn count_run(machine: &mut Machine, hart: u8, limit: u32, counts: &mut Counts)
     ensures counted { counts.new ≡ behind_all (of_run limit hart machine.old.state []) counts.old }
 {
     count_step(machine, hart, true, counts);
-    count_steps(machine, hart, 1, limit, counts);
+    count_steps(machine, hart, limit - 1, counts);
 }
 
 /// An event that is no run.
@@ -189,11 +190,15 @@ fn meet(machine: &Machine, thread: u8, counts: &mut Counts)
     }
 }
 
+/// The greatest number of a thread.
+const LAST: u8 = 64;
+
 /// The threads that there are.
+#[tactic(auto, using(crate::proofs::BehindLemmas::met_next))]
 pub(crate) fn meet_all(machine: &Machine, counts: &mut Counts)
     ensures { counts.new ≡ behind_all (met_up_to 64 machine.now.state) counts.old }
 {
-    for thread in 0..MAX_THREADS as u8 {
+    for thread in 0..LAST {
         meet(machine, thread + 1, counts);
     }
 }

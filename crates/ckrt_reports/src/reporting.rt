@@ -86,6 +86,7 @@ fn path<'a>(job: &Job<'a>, file: JobFile) -> &'a str
         (Job::Calls(job), JobFile::Disk) => job.disk,
         (Job::Debug(job), JobFile::Disk) => job.disk,
         (Job::Races(job), JobFile::Disk) => job.disk,
+        (Job::Profile(job), JobFile::Disk) => job.stretch.disk,
         (Job::Hunt(job), JobFile::Image) => job.image,
         (Job::Hunt(job), JobFile::Disk) => job.keep.unwrap_or(""),
         (Job::Hunt(job), JobFile::Making) => job.keep.unwrap_or(""),

@@ -1,4 +1,4 @@
-use Rattle.std.proofs.Common.{◌≡◌, ◌×◌, ◌++◌, drop}
+use Rattle.std.proofs.Common.{◌≡◌, ◌++◌, drop}
 use Rattle.ckrt_counts.specs.Shares.{thread_shares, threads_from}
 use Rattle.ckrt_counts.proofs.shares.threads_of.Given as goal
 

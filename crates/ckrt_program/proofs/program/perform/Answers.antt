@@ -25,3 +25,8 @@ pub returns-in-Hunt : goal.returns-in-Hunt
 returns-in-Hunt g c =
     let unread = g.R.Read.remaining c.args.reader.now in
     record { performs = rw c.in-Hunt.is (c.hunt_path.result, c.of_hunt.ensures, c.hunt_path.ensures.hunts unread) }
+
+pub returns-in-Profile : goal.returns-in-Profile
+returns-in-Profile g c =
+    let unread = g.R.Read.remaining c.args.reader.now in
+    record { performs = rw c.in-Profile.is (c.profile_path.result, c.without_end-in-Profile.ensures, c.profile_path.ensures.profiles unread) }

@@ -1,0 +1,4 @@
+pub mod BehindLemmas
+pub mod WalkLemmas
+pub mod StretchLemmas
+pub mod CallgrindLemmas
