@@ -53,7 +53,7 @@ awaited_text (awaited.Read a) = codes "read " ++ hex_text a
 awaited_text (awaited.Write a) = codes "write " ++ hex_text a
 
 abbrev pub function_text : (address calls : ℕ) → List ℕ
-function_text a n = codes "pc " ++ hex_text a ++ codes ", calls " ++ decimal n
+function_text a n = codes "pc " ++ hex_text a ++ (codes ", calls " ++ decimal n)
 
 abbrev pub wait_text : (t : ℕ) → Awaited → List ℕ
 wait_text t a = codes "thread " ++ decimal t ++ codes " waits " ++ awaited_text a

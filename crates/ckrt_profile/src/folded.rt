@@ -1,5 +1,5 @@
 //! The folded stacks of a profile.
-ghost use Rattle.std.specs.Prelude.{◌≡◌, OnOk};
+ghost use Rattle.std.specs.Prelude.{◌≡◌, slice_get, OnOk};
 ghost use Rattle.std.specs.List.{flat_map};
 ghost use Rattle.std.specs.Io.KnownBytes.{Appends};
 ghost use Rattle.ckrt_profile.specs.Texts.{base_text, entry_text, folded_of, folded_text, others_line, row_line, stack_line};
@@ -18,6 +18,13 @@ fn write_entry<W: Write>(out: &mut W, entry: u32) -> Result<()>
     write_hex(out, entry)
 }
 
+/// The row of this number, if there is one.
+fn row_of(rows: &[Row], row: usize) -> Option<Row>
+    ensures { result ≡ slice_get rows.now row }
+{
+    rows.get(row).copied()
+}
+
 /// The frames of a base, of which so many calls are on the way at most.
 #[tactic(auto, using(ckrt_trace::proofs::AppendLemmas::appends_both, ckrt_trace::proofs::AppendLemmas::appends_none))]
 fn write_base<W: Write>(out: &mut W, rows: &[Row], most: usize, base: Base) -> Result<()>
@@ -27,11 +34,14 @@ fn write_base<W: Write>(out: &mut W, rows: &[Row], most: usize, base: Base) -> R
     match base {
         Base::Thread(thread) => write_counted(out, b"thread ", u64::from(thread)),
         Base::Row(row) => {
-            if most == 0 || row >= rows.len() {
+            let Some(below) = row_of(rows, row) else {
+                return Ok(());
+            };
+            if most == 0 {
                 return Ok(());
             }
-            write_base(out, rows, most - 1, rows[row].base)?;
-            write_entry(out, rows[row].entry)
+            write_base(out, rows, most - 1, below.base)?;
+            write_entry(out, below.entry)
         }
     }
 }

@@ -7,10 +7,12 @@ mod callgrind;
 mod disk;
 mod folded;
 mod form;
+mod laws;
 mod table;
 mod texts;
 mod walk;
 
 pub use disk::write_profile;
 pub use form::Form;
+pub use laws::{functions_have_all_steps, sums_are_the_steps};
 pub use walk::count_event;
