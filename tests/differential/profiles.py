@@ -128,7 +128,7 @@ class Profile:
                 for path, (_, steps) in self.stacks.items() if steps]
 
     def callgrind(self):
-        lines = ["# callgrind format", "version: 1", "creator: ckrt", "positions: instr", "events: Steps", f"summary: {self.by.total()}", ""]
+        lines = ["# callgrind format", "version: 1", "creator: ckrt", "positions: instr", "events: Steps", f"summary: {self.by.total()}", "", "fl=???"]
         for path, (calls, steps) in self.stacks.items():
             name, whole = address_text(path[-1]), sum(more for other, (_, more) in self.stacks.items() if other[:len(path)] == path)
             caller, at = (f"thread {path[0]}", 0) if len(path) == 2 else (address_text(path[-2]), path[-2])

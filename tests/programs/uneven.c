@@ -4,8 +4,8 @@
 #include <stdio.h>
 
 #define WORKERS 3
-#define ROWS 24
-#define WIDTH 40
+#define ROWS 120
+#define WIDTH 6
 
 static pthread_mutex_t table_lock = PTHREAD_MUTEX_INITIALIZER;
 static uint32_t table[ROWS];
@@ -20,14 +20,15 @@ __attribute__((noinline)) static uint32_t chain(uint32_t start, int length)
     return x;
 }
 
-/* It holds the lock while it looks for a row that is equal: that is longer, the fuller the table is. */
+/* It holds the lock while it looks for a row that is equal, the longer, the fuller the table is. */
 __attribute__((noinline)) static void keep(uint32_t value)
 {
     pthread_mutex_lock(&table_lock);
-    for (int i = 0; i < next_row; i++)
-        if (table[i] == value)
-            next_row = i;
-    table[next_row++] = value;
+    int i = 0;
+    while (i < next_row && table[i] != value)
+        i++;
+    if (i == next_row)
+        table[next_row++] = value;
     pthread_mutex_unlock(&table_lock);
 }
 

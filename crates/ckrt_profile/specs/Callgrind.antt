@@ -82,7 +82,7 @@ HEADER =
     codes "# callgrind format\nversion: 1\ncreator: ckrt\npositions: instr\nevents: Steps\nsummary: "
 
 abbrev pub start_text : (all : ℕ) → List ℕ
-start_text all = HEADER ++ decimal all ++ codes "\n\n"
+start_text all = HEADER ++ decimal all ++ codes "\n\nfl=???\n"
 
 -- steps on stacks for which no row was left
 abbrev pub rest_line : ℕ → List ℕ

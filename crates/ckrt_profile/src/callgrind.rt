@@ -155,7 +155,7 @@ fn write_start<W: Write>(out: &mut W, all: u64) -> Result<()>
         b"# callgrind format\nversion: 1\ncreator: ckrt\npositions: instr\nevents: Steps\nsummary: ",
     )?;
     write_number(out, all)?;
-    out.write_all(b"\n\n")
+    out.write_all(b"\n\nfl=???\n")
 }
 
 /// Steps on stacks for which no row was left.
