@@ -72,8 +72,10 @@ entered_same b p k None rows there = go (nat_lt (length rows) ROWS)
   where
     yes : Entered
     yes = record { rows = rows ++ first_row b p ∷ []; position = stacks.at_row (length rows) }
+
     no : Entered
     no = record { rows = rows; position = record { base = b; lost = 1 } }
+
     go : (t : Bool) → row_steps (if◌then◌else◌ {A = Entered} t yes no).rows ≡ row_steps rows
     go true = (let e = sum_by-append (λ (x : Row). x.steps) rows (first_row b p ∷ []) in e ∙ omega arith)
     go false = refl
@@ -83,8 +85,10 @@ entry_same q p rows = go (q.lost == 0)
   where
     yes : Entered
     yes = entered_at q.base p (place_of q.base p rows) (slice_get rows (place_of q.base p rows)) rows
+
     no : Entered
     no = record { rows = rows; position = record q { lost = one_more q.lost } }
+
     go : (t : Bool) → row_steps (if◌then◌else◌ {A = Entered} t yes no).rows ≡ row_steps rows
     go true = entered_same q.base p (place_of q.base p rows) (slice_get rows (place_of q.base p rows)) rows refl
     go false = refl
@@ -156,9 +160,10 @@ stacks_once t p u s n lt less rows frames =
     let f = frame_of t s in
     let e = arrived t p f.position f.last s.rows in
     let same : row_steps e.rows ≡ row_steps s.rows = arrival_same t p f.position f.last s.rows in
-    let now : row_steps e.rows + s.unkept ≡ n = ap (λ m. m + s.unkept) same ∙ rows in
-    (count_once e.position e.rows s.unkept (omega (arith, now, less)) ∙ ap suc now,
-    set_sum (λ (x : Frame). x.steps) s.frames t f (next_frame f e.position u) (read_frame s.frames t lt) refl (omega (arith, frames, less)) ∙ ap suc frames)
+    let now : row_steps e.rows + s.unkept ≡ n = ap (λ m. m + s.unkept) same ∙ rows in (
+      count_once e.position e.rows s.unkept (omega (arith, now, less)) ∙ ap suc now,
+      set_sum (λ (x : Frame). x.steps) s.frames t f (next_frame f e.position u) (read_frame s.frames t lt) refl (omega (arith, frames, less)) ∙ ap suc frames,
+    )
 
 step_once : (s : Step) (c : Counts) (n : ℕ) → n < 18446744073709551615 → IsCounted c n → IsCounted (behind (note.Step s) c) (suc n)
 step_once s c n less is =

@@ -30,10 +30,10 @@ pub record ProfilesDisk {D : Type 0} (d : Ghosts D) (Opens : D → Type 0) (p : 
     (old new : Outside D) (result : Result (Unit {0}) JobFault) : Type 0 where
   pub unnamed : is_some p.elf ≡ false
   pub looks : LooksPath d (record {
-        stretch = p.stretch;
-        Opens = Opens;
-        Tells = Profiles (form_of p.form) (stretch_of p.stretch);
-      }) old new result
+    stretch = p.stretch;
+    Opens = Opens;
+    Tells = Profiles (form_of p.form) (stretch_of p.stretch);
+  }) old new result
 
 abbrev pub ProfilesPath : {D : Type 0} → Ghosts D → (D → Type 0) → Profiling
     → (old new : Outside D) → Result (Unit {0}) JobFault → Type 0

@@ -110,12 +110,7 @@ fn write_threads<W: Write>(
 }
 
 /// The section of waits.
-fn write_waits<W: Write>(
-    out: &mut W,
-    all: u64,
-    counts: &Counts,
-    shares: &[Share],
-) -> io::Result<()>
+fn write_waits<W: Write>(out: &mut W, all: u64, counts: &Counts, shares: &[Share]) -> io::Result<()>
     requires { shares.now ≡ ranked (wait_shares counts.now.waits.rows) }
     ensures { OnOk result
         (Appends (W.contents out.old) (W.contents out.new) (waits_text all counts.now)) }

@@ -22,7 +22,9 @@ fn write_padded<W: Write>(out: &mut W, width: usize, number: u64) -> Result<()>
 {
     let mut buffer = itoa::Buffer::new();
     let digits = buffer.format(number).as_bytes();
-    let (spaces, _) = SPACES.as_slice().split_at(width.saturating_sub(digits.len()));
+    let (spaces, _) = SPACES
+        .as_slice()
+        .split_at(width.saturating_sub(digits.len()));
     out.write_all(spaces)?;
     out.write_all(digits)
 }
@@ -223,11 +225,7 @@ pub(crate) struct Section<'a> {
 
 /// A section of the table.
 #[tactic(auto, using(ckrt_trace::proofs::AppendLemmas::appends_both))]
-pub(crate) fn write_section<W: Write>(
-    out: &mut W,
-    all: u64,
-    section: &Section<'_>,
-) -> Result<()>
+pub(crate) fn write_section<W: Write>(out: &mut W, all: u64, section: &Section<'_>) -> Result<()>
     ensures { OnOk result
         (Appends (W.contents out.old) (W.contents out.new)
         (section_text all section.now.head.now section.now.shares.now section.now.rest

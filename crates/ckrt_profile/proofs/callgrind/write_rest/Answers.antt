@@ -1,4 +1,4 @@
-use Rattle.std.proofs.Common.{◌≡◌, ◌++◌, ◌==◌, true, false, Bool, List, [], if◌then◌else◌, ℕ, codes, decimal, sym, subst, rules, arith, }
+use Rattle.std.proofs.Common.{◌≡◌, ◌++◌, ◌==◌, true, false, Bool, List, [], if◌then◌else◌, ℕ, codes, decimal, sym, subst, rules, arith}
 use Rattle.std.proofs.lemmas.Result.{on_ok_weaker}
 use Rattle.std.specs.Io.KnownBytes.{Appends}
 use Rattle.ckrt_trace.proofs.AppendLemmas.{appends_both}
