@@ -132,6 +132,11 @@ class Program:
         begin, _, name, is_code = self.symbols[at]
         return begin, address - begin, name, is_code
 
+    def function(self, address):
+        """The name of the function that an address lies in."""
+        found = self.symbol_at(address)
+        return found[2] if found and found[3] else None
+
     def places(self, addresses):
         """For each address the text of what lies there: a function and its line, or a variable and its part."""
         return {address: self.place(address) for address in addresses}

@@ -9,7 +9,7 @@ use Rattle.ckrt_main.specs.Service.{IsStartFault, Served, ServedPart}
 use Rattle.ckrt_main.specs.declared.fault.ServeFault.{ServeFault}
 use Rattle.ckrt_main.specs.declared.fault.ServeFault.TheVariants as serve
 use Rattle.ckrt_words.specs.Commands.{ckrt_app}
-use Rattle.ckrt_words.specs.Jobs.{Driving, Formatting, Hunting, Request, Inspection, calls, core, debug, drive, format, hunt, inspect, races, request_of_words, run, stored, timeline, version}
+use Rattle.ckrt_words.specs.Jobs.{Driving, Formatting, Hunting, Request, Inspection, asks_both_forms, calls, core, debug, drive, format, hunt, inspect, profile, races, request_of_words, run, stored, timeline, version}
 use Rattle.ckrt_words.specs.declared.job.WordsFault.{WordsFault}
 use Rattle.ckrt_words.specs.declared.job.WordsFault.TheVariants as words
 use Rattle.ckrt_drive.specs.declared.stream.StreamOutput.{StreamOutput}
@@ -24,6 +24,7 @@ use Rattle.ckrt_reports.specs.Lines.{Reports, ReportsOutcome, SaysLine, formatte
 use Rattle.ckrt_reports.specs.Reports.{words_report_of}
 use Rattle.ckrt_jobs.specs.Showing.{Shows, shown_of}
 use Rattle.ckrt_looks.specs.Drawings.{TimelinePath}
+use Rattle.ckrt_looks.specs.Profiling.{ProfilesPath}
 use Rattle.ckrt_looks.specs.Tellings.{RacesPath, TracesPath}
 use Rattle.ckrt_looks.specs.Debugging.{DebugsPath}
 use Rattle.ckrt_hunts.specs.Hunting.{Hunter, HuntsPath, kept_size}
@@ -244,6 +245,8 @@ Performs {d = d} it (races s) old new outcome =
     Does (RacesPath d (it.Opens s.disk) s old new) outcome
 Performs {d = d} it (timeline j) old new outcome =
     Does (TimelinePath d (it.Opens j.stretch.disk) j old new) outcome
+Performs {d = d} it (profile p) old new outcome =
+    Does (ProfilesPath d (it.Opens p.stretch.disk) p old new) outcome
 Performs {d = d} it (hunt h) old new outcome =
     Hunts (HuntsPath d (hunter_in it h) old new) outcome
 Performs {d = d} it (drive j) old new outcome =
@@ -267,7 +270,7 @@ pub record RefusesWords {D : Type 0} (ws : List (List ℕ)) (old new : Outside D
   pub reports : Reports said.before said.behind said.has_failed (words_report_of fault)
   pub same : new ≡ old
   pub some : ws ≢ []
-  pub taken : takes ckrt_app ws ≡ true → fault ≡ words.OutOfMemory
+  pub taken : takes ckrt_app ws ≡ true → asks_both_forms ws ≡ false → fault ≡ words.OutOfMemory
   pub gives : status ≡ status_of_words fault
 
 -- what the program does for its words

@@ -1,9 +1,9 @@
 //! The program behind its words.
-ghost use Rattle.std.specs.Prelude.{◌≡◌, ◌≢◌, ◌≤◌, [], List, Option, ℕ, Some, map, true};
+ghost use Rattle.std.specs.Prelude.{◌≡◌, ◌≢◌, ◌≤◌, [], List, Option, ℕ, Some, false, map, true};
 ghost use Rattle.std.specs.Io.KnownBytes.{Appends};
 ghost use Rattle.clap.specs.Words.{takes};
 ghost use Rattle.ckrt_words.specs.Commands.{ckrt_app};
-ghost use Rattle.ckrt_words.specs.Jobs.{Formatting, Request, format, version, formatting_of, inspection_of, request_of, request_of_words};
+ghost use Rattle.ckrt_words.specs.Jobs.{Formatting, asks_both_forms, Request, format, version, formatting_of, inspection_of, request_of, request_of_words};
 ghost use Rattle.ckrt_sources.specs.Files.{openings_of};
 ghost use Rattle.ckrt_program.specs.Performing.{made_line, MakesPath, Performs, RunsOpened, RunsPath, RunsWords, ServesStored, ShowsOpened, ShowsPath, any_files, outcome_of_hunt, outcome_with_end, outcome_without_end, size_of};
 ghost use Rattle.ckrt_outcomes.specs.Outside.{outside};
@@ -14,7 +14,7 @@ use ckrt_disk::Disk;
 use ckrt_drive::StreamOutput;
 use ckrt_hunts::hunt_path;
 use ckrt_jobs::{core_path, drive_path, inspect_disk, make_disk, run_disk};
-use ckrt_looks::{calls_path, debug_path, races_path, timeline_path};
+use ckrt_looks::{calls_path, debug_path, profile_path, races_path, timeline_path};
 use ckrt_main::serve_image;
 use ckrt_outcomes::{Done, Driven, JobFault, Meter};
 use ckrt_recovery::Config;
@@ -224,6 +224,7 @@ fn perform<
         Job::Timeline(job) => {
             without_end(timeline_path::<I, D, S, W>(alloc, job, sources, writer))
         }
+        Job::Profile(job) => without_end(profile_path::<I, D, S, W>(alloc, job, sources, writer)),
         Job::Hunt(job) => of_hunt(hunt_path::<I, D, S, W>(alloc, job, sources, writer)),
         Job::Drive(job) => {
             with_end(drive_path::<I, D, S, W, M>(alloc, job, sources, writer, meter))
@@ -233,7 +234,8 @@ fn perform<
 
 /// Does what the words after the program's name ask for, with images and disks of any sources: `format DISK IMAGE` prints
 /// `formatted SIZE`, `run DISK` answers the lines of the reader, `inspect DISK` shows what the disk holds, `core DISK FILE`
-/// writes it as a core into FILE, `calls DISK` tells its calls, `debug DISK` serves it to gdb, `races DISK` tells its data races, `timeline DISK` draws what its threads did, `hunt IMAGE` tells what other schedules come to, `drive DISK`
+/// writes it as a core into FILE, `calls DISK` tells its calls, `debug DISK` serves it to gdb, `races DISK` tells its data races, `profile DISK` where its
+/// steps went, `timeline DISK` draws what its threads did, `hunt IMAGE` tells what other schedules come to, `drive DISK`
 /// runs its program to its end, with its output in a file or printed, and reports what it came to in a line, `--version`
 /// prints the version and its kit, no words serve the stored program in memory. Of a fault two lines are reported: what is
 /// wrong in plain words, with the path of the file that it is of, and `ckrt: NAME`. Of words that name no job a text is. A
@@ -268,7 +270,9 @@ pub fn run_words_with<
     ensures version { result ≡ 0
         → request_of_words (map (λ s. s.now) words.entry.now) ≡ Some version
         → Appends (W.contents writer.old) (W.contents writer.new) version_line }
-    ensures usage { result ≡ 2 → takes ckrt_app (map (λ s. s.now) words.entry.now) ≢ true }
+    ensures usage { result ≡ 2
+        → asks_both_forms (map (λ s. s.now) words.entry.now) ≡ false
+        → takes ckrt_app (map (λ s. s.now) words.entry.now) ≢ true }
     ensures stored { result ≡ 2 → words.entry.now ≢ [] }
     ensures outcome { RunsWords {d = D.Disk} (record {
       stream = ⟦<StreamOutput<'a, W> as Disk>⟧;
@@ -317,7 +321,9 @@ pub fn run_words<'a, F: Files<File = File>, R: Read, W: Write + 'a, E: Reporter,
     ensures version { result ≡ 0
         → request_of_words (map (λ s. s.now) words.entry.now) ≡ Some version
         → Appends (W.contents writer.old) (W.contents writer.new) version_line }
-    ensures usage { result ≡ 2 → takes ckrt_app (map (λ s. s.now) words.entry.now) ≢ true }
+    ensures usage { result ≡ 2
+        → asks_both_forms (map (λ s. s.now) words.entry.now) ≡ false
+        → takes ckrt_app (map (λ s. s.now) words.entry.now) ≢ true }
     ensures stored { result ≡ 2 → words.entry.now ≢ [] }
     ensures outcome { RunsWords {d = ⟦<SystemDisk<'a> as Disk>⟧}
         (any_files ⟦<StreamOutput<'a, W> as Disk>⟧ W.contents) (map (λ s. s.now) words.entry.now)

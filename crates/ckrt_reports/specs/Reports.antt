@@ -4,7 +4,7 @@ use Rattle.ckrt_checkpoint.specs.declared.config.Config.{Config}
 use Rattle.ckrt_stored.specs.declared.fault.FormatFault.TheVariants as format
 use Rattle.ckrt_words.specs.declared.job.WordsFault.{WordsFault}
 use Rattle.ckrt_words.specs.declared.job.WordsFault.TheVariants as words
-use Rattle.ckrt_words.specs.Jobs.{Request, format as asks_format, run as asks_run, inspect as asks_inspect, drive as asks_drive, core as asks_core, calls as asks_calls, debug as asks_debug, races as asks_races, timeline as asks_timeline, hunt as asks_hunt, stored}
+use Rattle.ckrt_words.specs.Jobs.{Request, format as asks_format, run as asks_run, inspect as asks_inspect, drive as asks_drive, core as asks_core, calls as asks_calls, debug as asks_debug, races as asks_races, profile as asks_profile, timeline as asks_timeline, hunt as asks_hunt, stored}
 use Rattle.ckrt_sources.specs.FileFaults.{file_ending, file_text}
 use Rattle.ckrt_sources.specs.declared.file.JobFile.{JobFile}
 use Rattle.ckrt_sources.specs.declared.file.JobFile.TheVariants as file
@@ -70,6 +70,7 @@ path_of file.Disk (asks_calls s) = s.disk
 path_of file.Disk (asks_debug j) = j.disk
 path_of file.Disk (asks_races s) = s.disk
 path_of file.Disk (asks_timeline j) = j.stretch.disk
+path_of file.Disk (asks_profile p) = p.stretch.disk
 path_of file.Image (asks_hunt h) = h.image
 path_of file.Disk (asks_hunt h) = path_text h.keep
 path_of file.Making (asks_hunt h) = path_text h.keep

@@ -87,6 +87,7 @@ fn path<'a>(job: &Job<'a>, file: JobFile) -> &'a str
         (Job::Debug(job), JobFile::Disk) => job.disk,
         (Job::Races(job), JobFile::Disk) => job.disk,
         (Job::Timeline(job), JobFile::Disk) => job.stretch.disk,
+        (Job::Profile(job), JobFile::Disk) => job.stretch.disk,
         (Job::Hunt(job), JobFile::Image) => job.image,
         (Job::Hunt(job), JobFile::Disk) => job.keep.unwrap_or(""),
         (Job::Hunt(job), JobFile::Making) => job.keep.unwrap_or(""),

@@ -30,3 +30,8 @@ pub returns-in-Timeline : goal.returns-in-Timeline
 returns-in-Timeline g c =
     let unread = g.R.Read.remaining c.args.reader.now in
     record { performs = rw c.in-Timeline.is (c.timeline_path.result, c.without_end-in-Timeline.ensures, c.timeline_path.ensures.draws unread) }
+
+pub returns-in-Profile : goal.returns-in-Profile
+returns-in-Profile g c =
+    let unread = g.R.Read.remaining c.args.reader.now in
+    record { performs = rw c.in-Profile.is (c.profile_path.result, c.without_end-in-Profile.ensures, c.profile_path.ensures.profiles unread) }

@@ -1,0 +1,7 @@
+pub mod Turns
+pub mod Stacks
+pub mod Words
+pub mod Waits
+pub mod Counts
+pub mod Shares
+pub mod Laws

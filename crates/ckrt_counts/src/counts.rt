@@ -1,0 +1,163 @@
+//! All that is counted.
+ghost use Rattle.std.specs.Prelude.{◌≡◌, IfOk};
+ghost use Rattle.ckrt_counts.specs.Counts.{number_of};
+ghost use Rattle.ckrt_counts.specs.declared.counts.Note.TheVariants as note;
+
+use crate::row::Row;
+use crate::stacks::{Frame, Stacks, THREADS};
+use crate::turn::Turn;
+use crate::waits::{Awaited, Waited, Waits};
+use crate::words::{Word, Words};
+use std::alloc::{AllocError, Global};
+use std::marker::Model;
+
+/// A step of a thread.
+#[derive(Clone, Copy, Debug, Drop)]
+pub struct Step {
+    pub thread: u8,
+    /// The address of the instruction.
+    pub pc: u32,
+    /// How the thread goes on from it.
+    pub turn: Turn,
+}
+
+/// What is counted.
+#[derive(Clone, Copy, Debug, Drop)]
+pub enum Note {
+    /// A thread is under way, and its next step is at this address.
+    Met(u8, u32),
+    /// A step was made.
+    Step(Step),
+    /// A thread waits for something, and has since waits were looked at.
+    Wait(u8, Awaited),
+    /// All who wait were told.
+    Looked,
+}
+
+/// Where the steps of a run went, and how long threads waited.
+#[derive(Drop)]
+pub struct Counts {
+    words: Words,
+    stacks: Stacks,
+    waits: Waits,
+}
+
+impl Model for Counts {
+    ghost use Rattle.ckrt_counts.specs.Counts.{Counts, stacks_in, waits_in, words_in};
+
+    ghost Value = { Counts };
+
+    ghost view = { λ c. record {
+      words = words_in c.words;
+      stacks = stacks_in c.stacks;
+      waits = waits_in c.waits;
+    } };
+}
+
+/// Threads are 1 to 64; any other number counts as 0.
+fn number_of(thread: u8) -> u8
+    ensures { result ≡ number_of thread }
+{
+    if usize::from(thread) < THREADS {
+        thread
+    } else {
+        0
+    }
+}
+
+impl Counts {
+    ghost use Rattle.ckrt_counts.specs.Counts.{behind, behind_step, nothing};
+
+    /// Nothing was done yet in a memory of so many words. It takes 16 bytes for each of these, and 60 KB.
+    ///
+    /// # Errors
+    ///
+    /// `AllocError` where memory was refused.
+    pub fn new(alloc: Global, words: usize) -> Result<Counts, AllocError>
+        ensures { IfOk result (λ counts. counts ≡ nothing words) }
+    {
+        Ok(Counts {
+            words: Words::new(alloc, words)?,
+            stacks: Stacks::new(alloc)?,
+            waits: Waits::new(alloc)?,
+        })
+    }
+
+    /// A thread is under way, and its next step is at this address.
+    fn meet(&mut self, thread: u8, pc: u32)
+        ensures { self.new ≡ behind (note.Met thread pc) self.old }
+    {
+        self.stacks.meet(number_of(thread), pc);
+    }
+
+    /// A step was made.
+    pub fn step(&mut self, step: &Step)
+        ensures { self.new ≡ behind_step (number_of step.now.thread) step.now self.old }
+    {
+        let thread = number_of(step.thread);
+        let is_entry = self.stacks.step(thread, step.pc, step.turn);
+        self.words.step(step.pc, is_entry);
+        self.waits.pass();
+    }
+
+    /// The next note.
+    pub fn note(&mut self, note: &Note)
+        ensures { self.new ≡ behind note.now self.old }
+    {
+        match note {
+            Note::Met(thread, pc) => self.meet(*thread, *pc),
+            Note::Step(step) => self.step(step),
+            Note::Wait(thread, awaited) => self.waits.wait(*thread, *awaited),
+            Note::Looked => self.waits.look(),
+        }
+    }
+
+    /// What was counted of each word of memory, from 4,096 on.
+    pub fn words(&self) -> &[Word]
+        ensures { result.now ≡ self.now.words.words }
+    {
+        self.words.words.as_slice()
+    }
+
+    /// How many steps were made elsewhere: at a gate, or at an address that has no word.
+    pub fn outside(&self) -> u64
+        ensures { result ≡ self.now.words.outside }
+    {
+        self.words.outside
+    }
+
+    /// The stacks on which steps were made, each behind those that it stands on.
+    pub fn rows(&self) -> &[Row]
+        ensures { result.now ≡ self.now.stacks.rows }
+    {
+        self.stacks.rows.as_slice()
+    }
+
+    /// How many steps were made on stacks for which no row was left.
+    pub fn unkept(&self) -> u64
+        ensures { result ≡ self.now.stacks.unkept }
+    {
+        self.stacks.unkept
+    }
+
+    /// The threads, by number.
+    pub fn frames(&self) -> &[Frame]
+        ensures { result.now ≡ self.now.stacks.frames }
+    {
+        &self.stacks.frames
+    }
+
+    /// How long threads waited.
+    pub fn waited(&self) -> &[Waited]
+        ensures { result.now ≡ self.now.waits.rows }
+    {
+        self.waits.rows.as_slice()
+    }
+
+    /// How long threads waited for which no row was left.
+    pub fn unkept_waits(&self) -> u64
+        ensures { result ≡ self.now.waits.unkept }
+    {
+        self.waits.unkept
+    }
+}

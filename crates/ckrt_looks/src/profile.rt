@@ -1,0 +1,76 @@
+//! Telling where the steps of what a disk has recorded went.
+ghost use Rattle.std.specs.Prelude.{◌≡◌, ℕ, List, Option};
+ghost use Rattle.ckrt_words.specs.Jobs.{profiling_of};
+ghost use Rattle.ckrt_outcomes.specs.Outside.{outside};
+ghost use Rattle.ckrt_looks.specs.Profiling.{ProfilesPath, form_of};
+
+use crate::looking::{Telling, look_path};
+use ckrt_disk::Disk;
+use ckrt_inspect::InspectFault;
+use ckrt_outcomes::JobFault;
+use ckrt_profile::{Form, write_profile};
+use ckrt_sources::Sources;
+use ckrt_trace::Stretch;
+use ckrt_words::{ProfileForm, ProfileJob};
+use std::alloc::Global;
+use std::io::{Read, Write};
+
+/// Its profile, in a form.
+#[derive(Drop)]
+struct Profile {
+    form: Form,
+}
+
+impl Telling for Profile {
+    ghost use Rattle.ckrt_profile.specs.Disks.{Profiles};
+
+    ghost Tells = { λ p. Profiles p.form };
+
+    fn tell<D: Disk, W: Write>(
+        &self,
+        alloc: Global,
+        disk: &mut D,
+        stretch: Stretch,
+        writer: &mut W,
+    ) -> Result<(), InspectFault> {
+        write_profile(alloc, self.form, disk, stretch, writer)
+    }
+}
+
+/// The form that the words ask for.
+fn form_of(form: ProfileForm) -> Form
+    ensures { result ≡ form_of form }
+{
+    match form {
+        ProfileForm::Table => Form::Table,
+        ProfileForm::Folded => Form::Folded,
+        ProfileForm::Callgrind => Form::Callgrind,
+    }
+}
+
+/// Tells where the steps of what the disk of a path has recorded went: of all, or of the events behind so many and up to so many.
+/// The disk is only read.
+///
+/// # Errors
+///
+/// `Range` where the words give an ELF file, which isn't read, before anything is opened; else those of
+/// [`calls_path`](crate::calls_path).
+pub fn profile_path<'a, I: Read, D: Disk, S: Sources<'a, I, D>, W: Write>(
+    alloc: Global,
+    job: &ProfileJob<'a>,
+    sources: &mut S,
+    writer: &mut W,
+) -> Result<(), JobFault>
+    ensures profiles { (left : Option (List ℕ))
+        → ProfilesPath D.Disk (S.opens sources.old job.now.stretch.disk.now) (profiling_of job.now)
+        (outside (S.openings sources.old) (W.contents writer.old) left)
+        (outside (S.openings sources.new) (W.contents writer.new) left) result }
+{
+    if job.elf.is_some() {
+        return Err(JobFault::Range);
+    }
+    let profile = Profile {
+        form: form_of(job.form),
+    };
+    look_path::<I, D, S, Profile, W>(alloc, &job.stretch, &profile, sources, writer)
+}
