@@ -1,7 +1,8 @@
 //! Drawing what the threads of a disk's program did.
-ghost use Rattle.std.specs.Prelude.{ℕ, List, Option};
+ghost use Rattle.std.specs.Prelude.{◌≡◌, true, ℕ, List, Option};
 ghost use Rattle.ckrt_words.specs.Jobs.{drawing_of};
 ghost use Rattle.ckrt_outcomes.specs.Outside.{outside};
+ghost use Rattle.ckrt_timeline.specs.Widths.{is_width};
 ghost use Rattle.ckrt_looks.specs.Drawings.{TimelinePath, form_of};
 
 use crate::looking::{Telling, look_path};

@@ -82,14 +82,3 @@ pub record GoesAlike (limit made h : ℕ) (old new : Machine) : Type 0 where
   pub state : state_behind (limit - made) h new.state new.output ≡ state_behind limit h old.state old.output
   pub alike : (t : ℕ) → in_rest t limit h old.state old.output
       ≡ replicate made (activity_of h t old.state.tables.threads) ++ in_rest t (limit - made) h new.state new.output
-
--- some steps of a run were made, at most so many: the machine is behind them, and the timeline has them
-pub record Watches (limit made h : ℕ) (old new : Machine) (before behind : Timeline) : Type 0 where
-  pub some : 1 ≤ made
-  pub within : made ≤ limit
-  pub state : state_behind (limit - made) h new.state new.output ≡ state_behind limit h old.state old.output
-  pub whole : IsWhole behind
-  pub steps : behind.steps ≡ before.steps + made
-  pub tracks : (i : ℕ) → i < THREADS
-      → track_in behind i ++ in_rest (i + 1) (limit - made) h new.state new.output
-      ≡ track_in before i ++ in_rest (i + 1) limit h old.state old.output

@@ -183,7 +183,7 @@ fn write_stretch<W: Write>(
 ///
 /// `NotFormatted`, `Version` and `Damaged` where the content recovers to no state, the first that applies; `Range` where the disk
 /// hasn't recorded all of the stretch, or that ends before it begins; `Device` where the disk failed a read, `OutOfMemory` where a growth was
-/// refused, `Write` where the writer failed.
+/// refused, or the stretch has more than 2,147,418,112 events, as no disk has; `Write` where the writer failed.
 pub fn write_timeline<D: Disk, W: Write>(
     alloc: Global,
     disk: &mut D,

@@ -1,11 +1,12 @@
 //! What threads did in events.
-ghost use Rattle.std.specs.Prelude.{◌≡◌, ◌≤◌, ◌<◌, ◌+◌, ◌-◌, ◌^◌, [], None, IfOk, OnOk};
+ghost use Rattle.std.specs.Prelude.{◌≡◌, ◌≤◌, ◌<◌, ◌+◌, ◌-◌, ◌^◌, [], None, IfOk, OnOk, replicate};
 ghost use Rattle.ckrt_events.specs.Bytes.{IsInRange};
 ghost use Rattle.ckrt_events.specs.declared.event.Event.TheVariants.{Run};
 ghost use Rattle.ckrt_machine.specs.Events.{refusal_of, step};
 ghost use Rattle.ckrt_machine.specs.Runs.{run_on, stop_of};
 ghost use Rattle.ckrt_trace.specs.Events.{state_behind};
-ghost use Rattle.ckrt_timeline.specs.Tracks.{GoesAlike, GoesOn, IsWhole, Watches, in_event, in_rest, in_run};
+ghost use Rattle.ckrt_timeline.specs.Activities.{activity_of};
+ghost use Rattle.ckrt_timeline.specs.Tracks.{GoesAlike, GoesOn, IsWhole, in_event, in_rest, in_run};
 
 use crate::activity::activities;
 use crate::quiet::go_quietly;
@@ -41,8 +42,13 @@ fn watch_piece(
     requires going { stop_of hart machine.old.state.tables machine.old.output ≡ None }
     requires whole { IsWhole timeline.old }
     requires few { timeline.old.steps + limit < 2 ^ 64 }
-    ensures watches { IfOk result
-        (λ made. Watches limit made hart machine.old machine.new timeline.old timeline.new) }
+    ensures alike { IfOk result
+        (λ made. GoesAlike limit made hart machine.old machine.new) }
+    ensures goes_on { IfOk result (λ made. GoesOn
+        (λ i. replicate made (activity_of hart (i + 1) machine.old.state.tables.threads))
+        timeline.old timeline.new) }
+    ensures steps { IfOk result
+        (λ made. timeline.new.steps ≡ timeline.old.steps + made) }
 {
     let now = activities(&machine.tables().threads, hart);
     let made = go_alike(machine, hart, limit);

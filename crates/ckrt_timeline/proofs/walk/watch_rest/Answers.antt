@@ -1,7 +1,8 @@
-use Rattle.std.proofs.Common.{◌≡◌, ◌∙◌, ◌+◌, ◌++◌, sym, ap, arith}
+use Rattle.std.proofs.Common.{◌≡◌, ◌∙◌, ◌+◌, ◌-◌, ◌++◌, replicate, append_assoc, sym, ap, arith}
 use Rattle.std.proofs.lemmas.List.{append-nil}
 use Rattle.ckrt_trace.specs.Events.{state_behind}
 use Rattle.ckrt_trace.proofs.RunLemmas.{state_ended, state_used}
+use Rattle.ckrt_timeline.specs.Activities.{activity_of}
 use Rattle.ckrt_timeline.specs.Tracks.{in_rest, track_in}
 use Rattle.ckrt_timeline.proofs.WalkLemmas.{rest_ended, rest_used}
 use Rattle.ckrt_timeline.proofs.walk.watch_rest.Goals as goal
@@ -10,12 +11,21 @@ use Rattle.ckrt_timeline.proofs.walk.watch_rest.Goals as goal
 pub loop-left-preserved : goal.loop-left-preserved
 loop-left-preserved c =
     let so_far = c.loop-left.invariant in
-    let went = c.in_ok-made.ensures.watches in
+    let went = c.in_ok-made.ensures in
+    let h = c.args.hart in
+    let s = c.loop-left.machine.state in
+    let m = c.watch_piece.new.machine in
+    let made = c.in_ok-made.made in
+    let left = c.loop-left.left - made in
     record {
-      state = went.state ∙ so_far.state;
-      whole = went.whole;
-      steps = omega (arith, went.steps, went.within, so_far.steps);
-      tracks = λ i less. went.tracks i less ∙ so_far.tracks i less;
+      state = went.alike.state ∙ so_far.state;
+      whole = went.goes_on.whole;
+      steps = omega (arith, went.steps, went.alike.within, so_far.steps);
+      tracks = λ i less.
+          let before = track_in c.loop-left.timeline i in
+          let same = replicate made (activity_of h (i + 1) s.tables.threads) in
+          let rest = in_rest (i + 1) left h m.state m.output in
+          ap (λ l. l ++ rest) (went.goes_on.tracks i less) ∙ append_assoc before same rest ∙ ap (λ l. before ++ l) (sym (went.alike.alike (i + 1))) ∙ so_far.tracks i less;
     }
 
 -- something ended the run
