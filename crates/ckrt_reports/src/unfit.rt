@@ -77,10 +77,9 @@ fn say_unfit_drawing<E: Reporter>(reporter: &mut E, job: &TimelineJob<'_>) -> Re
 fn unfit_profile(job: &ProfileJob<'_>) -> &'static [u8]
     ensures { result.now ≡ unfit_profile_text (profiling_of job.now) }
 {
-    if job.elf.is_some() {
-        b"--elf isn't read by this version: "
-    } else {
-        TURNED_TEXT
+    match job.elf {
+        Some(_) => b"--elf isn't read by this version: ".as_slice(),
+        None => TURNED_TEXT,
     }
 }
 
