@@ -3,7 +3,7 @@
 --
 --     outcome 2: 3 of 200 runs, first by seed 17: deadlock, thread 2 waits for mutex 00002c58, thread 3 waits for mutex 00002c70
 --         ckrt hunt race.bin --seeds 17-17 --pages 64 --harts 2 --steps 10000000 --keep seed-17.disk
-use Rattle.std.specs.Prelude.{ℕ, zero, suc, ◌+◌, ◌-◌, ◌==◌, if◌then◌else◌, List, [], ◌∷◌, ◌++◌, length, take, slice_get, codes, decimal, Option, Some, None}
+use Rattle.std.specs.Prelude.{ℕ, zero, suc, ◌+◌, ◌-◌, ◌==◌, if◌then◌else◌, List, [], ◌∷◌, ◌++◌, length, take, slice_get, codes, decimal, Option, Some, None, is_some}
 use Rattle.std.specs.List.{flat_map}
 use Rattle.hex.specs.Hex.{encode_lower}
 use Rattle.ckrt_rv32i.specs.Names.{cause_name}
@@ -15,6 +15,7 @@ use Rattle.ckrt_hunt.specs.declared.outcome.Outcome.TheVariants as outcome
 use Rattle.ckrt_hunt.specs.declared.outcome.Waiting.{Waiting}
 use Rattle.ckrt_hunt.specs.declared.row.Row.{Row}
 use Rattle.ckrt_hunt.specs.declared.shape.Shape.{Shape}
+use Rattle.ckrt_hunt.specs.declared.shorten.Found.{Found}
 use Rattle.ckrt_hunt.specs.declared.table.Asked.{Asked}
 use Rattle.ckrt_hunt.specs.declared.tally.Tally.{Tally}
 
@@ -99,3 +100,18 @@ others_line a others =
 
 abbrev pub table_text : Asked → Tally → List ℕ
 table_text a t = rows_text a t.rows.items (length t.rows.items) ++ others_line a t.others
+
+-- A RUN THAT IS KEPT
+--
+--     kept: the run of seed 17, switches: 4, drawn with 4123
+
+-- how many switches it was drawn with, where it was shortened
+abbrev pub drawn_text : Found → List ℕ
+drawn_text found =
+    if is_some found.plan.turns then codes ", drawn with " ++ decimal found.drawn else codes ", as it was drawn"
+
+abbrev pub kept_text : (seed : ℕ) → Found → List ℕ
+kept_text seed found =
+    codes "kept: the run of seed " ++ decimal seed ++ (codes ", switches: " ++ decimal found.switches)
+    ++ drawn_text found
+    ++ 10 ∷ []

@@ -19,7 +19,7 @@ pub(crate) struct Kept<'a, 'b> {
     pub(crate) path: &'a str,
     pub(crate) config: Config,
     pub(crate) image: &'b [u8],
-    pub(crate) plan: Plan,
+    pub(crate) plan: Plan<'b>,
 }
 
 /// What the job answers where events weren't kept.
