@@ -37,7 +37,11 @@ module _ (p : Plan) (start : State) where
   -- the events of any run by the plan are those that were counted
   events_of : (told other : Told) (m : Made) (e : EndsWith p start told m) (c : ComesTo p start other) → m.events ≡ length c.events
   events_of told other m e c =
-      ap (λ (x : Made). x.events) e.has_made ∙ all_counted p e.comes.events (beginning start) ∙ ap (λ (es : List Event). length es) (same told other e.comes c)
+      let es = e.comes.events in
+      let its : m.events ≡ (behind p es (beginning start)).made.events = ap (λ (x : Made). x.events) e.has_made in
+      let all : (behind p es (beginning start)).made.events ≡ 0 + length es = all_counted p es (beginning start) in
+      let one : length es ≡ length c.events = ap (λ (es : List Event). length es) (same told other e.comes c) in
+      omega (arith, its, all, one)
 
   pub switches_of : (told : Told) (m : Made) → EndsWith p start told m → HasSwitches p start m.switches
   switches_of told m e = λ other c.

@@ -3,7 +3,7 @@
 --
 --     outcome 2: 3 of 200 runs, first by seed 17: deadlock, thread 2 waits for mutex 00002c58, thread 3 waits for mutex 00002c70
 --         ckrt hunt race.bin --seeds 17-17 --pages 64 --harts 2 --steps 10000000 --keep seed-17.disk
-use Rattle.std.specs.Prelude.{ℕ, zero, suc, ◌+◌, ◌-◌, ◌==◌, if◌then◌else◌, List, [], ◌∷◌, ◌++◌, length, take, slice_get, codes, decimal, Option, Some, None, is_some}
+use Rattle.std.specs.Prelude.{ℕ, zero, suc, ◌+◌, ◌-◌, ◌==◌, if◌then◌else◌, List, [], ◌∷◌, ◌++◌, length, take, slice_get, codes, decimal, Option, Some, None}
 use Rattle.std.specs.List.{flat_map}
 use Rattle.hex.specs.Hex.{encode_lower}
 use Rattle.ckrt_rv32i.specs.Names.{cause_name}
@@ -106,9 +106,12 @@ table_text a t = rows_text a t.rows.items (length t.rows.items) ++ others_line a
 --     kept: the run of seed 17, switches: 4, drawn with 4123
 
 -- how many switches it was drawn with, where it was shortened
+abbrev pub drawn_by : {A : Type 0} → (given : Option A) → (drawn : ℕ) → List ℕ
+drawn_by None drawn = codes ", as it was drawn"
+drawn_by (Some turns) drawn = codes ", drawn with " ++ decimal drawn
+
 abbrev pub drawn_text : Found → List ℕ
-drawn_text found =
-    if is_some found.plan.turns then codes ", drawn with " ++ decimal found.drawn else codes ", as it was drawn"
+drawn_text found = drawn_by found.plan.turns found.drawn
 
 abbrev pub kept_text : (seed : ℕ) → Found → List ℕ
 kept_text seed found =

@@ -103,8 +103,7 @@ impl Turn {
     {
         match (self, next) {
             (Turn::Run(thread, hart, steps), Turn::Run(other, on, more))
-                if thread == other && hart == on && steps < MOST_STEPS =>
-            {
+                if thread == other && hart == on && steps < MOST_STEPS => {
                 let steps = steps.saturating_add(more).min(MOST_STEPS);
                 Some(Turn::Run(thread, hart, steps))
             }

@@ -3,11 +3,11 @@ ghost use Rattle.std.specs.Prelude.{◌≡◌, ◌≤◌, ◌*◌, ◌-◌, ◌<
 ghost use Rattle.ckrt_memory.specs.declared.MemoryError.TheVariants.{ImageTooLong};
 ghost use Rattle.ckrt_machine.specs.Events.{fresh};
 
+use crate::noting::note_turns;
 use crate::plan::Plan;
 use crate::runs::{Finished, Told, run};
 use crate::shape::Shape;
 use crate::tally::Tally;
-use crate::noting::note_turns;
 use crate::turns::Turns;
 use ckrt_machine::Machine;
 use ckrt_memory::{Memory, MemoryError};

@@ -34,7 +34,13 @@ pub struct Finished {
 }
 
 /// One event on.
-fn go_on(machine: &mut Machine, plan: &Plan<'_>, made: &mut Made, hasher: &mut Sha256, event: &Event)
+fn go_on(
+    machine: &mut Machine,
+    plan: &Plan<'_>,
+    made: &mut Made,
+    hasher: &mut Sha256,
+    event: &Event,
+)
     requires scheduled { next plan.now made.old machine.old.state.tables ≡ Submit event.now }
     requires fit { IsFit plan.now made.old machine.old.state.tables event.now }
     requires turns { made.old.turns ≤ made.old.events }

@@ -86,12 +86,23 @@ impl Search {
     }
 }
 
+/// Whether a run made no more events and switches than another one.
+fn is_no_longer(run: &Made, than: &Made) -> bool
+    ensures { result ≡ true → run.now.events ≤ than.now.events }
+{
+    run.events <= than.events && run.switches <= than.switches
+}
+
 /// Whether a run comes to this, in no more events and switches than another one.
 fn is_as_good(run: &Finished, told: &Told, than: &Made) -> bool
     ensures same { result ≡ true → run.now.told ≡ told.now }
     ensures events { result ≡ true → run.now.made.events ≤ than.now.events }
 {
-    run.told == *told && run.made.events <= than.events && run.made.switches <= than.switches
+    if run.told == *told {
+        is_no_longer(&run.made, than)
+    } else {
+        false
+    }
 }
 
 impl Tries {

@@ -153,6 +153,14 @@ pub fn write_table<W: Write>(out: &mut W, asked: &Asked<'_>, tally: &Tally) -> R
     write_others(out, asked, tally.others())
 }
 
+/// A number of switches after a word.
+fn write_switches<W: Write>(out: &mut W, word: &[u8], switches: u32) -> Result<()>
+    ensures { OnOk result
+        (Appends (W.contents out.old) (W.contents out.new) (word.now ++ decimal switches)) }
+{
+    write_counted(out, word, u64::from(switches))
+}
+
 /// How the run was drawn that is kept.
 #[tactic(auto, using(crate::proofs::AppendLemmas::appends_both))]
 fn write_drawn<W: Write>(out: &mut W, found: &Found<'_>) -> Result<()>
@@ -160,7 +168,7 @@ fn write_drawn<W: Write>(out: &mut W, found: &Found<'_>) -> Result<()>
         (Appends (W.contents out.old) (W.contents out.new) (drawn_text found.now)) }
 {
     match found.plan.turns {
-        Some(_) => write_counted(out, b", drawn with ", u64::from(found.drawn)),
+        Some(_) => write_switches(out, b", drawn with ", found.drawn),
         None => out.write_all(b", as it was drawn"),
     }
 }
@@ -173,7 +181,7 @@ pub fn write_kept<W: Write>(out: &mut W, seed: u64, found: &Found<'_>) -> Result
         (Appends (W.contents out.old) (W.contents out.new) (kept_text seed found.now)) }
 {
     write_counted(out, b"kept: the run of seed ", seed)?;
-    write_counted(out, b", switches: ", u64::from(found.switches))?;
+    write_switches(out, b", switches: ", found.switches)?;
     write_drawn(out, found)?;
     out.write_all(b"\n")
 }

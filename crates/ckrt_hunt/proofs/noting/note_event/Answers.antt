@@ -14,3 +14,9 @@ with-requires c =
       events = omega (arith, fit.limit, fit.events);
       steps = omega (arith, fit.limit, fit.steps, answers, ran_within c.args.event.now c.args.machine.now.state);
     }
+
+pub returns-in-Some-clause-harts : goal.returns-in-Some-clause-harts
+returns-in-Some-clause-harts c = ap (λ (a : After). a.state.tables.threads.hart_count) c.step-answer.ensures.step ∙ same_harts c.args.event.now c.args.machine.now.state
+
+pub returns-in-None-clause-harts : goal.returns-in-None-clause-harts
+returns-in-None-clause-harts c = ap (λ (a : After). a.state.tables.threads.hart_count) c.step-answer.ensures.step ∙ same_harts c.args.event.now c.args.machine.now.state

@@ -1,7 +1,7 @@
-use Rattle.std.proofs.Common.{ap, arith, sym, subst, refl, ◌∙◌}
+use Rattle.std.proofs.Common.{arith, sym, subst, refl, ◌∙◌}
 use Rattle.ckrt_hunt.specs.declared.made.Made.{Made}
-use Rattle.ckrt_hunt.specs.Runs.{HasComeTo, Point}
-use Rattle.ckrt_hunt.proofs.RunLemmas.{comes_from, comes_to}
+use Rattle.ckrt_hunt.specs.Runs.{HasComeTo}
+use Rattle.ckrt_hunt.proofs.RunLemmas.{comes_from, ends_with}
 use Rattle.ckrt_hunt.proofs.runs.run.Goals as goal
 
 pub events-init : goal.events-init
@@ -31,7 +31,4 @@ pub events-smaller : goal.events-smaller
 events-smaller c = omega (arith, c.in-Submit.ensures.fit.events, c.go_on.ensures.events)
 
 pub returns-in-End-clause-ends : goal.returns-in-End-clause-ends
-returns-in-End-clause-ends c = record {
-  comes = comes_to c.args.plan.now c.args.machine.now.state c.events.made c.events.machine.state c.events.hasher c.in-End.ending c.tell-told.result c.events.invariant.come (sym c.in-End.ensures.next) c.tell-told.ensures.outcome c.tell-told.ensures.digest;
-  has_made = ap (λ (x : Point). x.made) c.events.invariant.come.come.point;
-}
+returns-in-End-clause-ends c = ends_with c.args.plan.now c.args.machine.now.state c.events.made c.events.machine.state c.events.hasher c.in-End.ending c.tell-told.result c.events.invariant.come (sym c.in-End.ensures.next) c.tell-told.ensures.outcome c.tell-told.ensures.digest
