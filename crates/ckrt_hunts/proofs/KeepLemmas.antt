@@ -1,12 +1,12 @@
 -- What is kept, with other disks for a path.
-use Rattle.std.proofs.Common.{◌≡◌, ℕ, Bool, List, Option, Some, None, Result, Ok, Err, inl, inr, subst}
+use Rattle.std.proofs.Common.{◌≡◌, ◌⊎◌, ℕ, Bool, List, Option, Some, None, Result, Ok, Err, inl, inr, subst}
 use Rattle.ckrt_disk.specs.declared.disk.Disk.{Ghosts}
 use Rattle.ckrt_hunt.specs.declared.tally.Tally.{Tally}
 use Rattle.ckrt_hunt.specs.declared.telling.HuntFault.{HuntFault}
 use Rattle.ckrt_sources.specs.Openings.{Openings, opened, with_making}
 use Rattle.ckrt_outcomes.specs.declared.fault.JobFault.{JobFault}
 use Rattle.ckrt_hunt.specs.declared.plan.Plan.{Plan}
-use Rattle.ckrt_hunts.specs.Hunting.{EndsHunt, EndsTold, KeepsAt, KeepsFound, Reached, Wanted}
+use Rattle.ckrt_hunts.specs.Hunting.{EndsHunt, KeepsAt, KeepsFound, LacksRoom, Reached, Wanted}
 use Rattle.ckrt_hunts.specs.Keeping.{Keeping, Keeps, KeepsOn}
 
 -- all disks that one may have the other may have
@@ -31,6 +31,18 @@ pub keeps_made : {D : Type 0} (d : Ghosts D) (it : Keeping D) (Fills : D → Typ
     → asked ≡ with_making old (opened it.path) → ((disk : D) → it.Fills disk → Fills disk) → KeepsOn d it asked new result → Keeps d (record it { Fills = Fills }) old new result
 keeps_made d it Fills old asked new result is more k =
     inr (subst (λ x. KeepsOn d (record it { Fills = Fills }) x new result) is (keeps_on_weaker d it Fills asked new result more k))
+
+-- what was kept for a path was, whatever path the words name
+pub kept_at : {D : Type 0} (d : Ghosts D) (wanted : Wanted D) (other : Option (List ℕ)) (path : List ℕ) (old new : Reached D) (result : Result (Unit {0}) JobFault)
+    → LacksRoom old new result ⊎ KeepsFound d (record wanted { path = other }) path old new result → KeepsAt d wanted old new result (Some path)
+kept_at d wanted other path old new result (inl lacks) = inl lacks
+kept_at d wanted other path old new result (inr k) = inr (record {
+  found = k.found;
+  is_found = k.is_found;
+  kept = k.kept;
+  keeps = k.keeps;
+  tells = k.tells;
+})
 
 pub keeps_at_weaker : {D : Type 0} (d : Ghosts D) (wanted : Wanted D) (Fills : List ℕ → D → Type 0) (old new : Reached D) (result : Result (Unit {0}) JobFault) (path : Option (List ℕ))
     → ((p : Plan) (at : List ℕ) (disk : D) → (wanted.keeping p at).Fills disk → Fills at disk) → KeepsAt d wanted old new result path

@@ -97,7 +97,7 @@ fn tell_kept<W: Write>(writer: &mut W, seed: u64, found: &Found<'_>) -> Result<(
     }
 }
 
-/// Keeps the run of a seed by a plan on a disk of a path, and says so.
+/// Keeps the run of the plan that was found for a seed on a disk of a path, and says so.
 fn keep_found<'a, I: Read, D: Disk, S: Sources<'a, I, D>, W: Write>(
     alloc: Global,
     seed: u64,
@@ -110,14 +110,14 @@ fn keep_found<'a, I: Read, D: Disk, S: Sources<'a, I, D>, W: Write>(
     ensures { (kept : Result (Unit {0}) JobFault)
         × Keeps D.Disk (record {
           program = formatted_program what.now.config what.now.image.now;
-          plan = what.now.plan;
+          plan = found.now.plan;
           path = what.now.path.now;
           Fills = S.fills sources.old what.now.path.now (size_needed what.now.config);
         })
         (S.openings sources.old) (S.openings sources.new) kept
         × TellsKept seed found.now (W.contents writer.old) (W.contents writer.new) kept result }
 {
-    match keep::<I, D, S>(alloc, what, sources) {
+    match keep::<I, D, S>(alloc, what, &found.plan, sources) {
         Ok(()) => tell_kept(writer, seed, found),
         Err(fault) => Err(fault),
     }
@@ -163,7 +163,6 @@ fn keep_first<'a, I: Read, D: Disk, S: Sources<'a, I, D>, W: Write>(
         path,
         config,
         image,
-        plan: found.plan,
     };
     keep_found::<I, D, S, W>(alloc, seed, &found, &what, sources, writer)
 }
@@ -227,13 +226,15 @@ fn hunt_image<'a, I: Read, D: Disk, S: Sources<'a, I, D>, W: Write>(
 }
 
 /// Runs the image of a path by one schedule after another, each drawn from its seed, and writes the table of what they come to. The
-/// answer is whether they came to several outcomes. Where the words name a disk for it, the run of the first seed is kept there.
+/// answer is whether they came to several outcomes. Where the words name a disk for it, the run of the first seed is kept there, by
+/// the shortest schedule that is found, and how many switches it has is written too.
 ///
 /// # Errors
 ///
 /// The first that applies: `BadConfig` where pages or harts are out of their ranges; `Range` where the text of the seeds isn't a
 /// range; `File` and `OutOfMemory` of the image, `File` also where it is an ELF file; `ImageTooLong`; `OutOfMemory` of the hunt;
-/// `Serve` where the writer failed; of the disk `File`, what formatting and recovery answer, and `RunTooLong`.
+/// `Serve` where the writer failed; of the disk `OutOfMemory` of the search for a schedule, `File`, what formatting and recovery answer,
+/// `RunTooLong`, and `Serve` where the writer failed once the disk had its name.
 pub fn hunt_path<'a, I: Read + Drop, D: Disk, S: Sources<'a, I, D>, W: Write>(
     alloc: Global,
     job: &HuntJob<'a>,

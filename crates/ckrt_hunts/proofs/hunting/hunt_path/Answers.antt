@@ -1,4 +1,4 @@
-use Rattle.std.proofs.Common.{◌≡◌, ◌∙◌, refl, subst, inr}
+use Rattle.std.proofs.Common.{◌∙◌, refl, subst, inr}
 use Rattle.ckrt_words.specs.Jobs.{hunting_of}
 use Rattle.ckrt_jobs.specs.Making.{IsFit}
 use Rattle.ckrt_hunt.specs.declared.table.Asked.{Asked}
