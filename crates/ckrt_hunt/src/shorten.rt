@@ -55,32 +55,45 @@ impl Search {
     /// The search among that many turns.
     fn new(count: usize) -> Search {
         Search {
-            piece: count.max(1),
+            piece: count,
             ahead: count,
             has_cut: false,
         }
     }
 
-    /// The next round, with pieces half as long; None behind one of single turns that left out nothing.
+    /// Goes on to the next round, with pieces half as long; false behind one of single turns that left out nothing.
     fn next_round(&mut self, count: usize) -> bool {
-        if self.piece == 1 && !self.has_cut {
+        if self.piece <= 1 && !self.has_cut {
             return false;
         }
-        self.piece = (self.piece / 2).max(1);
+        self.piece /= 2;
         self.ahead = count;
         self.has_cut = false;
         true
     }
 
-    /// What is left out next of that many turns.
-    fn next(&mut self, count: usize) -> Option<Piece>
-        ensures { IfSome result (λ piece. (piece.from ≤ piece.to) × (piece.to ≤ count)) }
+    /// Up to where turns are left out next of that many; None where there is nothing more to try.
+    fn next_end(&mut self, count: usize) -> Option<usize>
+        ensures { IfSome result (λ to. (1 ≤ to) × (to ≤ count)) }
     {
-        if self.ahead == 0 && !self.next_round(count) {
+        if count == 0 {
             return None;
         }
-        let to = self.ahead.min(count);
-        let from = to.saturating_sub(self.piece);
+        if 0 < self.ahead {
+            return Some(self.ahead.min(count));
+        }
+        if self.next_round(count) {
+            return Some(count);
+        }
+        None
+    }
+
+    /// What is left out next of that many turns, one turn at least; None where there is nothing more to try.
+    fn next(&mut self, count: usize) -> Option<Piece>
+        ensures { IfSome result (λ piece. (piece.from < piece.to) × (piece.to ≤ count)) }
+    {
+        let to = self.next_end(count)?;
+        let from = to.saturating_sub(self.piece.max(1));
         self.ahead = from;
         Some(Piece { from, to })
     }
