@@ -1,12 +1,24 @@
 """Reads disks by examples/read_disk.py, which was written from the page on the format alone."""
 import contextlib
 import io
+import re
 import sys
 
 from shared.programs import TOP
 
 sys.path.insert(0, str(TOP / "examples"))
 import read_disk  # noqa: E402
+
+
+def events(disk):
+    """The lines of the events that the journal of the area in use has, in their order."""
+    text = io.StringIO()
+    with contextlib.redirect_stdout(text):
+        config = read_disk.read_superblock(disk)
+        headers = [read_disk.read_header(disk, config.area_at(index)) for index in range(2)]
+        used = read_disk.area_in_use(headers)
+        read_disk.print_journal(disk, config, used, headers[used].version, headers[used].events)
+    return re.findall(r"^    \d+ (.*)$", text.getvalue(), re.MULTILINE)
 
 
 def recovered(disk):

@@ -1,5 +1,6 @@
 pub mod TurnLemmas
 pub mod RunLemmas
+mod ShortLemmas
 pub mod TallyLemmas
 pub mod SameLemmas
 pub mod KeepLemmas

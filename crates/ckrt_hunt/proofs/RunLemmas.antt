@@ -16,7 +16,7 @@ use Rattle.ckrt_hunt.specs.declared.runs.Told.{Told}
 use Rattle.ckrt_hunt.specs.Plans.{made_with, nothing_made}
 use Rattle.ckrt_hunt.specs.Turns.{next, runner_of}
 use Rattle.ckrt_hunt.specs.Outcomes.{digest_of, outcome_of}
-use Rattle.ckrt_hunt.specs.Runs.{AreScheduled, ComesTo, HasComeTo, Point, beginning, behind, next_at, on}
+use Rattle.ckrt_hunt.specs.Runs.{AreScheduled, ComesTo, EndsWith, HasComeTo, Point, beginning, behind, next_at, on}
 
 module _ (p : Plan) where
   pub scheduled_on : (es : List Event) (e : Event) (x : Point) → AreScheduled p es x → next_at p (behind p es x) ≡ Submit e → AreScheduled p (es ++ e ∷ []) x
@@ -73,6 +73,14 @@ module _ (p : Plan) where
         outcome = o ∙ ap (λ (t : State). outcome_of ending t.tables) c.folded;
         digest = d (output_of es start) c.output;
       }
+
+  -- and what it has made by then
+  pub ends_with : (start : State) (m : Made) (s : State) (hasher : Sha256) (ending : DriveEnd) (told : Told) → HasComeTo p start m s hasher → next p m s.tables ≡ End ending → told.outcome ≡ outcome_of ending s.tables → ((o : List ℕ) → Holds256 hasher o → told.digest ≡ digest_of told.outcome o) → EndsWith p start told m
+  unfolding comes_to
+  ends_with start m s hasher ending told h n o d = record {
+    comes = comes_to start m s hasher ending told h n o d;
+    has_made = ap (λ (x : Point). x.made) h.come.point;
+  }
 
   -- a run has one list of events
   pub same_events : (es fs : List Event) (x : Point) (a b : DriveEnd) → AreScheduled p es x → next_at p (behind p es x) ≡ End a → AreScheduled p fs x → next_at p (behind p fs x) ≡ End b → es ≡ fs

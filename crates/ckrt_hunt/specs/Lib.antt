@@ -1,9 +1,11 @@
 pub mod Lots
 pub mod Plans
+pub mod Given
 pub mod Turns
 pub mod Outcomes
 pub mod Runs
 pub mod Tallies
+pub mod Short
 pub mod Seeds
 pub mod Table
 pub mod Kept

@@ -7,7 +7,7 @@
 -- probability of at least 1 / (n k^(d-1)). This one looks at them before each turn: so that is its bound only as far as no thread of a higher
 -- priority is woken within a turn, the clock doesn't matter, the lots are true ones, and no thread is lowered at two change points. Such a thread
 -- keeps the point of the lower number, where the algorithm has the one that was reached last.
-use Rattle.std.specs.Prelude.{ℕ, ◌+◌, ◌%◌, ◌==◌, nat_le, nat_lt, Bool, true, false, if◌then◌else◌, Option, Some, None}
+use Rattle.std.specs.Prelude.{ℕ, ◌+◌, ◌%◌, ◌==◌, nat_le, nat_lt, min, Bool, true, false, if◌then◌else◌, Option, Some, None}
 use Rattle.ckrt_machine.specs.declared.event.Answer.{Answer}
 use Rattle.ckrt_machine.specs.declared.event.Answer.TheVariants.{Placed, Ran, Taken, Closed, Ticked}
 use Rattle.ckrt_machine.specs.declared.event.RunEnd.{RunEnd}
@@ -39,6 +39,7 @@ plan_with limit seed k first second third = record {
   second = second;
   third = third;
   is_early = is_early seed;
+  turns = None;
 }
 
 abbrev pub by_priorities : (limit seed k : ℕ) → Plan
@@ -63,6 +64,8 @@ nothing_made = record {
   turns = 0;
   steps = 0;
   is_near_call = false;
+  runner = None;
+  switches = 0;
   lowered = record { first = None; second = None; third = None };
 }
 
@@ -85,6 +88,12 @@ has_left On = false
 has_left Off = true
 has_left End = false
 
+-- how many times another thread has gone on: once, where the one who makes the next steps isn't the one who made the last
+abbrev pub switch_to : (runner who : Option ℕ) → ℕ
+switch_to None who = 0
+switch_to (Some t) None = 1
+switch_to (Some t) (Some u) = if t == u then 0 else 1
+
 -- one more event, which came to this; who was on the hart of a run made its steps
 abbrev pub made_with : Plan → (who : Option ℕ) → Answer → Made → Made
 made_with p who (Ran n how) m = record {
@@ -92,6 +101,8 @@ made_with p who (Ran n how) m = record {
   turns = m.turns + 1;
   steps = m.steps + n;
   is_near_call = has_left how;
+  runner = who;
+  switches = min (m.switches + switch_to m.runner who) 4294967295;
   lowered = lowered_by p (m.steps + n) who m.lowered;
 }
 made_with p who (Ticked ended) m = record m { events = m.events + 1; turns = m.turns + 1 }

@@ -64,6 +64,11 @@ pub record ComesTo (p : Plan) (start : State) (told : Told) : Type 0 where
   pub outcome : told.outcome ≡ outcome_of ending (fold events start).state.tables
   pub digest : told.digest ≡ digest_of told.outcome (output_of events start)
 
+-- the same, and what the run has made then
+pub record EndsWith (p : Plan) (start : State) (told : Told) (made : Made) : Type 0 where
+  pub comes : ComesTo p start told
+  pub has_made : made ≡ (behind p comes.events (beginning start)).made
+
 -- the same by some events
 pub record HasComeTo (p : Plan) (start : State) (made : Made) (state : State) (hasher : Sha256) : Type 0 where
   pub events : List Event

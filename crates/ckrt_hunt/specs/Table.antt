@@ -15,6 +15,7 @@ use Rattle.ckrt_hunt.specs.declared.outcome.Outcome.TheVariants as outcome
 use Rattle.ckrt_hunt.specs.declared.outcome.Waiting.{Waiting}
 use Rattle.ckrt_hunt.specs.declared.row.Row.{Row}
 use Rattle.ckrt_hunt.specs.declared.shape.Shape.{Shape}
+use Rattle.ckrt_hunt.specs.declared.shorten.Found.{Found}
 use Rattle.ckrt_hunt.specs.declared.table.Asked.{Asked}
 use Rattle.ckrt_hunt.specs.declared.tally.Tally.{Tally}
 
@@ -99,3 +100,21 @@ others_line a others =
 
 abbrev pub table_text : Asked → Tally → List ℕ
 table_text a t = rows_text a t.rows.items (length t.rows.items) ++ others_line a t.others
+
+-- A RUN THAT IS KEPT
+--
+--     kept: the run of seed 17, switches: 4, drawn with 4123
+
+-- how many switches it was drawn with, where it was shortened
+abbrev pub drawn_by : {A : Type 0} → (given : Option A) → (drawn : ℕ) → List ℕ
+drawn_by None drawn = codes ", as it was drawn"
+drawn_by (Some turns) drawn = codes ", drawn with " ++ decimal drawn
+
+abbrev pub drawn_text : Found → List ℕ
+drawn_text found = drawn_by found.plan.turns found.drawn
+
+abbrev pub kept_text : (seed : ℕ) → Found → List ℕ
+kept_text seed found =
+    codes "kept: the run of seed " ++ decimal seed ++ (codes ", switches: " ++ decimal found.switches)
+    ++ drawn_text found
+    ++ 10 ∷ []

@@ -19,7 +19,9 @@ use Rattle.ckrt_hunt.specs.declared.lots.TheConstants.{CLOCK, HART, LENGTH, SCAL
 use Rattle.ckrt_hunt.specs.declared.plan.Plan.{Plan}
 use Rattle.ckrt_hunt.specs.declared.made.Lowered.{Lowered}
 use Rattle.ckrt_hunt.specs.declared.made.Made.{Made}
+use Rattle.ckrt_hunt.specs.declared.given.Turn.{Turn}
 use Rattle.ckrt_hunt.specs.declared.turn.Ranked.{Ranked}
+use Rattle.ckrt_hunt.specs.Given as given
 use Rattle.ckrt_hunt.specs.Lots.{lot_at, shortest_of}
 
 -- WHOSE TURN IT IS
@@ -45,10 +47,18 @@ priority_of seed l t =
 abbrev pub has_priorities : Plan → Made → Bool
 has_priorities p m = nat_lt m.steps p.horizon
 
--- what its rank is at a turn: its priority, or a lot of the turn
-abbrev pub rank_of : Plan → Made → ℕ → ℕ
-rank_of p m t =
+-- what its rank is at a turn that is drawn: its priority, or a lot of the turn
+abbrev pub drawn_rank : Plan → Made → ℕ → ℕ
+drawn_rank p m t =
     if has_priorities p m then priority_of p.seed m.lowered t else lot_at p.seed (m.turns + 1) t
+
+abbrev pub rank_by : Option Turn → Plan → Made → ℕ → ℕ
+rank_by None p m t = drawn_rank p m t
+rank_by (Some turn) p m t = given.rank_of turn t
+
+-- what its rank is
+abbrev pub rank_of : Plan → Made → ℕ → ℕ
+rank_of p m t = rank_by (given.given_turn p m) p m t
 
 abbrev pub ranked : Plan → Made → ℕ → Ranked
 ranked p m t = record { thread = t; rank = rank_of p m t }
@@ -88,15 +98,23 @@ drawn_length p m =
     lot_at p.seed (m.turns + 1) LENGTH
     % shortest_of m.is_near_call (lot_at p.seed (m.turns + 1) SCALE) + 1
 
--- how long a turn is: by lot, and up to the next change point at most
-abbrev pub length_of : Plan → Made → ℕ
-length_of p m =
+-- how long a turn is that is drawn: by lot, and up to the next change point at most
+abbrev pub drawn_turn : Plan → Made → ℕ
+drawn_turn p m =
     if has_priorities p m then min (drawn_length p m) (next_point p m.steps - m.steps)
     else drawn_length p m
 
--- the steps of a turn, as many as are left
-abbrev pub steps_of : Plan → Made → ℕ
-steps_of p m = min (length_of p m) (p.limit - m.steps)
+abbrev pub length_by : Option Turn → Plan → Made → ℕ → ℕ
+length_by None p m t = drawn_turn p m
+length_by (Some turn) p m t = given.length_of turn t
+
+-- how long the turn of a thread is
+abbrev pub length_of : Plan → Made → ℕ → ℕ
+length_of p m t = length_by (given.given_turn p m) p m t
+
+-- the steps of a thread's turn, as many as are left
+abbrev pub steps_of : Plan → Made → ℕ → ℕ
+steps_of p m t = min (length_of p m t) (p.limit - m.steps)
 
 -- WHAT IT IS
 
@@ -109,30 +127,51 @@ hart_among (suc n) h t s = if threads.holds t (hart_of s h) then Some h else har
 abbrev pub hart_from : (h : ℕ) → ℕ → Tables → Option ℕ
 hart_from h t s = hart_among (8 - h) h t s
 
--- a thread runs on its hart, and goes onto one by lot where it is on none
+abbrev pub hart_by : Option Turn → Plan → Made → ℕ
+hart_by None p m = lot_at p.seed (m.turns + 1) HART
+hart_by (Some turn) p m = given.hart_of turn
+
+-- which hart is wanted for a thread that is on none: by lot, or the one that is given
+abbrev pub wanted_hart : Plan → Made → ℕ
+wanted_hart p m = hart_by (given.given_turn p m) p m
+
+-- a thread runs on its hart, and goes onto the one that is wanted where it is on none
 abbrev pub on_or_onto : Option ℕ → Plan → Made → ℕ → Tables → Event
-on_or_onto (Some h) p m t s = run_by h (steps_of p m)
-on_or_onto None p m t s = Place (lot_at p.seed (m.turns + 1) HART % s.threads.hart_count) t
+on_or_onto (Some h) p m t s = run_by h (steps_of p m t)
+on_or_onto None p m t s = Place (wanted_hart p m % s.threads.hart_count) t
 
 -- one turn in 8 is the clock's where ticks come early, else one in 64, by lot
 abbrev pub clock_period : Plan → ℕ
 clock_period p = if p.is_early then 8 else 64
 
+abbrev pub clocks_by : Option Turn → Plan → Made → Bool
+clocks_by None p m = lot_at p.seed (m.turns + 1) CLOCK % clock_period p == 0
+clocks_by (Some turn) p m = given.is_clocks turn
+
+-- the turn is the clock's
 abbrev pub is_clocks : Plan → Made → Bool
-is_clocks p m = lot_at p.seed (m.turns + 1) CLOCK % clock_period p == 0
+is_clocks p m = clocks_by (given.given_turn p m) p m
 
 abbrev pub or_a_tick : Next → Event
 or_a_tick (Submit e) = e
 or_a_tick (End ending) = Tick 1
 
 -- the clock goes on by a tick; where ticks come early, to the earliest deadline, if there is one
-abbrev pub tick_by : Plan → Tables → Event
-tick_by p s = if p.is_early then or_a_tick (idle_until (earliest_deadline s.threads.waits) s) else Tick 1
+abbrev pub drawn_tick : Plan → Tables → Event
+drawn_tick p s = if p.is_early then or_a_tick (idle_until (earliest_deadline s.threads.waits) s) else Tick 1
+
+abbrev pub ticks_by : Option Turn → Plan → Tables → Event
+ticks_by None p s = drawn_tick p s
+ticks_by (Some turn) p s = Tick (given.ticks_of turn)
+
+-- the event of a clock's turn
+abbrev pub tick_by : Plan → Made → Tables → Event
+tick_by p m s = ticks_by (given.given_turn p m) p s
 
 -- the event of a turn, for the thread whose turn it is
 abbrev pub event_for : Plan → Made → ℕ → Tables → Event
 event_for p m t s =
-    if is_clocks p m then tick_by p s else on_or_onto (hart_from 0 t s) p m t s
+    if is_clocks p m then tick_by p m s else on_or_onto (hart_from 0 t s) p m t s
 
 -- where no thread may run, the clock goes to the earliest deadline, and without one there is nothing more to do
 abbrev pub next_for : Option Ranked → Plan → Made → Tables → Next

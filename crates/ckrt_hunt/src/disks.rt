@@ -38,7 +38,7 @@ pub struct KeptDisk<D: Disk> {
 }
 
 /// Keeps a run over a session.
-fn keep_over<D: Disk>(session: &mut Session<D>, plan: &Plan) -> Result<DriveEnd, SeedFault>
+fn keep_over<D: Disk>(session: &mut Session<D>, plan: &Plan<'_>) -> Result<DriveEnd, SeedFault>
     ensures kept { IfOk result (λ ending. KeepsRun plan.now session.old session.new (Ok ending)) }
     ensures took { (events : List Event) × Accepts events session.old session.new }
     ensures why { IfErr result (IsOverReason plan.now session.old session.new) }
@@ -54,7 +54,7 @@ fn keep_over<D: Disk>(session: &mut Session<D>, plan: &Plan) -> Result<DriveEnd,
 }
 
 /// Keeps a run on a disk with a program before its first event.
-fn keep_recovered<D: Disk>(alloc: Global, disk: D, plan: &Plan) -> KeptDisk<D>
+fn keep_recovered<D: Disk>(alloc: Global, disk: D, plan: &Plan<'_>) -> KeptDisk<D>
     ensures kept { (program : Program)
         → (D.is_honest disk → RecoversToStart program (D.content disk))
         → KeepsSeed D.Disk program plan.now result }
@@ -92,7 +92,7 @@ pub fn keep_seed<D: Disk>(
     disk: D,
     config: Config,
     image: &[u8],
-    plan: &Plan,
+    plan: &Plan<'_>,
 ) -> KeptDisk<D>
     ensures kept { KeepsSeed D.Disk (formatted_program config image.now) plan.now result }
     ensures why { HasReason D.Disk (formatted_program config image.now) plan.now disk result }

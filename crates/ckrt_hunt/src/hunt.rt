@@ -3,10 +3,12 @@ ghost use Rattle.std.specs.Prelude.{◌≡◌, ◌≤◌, ◌*◌, ◌-◌, ◌<
 ghost use Rattle.ckrt_memory.specs.declared.MemoryError.TheVariants.{ImageTooLong};
 ghost use Rattle.ckrt_machine.specs.Events.{fresh};
 
+use crate::noting::note_turns;
 use crate::plan::Plan;
-use crate::runs::{Told, run};
+use crate::runs::{Finished, Told, run};
 use crate::shape::Shape;
 use crate::tally::Tally;
+use crate::turns::Turns;
 use ckrt_machine::Machine;
 use ckrt_memory::{Memory, MemoryError};
 use ckrt_restore::{restore_memory, restore_tables};
@@ -37,6 +39,8 @@ impl Model for Hunt {
 }
 
 impl Hunt {
+    ghost use Rattle.ckrt_hunt.specs.Plans.{plan_of};
+    ghost use Rattle.ckrt_hunt.specs.Runs.{EndsWith};
     ghost use Rattle.ckrt_hunt.specs.Tallies.{AreNoted, SeedComesTo};
 
     /// The hunt of a program that begins with this image.
@@ -60,16 +64,42 @@ impl Hunt {
         })
     }
 
+    /// The plan of a seed.
+    pub fn plan_of<'a>(&self, seed: u64) -> Plan<'a>
+        ensures { result ≡ plan_of self.now.limit seed }
+    {
+        Plan::new(self.limit, seed)
+    }
+
+    /// What a run by a plan comes to. It takes no memory, and the hunt is as it was.
+    pub fn run_by(&mut self, plan: &Plan<'_>) -> Finished
+        ensures ends { EndsWith plan.now self.old.start result.told result.made }
+        ensures same { self.new ≡ self.old }
+    {
+        restore_memory(&mut self.memory, self.machine.memory());
+        restore_tables(&mut self.tables, self.machine.tables());
+        let finished = run(&mut self.machine, plan);
+        self.machine.exchange(&mut self.memory, &mut self.tables);
+        finished
+    }
+
+    /// Notes the turns of a run by a plan, and says whether there was room for all. It takes no memory, and the hunt is as it was.
+    pub(crate) fn note_turns(&mut self, plan: &Plan<'_>, turns: &mut Turns) -> bool
+        ensures { self.new ≡ self.old }
+    {
+        restore_memory(&mut self.memory, self.machine.memory());
+        restore_tables(&mut self.tables, self.machine.tables());
+        let has_all = note_turns(&mut self.machine, plan, turns);
+        self.machine.exchange(&mut self.memory, &mut self.tables);
+        has_all
+    }
+
     /// What a seed comes to. It takes no memory, and the hunt is as it was.
     pub fn run_seed(&mut self, seed: u64) -> Told
         ensures comes { SeedComesTo self.old seed result }
         ensures same { self.new ≡ self.old }
     {
-        restore_memory(&mut self.memory, self.machine.memory());
-        restore_tables(&mut self.tables, self.machine.tables());
-        let told = run(&mut self.machine, &Plan::new(self.limit, seed));
-        self.machine.exchange(&mut self.memory, &mut self.tables);
-        told
+        self.run_by(&Plan::new(self.limit, seed)).told
     }
 
     /// Notes what the seeds from one on, up to but not including another, come to, in turn. It takes no memory, and the hunt

@@ -97,7 +97,7 @@ fn take<D: Disk>(session: &mut Session<D>, event: &Event) -> Result<Answer, Keep
 /// One event on.
 fn keep_event<D: Disk>(
     session: &mut Session<D>,
-    plan: &Plan,
+    plan: &Plan<'_>,
     made: &mut Made,
     event: &Event,
 ) -> Result<(), KeepFault>
@@ -131,7 +131,7 @@ fn finish<D: Disk>(session: &mut Session<D>, ending: DriveEnd) -> Result<DriveEn
 
 /// Runs a program by a plan over a session, from where it stands, and acknowledges the run's events: they are those that
 /// [`run`](crate::run) has from there. Its output isn't kept. It takes no memory.
-pub fn keep<D: Disk>(session: &mut Session<D>, plan: &Plan) -> Result<DriveEnd, KeepFault>
+pub fn keep<D: Disk>(session: &mut Session<D>, plan: &Plan<'_>) -> Result<DriveEnd, KeepFault>
     requires { 1 ≤ session.old.progress.machine.state.tables.threads.hart_count }
     ensures { KeepsRun plan.now session.old session.new result }
 {

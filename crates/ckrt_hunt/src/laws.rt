@@ -1,6 +1,6 @@
 //! That what is told of a seed is what it does again, in memory or on a disk. Each law is the contract of a function with an
 //! empty body.
-ghost use Rattle.std.specs.Prelude.{◌≡◌};
+ghost use Rattle.std.specs.Prelude.{◌≡◌, ℕ};
 ghost use Rattle.ckrt_machine.specs.Steps.{State};
 ghost use Rattle.ckrt_hunt.specs.declared.plan.Plan.{Plan};
 ghost use Rattle.ckrt_hunt.specs.declared.runs.Told.{Told};
@@ -8,6 +8,8 @@ ghost use Rattle.ckrt_drive.specs.declared.step_done.DriveEnd.{DriveEnd};
 ghost use Rattle.ckrt_stored.specs.Programs.{Program, start_of};
 ghost use Rattle.ckrt_hunt.specs.KeptDisks.{HasRun, IsToldOf};
 ghost use Rattle.ckrt_hunt.specs.Runs.{ComesTo};
+ghost use Rattle.ckrt_hunt.specs.Short.{Repeats};
+ghost use Rattle.ckrt_hunt.specs.Tallies.{Hunted, SeedComesTo};
 
 use ckrt_disk::Disk;
 
@@ -23,4 +25,12 @@ pub fn told_is_kept<D: Disk>()
     ensures { (program : Program) (p : Plan) (disk : D) (ending : DriveEnd) (told : Told)
         → (has : HasRun D.Disk program p disk ending)
         → ComesTo p (start_of program) told → IsToldOf has told }
+{}
+
+/// What is told of a seed, and what a disk has on which its run was kept by a shorter schedule, are one thing too.
+pub fn told_is_kept_short<D: Disk>()
+    ensures { (h : Hunted) (seed : ℕ) (program : Program) (p : Plan) (disk : D) (ending : DriveEnd)
+        (told : Told) → h.start ≡ start_of program → Repeats h seed p
+        → (has : HasRun D.Disk program p disk ending) → SeedComesTo h seed told
+        → IsToldOf has told }
 {}

@@ -1,6 +1,6 @@
 //! What a run has made so far.
 ghost use Rattle.std.specs.Prelude.{◌≡◌, ◌<◌, ◌+◌};
-ghost use Rattle.ckrt_hunt.specs.Plans.{has_left, lowered_at, lowered_by, made_with, nothing_made, steps_made};
+ghost use Rattle.ckrt_hunt.specs.Plans.{has_left, lowered_at, lowered_by, made_with, nothing_made, steps_made, switch_to};
 ghost use Rattle.ckrt_hunt.specs.Turns.{priority_of, is_at};
 
 use crate::lots::lot_at;
@@ -25,6 +25,10 @@ pub struct Made {
     pub steps: u32,
     /// Whether the last run ended as its thread left the hart, which it mostly does in a call.
     pub is_near_call: bool,
+    /// Who made the last steps.
+    pub runner: Option<ThreadId>,
+    /// How often a run was of another thread than the run before.
+    pub switches: u32,
     pub lowered: Lowered,
 }
 
@@ -55,15 +59,26 @@ fn is_at(lowered: Option<ThreadId>, thread: ThreadId) -> bool
 }
 
 /// Whether the run ended as its thread left the hart.
-fn has_left(end: RunEnd) -> bool
+pub(crate) fn has_left(end: RunEnd) -> bool
     ensures { result ≡ has_left end }
 {
     matches!(end, RunEnd::Off)
 }
 
+/// How many times another thread has gone on: once, where the one who makes the next steps isn't the one who made the last.
+fn switch_to(runner: Option<ThreadId>, who: Option<ThreadId>) -> u32
+    ensures { result ≡ switch_to runner who }
+{
+    match (runner, who) {
+        (None, _) => 0,
+        (Some(_), None) => 1,
+        (Some(last), Some(next)) => u32::from(last != next),
+    }
+}
+
 impl Lowered {
     /// The same where that many steps are made, the last ones by this thread.
-    fn with(self, plan: &Plan, steps: u32, who: Option<ThreadId>) -> Lowered
+    fn with(self, plan: &Plan<'_>, steps: u32, who: Option<ThreadId>) -> Lowered
         ensures { result ≡ lowered_by plan.now steps who self }
     {
         Lowered {
@@ -99,6 +114,8 @@ impl Made {
             turns: 0,
             steps: 0,
             is_near_call: false,
+            runner: None,
+            switches: 0,
             lowered: Lowered {
                 first: None,
                 second: None,
@@ -108,7 +125,7 @@ impl Made {
     }
 
     /// One more event, which came to this answer; who was on the hart of a run made its steps.
-    pub fn with(self, plan: &Plan, who: Option<ThreadId>, answer: Answer) -> Made
+    pub fn with(self, plan: &Plan<'_>, who: Option<ThreadId>, answer: Answer) -> Made
         requires turns { self.turns < 4294967295 }
         requires events { self.events < 4294967295 }
         requires steps { self.steps + steps_made answer < 4294967296 }
@@ -120,6 +137,8 @@ impl Made {
                 turns: self.turns + 1,
                 steps: self.steps + steps,
                 is_near_call: has_left(end),
+                runner: who,
+                switches: self.switches.saturating_add(switch_to(self.runner, who)),
                 lowered: self.lowered.with(plan, self.steps + steps, who),
             },
             Answer::Ticked(_) => Made {

@@ -1,12 +1,13 @@
-//! What a seed has drawn before its run begins.
-ghost use Rattle.std.specs.Prelude.{◌≡◌, ◌≤◌};
+//! What a seed has drawn before its run begins, and which turns are given.
+ghost use Rattle.std.specs.Prelude.{◌≡◌, ◌≤◌, Some};
 
 use crate::drawn::{is_early, point_of};
+use crate::given::Turn;
 use crate::lots::{SCALE, lot_at, scale_of};
 
-/// The plan of a seed: what it has drawn before its run begins.
-#[derive(Clone, Copy, Debug, PartialEq, Eq)]
-pub struct Plan {
+/// The plan of a run: what its seed has drawn before it begins, and the turns that are given in place of drawn ones.
+#[derive(Clone, Copy, Debug)]
+pub struct Plan<'a> {
     /// A run ends at that many steps, and at that many events.
     pub limit: u32,
     pub seed: u64,
@@ -18,13 +19,15 @@ pub struct Plan {
     pub third: u32,
     /// Whether ticks come early.
     pub is_early: bool,
+    /// The first turns of the run, where they are given. Those behind them are then [`Turn::Lowest`].
+    pub turns: Option<&'a [Turn]>,
 }
 
-impl Plan {
+impl<'a> Plan<'a> {
     ghost use Rattle.ckrt_hunt.specs.Plans.{by_lot, by_priorities, plan_of};
 
     /// The plan of a seed, for a run of at most that many steps, and as many events.
-    pub fn new(limit: u32, seed: u64) -> Plan
+    pub fn new(limit: u32, seed: u64) -> Plan<'a>
         ensures { result ≡ plan_of limit seed }
     {
         if seed % 2 == 0 {
@@ -34,8 +37,18 @@ impl Plan {
         }
     }
 
+    /// The same with these turns in place of drawn ones.
+    pub fn with_turns(self, turns: &'a [Turn]) -> Plan<'a>
+        ensures { result ≡ record self.entry { turns = Some turns.entry } }
+    {
+        Plan {
+            turns: Some(turns),
+            ..self
+        }
+    }
+
     /// All goes by lot.
-    fn by_lot(limit: u32, seed: u64) -> Plan
+    fn by_lot(limit: u32, seed: u64) -> Plan<'a>
         ensures { result ≡ by_lot limit seed }
     {
         Plan {
@@ -46,11 +59,12 @@ impl Plan {
             second: 0,
             third: 0,
             is_early: is_early(seed),
+            turns: None,
         }
     }
 
     /// Priorities for that many steps.
-    fn by_priorities(limit: u32, seed: u64, steps: u32) -> Plan
+    fn by_priorities(limit: u32, seed: u64, steps: u32) -> Plan<'a>
         requires some { 1 ≤ steps }
         requires few { steps ≤ 1000000 }
         ensures { result ≡ by_priorities limit seed steps }
@@ -63,6 +77,7 @@ impl Plan {
             second: point_of(seed, steps, 1),
             third: point_of(seed, steps, 2),
             is_early: is_early(seed),
+            turns: None,
         }
     }
 }

@@ -5,7 +5,7 @@ ghost use Rattle.ckrt_machine.specs.Steps.{State};
 ghost use Rattle.ckrt_drive.specs.declared.plan.Next.TheVariants.{Submit};
 ghost use Rattle.ckrt_hunt.specs.Outcomes.{digest_of, outcome_of};
 ghost use Rattle.ckrt_hunt.specs.Turns.{IsFit, next};
-ghost use Rattle.ckrt_hunt.specs.Runs.{ComesTo, HasComeTo};
+ghost use Rattle.ckrt_hunt.specs.Runs.{EndsWith, HasComeTo};
 
 use crate::made::Made;
 use crate::outcome::{Outcome, outcome_of};
@@ -25,8 +25,22 @@ pub struct Told {
     pub digest: Option<[u8; 32]>,
 }
 
+/// A run that has come to its end.
+#[derive(Debug, Drop)]
+pub struct Finished {
+    pub told: Told,
+    /// What it has made.
+    pub made: Made,
+}
+
 /// One event on.
-fn go_on(machine: &mut Machine, plan: &Plan, made: &mut Made, hasher: &mut Sha256, event: &Event)
+fn go_on(
+    machine: &mut Machine,
+    plan: &Plan<'_>,
+    made: &mut Made,
+    hasher: &mut Sha256,
+    event: &Event,
+)
     requires scheduled { next plan.now made.old machine.old.state.tables ≡ Submit event.now }
     requires fit { IsFit plan.now made.old machine.old.state.tables event.now }
     requires turns { made.old.turns ≤ made.old.events }
@@ -70,9 +84,9 @@ fn tell(machine: &Machine, ending: DriveEnd, hasher: Sha256) -> Told
 }
 
 /// Runs a program by a plan, from the state that the machine is in, and tells what it comes to. It takes no memory.
-pub fn run(machine: &mut Machine, plan: &Plan) -> Told
+pub fn run(machine: &mut Machine, plan: &Plan<'_>) -> Finished
     requires { 1 ≤ machine.old.state.tables.threads.hart_count }
-    ensures comes { ComesTo plan.now machine.old.state result }
+    ensures ends { EndsWith plan.now machine.old.state result.told result.made }
     ensures harts { machine.new.state.tables.threads.hart_count
         ≡ machine.old.state.tables.threads.hart_count }
     ensures size { length machine.new.state.bytes ≡ length machine.old.state.bytes }
@@ -82,7 +96,10 @@ pub fn run(machine: &mut Machine, plan: &Plan) -> Told
     'events: loop {
         match next(machine, plan, &made) {
             Next::Submit(event) => go_on(machine, plan, &mut made, &mut hasher, &event),
-            Next::End(ending) => return tell(machine, ending, hasher),
+            Next::End(ending) => {
+                let told = tell(machine, ending, hasher);
+                return Finished { told, made };
+            }
         }
     }
 }

@@ -1,11 +1,12 @@
 //! What a hunt came to, as a table.
 ghost use Rattle.std.specs.Prelude.{◌≡◌, ◌+◌, ◌≤◌, ◌++◌, ◌∷◌, [], codes, decimal, length, OnOk};
 ghost use Rattle.std.specs.Io.KnownBytes.{Appends};
-ghost use Rattle.ckrt_hunt.specs.Table.{command_line, head_text, outcome_line, others_line, row_text, rows_text, runs_text, seed_text, shape_text, table_text};
+ghost use Rattle.ckrt_hunt.specs.Table.{command_line, drawn_text, head_text, kept_text, outcome_line, others_line, row_text, rows_text, runs_text, seed_text, shape_text, table_text};
 
 use crate::row::Row;
 use crate::seeds::Seeds;
 use crate::shape::Shape;
+use crate::shorten::Found;
 use crate::tally::Tally;
 use crate::texts::{write_counted, write_digest, write_outcome};
 use std::io::{Result, Write};
@@ -150,4 +151,37 @@ pub fn write_table<W: Write>(out: &mut W, asked: &Asked<'_>, tally: &Tally) -> R
 {
     write_rows(out, asked, tally.rows())?;
     write_others(out, asked, tally.others())
+}
+
+/// A number of switches after a word.
+fn write_switches<W: Write>(out: &mut W, word: &[u8], switches: u32) -> Result<()>
+    ensures { OnOk result
+        (Appends (W.contents out.old) (W.contents out.new) (word.now ++ decimal switches)) }
+{
+    write_counted(out, word, u64::from(switches))
+}
+
+/// How the run was drawn that is kept.
+#[tactic(auto, using(crate::proofs::AppendLemmas::appends_both))]
+fn write_drawn<W: Write>(out: &mut W, found: &Found<'_>) -> Result<()>
+    ensures { OnOk result
+        (Appends (W.contents out.old) (W.contents out.new) (drawn_text found.now)) }
+{
+    match found.plan.turns {
+        Some(_) => write_switches(out, b", drawn with ", found.drawn),
+        None => out.write_all(b", as it was drawn"),
+    }
+}
+
+/// Writes which seed's run is kept, how many switches it has, and how many it was drawn with: a switch is a thread that runs
+/// after another one. It takes no memory.
+#[tactic(auto, using(crate::proofs::AppendLemmas::appends_both))]
+pub fn write_kept<W: Write>(out: &mut W, seed: u64, found: &Found<'_>) -> Result<()>
+    ensures { OnOk result
+        (Appends (W.contents out.old) (W.contents out.new) (kept_text seed found.now)) }
+{
+    write_counted(out, b"kept: the run of seed ", seed)?;
+    write_switches(out, b", switches: ", found.switches)?;
+    write_drawn(out, found)?;
+    out.write_all(b"\n")
 }

@@ -7,8 +7,9 @@ ghost use Rattle.ckrt_machine.specs.Runs.{is_running};
 ghost use Rattle.ckrt_drive.specs.Plan.{IsInRangeNext};
 ghost use Rattle.ckrt_hunt.specs.declared.made.Made.{Made};
 ghost use Rattle.ckrt_hunt.specs.declared.plan.Plan.{Plan};
-ghost use Rattle.ckrt_hunt.specs.Turns.{IsFitNext, IsNumbered, IsWithin, best_among, better, clock_period, considered, drawn_length, event_for, hart_from, is_clocks, is_enough, length_of, may_run, nearer, next, next_for, next_point, on_or_onto, or_a_tick, or_enough, rank_of, ranked, runner_of, steps_in, steps_of, tick_by};
+ghost use Rattle.ckrt_hunt.specs.Turns.{IsFitNext, IsNumbered, IsWithin, best_among, better, clock_period, considered, drawn_length, drawn_rank, drawn_tick, drawn_turn, event_for, hart_from, is_clocks, is_enough, length_of, may_run, nearer, next, next_for, next_point, on_or_onto, or_a_tick, or_enough, rank_of, ranked, runner_of, steps_in, steps_of, tick_by, wanted_hart};
 
+use crate::given::given_turn;
 use crate::lots::{CLOCK, HART, LENGTH, SCALE, lot_at, shortest_of};
 use crate::made::Made;
 use crate::plan::Plan;
@@ -49,14 +50,24 @@ fn turn_of(made: &Made) -> u64
     u64::from(made.turns) + 1
 }
 
-/// The rank of a thread.
-fn rank_of(plan: &Plan, made: &Made, thread: ThreadId) -> u64
-    ensures { result ≡ rank_of plan.now made.now thread }
+/// The rank of a thread at a turn that is drawn.
+fn drawn_rank(plan: &Plan<'_>, made: &Made, thread: ThreadId) -> u64
+    ensures { result ≡ drawn_rank plan.now made.now thread }
 {
     if made.steps < plan.horizon {
         made.lowered.priority_of(plan.seed, thread)
     } else {
         u64::from(lot_at(plan.seed, turn_of(made), thread))
+    }
+}
+
+/// The rank of a thread.
+fn rank_of(plan: &Plan<'_>, made: &Made, thread: ThreadId) -> u64
+    ensures { result ≡ rank_of plan.now made.now thread }
+{
+    match given_turn(plan, made) {
+        Some(turn) => turn.rank_of(thread),
+        None => drawn_rank(plan, made, thread),
     }
 }
 
@@ -76,7 +87,7 @@ fn better(best: Option<Ranked>, other: Ranked) -> Ranked
 
 /// The better one of the best so far and a thread, where that may run.
 fn consider(
-    plan: &Plan,
+    plan: &Plan<'_>,
     made: &Made,
     threads: &Threads,
     thread: ThreadId,
@@ -97,7 +108,7 @@ fn consider(
 }
 
 /// Of the threads that may run, the one with the highest rank.
-fn best(plan: &Plan, made: &Made, threads: &Threads) -> Option<Ranked>
+fn best(plan: &Plan<'_>, made: &Made, threads: &Threads) -> Option<Ranked>
     ensures best { result ≡ best_among plan.now made.now threads.now 64 }
     ensures number { IfSome result IsNumbered }
 {
@@ -125,7 +136,7 @@ fn nearer(steps: u32, point: u32, ahead: u32) -> u32
 }
 
 /// The next change point, or the end of the priorities.
-fn next_point(plan: &Plan, steps: u32) -> u32
+fn next_point(plan: &Plan<'_>, steps: u32) -> u32
     requires { steps < plan.now.horizon }
     ensures point { result ≡ next_point plan.now steps }
     ensures ahead { steps < result }
@@ -137,7 +148,7 @@ fn next_point(plan: &Plan, steps: u32) -> u32
 }
 
 /// A length by lot.
-fn drawn_length(plan: &Plan, made: &Made) -> u32
+fn drawn_length(plan: &Plan<'_>, made: &Made) -> u32
     ensures length { result ≡ drawn_length plan.now made.now }
     ensures some { 1 ≤ result }
     ensures few { result ≤ 1000000 }
@@ -147,9 +158,9 @@ fn drawn_length(plan: &Plan, made: &Made) -> u32
     lot_at(plan.seed, turn, LENGTH) % most + 1
 }
 
-/// How long a turn is.
-fn length_of(plan: &Plan, made: &Made) -> u32
-    ensures length { result ≡ length_of plan.now made.now }
+/// How long a turn is that is drawn.
+fn drawn_turn(plan: &Plan<'_>, made: &Made) -> u32
+    ensures length { result ≡ drawn_turn plan.now made.now }
     ensures some { 1 ≤ result }
     ensures few { result ≤ 1000000 }
 {
@@ -161,15 +172,27 @@ fn length_of(plan: &Plan, made: &Made) -> u32
     }
 }
 
-/// The steps of a turn, as many as are left.
-fn steps_of(plan: &Plan, made: &Made) -> u32
+/// How long the turn of a thread is.
+fn length_of(plan: &Plan<'_>, made: &Made, thread: ThreadId) -> u32
+    ensures length { result ≡ length_of plan.now made.now thread }
+    ensures some { 1 ≤ result }
+    ensures few { result ≤ 1000000 }
+{
+    match given_turn(plan, made) {
+        Some(turn) => turn.length_of(thread),
+        None => drawn_turn(plan, made),
+    }
+}
+
+/// The steps of a thread's turn, as many as are left.
+fn steps_of(plan: &Plan<'_>, made: &Made, thread: ThreadId) -> u32
     requires { made.now.steps < plan.now.limit }
-    ensures steps { result ≡ steps_of plan.now made.now }
+    ensures steps { result ≡ steps_of plan.now made.now thread }
     ensures some { 1 ≤ result }
     ensures few { result ≤ 1000000 }
     ensures within { made.now.steps + result ≤ plan.now.limit }
 {
-    length_of(plan, made).min(plan.limit - made.steps)
+    length_of(plan, made, thread).min(plan.limit - made.steps)
 }
 
 // What it is.
@@ -197,8 +220,18 @@ fn hart_with(tables: &Tables, thread: ThreadId) -> Option<Hart>
     None
 }
 
-/// A thread runs on its hart, and goes onto one by lot where it is on none.
-fn on_or_onto(plan: &Plan, made: &Made, tables: &Tables, thread: ThreadId) -> Event
+/// Which hart is wanted for a thread that is on none; of so many harts it is that one modulo their number.
+fn wanted_hart(plan: &Plan<'_>, made: &Made) -> u32
+    ensures { result ≡ wanted_hart plan.now made.now }
+{
+    match given_turn(plan, made) {
+        Some(turn) => turn.hart(),
+        None => lot_at(plan.seed, turn_of(made), HART),
+    }
+}
+
+/// A thread runs on its hart, and goes onto the one that is wanted where it is on none.
+fn on_or_onto(plan: &Plan<'_>, made: &Made, tables: &Tables, thread: ThreadId) -> Event
     requires low { 1 ≤ thread }
     requires high { thread ≤ 64 }
     requires left { made.now.steps < plan.now.limit }
@@ -209,15 +242,15 @@ fn on_or_onto(plan: &Plan, made: &Made, tables: &Tables, thread: ThreadId) -> Ev
     ensures within { made.now.steps + steps_in result ≤ plan.now.limit }
 {
     if let Some(hart) = hart_with(tables, thread) {
-        return run_by(hart, steps_of(plan, made));
+        return run_by(hart, steps_of(plan, made, thread));
     }
     let harts = tables.threads.hart_count() as u32;
-    let hart = lot_at(plan.seed, turn_of(made), HART) % harts;
+    let hart = wanted_hart(plan, made) % harts;
     Event::Place(hart as u8, thread)
 }
 
 /// One turn in that many is the clock's.
-fn clock_period(plan: &Plan) -> u32
+fn clock_period(plan: &Plan<'_>) -> u32
     ensures period { result ≡ clock_period plan.now }
     ensures some { 1 ≤ result }
 {
@@ -225,15 +258,18 @@ fn clock_period(plan: &Plan) -> u32
 }
 
 /// Whether the turn is the clock's.
-fn is_clocks(plan: &Plan, made: &Made) -> bool
+fn is_clocks(plan: &Plan<'_>, made: &Made) -> bool
     ensures { result ≡ is_clocks plan.now made.now }
 {
-    lot_at(plan.seed, turn_of(made), CLOCK) % clock_period(plan) == 0
+    match given_turn(plan, made) {
+        Some(turn) => turn.is_clocks(),
+        None => lot_at(plan.seed, turn_of(made), CLOCK) % clock_period(plan) == 0,
+    }
 }
 
-/// The event of a clock's turn.
-fn tick_by(plan: &Plan, tables: &Tables) -> Event
-    ensures event { result ≡ tick_by plan.now tables.now }
+/// The event of a clock's turn that is drawn.
+fn drawn_tick(plan: &Plan<'_>, tables: &Tables) -> Event
+    ensures event { result ≡ drawn_tick plan.now tables.now }
     ensures in_range { IsInRange result }
     ensures none { steps_in result ≡ 0 }
 {
@@ -246,8 +282,20 @@ fn tick_by(plan: &Plan, tables: &Tables) -> Event
     }
 }
 
+/// The event of a clock's turn.
+fn tick_by(plan: &Plan<'_>, made: &Made, tables: &Tables) -> Event
+    ensures event { result ≡ tick_by plan.now made.now tables.now }
+    ensures in_range { IsInRange result }
+    ensures none { steps_in result ≡ 0 }
+{
+    match given_turn(plan, made) {
+        Some(turn) => Event::Tick(turn.ticks()),
+        None => drawn_tick(plan, tables),
+    }
+}
+
 /// The event of a turn, for the thread whose turn it is.
-fn event_for(plan: &Plan, made: &Made, tables: &Tables, thread: ThreadId) -> Event
+fn event_for(plan: &Plan<'_>, made: &Made, tables: &Tables, thread: ThreadId) -> Event
     requires low { 1 ≤ thread }
     requires high { thread ≤ 64 }
     requires left { made.now.steps < plan.now.limit }
@@ -257,14 +305,14 @@ fn event_for(plan: &Plan, made: &Made, tables: &Tables, thread: ThreadId) -> Eve
     ensures within { made.now.steps + steps_in result ≤ plan.now.limit }
 {
     if is_clocks(plan, made) {
-        tick_by(plan, tables)
+        tick_by(plan, made, tables)
     } else {
         on_or_onto(plan, made, tables, thread)
     }
 }
 
 /// The event of the thread whose turn it is; of the clock, where no thread may run.
-fn next_for(plan: &Plan, made: &Made, tables: &Tables) -> Next
+fn next_for(plan: &Plan<'_>, made: &Made, tables: &Tables) -> Next
     requires left { made.now.steps < plan.now.limit }
     requires harts { (1 ≤ tables.now.threads.hart_count) × (tables.now.threads.hart_count ≤ 8) }
     ensures next { result
@@ -279,7 +327,7 @@ fn next_for(plan: &Plan, made: &Made, tables: &Tables) -> Next
 }
 
 /// Whether as many events or steps are made as there may be.
-fn is_enough(plan: &Plan, made: &Made) -> bool
+fn is_enough(plan: &Plan<'_>, made: &Made) -> bool
     ensures enough { result ≡ is_enough plan.now made.now }
     ensures steps { result ≡ false → made.now.steps < plan.now.limit }
     ensures events { result ≡ false → made.now.events < plan.now.limit }
@@ -304,7 +352,7 @@ fn or_enough(machine: &Machine, next: Next) -> Next
 }
 
 /// The event that is next, or why there is none.
-pub fn next(machine: &Machine, plan: &Plan, made: &Made) -> Next
+pub fn next(machine: &Machine, plan: &Plan<'_>, made: &Made) -> Next
     requires harts { 1 ≤ machine.now.state.tables.threads.hart_count }
     ensures next { result ≡ next plan.now made.now machine.now.state.tables }
     ensures fit { IsFitNext plan.now made.now machine.now.state.tables result }

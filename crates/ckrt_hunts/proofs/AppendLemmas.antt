@@ -1,5 +1,5 @@
 -- A writer that takes a piece, and is flushed.
-use Rattle.std.proofs.Common.{◌≡◌, ℕ, List, ◌∙◌, Option, Some, None}
+use Rattle.std.proofs.Common.{ℕ, List, ◌∙◌, Option, Some, None}
 use Rattle.std.specs.Io.KnownBytes.{Appends, Keeps}
 
 pub appends_kept : (a b c : Option (List ℕ)) (x : List ℕ) → Appends a b x → Keeps b c → Appends a c x

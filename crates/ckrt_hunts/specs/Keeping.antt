@@ -1,5 +1,5 @@
 -- The disk that a run of a hunt is kept on: made beside its path, and named once it has the whole run.
-use Rattle.std.specs.Prelude.{◌≡◌, ◌⊎◌, ℕ, List, Option, Some, None, Result, Ok, Err}
+use Rattle.std.specs.Prelude.{◌≡◌, ◌⊎◌, ℕ, List, Result, Ok, Err}
 use Rattle.ckrt_disk.specs.Frame.{IsSameDisk}
 use Rattle.ckrt_disk.specs.declared.disk.Disk.{Ghosts}
 use Rattle.ckrt_stored.specs.Programs.{Program}

@@ -13,13 +13,12 @@ use ckrt_sources::{JobFile, Sources};
 use std::alloc::Global;
 use std::io::Read;
 
-/// What is kept, and where.
+/// Which program's run is kept, and where.
 #[derive(Clone, Copy)]
 pub(crate) struct Kept<'a, 'b> {
     pub(crate) path: &'a str,
     pub(crate) config: Config,
     pub(crate) image: &'b [u8],
-    pub(crate) plan: Plan,
 }
 
 /// What the job answers where events weren't kept.
@@ -84,42 +83,44 @@ fn end_kept<'a, I: Read, D: Disk, S: Sources<'a, I, D>>(
     }
 }
 
-/// Keeps a run on a disk that was made for it.
+/// Keeps the run of a plan on a disk that was made for it.
 fn keep_on<'a, I: Read, D: Disk, S: Sources<'a, I, D>>(
     alloc: Global,
     disk: D,
     what: &Kept<'a, '_>,
+    plan: &Plan<'_>,
     sources: &mut S,
 ) -> Result<(), JobFault>
     ensures { KeepsOn D.Disk (record {
       program = formatted_program what.now.config what.now.image.now;
-      plan = what.now.plan;
+      plan = plan.now;
       path = what.now.path.now;
       Fills = λ start. start ≡ disk;
     })
         (S.openings sources.old) (S.openings sources.new) result }
 {
-    let kept = keep_seed(alloc, disk, what.config, what.image, &what.plan);
+    let kept = keep_seed(alloc, disk, what.config, what.image, plan);
     end_kept::<I, D, S>(kept, sources, what.path)
 }
 
-/// Keeps a run on a disk of a path that nothing has: beside it, and by its name once it has the whole run.
+/// Keeps the run of a plan on a disk of a path that nothing has: beside it, and by its name once it has the whole run.
 pub(crate) fn keep<'a, I: Read, D: Disk, S: Sources<'a, I, D>>(
     alloc: Global,
     what: &Kept<'a, '_>,
+    plan: &Plan<'_>,
     sources: &mut S,
 ) -> Result<(), JobFault>
     requires { is_valid what.now.config ≡ true }
     ensures { Keeps D.Disk (record {
       program = formatted_program what.now.config what.now.image.now;
-      plan = what.now.plan;
+      plan = plan.now;
       path = what.now.path.now;
       Fills = S.fills sources.old what.now.path.now (size_needed what.now.config);
     })
         (S.openings sources.old) (S.openings sources.new) result }
 {
     match sources.open_making(alloc, what.path, what.config.size_needed()) {
-        Ok(disk) => keep_on::<I, D, S>(alloc, disk, what, sources),
+        Ok(disk) => keep_on::<I, D, S>(alloc, disk, what, plan, sources),
         Err(fault) => Err(JobFault::File(JobFile::Making, fault)),
     }
 }

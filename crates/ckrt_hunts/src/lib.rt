@@ -3,8 +3,9 @@
 //! Proved of [`hunt_path`]: BadConfig comes where pages or harts are out of their ranges, and Range exactly where the text of the
 //! seeds is no range, before anything is asked for. Else the image is read as for a disk, and each seed is run; what was written is
 //! the table of what they came to, or nothing, unless the writer failed. The answer is whether there were several outcomes. Where the
-//! words name a disk, it is asked for only then, and gets the name of its path only where it has the whole run of the first seed:
-//! whatever a stop leaves of it recovers to just that. Else it is given up.
+//! words name a disk, it is asked for only then. It gets the name of its path only where it has a whole run that comes to what the
+//! first seed comes to, by the shortest schedule that was found: whatever a stop leaves of it recovers to just that. Else it is given
+//! up. Behind the table it is told how many switches that run has, and how many the seed drew.
 #![tactic(auto)]
 
 mod hunting;

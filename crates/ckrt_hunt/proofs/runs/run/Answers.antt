@@ -1,7 +1,7 @@
 use Rattle.std.proofs.Common.{arith, sym, subst, refl, ◌∙◌}
 use Rattle.ckrt_hunt.specs.declared.made.Made.{Made}
 use Rattle.ckrt_hunt.specs.Runs.{HasComeTo}
-use Rattle.ckrt_hunt.proofs.RunLemmas.{comes_from, comes_to}
+use Rattle.ckrt_hunt.proofs.RunLemmas.{comes_from, ends_with}
 use Rattle.ckrt_hunt.proofs.runs.run.Goals as goal
 
 pub events-init : goal.events-init
@@ -30,5 +30,5 @@ events-preserved c = record {
 pub events-smaller : goal.events-smaller
 events-smaller c = omega (arith, c.in-Submit.ensures.fit.events, c.go_on.ensures.events)
 
-pub returns-in-End-clause-comes : goal.returns-in-End-clause-comes
-returns-in-End-clause-comes c = comes_to c.args.plan.now c.args.machine.now.state c.events.made c.events.machine.state c.events.hasher c.in-End.ending c.tell.result c.events.invariant.come (sym c.in-End.ensures.next) c.tell.ensures.outcome c.tell.ensures.digest
+pub returns-in-End-clause-ends : goal.returns-in-End-clause-ends
+returns-in-End-clause-ends c = ends_with c.args.plan.now c.args.machine.now.state c.events.made c.events.machine.state c.events.hasher c.in-End.ending c.tell-told.result c.events.invariant.come (sym c.in-End.ensures.next) c.tell-told.ensures.outcome c.tell-told.ensures.digest

@@ -1,8 +1,8 @@
-use Rattle.std.proofs.Common.{◌≡◌, ◌∙◌, refl, subst, inr}
+use Rattle.std.proofs.Common.{◌∙◌, refl, subst, inr}
 use Rattle.ckrt_words.specs.Jobs.{hunting_of}
 use Rattle.ckrt_jobs.specs.Making.{IsFit}
 use Rattle.ckrt_hunt.specs.declared.table.Asked.{Asked}
-use Rattle.ckrt_hunts.specs.Hunting.{EndsHunt, Hunter, kept_size, wanted_of}
+use Rattle.ckrt_hunts.specs.Hunting.{EndsHunt, Hunter, kept_size, reached, wanted_of}
 use Rattle.ckrt_hunts.proofs.KeepLemmas.{ends_weaker}
 use Rattle.ckrt_hunts.proofs.hunting.hunt_path.Goals as goal
 
@@ -21,8 +21,9 @@ returns g c =
       known = g.S.Sources.image_bytes c.args.sources.now job.image.now;
       Fills = λ path. g.S.Sources.fills c.args.sources.now path size;
     } in
-    let ends = ends_weaker g.D.Disk _ (λ path. g.S.Sources.fills c.args.sources.now path size) _ new h.0 c.hunt_image.result
-    (λ path disk is. read.same.disks path size disk is) h.2 in
+    let written = g.W.Write.contents c.hunt_image.new.writer in
+    let ends = ends_weaker g.D.Disk _ (λ path. g.S.Sources.fills c.args.sources.now path size) _ (reached new written) h.0 c.hunt_image.result
+    (λ p path disk is. read.same.disks path size disk is) h.3 in
     record {
       hunts = λ left.
           inr (inr (inr (record {
@@ -32,8 +33,9 @@ returns g c =
             asked = asked;
             is_asked = record { image = refl; shape = c.in-Some.ensures; seeds = c.in-Some-read.ensures };
             told = h.0;
-            tells = h.1;
-            ends = subst (λ o. EndsHunt g.D.Disk (wanted_of it guest asked) o new h.0 c.hunt_image.result) read.opened ends;
+            table = h.1;
+            tells = h.2;
+            ends = subst (λ o. EndsHunt g.D.Disk (wanted_of it guest asked) (reached o h.1) (reached new written) h.0 c.hunt_image.result) read.opened ends;
             unread = refl;
           })));
     }
