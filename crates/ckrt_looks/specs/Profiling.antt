@@ -1,5 +1,5 @@
 -- `profile`: where the steps of a stretch of what a disk has recorded went.
-use Rattle.std.specs.Prelude.{◌≡◌, ◌⊎◌, true, false, Result, Err, is_some}
+use Rattle.std.specs.Prelude.{Result}
 use Rattle.ckrt_disk.specs.declared.disk.Disk.{Ghosts}
 use Rattle.ckrt_profile.specs.declared.form.Form.{Form}
 use Rattle.ckrt_profile.specs.declared.form.Form.TheVariants as form
@@ -8,7 +8,6 @@ use Rattle.ckrt_words.specs.Jobs.{Profiling}
 use Rattle.ckrt_words.specs.declared.job.ProfileForm.{ProfileForm}
 use Rattle.ckrt_words.specs.declared.job.ProfileForm.TheVariants as asked
 use Rattle.ckrt_outcomes.specs.declared.fault.JobFault.{JobFault}
-use Rattle.ckrt_outcomes.specs.declared.fault.JobFault.TheVariants as job
 use Rattle.ckrt_outcomes.specs.Outside.{Outside}
 use Rattle.ckrt_looks.specs.Looking.{LooksPath, stretch_of}
 
@@ -18,24 +17,12 @@ form_of asked.Table = form.Table
 form_of asked.Folded = form.Folded
 form_of asked.Callgrind = form.Callgrind
 
--- an ELF file isn't read, and nothing was asked for
-pub record RefusesElf {D : Type 0} (p : Profiling) (old new : Outside D)
-    (result : Result (Unit {0}) JobFault) : Type 0 where
-  pub given : is_some p.elf ≡ true
-  pub is : result ≡ Err job.Range
-  pub unasked : new ≡ old
-
 -- its profile, in the form that the words ask for
-pub record ProfilesDisk {D : Type 0} (d : Ghosts D) (Opens : D → Type 0) (p : Profiling)
-    (old new : Outside D) (result : Result (Unit {0}) JobFault) : Type 0 where
-  pub unnamed : is_some p.elf ≡ false
-  pub looks : LooksPath d (record {
-    stretch = p.stretch;
-    Opens = Opens;
-    Tells = Profiles (form_of p.form) (stretch_of p.stretch);
-  }) old new result
-
 abbrev pub ProfilesPath : {D : Type 0} → Ghosts D → (D → Type 0) → Profiling
     → (old new : Outside D) → Result (Unit {0}) JobFault → Type 0
 ProfilesPath d Opens p old new result =
-    RefusesElf p old new result ⊎ ProfilesDisk d Opens p old new result
+    LooksPath d (record {
+      stretch = p.stretch;
+      Opens = Opens;
+      Tells = Profiles (form_of p.form) (stretch_of p.stretch);
+    }) old new result

@@ -3,7 +3,6 @@ ghost use Rattle.std.specs.Prelude.{◌≡◌, ℕ, List, Option};
 ghost use Rattle.ckrt_words.specs.Jobs.{profiling_of};
 ghost use Rattle.ckrt_outcomes.specs.Outside.{outside};
 ghost use Rattle.ckrt_profile.specs.Disks.{Profiles};
-ghost use Rattle.ckrt_looks.specs.Looking.{LooksPath, stretch_of};
 ghost use Rattle.ckrt_looks.specs.Profiling.{ProfilesPath, form_of};
 
 use crate::looking::{Telling, look_path};
@@ -48,32 +47,12 @@ fn form_of(form: ProfileForm) -> Form
     }
 }
 
-/// Tells the profile of the disk of a path, in the form that the words ask for.
-fn look<'a, I: Read, D: Disk, S: Sources<'a, I, D>, W: Write>(
-    alloc: Global,
-    job: &ProfileJob<'a>,
-    sources: &mut S,
-    writer: &mut W,
-) -> Result<(), JobFault>
-    ensures looks { (left : Option (List ℕ)) → LooksPath D.Disk (record {
-      stretch = (profiling_of job.now).stretch;
-      Opens = S.opens sources.old job.now.stretch.disk.now;
-      Tells = Profiles (form_of job.now.form) (stretch_of (profiling_of job.now).stretch);
-    })
-        (outside (S.openings sources.old) (W.contents writer.old) left)
-        (outside (S.openings sources.new) (W.contents writer.new) left) result }
-{
-    let profile = Profile { form: job.form };
-    look_path::<I, D, S, Profile, W>(alloc, &job.stretch, &profile, sources, writer)
-}
-
 /// Tells where the steps of what the disk of a path has recorded went: of all, or of the events behind so many and up to so many.
 /// The disk is only read.
 ///
 /// # Errors
 ///
-/// `Range` where the words give an ELF file, which isn't read, before anything is opened; else those of
-/// [`calls_path`](crate::calls_path).
+/// Those of [`calls_path`](crate::calls_path).
 pub fn profile_path<'a, I: Read, D: Disk, S: Sources<'a, I, D>, W: Write>(
     alloc: Global,
     job: &ProfileJob<'a>,
@@ -85,8 +64,6 @@ pub fn profile_path<'a, I: Read, D: Disk, S: Sources<'a, I, D>, W: Write>(
         (outside (S.openings sources.old) (W.contents writer.old) left)
         (outside (S.openings sources.new) (W.contents writer.new) left) result }
 {
-    match job.elf {
-        Some(_) => Err(JobFault::Range),
-        None => look::<I, D, S, W>(alloc, job, sources, writer),
-    }
+    let profile = Profile { form: job.form };
+    look_path::<I, D, S, Profile, W>(alloc, &job.stretch, &profile, sources, writer)
 }

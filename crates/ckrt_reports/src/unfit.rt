@@ -1,15 +1,15 @@
 //! What is said of numbers in the words that are out of their ranges.
 ghost use Rattle.std.specs.Prelude.{◌≡◌, OnErr, OnOk, true};
 ghost use Rattle.std.specs.Io.KnownBytes.{Appends};
-ghost use Rattle.ckrt_reports.specs.Unfit.{is_outside, unfit_drawing_text, unfit_drive_text, unfit_of, unfit_profile_text, unfit_sizes_of, unfit_sizes_text};
-ghost use Rattle.ckrt_words.specs.Jobs.{drawing_of, driving_of, profiling_of, request_of};
+ghost use Rattle.ckrt_reports.specs.Unfit.{is_outside, unfit_drawing_text, unfit_drive_text, unfit_of, unfit_sizes_of, unfit_sizes_text};
+ghost use Rattle.ckrt_words.specs.Jobs.{drawing_of, driving_of, request_of};
 
 use crate::reporter::{Reporter, Unsaid};
 use crate::reporting::say_size;
 use ckrt_events::LONG_RUN_LIMIT;
 use ckrt_outcomes::{config_for, is_target};
 use ckrt_recovery::Config;
-use ckrt_words::{DriveJob, Job, ProfileJob, TimelineJob};
+use ckrt_words::{DriveJob, Job, TimelineJob};
 
 /// What is said of a stretch that would end before it begins.
 const TURNED_TEXT: &[u8] = b"--from is above --to: ";
@@ -73,16 +73,6 @@ fn say_unfit_drawing<E: Reporter>(reporter: &mut E, job: &TimelineJob<'_>) -> Re
     reporter.say(TURNED_TEXT)
 }
 
-/// What is said of what a profile was asked for.
-fn unfit_profile(job: &ProfileJob<'_>) -> &'static [u8]
-    ensures { result.now ≡ unfit_profile_text (profiling_of job.now) }
-{
-    match job.elf {
-        Some(_) => b"--elf isn't read by this version: ".as_slice(),
-        None => TURNED_TEXT,
-    }
-}
-
 /// Says which number of the words is the fault Range, where they ask for a drive, for a stretch, for a timeline or for a hunt.
 pub(crate) fn say_unfit<E: Reporter>(reporter: &mut E, job: &Job<'_>) -> Result<(), Unsaid>
     ensures said { OnOk result (Appends (E.said reporter.old) (E.said reporter.new)
@@ -91,9 +81,8 @@ pub(crate) fn say_unfit<E: Reporter>(reporter: &mut E, job: &Job<'_>) -> Result<
 {
     match job {
         Job::Drive(job) => say_unfit_drive(reporter, job),
-        Job::Calls(_) | Job::Races(_) => reporter.say(TURNED_TEXT),
+        Job::Calls(_) | Job::Races(_) | Job::Profile(_) => reporter.say(TURNED_TEXT),
         Job::Timeline(job) => say_unfit_drawing(reporter, job),
-        Job::Profile(job) => reporter.say(unfit_profile(job)),
         Job::Hunt(_) => reporter.say(SEEDS_TEXT),
         _ => reporter.say(b""),
     }

@@ -140,7 +140,8 @@ fn write_row<W: Write>(
 /// The rows of threads, the first of which is thread 1.
 fn write_rows<W: Write>(out: &mut W, form: Form, chart: &Chart, tracks: &[Vec<Piece>]) -> Result<()>
     requires many { length tracks.now ≤ 64 }
-    requires few { (i : ℕ) → i < length tracks.now → length (laid (pieces_at tracks.now i)) < 2 ^ 64 }
+    requires few { (i : ℕ) → i < length tracks.now
+        → length (laid (pieces_at tracks.now i)) < 2 ^ 64 }
     ensures { OnOk result (Appends (W.contents out.old) (W.contents out.new)
         (rows_text form chart.now 1 80 (tracks_of tracks.now))) }
 {
@@ -374,7 +375,8 @@ pub(crate) fn write_chart<W: Write>(
     requires events { length begins.now ≤ chart.now.events }
     requires begins { AreUpTo chart.now.steps begins.now }
     requires threads { length tracks.now ≤ 64 }
-    requires few { (i : ℕ) → i < length tracks.now → length (laid (pieces_at tracks.now i)) < 2 ^ 64 }
+    requires few { (i : ℕ) → i < length tracks.now
+        → length (laid (pieces_at tracks.now i)) < 2 ^ 64 }
     ensures { OnOk result (Appends (W.contents out.old) (W.contents out.new)
         (chart_text form chart.now begins.now (tracks_of tracks.now))) }
 {

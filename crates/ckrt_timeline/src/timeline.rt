@@ -37,8 +37,8 @@ pub(crate) fn note(timeline: &mut Timeline, now: &[Activity], steps: u64) -> Res
     requires each { length now.now ≡ 64 }
     requires some { 1 ≤ steps }
     requires few { timeline.old.steps + steps < 2 ^ 64 }
-    ensures goes_on { OnOk result
-        (GoesOn (λ i. replicate steps (get_or now.now i activity.Absent)) timeline.old timeline.new) }
+    ensures goes_on { OnOk result (GoesOn
+        (λ i. replicate steps (get_or now.now i activity.Absent)) timeline.old timeline.new) }
     ensures steps { OnOk result (timeline.new.steps ≡ timeline.old.steps + steps) }
 {
     extend_all(&mut timeline.tracks, now, steps)?;

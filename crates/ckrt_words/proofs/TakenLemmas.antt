@@ -89,7 +89,7 @@ timeline_rules : AreRules timeline_shape refl timeline_shape.rules
 timeline_rules = ((refl, inl (refl, refl)), ((refl, inl (refl, refl)), ((refl, inl (refl, refl)), ((refl, inl (refl, refl)), ((refl, inr (inr (refl, (_, [], refl)))), ((refl, inr (inl refl)), tt))))))
 
 profile_rules : AreRules profile_shape refl profile_shape.rules
-profile_rules = ((refl, inl (refl, refl)), ((refl, inl (refl, refl)), ((refl, inl (refl, refl)), ((refl, inl (refl, refl)), ((refl, inr (inr (refl, (_, [], refl)))), ((refl, inr (inr (refl, (_, [], refl)))), ((refl, inr (inl refl)), tt)))))))
+profile_rules = ((refl, inl (refl, refl)), ((refl, inl (refl, refl)), ((refl, inl (refl, refl)), ((refl, inr (inr (refl, (_, [], refl)))), ((refl, inr (inr (refl, (_, [], refl)))), ((refl, inr (inl refl)), tt))))))
 
 hunt_rules : AreRules hunt_shape refl hunt_shape.rules
 hunt_rules = ((refl, inl (refl, refl)), ((refl, inl (refl, refl)), ((refl, inl (refl, refl)), ((refl, inl (refl, refl)), ((refl, inl (refl, refl)), ((refl, inl (refl, refl)), ((refl, inr (inl refl)), tt)))))))
@@ -170,7 +170,7 @@ profile_named words pass one =
     let given = has_required profile_shape rows false (level_valid profile_shape [] nothing_held words false pass) refl in
     let stretch = stretch_there profile_shape refl rows _ kept refl (both (is_given (codes "disk") rows) true given).0 in
     let shape = form_there (flag_in (codes "folded") rows) (flag_in (codes "callgrind") rows) one in
-    (profile (record { stretch = stretch.0; elf = first_of (codes "elf") rows; form = shape.0 }), rw (stretch.1, shape.1) refl)
+    (profile (record { stretch = stretch.0; form = shape.0 }), rw (stretch.1, shape.1) refl)
 
 abbrev slot : Shape → ℕ → Rule
 slot shape i = slice_index_or shape.rules i (new_rule [])

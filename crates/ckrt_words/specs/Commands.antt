@@ -1,7 +1,7 @@
 -- The program's command line, as `clap` sees it: `format DISK IMAGE [--pages P] [--harts H] [--journal J]`, `run DISK`,
 -- `inspect DISK [--at K] [--code]`, `core DISK FILE [--at K]`, `calls DISK [--from K] [--to K]`, `debug DISK [--at K]`,
 -- `races DISK [--from K] [--to K]`, `timeline DISK [--from K] [--to K] [--width W] [--json]`,
--- `profile DISK [--from K] [--to K] [--elf FILE] [--folded | --callgrind]`,
+-- `profile DISK [--from K] [--to K] [--folded | --callgrind]`,
 -- `hunt IMAGE [--seeds A-B] [--pages P] [--harts H] [--steps N] [--keep DISK]` and `drive DISK [--image IMAGE] [--pages P] [--harts H]
 -- [--journal J] [--input FILE] [--input-from OFFSET] [--output FILE] [--turn N] [--rounds-per-commit R] [--events N] [--seed S]
 -- [--progress SECONDS] [--status FILE] [--from OFFSET]`.
@@ -105,8 +105,7 @@ timeline_app =
 
 abbrev pub profile_app : App
 profile_app =
-    with_rule (with_rule (with_rule (stretch_app (new_app (codes "profile")))
-    (option_rule (codes "elf")))
+    with_rule (with_rule (stretch_app (new_app (codes "profile")))
     (flag_rule (codes "folded")))
     (flag_rule (codes "callgrind"))
 

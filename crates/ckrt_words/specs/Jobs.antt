@@ -59,10 +59,9 @@ pub record Drawing : Type 0 where
   pub width : ℕ
   pub json : Bool
 
--- what `profile` counts: which stretch, the program's ELF file with its names, and the form of what is told
+-- what `profile` counts: which stretch, and the form of what is told
 pub record Profiling : Type 0 where
   pub stretch : DiskStretch
-  pub elf : Option Text
   pub form : ProfileForm
 
 -- what `hunt` runs: the image, the text of its range of seeds, the sizes, how many steps a run has at most, and the new disk that the run of the
@@ -135,12 +134,7 @@ abbrev pub drawing_of : TimelineJob → Drawing
 drawing_of t = record { stretch = disk_stretch_of t.stretch; width = t.width; json = t.json }
 
 abbrev pub profiling_of : ProfileJob → Profiling
-profiling_of p =
-    record {
-      stretch = disk_stretch_of p.stretch;
-      elf = option_map (λ path. path.now) p.elf;
-      form = p.form;
-    }
+profiling_of p = record { stretch = disk_stretch_of p.stretch; form = p.form }
 
 abbrev pub hunting_of : HuntJob → Hunting
 hunting_of h = record {
@@ -261,7 +255,7 @@ abbrev pub profiling_in : List Row → Option Profiling
 profiling_in rows = do
   stretch ← disk_stretch_in rows
   shape ← form_in rows
-  Some (record { stretch = stretch; elf = first_of (codes "elf") rows; form = shape })
+  Some (record { stretch = stretch; form = shape })
 
 abbrev pub hunting_in : List Row → Option Hunting
 hunting_in rows = do

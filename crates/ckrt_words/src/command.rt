@@ -347,7 +347,7 @@ fn profile_command<'a>(alloc: Global) -> Result<Command<'a>, AllocError>
     let arguments = profile_arguments(alloc)?;
     Command::new(alloc, "profile")
         .about(
-            "Counts where the steps and waits of a stopped guest went, and changes nothing, as `ckrt profile pi.disk --elf pi.elf`",
+            "Counts where the steps and waits of a stopped guest went, and changes nothing, as `ckrt profile pi.disk | guest/names pi.elf`",
         )
         .args(arguments)
 }
@@ -363,12 +363,6 @@ fn profile_arguments<'a>(alloc: Global) -> Result<Vec<Arg<'a>>, AllocError>
         needed(alloc, "disk", "DISK", "A disk that `format` made"),
         beginning(alloc),
         end(alloc),
-        option(
-            alloc,
-            "elf",
-            "FILE",
-            "The program's ELF file, whose names stand for addresses"
-        ),
         flag(
             alloc,
             "folded",
@@ -433,7 +427,7 @@ fn hunt_arguments<'a>(alloc: Global) -> Result<Vec<Arg<'a>>, AllocError>
             alloc,
             "keep",
             "DISK",
-            "A new disk that gets the run of the first seed, whole from its first event"
+            "A new disk that gets the run of the first seed, by a schedule of few switches"
         ),
     ]?;
     Ok(arguments)

@@ -116,8 +116,6 @@ pub enum ProfileForm {
 pub struct ProfileJob<'a> {
     /// Which stretch is counted.
     pub stretch: StretchJob<'a>,
-    /// The path of the program's ELF file; this isn't given where addresses stand for names.
-    pub elf: Option<&'a str>,
     /// The form of what is told.
     pub form: ProfileForm,
 }

@@ -110,7 +110,6 @@ fn profiling<'a>(matches: &ArgMatches<'a>) -> Option<ProfileJob<'a>>
     Some(ProfileJob {
         stretch: stretch(matches)?,
         form: form_of(flag(matches, "folded"), flag(matches, "callgrind"))?,
-        elf: text(matches, "elf"),
     })
 }
 

@@ -52,7 +52,7 @@ const TIMELINE_USAGE: &str =
 
 /// What follows a number of `profile` that isn't one.
 const PROFILE_USAGE: &str =
-    "Usage: ckrt profile <DISK> [--from NUMBER OF EVENTS] [--to NUMBER OF EVENTS] [--elf <FILE>] [--folded | --callgrind]";
+    "Usage: ckrt profile <DISK> [--from NUMBER OF EVENTS] [--to NUMBER OF EVENTS] [--folded | --callgrind]";
 
 /// What is wrong with `profile` with both of its forms.
 const BOTH_FORMS: &str = "error: the argument '--folded' cannot be used with '--callgrind'";
