@@ -13,7 +13,7 @@ use Rattle.ckrt_debug.specs.declared.fault.DebugFault.{DebugFault}
 use Rattle.ckrt_debug.specs.declared.fault.DebugFault.TheVariants.{OutOfMemory, Range, Read, Refused, Write}
 use Rattle.ckrt_debug.specs.declared.line.Line.{Line}
 use Rattle.ckrt_debug.specs.Monitor.{Obeys}
-use Rattle.ckrt_debug.specs.Playback.{history_of}
+use Rattle.ckrt_playback.specs.Playback.{history_of}
 use Rattle.ckrt_debug.specs.Conversation.{Advances, Breaks, BreaksAfter, BreaksByte, BreaksOff, BreaksRequest, Goes, HasHeard, Hears, HearsAll, IsReply, Replies, RepliesBy, RepliesToUser, RespondsTo, Talk, Writes, asked_by, begun, console_frames, console_in, console_text, hearing, monitored, sign_in, talk_of}
 use Rattle.ckrt_debug.specs.declared.stub.Stub.{Stub}
 
@@ -249,7 +249,7 @@ module _ (old : Talk) (byte : ℕ) (a b r s : Option (List ℕ)) (got : Consumes
 
   no_request : (o : Option Request) (c : Option (List ℕ)) → BreaksRequest Read o old.stub c b → ⊥
   no_request None c h = h
-  no_request (Some request) c h = h
+  no_request (Some request) c h = h.0
 
   no_read : BreaksByte Read byte old a b → ⊥
   no_read (inl sign) = sign
@@ -267,7 +267,7 @@ module _ (old : Talk) (byte : ℕ) (a b r s : Option (List ℕ)) (got : Consumes
 module _ (old : Talk) (r s a b : Option (List ℕ)) where
   no_place : (o : Option Request) (c : Option (List ℕ)) → BreaksRequest Range o old.stub c b → ⊥
   no_place None c h = h
-  no_place (Some request) c h = h
+  no_place (Some request) c h = h.0
 
   no_range : (byte : ℕ) → BreaksByte Range byte old a b → ⊥
   no_range byte (inl sign) = sign

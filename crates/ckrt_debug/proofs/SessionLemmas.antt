@@ -4,13 +4,13 @@ use Rattle.std.proofs.lemmas.Bool.{false≢true}
 use Rattle.std.specs.Prelude.{IfOk, IfSome, Result, Ok, Err, is_some}
 use Rattle.ckrt_debug.specs.declared.fault.DebugFault.{DebugFault}
 use Rattle.ckrt_packets.specs.declared.request.Request.{Request}
-use Rattle.ckrt_debug.specs.declared.going.Way.{Way}
+use Rattle.ckrt_playback.specs.declared.going.Way.{Way}
 use Rattle.ckrt_debug.specs.declared.stub.Stub.{Stub}
-use Rattle.ckrt_debug.specs.Look.{fitting}
-use Rattle.ckrt_debug.specs.Playback.{history_of}
-use Rattle.ckrt_debug.specs.Requests.{last_text}
+use Rattle.ckrt_playback.specs.Look.{fitting}
+use Rattle.ckrt_playback.specs.Playback.{history_of}
+use Rattle.ckrt_playback.specs.Requests.{last_text}
 use Rattle.ckrt_debug.specs.Session.{AnswersBy, HasMoved, IsOfRun, IsSame}
-use Rattle.ckrt_debug.proofs.MotionLemmas.{is_run, moved_run}
+use Rattle.ckrt_playback.proofs.MotionLemmas.{is_run, moved_run}
 
 pub same : (s : Stub) → IsSame s s
 same s = record { history = refl; view = refl; stops = refl; bounds_are = refl; first = refl }

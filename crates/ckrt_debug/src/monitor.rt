@@ -3,14 +3,14 @@ ghost use Rattle.std.specs.Prelude.{◌≡◌, ◌⊎◌, ◌++◌, ℕ, List, I
 ghost use Rattle.ckrt_machine.specs.Events.{AllAccepted};
 ghost use Rattle.ckrt_debug.specs.declared.fault.DebugFault.TheVariants.{OutOfMemory, Refused};
 ghost use Rattle.ckrt_debug.specs.Monitor.{Does, Obeys, count_of, event_text, gone_text, limit_text, listing_text, named_text, range_text, standing_line, steps_text, until_text};
-ghost use Rattle.ckrt_debug.specs.Playback.{history_of};
+ghost use Rattle.ckrt_playback.specs.Playback.{history_of};
 
 use crate::command::{Command, Place, command_of};
 use crate::fault::DebugFault;
 use crate::stub::Stub;
-use crate::told::is_same;
 use ckrt_history::Position;
 use ckrt_inspect::write_listing;
+use ckrt_playback::is_same;
 use std::alloc::AllocError;
 
 const HELP: &[u8] = b"monitor events      the events that there are, and where it stands\n\
