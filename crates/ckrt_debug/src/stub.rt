@@ -12,7 +12,7 @@ use ckrt_events::Event;
 use ckrt_history::{HistoryFault, Position};
 use ckrt_machine::Machine;
 use ckrt_packets::{Payload, Request};
-use ckrt_playback::{Desk, Playback, Way, look, way_of};
+use ckrt_playback::{Desk, Playback, Way, tell_state, way_of};
 use std::alloc::Global;
 
 /// What gdb asks is answered by this, from a recorded run: a state of the machine and the events from there on.
@@ -168,7 +168,7 @@ impl Stub {
         ensures payload { IfSome (look_in request.now self.now)
             (λ text. out.new.items ≡ fitting text) }
     {
-        look(request, &self.desk.view, self.playback.machine(), out)
+        tell_state(request, &self.desk.view, self.playback.machine(), out)
     }
 
     /// The way that gdb wants to go, if it does.

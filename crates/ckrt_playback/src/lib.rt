@@ -24,7 +24,7 @@ pub use asked::way_of;
 pub use desk::Desk;
 pub use going::Way;
 pub use limits::Bounds;
-pub use look::{look, put_reply};
+pub use look::{put_reply, tell_state};
 pub use playback::Playback;
 pub use told::is_same;
 pub use view::{Stopped, View};

@@ -216,7 +216,7 @@ fn look_memory(request: &Request, memory: &Memory, out: &mut Payload) -> bool
 }
 
 /// What is told of a state. `false` where something else was asked.
-pub fn look(request: &Request, view: &View, machine: &Machine, out: &mut Payload) -> bool
+pub fn tell_state(request: &Request, view: &View, machine: &Machine, out: &mut Payload) -> bool
     ensures told { result ≡ is_some (look_of request.now view.now machine.now.state) }
     ensures payload { IfSome (look_of request.now view.now machine.now.state)
         (λ text. out.new.items ≡ fitting text) }
