@@ -13,7 +13,7 @@ use Rattle.ckrt_playback.specs.Limits.{unbounded}
 use Rattle.ckrt_playback.specs.Look.{fitting}
 use Rattle.ckrt_playback.specs.Marks.{IsWithoutStops}
 use Rattle.ckrt_playback.specs.Motions.{Moved, at}
-use Rattle.ckrt_playback.specs.Playback.{HasPlace, history_of, position_of, state_of, run_of}
+use Rattle.ckrt_playback.specs.Playback.{HasPlace, history_of, position_of, state_of}
 use Rattle.ckrt_playback.specs.Requests.{last_text, look_of, way_of}
 use Rattle.ckrt_playback.specs.Settings.{HasSetStops, set_text, view_after}
 use Rattle.ckrt_playback.specs.Told.{first_view, next_or, shown, standing_in, told}

@@ -2,7 +2,8 @@
 ghost use Rattle.std.specs.Prelude.{◌≡◌, ◌⊎◌, IfErr, IfOk, IfSome, IsErrOf, IsOk, is_some, None};
 ghost use Rattle.ckrt_machine.specs.Events.{AllAccepted};
 ghost use Rattle.ckrt_debug.specs.declared.fault.DebugFault.TheVariants.{OutOfMemory, Range, Refused};
-ghost use Rattle.ckrt_playback.specs.Playback.{history_of, run_of};
+ghost use Rattle.ckrt_playback.specs.Playback.{history_of};
+ghost use Rattle.ckrt_playback.specs.Recorded.{run_of};
 ghost use Rattle.ckrt_playback.specs.Look.{fitting};
 ghost use Rattle.ckrt_playback.specs.Requests.{last_text};
 ghost use Rattle.ckrt_debug.specs.Session.{Answers, BeginsAt, HasMoved, HasSet, IsMotion, IsOfRun, IsOutside, Names, Reaches, look_in, set_text_in, way_in};

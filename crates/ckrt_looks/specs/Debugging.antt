@@ -11,7 +11,7 @@ use Rattle.ckrt_recording.specs.Recording.{HasRecording, Recorded, Records, reco
 use Rattle.ckrt_recording.specs.declared.recording.Recording.{Recording}
 use Rattle.ckrt_debug.specs.Conversation.{BreaksOff, Serves}
 use Rattle.ckrt_debug.specs.Session.{BeginsAt, IsOutside}
-use Rattle.ckrt_playback.specs.Playback.{run_of}
+use Rattle.ckrt_playback.specs.Recorded.{run_of}
 use Rattle.ckrt_debug.specs.declared.fault.DebugFault.{DebugFault}
 use Rattle.ckrt_debug.specs.declared.fault.DebugFault.TheVariants as debug
 use Rattle.ckrt_debug.specs.declared.stub.Stub.{Stub}

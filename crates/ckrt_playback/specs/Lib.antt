@@ -1,3 +1,4 @@
+pub mod Recorded
 pub mod Playback
 pub mod Limits
 pub mod Look

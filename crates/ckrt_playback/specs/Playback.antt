@@ -1,19 +1,15 @@
 -- A recorded run, replayed or not.
-use Rattle.std.specs.Prelude.{◌≤◌, ◌-◌, ℕ, List}
-use Rattle.ckrt_events.specs.declared.event.Event.{Event}
+use Rattle.std.specs.Prelude.{◌≤◌, ◌-◌, ℕ}
 use Rattle.ckrt_machine.specs.Steps.{State}
 use Rattle.ckrt_history.specs.declared.position.Position.{Position}
-use Rattle.ckrt_history.specs.Positions.{History, IsPosition, at_event, state_at}
+use Rattle.ckrt_history.specs.Positions.{History, IsPosition, state_at}
+use Rattle.ckrt_playback.specs.Recorded.{run_of}
 use Rattle.ckrt_playback.specs.declared.playback.Playback.{Playback}
 use Rattle.ckrt_playback.specs.declared.playback.Playback.TheVariants.{Unplayed, Played}
 
--- a run from a state on, at its beginning
-abbrev pub run_of : State → List Event → History
-run_of s es = record { start = s; events = es; position = at_event 0 }
-
 -- its history: before it is replayed, it stands at the beginning
 abbrev pub history_of : Playback → History
-history_of (Unplayed recorded) = run_of recorded.machine.state recorded.events.items
+history_of (Unplayed run) = run_of run.start run.events
 history_of (Played history) = history
 
 -- the state at the position

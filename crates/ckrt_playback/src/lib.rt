@@ -15,6 +15,7 @@ mod marks;
 mod memory;
 mod motion;
 mod playback;
+mod recorded;
 mod standing;
 mod threads;
 mod told;

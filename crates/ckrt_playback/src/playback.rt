@@ -1,26 +1,14 @@
 //! A recorded run that is replayed once somebody moves.
 ghost use Rattle.std.specs.Prelude.{◌≡◌, IfErr, IfOk, length};
 ghost use Rattle.ckrt_machine.specs.Events.{AllAccepted};
-ghost use Rattle.ckrt_history.specs.Engine.{IsRoomFor};
-ghost use Rattle.ckrt_playback.specs.Playback.{history_of, state_of, run_of};
+ghost use Rattle.ckrt_playback.specs.Playback.{history_of, state_of};
+ghost use Rattle.ckrt_playback.specs.Recorded.{run_of};
 
-use crate::limits::begin_of;
+use crate::recorded::Recorded;
 use ckrt_events::Event;
-use ckrt_history::{History, HistoryFault, Position, Room};
+use ckrt_history::{History, HistoryFault, Position};
 use ckrt_machine::Machine;
 use std::alloc::{AllocError, Global};
-
-/// How many states a history keeps on the way through the events, where its room has place for so many.
-const STATES: u32 = 1_000;
-
-/// A run that nobody has replayed: the machine as it was at the beginning, the events from there on, and the room of their history.
-#[derive(Drop)]
-pub struct Recorded {
-    machine: Machine,
-    events: Vec<Event>,
-    room: Room,
-    ghost ready: { IsRoomFor (length events.items) machine.state room },
-}
 
 /// A recorded run. It takes no memory behind [`Playback::new`].
 #[derive(Drop)]
@@ -29,41 +17,14 @@ pub enum Playback {
     Played(History),
 }
 
-impl Recorded {
-    /// Its history, which stands at its beginning.
-    ///
-    /// # Errors
-    ///
-    /// `Refused` exactly where an event isn't accepted at its turn.
-    fn play(self) -> Result<History, HistoryFault>
-        ensures played { IfOk result (λ h. h ≡ run_of self.machine.state self.events.items) }
-        ensures refused { IfErr result
-            (λ _. AllAccepted self.events.items self.machine.state → ⊥) }
-    {
-        let Recorded {
-            machine,
-            events,
-            room,
-        } = self;
-        let mut history = History::new(room, machine, events)?;
-        let begin = begin_of(&history, 0);
-        history.go_to(begin);
-        Ok(history)
-    }
-}
-
 impl Playback {
     /// The run from the machine's state on, at its beginning. The room of its history is taken.
     pub fn new(alloc: Global, machine: Machine, events: Vec<Event>) -> Result<Playback, AllocError>
         ensures { IfOk result
             (λ playback. history_of playback ≡ run_of machine.state events.items) }
     {
-        let room = Room::new(alloc, &machine, events.len(), STATES)?;
-        Ok(Playback::Unplayed(Recorded {
-            machine,
-            events,
-            room,
-        }))
+        let recorded = Recorded::new(alloc, machine, events)?;
+        Ok(Playback::Unplayed(recorded))
     }
 
     /// The machine at the position.
@@ -71,7 +32,7 @@ impl Playback {
         ensures { result.now.state ≡ state_of self.now }
     {
         match self {
-            Playback::Unplayed(recorded) => &recorded.machine,
+            Playback::Unplayed(recorded) => recorded.machine(),
             Playback::Played(history) => history.machine(),
         }
     }
@@ -91,7 +52,7 @@ impl Playback {
         ensures { result ≡ length (history_of self.now).events }
     {
         match self {
-            Playback::Unplayed(recorded) => recorded.events.len(),
+            Playback::Unplayed(recorded) => recorded.event_count(),
             Playback::Played(history) => history.events().len(),
         }
     }
