@@ -2,7 +2,7 @@
 use Rattle.std.proofs.Common.{◌≡◌, ◌⊎◌, inl, inr, ℕ, zero, suc, ◌≤◌, ◌<◌, Bool, true, false, Option, Some, None, List, [], ◌∷◌, ◌++◌, length, take, drop, refl, sym, ap, subst, ◌∙◌, arith, append_assoc, append-nil, drop_of_length-le, length-drop, min, nat_le}
 use Rattle.std.proofs.lemmas.Bool.{leb-false, leb-true}
 use Rattle.std.proofs.lemmas.List.{take_min}
-use Rattle.std.specs.Prelude.{IfErr, IfOk, IsErrOf, Result, Ok, Err, codes}
+use Rattle.std.specs.Prelude.{IfErr, IfOk, IsErrOf, Result, Ok, Err, codes, is_some}
 use Rattle.std.specs.Io.KnownBytes.{Appends, Consumes, Keeps}
 use Rattle.ckrt_commands.specs.Writing.{AppendsPart}
 use Rattle.ckrt_commands.proofs.WriteLemmas.{Appends-append, Appends-nothing}
@@ -14,7 +14,7 @@ use Rattle.ckrt_debug.specs.declared.fault.DebugFault.TheVariants.{OutOfMemory, 
 use Rattle.ckrt_debug.specs.declared.line.Line.{Line}
 use Rattle.ckrt_debug.specs.Monitor.{Obeys}
 use Rattle.ckrt_playback.specs.Playback.{history_of}
-use Rattle.ckrt_debug.specs.Conversation.{Advances, Breaks, BreaksAfter, BreaksByte, BreaksOff, BreaksRequest, Goes, HasHeard, Hears, HearsAll, IsReply, Replies, RepliesBy, RepliesToUser, RespondsTo, Talk, Writes, asked_by, begun, console_frames, console_in, console_text, hearing, monitored, sign_in, talk_of}
+use Rattle.ckrt_debug.specs.Conversation.{Advances, Breaks, BreaksAfter, BreaksByte, BreaksOff, BreaksRequest, Goes, HasHeard, Hears, HearsAll, IsReply, Replies, RepliesBy, RepliesToUser, RespondsTo, TakesMemory, Talk, Writes, asked_by, begun, console_frames, console_in, console_text, hearing, monitored, sign_in, talk_of}
 use Rattle.ckrt_debug.specs.declared.stub.Stub.{Stub}
 
 -- WRITERS
@@ -184,6 +184,25 @@ module _ (text told console : List ℕ) (old new : Stub) (obeys : Obeys text old
   )
 
 -- BY WHAT A REQUEST IS
+
+-- memory is taken for the user's
+pub user_takes : (request : Request) (text : List ℕ) (r : Result Stub DebugFault) → monitored request ≡ Some text → IfErr r (λ e. TakesMemory e request)
+user_takes request text (Ok stub) is = tt
+user_takes request text (Err e) is = λ _. ap is_some is
+
+-- and for nobody else's
+pub gdb_takes_none : (request : Request) (r : Result Stub DebugFault) → IfErr r (λ e. e ≡ OutOfMemory → ⊥) → IfErr r (λ e. TakesMemory e request)
+gdb_takes_none request (Ok stub) none = tt
+gdb_takes_none request (Err e) none = λ is. absurd (none is)
+
+-- a writer that breaks refuses no memory
+pub no_memory : (e : DebugFault) → e ≡ Write → e ≡ OutOfMemory → ⊥
+no_memory e is same = absurd (cc)
+
+-- why a request isn't answered, where it isn't
+pub broken_request : (request : Request) (asked : Option Request) (old : Stub) (a b : Option (List ℕ)) (e : DebugFault) → asked ≡ Some request
+    → Breaks e (Replies request old) old a b → TakesMemory e request → BreaksRequest e asked old a b
+broken_request request asked old a b e is broken takes = subst (λ (o : Option Request). BreaksRequest e o old a b) (sym is) (broken, takes)
 
 pub broken_by : (request : Request) (old : Stub) (a b : Option (List ℕ)) (by : Option (List ℕ)) (r : Result Stub DebugFault) → monitored request ≡ by
     → IfErr r (λ e. Breaks e (RepliesBy by request old) old a b) → IfErr r (λ e. Breaks e (Replies request old) old a b)

@@ -2,7 +2,6 @@
 use Rattle.std.proofs.Common.{◌≡◌, ℕ, true, false, Option, Some, None, List, refl, sym, subst}
 use Rattle.std.proofs.lemmas.Bool.{false≢true}
 use Rattle.std.specs.Prelude.{IfOk, IfSome, Result, Ok, Err, is_some}
-use Rattle.ckrt_debug.specs.declared.fault.DebugFault.{DebugFault}
 use Rattle.ckrt_packets.specs.declared.request.Request.{Request}
 use Rattle.ckrt_playback.specs.declared.going.Way.{Way}
 use Rattle.ckrt_debug.specs.declared.stub.Stub.{Stub}
@@ -31,7 +30,7 @@ module _ (look : Option (List ℕ)) (way : Option Way) (request : Request) (old 
   by_way w is moved told = by_way_of look way w none is moved told
 
 -- what a motion answers
-pub by_walk : (look : Option (List ℕ)) (way : Option Way) (request : Request) (old : Stub) (out : List ℕ) (r : Result Stub DebugFault) (w : Way)
+pub by_walk : {E : Type 0} (look : Option (List ℕ)) (way : Option Way) (request : Request) (old : Stub) (out : List ℕ) (r : Result Stub E) (w : Way)
     → is_some look ≡ false → way ≡ Some w → IfOk r (λ new. HasMoved w old new × (out ≡ fitting (last_text new.desk.view)))
     → IfOk r (λ new. AnswersBy look way request old new out)
 by_walk look way request old out (Ok new) w none is h = by_way look way request old new out none w is h.0 h.1
