@@ -163,19 +163,15 @@ impl Stub {
         Ok(stub)
     }
 
-    /// Does what gdb's user commands. What is told goes behind what is in `out`.
-    ///
-    /// # Errors
-    ///
-    /// `Refused` only where an event isn't accepted at its turn, and `OutOfMemory`.
-    pub(crate) fn obey(self, text: &[u8], out: &mut Vec<u8>) -> Result<Stub, DebugFault>
-        ensures obeyed { IfOk result (λ stub. (console : List ℕ)
-            × Obeys text.now self stub console × (out.new.items ≡ out.old.items ++ console)) }
+    /// Does a command. What is told goes behind what is in `out`.
+    fn perform(self, command: Command, out: &mut Vec<u8>) -> Result<Stub, DebugFault>
+        ensures does { IfOk result (λ stub. (console : List ℕ)
+            × Does command self stub console × (out.new.items ≡ out.old.items ++ console)) }
         ensures refused { IsErrOf result Refused
             → AllAccepted (history_of self.playback).events (history_of self.playback).start → ⊥ }
         ensures fault { IfErr result (λ e. (e ≡ Refused) ⊎ (e ≡ OutOfMemory)) }
     {
-        match command_of(text) {
+        match command {
             Command::GoTo(place) => self.go_to(place, out),
             Command::Until(place) => self.stop_at(place, out),
             Command::Limit(limit) => self.limit(limit, out),
@@ -192,5 +188,20 @@ impl Stub {
                 Ok(self)
             }
         }
+    }
+
+    /// Does what gdb's user commands. What is told goes behind what is in `out`.
+    ///
+    /// # Errors
+    ///
+    /// `Refused` only where an event isn't accepted at its turn, and `OutOfMemory`.
+    pub(crate) fn obey(self, text: &[u8], out: &mut Vec<u8>) -> Result<Stub, DebugFault>
+        ensures obeyed { IfOk result (λ stub. (console : List ℕ)
+            × Obeys text.now self stub console × (out.new.items ≡ out.old.items ++ console)) }
+        ensures refused { IsErrOf result Refused
+            → AllAccepted (history_of self.playback).events (history_of self.playback).start → ⊥ }
+        ensures fault { IfErr result (λ e. (e ≡ Refused) ⊎ (e ≡ OutOfMemory)) }
+    {
+        self.perform(command_of(text), out)
     }
 }
