@@ -2,6 +2,7 @@
 ghost use Rattle.std.specs.Prelude.{◌≡◌, ◌⊎◌, ◌++◌, ℕ, List, IfErr, IfOk, IsErrOf, OnOk, decimal};
 ghost use Rattle.ckrt_machine.specs.Events.{AllAccepted};
 ghost use Rattle.ckrt_debug.specs.declared.fault.DebugFault.TheVariants.{OutOfMemory, Refused};
+ghost use Rattle.ckrt_debug.specs.declared.monitor.TheConstants.{HELP};
 ghost use Rattle.ckrt_debug.specs.Monitor.{Does, Obeys, count_of, event_text, gone_text, limit_text, listing_text, named_text, range_text, standing_line, steps_text, until_text};
 ghost use Rattle.ckrt_playback.specs.Playback.{history_of};
 
@@ -90,6 +91,13 @@ fn push_limit(out: &mut Vec<u8>, limit: u32) -> Result<(), AllocError>
 {
     push_counted(out, b"limit ", u64::from(limit))?;
     out.extend_from_slice(b"\n")
+}
+
+/// The commands that there are.
+fn push_help(out: &mut Vec<u8>) -> Result<(), AllocError>
+    ensures { OnOk result (out.new.items ≡ out.old.items ++ HELP.now) }
+{
+    out.extend_from_slice(HELP)
 }
 
 impl Stub {
@@ -184,7 +192,7 @@ impl Stub {
                 Ok(self)
             }
             Command::Help => {
-                out.extend_from_slice(HELP)?;
+                push_help(out)?;
                 Ok(self)
             }
         }

@@ -35,11 +35,7 @@ impl Model for Recorded {
 
 impl Recorded {
     /// The run from the machine's state on. The room of its history is taken.
-    pub fn new(
-        alloc: Global,
-        machine: Machine,
-        events: Vec<Event>,
-    ) -> Result<Recorded, AllocError>
+    pub fn new(alloc: Global, machine: Machine, events: Vec<Event>) -> Result<Recorded, AllocError>
         ensures { IfOk result
             (λ run. run ≡ record { start = machine.state; events = events.items }) }
     {

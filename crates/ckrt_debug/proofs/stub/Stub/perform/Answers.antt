@@ -30,3 +30,8 @@ pub returns-in-Inspect-clause-does : goal.returns-in-Inspect-clause-does
 returns-in-Inspect-clause-does c =
     subst (λ (k : Command). (console : List ℕ) × Does k c.args.self c.args.self console × (c.push_listing.new.out.items ≡ c.args.out.now.items ++ console))
     (sym c.in-Inspect.is) (listing_text c.args.self, (same c.args.self, refl), c.in_ok-push_listing.ensures)
+
+pub returns-in-Help-clause-does : goal.returns-in-Help-clause-does
+returns-in-Help-clause-does c =
+    subst (λ (k : Command). (console : List ℕ) × Does k c.args.self c.args.self console × (c.push_help.new.out.items ≡ c.args.out.now.items ++ console))
+    (sym c.in-Help.is) (HELP.now, (same c.args.self, refl), c.in_ok-push_help.ensures)
