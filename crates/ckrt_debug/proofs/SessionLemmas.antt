@@ -1,9 +1,11 @@
 -- What a session answers, by what is asked.
-use Rattle.std.proofs.Common.{◌≡◌, ℕ, true, false, Option, Some, None, List, refl, sym, subst}
+use Rattle.std.proofs.Common.{◌≡◌, ◌⊎◌, inr, ℕ, true, false, Option, Some, None, List, refl, sym, subst}
 use Rattle.std.proofs.lemmas.Bool.{false≢true}
-use Rattle.std.specs.Prelude.{IfOk, IfSome, Result, Ok, Err, is_some}
+use Rattle.std.specs.Prelude.{IfErr, IfOk, IfSome, IsErrOf, Result, Ok, Err, is_some}
 use Rattle.ckrt_packets.specs.declared.request.Request.{Request}
 use Rattle.ckrt_playback.specs.declared.going.Way.{Way}
+use Rattle.ckrt_debug.specs.declared.fault.DebugFault.{DebugFault}
+use Rattle.ckrt_debug.specs.declared.fault.DebugFault.TheVariants.{OutOfMemory, Refused}
 use Rattle.ckrt_debug.specs.declared.stub.Stub.{Stub}
 use Rattle.ckrt_playback.specs.Look.{fitting}
 use Rattle.ckrt_playback.specs.Playback.{history_of}
@@ -42,3 +44,12 @@ answered_run (Some text) way request old new out h = is_run (history_of new.play
 answered_run None (Some way) request old new out h =
     moved_run old.desk.bounds way old.desk.stops (history_of old.playback) (history_of new.playback) h.0.found h.0.moved
 answered_run None None request old new out h = is_run (history_of new.playback) (history_of old.playback) h.0.history
+
+-- of what takes memory alone
+pub never_refused : {P : Type 0} (r : Result Stub DebugFault) → IfErr r (λ e. e ≡ OutOfMemory) → IsErrOf r Refused → P
+never_refused (Ok new) h is = absurd (cc)
+never_refused (Err e) h is = absurd (cc)
+
+pub only_memory : (r : Result Stub DebugFault) → IfErr r (λ e. e ≡ OutOfMemory) → IfErr r (λ e. (e ≡ Refused) ⊎ (e ≡ OutOfMemory))
+only_memory (Ok new) h = tt
+only_memory (Err e) h = inr h

@@ -171,6 +171,39 @@ impl Stub {
         Ok(stub)
     }
 
+    /// Tells where it stands.
+    fn tell_standing(self, out: &mut Vec<u8>) -> Result<Stub, DebugFault>
+        ensures does { IfOk result (λ stub. (console : List ℕ)
+            × Does Command.Events self stub console
+            × (out.new.items ≡ out.old.items ++ console)) }
+        ensures fault { IfErr result (λ e. e ≡ OutOfMemory) }
+    {
+        self.push_standing(out)?;
+        Ok(self)
+    }
+
+    /// Tells the listing of `ckrt inspect`.
+    fn tell_listing(self, out: &mut Vec<u8>) -> Result<Stub, DebugFault>
+        ensures does { IfOk result (λ stub. (console : List ℕ)
+            × Does Command.Inspect self stub console
+            × (out.new.items ≡ out.old.items ++ console)) }
+        ensures fault { IfErr result (λ e. e ≡ OutOfMemory) }
+    {
+        self.push_listing(out)?;
+        Ok(self)
+    }
+
+    /// Tells the commands that there are.
+    fn tell_help(self, out: &mut Vec<u8>) -> Result<Stub, DebugFault>
+        ensures does { IfOk result (λ stub. (console : List ℕ)
+            × Does Command.Help self stub console
+            × (out.new.items ≡ out.old.items ++ console)) }
+        ensures fault { IfErr result (λ e. e ≡ OutOfMemory) }
+    {
+        push_help(out)?;
+        Ok(self)
+    }
+
     /// Does a command. What is told goes behind what is in `out`.
     fn perform(self, command: Command, out: &mut Vec<u8>) -> Result<Stub, DebugFault>
         ensures does { IfOk result (λ stub. (console : List ℕ)
@@ -183,18 +216,9 @@ impl Stub {
             Command::GoTo(place) => self.go_to(place, out),
             Command::Until(place) => self.stop_at(place, out),
             Command::Limit(limit) => self.limit(limit, out),
-            Command::Events => {
-                self.push_standing(out)?;
-                Ok(self)
-            }
-            Command::Inspect => {
-                self.push_listing(out)?;
-                Ok(self)
-            }
-            Command::Help => {
-                push_help(out)?;
-                Ok(self)
-            }
+            Command::Events => self.tell_standing(out),
+            Command::Inspect => self.tell_listing(out),
+            Command::Help => self.tell_help(out),
         }
     }
 
