@@ -1,5 +1,5 @@
 -- What a session answers, by what is asked.
-use Rattle.std.proofs.Common.{◌≡◌, ◌⊎◌, inr, ℕ, true, false, Option, Some, None, List, refl, sym, subst}
+use Rattle.std.proofs.Common.{◌≡◌, ◌⊎◌, inr, ℕ, Bool, true, false, Option, Some, None, List, refl, sym, subst}
 use Rattle.std.proofs.lemmas.Bool.{false≢true}
 use Rattle.std.specs.Prelude.{IfErr, IfOk, IfSome, IsErrOf, Result, Ok, Err, is_some}
 use Rattle.ckrt_packets.specs.declared.request.Request.{Request}
@@ -8,9 +8,10 @@ use Rattle.ckrt_debug.specs.declared.fault.DebugFault.{DebugFault}
 use Rattle.ckrt_debug.specs.declared.fault.DebugFault.TheVariants.{OutOfMemory, Refused}
 use Rattle.ckrt_debug.specs.declared.stub.Stub.{Stub}
 use Rattle.ckrt_playback.specs.Look.{fitting}
-use Rattle.ckrt_playback.specs.Playback.{history_of}
+use Rattle.ckrt_history.specs.Positions.{History}
+use Rattle.ckrt_playback.specs.Playback.{HasPlace, history_of}
 use Rattle.ckrt_playback.specs.Requests.{last_text}
-use Rattle.ckrt_debug.specs.Session.{AnswersBy, HasMoved, IsOfRun, IsSame}
+use Rattle.ckrt_debug.specs.Session.{AnswersBy, HasMoved, IsOfRun, IsOutside, IsSame, Reaches}
 use Rattle.ckrt_playback.proofs.MotionLemmas.{is_run, moved_run}
 
 pub same : (s : Stub) → IsSame s s
@@ -53,3 +54,11 @@ never_refused (Err e) h is = absurd (cc)
 pub only_memory : (r : Result Stub DebugFault) → IfErr r (λ e. e ≡ OutOfMemory) → IfErr r (λ e. (e ≡ Refused) ⊎ (e ≡ OutOfMemory))
 only_memory (Ok new) h = tt
 only_memory (Err e) h = inr h
+
+-- where it doesn't get to is outside of its run
+pub not_reached : (begin : Option ℕ) (k first : ℕ) (h : History) (old new : Stub) (is_there : Bool) → begin ≡ Some k → is_there ≡ false → old.desk.first ≡ first
+    → history_of old.playback ≡ h → Reaches k 0 old is_there new → IsOutside begin first h
+not_reached begin k first h old new is_there begins off first_is run reaches =
+    let never = (subst (λ b. Reaches k 0 old b new) off reaches).0 in
+    let from : HasPlace first k 0 (history_of old.playback) → ⊥ = subst (λ f. HasPlace f k 0 (history_of old.playback) → ⊥) first_is never in
+    subst (λ o. IsOutside o first h) (sym begins) (subst (λ (x : History). HasPlace first k 0 x → ⊥) run from)
