@@ -3,6 +3,7 @@ use Rattle.std.proofs.Common.{◌≡◌, ◌⊎◌, inl, inr, ℕ, zero, suc, �
 use Rattle.std.proofs.lemmas.Bool.{leb-false, leb-true}
 use Rattle.std.proofs.lemmas.List.{take_min}
 use Rattle.std.specs.Prelude.{IfErr, IfOk, IsErrOf, Result, Ok, Err, codes, is_some}
+use Rattle.std.specs.Result.{IsErrAnd}
 use Rattle.std.specs.Io.KnownBytes.{Appends, Consumes, Keeps}
 use Rattle.ckrt_commands.specs.Writing.{AppendsPart}
 use Rattle.ckrt_commands.proofs.WriteLemmas.{Appends-append, Appends-nothing}
@@ -140,6 +141,11 @@ heard_nothing r a old = record {
 -- what a fault that a call answers says
 pub answers_err : {A : Type 0} (r : Result A DebugFault) (e : DebugFault) (P : DebugFault → Type 0) → r ≡ Err e → P e → IfErr r P
 answers_err r e P is p = subst (λ s. IfErr s P) (sym is) p
+
+-- a fault that is handed on as it is
+pub err_is : {A : Type 0} (r : Result A DebugFault) (e : DebugFault) → IsErrAnd r (λ x. x ≡ e) → r ≡ Err e
+err_is (Ok x) e is = absurd is
+err_is (Err x) e is = ap Err is
 
 -- the writer broke a reply off
 pub writer_broke : (Is : IsReply) (old new : Stub) (a b : Option (List ℕ)) (frames sent : List ℕ) (e : DebugFault) → e ≡ Write → Is new frames sent
