@@ -1,7 +1,5 @@
 -- A session with a debugger, between two packets.
 use Rattle.std.specs.Prelude.{◌≡◌, ◌+◌, ℕ, Bool, true, false, List, Option, Some, None, is_some}
-use Rattle.ckrt_events.specs.declared.event.Event.{Event}
-use Rattle.ckrt_machine.specs.Steps.{State}
 use Rattle.ckrt_history.specs.declared.position.Position.{Position}
 use Rattle.ckrt_history.specs.Positions.{History, at_event}
 use Rattle.ckrt_packets.specs.declared.request.Request.{Request}

@@ -1,4 +1,3 @@
-use Rattle.std.proofs.Common.{◌≡◌}
 use Rattle.ckrt_debug.specs.declared.stub.Stub.{Stub}
 use Rattle.ckrt_playback.specs.Recorded.{run_of}
 use Rattle.ckrt_debug.proofs.SessionLemmas.{not_reached}
