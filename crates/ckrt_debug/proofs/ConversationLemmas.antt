@@ -2,7 +2,8 @@
 use Rattle.std.proofs.Common.{◌≡◌, ◌⊎◌, inl, inr, ℕ, zero, suc, ◌≤◌, ◌<◌, Bool, true, false, Option, Some, None, List, [], ◌∷◌, ◌++◌, length, take, drop, refl, sym, ap, subst, ◌∙◌, arith, append_assoc, append-nil, drop_of_length-le, length-drop, min, nat_le}
 use Rattle.std.proofs.lemmas.Bool.{leb-false, leb-true}
 use Rattle.std.proofs.lemmas.List.{take_min}
-use Rattle.std.specs.Prelude.{IfErr, IfOk, IsErrOf, Result, Ok, Err, codes}
+use Rattle.std.specs.Prelude.{IfErr, IfOk, IsErrOf, Result, Ok, Err, codes, is_some}
+use Rattle.std.specs.Result.{IsErrAnd}
 use Rattle.std.specs.Io.KnownBytes.{Appends, Consumes, Keeps}
 use Rattle.ckrt_commands.specs.Writing.{AppendsPart}
 use Rattle.ckrt_commands.proofs.WriteLemmas.{Appends-append, Appends-nothing}
@@ -13,8 +14,8 @@ use Rattle.ckrt_debug.specs.declared.fault.DebugFault.{DebugFault}
 use Rattle.ckrt_debug.specs.declared.fault.DebugFault.TheVariants.{OutOfMemory, Range, Read, Refused, Write}
 use Rattle.ckrt_debug.specs.declared.line.Line.{Line}
 use Rattle.ckrt_debug.specs.Monitor.{Obeys}
-use Rattle.ckrt_debug.specs.Playback.{history_of}
-use Rattle.ckrt_debug.specs.Conversation.{Advances, Breaks, BreaksAfter, BreaksByte, BreaksOff, BreaksRequest, Goes, HasHeard, Hears, HearsAll, IsReply, Replies, RepliesBy, RepliesToUser, RespondsTo, Talk, Writes, asked_by, begun, console_frames, console_in, console_text, hearing, monitored, sign_in, talk_of}
+use Rattle.ckrt_playback.specs.Playback.{history_of}
+use Rattle.ckrt_debug.specs.Conversation.{Advances, Breaks, BreaksAfter, BreaksByte, BreaksOff, BreaksRequest, Goes, HasHeard, Hears, HearsAll, IsReply, Replies, RepliesBy, RepliesToUser, RespondsTo, TakesMemory, Talk, Writes, asked_by, begun, console_frames, console_in, console_text, hearing, monitored, sign_in, talk_of}
 use Rattle.ckrt_debug.specs.declared.stub.Stub.{Stub}
 
 -- WRITERS
@@ -141,6 +142,11 @@ heard_nothing r a old = record {
 pub answers_err : {A : Type 0} (r : Result A DebugFault) (e : DebugFault) (P : DebugFault → Type 0) → r ≡ Err e → P e → IfErr r P
 answers_err r e P is p = subst (λ s. IfErr s P) (sym is) p
 
+-- a fault that is handed on as it is
+pub err_is : {A : Type 0} (r : Result A DebugFault) (e : DebugFault) → IsErrAnd r (λ x. x ≡ e) → r ≡ Err e
+err_is (Ok x) e is = absurd is
+err_is (Err x) e is = ap Err is
+
 -- the writer broke a reply off
 pub writer_broke : (Is : IsReply) (old new : Stub) (a b : Option (List ℕ)) (frames sent : List ℕ) (e : DebugFault) → e ≡ Write → Is new frames sent
     → AppendsPart a b frames → Breaks e Is old a b
@@ -184,6 +190,25 @@ module _ (text told console : List ℕ) (old new : Stub) (obeys : Obeys text old
   )
 
 -- BY WHAT A REQUEST IS
+
+-- memory is taken for the user's
+pub user_takes : (request : Request) (text : List ℕ) (r : Result Stub DebugFault) → monitored request ≡ Some text → IfErr r (λ e. TakesMemory e request)
+user_takes request text (Ok stub) is = tt
+user_takes request text (Err e) is = λ _. ap is_some is
+
+-- and for nobody else's
+pub gdb_takes_none : (request : Request) (r : Result Stub DebugFault) → IfErr r (λ e. e ≡ OutOfMemory → ⊥) → IfErr r (λ e. TakesMemory e request)
+gdb_takes_none request (Ok stub) none = tt
+gdb_takes_none request (Err e) none = λ is. absurd (none is)
+
+-- a writer that breaks refuses no memory
+pub no_memory : (e : DebugFault) → e ≡ Write → e ≡ OutOfMemory → ⊥
+no_memory e is same = absurd (cc)
+
+-- why a request isn't answered, where it isn't
+pub broken_request : (request : Request) (asked : Option Request) (old : Stub) (a b : Option (List ℕ)) (e : DebugFault) → asked ≡ Some request
+    → Breaks e (Replies request old) old a b → TakesMemory e request → BreaksRequest e asked old a b
+broken_request request asked old a b e is broken takes = subst (λ (o : Option Request). BreaksRequest e o old a b) (sym is) (broken, takes)
 
 pub broken_by : (request : Request) (old : Stub) (a b : Option (List ℕ)) (by : Option (List ℕ)) (r : Result Stub DebugFault) → monitored request ≡ by
     → IfErr r (λ e. Breaks e (RepliesBy by request old) old a b) → IfErr r (λ e. Breaks e (Replies request old) old a b)
@@ -249,7 +274,7 @@ module _ (old : Talk) (byte : ℕ) (a b r s : Option (List ℕ)) (got : Consumes
 
   no_request : (o : Option Request) (c : Option (List ℕ)) → BreaksRequest Read o old.stub c b → ⊥
   no_request None c h = h
-  no_request (Some request) c h = h
+  no_request (Some request) c h = h.0
 
   no_read : BreaksByte Read byte old a b → ⊥
   no_read (inl sign) = sign
@@ -267,7 +292,7 @@ module _ (old : Talk) (byte : ℕ) (a b r s : Option (List ℕ)) (got : Consumes
 module _ (old : Talk) (r s a b : Option (List ℕ)) where
   no_place : (o : Option Request) (c : Option (List ℕ)) → BreaksRequest Range o old.stub c b → ⊥
   no_place None c h = h
-  no_place (Some request) c h = h
+  no_place (Some request) c h = h.0
 
   no_range : (byte : ℕ) → BreaksByte Range byte old a b → ⊥
   no_range byte (inl sign) = sign

@@ -1,5 +1,3 @@
-pub mod WordLemmas
 pub mod NumberLemmas
-pub mod MotionLemmas
 pub mod SessionLemmas
 pub mod ConversationLemmas

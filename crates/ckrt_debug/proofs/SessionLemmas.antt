@@ -1,16 +1,18 @@
 -- What a session answers, by what is asked.
-use Rattle.std.proofs.Common.{◌≡◌, ℕ, true, false, Option, Some, None, List, refl, sym, subst}
+use Rattle.std.proofs.Common.{◌≡◌, ◌⊎◌, inr, ℕ, Bool, true, false, Option, Some, None, List, refl, sym, subst}
 use Rattle.std.proofs.lemmas.Bool.{false≢true}
-use Rattle.std.specs.Prelude.{IfOk, IfSome, Result, Ok, Err, is_some}
-use Rattle.ckrt_debug.specs.declared.fault.DebugFault.{DebugFault}
+use Rattle.std.specs.Prelude.{IfErr, IfOk, IfSome, IsErrOf, Result, Ok, Err, is_some}
 use Rattle.ckrt_packets.specs.declared.request.Request.{Request}
-use Rattle.ckrt_debug.specs.declared.going.Way.{Way}
+use Rattle.ckrt_playback.specs.declared.going.Way.{Way}
+use Rattle.ckrt_debug.specs.declared.fault.DebugFault.{DebugFault}
+use Rattle.ckrt_debug.specs.declared.fault.DebugFault.TheVariants.{OutOfMemory, Refused}
 use Rattle.ckrt_debug.specs.declared.stub.Stub.{Stub}
-use Rattle.ckrt_debug.specs.Look.{fitting}
-use Rattle.ckrt_debug.specs.Playback.{history_of}
-use Rattle.ckrt_debug.specs.Requests.{last_text}
-use Rattle.ckrt_debug.specs.Session.{AnswersBy, HasMoved, IsOfRun, IsSame}
-use Rattle.ckrt_debug.proofs.MotionLemmas.{is_run, moved_run}
+use Rattle.ckrt_playback.specs.Look.{fitting}
+use Rattle.ckrt_history.specs.Positions.{History}
+use Rattle.ckrt_playback.specs.Playback.{HasPlace, history_of}
+use Rattle.ckrt_playback.specs.Requests.{last_text}
+use Rattle.ckrt_debug.specs.Session.{AnswersBy, HasMoved, IsOfRun, IsOutside, IsSame, Reaches}
+use Rattle.ckrt_playback.proofs.MotionLemmas.{is_run, moved_run}
 
 pub same : (s : Stub) → IsSame s s
 same s = record { history = refl; view = refl; stops = refl; bounds_are = refl; first = refl }
@@ -31,7 +33,7 @@ module _ (look : Option (List ℕ)) (way : Option Way) (request : Request) (old 
   by_way w is moved told = by_way_of look way w none is moved told
 
 -- what a motion answers
-pub by_walk : (look : Option (List ℕ)) (way : Option Way) (request : Request) (old : Stub) (out : List ℕ) (r : Result Stub DebugFault) (w : Way)
+pub by_walk : {E : Type 0} (look : Option (List ℕ)) (way : Option Way) (request : Request) (old : Stub) (out : List ℕ) (r : Result Stub E) (w : Way)
     → is_some look ≡ false → way ≡ Some w → IfOk r (λ new. HasMoved w old new × (out ≡ fitting (last_text new.desk.view)))
     → IfOk r (λ new. AnswersBy look way request old new out)
 by_walk look way request old out (Ok new) w none is h = by_way look way request old new out none w is h.0 h.1
@@ -43,3 +45,20 @@ answered_run (Some text) way request old new out h = is_run (history_of new.play
 answered_run None (Some way) request old new out h =
     moved_run old.desk.bounds way old.desk.stops (history_of old.playback) (history_of new.playback) h.0.found h.0.moved
 answered_run None None request old new out h = is_run (history_of new.playback) (history_of old.playback) h.0.history
+
+-- of what takes memory alone
+pub never_refused : {P : Type 0} (r : Result Stub DebugFault) → IfErr r (λ e. e ≡ OutOfMemory) → IsErrOf r Refused → P
+never_refused (Ok new) h is = absurd (cc)
+never_refused (Err e) h is = absurd (cc)
+
+pub only_memory : (r : Result Stub DebugFault) → IfErr r (λ e. e ≡ OutOfMemory) → IfErr r (λ e. (e ≡ Refused) ⊎ (e ≡ OutOfMemory))
+only_memory (Ok new) h = tt
+only_memory (Err e) h = inr h
+
+-- where it doesn't get to is outside of its run
+pub not_reached : (begin : Option ℕ) (k first : ℕ) (h : History) (old new : Stub) (is_there : Bool) → begin ≡ Some k → is_there ≡ false → old.desk.first ≡ first
+    → history_of old.playback ≡ h → Reaches k 0 old is_there new → IsOutside begin first h
+not_reached begin k first h old new is_there begins off first_is run reaches =
+    let never = (subst (λ b. Reaches k 0 old b new) off reaches).0 in
+    let from : HasPlace first k 0 (history_of old.playback) → ⊥ = subst (λ f. HasPlace f k 0 (history_of old.playback) → ⊥) first_is never in
+    subst (λ o. IsOutside o first h) (sym begins) (subst (λ (x : History). HasPlace first k 0 x → ⊥) run from)

@@ -1,5 +1,5 @@
 -- A session with gdb over a line (this project's choice). The frames, and what arrives with a byte, are those of `ckrt_packets`.
-use Rattle.std.specs.Prelude.{◌≡◌, ◌⊎◌, ℕ, zero, suc, Bool, true, false, if◌then◌else◌, List, [], ◌∷◌, ◌++◌, length, take, drop, codes, Option, Some, None}
+use Rattle.std.specs.Prelude.{◌≡◌, ◌⊎◌, ℕ, zero, suc, Bool, true, false, if◌then◌else◌, List, [], ◌∷◌, ◌++◌, length, take, drop, codes, Option, Some, None, is_some}
 use Rattle.std.specs.Io.KnownBytes.{Appends, Consumes, IsAtEnd, Keeps}
 use Rattle.ckrt_commands.specs.Writing.{AppendsPart}
 use Rattle.ckrt_machine.specs.Events.{AllAccepted}
@@ -15,9 +15,9 @@ use Rattle.ckrt_debug.specs.declared.fault.DebugFault.{DebugFault}
 use Rattle.ckrt_debug.specs.declared.fault.DebugFault.TheVariants as fault
 use Rattle.ckrt_debug.specs.declared.line.Line.{Line}
 use Rattle.ckrt_debug.specs.declared.stub.Stub.{Stub}
-use Rattle.ckrt_debug.specs.Look.{fitting}
+use Rattle.ckrt_playback.specs.Look.{fitting}
 use Rattle.ckrt_debug.specs.Monitor.{Obeys}
-use Rattle.ckrt_debug.specs.Playback.{history_of}
+use Rattle.ckrt_playback.specs.Playback.{history_of}
 use Rattle.ckrt_debug.specs.Session.{Answers}
 
 -- A session and its line: what was heard of the frame under way, the frame that was sent last, and whether packets are acknowledged.
@@ -214,9 +214,13 @@ Breaks fault.Refused Is old a b =
 Breaks fault.OutOfMemory Is old a b = Appends a b []
 Breaks _ Is old a b = ⊥
 
+-- memory is taken for what gdb's user is told, and for nothing else
+abbrev pub TakesMemory : DebugFault → Request → Type 0
+TakesMemory e request = e ≡ fault.OutOfMemory → is_some (monitored request) ≡ true
+
 abbrev pub BreaksRequest : DebugFault → Option Request → (old : Stub) → (a b : Option (List ℕ)) → Type 0
 BreaksRequest e None old a b = ⊥
-BreaksRequest e (Some request) old a b = Breaks e (Replies request old) old a b
+BreaksRequest e (Some request) old a b = Breaks e (Replies request old) old a b × TakesMemory e request
 
 -- the sign of a byte was broken off by the writer
 abbrev pub BreaksSign : DebugFault → ℕ → Talk → (a b : Option (List ℕ)) → Type 0

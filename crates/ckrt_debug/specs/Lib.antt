@@ -1,14 +1,4 @@
 pub mod Commands
 pub mod Conversation
-pub mod Faults
-pub mod Playback
-pub mod Limits
-pub mod Look
-pub mod Marks
 pub mod Monitor
-pub mod Motions
-pub mod Requests
 pub mod Session
-pub mod Settings
-pub mod Standing
-pub mod Told

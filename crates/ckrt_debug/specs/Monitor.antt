@@ -7,9 +7,9 @@ use Rattle.ckrt_debug.specs.declared.command.Command.TheVariants.{Events, GoTo, 
 use Rattle.ckrt_debug.specs.declared.monitor.TheConstants.{HELP}
 use Rattle.ckrt_debug.specs.declared.stub.Stub.{Stub}
 use Rattle.ckrt_debug.specs.Commands.{command_of}
-use Rattle.ckrt_debug.specs.Playback.{history_of, state_of}
+use Rattle.ckrt_playback.specs.Playback.{history_of, state_of}
 use Rattle.ckrt_debug.specs.Session.{HasBounds, IsSame, Names, Reaches}
-use Rattle.ckrt_debug.specs.Told.{is_before, is_same}
+use Rattle.ckrt_playback.specs.Told.{is_before, is_same}
 
 -- WHERE IT STANDS: `event K+S, from F to L`
 

@@ -1,32 +1,26 @@
 -- A session with a debugger, between two packets.
 use Rattle.std.specs.Prelude.{◌≡◌, ◌+◌, ℕ, Bool, true, false, List, Option, Some, None, is_some}
-use Rattle.ckrt_events.specs.declared.event.Event.{Event}
-use Rattle.ckrt_machine.specs.Steps.{State}
 use Rattle.ckrt_history.specs.declared.position.Position.{Position}
 use Rattle.ckrt_history.specs.Positions.{History, at_event}
 use Rattle.ckrt_packets.specs.declared.request.Request.{Request}
-use Rattle.ckrt_debug.specs.declared.going.Way.{Way}
-use Rattle.ckrt_debug.specs.declared.limits.Bounds.{Bounds}
-use Rattle.ckrt_debug.specs.declared.motion.Found.{Found}
+use Rattle.ckrt_playback.specs.declared.going.Way.{Way}
+use Rattle.ckrt_playback.specs.declared.limits.Bounds.{Bounds}
+use Rattle.ckrt_playback.specs.declared.motion.Found.{Found}
 use Rattle.ckrt_debug.specs.declared.stub.Stub.{Stub}
-use Rattle.ckrt_debug.specs.Limits.{unbounded}
-use Rattle.ckrt_debug.specs.Look.{fitting}
-use Rattle.ckrt_debug.specs.Marks.{IsWithoutStops}
-use Rattle.ckrt_debug.specs.Motions.{Moved, at}
-use Rattle.ckrt_debug.specs.Playback.{HasPlace, history_of, position_of, state_of}
-use Rattle.ckrt_debug.specs.Requests.{last_text, look_of, way_of}
-use Rattle.ckrt_debug.specs.Settings.{HasSetStops, set_text, view_after}
-use Rattle.ckrt_debug.specs.Told.{first_view, next_or, shown, standing_in, told}
+use Rattle.ckrt_playback.specs.Limits.{unbounded}
+use Rattle.ckrt_playback.specs.Look.{fitting}
+use Rattle.ckrt_playback.specs.Marks.{IsWithoutStops}
+use Rattle.ckrt_playback.specs.Motions.{Moved, at}
+use Rattle.ckrt_playback.specs.Playback.{HasPlace, history_of, position_of, state_of}
+use Rattle.ckrt_playback.specs.Requests.{last_text, look_of, way_of}
+use Rattle.ckrt_playback.specs.Settings.{HasSetStops, set_text, view_after}
+use Rattle.ckrt_playback.specs.Told.{first_view, next_or, shown, standing_in, told}
 
 -- it is of the same run, at any position
 abbrev pub IsOfRun : (old new : Stub) → Type 0
 IsOfRun old new = history_of new.playback ≡ at (history_of new.playback).position (history_of old.playback)
 
 -- HOW IT BEGINS
-
--- a run, at its beginning
-abbrev pub run_of : State → List Event → History
-run_of s es = record { start = s; events = es; position = at_event 0 }
 
 -- a session is to begin with so many events done, and there is no such position
 abbrev pub IsOutside : Option ℕ → (first : ℕ) → History → Type 0

@@ -27,15 +27,13 @@ pub enum DebugFault {
 }
 
 impl From<HistoryFault> for DebugFault {
-    ghost use Rattle.ckrt_debug.specs.declared.fault.DebugFault.TheVariants as debug;
-    ghost use Rattle.ckrt_debug.specs.Faults.{fault_of};
+    ghost use Rattle.ckrt_debug.specs.declared.fault.DebugFault.TheVariants.{Refused};
 
-    ghost from_gives = { λ f e. e ≡ fault_of f };
+    ghost from_gives = { λ _ e. e ≡ Refused };
 
     fn from(fault: HistoryFault) -> Self {
         match fault {
             HistoryFault::Refused => DebugFault::Refused,
-            HistoryFault::OutOfMemory => DebugFault::OutOfMemory,
         }
     }
 }

@@ -5,16 +5,16 @@ ghost use Rattle.ckrt_commands.specs.Writing.{AppendsPart};
 ghost use Rattle.ckrt_packets.specs.Framing.{arrival_of, frame_of, line_after};
 ghost use Rattle.ckrt_packets.specs.Replies.{reply_text};
 ghost use Rattle.ckrt_debug.specs.declared.stub.Stub.{Stub};
-ghost use Rattle.ckrt_debug.specs.Look.{fitting};
+ghost use Rattle.ckrt_playback.specs.Look.{fitting};
 ghost use Rattle.ckrt_debug.specs.Conversation.{asked_by, asked_of, begun, console_frames, sign_in, sign_of, talk_of};
 
 use crate::fault::DebugFault;
-use crate::look::put;
 use arrayvec::ArrayVec;
 use ckrt_commands::write_text;
 use ckrt_packets::{
     Arrival, FRAME_LIMIT, Payload, Receiver, Reply, Request, parse_request, write_frame,
 };
+use ckrt_playback::put_reply;
 use std::io::{ErrorKind, Read, Write};
 
 /// How many bytes of a text go into a packet for gdb's console.
@@ -137,7 +137,7 @@ impl Line {
             (frame_of (fitting (reply_text reply.now)))) }
         ensures fault { IfErr result (λ e. e ≡ DebugFault.Write) }
     {
-        put(reply, &mut self.payload);
+        put_reply(reply, &mut self.payload);
         self.send(writer)
     }
 

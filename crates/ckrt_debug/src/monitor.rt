@@ -2,15 +2,16 @@
 ghost use Rattle.std.specs.Prelude.{◌≡◌, ◌⊎◌, ◌++◌, ℕ, List, IfErr, IfOk, IsErrOf, OnOk, decimal};
 ghost use Rattle.ckrt_machine.specs.Events.{AllAccepted};
 ghost use Rattle.ckrt_debug.specs.declared.fault.DebugFault.TheVariants.{OutOfMemory, Refused};
+ghost use Rattle.ckrt_debug.specs.declared.monitor.TheConstants.{HELP};
 ghost use Rattle.ckrt_debug.specs.Monitor.{Does, Obeys, count_of, event_text, gone_text, limit_text, listing_text, named_text, range_text, standing_line, steps_text, until_text};
-ghost use Rattle.ckrt_debug.specs.Playback.{history_of};
+ghost use Rattle.ckrt_playback.specs.Playback.{history_of};
 
 use crate::command::{Command, Place, command_of};
 use crate::fault::DebugFault;
 use crate::stub::Stub;
-use crate::told::is_same;
 use ckrt_history::Position;
 use ckrt_inspect::write_listing;
+use ckrt_playback::is_same;
 use std::alloc::AllocError;
 
 const HELP: &[u8] = b"monitor events      the events that there are, and where it stands\n\
@@ -92,6 +93,13 @@ fn push_limit(out: &mut Vec<u8>, limit: u32) -> Result<(), AllocError>
     out.extend_from_slice(b"\n")
 }
 
+/// The commands that there are.
+fn push_help(out: &mut Vec<u8>) -> Result<(), AllocError>
+    ensures { OnOk result (out.new.items ≡ out.old.items ++ HELP.now) }
+{
+    out.extend_from_slice(HELP)
+}
+
 impl Stub {
     /// Where it stands.
     fn push_standing(&self, out: &mut Vec<u8>) -> Result<(), AllocError>
@@ -163,6 +171,57 @@ impl Stub {
         Ok(stub)
     }
 
+    /// Tells where it stands.
+    fn tell_standing(self, out: &mut Vec<u8>) -> Result<Stub, DebugFault>
+        ensures does { IfOk result (λ stub. (console : List ℕ)
+            × Does Command.Events self stub console
+            × (out.new.items ≡ out.old.items ++ console)) }
+        ensures fault { IfErr result (λ e. e ≡ OutOfMemory) }
+    {
+        self.push_standing(out)?;
+        Ok(self)
+    }
+
+    /// Tells the listing of `ckrt inspect`.
+    fn tell_listing(self, out: &mut Vec<u8>) -> Result<Stub, DebugFault>
+        ensures does { IfOk result (λ stub. (console : List ℕ)
+            × Does Command.Inspect self stub console
+            × (out.new.items ≡ out.old.items ++ console)) }
+        ensures fault { IfErr result (λ e. e ≡ OutOfMemory) }
+    {
+        self.push_listing(out)?;
+        Ok(self)
+    }
+
+    /// Tells the commands that there are.
+    fn tell_help(self, out: &mut Vec<u8>) -> Result<Stub, DebugFault>
+        ensures does { IfOk result (λ stub. (console : List ℕ)
+            × Does Command.Help self stub console
+            × (out.new.items ≡ out.old.items ++ console)) }
+        ensures fault { IfErr result (λ e. e ≡ OutOfMemory) }
+    {
+        push_help(out)?;
+        Ok(self)
+    }
+
+    /// Does a command. What is told goes behind what is in `out`.
+    fn perform(self, command: Command, out: &mut Vec<u8>) -> Result<Stub, DebugFault>
+        ensures does { IfOk result (λ stub. (console : List ℕ)
+            × Does command self stub console × (out.new.items ≡ out.old.items ++ console)) }
+        ensures refused { IsErrOf result Refused
+            → AllAccepted (history_of self.playback).events (history_of self.playback).start → ⊥ }
+        ensures fault { IfErr result (λ e. (e ≡ Refused) ⊎ (e ≡ OutOfMemory)) }
+    {
+        match command {
+            Command::GoTo(place) => self.go_to(place, out),
+            Command::Until(place) => self.stop_at(place, out),
+            Command::Limit(limit) => self.limit(limit, out),
+            Command::Events => self.tell_standing(out),
+            Command::Inspect => self.tell_listing(out),
+            Command::Help => self.tell_help(out),
+        }
+    }
+
     /// Does what gdb's user commands. What is told goes behind what is in `out`.
     ///
     /// # Errors
@@ -175,22 +234,6 @@ impl Stub {
             → AllAccepted (history_of self.playback).events (history_of self.playback).start → ⊥ }
         ensures fault { IfErr result (λ e. (e ≡ Refused) ⊎ (e ≡ OutOfMemory)) }
     {
-        match command_of(text) {
-            Command::GoTo(place) => self.go_to(place, out),
-            Command::Until(place) => self.stop_at(place, out),
-            Command::Limit(limit) => self.limit(limit, out),
-            Command::Events => {
-                self.push_standing(out)?;
-                Ok(self)
-            }
-            Command::Inspect => {
-                self.push_listing(out)?;
-                Ok(self)
-            }
-            Command::Help => {
-                out.extend_from_slice(HELP)?;
-                Ok(self)
-            }
-        }
+        self.perform(command_of(text), out)
     }
 }

@@ -1,8 +1,8 @@
 //! Packets from gdb, and what they are answered.
 ghost use Rattle.std.specs.Prelude.{◌≡◌, ◌≢◌, ◌∷◌, [], ℕ, List, Option, IfErr, IfOk, OnOk, option_map};
 ghost use Rattle.std.specs.Io.KnownBytes.{Appends, Consumes};
-ghost use Rattle.ckrt_debug.specs.declared.fault.DebugFault.TheVariants.{Range};
-ghost use Rattle.ckrt_debug.specs.Conversation.{Advances, Breaks, BreaksAfter, BreaksByte, BreaksOff, BreaksRequest, Hears, Replies, RepliesToGdb, RepliesToUser, RespondsTo, Serves, Writes, acknowledges_behind, leaves, monitored, talk_of};
+ghost use Rattle.ckrt_debug.specs.declared.fault.DebugFault.TheVariants.{OutOfMemory, Range};
+ghost use Rattle.ckrt_debug.specs.Conversation.{Advances, Breaks, BreaksAfter, BreaksByte, BreaksOff, BreaksRequest, Hears, Replies, RepliesToGdb, RepliesToUser, RespondsTo, Serves, TakesMemory, Writes, acknowledges_behind, leaves, monitored, talk_of};
 
 use crate::fault::DebugFault;
 use crate::line::{Line, next_byte};
@@ -72,6 +72,7 @@ impl Stub {
             line.new.frame.items (W.contents writer.old) (W.contents writer.new)) }
         ensures broken { IfErr result (λ e. Breaks e (RepliesToGdb request.now self) self
             (W.contents writer.old) (W.contents writer.new)) }
+        ensures memory { IfErr result (λ e. e ≢ OutOfMemory) }
     {
         let stub = self.answer(request, &mut line.payload)?;
         line.send(writer)?;
@@ -91,6 +92,7 @@ impl Stub {
             line.new.frame.items (W.contents writer.old) (W.contents writer.new)) }
         ensures broken { IfErr result (λ e. Breaks e (Replies request.now self) self
             (W.contents writer.old) (W.contents writer.new)) }
+        ensures memory { IfErr result (λ e. TakesMemory e request.now) }
     {
         match monitored(request) {
             Some(text) => self.respond_to_user(text, line, writer),
@@ -191,7 +193,7 @@ impl Stub {
     /// # Errors
     ///
     /// `Read` and `Write` where the line failed: what was written is then all that the bytes read get, or a beginning of it. `Refused`
-    /// only where an event isn't accepted at its turn, and `OutOfMemory`. The session is over then.
+    /// only where an event isn't accepted at its turn, and `OutOfMemory` only of what gdb's user is told. The session is over then.
     pub fn serve<R: Read, W: Write>(self, reader: &mut R, writer: &mut W) -> Result<(), DebugFault>
         ensures whole { OnOk result (Serves self
             (R.remaining reader.old) (R.remaining reader.new)

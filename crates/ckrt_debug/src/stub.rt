@@ -2,31 +2,24 @@
 ghost use Rattle.std.specs.Prelude.{◌≡◌, ◌⊎◌, IfErr, IfOk, IfSome, IsErrOf, IsOk, is_some, None};
 ghost use Rattle.ckrt_machine.specs.Events.{AllAccepted};
 ghost use Rattle.ckrt_debug.specs.declared.fault.DebugFault.TheVariants.{OutOfMemory, Range, Refused};
-ghost use Rattle.ckrt_debug.specs.Playback.{history_of};
-ghost use Rattle.ckrt_debug.specs.Look.{fitting};
-ghost use Rattle.ckrt_debug.specs.Requests.{last_text, stepping, way_by, way_of};
-ghost use Rattle.ckrt_debug.specs.Session.{Answers, BeginsAt, HasMoved, HasSet, IsMotion, IsOfRun, IsOutside, Names, Reaches, look_in, run_of, set_text_in, way_in};
+ghost use Rattle.ckrt_playback.specs.Playback.{history_of};
+ghost use Rattle.ckrt_playback.specs.Recorded.{run_of};
+ghost use Rattle.ckrt_playback.specs.Look.{fitting};
+ghost use Rattle.ckrt_playback.specs.Requests.{last_text};
+ghost use Rattle.ckrt_debug.specs.Session.{Answers, BeginsAt, HasMoved, HasSet, IsMotion, IsOfRun, IsOutside, Names, Reaches, look_in, set_text_in, way_in};
 
-use crate::desk::Desk;
 use crate::fault::DebugFault;
-use crate::going::Way;
-use crate::limits::Bounds;
-use crate::look::look;
-use crate::playback::Playback;
-use crate::threads::is_shown;
-use crate::told::{first_view, shown};
-use crate::view::View;
 use ckrt_events::Event;
-use ckrt_history::{Position, Stops};
+use ckrt_history::{HistoryFault, Position};
 use ckrt_machine::Machine;
-use ckrt_packets::{Choice, Motion, Payload, Request};
-use ckrt_thread::{ThreadId, Threads};
+use ckrt_packets::{Payload, Request};
+use ckrt_playback::{Desk, Playback, Way, tell_state, way_of};
 use std::alloc::Global;
 
 /// What gdb asks is answered by this, from a recorded run: a state of the machine and the events from there on.
 ///
-/// The run is replayed once somebody moves, since a debugger waits a few seconds only for its first answers. The room of the history is
-/// taken then.
+/// The run is replayed once somebody moves, since a debugger waits a few seconds only for its first answers. All memory is taken by
+/// [`Stub::new`], but that of the texts that a `monitor` gets.
 #[derive(Drop)]
 pub struct Stub {
     pub(crate) alloc: Global,
@@ -34,46 +27,14 @@ pub struct Stub {
     pub(crate) desk: Desk,
 }
 
-/// The thread that is to step: the one that is meant, where it is shown, else that of the last stop.
-fn stepping(choice: Choice, view: &View, threads: &Threads) -> ThreadId
-    ensures { result ≡ stepping choice view.now threads.now }
-{
-    match choice {
-        Choice::One(thread) if is_shown(threads, thread) => thread as u8,
-        _ => view.last.thread,
-    }
-}
-
-/// The way of a motion. Of a range of steps it is the first step, as gdb allows.
-fn way_by(motion: Motion, view: &View, threads: &Threads) -> Way
-    ensures { result ≡ way_by motion view.now threads.now }
-{
-    match motion {
-        Motion::Continue => Way::On,
-        Motion::Step(choice) => Way::StepOn(stepping(choice, view, threads)),
-        Motion::StepOut(_, _, choice) => Way::StepOn(stepping(choice, view, threads)),
-    }
-}
-
-/// The way that gdb wants to go, if it does.
-fn way_of(request: &Request, view: &View, threads: &Threads) -> Option<Way>
-    ensures { result ≡ way_of request.now view.now threads.now }
-{
-    match request {
-        Request::Move(motion) => Some(way_by(*motion, view, threads)),
-        Request::ContinueBack => Some(Way::Back),
-        Request::StepBack => Some(Way::StepBack(stepping(view.chosen, view, threads))),
-        _ => None,
-    }
-}
-
 impl Stub {
-    /// A session that begins with the machine's state, before which `first` events were done, or once `at` events are done.
+    /// A session that begins with the machine's state, before which `first` events were done, or once `at` events are done. The room of
+    /// the run's history is taken.
     ///
     /// # Errors
     ///
-    /// None where `at` isn't given: the run is replayed for it. `Range` exactly where the run has no such position, `Refused` only where
-    /// an event isn't accepted at its turn, and `OutOfMemory`.
+    /// `OutOfMemory`; where `at` is given, for which the run is replayed, `Range` exactly where the run has no such position, and
+    /// `Refused` only where an event isn't accepted at its turn.
     pub fn new(
         alloc: Global,
         first: u64,
@@ -88,16 +49,10 @@ impl Stub {
             → IsOutside at first (run_of machine.state events.items) }
         ensures refused { IsErrOf result Refused → AllAccepted events.items machine.state → ⊥ }
         ensures fault { IfErr result (λ e. (e ≡ Refused) ⊎ (e ≡ OutOfMemory) ⊎ (e ≡ Range)) }
-        ensures sure { at ≡ None → IsOk result }
+        ensures sure { at ≡ None → IfErr result (λ e. e ≡ OutOfMemory) }
     {
-        let thread = shown(&machine.tables().threads, 1);
-        let desk = Desk {
-            first,
-            view: first_view(thread),
-            stops: Stops::new(),
-            bounds: Bounds::new(),
-        };
-        let playback = Playback::Unplayed(machine, events);
+        let desk = Desk::new(first, &machine.tables().threads);
+        let playback = Playback::new(alloc, machine, events)?;
         let stub = Stub {
             alloc,
             playback,
@@ -116,18 +71,17 @@ impl Stub {
 
     /// Goes to where so many events of all are done, and so many steps of the next, and shows whose step is next. `false` where the
     /// run has no such position, and then nothing changes.
-    pub(crate) fn reach(self, events: u64, steps: u32) -> Result<(Stub, bool), DebugFault>
+    pub(crate) fn reach(self, events: u64, steps: u32) -> Result<(Stub, bool), HistoryFault>
         ensures reached { IfOk result (λ r. Reaches events steps self r.1 r.0) }
-        ensures refused { IsErrOf result Refused
-            → AllAccepted (history_of self.playback).events (history_of self.playback).start → ⊥ }
-        ensures fault { IfErr result (λ e. (e ≡ Refused) ⊎ (e ≡ OutOfMemory)) }
+        ensures refused { IfErr result (λ _.
+            AllAccepted (history_of self.playback).events (history_of self.playback).start → ⊥) }
     {
         let Stub {
             alloc,
             playback,
             mut desk,
         } = self;
-        let mut history = playback.played(alloc)?;
+        let mut history = playback.played()?;
         let is_there = desk.reach(&mut history, events, steps);
         let playback = Playback::Played(history);
         Ok((
@@ -146,18 +100,17 @@ impl Stub {
         self,
         events: u64,
         steps: u32,
-    ) -> Result<(Stub, Option<Position>), DebugFault>
+    ) -> Result<(Stub, Option<Position>), HistoryFault>
         ensures named { IfOk result (λ r. Names events steps self r.1 r.0) }
-        ensures refused { IsErrOf result Refused
-            → AllAccepted (history_of self.playback).events (history_of self.playback).start → ⊥ }
-        ensures fault { IfErr result (λ e. (e ≡ Refused) ⊎ (e ≡ OutOfMemory)) }
+        ensures refused { IfErr result (λ _.
+            AllAccepted (history_of self.playback).events (history_of self.playback).start → ⊥) }
     {
         let Stub {
             alloc,
             playback,
             mut desk,
         } = self;
-        let history = playback.played(alloc)?;
+        let history = playback.played()?;
         let there = desk.stop_at(&history, events, steps);
         let playback = Playback::Played(history);
         Ok((
@@ -171,19 +124,18 @@ impl Stub {
     }
 
     /// Moves, and tells where it stops.
-    fn walk(self, way: Way, out: &mut Payload) -> Result<Stub, DebugFault>
+    fn walk(self, way: Way, out: &mut Payload) -> Result<Stub, HistoryFault>
         ensures moved { IfOk result (λ stub. HasMoved way self stub
             × (out.new.items ≡ fitting (last_text stub.desk.view))) }
-        ensures refused { IsErrOf result Refused
-            → AllAccepted (history_of self.playback).events (history_of self.playback).start → ⊥ }
-        ensures fault { IfErr result (λ e. (e ≡ Refused) ⊎ (e ≡ OutOfMemory)) }
+        ensures refused { IfErr result (λ _.
+            AllAccepted (history_of self.playback).events (history_of self.playback).start → ⊥) }
     {
         let Stub {
             alloc,
             playback,
             mut desk,
         } = self;
-        let mut history = playback.played(alloc)?;
+        let mut history = playback.played()?;
         desk.walk(&mut history, way, out);
         let playback = Playback::Played(history);
         Ok(Stub {
@@ -217,7 +169,7 @@ impl Stub {
         ensures payload { IfSome (look_in request.now self.now)
             (λ text. out.new.items ≡ fitting text) }
     {
-        look(request, &self.desk.view, self.playback.machine(), out)
+        tell_state(request, &self.desk.view, self.playback.machine(), out)
     }
 
     /// The way that gdb wants to go, if it does.
@@ -235,15 +187,13 @@ impl Stub {
     ///
     /// # Errors
     ///
-    /// Of a motion alone, for which the run is replayed once: `Refused` only where an event isn't accepted at its turn, and
-    /// `OutOfMemory`.
-    pub fn answer(self, request: &Request, out: &mut Payload) -> Result<Stub, DebugFault>
+    /// `Refused` of a motion alone, for which the run is replayed once, and only where an event isn't accepted at its turn.
+    pub fn answer(self, request: &Request, out: &mut Payload) -> Result<Stub, HistoryFault>
         ensures answered { IfOk result (λ stub. Answers request.now self stub out.new.items) }
         ensures run { IfOk result (IsOfRun self) }
         ensures moving { IfErr result (λ _. IsMotion request.now self) }
-        ensures refused { IsErrOf result Refused
-            → AllAccepted (history_of self.playback).events (history_of self.playback).start → ⊥ }
-        ensures fault { IfErr result (λ e. (e ≡ Refused) ⊎ (e ≡ OutOfMemory)) }
+        ensures refused { IfErr result (λ _.
+            AllAccepted (history_of self.playback).events (history_of self.playback).start → ⊥) }
     {
         if self.look(request, out) {
             return Ok(self);

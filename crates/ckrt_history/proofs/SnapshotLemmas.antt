@@ -1,5 +1,5 @@
 -- States that are kept on the way through the events.
-use Rattle.std.proofs.Common.{◌≡◌, ℕ, zero, suc, ◌+◌, ◌<◌, List, [], ◌∷◌, ◌++◌, take, drop, length, Some, slice_get, slice_set, sym, ap, ◌∙◌, subst, arith, add-one, ◌≤◌}
+use Rattle.std.proofs.Common.{◌≡◌, ℕ, zero, suc, ◌+◌, ◌<◌, List, [], ◌∷◌, ◌++◌, take, drop, length, Some, slice_get, slice_set, refl, sym, ap, ◌∙◌, subst, arith, add-one, ◌≤◌}
 use Rattle.ckrt_events.specs.declared.event.Event.{Event}
 use Rattle.ckrt_state.specs.WellFormed.{IsWellFormed}
 use Rattle.ckrt_machine.specs.Steps.{State}
@@ -43,6 +43,11 @@ snapshot_of k n m es s position same before well =
         harts = ap (λ (z : State). z.tables.threads.hart_count) (same ∙ before.state) ∙ same_harts_after (take n es) s;
       };
     }
+
+-- of the beginning
+pub snapshot_first : (k : Snapshot) (m : Machine) (es : List Event) → k.position ≡ at_event 0 → kept_state k.kept ≡ m.state → IsWellFormed m.state.tables → IsSnapshot k es m.state
+snapshot_first k m es position same well =
+    snapshot_of k 0 m es m.state position same (record { events = omega arith; state = refl; size = refl }) well
 
 -- AT A POSITION
 

@@ -2,7 +2,7 @@
 
 use crate::expect::{expect_eq, machine_of};
 use ckrt_events::Event;
-use ckrt_history::{History, Position};
+use ckrt_history::{History, Position, Room};
 use ckrt_machine::Machine;
 use std::process::Abort;
 
@@ -30,15 +30,15 @@ pub fn plan<R: Abort + AllocGlobal>(rt: &R, words: &[u32], steps: u32) -> Vec<Ev
     events
 }
 
-/// The history of a guest by its schedule, with so many states kept.
+/// The history of a guest by its schedule, with room for so many states.
 pub fn history_of<R: Abort + AllocGlobal>(rt: &R, words: &[u32], steps: u32, kept: u32) -> History {
-    assert!(rt; kept >= 1);
-    match History::new(
-        rt.alloc(),
-        machine_of(rt, words),
-        plan(rt, words, steps),
-        kept,
-    ) {
+    let machine = machine_of(rt, words);
+    let events = plan(rt, words, steps);
+    let room = Room::new(rt.alloc(), &machine, events.len(), kept).expect(
+        rt,
+        "memory for a history",
+    );
+    match History::new(room, machine, events) {
         Ok(history) => history,
         Err(error) => panic!(rt; "{error}"),
     }

@@ -10,7 +10,8 @@ use Rattle.ckrt_inspect.specs.declared.fault.InspectFault.TheVariants as look
 use Rattle.ckrt_recording.specs.Recording.{HasRecording, Recorded, Records, recorded_of}
 use Rattle.ckrt_recording.specs.declared.recording.Recording.{Recording}
 use Rattle.ckrt_debug.specs.Conversation.{BreaksOff, Serves}
-use Rattle.ckrt_debug.specs.Session.{BeginsAt, IsOutside, run_of}
+use Rattle.ckrt_debug.specs.Session.{BeginsAt, IsOutside}
+use Rattle.ckrt_playback.specs.Recorded.{run_of}
 use Rattle.ckrt_debug.specs.declared.fault.DebugFault.{DebugFault}
 use Rattle.ckrt_debug.specs.declared.fault.DebugFault.TheVariants as debug
 use Rattle.ckrt_debug.specs.declared.stub.Stub.{Stub}
@@ -81,15 +82,15 @@ abbrev pub answer_of : Result (Unit {0}) DebugFault → Result (Unit {0}) JobFau
 answer_of (Ok done) = Ok done
 answer_of (Err f) = Err (fault_of f)
 
--- Why a session doesn't begin once so many events are done: there is no such position, an event isn't accepted at its turn, or memory was refused.
--- One that begins with the first event begins always.
+-- Why a session doesn't begin: there is no such position, an event isn't accepted at its turn, or memory was refused. One that begins with the first
+-- event begins always, but for memory.
 abbrev pub IsBeginFault : Option ℕ → Recorded → DebugFault → Type 0
-IsBeginFault None r f = ⊥
-IsBeginFault (Some k) r debug.Range = IsOutside (Some k) r.first (run_of r.start r.events)
+IsBeginFault at r debug.OutOfMemory = Unit {0}
+IsBeginFault at r debug.Range = IsOutside at r.first (run_of r.start r.events)
 IsBeginFault (Some k) r debug.Refused = AllAccepted r.events r.start → ⊥
-IsBeginFault (Some k) r debug.OutOfMemory = Unit {0}
-IsBeginFault (Some k) r debug.Read = ⊥
-IsBeginFault (Some k) r debug.Write = ⊥
+IsBeginFault None r debug.Refused = ⊥
+IsBeginFault at r debug.Read = ⊥
+IsBeginFault at r debug.Write = ⊥
 
 -- it doesn't begin, and nothing was read or written
 pub record RefusesSession (at : Option ℕ) (r : Recorded) (old new : Line)

@@ -104,9 +104,10 @@ fn debug_recorded<R: Read, W: Write>(
 /// # Errors
 ///
 /// The first that applies: `File` of the disk; `Recover`, where nothing is recovered from it, where the disk failed a read or memory
-/// was refused; `Inspect` of `Range` where it has recorded no position with so many events done; `OutOfMemory` where the run is
-/// replayed and memory is refused; `Serve` of `Read` and of `Write` where the debugger's line fails. Of a disk that lies between two
-/// reads the run may have an event that isn't accepted: that is `Recover` of `Damaged`.
+/// was refused; `OutOfMemory` where memory is refused to the session; `Inspect` of `Range` where it has recorded no position with so
+/// many events done; `Serve` of `Read` and of `Write` where the debugger's line fails, and `OutOfMemory` where memory is refused to
+/// what a `monitor` tells. Of a disk that lies between two reads the run may have an event that isn't accepted: that is `Recover`
+/// of `Damaged`.
 pub fn debug_path<'a, I: Read, D: Disk, S: Sources<'a, I, D>, R: Read, W: Write>(
     alloc: Global,
     job: &DebugJob<'a>,

@@ -7,8 +7,8 @@ use Rattle.ckrt_debug.proofs.line.Line.send_reply.Goals as goal
 
 pub returns-clause-ok : goal.returns-clause-ok
 returns-clause-ok g c =
-    subst (λ (p : List ℕ). OnOk c.send.result (Appends (g.W.Write.contents c.args.writer.now) (g.W.Write.contents c.send.new.writer) (frame_of p))) c.put.ensures c.send.ensures.ok
+    subst (λ (p : List ℕ). OnOk c.send.result (Appends (g.W.Write.contents c.args.writer.now) (g.W.Write.contents c.send.new.writer) (frame_of p))) c.put_reply.ensures c.send.ensures.ok
 
 pub returns-clause-part : goal.returns-clause-part
 returns-clause-part g c =
-    subst (λ (p : List ℕ). OnErr c.send.result (AppendsPart (g.W.Write.contents c.args.writer.now) (g.W.Write.contents c.send.new.writer) (frame_of p))) c.put.ensures c.send.ensures.part
+    subst (λ (p : List ℕ). OnErr c.send.result (AppendsPart (g.W.Write.contents c.args.writer.now) (g.W.Write.contents c.send.new.writer) (frame_of p))) c.put_reply.ensures c.send.ensures.part

@@ -1,8 +1,25 @@
 use Rattle.std.proofs.Common.{◌≡◌, Err, refl, rules}
 use Rattle.ckrt_packets.specs.Framing.{frame_of}
 use Rattle.ckrt_debug.specs.Conversation.{RepliesToGdb}
-use Rattle.ckrt_debug.proofs.ConversationLemmas.{answers_err, writer_broke}
+use Rattle.ckrt_commands.proofs.WriteLemmas.{Appends-nothing}
+use Rattle.ckrt_debug.specs.declared.fault.DebugFault.TheVariants.{Refused}
+use Rattle.ckrt_debug.proofs.ConversationLemmas.{answers_err, no_memory, writer_broke}
 use Rattle.ckrt_debug.proofs.stub.Stub.respond_to_gdb.Goals as goal
+
+pub returns-in_err-stub-clause-broken : goal.returns-in_err-stub-clause-broken
+returns-in_err-stub-clause-broken g c =
+    let is : c.from_residual.result ≡ Err Refused = search rules in
+    answers_err _ _ _ is (Appends-nothing (g.W.Write.contents c.args.writer.now), c.in_err-stub.ensures.refused)
+
+pub returns-in_err-stub-clause-memory : goal.returns-in_err-stub-clause-memory
+returns-in_err-stub-clause-memory g c =
+    let is : c.from_residual.result ≡ Err Refused = search rules in
+    answers_err _ _ _ is (λ same. absurd (cc))
+
+pub returns-in_err-send-clause-memory : goal.returns-in_err-send-clause-memory
+returns-in_err-send-clause-memory g c =
+    let is : c.from_residual-in_err-send.result ≡ Err c.in_err-send.field-0.0 = search rules in
+    answers_err _ _ _ is (no_memory c.in_err-send.field-0.0 c.in_err-send.ensures.fault)
 
 pub returns-in_err-send-clause-broken : goal.returns-in_err-send-clause-broken
 returns-in_err-send-clause-broken g c =

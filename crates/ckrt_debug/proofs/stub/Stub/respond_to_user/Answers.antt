@@ -1,6 +1,6 @@
 use Rattle.std.proofs.Common.{◌≡◌, Err, rules}
 use Rattle.ckrt_debug.specs.Conversation.{RepliesToUser}
-use Rattle.ckrt_debug.proofs.ConversationLemmas.{all_told, answers_err, ok_broke, replay_broke, tell_broke, user_told}
+use Rattle.ckrt_debug.proofs.ConversationLemmas.{all_told, answers_err, err_is, ok_broke, replay_broke, tell_broke, user_told}
 use Rattle.ckrt_debug.proofs.stub.Stub.respond_to_user.Goals as goal
 
 pub returns-in_err-stub-clause-broken : goal.returns-in_err-stub-clause-broken
@@ -21,7 +21,7 @@ returns-in_err-tell-clause-broken g c =
 
 pub returns-in_err-send_reply-clause-broken : goal.returns-in_err-send_reply-clause-broken
 returns-in_err-send_reply-clause-broken g c =
-    let is : c.from_residual-in_err-send_reply.result ≡ Err c.in_err-send_reply.field-0.0 = search rules in
+    let is : c.from_residual-in_err-send_reply.result ≡ Err c.in_err-send_reply.field-0.0 = err_is _ _ c.from_residual-in_err-send_reply.ensures.1 in
     let obeyed = c.in_ok-stub.ensures.obeyed in
     let told : c.as_slice.result.now ≡ c.in_ok-stub.ensures.obeyed.0 = all_told c.as_slice.result.now c.obey.new.out.items c.new-console.result.items obeyed.0 c.as_slice.ensures.value obeyed.2 c.new-console.ensures.items in
     answers_err _ _ _ is

@@ -1,0 +1,72 @@
+use Rattle.std.proofs.Common.{◌≡◌, ◌++◌, List, ℕ, sym, subst}
+use Rattle.std.specs.Prelude.{IfOk}
+use Rattle.ckrt_debug.specs.declared.command.Command.{Command}
+use Rattle.ckrt_debug.specs.Monitor.{Does}
+use Rattle.ckrt_debug.proofs.SessionLemmas.{never_refused, only_memory}
+use Rattle.ckrt_debug.proofs.stub.Stub.perform.Goals as goal
+
+pub returns-in-GoTo-clause-does : goal.returns-in-GoTo-clause-does
+returns-in-GoTo-clause-does c =
+    subst (λ (k : Command). IfOk c.go_to.result (λ stub. (console : List ℕ) × Does k c.args.self stub console × (c.go_to.new.out.items ≡ c.args.out.now.items ++ console)))
+    (sym c.in-GoTo.is) c.go_to.ensures.does
+
+pub returns-in-GoTo-clause-refused : goal.returns-in-GoTo-clause-refused
+returns-in-GoTo-clause-refused c = c.go_to.ensures.refused
+
+pub returns-in-GoTo-clause-fault : goal.returns-in-GoTo-clause-fault
+returns-in-GoTo-clause-fault c = c.go_to.ensures.fault
+
+pub returns-in-Until-clause-does : goal.returns-in-Until-clause-does
+returns-in-Until-clause-does c =
+    subst (λ (k : Command). IfOk c.stop_at.result (λ stub. (console : List ℕ) × Does k c.args.self stub console × (c.stop_at.new.out.items ≡ c.args.out.now.items ++ console)))
+    (sym c.in-Until.is) c.stop_at.ensures.does
+
+pub returns-in-Until-clause-refused : goal.returns-in-Until-clause-refused
+returns-in-Until-clause-refused c = c.stop_at.ensures.refused
+
+pub returns-in-Until-clause-fault : goal.returns-in-Until-clause-fault
+returns-in-Until-clause-fault c = c.stop_at.ensures.fault
+
+pub returns-in-Limit-clause-does : goal.returns-in-Limit-clause-does
+returns-in-Limit-clause-does c =
+    subst (λ (k : Command). IfOk c.limit.result (λ stub. (console : List ℕ) × Does k c.args.self stub console × (c.limit.new.out.items ≡ c.args.out.now.items ++ console)))
+    (sym c.in-Limit.is) c.limit.ensures.does
+
+pub returns-in-Limit-clause-refused : goal.returns-in-Limit-clause-refused
+returns-in-Limit-clause-refused c = never_refused c.limit.result c.limit.ensures.fault
+
+pub returns-in-Limit-clause-fault : goal.returns-in-Limit-clause-fault
+returns-in-Limit-clause-fault c = only_memory c.limit.result c.limit.ensures.fault
+
+pub returns-in-Events-clause-does : goal.returns-in-Events-clause-does
+returns-in-Events-clause-does c =
+    subst (λ (k : Command). IfOk c.tell_standing.result (λ stub. (console : List ℕ) × Does k c.args.self stub console × (c.tell_standing.new.out.items ≡ c.args.out.now.items ++ console)))
+    (sym c.in-Events.is) c.tell_standing.ensures.does
+
+pub returns-in-Events-clause-refused : goal.returns-in-Events-clause-refused
+returns-in-Events-clause-refused c = never_refused c.tell_standing.result c.tell_standing.ensures.fault
+
+pub returns-in-Events-clause-fault : goal.returns-in-Events-clause-fault
+returns-in-Events-clause-fault c = only_memory c.tell_standing.result c.tell_standing.ensures.fault
+
+pub returns-in-Inspect-clause-does : goal.returns-in-Inspect-clause-does
+returns-in-Inspect-clause-does c =
+    subst (λ (k : Command). IfOk c.tell_listing.result (λ stub. (console : List ℕ) × Does k c.args.self stub console × (c.tell_listing.new.out.items ≡ c.args.out.now.items ++ console)))
+    (sym c.in-Inspect.is) c.tell_listing.ensures.does
+
+pub returns-in-Inspect-clause-refused : goal.returns-in-Inspect-clause-refused
+returns-in-Inspect-clause-refused c = never_refused c.tell_listing.result c.tell_listing.ensures.fault
+
+pub returns-in-Inspect-clause-fault : goal.returns-in-Inspect-clause-fault
+returns-in-Inspect-clause-fault c = only_memory c.tell_listing.result c.tell_listing.ensures.fault
+
+pub returns-in-Help-clause-does : goal.returns-in-Help-clause-does
+returns-in-Help-clause-does c =
+    subst (λ (k : Command). IfOk c.tell_help.result (λ stub. (console : List ℕ) × Does k c.args.self stub console × (c.tell_help.new.out.items ≡ c.args.out.now.items ++ console)))
+    (sym c.in-Help.is) c.tell_help.ensures.does
+
+pub returns-in-Help-clause-refused : goal.returns-in-Help-clause-refused
+returns-in-Help-clause-refused c = never_refused c.tell_help.result c.tell_help.ensures.fault
+
+pub returns-in-Help-clause-fault : goal.returns-in-Help-clause-fault
+returns-in-Help-clause-fault c = only_memory c.tell_help.result c.tell_help.ensures.fault

@@ -1,0 +1,10 @@
+pub mod Recorded
+pub mod Playback
+pub mod Limits
+pub mod Look
+pub mod Marks
+pub mod Motions
+pub mod Requests
+pub mod Settings
+pub mod Standing
+pub mod Told
