@@ -1,5 +1,5 @@
 -- A run that ends where a reason to stop is met, burst by burst, and step by step.
-use Rattle.std.proofs.Common.{◌≡◌, ℕ, zero, suc, ◌<◌, cond, List, length, true, false, Option, Some, None, sym, subst, ap, arith, refl, ◌∙◌}
+use Rattle.std.proofs.Common.{◌≡◌, ℕ, zero, suc, ◌-◌, ◌<◌, cond, List, length, true, false, Option, Some, None, sym, subst, ap, arith, refl, ◌∙◌}
 use Rattle.ckrt_registers.specs.Registers.{Registers}
 use Rattle.ckrt_rv32i.specs.Effect.{Effect, instruction_step}
 use Rattle.ckrt_rv32i.specs.Bursts.{Burst, burst, is_next}
@@ -142,3 +142,12 @@ turned_acting meets n j h t l m s z out a e not i w =
     ∙ (ap (λ k. cond k (record { left = suc j; how = None; state = record { bytes = m; tables = s }; output = out }) (continued_to (run_to meets j) j h out (hart_step h (record { bytes = m; tables = s })))) not
     ∙ (ap (continued_to (run_to meets j) j h out) (acts h t l m s e.on e.live i)
     ∙ ap (λ y. stopped_to (run_to meets j) (stop_of h y out) j h (record { bytes = m; tables = y }) out) (sym w)))
+
+-- A RUN AT WHOSE BEGINNING THE REASON IS MET
+
+pub met_here : (meets : Meets) (n h : ℕ) (s : State) (out : List ℕ) → 0 < n → meets_on meets h s ≡ true → record { left = n; how = None; state = s; output = out } ≡ run_to meets n h s out
+met_here meets n h s out some is =
+    let left : n ≡ suc (n - 1) = omega (arith, some) in
+    ap (λ k. record { left = k; how = None; state = s; output = out }) left
+    ∙ sym (ap (λ b. cond b (record { left = suc (n - 1); how = None; state = s; output = out }) (continued_to (run_to meets (n - 1)) (n - 1) h out (hart_step h s))) is)
+    ∙ ap (λ k. run_to meets k h s out) (sym left)

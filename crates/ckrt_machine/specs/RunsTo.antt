@@ -8,16 +8,16 @@ use Rattle.ckrt_machine.specs.declared.event.RunEnd.TheVariants.{On}
 use Rattle.ckrt_machine.specs.Steps.{State, Stepped, hart_of, hart_step}
 use Rattle.ckrt_machine.specs.Runs.{Stepping, after_steps, stop_after, stop_of, with_byte}
 
--- the reason is met with these registers, if there are any, and these bytes
+-- the reason is met with these registers and these bytes; or there are no registers
 abbrev pub meets_with : Meets → Option Registers → List ℕ → Bool
-meets_with meets None m = false
+meets_with meets None m = true
 meets_with meets (Some r) m = meets r m
 
 abbrev pub meets_for : Meets → Option ℕ → State → Bool
-meets_for meets None s = false
+meets_for meets None s = true
 meets_for meets (Some t) s = meets_with meets (regs_of (thread_of s.tables.threads t)) s.bytes
 
--- the reason is met with the registers of the thread on hart h and the bytes
+-- the reason is met with the registers of the thread on hart h and the bytes; or nobody is there, as never while a run goes on
 abbrev pub meets_on : Meets → ℕ → State → Bool
 meets_on meets h s = meets_for meets (hart_of s.tables h) s
 

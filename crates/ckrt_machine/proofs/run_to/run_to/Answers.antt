@@ -2,6 +2,7 @@ use Rattle.std.proofs.Common.{◌≡◌, ◌∙◌, arith, ap, refl, sym, rules,
 use Rattle.ckrt_memory.proofs.StoredLemmas.{follows_stores_on, stores_nothing, within_on}
 use Rattle.ckrt_machine.specs.declared.event.RunEnd.{RunEnd}
 use Rattle.ckrt_machine.specs.RunsTo.{run_to, stopped_to}
+use Rattle.ckrt_machine.proofs.RunToLaws.{met_here}
 use Rattle.ckrt_machine.proofs.run_to.run_to.Goals as goal
 
 pub loop-left-init : goal.loop-left-init
@@ -13,6 +14,11 @@ loop-left-init g c = record {
   rest = λ p has. has;
   run = refl;
 }
+
+pub returns-then-is_met-clause-run : goal.returns-then-is_met-clause-run
+returns-then-is_met-clause-run g c =
+    let some = c.loop-left-test.true in
+    met_here (g.R.StopReason.meets c.args.reason.now) _ _ _ _ (omega (arith, some)) (sym c.is_met.ensures ∙ c.if-is_met.true) ∙ c.loop-left.invariant.run
 
 pub returns-then-is_some-clause-follows : goal.returns-then-is_some-clause-follows
 returns-then-is_some-clause-follows g c = follows_stores_on _ _ _ _ _ c.loop-left.invariant.follows c.turn_to-rest.ensures.follows c.loop-left.invariant.rest
