@@ -1,6 +1,7 @@
 pub mod EffectLaws
 pub mod RegsLaws
 pub mod RunLaws
+pub mod RunToLaws
 pub mod StoreLaws
 pub mod PlanLaws
 pub mod KeptSteps
@@ -8,4 +9,5 @@ pub mod KeptEvents
 pub mod FoldLaws
 pub mod WellFormedImplies
 pub mod StepsOfRuns
+pub mod StepsOfRunsTo
 pub mod Fixed

@@ -5,3 +5,4 @@ pub mod Refusals
 pub mod Plans
 pub mod Events
 pub mod Stores
+pub mod RunsTo

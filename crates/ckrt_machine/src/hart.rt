@@ -41,7 +41,7 @@ pub fn is_running(tables: &Tables) -> bool
 }
 
 /// Whether a run ends after a step, and how.
-fn stop(tables: &Tables, hart: usize, output: &ArrayVec<u8, 1024>) -> Option<RunEnd>
+pub fn stop(tables: &Tables, hart: usize, output: &ArrayVec<u8, 1024>) -> Option<RunEnd>
     ensures { result ≡ stop_of hart tables.now output.now.items }
 {
     if !is_running(tables) {
@@ -57,7 +57,7 @@ fn stop(tables: &Tables, hart: usize, output: &ArrayVec<u8, 1024>) -> Option<Run
 }
 
 /// The thread on the hart, which isn't idle.
-fn runner(tables: &Tables, hart: usize) -> u8
+pub fn runner(tables: &Tables, hart: usize) -> u8
     requires { IsSome (hart_of tables.now hart) }
     ensures on { hart_of tables.now hart ≡ Some result }
     ensures live { is_live tables.now.threads result ≡ true }
@@ -72,7 +72,7 @@ fn runner(tables: &Tables, hart: usize) -> u8
 }
 
 /// A thread's registers go back into the table.
-fn put_back(tables: &mut Tables, thread: ThreadId, regs: &Regs)
+pub fn put_back(tables: &mut Tables, thread: ThreadId, regs: &Regs)
     requires live { is_live tables.old.threads thread ≡ true }
     requires free { is_waiting tables.old.threads thread ≡ false }
     requires aligned { regs.now.pc % 4 ≡ 0 }
@@ -87,7 +87,7 @@ fn put_back(tables: &mut Tables, thread: ThreadId, regs: &Regs)
 }
 
 /// The byte that a step puts, if it puts one.
-fn put_byte(output: &mut ArrayVec<u8, 1024>, put: Option<u8>)
+pub fn put_byte(output: &mut ArrayVec<u8, 1024>, put: Option<u8>)
     requires { length output.old.items < 1024 }
     ensures { output.new.items ≡ with_byte put output.old.items }
 {

@@ -9,6 +9,7 @@ mod hart;
 mod laws;
 mod machine;
 mod plan;
+mod run_to;
 
 pub use event::{Answer, Refusal, RunEnd};
 pub use hart::RUN_OUTPUT;

@@ -6,16 +6,18 @@ ghost use Rattle.ckrt_state.specs.WellFormed.{IsWellFormed};
 ghost use Rattle.ckrt_events.specs.Bytes.{IsInRange};
 ghost use Rattle.ckrt_machine.specs.Events.{fresh, memory_in, step, refusal_of, planned};
 ghost use Rattle.ckrt_machine.specs.Runs.{run_on, stop_of};
+ghost use Rattle.ckrt_machine.specs.RunsTo.{HasMadeTo};
 ghost use Rattle.ckrt_machine.specs.Stores.{stored_in_event, stored_in_run};
 
 use crate::accept::refusal;
 use crate::event::{Answer, Refusal, RunEnd};
 use crate::hart::{answer_run, place, run};
 use crate::plan::plan;
+use crate::run_to::run_to;
 use arrayvec::ArrayVec;
 use ckrt_calls::{Status, Tables, close_input, take_input, tick};
 use ckrt_events::Event;
-use ckrt_memory::{Memory, MemoryError};
+use ckrt_memory::{Memory, MemoryError, StopReason};
 use ckrt_rv32i::Bus;
 use ckrt_thread::{Hart, ThreadId};
 use std::alloc::Global;
@@ -211,6 +213,40 @@ impl Machine {
             &mut self.output,
             hart,
             limit,
+        )
+    }
+
+    /// Goes on as [`Machine::go_on`] does, and ends before a step, too, before which the reason to stop is met with the registers
+    /// of the thread on the hart and the bytes: before the first, where the machine stands, too, and not behind the last. The
+    /// result is how many steps are left, and how the run ended, or none where the reason is met. A page whose mark is
+    /// changed is one to which a run of `limit` would store.
+    pub fn go_on_to<R: StopReason>(
+        &mut self,
+        hart: Hart,
+        limit: u32,
+        reason: &R,
+    ) -> (u32, Option<RunEnd>)
+        requires { stop_of hart self.old.state.tables self.old.output ≡ None }
+        ensures within { result.0 ≤ limit }
+        ensures made { HasMadeTo (R.meets reason.now) limit (limit - result.0) hart
+            (record { state = self.old.state; output = self.old.output })
+            (record {
+              left = result.0;
+              how = result.1;
+              state = self.new.state;
+              output = self.new.output;
+            }) }
+        ensures follows { Follows (memory_in self.old) (memory_in self.new) }
+        ensures only { MarksOnly (stored_in_run limit hart self.old.state self.old.output)
+            self.old.marks self.new.marks }
+    {
+        run_to(
+            &mut self.memory,
+            &mut self.tables,
+            &mut self.output,
+            usize::from(hart),
+            limit,
+            reason,
         )
     }
 
