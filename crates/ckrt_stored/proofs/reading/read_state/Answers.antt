@@ -1,9 +1,10 @@
-use Rattle.std.proofs.Common.{◌≡◌, ◌+◌, ◌<◌, ◌^◌, true, false, cond, List, Some, Err, sym, ◌∙◌, ap, subst, rules}
+use Rattle.std.proofs.Common.{◌≡◌, ◌⊎◌, ⊎_elim, ℕ, ◌+◌, ◌<◌, ◌^◌, true, false, cond, List, Some, Err, sym, ◌∙◌, ap, subst, rules}
 use Rattle.ckrt_journal.specs.declared.journal.Journal.{Journal}
 use Rattle.ckrt_machine.specs.Steps.{State}
 use Rattle.ckrt_tables.specs.Decoding.{Saved}
 use Rattle.ckrt_memory.specs.Marks.{Memory}
 use Rattle.ckrt_checkpoint.specs.Holds.{BothStand}
+use Rattle.ckrt_checkpoint.specs.Areas.{is_known_version}
 use Rattle.ckrt_checkpoint.specs.Layout.{memory_of}
 use Rattle.ckrt_stored.specs.declared.fault.RecoverFault.TheVariants.{Damaged}
 use Rattle.ckrt_stored.specs.Recovery.{is_end_in_range, unreplayed}
@@ -53,3 +54,10 @@ invariant_of-result-clause-valid g c = search rules
 pub invariant_of-result-clause-small : goal.invariant_of-result-clause-small
 invariant_of-result-clause-small g c =
     subst (λ (j : Journal). j.at + j.size < 2 ^ 64) (sym c.journal_of.ensures) (small_journal c.args.config.now c.args.area.now.index c.requires.valid c.requires.picked.index)
+
+known_of : (version : ℕ) → (version ≡ 1) ⊎ (version ≡ 2) → is_known_version version ≡ true
+known_of version = ⊎_elim (λ one. ap is_known_version one) (λ two. ap is_known_version two)
+
+pub invariant_of-result-clause-known_version : goal.invariant_of-result-clause-known_version
+invariant_of-result-clause-known_version g c =
+    subst (λ (j : Journal). is_known_version j.version ≡ true) (sym c.journal_of.ensures) (known_of _ c.requires.picked.version)
