@@ -6,7 +6,7 @@ use crate::expect::expect_eq;
 use crate::recordings::{Row, empty, played};
 use ckrt_disk::Disk;
 use ckrt_inspect::InspectFault;
-use ckrt_trace::{Stretch, write_calls};
+use ckrt_trace::{Calls, Stretch, tell_stretch};
 use std::process::Abort;
 
 const PLACED: &[u8] = b"0+0 place 0 1\n";
@@ -57,7 +57,7 @@ fn outcome<R: AllocGlobal, D: Disk>(
     stretch: Stretch,
     out: &mut Vec<u8>,
 ) -> Result<(), InspectFault> {
-    write_calls(rt.alloc(), disk, stretch, out)
+    tell_stretch(rt.alloc(), disk, stretch, &Calls, out)
 }
 
 fn expect_told<R: Abort + AllocGlobal, D: Disk>(rt: &R, disk: &mut D, told: &Told) {

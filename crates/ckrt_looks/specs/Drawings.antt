@@ -1,9 +1,10 @@
 -- `timeline`: what the threads of a disk's program did, as a picture or as trace events.
 use Rattle.std.specs.Prelude.{◌≡◌, ◌⊎◌, Bool, true, false, Result, Err}
 use Rattle.ckrt_disk.specs.declared.disk.Disk.{Ghosts}
+use Rattle.ckrt_trace.specs.Stretches.{TellsStretch}
 use Rattle.ckrt_timeline.specs.Widths.{is_width}
-use Rattle.ckrt_timeline.specs.Disks.{DrawsImage}
-use Rattle.ckrt_timeline.specs.declared.disk.Style.{Style}
+use Rattle.ckrt_timeline.specs.Recorded.{IsDrawing}
+use Rattle.ckrt_timeline.specs.declared.recorded.Style.{Style}
 use Rattle.ckrt_timeline.specs.declared.words.Form.{Form}
 use Rattle.ckrt_timeline.specs.declared.words.Form.TheVariants as form
 use Rattle.ckrt_words.specs.Jobs.{Drawing}
@@ -34,7 +35,7 @@ pub record DrawsStretch {D : Type 0} (d : Ghosts D) (Opens : D → Type 0) (j : 
   pub looks : LooksPath d (record {
     stretch = j.stretch;
     Opens = Opens;
-    Tells = DrawsImage (style_of j) (stretch_of j.stretch);
+    Tells = TellsStretch (IsDrawing (style_of j)) (stretch_of j.stretch);
   }) old new result
 
 abbrev pub TimelinePath : {D : Type 0} → Ghosts D → (D → Type 0) → Drawing → (old new : Outside D)

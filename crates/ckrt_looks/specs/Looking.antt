@@ -5,7 +5,7 @@ use Rattle.ckrt_disk.specs.declared.disk.Disk.{Ghosts}
 use Rattle.ckrt_inspect.specs.Inspect.{is_device}
 use Rattle.ckrt_inspect.specs.declared.fault.InspectFault.{InspectFault}
 use Rattle.ckrt_inspect.specs.declared.fault.InspectFault.TheVariants.{Range}
-use Rattle.ckrt_trace.specs.declared.disk.Stretch.{Stretch}
+use Rattle.ckrt_trace.specs.declared.stretch.Stretch.{Stretch}
 use Rattle.ckrt_words.specs.Jobs.{DiskStretch}
 use Rattle.ckrt_sources.specs.Openings.{opened, with_closed, with_disk}
 use Rattle.ckrt_outcomes.specs.declared.fault.JobFault.{JobFault}

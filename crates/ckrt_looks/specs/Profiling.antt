@@ -3,7 +3,8 @@ use Rattle.std.specs.Prelude.{Result}
 use Rattle.ckrt_disk.specs.declared.disk.Disk.{Ghosts}
 use Rattle.ckrt_profile.specs.declared.form.Form.{Form}
 use Rattle.ckrt_profile.specs.declared.form.Form.TheVariants as form
-use Rattle.ckrt_profile.specs.Disks.{Profiles}
+use Rattle.ckrt_trace.specs.Stretches.{TellsStretch}
+use Rattle.ckrt_profile.specs.Recorded.{IsProfileText}
 use Rattle.ckrt_words.specs.Jobs.{Profiling}
 use Rattle.ckrt_words.specs.declared.job.ProfileForm.{ProfileForm}
 use Rattle.ckrt_words.specs.declared.job.ProfileForm.TheVariants as asked
@@ -24,5 +25,5 @@ ProfilesPath d Opens p old new result =
     LooksPath d (record {
       stretch = p.stretch;
       Opens = Opens;
-      Tells = Profiles (form_of p.form) (stretch_of p.stretch);
+      Tells = TellsStretch (IsProfileText (form_of p.form)) (stretch_of p.stretch);
     }) old new result

@@ -1,8 +1,9 @@
 -- What the jobs tell of a stretch of what a disk has recorded.
 use Rattle.std.specs.Prelude.{Result}
 use Rattle.ckrt_disk.specs.declared.disk.Disk.{Ghosts}
-use Rattle.ckrt_trace.specs.Disks.{Traces}
-use Rattle.ckrt_races.specs.Disks.{Finds}
+use Rattle.ckrt_trace.specs.Recorded.{AreLines}
+use Rattle.ckrt_trace.specs.Stretches.{TellsStretch}
+use Rattle.ckrt_races.specs.Recorded.{IsRacesText}
 use Rattle.ckrt_words.specs.Jobs.{DiskStretch}
 use Rattle.ckrt_outcomes.specs.declared.fault.JobFault.{JobFault}
 use Rattle.ckrt_outcomes.specs.Outside.{Outside}
@@ -12,10 +13,10 @@ use Rattle.ckrt_looks.specs.Looking.{LooksPath, stretch_of}
 abbrev pub TracesPath : {D : Type 0} → Ghosts D → (D → Type 0) → DiskStretch
     → (old new : Outside D) → Result (Unit {0}) JobFault → Type 0
 TracesPath d Opens s old new result =
-    LooksPath d (record { stretch = s; Opens = Opens; Tells = Traces (stretch_of s) }) old new result
+    LooksPath d (record { stretch = s; Opens = Opens; Tells = TellsStretch AreLines (stretch_of s) }) old new result
 
 -- `races`: its data races, a line for each pair of places
 abbrev pub RacesPath : {D : Type 0} → Ghosts D → (D → Type 0) → DiskStretch
     → (old new : Outside D) → Result (Unit {0}) JobFault → Type 0
 RacesPath d Opens s old new result =
-    LooksPath d (record { stretch = s; Opens = Opens; Tells = Finds (stretch_of s) }) old new result
+    LooksPath d (record { stretch = s; Opens = Opens; Tells = TellsStretch IsRacesText (stretch_of s) }) old new result

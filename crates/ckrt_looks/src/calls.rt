@@ -4,34 +4,14 @@ ghost use Rattle.ckrt_words.specs.Jobs.{disk_stretch_of};
 ghost use Rattle.ckrt_outcomes.specs.Outside.{outside};
 ghost use Rattle.ckrt_looks.specs.Tellings.{TracesPath};
 
-use crate::looking::{Telling, look_path};
+use crate::looking::look_path;
 use ckrt_disk::Disk;
-use ckrt_inspect::InspectFault;
 use ckrt_outcomes::JobFault;
 use ckrt_sources::Sources;
-use ckrt_trace::{Stretch, write_calls};
+use ckrt_trace::Calls;
 use ckrt_words::StretchJob;
 use std::alloc::Global;
 use std::io::{Read, Write};
-
-/// Its calls, a line each.
-struct Calls;
-
-impl Telling for Calls {
-    ghost use Rattle.ckrt_trace.specs.Disks.{Traces};
-
-    ghost Tells = { λ _. Traces };
-
-    fn tell<D: Disk, W: Write>(
-        &self,
-        alloc: Global,
-        disk: &mut D,
-        stretch: Stretch,
-        writer: &mut W,
-    ) -> Result<(), InspectFault> {
-        write_calls(alloc, disk, stretch, writer)
-    }
-}
 
 /// Tells the calls that the disk of a path has recorded, a line each: all, or those behind so many events and up to so many. The
 /// disk is only read.

@@ -2,6 +2,7 @@
 ghost use Rattle.std.specs.Prelude.{◌≡◌, ℕ, List, Option, Result};
 ghost use Rattle.ckrt_disk.specs.Frame.{IsOnlyRead};
 ghost use Rattle.ckrt_inspect.specs.Inspect.{is_device};
+ghost use Rattle.ckrt_trace.specs.Stretches.{TellsStretch};
 ghost use Rattle.ckrt_words.specs.Jobs.{disk_stretch_of};
 ghost use Rattle.ckrt_outcomes.specs.Outside.{outside};
 ghost use Rattle.ckrt_looks.specs.Looking.{LooksOpened, LooksPath, LooksThere, answer_of, ends_before, stretch_of};
@@ -10,32 +11,10 @@ use ckrt_disk::Disk;
 use ckrt_inspect::InspectFault;
 use ckrt_outcomes::JobFault;
 use ckrt_sources::{JobFile, Sources};
-use ckrt_trace::Stretch;
+use ckrt_trace::{Stretch, Telling, tell_stretch};
 use ckrt_words::StretchJob;
 use std::alloc::Global;
 use std::io::{Read, Write};
-
-/// A way of telling what a disk has recorded, as a text.
-pub(crate) trait Telling {
-    ghost use Rattle.ckrt_inspect.specs.declared.fault.InspectFault.{InspectFault};
-    ghost use Rattle.ckrt_trace.specs.declared.disk.Stretch.{Stretch};
-
-    /// What is told of a stretch of a content, and how what was written goes on with it.
-    ghost Tells: { Self → Stretch → (content : List ℕ) → (old new : Option (List ℕ))
-        → Result (Unit {0}) InspectFault → Type 0 };
-
-    /// Tells it. The disk is only read.
-    fn tell<D: Disk, W: Write>(
-        &self,
-        alloc: Global,
-        disk: &mut D,
-        stretch: Stretch,
-        writer: &mut W,
-    ) -> Result<(), InspectFault>
-        ensures read { IsOnlyRead D.Disk disk.old disk.new (is_device result) }
-        ensures tells { D.is_honest disk.new → Tells self.now stretch (D.content disk.old)
-            (W.contents writer.old) (W.contents writer.new) result };
-}
 
 /// Which events are told.
 fn stretch(job: &StretchJob<'_>) -> Stretch
@@ -70,13 +49,13 @@ fn look_opened<'a, I: Read, D: Disk, S: Sources<'a, I, D>, T: Telling, W: Write>
     ensures looks { (left : Option (List ℕ)) → LooksOpened D.Disk (record {
       stretch = disk_stretch_of job.now;
       Opens = λ start. start ≡ disk;
-      Tells = T.Tells telling.now (stretch_of (disk_stretch_of job.now));
+      Tells = TellsStretch (T.Tells telling.now) (stretch_of (disk_stretch_of job.now));
     })
         (outside (S.openings sources.old) (W.contents writer.old) left)
         (outside (S.openings sources.new) (W.contents writer.new) left) result }
 {
     let mut disk = disk;
-    let answer = telling.tell(alloc, &mut disk, stretch(job), writer);
+    let answer = tell_stretch(alloc, &mut disk, stretch(job), telling, writer);
     sources.close(disk);
     answer_of(answer)
 }
@@ -92,7 +71,7 @@ fn look_there<'a, I: Read, D: Disk, S: Sources<'a, I, D>, T: Telling, W: Write>(
     ensures looks { (left : Option (List ℕ)) → LooksThere D.Disk (record {
       stretch = disk_stretch_of job.now;
       Opens = S.opens sources.old job.now.disk.now;
-      Tells = T.Tells telling.now (stretch_of (disk_stretch_of job.now));
+      Tells = TellsStretch (T.Tells telling.now) (stretch_of (disk_stretch_of job.now));
     })
         (outside (S.openings sources.old) (W.contents writer.old) left)
         (outside (S.openings sources.new) (W.contents writer.new) left) result }
@@ -130,7 +109,7 @@ pub(crate) fn look_path<'a, I: Read, D: Disk, S: Sources<'a, I, D>, T: Telling, 
     ensures looks { (left : Option (List ℕ)) → LooksPath D.Disk (record {
       stretch = disk_stretch_of job.now;
       Opens = S.opens sources.old job.now.disk.now;
-      Tells = T.Tells telling.now (stretch_of (disk_stretch_of job.now));
+      Tells = TellsStretch (T.Tells telling.now) (stretch_of (disk_stretch_of job.now));
     })
         (outside (S.openings sources.old) (W.contents writer.old) left)
         (outside (S.openings sources.new) (W.contents writer.new) left) result }

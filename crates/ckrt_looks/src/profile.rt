@@ -2,16 +2,18 @@
 ghost use Rattle.std.specs.Prelude.{◌≡◌, ℕ, List, Option};
 ghost use Rattle.ckrt_words.specs.Jobs.{profiling_of};
 ghost use Rattle.ckrt_outcomes.specs.Outside.{outside};
-ghost use Rattle.ckrt_profile.specs.Disks.{Profiles};
+ghost use Rattle.ckrt_profile.specs.Recorded.{IsProfileText};
 ghost use Rattle.ckrt_looks.specs.Profiling.{ProfilesPath, form_of};
 
-use crate::looking::{Telling, look_path};
+use crate::looking::look_path;
 use ckrt_disk::Disk;
+use ckrt_events::Event;
 use ckrt_inspect::InspectFault;
+use ckrt_machine::Machine;
 use ckrt_outcomes::JobFault;
 use ckrt_profile::{Form, write_profile};
 use ckrt_sources::Sources;
-use ckrt_trace::Stretch;
+use ckrt_trace::Telling;
 use ckrt_words::{ProfileForm, ProfileJob};
 use std::alloc::Global;
 use std::io::{Read, Write};
@@ -23,16 +25,17 @@ struct Profile {
 }
 
 impl Telling for Profile {
-    ghost Tells = { λ p. Profiles (form_of p.form) };
+    ghost Tells = { λ p. IsProfileText (form_of p.form) };
 
-    fn tell<D: Disk, W: Write>(
+    fn tell<W: Write>(
         &self,
         alloc: Global,
-        disk: &mut D,
-        stretch: Stretch,
-        writer: &mut W,
+        machine: &mut Machine,
+        _count: u64,
+        events: &[Event],
+        out: &mut W,
     ) -> Result<(), InspectFault> {
-        write_profile(alloc, form_of(self.form), disk, stretch, writer)
+        write_profile(alloc, machine, events, form_of(self.form), out)
     }
 }
 

@@ -4,13 +4,15 @@ ghost use Rattle.ckrt_words.specs.Jobs.{disk_stretch_of};
 ghost use Rattle.ckrt_outcomes.specs.Outside.{outside};
 ghost use Rattle.ckrt_looks.specs.Tellings.{RacesPath};
 
-use crate::looking::{Telling, look_path};
+use crate::looking::look_path;
 use ckrt_disk::Disk;
+use ckrt_events::Event;
 use ckrt_inspect::InspectFault;
+use ckrt_machine::Machine;
 use ckrt_outcomes::JobFault;
 use ckrt_races::write_races;
 use ckrt_sources::Sources;
-use ckrt_trace::Stretch;
+use ckrt_trace::Telling;
 use ckrt_words::StretchJob;
 use std::alloc::Global;
 use std::io::{Read, Write};
@@ -19,18 +21,19 @@ use std::io::{Read, Write};
 struct Races;
 
 impl Telling for Races {
-    ghost use Rattle.ckrt_races.specs.Disks.{Finds};
+    ghost use Rattle.ckrt_races.specs.Recorded.{IsRacesText};
 
-    ghost Tells = { λ _. Finds };
+    ghost Tells = { λ _. IsRacesText };
 
-    fn tell<D: Disk, W: Write>(
+    fn tell<W: Write>(
         &self,
         alloc: Global,
-        disk: &mut D,
-        stretch: Stretch,
-        writer: &mut W,
+        machine: &mut Machine,
+        count: u64,
+        events: &[Event],
+        out: &mut W,
     ) -> Result<(), InspectFault> {
-        write_races(alloc, disk, stretch, writer)
+        write_races(alloc, machine, count, events, out)
     }
 }
 

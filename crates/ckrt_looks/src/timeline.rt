@@ -5,13 +5,15 @@ ghost use Rattle.ckrt_outcomes.specs.Outside.{outside};
 ghost use Rattle.ckrt_timeline.specs.Widths.{is_width};
 ghost use Rattle.ckrt_looks.specs.Drawings.{TimelinePath, form_of};
 
-use crate::looking::{Telling, look_path};
+use crate::looking::look_path;
 use ckrt_disk::Disk;
+use ckrt_events::Event;
 use ckrt_inspect::InspectFault;
+use ckrt_machine::Machine;
 use ckrt_outcomes::JobFault;
 use ckrt_sources::Sources;
 use ckrt_timeline::{Form, Style, is_width, write_timeline};
-use ckrt_trace::Stretch;
+use ckrt_trace::Telling;
 use ckrt_words::TimelineJob;
 use std::alloc::Global;
 use std::io::{Read, Write};
@@ -24,18 +26,19 @@ struct Timeline {
 }
 
 impl Telling for Timeline {
-    ghost use Rattle.ckrt_timeline.specs.Disks.{DrawsImage};
+    ghost use Rattle.ckrt_timeline.specs.Recorded.{IsDrawing};
 
-    ghost Tells = { λ self. DrawsImage self.style };
+    ghost Tells = { λ self. IsDrawing self.style };
 
-    fn tell<D: Disk, W: Write>(
+    fn tell<W: Write>(
         &self,
         alloc: Global,
-        disk: &mut D,
-        stretch: Stretch,
-        writer: &mut W,
+        machine: &mut Machine,
+        count: u64,
+        events: &[Event],
+        out: &mut W,
     ) -> Result<(), InspectFault> {
-        write_timeline(alloc, disk, stretch, self.style, writer)
+        write_timeline(alloc, machine, count, events, self.style, out)
     }
 }
 

@@ -1,6 +1,5 @@
 pub mod BehindLemmas
 pub mod WalkLemmas
-pub mod StretchLemmas
 pub mod CallgrindLemmas
 pub mod FrameLemmas
 pub mod SumLemmas

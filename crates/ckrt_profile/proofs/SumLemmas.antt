@@ -20,7 +20,7 @@ use Rattle.ckrt_counts.specs.Laws.{CountsSteps, steps_in}
 use Rattle.ckrt_counts.specs.Shares.{begun, functions, next, placed, ranked, ranked_behind, spans, with_word}
 use Rattle.ckrt_counts.proofs.SumLemmas.{each_counts_once}
 use Rattle.ckrt_profile.specs.Steps.{looks, looks_at, met_at, met_up_to, notes, of_event, of_events, of_run, of_step, unless_ended}
-use Rattle.ckrt_profile.specs.Disks.{counted_of, words_of}
+use Rattle.ckrt_profile.specs.Recorded.{counted_of, words_of}
 use Rattle.ckrt_profile.specs.Laws.{FunctionsHaveAllSteps, SumsAreTheSteps, share_steps, steps_made, steps_of}
 
 -- STEPS IN NOTES

@@ -9,7 +9,7 @@ use Rattle.ckrt_machine.specs.declared.event.Answer.TheVariants.{Placed, Ran, Ta
 use Rattle.ckrt_counts.specs.declared.shares.Share.{Share}
 use Rattle.ckrt_counts.specs.Laws.{CountsSteps}
 use Rattle.ckrt_counts.specs.Shares.{functions, ranked}
-use Rattle.ckrt_profile.specs.Disks.{counted_of}
+use Rattle.ckrt_profile.specs.Recorded.{counted_of}
 
 -- the steps that a machine says it made
 abbrev pub steps_of : Answer → ℕ

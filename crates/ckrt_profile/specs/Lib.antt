@@ -1,5 +1,5 @@
 pub mod Steps
 pub mod Callgrind
 pub mod Texts
-pub mod Disks
+pub mod Recorded
 pub mod Laws

@@ -29,7 +29,7 @@ use Rattle.ckrt_races.specs.Accesses.{FENCE_RW_W, FENCE_R_RW, access_of, accesse
 use Rattle.ckrt_races.specs.Holders.{HOLDERS, acquired, released}
 use Rattle.ckrt_races.specs.Orders.{between}
 use Rattle.ckrt_races.specs.Steps.{at, before_step, of_event, of_events, of_other, of_run, of_step, unless_ended}
-use Rattle.ckrt_races.specs.Disks.{words_of}
+use Rattle.ckrt_races.specs.Recorded.{words_of}
 use Rattle.ckrt_races.specs.Laws.{FoundIsOfTheHistory, HistoriesAreOrderly, OnlyRacesAreTold, history_of, latest_first}
 use Rattle.ckrt_races.proofs.NumberLemmas.{ArePassesAt, IsPassAt, between_passes, is_acquisition, is_release, thread_number, waits_pass}
 

@@ -10,7 +10,7 @@ use Rattle.ckrt_order.specs.Histories.{History}
 use Rattle.ckrt_order.specs.Laws.{IsOrderly, IsRaceOf}
 use Rattle.ckrt_races.specs.Holders.{HOLDERS}
 use Rattle.ckrt_races.specs.Steps.{of_events}
-use Rattle.ckrt_races.specs.Disks.{found_by, words_of}
+use Rattle.ckrt_races.specs.Recorded.{found_by, words_of}
 
 -- operations in order, before a history
 abbrev pub latest_first : List Operation → History → History

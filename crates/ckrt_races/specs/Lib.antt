@@ -4,5 +4,5 @@ pub mod Writers
 pub mod Orders
 pub mod Steps
 pub mod Texts
-pub mod Disks
+pub mod Recorded
 pub mod Laws

@@ -1,20 +1,20 @@
 //! Data races of a guest: which of its loads and stores no lock, barrier, creation or join puts in an order.
 //!
-//! [`write_races`] goes over the events that a disk has recorded, or a stretch of them, step by step, and writes what it found: each
+//! [`write_races`] goes over recorded events step by step, and writes what it found: each
 //! pair of places in the program once, with the first two accesses there that race, and how often.
 #![tactic(auto)]
 
 mod accesses;
 mod calls;
-mod disk;
 mod holders;
 mod laws;
 mod looking;
 mod orders;
+mod recorded;
 mod texts;
 mod walk;
 
-pub use disk::write_races;
 pub use holders::Lock;
 pub use laws::{found_is_of_the_history, histories_are_orderly, only_races_are_told};
+pub use recorded::write_races;
 pub use walk::watch_event;

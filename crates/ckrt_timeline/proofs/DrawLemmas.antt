@@ -1,16 +1,17 @@
 -- What a timeline that has gone through events says of them.
-use Rattle.std.proofs.Common.{◌≡◌, ◌∙◌, ◌+◌, ℕ, List, [], ◌++◌, length, Option, sym, ap, subst, arith}
+use Rattle.std.proofs.Common.{◌≡◌, ◌∙◌, ◌+◌, ℕ, List, [], ◌++◌, length, Option, sym, ap, arith}
 use Rattle.std.specs.Global.{Vec}
 use Rattle.std.specs.Io.KnownBytes.{Appends}
 use Rattle.std.proofs.lemmas.List.{length-map}
 use Rattle.ckrt_events.specs.declared.event.Event.{Event}
 use Rattle.ckrt_machine.specs.Steps.{State}
+use Rattle.ckrt_trace.specs.Stretches.{Writes}
 use Rattle.ckrt_timeline.specs.declared.piece.Piece.{Piece}
 use Rattle.ckrt_timeline.specs.declared.timeline.Timeline.{Timeline}
-use Rattle.ckrt_timeline.specs.declared.disk.Style.{Style}
+use Rattle.ckrt_timeline.specs.declared.recorded.Style.{Style}
 use Rattle.ckrt_timeline.specs.declared.page.Chart.{Chart}
 use Rattle.ckrt_timeline.specs.Charts.{chart_text}
-use Rattle.ckrt_timeline.specs.Disks.{AreTracks, Draws, IsChartOf}
+use Rattle.ckrt_timeline.specs.Recorded.{AreTracks, IsChartOf, IsDrawing}
 use Rattle.ckrt_timeline.specs.Pieces.{tracks_of}
 use Rattle.ckrt_timeline.specs.Tracks.{GoesOn, begins_of, in_events, track_in}
 
@@ -26,11 +27,15 @@ module _ (es : List Event) (s : State) (begun z : Timeline) (empty : (i : ℕ) �
 
 -- what was written of them
 pub drawn : (style : Style) (k : ℕ) (es : List Event) (s : State) (tracks : List (List Piece)) (chart : Chart) (begins : List ℕ) (old new : Option (List ℕ)) → AreTracks es s tracks
-    → begins ≡ begins_of 0 es s → Appends old new (chart_text style.form chart begins tracks) → IsChartOf style k es s tracks chart → Draws style k es s old new
+    → begins ≡ begins_of 0 es s → Appends old new (chart_text style.form chart begins tracks) → IsChartOf style k es s tracks chart → Writes (IsDrawing style k es s) old new
 drawn style k es s tracks chart begins old new are same written is = record {
-  tracks = tracks;
-  are = are;
-  chart = chart;
-  is = is;
-  written = subst (λ (l : List ℕ). Appends old new (chart_text style.form chart l tracks)) same written;
+  text = chart_text style.form chart begins tracks;
+  is = record {
+    tracks = tracks;
+    are = are;
+    chart = chart;
+    is = is;
+    says = ap (λ (l : List ℕ). chart_text style.form chart l tracks) same;
+  };
+  written = written;
 }

@@ -2,6 +2,5 @@ pub mod DrawLemmas
 pub mod EventLemmas
 pub mod PieceLemmas
 pub mod QuietLemmas
-pub mod StretchLemmas
 pub mod TrackLemmas
 pub mod WalkLemmas

@@ -1,6 +1,6 @@
 pub mod Activities
 pub mod Charts
-pub mod Disks
+pub mod Recorded
 pub mod Parts
 pub mod Pieces
 pub mod Quiet

@@ -1,3 +1,3 @@
 pub mod AppendLemmas
 pub mod RunLemmas
-pub mod DiskLemmas
+pub mod StretchLemmas

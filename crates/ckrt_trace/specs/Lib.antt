@@ -1,4 +1,5 @@
 pub mod Calls
-pub mod Disks
+pub mod Stretches
+pub mod Recorded
 pub mod Events
 pub mod Lines
