@@ -1,7 +1,7 @@
 pub mod DrawLemmas
 pub mod EventLemmas
 pub mod PieceLemmas
-pub mod QuietLemmas
+pub mod StillLemmas
 pub mod StretchLemmas
 pub mod TrackLemmas
 pub mod WalkLemmas

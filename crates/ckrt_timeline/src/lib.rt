@@ -1,7 +1,7 @@
 //! What each thread of a guest did, step after step: on which hart it ran, what it waited for, and when it was ready.
 //!
 //! [`write_timeline`] goes over the events that a disk has recorded, or a stretch of them, and writes the pieces of each thread, as a
-//! picture or as trace events. Steps that call nothing are made in a row by [`go_quietly`], and looked at once.
+//! picture or as trace events. Steps that call nothing are made in a row by [`go_quietly`](ckrt_trace::go_quietly), and looked at once.
 #![tactic(auto)]
 
 mod activity;
@@ -10,7 +10,6 @@ mod disk;
 mod page;
 mod part;
 mod piece;
-mod quiet;
 mod timeline;
 mod tracks;
 mod walk;
@@ -19,5 +18,4 @@ mod words;
 pub use disk::{Style, write_timeline};
 pub use page::is_width;
 pub use piece::{Activity, Piece};
-pub use quiet::go_quietly;
 pub use words::Form;

@@ -8,10 +8,12 @@ mod disk;
 mod events;
 mod lines;
 mod names;
+mod quiet;
 mod texts;
 
 pub use disk::{Stretch, bounds, write_calls};
 pub use events::{advance, is_stopped, trace_event};
 pub use lines::{Before, Caller, Place, Waiting, is_quiet, next_caller};
 pub use names::{Answers, Arguments, answers_of, arguments_of, name_of};
+pub use quiet::{AtCalls, go_quietly, go_quietly_to};
 pub use texts::{write_counted, write_hex, write_number};
