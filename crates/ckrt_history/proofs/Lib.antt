@@ -6,5 +6,7 @@ pub mod AtLemmas
 pub mod OrderLemmas
 pub mod SearchLemmas
 pub mod WatchLemmas
+pub mod SeenLemmas
+pub mod PassLemmas
 pub mod SnapshotLemmas
 pub mod PageLemmas
