@@ -8,3 +8,4 @@ pub mod SearchLemmas
 pub mod WatchLemmas
 pub mod SnapshotLemmas
 pub mod PageLemmas
+pub mod ForkLemmas

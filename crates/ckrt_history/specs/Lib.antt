@@ -1,3 +1,4 @@
 pub mod Positions
 pub mod Engine
 pub mod Stops
+pub mod Forks
