@@ -36,6 +36,7 @@ module _ (stops : Stops) (h : History) (end : Position) (z : History) (seen : Li
     start = (ap (λ (x : History). x.start) made ∙ ap (λ (x : History). x.start) way.history) i;
     events = (ap (λ (x : History). x.events) made ∙ ap (λ (x : History). x.events) way.history) i;
     position = new.position;
+    most = (ap (λ (x : History). x.most) made ∙ ap (λ (x : History). x.most) way.history) i;
   }
 
   next : new.position ≡ next_position z.position h.events h.start
