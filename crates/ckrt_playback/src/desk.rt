@@ -194,8 +194,7 @@ impl Desk {
         if let Err(fault) = history.append(event) {
             return Some(fault);
         }
-        let thread = next_or(history, self.view.last.thread);
-        self.view = standing_in(&self.view, thread);
+        self.view = standing_in(&self.view, next_or(history, self.view.last.thread));
         None
     }
 }
