@@ -1,14 +1,20 @@
 -- What the stub makes of a command of gdb's user, and what it tells.
-use Rattle.std.specs.Prelude.{◌≡◌, ℕ, ◌+◌, ◌-◌, ◌^◌, ◌==◌, min, Bool, true, false, if◌then◌else◌, List, [], ◌++◌, length, codes, decimal, Option, Some, None}
+use Rattle.std.specs.Prelude.{◌≡◌, ℕ, ◌+◌, ◌-◌, ◌^◌, ◌==◌, min, Bool, true, false, if◌then◌else◌, List, [], ◌++◌, length, codes, decimal, Option, Some, None, Result, Ok, Err}
+use Rattle.ckrt_events.specs.declared.command.LineFault.{LineFault}
+use Rattle.ckrt_events.specs.declared.event.Event.{Event}
+use Rattle.ckrt_commands.specs.Replies.{line_fault_text, no_line, refusal_text}
+use Rattle.ckrt_history.specs.declared.forking.AppendFault.{AppendFault}
+use Rattle.ckrt_history.specs.declared.forking.AppendFault.TheVariants.{NotAtEnd, NoRoom, Refused}
 use Rattle.ckrt_history.specs.declared.position.Position.{Position}
+use Rattle.ckrt_history.specs.Forks.{append_fault}
 use Rattle.ckrt_inspect.specs.Listing.{listing_by}
 use Rattle.ckrt_debug.specs.declared.command.Command.{Command}
-use Rattle.ckrt_debug.specs.declared.command.Command.TheVariants.{Events, GoTo, Help, Inspect, Limit, Until}
+use Rattle.ckrt_debug.specs.declared.command.Command.TheVariants.{Append, Events, Fork, GoTo, Help, Inspect, Limit, Until}
 use Rattle.ckrt_debug.specs.declared.monitor.TheConstants.{HELP}
 use Rattle.ckrt_debug.specs.declared.stub.Stub.{Stub}
 use Rattle.ckrt_debug.specs.Commands.{command_of}
 use Rattle.ckrt_playback.specs.Playback.{history_of, state_of}
-use Rattle.ckrt_debug.specs.Session.{HasBounds, IsSame, Names, Reaches}
+use Rattle.ckrt_debug.specs.Session.{HasBounds, HasForked, IsSame, Makes, Names, Reaches}
 use Rattle.ckrt_playback.specs.Told.{is_before, is_same}
 
 -- WHERE IT STANDS: `event K+S, from F to L`
@@ -64,7 +70,26 @@ abbrev pub named_text : Option Position → (here : Position) → List ℕ
 named_text None here = nowhere
 named_text (Some there) here = until_text here there
 
+-- why an event isn't made; the machine's reason is told as a session of `ckrt run` tells it
+abbrev pub append_fault_text : AppendFault → List ℕ
+append_fault_text NotAtEnd = codes "not at the end of the history: monitor fork ends it here\n"
+append_fault_text NoRoom = codes "no room for another event\n"
+append_fault_text (Refused refusal) = no_line (refusal_text refusal)
+
+-- where it stands behind it, or why it isn't made
+abbrev pub made_text : Option AppendFault → Stub → List ℕ
+made_text None s = standing_line s
+made_text (Some fault) s = append_fault_text fault
+
 -- WHAT IT DOES
+
+-- it makes an event behind the last, if a line has one, and the machine takes it
+abbrev pub DoesAppend : Result Event LineFault → (old new : Stub) → (console : List ℕ) → Type 0
+DoesAppend (Ok e) old new console =
+    Makes e (append_fault e (history_of old.playback)) old new
+    × (console ≡ made_text (append_fault e (history_of old.playback)) new)
+DoesAppend (Err fault) old new console =
+    IsSame old new × (console ≡ no_line (line_fault_text fault))
 
 abbrev pub Does : Command → (old new : Stub) → (console : List ℕ) → Type 0
 Does (GoTo p) old new console =
@@ -76,6 +101,8 @@ Does (Limit n) old new console =
     HasBounds (record old.desk.bounds { limit = n }) old new × (console ≡ limit_text n)
 Does Events old new console = IsSame old new × (console ≡ standing_line old)
 Does Inspect old new console = IsSame old new × (console ≡ listing_text old)
+Does Fork old new console = HasForked old new × (console ≡ standing_line new)
+Does (Append event) old new console = DoesAppend event old new console
 Does Help old new console = IsSame old new × (console ≡ HELP.now)
 
 -- from old to new it does what a text commands, and tells this

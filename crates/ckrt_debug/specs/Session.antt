@@ -2,6 +2,9 @@
 use Rattle.std.specs.Prelude.{◌≡◌, ◌+◌, ℕ, Bool, true, false, List, Option, Some, None, is_some}
 use Rattle.ckrt_history.specs.declared.position.Position.{Position}
 use Rattle.ckrt_history.specs.Positions.{History, at_event}
+use Rattle.ckrt_history.specs.Forks.{forked, with_event}
+use Rattle.ckrt_history.specs.declared.forking.AppendFault.{AppendFault}
+use Rattle.ckrt_events.specs.declared.event.Event.{Event}
 use Rattle.ckrt_packets.specs.declared.request.Request.{Request}
 use Rattle.ckrt_playback.specs.declared.going.Way.{Way}
 use Rattle.ckrt_playback.specs.declared.limits.Bounds.{Bounds}
@@ -96,6 +99,28 @@ Names events steps old (Some p) new =
     × HasBounds (record old.desk.bounds { until = Some p }) old new
 Names events steps old None new =
     (HasPlace old.desk.first events steps (history_of old.playback) → ⊥) × IsSame old new
+
+-- the history ends where it stands from now on; nothing else changes
+pub record HasForked (old new : Stub) : Type 0 where
+  pub history : history_of new.playback ≡ forked (history_of old.playback)
+  pub view : new.desk.view ≡ old.desk.view
+  pub stops : new.desk.stops ≡ old.desk.stops
+  pub bounds : new.desk.bounds ≡ old.desk.bounds
+  pub first : new.desk.first ≡ old.desk.first
+
+-- one more event was made behind the last, and it shows who was there; nothing else changes
+pub record HasMade (e : Event) (old new : Stub) : Type 0 where
+  pub history : history_of new.playback ≡ with_event e (history_of old.playback)
+  pub view : new.desk.view
+      ≡ standing_in old.desk.view (next_or old.desk.view.last.thread (history_of new.playback))
+  pub stops : new.desk.stops ≡ old.desk.stops
+  pub bounds : new.desk.bounds ≡ old.desk.bounds
+  pub first : new.desk.first ≡ old.desk.first
+
+-- or it wasn't, and nothing changes
+abbrev pub Makes : Event → Option AppendFault → (old new : Stub) → Type 0
+Makes e None old new = HasMade e old new
+Makes e (Some fault) old new = IsSame old new
 
 -- a request that neither looks nor moves has set what it sets, and nothing else
 pub record HasSet (request : Request) (old new : Stub) : Type 0 where

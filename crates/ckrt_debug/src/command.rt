@@ -1,7 +1,9 @@
 //! What gdb's user commands by `monitor`.
-ghost use Rattle.std.specs.Prelude.{◌≡◌};
+ghost use Rattle.std.specs.Prelude.{◌≡◌, IfSome};
 ghost use Rattle.std.specs.List.{before_first};
-ghost use Rattle.ckrt_debug.specs.Commands.{command_in, command_of, is_plus, limit_in, named, number_of, place_of, steps_of, word_in, word_of};
+ghost use Rattle.ckrt_debug.specs.Commands.{IsInRangeCommand, IsInRangeEvent, command_in, command_of, event_of, is_plus, limit_in, named, number_of, place_of, steps_of, word_in, word_of};
+
+use ckrt_events::{Command as LineCommand, Event, LineFault, parse_command};
 
 /// A position by the events that are done since the disk was formatted, and the steps of the next.
 #[derive(Clone, Copy)]
@@ -11,7 +13,7 @@ pub struct Place {
 }
 
 /// What gdb's user commands.
-#[derive(Clone, Copy)]
+#[derive(Drop)]
 pub enum Command {
     /// To go there.
     GoTo(Place),
@@ -23,6 +25,10 @@ pub enum Command {
     Events,
     /// To list the state as `ckrt inspect` does.
     Inspect,
+    /// To forget the events behind where it stands.
+    Fork,
+    /// To make one more event behind the last, if the line is that of one.
+    Append(Result<Event, LineFault>),
     Help,
 }
 
@@ -88,9 +94,21 @@ fn limit_in(number: u32) -> Option<Command>
     }
 }
 
-/// A command by its name and the word behind it.
+/// The event of a line, as a session of `ckrt run` takes it.
+fn event_of(line: &str) -> Result<Event, LineFault>
+    ensures event { result ≡ event_of line.now }
+    ensures in_range { IsInRangeEvent result }
+{
+    match parse_command(line.as_bytes())? {
+        LineCommand::Submit(event) => Ok(event),
+        _ => Err(LineFault::Unknown),
+    }
+}
+
+/// A command by its name and the text behind it.
 fn named(name: &str, word: &str) -> Option<Command>
-    ensures { result ≡ named name.now word.now }
+    ensures command { result ≡ named name.now word.now }
+    ensures in_range { IfSome result IsInRangeCommand }
 {
     if name == "goto" {
         Some(Command::GoTo(place_of(word)?))
@@ -102,6 +120,10 @@ fn named(name: &str, word: &str) -> Option<Command>
         Some(Command::Events)
     } else if name == "inspect" {
         Some(Command::Inspect)
+    } else if name == "fork" {
+        Some(Command::Fork)
+    } else if name == "event" {
+        Some(Command::Append(event_of(word)))
     } else {
         None
     }
@@ -109,7 +131,8 @@ fn named(name: &str, word: &str) -> Option<Command>
 
 /// The command of a text, if it is one.
 fn command_in(text: &str) -> Option<Command>
-    ensures { result ≡ command_in text.now }
+    ensures command { result ≡ command_in text.now }
+    ensures in_range { IfSome result IsInRangeCommand }
 {
     match text.split_once(' ') {
         Some((name, word)) => named(name, word),
@@ -119,7 +142,8 @@ fn command_in(text: &str) -> Option<Command>
 
 /// The command of a text; help where it is none.
 pub fn command_of(text: &[u8]) -> Command
-    ensures { result ≡ command_of text.now }
+    ensures command { result ≡ command_of text.now }
+    ensures in_range { IsInRangeCommand result }
 {
     match std::str::from_utf8(text) {
         Ok(text) => command_in(text).unwrap_or(Command::Help),

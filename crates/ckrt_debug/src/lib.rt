@@ -7,6 +7,7 @@ mod command;
 mod fault;
 mod line;
 mod monitor;
+mod refusals;
 mod serve;
 mod stub;
 

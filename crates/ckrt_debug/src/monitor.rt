@@ -3,13 +3,19 @@ ghost use Rattle.std.specs.Prelude.{◌≡◌, ◌⊎◌, ◌++◌, ℕ, List, I
 ghost use Rattle.ckrt_machine.specs.Events.{AllAccepted};
 ghost use Rattle.ckrt_debug.specs.declared.fault.DebugFault.TheVariants.{OutOfMemory, Refused};
 ghost use Rattle.ckrt_debug.specs.declared.monitor.TheConstants.{HELP};
-ghost use Rattle.ckrt_debug.specs.Monitor.{Does, Obeys, count_of, event_text, gone_text, limit_text, listing_text, named_text, range_text, standing_line, steps_text, until_text};
+ghost use Rattle.ckrt_events.specs.Bytes.{IsInRange};
+ghost use Rattle.ckrt_events.specs.declared.command.LineFault.{LineFault};
+ghost use Rattle.ckrt_events.specs.declared.event.Event.{Event};
+ghost use Rattle.ckrt_debug.specs.Commands.{IsInRangeCommand, IsInRangeEvent};
+ghost use Rattle.ckrt_debug.specs.Monitor.{Does, DoesAppend, Obeys, count_of, event_text, gone_text, limit_text, listing_text, made_text, named_text, range_text, standing_line, steps_text, until_text};
 ghost use Rattle.ckrt_playback.specs.Playback.{history_of};
 
 use crate::command::{Command, Place, command_of};
 use crate::fault::DebugFault;
+use crate::refusals::{push_append_fault, push_line_fault};
 use crate::stub::Stub;
-use ckrt_history::Position;
+use ckrt_events::{Event, LineFault};
+use ckrt_history::{AppendFault, Position};
 use ckrt_inspect::write_listing;
 use ckrt_playback::is_same;
 use std::alloc::AllocError;
@@ -18,7 +24,9 @@ const HELP: &[u8] = b"monitor events      the events that there are, and where i
 monitor inspect     threads, locks and waits, as ckrt inspect lists them\n\
 monitor goto K+S    stand where K events are done and S steps of the next; then: maintenance flush register-cache\n\
 monitor until K+S   continue or reverse-continue stop there\n\
-monitor limit N     a continue makes N steps at most, by and large\n";
+monitor limit N     a continue makes N steps at most, by and large\n\
+monitor fork        forget the events behind where it stands, in this session alone\n\
+monitor event LINE  behind the last event make one more, such as run 0 100; then: maintenance flush register-cache\n";
 
 /// A text and a number in decimal.
 fn push_counted(out: &mut Vec<u8>, text: &[u8], number: u64) -> Result<(), AllocError>
@@ -158,6 +166,72 @@ impl Stub {
         Ok(stub)
     }
 
+    /// What becomes of an event that was to be made.
+    fn push_made(&self, fault: Option<AppendFault>, out: &mut Vec<u8>) -> Result<(), AllocError>
+        ensures { OnOk result (out.new.items ≡ out.old.items ++ made_text fault self.now) }
+    {
+        match fault {
+            Some(fault) => push_append_fault(out, fault),
+            None => self.push_standing(out),
+        }
+    }
+
+    /// Forgets the events behind where it stands, and tells where that is.
+    fn end_here(self, out: &mut Vec<u8>) -> Result<Stub, DebugFault>
+        ensures does { IfOk result (λ stub. (console : List ℕ)
+            × Does Command.Fork self stub console
+            × (out.new.items ≡ out.old.items ++ console)) }
+        ensures refused { IsErrOf result Refused
+            → AllAccepted (history_of self.playback).events (history_of self.playback).start → ⊥ }
+        ensures fault { IfErr result (λ e. (e ≡ Refused) ⊎ (e ≡ OutOfMemory)) }
+    {
+        let stub = self.fork()?;
+        stub.push_standing(out)?;
+        Ok(stub)
+    }
+
+    /// Makes one more event behind the last, and tells where it stands then, or why not.
+    fn make(self, event: Event, out: &mut Vec<u8>) -> Result<Stub, DebugFault>
+        requires { IsInRange event }
+        ensures does { IfOk result (λ stub. (console : List ℕ)
+            × DoesAppend (Ok event) self stub console
+            × (out.new.items ≡ out.old.items ++ console)) }
+        ensures refused { IsErrOf result Refused
+            → AllAccepted (history_of self.playback).events (history_of self.playback).start → ⊥ }
+        ensures fault { IfErr result (λ e. (e ≡ Refused) ⊎ (e ≡ OutOfMemory)) }
+    {
+        let (stub, fault) = self.append(event)?;
+        stub.push_made(fault, out)?;
+        Ok(stub)
+    }
+
+    /// Tells why a line has no event.
+    fn refuse(self, fault: LineFault, out: &mut Vec<u8>) -> Result<Stub, DebugFault>
+        ensures does { IfOk result (λ stub. (console : List ℕ)
+            × DoesAppend (Err fault) self stub console
+            × (out.new.items ≡ out.old.items ++ console)) }
+        ensures fault { IfErr result (λ e. e ≡ OutOfMemory) }
+    {
+        push_line_fault(out, fault)?;
+        Ok(self)
+    }
+
+    /// Makes one more event behind the last, if a line has one.
+    fn make_by(self, event: Result<Event, LineFault>, out: &mut Vec<u8>) -> Result<Stub, DebugFault>
+        requires { IsInRangeEvent event }
+        ensures does { IfOk result (λ stub. (console : List ℕ)
+            × DoesAppend event self stub console
+            × (out.new.items ≡ out.old.items ++ console)) }
+        ensures refused { IsErrOf result Refused
+            → AllAccepted (history_of self.playback).events (history_of self.playback).start → ⊥ }
+        ensures fault { IfErr result (λ e. (e ≡ Refused) ⊎ (e ≡ OutOfMemory)) }
+    {
+        match event {
+            Ok(event) => self.make(event, out),
+            Err(fault) => self.refuse(fault, out),
+        }
+    }
+
     /// A motion makes so many steps at most.
     fn limit(self, limit: u32, out: &mut Vec<u8>) -> Result<Stub, DebugFault>
         ensures does { IfOk result (λ stub. (console : List ℕ)
@@ -206,6 +280,7 @@ impl Stub {
 
     /// Does a command. What is told goes behind what is in `out`.
     fn perform(self, command: Command, out: &mut Vec<u8>) -> Result<Stub, DebugFault>
+        requires { IsInRangeCommand command }
         ensures does { IfOk result (λ stub. (console : List ℕ)
             × Does command self stub console × (out.new.items ≡ out.old.items ++ console)) }
         ensures refused { IsErrOf result Refused
@@ -218,6 +293,8 @@ impl Stub {
             Command::Limit(limit) => self.limit(limit, out),
             Command::Events => self.tell_standing(out),
             Command::Inspect => self.tell_listing(out),
+            Command::Fork => self.end_here(out),
+            Command::Append(event) => self.make_by(event, out),
             Command::Help => self.tell_help(out),
         }
     }

@@ -6,11 +6,13 @@ ghost use Rattle.ckrt_playback.specs.Playback.{history_of};
 ghost use Rattle.ckrt_playback.specs.Recorded.{run_of};
 ghost use Rattle.ckrt_playback.specs.Look.{fitting};
 ghost use Rattle.ckrt_playback.specs.Requests.{last_text};
-ghost use Rattle.ckrt_debug.specs.Session.{Answers, BeginsAt, HasMoved, HasSet, IsMotion, IsOfRun, IsOutside, Names, Reaches, look_in, set_text_in, way_in};
+ghost use Rattle.ckrt_events.specs.Bytes.{IsInRange};
+ghost use Rattle.ckrt_history.specs.Forks.{append_fault};
+ghost use Rattle.ckrt_debug.specs.Session.{Answers, BeginsAt, HasForked, HasMoved, HasSet, IsMotion, IsOfRun, IsOutside, Makes, Names, Reaches, look_in, set_text_in, way_in};
 
 use crate::fault::DebugFault;
 use ckrt_events::Event;
-use ckrt_history::{HistoryFault, Position};
+use ckrt_history::{AppendFault, HistoryFault, Position};
 use ckrt_machine::Machine;
 use ckrt_packets::{Payload, Request};
 use ckrt_playback::{Desk, Playback, Way, tell_state, way_of};
@@ -120,6 +122,53 @@ impl Stub {
                 desk,
             },
             there,
+        ))
+    }
+
+    /// The run's history ends where it stands.
+    pub(crate) fn fork(self) -> Result<Stub, HistoryFault>
+        ensures forked { IfOk result (HasForked self) }
+        ensures refused { IfErr result (λ _.
+            AllAccepted (history_of self.playback).events (history_of self.playback).start → ⊥) }
+    {
+        let Stub {
+            alloc,
+            playback,
+            desk,
+        } = self;
+        let mut history = playback.played()?;
+        history.cut();
+        let playback = Playback::Played(history);
+        Ok(Stub {
+            alloc,
+            playback,
+            desk,
+        })
+    }
+
+    /// Makes one more event behind the last, and shows who was there. Else it is told why not, and then nothing changes.
+    pub(crate) fn append(self, event: Event) -> Result<(Stub, Option<AppendFault>), HistoryFault>
+        requires { IsInRange event }
+        ensures fault { IfOk result (λ r. r.1 ≡ append_fault event (history_of self.playback)) }
+        ensures made { IfOk result (λ r. Makes event r.1 self r.0) }
+        ensures refused { IfErr result (λ _.
+            AllAccepted (history_of self.playback).events (history_of self.playback).start → ⊥) }
+    {
+        let Stub {
+            alloc,
+            playback,
+            mut desk,
+        } = self;
+        let mut history = playback.played()?;
+        let fault = desk.append(&mut history, event);
+        let playback = Playback::Played(history);
+        Ok((
+            Stub {
+                alloc,
+                playback,
+                desk,
+            },
+            fault,
         ))
     }
 

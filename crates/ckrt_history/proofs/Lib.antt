@@ -10,3 +10,4 @@ pub mod SeenLemmas
 pub mod PassLemmas
 pub mod SnapshotLemmas
 pub mod PageLemmas
+pub mod ForkLemmas

@@ -1,5 +1,5 @@
 -- What holds of a machine that goes through events.
-use Rattle.std.specs.Prelude.{◌≡◌, ◌<◌, ◌≤◌, ℕ, List, [], ◌∷◌, length, vec_capacity}
+use Rattle.std.specs.Prelude.{◌≡◌, ◌+◌, ◌<◌, ◌≤◌, ℕ, List, [], ◌∷◌, length, vec_capacity}
 use Rattle.ckrt_events.specs.declared.event.Event.{Event}
 use Rattle.ckrt_state.specs.WellFormed.{IsWellFormed}
 use Rattle.ckrt_machine.specs.Steps.{State}
@@ -8,6 +8,7 @@ use Rattle.ckrt_history.specs.declared.position.Position.{Position}
 use Rattle.ckrt_history.specs.declared.kept.Kept.{Kept}
 use Rattle.ckrt_history.specs.declared.kept.Spare.{Spare}
 use Rattle.ckrt_history.specs.declared.room.Room.{Room}
+use Rattle.ckrt_history.specs.declared.room.TheConstants.{MORE_EVENTS}
 use Rattle.ckrt_history.specs.declared.kept.Snapshot.{Snapshot}
 use Rattle.ckrt_history.specs.Positions.{History, IsPosition, into_run, run_in, state_at, state_before, steps_of}
 
@@ -74,20 +75,24 @@ abbrev pub AreSnapshots : List Snapshot → List Event → State → Type 0
 AreSnapshots [] es s = Unit {0}
 AreSnapshots (k ∷ ks) es s = IsSnapshot k es s × AreSnapshots ks es s
 
--- room for a history of so many events from a state on: the state is kept, and stands at each place for another
-pub record IsRoomFor (count : ℕ) (s : State) (room : Room) : Type 0 where
+-- room for a history of so many events from a state on, and of some more, which have that many places: the state is kept, and stands at
+-- each place for another
+pub record IsRoomFor (count places : ℕ) (s : State) (room : Room) : Type 0 where
   pub start : kept_state room.start ≡ s
   pub kept : (es : List Event) → AreSnapshots room.snapshots.items es s
   pub spare : IsAlike (spare_state room.spare) s
   pub steps : room.steps.items ≡ []
-  pub enough : count ≤ vec_capacity room.steps
+  pub enough : vec_capacity room.steps ≡ count + MORE_EVENTS
+  pub places_are : vec_capacity room.steps ≤ places
 
--- a history's parts between two calls: its machine, the steps of each event, what is kept, and room for a state
+-- a history's parts between two calls: its machine, the steps of each event, what is kept, room for a state, and places for events
 pub record IsWhole (h : History) (m : Machine) (steps : List ℕ) (kept : List Snapshot) (spare : State)
-    : Type 0 where
+    (places : ℕ) : Type 0 where
   pub well_formed : IsWellFormed h.start.tables
   pub at : IsAt m h.position h.events h.start
   pub size : length m.state.bytes ≡ length h.start.bytes
   pub steps_are : steps ≡ steps_through h.events h.start
   pub kept_are : AreSnapshots kept h.events h.start
   pub spare_is : IsAlike spare h.start
+  pub fits : length h.events ≤ h.most
+  pub places_are : h.most ≤ places

@@ -33,8 +33,8 @@ pub fn plan<R: Abort + AllocGlobal>(rt: &R, words: &[u32], steps: u32) -> Vec<Ev
 /// The history of a guest by its schedule, with room for so many states.
 pub fn history_of<R: Abort + AllocGlobal>(rt: &R, words: &[u32], steps: u32, kept: u32) -> History {
     let machine = machine_of(rt, words);
-    let events = plan(rt, words, steps);
-    let room = Room::new(rt.alloc(), &machine, events.len(), kept).expect(
+    let mut events = plan(rt, words, steps);
+    let room = Room::new(rt.alloc(), &machine, &mut events, kept).expect(
         rt,
         "memory for a history",
     );

@@ -1,5 +1,7 @@
 //! What a session has beside the run: what gdb said last, its stops, and what bounds its motions.
 ghost use Rattle.std.specs.Prelude.{◌≡◌, ◌≤◌, ◌↔◌, IfSome, IsNone, IsSome, IsTrue, true, false};
+ghost use Rattle.ckrt_events.specs.Bytes.{IsInRange};
+ghost use Rattle.ckrt_history.specs.Forks.{append_fault, with_event};
 ghost use Rattle.ckrt_history.specs.Positions.{IsPosition};
 ghost use Rattle.ckrt_playback.specs.Playback.{HasPlace, position_of};
 ghost use Rattle.ckrt_history.specs.Stops.{widths};
@@ -19,7 +21,8 @@ use crate::marks::{Marked, insert, remove};
 use crate::threads::is_shown;
 use crate::told::{first_view, next_or, shown, standing_in};
 use crate::view::View;
-use ckrt_history::{History, Position, Stops};
+use ckrt_events::Event;
+use ckrt_history::{AppendFault, History, Position, Stops};
 use ckrt_packets::{Choice, Payload, Reply, Request};
 use ckrt_thread::Threads;
 
@@ -174,5 +177,24 @@ impl Desk {
         let position = place_of(history, self.first, events, steps)?;
         self.bounds.until = Some(position);
         Some(position)
+    }
+
+    /// Makes one more event behind the last, and shows whose step was next. Else it is told why not, and then nothing changes.
+    pub fn append(&mut self, history: &mut History, event: Event) -> Option<AppendFault>
+        requires { IsInRange event }
+        ensures stops { self.new.stops ≡ self.old.stops }
+        ensures kept { (self.new.bounds ≡ self.old.bounds) × (self.new.first ≡ self.old.first) }
+        ensures fault { result ≡ append_fault event history.old }
+        ensures made { IsNone result → (history.new ≡ with_event event history.old)
+            × (self.new.view
+            ≡ standing_in self.old.view (next_or self.old.view.last.thread history.new)) }
+        ensures nothing { IsSome result
+            → (history.new ≡ history.old) × (self.new.view ≡ self.old.view) }
+    {
+        if let Err(fault) = history.append(event) {
+            return Some(fault);
+        }
+        self.view = standing_in(&self.view, next_or(history, self.view.last.thread));
+        None
     }
 }

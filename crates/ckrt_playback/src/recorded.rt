@@ -22,7 +22,7 @@ pub struct Recorded {
 }
 
 impl Model for Recorded {
-    ghost use Rattle.std.specs.Prelude.{length};
+    ghost use Rattle.std.specs.Prelude.{length, vec_capacity};
     ghost use Rattle.ckrt_history.specs.Engine.{IsRoomFor};
     ghost use Rattle.ckrt_playback.specs.Recorded.{Run};
 
@@ -30,7 +30,8 @@ impl Model for Recorded {
 
     ghost view = { λ r. record { start = r.machine.state; events = r.events.items } };
 
-    ghost invariant = { λ r. IsRoomFor (length r.events.items) r.machine.state r.room };
+    ghost invariant = { λ r.
+        IsRoomFor (length r.events.items) (vec_capacity r.events) r.machine.state r.room };
 }
 
 impl Recorded {
@@ -39,7 +40,8 @@ impl Recorded {
         ensures { IfOk result
             (λ run. run ≡ record { start = machine.state; events = events.items }) }
     {
-        let room = Room::new(alloc, &machine, events.len(), STATES)?;
+        let mut events = events;
+        let room = Room::new(alloc, &machine, &mut events, STATES)?;
         Ok(Recorded {
             machine,
             events,

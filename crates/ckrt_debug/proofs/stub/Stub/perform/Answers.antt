@@ -60,6 +60,28 @@ returns-in-Inspect-clause-refused c = never_refused c.tell_listing.result c.tell
 pub returns-in-Inspect-clause-fault : goal.returns-in-Inspect-clause-fault
 returns-in-Inspect-clause-fault c = only_memory c.tell_listing.result c.tell_listing.ensures.fault
 
+pub returns-in-Fork-clause-does : goal.returns-in-Fork-clause-does
+returns-in-Fork-clause-does c =
+    subst (λ (k : Command). IfOk c.end_here.result (λ stub. (console : List ℕ) × Does k c.args.self stub console × (c.end_here.new.out.items ≡ c.args.out.now.items ++ console)))
+    (sym c.in-Fork.is) c.end_here.ensures.does
+
+pub returns-in-Fork-clause-refused : goal.returns-in-Fork-clause-refused
+returns-in-Fork-clause-refused c = c.end_here.ensures.refused
+
+pub returns-in-Fork-clause-fault : goal.returns-in-Fork-clause-fault
+returns-in-Fork-clause-fault c = c.end_here.ensures.fault
+
+pub returns-in-Append-clause-does : goal.returns-in-Append-clause-does
+returns-in-Append-clause-does c =
+    subst (λ (k : Command). IfOk c.make_by.result (λ stub. (console : List ℕ) × Does k c.args.self stub console × (c.make_by.new.out.items ≡ c.args.out.now.items ++ console)))
+    (sym c.in-Append.is) c.make_by.ensures.does
+
+pub returns-in-Append-clause-refused : goal.returns-in-Append-clause-refused
+returns-in-Append-clause-refused c = c.make_by.ensures.refused
+
+pub returns-in-Append-clause-fault : goal.returns-in-Append-clause-fault
+returns-in-Append-clause-fault c = c.make_by.ensures.fault
+
 pub returns-in-Help-clause-does : goal.returns-in-Help-clause-does
 returns-in-Help-clause-does c =
     subst (λ (k : Command). IfOk c.tell_help.result (λ stub. (console : List ℕ) × Does k c.args.self stub console × (c.tell_help.new.out.items ≡ c.args.out.now.items ++ console)))
