@@ -13,6 +13,7 @@ from random import Random
 from abi import KEY_CALLS, Call
 from call_lines import History, kind_of_line
 from cases import KINDS, case_of
+from debugged import DebuggedCase, difference_of_debugged
 from drive_cases import DrivesCase, difference_of_drives
 from formats import FormatCase
 from halts import HaltsCase, difference_of_halts
@@ -228,6 +229,8 @@ def first_difference(ckrt, case, folder, tally, count_life):
     match case:
         case FormatCase():
             return difference_of_format(ckrt, case, folder, tally)
+        case DebuggedCase():
+            return difference_of_debugged(ckrt, case, path, tally)
         case HuntsCase():
             return difference_of_hunts(ckrt, case, folder, tally)
         case WordsCase():

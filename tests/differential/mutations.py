@@ -16,8 +16,9 @@ FIRST = {"lives.py": "test_lives", "foreseen.py": "test_lives", "ledger.py": "te
          "key_calls.py": "test_keys", "events.py": "test_long_runs", "plans.py": "test_plans",
          "feeding.py": "test_feeding", "driven.py": "test_feeding", "call_lines.py": "test_call_lines", "recorded.py": "test_call_lines",
          **dict.fromkeys(["clocks.py", "accesses.py", "orders.py", "races.py"], "test_races"),
-         **dict.fromkeys(["stretches.py", "timelines.py", "pictures.py"], "test_timelines"), "hunts.py": "test_hunts"}
-TESTS = ["test_plans", "test_feeding", "test_calls", "test_call_lines", "test_races", "test_timelines", "test_hunts", "test_keys", "test_long_runs", "test_listings", "test_rows", "test_tables", "test_texts", "test_fates", "test_lives", "test_stops"]
+         **dict.fromkeys(["stretches.py", "timelines.py", "pictures.py"], "test_timelines"), "hunts.py": "test_hunts",
+         **dict.fromkeys(["stubs.py", "debugged.py"], "test_stubs")}
+TESTS = ["test_plans", "test_feeding", "test_calls", "test_call_lines", "test_races", "test_timelines", "test_hunts", "test_stubs", "test_keys", "test_long_runs", "test_listings", "test_rows", "test_tables", "test_texts", "test_fates", "test_lives", "test_stops"]
 MUTATIONS = [
     ("plans.py", "place = count % round_length(machine)", "place = 0"),
     ("plans.py", "if place == 2 * machine.hart_count:", "if place == 2 * machine.hart_count - 1:"),
@@ -407,6 +408,21 @@ MUTATIONS = [
     ("hunts.py", 'WaitKind.RETAKE: "mutex {}"', 'WaitKind.RETAKE: "condition {}"'),
     ("hunts.py", "enumerate(sorted(first, key=first.get), 1)", "enumerate(sorted(first), 1)"),
     ("hunts.py", "for seed, outcome in reversed(outcomes.items())", "for seed, outcome in outcomes.items()"),
+    ("stubs.py", "sum(payload.encode()) % 256", "sum(payload.encode()) % 255"),
+    ("stubs.py", " if step else str(event)", ""),
+    ("stubs.py", "MOST_BYTES = 2048", "MOST_BYTES = 4000"),
+    ("stubs.py", "[*thread.registers, thread.pc]", "[thread.pc, *thread.registers]"),
+    ("stubs.py", "word.to_bytes(4, \"little\")", "word.to_bytes(4, \"big\")"),
+    ("stubs.py", 'WaitKind.RETAKE: f"waits again for', 'WaitKind.RETAKE: f"waits for'),
+    ("stubs.py", " of thread {owner}\", WaitKind.CONDITION", "\", WaitKind.CONDITION"),
+    ("stubs.py", " + (f\", until {wait.deadline}\" if wait.deadline is not None else \"\")", ""),
+    ("stubs.py", "if number in machine.harts else \"ready\"", "if True else \"ready\""),
+    ("stubs.py", "lines_of_state(self.position[0], machine", "lines_of_state(self.position[0] + 1, machine"),
+    ("stubs.py", "        self.visit((self.event, step), machine)\n", "        self.visit((self.event, step + 1), machine)\n"),
+    ("stubs.py", "return expected is None or (expected[1] == got[1] and", "return expected is None or (True and"),
+    ("stubs.py", " and expected[0] in (None, got[0]))", ")"),
+    ("debugged.py", " and there[0].startswith(NOWHERE):", ":"),
+    ("debugged.py", "if len(got) != len(expected):", "if False:"),
     ("pictures.py", "if read_row(row) != pieces:", "if len(read_row(row)) != len(pieces):"),
     ("pictures.py", "if abs(at - place) > ROUNDING + length:", "if False:"),
     ("pictures.py", "not set(numbers) <= set(steps) or ", ""),

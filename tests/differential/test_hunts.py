@@ -70,6 +70,7 @@ class Counts(WithKeys):
     def test_steps(self):
         folded = fold(recording_of([(2, load()), (1, locked([]))], threads=1))
         self.assertEqual((folded.steps, folded.events, bytes(folded.output)), (16, 6, b""))
+        self.assertEqual(fold(recording_of([(2, [*call(Call.GETC), *load()])], threads=1)).steps, 9)
 
 
 class Tables(unittest.TestCase):
