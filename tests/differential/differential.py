@@ -25,6 +25,7 @@ from layout import Geometry, format_disk
 from lines import serve_disk
 from listing import OutOfRange, listing
 from mixed_cases import MixedCase, difference_of_mixed
+from moved import MovedCase, difference_of_moved
 from recovery import Unrecovered
 from streams import joined
 from switches import SWITCHES
@@ -229,6 +230,8 @@ def first_difference(ckrt, case, folder, tally, count_life):
     match case:
         case FormatCase():
             return difference_of_format(ckrt, case, folder, tally)
+        case MovedCase():
+            return difference_of_moved(ckrt, case, path, tally)
         case DebuggedCase():
             return difference_of_debugged(ckrt, case, path, tally)
         case HuntsCase():

@@ -17,8 +17,9 @@ FIRST = {"lives.py": "test_lives", "foreseen.py": "test_lives", "ledger.py": "te
          "feeding.py": "test_feeding", "driven.py": "test_feeding", "call_lines.py": "test_call_lines", "recorded.py": "test_call_lines",
          **dict.fromkeys(["clocks.py", "accesses.py", "orders.py", "races.py"], "test_races"),
          **dict.fromkeys(["stretches.py", "timelines.py", "pictures.py"], "test_timelines"), "hunts.py": "test_hunts",
-         **dict.fromkeys(["stubs.py", "debugged.py"], "test_stubs")}
-TESTS = ["test_plans", "test_feeding", "test_calls", "test_call_lines", "test_races", "test_timelines", "test_hunts", "test_stubs", "test_keys", "test_long_runs", "test_listings", "test_rows", "test_tables", "test_texts", "test_fates", "test_lives", "test_stops"]
+         **dict.fromkeys(["stubs.py", "debugged.py"], "test_stubs"),
+         **dict.fromkeys(["motions.py", "moved.py"], "test_motions")}
+TESTS = ["test_plans", "test_feeding", "test_calls", "test_call_lines", "test_races", "test_timelines", "test_hunts", "test_stubs", "test_motions", "test_keys", "test_long_runs", "test_listings", "test_rows", "test_tables", "test_texts", "test_fates", "test_lives", "test_stops"]
 MUTATIONS = [
     ("plans.py", "place = count % round_length(machine)", "place = 0"),
     ("plans.py", "if place == 2 * machine.hart_count:", "if place == 2 * machine.hart_count - 1:"),
@@ -423,6 +424,16 @@ MUTATIONS = [
     ("stubs.py", " and expected[0] in (None, got[0]))", ")"),
     ("debugged.py", " and there[0].startswith(NOWHERE):", ":"),
     ("debugged.py", "if len(got) != len(expected):", "if False:"),
+    ("motions.py", "if step.before >= place and answers:", "if step.before > place and answers:"),
+    ("motions.py", "        if step.before > place:\n", "        if step.before >= place:\n"),
+    ("motions.py", "step.place in stops.places and step.before < place:", "step.place in stops.places and step.before <= place:"),
+    ("motions.py", "        if step.behind <= place:\n", "        if step.behind < place:\n"),
+    ("motions.py", "(max(reasons), reasons[max(reasons)])", "(min(reasons), reasons[min(reasons)])"),
+    ("motions.py", "set(range(address, address + length))]", "set(range(address, address + 4))]"),
+    ("motions.py", "if machine.memory.load(address, 1) != byte)", "if True)"),
+    ("motions.py", "self.steps[-1].behind = self.steps[-1].before[0] + 1, 0", "self.steps[-1].behind = self.steps[-1].before[0], self.steps[-1].before[1] + 1"),
+    ("motions.py", 'Cause.ILLEGAL: "04"', 'Cause.ILLEGAL: "05"'),
+    ("moved.py", "expected[0] in (BEGIN, END) and payload.startswith(expected[0])", "payload[:12] == expected[0][:12]"),
     ("pictures.py", "if read_row(row) != pieces:", "if len(read_row(row)) != len(pieces):"),
     ("pictures.py", "if abs(at - place) > ROUNDING + length:", "if False:"),
     ("pictures.py", "not set(numbers) <= set(steps) or ", ""),
