@@ -7,16 +7,21 @@ from assembler import call_words, image_of, jump_form
 from call_by_call import Script, flavour_of
 from computations import computation
 from damage import Damage
+from debugged import debugged_case
 from drive_cases import drives_case
 from formats import format_case
+from glances import races_case, timelines_case
 from guests import Guest
 from halts import halts_case
 from histories import histories_case
+from hunted import hunts_case
 from input_cases import inputs_case
 from layout import Geometry, format_disk
 from limits import limit_case
 from mixed_cases import mixed_case
+from moved import moved_case
 from saved_disks import ChangedArea, asks, serve_and_save, stopped_disk, with_checkpoints
+from sharers import Sharer
 from streams import joined, last_lines, malformed_line, mangled, random_lines, with_long_runs
 from switches import SWITCHES
 from traced_cases import cuts_case, fates_case, listings_case, lists_case, parts_case
@@ -189,6 +194,19 @@ def checkpoints_case(chance, seed):
     return case
 
 
+def sharers_case(chance):
+    """Several threads that share words, run in turn."""
+    guest = Sharer(chance)
+    geometry = Geometry(16, chance.choice([1, 2, 2, 3, 8]), 65536)
+    lines = [line for _ in range(chance.choice([1, 2, 4])) for line in [*random_lines(chance, geometry.harts), b"tick 20"]]
+    return Case(geometry, guest.image, [joined(chance, lines)], version=disk_version(chance))
+
+
+def of_sharers(kind, share):
+    """A kind whose cases are made of a case of these threads, for this share of them, or of a guest's case."""
+    return lambda chance, seed: kind(chance, sharers_case(chance) if chance.random() < share else guest_case(chance, seed))
+
+
 def of_guest(kind):
     """A kind whose cases are made of a guest's case."""
     return lambda chance, seed: kind(chance, guest_case(chance, seed))
@@ -199,7 +217,8 @@ KINDS = {
     "disks": disks_case, "killed": killed_case, "limits": limits_case, "saved": saved_case, "tables": tables_case,
     "stopped": stopped_case, "checkpoints": checkpoints_case, "formats": format_case, "lists": of_guest(lists_case),
     "fates": of_guest(fates_case), "parts": of_guest(parts_case), "listings": of_guest(listings_case), "cuts": cuts_case,
-    "histories": of_guest(histories_case),
+    "histories": of_guest(histories_case), "races": of_sharers(races_case, 0.9), "timelines": of_sharers(timelines_case, 0.4),
+    "hunts": hunts_case, "debugged": of_sharers(debugged_case, 0.4), "moved": of_sharers(moved_case, 0.8),
     "words": words_case, "drives": of_guest(drives_case), "halts": of_guest(halts_case),
     "inputs": of_guest(inputs_case), "mixed": of_guest(mixed_case),
 }

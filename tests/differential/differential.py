@@ -13,15 +13,19 @@ from random import Random
 from abi import KEY_CALLS, Call
 from call_lines import History, kind_of_line
 from cases import KINDS, case_of
+from debugged import DebuggedCase, difference_of_debugged
 from drive_cases import DrivesCase, difference_of_drives
 from formats import FormatCase
 from halts import HaltsCase, difference_of_halts
-from histories import HistoriesCase
+from glances import RacesCase, TimelinesCase, difference_of_races, difference_of_timelines
+from histories import HistoriesCase, is_turned
+from hunted import HuntsCase, difference_of_hunts
 from input_cases import InputsCase, difference_of_inputs
 from layout import Geometry, format_disk
 from lines import serve_disk
 from listing import OutOfRange, listing
 from mixed_cases import MixedCase, difference_of_mixed
+from moved import MovedCase, difference_of_moved
 from recovery import Unrecovered
 from streams import joined
 from switches import SWITCHES
@@ -91,11 +95,6 @@ def calls_of_model(history, stretch):
         return Life(0, "".join(line + "\n" for line in history.lines(*stretch)).encode(), b"")
     except OutOfRange as fault:
         return Life(1, b"", f"ckrt: {fault}\n".encode())
-
-
-def is_turned(first, last):
-    """Whether a stretch would end before it begins: such words are refused before the disk is opened."""
-    return first is not None and last is not None and last < first
 
 
 def calls_of_program(ckrt, path, stretch):
@@ -231,6 +230,12 @@ def first_difference(ckrt, case, folder, tally, count_life):
     match case:
         case FormatCase():
             return difference_of_format(ckrt, case, folder, tally)
+        case MovedCase():
+            return difference_of_moved(ckrt, case, path, tally)
+        case DebuggedCase():
+            return difference_of_debugged(ckrt, case, path, tally)
+        case HuntsCase():
+            return difference_of_hunts(ckrt, case, folder, tally)
         case WordsCase():
             return difference_of_words(ckrt, case, folder, tally)
         case HaltsCase():
@@ -245,6 +250,10 @@ def first_difference(ckrt, case, folder, tally, count_life):
             return difference_of_listings(ckrt, case, path, tally)
         case HistoriesCase():
             return difference_of_histories(ckrt, case, path, tally)
+        case TimelinesCase():
+            return difference_of_timelines(ckrt, case, path, tally)
+        case RacesCase():
+            return difference_of_races(ckrt, case, path, tally)
         case LivesCase():
             return difference_of_stops(ckrt, case, path, tally, count_life)
         case CutCase():

@@ -31,7 +31,7 @@ class Guest:
         self.chance, self.slots = chance, 0
         self.starts = [f"start {number}" for number in range(chance.choice([1, 2, 3, 3, 4]))]
         self.handlers = [f"handler {number}" for number in range(chance.choice([1, 2, 3]))]
-        self.weights = theme_weights()
+        self.weights = self.theme_weights()
         if chance.random() < 0.5:
             kept = chance.sample(list(self.weights)[:-1], chance.choice([1, 2, 2, 3]))
             self.weights = {theme: weight * (8 if theme in kept else 0.5) for theme, weight in self.weights.items()}
@@ -43,6 +43,9 @@ class Guest:
             self.add_handler(name)
         self.add_dump()
         self.image = image_of(self.program.words())
+
+    def theme_weights(self):
+        return theme_weights()
 
     def moment(self):
         low = self.chance.choice([0, 1, 2, 3, 5, 8, 12, 20, 30, 100])

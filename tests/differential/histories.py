@@ -47,11 +47,20 @@ def recorded_disk(chance, case):
     return disk
 
 
-def histories_case(chance, case):
-    """A disk, told whole, in parts that begin or end anywhere, and in stretches that it mostly hasn't."""
-    disk = recorded_disk(chance, case)
+def drawn_stretches(chance, disk):
+    """The whole, parts that begin or end anywhere, and stretches that a disk mostly hasn't."""
     first, whole = ends_of_history(disk)
     begin, end, *both = (chance.randrange(first, whole + 1) for _ in range(4))
     outside = [max(first - 1, 0), whole + 1, chance.choice([0, 2 ** 32, 2 ** 64 - 1])]
     odd = [(chance.choice(outside), None), (None, chance.choice(outside)), (chance.choice(outside), whole), (whole, first)]
-    return HistoriesCase(bytes(disk), [(None, None), (begin, None), (None, end), tuple(sorted(both)), *chance.sample(odd, 2)])
+    return [(None, None), (begin, None), (None, end), tuple(sorted(both)), *chance.sample(odd, 2)]
+
+
+def is_turned(first, last):
+    """Whether a stretch would end before it begins: such words are refused before the disk is opened."""
+    return first is not None and last is not None and last < first
+
+
+def histories_case(chance, case):
+    disk = recorded_disk(chance, case)
+    return HistoriesCase(bytes(disk), drawn_stretches(chance, disk))

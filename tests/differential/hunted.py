@@ -1,0 +1,90 @@
+"""Cases of `ckrt hunt`: guests whose threads mostly end or stand still, and seeds; each seed's run is kept, and its disk looked at."""
+import re
+import subprocess
+from dataclasses import dataclass
+
+from abi import Call
+from assembler import STOP, Jump, call_words, image_of
+from guests import RETURN
+from hunts import Options, fold, line_of_kept, lines_of_table, text_of_outcome
+from sharers import Sharer
+from stretches import Recording
+
+TIME_LIMIT = 60
+SEVERAL = 8  # the status where there are several outcomes
+LAST_SEED = 2 ** 64 - 2
+
+
+class Hunted(Sharer):
+    """Nobody sleeps till the end of time to print, hardly anybody reads, and most loops are left by a return."""
+
+    def __init__(self, chance):
+        super().__init__(chance)
+        is_endless = chance.random() < 0.2
+        items = [item if is_endless or not (item == STOP or isinstance(item, Jump)) else RETURN for item in self.program.items]
+        self.program.items = items
+        self.image = image_of(self.program.words())
+
+    def theme_weights(self):
+        return {**super().theme_weights(), "stream": 0.2, "odd": 0.4}
+
+    def add_dump(self):
+        self.program.label("dump")
+        self.program.add(call_words(Call.PUTC, 68) + call_words(Call.THREAD_EXIT, 0))
+
+
+@dataclass
+class HuntsCase:
+    image: bytes
+    seeds: range
+    options: Options
+
+    def disk(self):
+        """None is given."""
+        return b""
+
+
+def hunts_case(chance, seed):
+    options = Options(chance.choice([16, 17]), chance.choice([1, 1, 2, 3]), chance.choice([50, 500, 3000, 3000]))
+    first = chance.choice([1, chance.randrange(1000), chance.randrange(LAST_SEED - 9), LAST_SEED - 4])
+    return HuntsCase(Hunted(chance).image, range(first, first + chance.choice([1, 3, 5])), options)
+
+
+def hunt(ckrt, folder, seeds, options, *more):
+    """The status, and the lines; the image is in the folder."""
+    words = [ckrt, "hunt", "image", "--seeds", f"{seeds[0]}-{seeds[-1]}", *options.words().split(), *more]
+    done = subprocess.run(words, cwd=folder, capture_output=True, timeout=TIME_LIMIT, text=True)
+    return done.returncode, done.stdout.splitlines()
+
+
+def difference_of_kept(ckrt, case, folder, seed):
+    """The outcome by the kept disk, and None or where that and the lines differ."""
+    disk = folder / "kept"
+    disk.unlink(missing_ok=True)
+    status, lines = hunt(ckrt, folder, [seed], case.options, "--keep", "kept")
+    recording = Recording(bytearray(disk.read_bytes()))
+    if recording.first or bytes(recording.machine.memory.bytes).rstrip(b"\0") != case.image.rstrip(b"\0"):
+        return None, f"a disk of {recording.first} events at its begin, or of another image"
+    folded = fold(recording)
+    outcome, drawn = text_of_outcome(folded, case.options.steps), re.search(r"drawn with (\d+)$", lines[-1])
+    if drawn is None or int(drawn[1]) < folded.switches:
+        return outcome, f"{folded.switches} switches: {lines[-1]}"
+    expected = [*lines_of_table("image", {seed: outcome}, case.options), line_of_kept(seed, folded.switches, drawn[1])]
+    most = max(folded.steps, folded.events)
+    if most > case.options.steps or (outcome.startswith("no end") and most < case.options.steps):
+        return outcome, f"{outcome}: {folded.steps} steps and {folded.events} events"
+    return outcome, None if (status, lines) == (0, expected) else f"model {expected}, program {status} {lines}"
+
+
+def difference_of_hunts(ckrt, case, folder, tally):
+    """None, or where they differ: by each kept disk, or in the table of all seeds."""
+    (folder / "image").write_bytes(case.image)
+    outcomes = {}
+    for seed in case.seeds:
+        outcomes[seed], difference = difference_of_kept(ckrt, case, folder, seed)
+        if difference:
+            return f"seed {seed}: {difference}"
+        tally["outcome of a hunt", outcomes[seed].split(",")[0].split()[0]] += 1
+    expected = SEVERAL if len(set(outcomes.values())) > 1 else 0, lines_of_table("image", outcomes, case.options)
+    shown = hunt(ckrt, folder, case.seeds, case.options)
+    return None if shown == expected else f"table: model {expected}, program {shown}"

@@ -1,0 +1,94 @@
+"""What `ckrt hunt` tells of runs: what the events of a kept disk come to, how many switches they have, and the table of several seeds."""
+from collections import Counter
+from copy import deepcopy
+from dataclasses import dataclass, field
+from hashlib import sha256
+
+from events import Run
+from listing import CAUSES, address_text
+from machine import Machine
+from processor import Cause
+from threads import Status, WaitKind
+
+DIGITS = 8  # of a digest
+AWAITED = {WaitKind.JOIN: "the end of thread {}", WaitKind.LOCK: "mutex {}", WaitKind.RETAKE: "mutex {}", WaitKind.CONDITION: "condition {}",
+           WaitKind.BARRIER: "barrier {}", WaitKind.READ: "read lock {}", WaitKind.WRITE: "write lock {}"}
+
+
+@dataclass
+class Folded:
+    """A machine behind events, what they put, and how many steps and switches they have."""
+    machine: Machine
+    output: bytearray = field(default_factory=bytearray)
+    events: int = 0
+    steps: int = 0
+    switches: int = 0
+    running: int | None = None  # the thread of the last run
+
+    def take(self, event):
+        """A switch is a run of another thread than the run before."""
+        if isinstance(event, Run):
+            thread = self.machine.harts[event.hart]
+            self.switches += self.running not in (None, thread)
+            self.running = thread
+        reply, put = self.machine.step(event)
+        self.output += put
+        self.events += 1
+        self.steps += int(reply.split()[1]) if isinstance(event, Run) else 0
+
+
+def fold(recording):
+    folded = Folded(deepcopy(recording.machine))
+    for event in recording.events:
+        folded.take(event)
+    return folded
+
+
+def text_of_awaited(wait):
+    return f"thread {wait.thread} waits for " + AWAITED[wait.kind].format(
+        wait.subject if wait.kind is WaitKind.JOIN else address_text(wait.subject))
+
+
+def text_of_outcome(folded, limit):
+    """Of a run that was broken off at so many steps or events, if nothing else came first."""
+    machine = folded.machine
+    if machine.status is Status.EXITED:
+        return f"exit {machine.status_word}, output {sha256(folded.output).hexdigest()[:DIGITS]}"
+    if machine.status is Status.FAULTED:
+        return f"fault of thread {machine.fault_thread} at {address_text(machine.status_word)}, {CAUSES[Cause(machine.fault_cause)]}"
+    if any(map(machine.is_ready, machine.threads)) or any(wait.deadline is not None for wait in machine.waits):
+        return f"no end within {limit} steps or events"
+    if machine.waits_for_input():
+        return "waits for input"
+    return "deadlock, " + ", ".join(text_of_awaited(wait) for wait in sorted(machine.waits, key=lambda wait: wait.thread))
+
+
+@dataclass(frozen=True)
+class Options:
+    """Of a hunt, but for its seeds."""
+    pages: int
+    harts: int
+    steps: int
+
+    def words(self):
+        return f"--pages {self.pages} --harts {self.harts} --steps {self.steps}"
+
+
+def command_of(image, seed, options):
+    """The one that has a seed's outcome again, and keeps it."""
+    return f"ckrt hunt {image} --seeds {seed}-{seed} {options.words()} --keep seed-{seed}.disk"
+
+
+def lines_of_table(image, outcomes, options):
+    """Of the outcomes by seed, in the order of the seeds: each outcome once, with how often it came and by which seed first."""
+    first = {outcome: seed for seed, outcome in reversed(outcomes.items())}
+    counts, lines = Counter(outcomes.values()), []
+    for number, outcome in enumerate(sorted(first, key=first.get), 1):
+        seed = first[outcome]
+        lines += [f"outcome {number}: {counts[outcome]} of {len(outcomes)} runs, first by seed {seed}: {outcome}",
+                  f"    {command_of(image, seed, options)}"]
+    return lines
+
+
+def line_of_kept(seed, switches, drawn):
+    return f"kept: the run of seed {seed}, switches: {switches}, drawn with {drawn}"

@@ -1,0 +1,92 @@
+"""Cases of motions in `ckrt debug`: a disk, breakpoints and watches of what its run does, and ways on and back from some positions."""
+import subprocess
+from dataclasses import dataclass
+
+from debugged import TIME_LIMIT
+from glances import recording_of
+from histories import recorded_disk
+from motions import BEGIN, END, Steps, Stops, backward, onward
+from stubs import answers_in, frame, monitor, position_text
+
+MOTIONS = {"vCont;c": onward, "bc": backward}
+
+
+@dataclass
+class MovedCase:
+    """The ways are lists of motions, each from a position."""
+    contents: bytes
+    stops: Stops
+    ways: list
+
+    def disk(self):
+        return bytearray(self.contents)
+
+
+def steps_of(recording):
+    looker = recording.show(Steps())
+    looker.end_event()
+    return looker.steps
+
+
+def moved_case(chance, case):
+    disk = recorded_disk(chance, case)
+    recording, fault = recording_of(disk)
+    steps = [] if fault else steps_of(recording)
+    if not steps:
+        return MovedCase(bytes(disk), Stops([], []), [])
+    changed = sorted({address for step in steps for address in step.changed}) or [0x2000]
+    places = chance.sample(sorted({step.place for step in steps if step.place % 4 == 0}), chance.choice([0, 1, 1]))
+    watches = [(chance.choice(changed) - chance.choice([0, 0, 1]), chance.choice([1, 1, 2, 4])) for _ in range(chance.choice([0, 1, 1, 2]))]
+    ways = [(chance.choice(steps).before, chance.choices(list(MOTIONS), k=chance.choice([1, 2, 4]))) for _ in range(3)]
+    ways += [((recording.first, 0), ["vCont;c"] * 3), ((recording.whole, 0), ["bc"] * 2)]
+    return MovedCase(bytes(disk), Stops(places, watches), ways)
+
+
+def packets_of(case):
+    """Behind each motion it is asked where the session stands."""
+    asked = []
+    for place, motions in case.ways:
+        asked.append(monitor(f"goto {position_text(place)}"))
+        for motion in motions:
+            asked += [motion, monitor("events")]
+    return ["QStartNoAckMode", *case.stops.packets(), *asked, "D"]
+
+
+def expected_motions(case, recording):
+    """Of each motion the text that tells where it comes to, and the answers that may come; None for all else that is asked."""
+    steps, ends = steps_of(recording), ((recording.first, 0), (recording.whole, 0))
+    expected = [None] * (1 + len(case.stops.packets()))
+    for place, motions in case.ways:
+        expected.append(None)
+        for motion in motions:
+            place, answers = MOTIONS[motion](steps, case.stops, place, ends[motion == "vCont;c"])
+            expected += [answers, f"event {position_text(place)}, from {recording.first} to {recording.whole}\n"]
+    return expected + [None]
+
+
+def is_as_expected(expected, got):
+    """At the ends of the history no page tells which thread is named."""
+    told, payload = got
+    match expected:
+        case None:
+            return payload == "OK"
+        case str():
+            return (told, payload) == (expected, "OK")
+    return payload in expected or (expected[0] in (BEGIN, END) and payload.startswith(expected[0]))
+
+
+def difference_of_moved(ckrt, case, path, tally):
+    """None, or the first packet whose answer isn't as expected."""
+    path.write_bytes(case.contents)
+    recording, fault = recording_of(case.contents)
+    if fault:
+        return None
+    packets, expected = packets_of(case), expected_motions(case, recording)
+    done = subprocess.run([ckrt, "debug", path], input=b"".join(map(frame, packets)), capture_output=True, timeout=TIME_LIMIT)
+    got = answers_in(done.stdout)
+    for number, (packet, wanted, there) in enumerate(zip(packets, expected, got)):
+        if isinstance(wanted, list):
+            tally["motion", f"{packet} {there[1].partition(':')[0].partition('thread')[0]}"] += 1
+        if not is_as_expected(wanted, there):
+            return f"packet {number}, {packet}: model {wanted}, program {there}"
+    return None if len(got) == len(expected) else f"{len(expected)} answers of the model, {len(got)} of the program"

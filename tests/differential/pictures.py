@@ -1,0 +1,54 @@
+"""A picture of `ckrt timeline`, read back: its width, the pieces of each row, and the numbers of events below."""
+from xml.etree import ElementTree
+
+from timelines import title_of
+
+SVG = "{http://www.w3.org/2000/svg}"
+ROUNDING = 1  # pixel
+
+
+def read_row(row):
+    """Its pieces: place and length in the row's own measure, which is steps; category, title, and whether it is a thin line."""
+    whole = float(row.get("height"))
+    return [(int(piece.get("x")), int(piece.get("width")), piece.get("class"), piece.find(f"{SVG}title").text,
+             float(piece.get("height")) < whole) for piece in row.findall(f"{SVG}rect")]
+
+
+def drawn_row(number, pieces):
+    """What a row of the model has."""
+    return [(piece.start, piece.steps, piece.activity.category, title_of(number, piece), piece.activity.category == "ready")
+            for piece in pieces]
+
+
+def difference_of_rows(rows, timeline):
+    """None, or where rows or pieces differ. A row is as long as all steps."""
+    wanted = [drawn_row(number, pieces) for number, pieces in sorted(timeline.pieces.items())]
+    for pieces, row in zip(wanted, rows):
+        if read_row(row) != pieces:
+            unlike = next((pair for pair in zip(pieces, read_row(row)) if pair[0] != pair[1]), (len(pieces), len(read_row(row))))
+            return "model {}, program {}".format(*unlike)
+        if row.get("viewBox").split()[::2] != ["0", str(timeline.steps)]:
+            return f"a row from and to {row.get('viewBox')}, model {timeline.steps} steps"
+    return None if len(rows) == len(wanted) else f"{len(wanted)} rows of the model, {len(rows)} of the program"
+
+
+def difference_of_ticks(picture, rows, timeline):
+    """Events have their numbers where they begin, to a pixel and less than a step; of many some, by their order."""
+    ticks = [(int(tick.text), float(tick.get("x"))) for tick in picture.findall(f"{SVG}text") if tick.get("text-anchor") == "middle"]
+    steps, numbers = dict(timeline.events), [number for number, _ in ticks]
+    if not set(numbers) <= set(steps) or sorted(set(numbers)) != numbers or bool(numbers) != bool(steps):
+        return f"numbers {numbers}, model {list(steps)}"
+    for number, at in ticks if rows else ():
+        length = float(rows[0].get("width")) / timeline.steps
+        place = float(rows[0].get("x")) + steps[number] * length
+        if abs(at - place) > ROUNDING + length:
+            return f"event {number} at {at}, model {place}"
+    return None
+
+
+def difference_of_picture(text, width, timeline):
+    picture = ElementTree.fromstring(text)
+    if picture.get("width") != str(width):
+        return f"a picture of width {picture.get('width')}"
+    rows = picture.findall(f"{SVG}svg")
+    return difference_of_rows(rows, timeline) or difference_of_ticks(picture, rows, timeline)

@@ -1,0 +1,89 @@
+"""Hunts: outcomes of small guests by hand, switches, and the table."""
+import unittest
+from hashlib import sha256
+
+from abi import Call
+from hunts import Options, fold, lines_of_table, text_of_outcome
+from switches import switched
+from test_races import call, load, locked, recording_of
+
+LOCK = Call.MUTEX_LOCK
+WAITS = [  # of thread 2, how it is told
+    (call(LOCK, 0x2000), "mutex 00002000"),
+    ([*call(LOCK, 0x2004), *call(Call.COND_WAIT, 0x3000, 0x2004)], "condition 00003000"),
+    (call(Call.BARRIER_WAIT, 0x4000), "barrier 00004000"), (call(Call.RWLOCK_RDLOCK, 0x5000), "read lock 00005000"),
+    (call(Call.RWLOCK_WRLOCK, 0x5000), "write lock 00005000"),
+]
+HELD = [*call(LOCK, 0x2000), *call(Call.RWLOCK_WRLOCK, 0x5000), *call(Call.BARRIER_INIT, 0x4000, 2)]
+
+
+class WithKeys(unittest.TestCase):
+    def setUp(self):
+        switch = switched(keys=True, long_runs=True)
+        switch.__enter__()
+        self.addCleanup(switch.__exit__, None, None, None)
+
+    def comes_to(self, text, *turns, threads=1):
+        self.assertEqual(text_of_outcome(fold(recording_of(turns, threads=threads)), 77), text)
+
+
+class Outcomes(WithKeys):
+    def test_exits(self):
+        self.comes_to("exit 3, output e3b0c442", (1, call(Call.EXIT, 3)))
+        digest = sha256(b"AB").hexdigest()[:8]
+        self.comes_to(f"exit 0, output {digest}", (2, call(Call.PUTC, 65)), (1, [*call(Call.PUTC, 66), *call(Call.EXIT, 0)]))
+
+    def test_faults(self):
+        self.comes_to("fault of thread 2 at 00001028, LoadMisaligned", (2, load(1)))
+
+    def test_deadlocks(self):
+        """The last thread that could go on joins the other one."""
+        for words, text in WAITS:
+            self.comes_to(f"deadlock, thread 1 waits for the end of thread 2, thread 2 waits for {text}", (1, HELD), (2, words),
+                          (1, call(Call.JOIN, 2)))
+        self.comes_to("deadlock, thread 1 waits for mutex 00002000, thread 2 waits for the end of thread 1", (2, call(LOCK, 0x2000)),
+                      (1, call(LOCK, 0x2000)), (2, call(Call.JOIN, 1)))
+
+    def test_what_is_none(self):
+        """Somebody is ready, waits for a moment, or for input."""
+        joins = (1, call(Call.JOIN, 2))
+        self.comes_to("no end within 77 steps or events", (1, call(LOCK, 0x2000)), joins)
+        self.comes_to("no end within 77 steps or events", (2, call(Call.SLEEP_UNTIL, 9, 0)), joins)
+        self.comes_to("no end within 77 steps or events", (1, call(LOCK, 0x2000)), (2, call(Call.MUTEX_TIMEDLOCK, 0x2000, 9, 0)), joins)
+        self.comes_to("waits for input", (2, call(Call.GETC)), joins)
+
+    def test_ended_threads(self):
+        """They wait for nothing, and get their mutexes back as they wait for others."""
+        wait = [*call(LOCK, 0x2000), *call(Call.COND_WAIT, 0x3000, 0x2000)]
+        self.comes_to("deadlock, thread 1 waits for the end of thread 3, thread 3 waits for mutex 00002000", (3, wait),
+                      (2, [*call(LOCK, 0x2000), *call(Call.COND_SIGNAL, 0x3000), *call(Call.THREAD_EXIT, 0)]),
+                      (1, call(Call.JOIN, 3)), threads=2)
+
+
+class Counts(WithKeys):
+    def test_switches(self):
+        """Of runs of other threads than the run before; a hart is none."""
+        for turns, switches in [([], 0), ([(1, load())], 0), ([(2, load()), (2, load()), (1, load())], 2),
+                                ([(2, load()), (1, load()), (2, load())], 3)]:
+            self.assertEqual(fold(recording_of(turns, threads=1)).switches, switches)
+
+    def test_steps(self):
+        folded = fold(recording_of([(2, load()), (1, locked([]))], threads=1))
+        self.assertEqual((folded.steps, folded.events, bytes(folded.output)), (16, 6, b""))
+        self.assertEqual(fold(recording_of([(2, [*call(Call.GETC), *load()])], threads=1)).steps, 9)
+
+
+class Tables(unittest.TestCase):
+    def test_order_and_counts(self):
+        outcomes = dict(zip(range(8, 13), ["exit 0, output 1", "deadlock", "exit 0, output 1", "exit 1, output 1", "deadlock"]))
+        self.assertEqual(lines_of_table("a.bin", outcomes, Options(16, 2, 99)), [
+            "outcome 1: 2 of 5 runs, first by seed 8: exit 0, output 1",
+            "    ckrt hunt a.bin --seeds 8-8 --pages 16 --harts 2 --steps 99 --keep seed-8.disk",
+            "outcome 2: 2 of 5 runs, first by seed 9: deadlock",
+            "    ckrt hunt a.bin --seeds 9-9 --pages 16 --harts 2 --steps 99 --keep seed-9.disk",
+            "outcome 3: 1 of 5 runs, first by seed 11: exit 1, output 1",
+            "    ckrt hunt a.bin --seeds 11-11 --pages 16 --harts 2 --steps 99 --keep seed-11.disk"])
+
+
+if __name__ == "__main__":
+    unittest.main()
