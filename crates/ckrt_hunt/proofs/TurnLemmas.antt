@@ -29,11 +29,11 @@ pub none_best : (p : Plan) (m : Made) (s : threads.State) → best_among p m s 0
 unfolding best_among
 none_best p m s = refl
 
-pub waiting_on : (s : threads.State) (n t : ℕ) (ws : List Waiting) → t ≡ suc n → ws ≡ waiting_among s n → ws ++ waiting_by t (find (is_of t) s.waits) ≡ waiting_among s t
+pub waiting_on : (s : Tables) (n t : ℕ) (ws : List Waiting) → t ≡ suc n → ws ≡ waiting_among s n → ws ++ waiting_by s.mutexes t (find (is_of t) s.threads.waits) ≡ waiting_among s t
 unfolding waiting_among
 waiting_on s n t ws e h = rw (e, h) refl
 
-pub none_waiting : (s : threads.State) → waiting_among s 0 ≡ []
+pub none_waiting : (s : Tables) → waiting_among s 0 ≡ []
 unfolding waiting_among
 none_waiting s = refl
 

@@ -2,7 +2,9 @@
 use Rattle.std.specs.Prelude.{ℕ, zero, suc, Option, Some, None, List, [], ◌∷◌, ◌++◌}
 use Rattle.std.specs.List.{find}
 use Rattle.sha2.specs.Sha256.{sha256}
-use Rattle.ckrt_thread.specs.State as threads
+use Rattle.ckrt_objects.specs.declared.address_map.Entry.{Entry}
+use Rattle.ckrt_objects.specs.AddressMap.{lookup}
+use Rattle.ckrt_mutex.specs.declared.records.Mutex.{Mutex}
 use Rattle.ckrt_thread.specs.Waits.{is_of}
 use Rattle.ckrt_thread.specs.declared.records.Reason.{Reason}
 use Rattle.ckrt_thread.specs.declared.records.Reason.TheVariants as reason
@@ -18,27 +20,36 @@ use Rattle.ckrt_hunt.specs.declared.outcome.Outcome.{Outcome}
 use Rattle.ckrt_hunt.specs.declared.outcome.Outcome.TheVariants as outcome
 use Rattle.ckrt_hunt.specs.declared.outcome.Waiting.{Waiting}
 
--- what a wait is for
-abbrev pub awaited_by : Reason → Awaited
-awaited_by reason.Input = awaited.Input
-awaited_by reason.Sleep = awaited.Deadline
-awaited_by (reason.Join t) = awaited.End t
-awaited_by (reason.Lock a) = awaited.Mutex a
-awaited_by (reason.Retake a result) = awaited.Mutex a
-awaited_by (reason.Condition a mutex) = awaited.Condition a
-awaited_by (reason.Barrier a) = awaited.Barrier a
-awaited_by (reason.Read a) = awaited.Read a
-awaited_by (reason.Write a) = awaited.Write a
+abbrev pub owner_in : Option Mutex → Option ℕ
+owner_in None = None
+owner_in (Some m) = m.owner
+
+-- who has the mutex at an address
+abbrev pub owner_of : ℕ → List (Entry Mutex) → Option ℕ
+owner_of a ms = owner_in (lookup a ms)
+
+-- what a wait is for, with these mutexes
+abbrev pub awaited_by : List (Entry Mutex) → Reason → Awaited
+awaited_by ms reason.Input = awaited.Input
+awaited_by ms reason.Sleep = awaited.Deadline
+awaited_by ms (reason.Join t) = awaited.End t
+awaited_by ms (reason.Lock a) = awaited.Mutex a (owner_of a ms)
+awaited_by ms (reason.Retake a result) = awaited.Mutex a (owner_of a ms)
+awaited_by ms (reason.Condition a mutex) = awaited.Condition a
+awaited_by ms (reason.Barrier a) = awaited.Barrier a
+awaited_by ms (reason.Read a) = awaited.Read a
+awaited_by ms (reason.Write a) = awaited.Write a
 
 -- the thread with what it waits for, if it waits
-abbrev pub waiting_by : ℕ → Option Wait → List Waiting
-waiting_by t None = []
-waiting_by t (Some w) = record { thread = t; awaited = awaited_by w.reason } ∷ []
+abbrev pub waiting_by : List (Entry Mutex) → ℕ → Option Wait → List Waiting
+waiting_by ms t None = []
+waiting_by ms t (Some w) = record { thread = t; awaited = awaited_by ms w.reason } ∷ []
 
 -- which of the threads 1 to n wait, and for what
-unfoldable pub waiting_among : threads.State → (n : ℕ) → List Waiting
+unfoldable pub waiting_among : Tables → (n : ℕ) → List Waiting
 waiting_among s zero = []
-waiting_among s (suc n) = waiting_among s n ++ waiting_by (suc n) (find (is_of (suc n)) s.waits)
+waiting_among s (suc n) =
+    waiting_among s n ++ waiting_by s.mutexes (suc n) (find (is_of (suc n)) s.threads.waits)
 
 -- how the program has ended
 abbrev pub by_status : Status → Outcome
@@ -50,7 +61,7 @@ by_status (status.Faulted t pc c) = outcome.Faulted t pc c
 abbrev pub outcome_of : DriveEnd → Tables → Outcome
 outcome_of ending.Ended s = by_status s.status
 outcome_of ending.WaitsForInput s = outcome.WaitsForInput
-outcome_of ending.Deadlock s = outcome.Deadlock (record { items = waiting_among s.threads 64 })
+outcome_of ending.Deadlock s = outcome.Deadlock (record { items = waiting_among s 64 })
 outcome_of ending.Enough s = outcome.NoEnd
 
 -- the digest of its output, where the program exited: two runs with one status and two outputs come to two things

@@ -1,7 +1,7 @@
 -- The table of a hunt (this project's own format): for each outcome a line that says how often it came, by which seed first, and what it is, and a
 -- line with the command that repeats it. An outcome has the number of its row, from 1 on.
 --
---     outcome 2: 3 of 200 runs, first by seed 17: deadlock, thread 2 waits for mutex 00002c58, thread 3 waits for mutex 00002c70
+--     outcome 2: 3 of 200 runs, first by seed 17: deadlock, thread 2 waits for mutex 00002c58 (thread 3 has it)
 --         ckrt hunt race.bin --seeds 17-17 --pages 64 --harts 2 --steps 10000000 --keep seed-17.disk
 use Rattle.std.specs.Prelude.{ℕ, zero, suc, ◌+◌, ◌-◌, ◌==◌, if◌then◌else◌, List, [], ◌∷◌, ◌++◌, length, take, slice_get, codes, decimal, Option, Some, None}
 use Rattle.std.specs.List.{flat_map}
@@ -21,11 +21,16 @@ use Rattle.ckrt_hunt.specs.declared.tally.Tally.{Tally}
 
 -- WHAT A RUN CAME TO
 
+-- who has what is waited for
+abbrev pub owner_text : Option ℕ → List ℕ
+owner_text None = []
+owner_text (Some t) = codes " (thread " ++ decimal t ++ codes " has it)"
+
 abbrev pub awaited_text : Awaited → List ℕ
 awaited_text awaited.Input = codes "input"
 awaited_text awaited.Deadline = codes "its deadline"
 awaited_text (awaited.End t) = codes "the end of thread " ++ decimal t
-awaited_text (awaited.Mutex a) = codes "mutex " ++ hex_text a
+awaited_text (awaited.Mutex a owner) = codes "mutex " ++ hex_text a ++ owner_text owner
 awaited_text (awaited.Condition a) = codes "condition " ++ hex_text a
 awaited_text (awaited.Barrier a) = codes "barrier " ++ hex_text a
 awaited_text (awaited.Read a) = codes "read lock " ++ hex_text a
@@ -103,7 +108,7 @@ table_text a t = rows_text a t.rows.items (length t.rows.items) ++ others_line a
 
 -- A RUN THAT IS KEPT
 --
---     kept: the run of seed 17, switches: 4, drawn with 4123
+--     kept: the run of seed 17 on bugs/outcome-2.disk, switches: 4, drawn with 4123
 
 -- how many switches it was drawn with, where it was shortened
 abbrev pub drawn_by : {A : Type 0} → (given : Option A) → (drawn : ℕ) → List ℕ
@@ -113,8 +118,16 @@ drawn_by (Some turns) drawn = codes ", drawn with " ++ decimal drawn
 abbrev pub drawn_text : Found → List ℕ
 drawn_text found = drawn_by found.plan.turns found.drawn
 
-abbrev pub kept_text : (seed : ℕ) → Found → List ℕ
-kept_text seed found =
-    codes "kept: the run of seed " ++ decimal seed ++ (codes ", switches: " ++ decimal found.switches)
+-- a seed behind a word, and the disk of its run
+abbrev pub placed_text : (word : List ℕ) → (seed : ℕ) → (path : List ℕ) → List ℕ
+placed_text word seed path = word ++ decimal seed ++ codes " on " ++ path
+
+abbrev pub kept_text : (seed : ℕ) → (path : List ℕ) → Found → List ℕ
+kept_text seed path found =
+    placed_text (codes "kept: the run of seed ") seed path ++ (codes ", switches: " ++ decimal found.switches)
     ++ drawn_text found
     ++ 10 ∷ []
+
+-- one that isn't
+abbrev pub unkept_text : (seed : ℕ) → (path : List ℕ) → List ℕ
+unkept_text seed path = placed_text (codes "not kept: the run of seed ") seed path ++ 10 ∷ []

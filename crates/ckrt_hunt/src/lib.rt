@@ -38,7 +38,7 @@ pub use runs::{Finished, Told, run};
 pub use seeds::Seeds;
 pub use shape::Shape;
 pub use shorten::{Found, MOST_TRIES, Tries, room_for};
-pub use table::{Asked, write_kept, write_table};
+pub use table::{Asked, write_kept, write_table, write_unkept};
 pub use tally::{TALLY_ROWS, Tally};
 pub use telling::{HuntFault, hunt_and_tell};
 pub use turns::{MOST_TURNS, Turns};

@@ -1,12 +1,14 @@
 //! What a run comes to.
 ghost use Rattle.std.specs.Prelude.{◌≡◌, ◌≤◌, ◌<◌, ◌+◌, ◌++◌, length};
-ghost use Rattle.ckrt_hunt.specs.Outcomes.{awaited_by, by_status, outcome_of, waiting_among, waiting_by};
+ghost use Rattle.ckrt_hunt.specs.Outcomes.{awaited_by, by_status, outcome_of, owner_of, waiting_among, waiting_by};
 
 use arrayvec::ArrayVec;
 use ckrt_drive::DriveEnd;
+use ckrt_mutex::Mutexes;
+use ckrt_objects::get;
 use ckrt_rv32i::Cause;
 use ckrt_state::{Status, Tables};
-use ckrt_thread::{MAX_THREADS, Reason, ThreadId, Threads, Wait};
+use ckrt_thread::{MAX_THREADS, Reason, ThreadId, Wait};
 
 /// What a thread waits for.
 #[derive(Clone, Copy, Debug, Default, Drop, PartialEq, Eq)]
@@ -18,8 +20,8 @@ pub enum Awaited {
     Deadline,
     /// The end of a thread.
     End(ThreadId),
-    /// A mutex, by its address.
-    Mutex(u32),
+    /// A mutex, by its address, and the thread that has it.
+    Mutex(u32, Option<ThreadId>),
     /// A signal at a condition, by its address.
     Condition(u32),
     /// The others at a barrier, by its address.
@@ -52,15 +54,27 @@ pub enum Outcome {
     NoEnd,
 }
 
+/// Who has the mutex at an address.
+fn owner_of(mutexes: &Mutexes, address: u32) -> Option<ThreadId>
+    ensures { result ≡ owner_of address mutexes.now }
+{
+    mutexes.known();
+    let rows = mutexes.rows();
+    let mutex = get(rows.as_slice(), address)?;
+    mutex.owner
+}
+
 /// What a wait is for.
-fn awaited_by(reason: Reason) -> Awaited
-    ensures { result ≡ awaited_by reason }
+fn awaited_by(mutexes: &Mutexes, reason: Reason) -> Awaited
+    ensures { result ≡ awaited_by mutexes.now reason }
 {
     match reason {
         Reason::Input => Awaited::Input,
         Reason::Sleep => Awaited::Deadline,
         Reason::Join(thread) => Awaited::End(thread),
-        Reason::Lock(mutex) | Reason::Retake(mutex, _) => Awaited::Mutex(mutex),
+        Reason::Lock(mutex) | Reason::Retake(mutex, _) => {
+            Awaited::Mutex(mutex, owner_of(mutexes, mutex))
+        }
         Reason::Condition(condition, _) => Awaited::Condition(condition),
         Reason::Barrier(barrier) => Awaited::Barrier(barrier),
         Reason::Read(lock) => Awaited::Read(lock),
@@ -69,24 +83,29 @@ fn awaited_by(reason: Reason) -> Awaited
 }
 
 /// The thread goes after the others, with what it waits for, if it waits.
-fn push_waiting(waiting: &mut ArrayVec<Waiting, 64>, thread: ThreadId, wait: Option<Wait>)
+fn push_waiting(
+    waiting: &mut ArrayVec<Waiting, 64>,
+    mutexes: &Mutexes,
+    thread: ThreadId,
+    wait: Option<Wait>,
+)
     requires { length waiting.old.items < 64 }
-    ensures items { waiting.new.items ≡ waiting.old.items ++ waiting_by thread wait }
+    ensures items { waiting.new.items ≡ waiting.old.items ++ waiting_by mutexes.now thread wait }
     ensures few { length waiting.new.items ≤ length waiting.old.items + 1 }
 {
     if let Some(wait) = wait {
-        let awaited = awaited_by(wait.reason);
+        let awaited = awaited_by(mutexes, wait.reason);
         waiting.push(Waiting { thread, awaited });
     }
 }
 
 /// Which threads wait, and for what.
-fn waiting_of(threads: &Threads) -> ArrayVec<Waiting, 64>
-    ensures { result.items ≡ waiting_among threads.now 64 }
+fn waiting_of(tables: &Tables) -> ArrayVec<Waiting, 64>
+    ensures { result.items ≡ waiting_among tables.now 64 }
 {
     let mut waiting = ArrayVec::new();
     for thread in 1..MAX_THREADS as ThreadId + 1 {
-        push_waiting(&mut waiting, thread, threads.wait_of(thread));
+        push_waiting(&mut waiting, &tables.mutexes, thread, tables.threads.wait_of(thread));
     }
     waiting
 }
@@ -109,7 +128,7 @@ pub fn outcome_of(tables: &Tables, ending: DriveEnd) -> Outcome
     match ending {
         DriveEnd::Ended => by_status(tables.status),
         DriveEnd::WaitsForInput => Outcome::WaitsForInput,
-        DriveEnd::Deadlock => Outcome::Deadlock(waiting_of(&tables.threads)),
+        DriveEnd::Deadlock => Outcome::Deadlock(waiting_of(tables)),
         DriveEnd::Enough => Outcome::NoEnd,
     }
 }

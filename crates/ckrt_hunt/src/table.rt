@@ -1,7 +1,7 @@
 //! What a hunt came to, as a table.
 ghost use Rattle.std.specs.Prelude.{◌≡◌, ◌+◌, ◌≤◌, ◌++◌, ◌∷◌, [], codes, decimal, length, OnOk};
 ghost use Rattle.std.specs.Io.KnownBytes.{Appends};
-ghost use Rattle.ckrt_hunt.specs.Table.{command_line, drawn_text, head_text, kept_text, outcome_line, others_line, row_text, rows_text, runs_text, seed_text, shape_text, table_text};
+ghost use Rattle.ckrt_hunt.specs.Table.{command_line, drawn_text, head_text, kept_text, outcome_line, others_line, placed_text, row_text, rows_text, runs_text, seed_text, shape_text, table_text, unkept_text};
 
 use crate::row::Row;
 use crate::seeds::Seeds;
@@ -173,14 +173,38 @@ fn write_drawn<W: Write>(out: &mut W, found: &Found<'_>) -> Result<()>
     }
 }
 
-/// Writes which seed's run is kept, how many switches it has, and how many it was drawn with: a switch is a thread that runs
-/// after another one. It takes no memory.
-#[tactic(auto, using(crate::proofs::AppendLemmas::appends_both))]
-pub fn write_kept<W: Write>(out: &mut W, seed: u64, found: &Found<'_>) -> Result<()>
+/// A seed behind a word, and the disk of its run.
+fn write_placed<W: Write>(out: &mut W, word: &[u8], seed: u64, path: &str) -> Result<()>
     ensures { OnOk result
-        (Appends (W.contents out.old) (W.contents out.new) (kept_text seed found.now)) }
+        (Appends (W.contents out.old) (W.contents out.new) (placed_text word.now seed path.now)) }
 {
-    write_counted(out, b"kept: the run of seed ", seed)?;
+    write_counted(out, word, seed)?;
+    out.write_all(b" on ")?;
+    out.write_all(path.as_bytes())
+}
+
+/// Writes that the run of a seed isn't kept on the disk of a path. It takes no memory.
+#[tactic(auto, using(crate::proofs::AppendLemmas::appends_both))]
+pub fn write_unkept<W: Write>(out: &mut W, seed: u64, path: &str) -> Result<()>
+    ensures { OnOk result
+        (Appends (W.contents out.old) (W.contents out.new) (unkept_text seed path.now)) }
+{
+    write_placed(out, b"not kept: the run of seed ", seed, path)?;
+    out.write_all(b"\n")
+}
+
+/// Writes which seed's run is kept, on the disk of which path, how many switches it has, and how many it was drawn with: a
+/// switch is a thread that runs after another one. It takes no memory.
+pub fn write_kept<W: Write>(
+    out: &mut W,
+    seed: u64,
+    path: &str,
+    found: &Found<'_>,
+) -> Result<()>
+    ensures { OnOk result
+        (Appends (W.contents out.old) (W.contents out.new) (kept_text seed path.now found.now)) }
+{
+    write_placed(out, b"kept: the run of seed ", seed, path)?;
     write_switches(out, b", switches: ", found.switches)?;
     write_drawn(out, found)?;
     out.write_all(b"\n")

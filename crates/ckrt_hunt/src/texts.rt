@@ -5,7 +5,7 @@ ghost use Rattle.std.specs.Io.KnownBytes.{Appends};
 ghost use Rattle.hex.specs.Hex.{encode_lower};
 ghost use Rattle.ckrt_inspect.specs.Texts.{hex_text};
 ghost use Rattle.ckrt_hunt.specs.declared.outcome.Outcome.TheVariants.{Deadlock, Faulted};
-ghost use Rattle.ckrt_hunt.specs.Table.{awaited_text, digest_text, outcome_text, waiting_text};
+ghost use Rattle.ckrt_hunt.specs.Table.{awaited_text, digest_text, outcome_text, owner_text, waiting_text};
 
 use crate::outcome::{Awaited, Outcome, Waiting};
 use ckrt_rv32i::Cause;
@@ -51,6 +51,39 @@ fn write_at<W: Write>(out: &mut W, word: &[u8], address: u32) -> Result<()>
     write_hex(out, address)
 }
 
+#[tactic(auto, using(crate::proofs::AppendLemmas::appends_both))]
+fn write_known_owner<W: Write>(out: &mut W, thread: ThreadId) -> Result<()>
+    ensures { OnOk result
+        (Appends (W.contents out.old) (W.contents out.new)
+        (codes " (thread " ++ decimal thread ++ codes " has it)")) }
+{
+    write_counted(out, b" (thread ", u64::from(thread))?;
+    out.write_all(b" has it)")
+}
+
+/// Who has what is waited for, where somebody does.
+#[tactic(auto, using(crate::proofs::AppendLemmas::appends_none))]
+fn write_owner<W: Write>(out: &mut W, owner: Option<ThreadId>) -> Result<()>
+    ensures { OnOk result
+        (Appends (W.contents out.old) (W.contents out.new) (owner_text owner)) }
+{
+    match owner {
+        Some(thread) => write_known_owner(out, thread),
+        None => Ok(()),
+    }
+}
+
+/// A mutex, and who has it.
+#[tactic(auto, using(crate::proofs::AppendLemmas::appends_both))]
+fn write_mutex<W: Write>(out: &mut W, address: u32, owner: Option<ThreadId>) -> Result<()>
+    ensures { OnOk result
+        (Appends (W.contents out.old) (W.contents out.new)
+        (codes "mutex " ++ hex_text address ++ owner_text owner)) }
+{
+    write_at(out, b"mutex ", address)?;
+    write_owner(out, owner)
+}
+
 /// What a thread waits for.
 fn write_awaited<W: Write>(out: &mut W, awaited: Awaited) -> Result<()>
     ensures { OnOk result
@@ -60,7 +93,7 @@ fn write_awaited<W: Write>(out: &mut W, awaited: Awaited) -> Result<()>
         Awaited::Input => out.write_all(b"input"),
         Awaited::Deadline => out.write_all(b"its deadline"),
         Awaited::End(thread) => write_counted(out, b"the end of thread ", u64::from(thread)),
-        Awaited::Mutex(address) => write_at(out, b"mutex ", address),
+        Awaited::Mutex(address, owner) => write_mutex(out, address, owner),
         Awaited::Condition(address) => write_at(out, b"condition ", address),
         Awaited::Barrier(address) => write_at(out, b"barrier ", address),
         Awaited::Read(address) => write_at(out, b"read lock ", address),

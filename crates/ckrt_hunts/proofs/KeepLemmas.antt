@@ -1,12 +1,14 @@
 -- What is kept, with other disks for a path.
-use Rattle.std.proofs.Common.{◌≡◌, ◌⊎◌, ℕ, Bool, List, Option, Some, None, Result, Ok, Err, inl, inr, subst}
+use Rattle.std.proofs.Common.{◌≡◌, ◌⊎◌, ℕ, zero, suc, Bool, List, length, Option, Some, None, Result, Ok, Err, inl, inr, subst, sym}
 use Rattle.ckrt_disk.specs.declared.disk.Disk.{Ghosts}
 use Rattle.ckrt_hunt.specs.declared.tally.Tally.{Tally}
 use Rattle.ckrt_hunt.specs.declared.telling.HuntFault.{HuntFault}
 use Rattle.ckrt_sources.specs.Openings.{Openings, opened, with_making}
 use Rattle.ckrt_outcomes.specs.declared.fault.JobFault.{JobFault}
-use Rattle.ckrt_hunt.specs.declared.plan.Plan.{Plan}
-use Rattle.ckrt_hunts.specs.Hunting.{EndsHunt, KeepsAt, KeepsFound, LacksRoom, Reached, Wanted}
+use Rattle.ckrt_checkpoint.specs.declared.config.Config.{Config}
+use Rattle.ckrt_hunt.specs.Tallies.{Hunted, hunted_of}
+use Rattle.ckrt_hunt.specs.declared.table.Asked.{Asked}
+use Rattle.ckrt_hunts.specs.Hunting.{AreKept, EndsHunt, Folder, Hunter, KeepsAt, KeepsEach, KeepsFound, KeptOneMore, LacksPath, NamesRow, Place, Reached, StopsAtRow, config_of, in_folder, nowhere, on_disk, place_of, sought_by, wanted_of}
 use Rattle.ckrt_hunts.specs.Keeping.{Keeping, Keeps, KeepsOn}
 
 -- all disks that one may have the other may have
@@ -32,37 +34,84 @@ pub keeps_made : {D : Type 0} (d : Ghosts D) (it : Keeping D) (Fills : D → Typ
 keeps_made d it Fills old asked new result is more k =
     inr (subst (λ x. KeepsOn d (record it { Fills = Fills }) x new result) is (keeps_on_weaker d it Fills asked new result more k))
 
--- what was kept for a path was, whatever path the words name
-pub kept_at : {D : Type 0} (d : Ghosts D) (wanted : Wanted D) (other : Option (List ℕ)) (path : List ℕ) (old new : Reached D) (result : Result (Unit {0}) JobFault)
-    → LacksRoom old new result ⊎ KeepsFound d (record wanted { path = other }) path old new result → KeepsAt d wanted old new result (Some path)
-kept_at d wanted other path old new result (inl lacks) = inl lacks
-kept_at d wanted other path old new result (inr k) = inr (record {
-  found = k.found;
-  is_found = k.is_found;
-  kept = k.kept;
-  keeps = k.keeps;
-  tells = k.tells;
-})
+-- A HUNT OF AN IMAGE, WITH OTHER DISKS FOR A PATH
 
-pub keeps_at_weaker : {D : Type 0} (d : Ghosts D) (wanted : Wanted D) (Fills : List ℕ → D → Type 0) (old new : Reached D) (result : Result (Unit {0}) JobFault) (path : Option (List ℕ))
-    → ((p : Plan) (at : List ℕ) (disk : D) → (wanted.keeping p at).Fills disk → Fills at disk) → KeepsAt d wanted old new result path
-    → KeepsAt d (record wanted { keeping = λ p at. record (wanted.keeping p at) { Fills = Fills at } }) old new result path
-keeps_at_weaker d wanted Fills old new result None more k = k
-keeps_at_weaker d wanted Fills old new result (Some path) more (inl lacks) = inl lacks
-keeps_at_weaker d wanted Fills old new result (Some path) more (inr k) = inr (record {
-  found = k.found;
-  is_found = k.is_found;
-  kept = k.kept;
-  keeps = keeps_weaker d (wanted.keeping k.found.plan path) (Fills path) old.openings new.openings k.kept (more k.found.plan path) k.keeps;
-  tells = k.tells;
-})
+module _ {D : Type 0} (d : Ghosts D) (h : Hunted) (seed : ℕ) (config : Config) (guest : List ℕ) (Fills More : List ℕ → D → Type 0) where
+  pub found_weaker : (path : List ℕ) (old new : Reached D) (result : Result (Unit {0}) JobFault) → ((at : List ℕ) (disk : D) → Fills at disk → More at disk)
+      → KeepsFound d (sought_by h seed config guest Fills) path old new result → KeepsFound d (sought_by h seed config guest More) path old new result
+  found_weaker path old new result more k = record {
+    found = k.found;
+    is_found = k.is_found;
+    kept = k.kept;
+    keeps = keeps_weaker d ((sought_by h seed config guest Fills).keeping k.found.plan path) (More path) old.openings new.openings k.kept (more path) k.keeps;
+    tells = k.tells;
+  }
 
-pub ends_weaker : {D : Type 0} (d : Ghosts D) (wanted : Wanted D) (Fills : List ℕ → D → Type 0) (old new : Reached D) (told : Result Tally HuntFault) (result : Result Bool JobFault)
-    → ((p : Plan) (at : List ℕ) (disk : D) → (wanted.keeping p at).Fills disk → Fills at disk) → EndsHunt d wanted old new told result
-    → EndsHunt d (record wanted { keeping = λ p at. record (wanted.keeping p at) { Fills = Fills at } }) old new told result
-ends_weaker d wanted Fills old new (Ok tally) result more e = record {
+  -- of the outcomes nothing is said of which disks may be made
+  pub are_same : (folder : Folder) (n : ℕ) (old new : Reached D) → AreKept d (sought_by h seed config guest Fills) folder n old new → AreKept d (sought_by h seed config guest More) folder n old new
+  are_same folder zero old new k = k
+  are_same folder (suc n) old new k = record {
+    before = k.before;
+    was_so = are_same folder n old k.before k.was_so;
+    row = k.row;
+    is_row = k.is_row;
+    keeps = k.keeps;
+  }
+
+  -- one outcome more, which was kept with other disks
+  pub kept_on : (folder : Folder) (n m : ℕ) (old mid new : Reached D) → m ≡ suc n → AreKept d (sought_by h seed config guest More) folder n old mid
+      → KeptOneMore d (sought_by h seed config guest Fills) folder n (λ r. r ≡ mid) new → AreKept d (sought_by h seed config guest More) folder m old new
+  kept_on folder n m old mid new e a k = rw e (record {
+    before = k.before;
+    was_so = subst (λ x. AreKept d (sought_by h seed config guest More) folder n old x) (sym k.was_so) a;
+    row = k.row;
+    is_row = k.is_row;
+    keeps = k.keeps;
+  })
+
+  stops_same : (folder : Folder) (place : ℕ) (before new : Reached D) (result : Result (Unit {0}) JobFault)
+      → LacksPath before new result ⊎ ((named : NamesRow d (sought_by h seed config guest Fills) folder place before new) × (named.result ≡ result))
+      → LacksPath before new result ⊎ ((named : NamesRow d (sought_by h seed config guest More) folder place before new) × (named.result ≡ result))
+  stops_same folder place before new result (inl lacks) = inl lacks
+  stops_same folder place before new result (inr (named, is)) = inr (
+    record {
+      failed = named.failed;
+      row_fails = record { row = named.row_fails.row; is_row = named.row_fails.is_row; why = named.row_fails.why; fails = named.row_fails.fails };
+      result = named.result;
+      unasked = named.unasked;
+      tells = named.tells;
+    },
+    is,
+  )
+
+  -- an outcome that isn't kept ends it
+  pub stopped : (folder : Folder) (place : ℕ) (old before new : Reached D) (result : Result (Unit {0}) JobFault) → AreKept d (sought_by h seed config guest More) folder place old before
+      → LacksPath before new result ⊎ ((named : NamesRow d (sought_by h seed config guest Fills) folder place before new) × (named.result ≡ result))
+      → StopsAtRow d (sought_by h seed config guest More) folder old new result
+  stopped folder place old before new result a s = record {
+    place = place;
+    before = before;
+    kept = a;
+    stops = stops_same folder place before new result s;
+  }
+
+  each_same : (folder : Folder) (old new : Reached D) (result : Result (Unit {0}) JobFault) → KeepsEach d (sought_by h seed config guest Fills) folder old new result → KeepsEach d (sought_by h seed config guest More) folder old new result
+  each_same folder old new result (inl (is, a)) = inl (is, are_same folder (length folder.rows) old new a)
+  each_same folder old new result (inr s) = inr (stopped folder s.place old s.before new result (are_same folder s.place old s.before s.kept) s.stops)
+
+  pub at_weaker : (place : Place) (old new : Reached D) (result : Result (Unit {0}) JobFault) → ((at : List ℕ) (disk : D) → Fills at disk → More at disk)
+      → KeepsAt d (sought_by h seed config guest Fills) old new result place → KeepsAt d (sought_by h seed config guest More) old new result place
+  at_weaker nowhere old new result more k = k
+  at_weaker (on_disk path) old new result more (inl lacks) = inl lacks
+  at_weaker (on_disk path) old new result more (inr k) = inr (found_weaker path old new result more k)
+  at_weaker (in_folder folder) old new result more (inl lacks) = inl lacks
+  at_weaker (in_folder folder) old new result more (inr k) = inr (each_same folder old new result k)
+
+pub ends_weaker : {D : Type 0} (d : Ghosts D) (it : Hunter D) (More : List ℕ → D → Type 0) (guest : List ℕ) (asked : Asked) (old new : Reached D) (told : Result Tally HuntFault) (result : Result Bool JobFault)
+    → ((at : List ℕ) (disk : D) → it.Fills at disk → More at disk) → EndsHunt d (wanted_of it guest asked) old new told result → EndsHunt d (wanted_of (record it { Fills = More }) guest asked) old new told result
+ends_weaker d it More guest asked old new (Ok tally) result more e = record {
   kept = e.kept;
-  keeps = keeps_at_weaker d wanted Fills old new e.kept wanted.path more e.keeps;
+  keeps = at_weaker d (hunted_of guest asked.shape) asked.seeds.first (config_of it.asked) guest it.Fills More (place_of it.asked.keep tally.rows.items) old new e.kept more e.keeps;
   gives = e.gives;
 }
-ends_weaker d wanted Fills old new (Err f) result more e = e
+ends_weaker d it More guest asked old new (Err f) result more e = e

@@ -1,5 +1,5 @@
 -- The hunt of the image of a path: what is told, what is kept, and what it comes to.
-use Rattle.std.specs.Prelude.{◌≡◌, ◌≢◌, ◌⊎◌, ℕ, nat_lt, Bool, false, List, length, Option, Some, None, Result, Ok, Err, IfErr, IfOk}
+use Rattle.std.specs.Prelude.{◌≡◌, ◌≢◌, ◌⊎◌, ℕ, zero, suc, ◌+◌, ◌-◌, ◌==◌, nat_lt, Bool, false, if◌then◌else◌, List, ◌++◌, length, slice_get, codes, decimal, Option, Some, None, Result, Ok, Err, IfErr, IfOk}
 use Rattle.std.specs.Io.KnownBytes.{Appends}
 use Rattle.ckrt_disk.specs.declared.disk.Disk.{Ghosts}
 use Rattle.ckrt_checkpoint.specs.declared.config.Config.{Config}
@@ -11,9 +11,10 @@ use Rattle.ckrt_memory.specs.declared.MemoryError.{MemoryError}
 use Rattle.ckrt_memory.specs.declared.MemoryError.TheVariants as memory
 use Rattle.ckrt_hunt.specs.Seeds.{ends_of, seeds_of}
 use Rattle.ckrt_hunt.specs.Short.{IsFound}
-use Rattle.ckrt_hunt.specs.Table.{kept_text, table_text}
+use Rattle.ckrt_hunt.specs.Table.{kept_text, table_text, unkept_text}
 use Rattle.ckrt_hunt.specs.Tallies.{Hunted, IsTallyOf, hunted_of, numbers_of, shape_of}
 use Rattle.ckrt_hunt.specs.declared.plan.Plan.{Plan}
+use Rattle.ckrt_hunt.specs.declared.row.Row.{Row}
 use Rattle.ckrt_hunt.specs.declared.shorten.Found.{Found}
 use Rattle.ckrt_hunt.specs.declared.table.Asked.{Asked}
 use Rattle.ckrt_hunt.specs.declared.tally.Tally.{Tally}
@@ -25,6 +26,8 @@ use Rattle.ckrt_outcomes.specs.Outside.{Outside}
 use Rattle.ckrt_outcomes.specs.declared.fault.JobFault.{JobFault}
 use Rattle.ckrt_outcomes.specs.declared.fault.JobFault.TheVariants as job
 use Rattle.ckrt_jobs.specs.Making.{EndsOnImage, IsFit}
+use Rattle.ckrt_hunts.specs.declared.found.KeptAt.{KeptAt}
+use Rattle.ckrt_hunts.specs.declared.found.ToldHunt.{ToldHunt}
 use Rattle.ckrt_hunts.specs.Keeping.{Keeping, Keeps}
 
 -- a disk that a run is kept on has the sizes of the hunt, and the longest journal
@@ -57,29 +60,41 @@ pub record Tells (guest : List ℕ) (asked : Asked) (a b : Option (List ℕ))
 abbrev pub has_several : Tally → Bool
 has_several tally = nat_lt 1 (length tally.rows.items)
 
--- what is kept of a hunt on the disk of a path: the run of a plan
-abbrev pub keeping_of : {D : Type 0} → Hunter D → (guest : List ℕ) → Plan → (path : List ℕ)
-    → Keeping D
-keeping_of it guest p path = record {
-  program = formatted_program (config_of it.asked) guest;
-  plan = p;
-  path = path;
-  Fills = it.Fills path;
-}
-
--- What is wanted of a hunt besides its table: a disk of this path, if any, with the run of a seed, and what is kept by a plan.
-pub record Wanted (D : Type 0) : Type 1 where
-  pub path : Option (List ℕ)
-  pub keeping : Plan → List ℕ → Keeping D
+-- What is sought of a seed of a hunt: a plan that comes to the same, and what is kept by it on the disk of a path.
+pub record Sought (D : Type 0) : Type 1 where
   pub hunted : Hunted
   pub seed : ℕ
+  pub keeping : Plan → List ℕ → Keeping D
 
+-- by a hunt of this image, on disks of these sizes
+abbrev pub sought_by : {D : Type 0} → Hunted → (seed : ℕ) → Config → (guest : List ℕ)
+    → (Fills : List ℕ → D → Type 0) → Sought D
+sought_by h seed config guest Fills = record {
+  hunted = h;
+  seed = seed;
+  keeping = λ p path. record {
+    program = formatted_program config guest;
+    plan = p;
+    path = path;
+    Fills = Fills path;
+  };
+}
+
+-- of a hunt that was told
+abbrev pub sought_in : {D : Type 0} → Hunted → ToldHunt → (Fills : List ℕ → ℕ → D → Type 0) → Sought D
+sought_in h told Fills =
+    sought_by h told.first told.config told.image.now (λ path. Fills path (size_needed told.config))
+
+-- What is wanted of a hunt besides its table: disks at this path, if any, and which runs they have.
+pub record Wanted (D : Type 0) : Type 1 where
+  pub path : Option (List ℕ)
+  pub sought : Sought D
+
+-- the run of the first seed of the range
 abbrev pub wanted_of : {D : Type 0} → Hunter D → (guest : List ℕ) → Asked → Wanted D
 wanted_of it guest asked = record {
   path = it.asked.keep;
-  keeping = keeping_of it guest;
-  hunted = hunted_of guest asked.shape;
-  seed = asked.seeds.first;
+  sought = sought_by (hunted_of guest asked.shape) asked.seeds.first (config_of it.asked) guest it.Fills;
 }
 
 -- what a hunt has reached: what its sources were asked for, and what its writer has, where that is known
@@ -103,31 +118,130 @@ pub record LacksRoom {D : Type 0} (old new : Reached D) (result : Result (Unit {
   pub unasked : new ≡ old
 
 -- a run that is kept is told, or the writer failed; of one that isn't, nothing is
-abbrev pub TellsKept : (seed : ℕ) → Found → (a b : Option (List ℕ))
+abbrev pub TellsKept : (told : List ℕ) → (a b : Option (List ℕ))
     → (kept result : Result (Unit {0}) JobFault) → Type 0
-TellsKept seed found a b (Ok done) result =
-    ((result ≡ Ok tt) × Appends a b (kept_text seed found)) ⊎ (result ≡ Err (job.Serve serve.Write))
-TellsKept seed found a b (Err f) result = (result ≡ Err f) × (b ≡ a)
+TellsKept told a b (Ok done) result =
+    ((result ≡ Ok tt) × Appends a b told) ⊎ (result ≡ Err (job.Serve serve.Write))
+TellsKept told a b (Err f) result = (result ≡ Err f) × (b ≡ a)
 
 -- the run of the seed was kept, by the shortest schedule that was found, and that is told
-pub record KeepsFound {D : Type 0} (d : Ghosts D) (wanted : Wanted D) (path : List ℕ)
+pub record KeepsFound {D : Type 0} (d : Ghosts D) (sought : Sought D) (path : List ℕ)
     (old new : Reached D) (result : Result (Unit {0}) JobFault) : Type 0 where
   pub found : Found
-  pub is_found : IsFound wanted.hunted wanted.seed found
+  pub is_found : IsFound sought.hunted sought.seed found
   pub kept : Result (Unit {0}) JobFault
-  pub keeps : Keeps d (wanted.keeping found.plan path) old.openings new.openings kept
-  pub tells : TellsKept wanted.seed found old.written new.written kept result
+  pub keeps : Keeps d (sought.keeping found.plan path) old.openings new.openings kept
+  pub tells : TellsKept (kept_text sought.seed path found) old.written new.written kept result
 
--- it is kept where a path is given
-abbrev pub KeepsAt : {D : Type 0} → Ghosts D → Wanted D → (old new : Reached D)
-    → Result (Unit {0}) JobFault → (path : Option (List ℕ)) → Type 0
-KeepsAt d wanted old new result None = (result ≡ Ok tt) × (new ≡ old)
-KeepsAt d wanted old new result (Some path) =
-    LacksRoom old new result ⊎ KeepsFound d wanted path old new result
+-- THE DISKS OF A FOLDER
 
-abbrev pub KeepsIfWanted : {D : Type 0} → Ghosts D → Wanted D → (old new : Reached D)
+-- a folder, and the outcomes that each get a disk there
+pub record Folder : Type 0 where
+  pub path : List ℕ
+  pub rows : List Row
+
+abbrev pub folder_at : KeptAt → Folder
+folder_at at = record { path = at.path.now; rows = at.told.rows.now }
+
+-- the disk of an outcome, by its number
+abbrev pub outcome_path : (folder : List ℕ) → (number : ℕ) → List ℕ
+outcome_path folder number = folder ++ codes "outcome-" ++ decimal number ++ codes ".disk"
+
+-- what is sought of an outcome; of the disks that sources make once they were given one back nothing is known
+abbrev pub sought_of : {D : Type 0} → Sought D → Row → Sought D
+sought_of sought r = record sought {
+  seed = r.first;
+  keeping = λ p path. record (sought.keeping p path) { Fills = λ disk. Unit {0} };
+}
+
+-- one run more was kept: that of the outcome at this place, on the disk with the number after that
+pub record KeptOneMore {D : Type 0} (d : Ghosts D) (sought : Sought D) (folder : Folder) (place : ℕ)
+    (WasSo : Reached D → Type 0) (new : Reached D) : Type 0 where
+  pub before : Reached D
+  pub was_so : WasSo before
+  pub row : Row
+  pub is_row : slice_get folder.rows place ≡ Some row
+  pub keeps : KeepsFound d (sought_of sought row) (outcome_path folder.path (place + 1)) before new (Ok tt)
+
+-- the runs of the first n outcomes were kept, in their order
+abbrev pub AreKept : {D : Type 0} → Ghosts D → Sought D → Folder → (n : ℕ) → (old new : Reached D)
+    → Type 0
+AreKept d sought folder zero old new = new ≡ old
+AreKept d sought folder (suc n) old new =
+    KeptOneMore d sought folder n (AreKept d sought folder n old) new
+
+-- the run of the outcome at this place wasn't kept, and why
+pub record FailsAtRow {D : Type 0} (d : Ghosts D) (sought : Sought D) (folder : Folder) (place : ℕ)
+    (before failed : Reached D) : Type 0 where
+  pub row : Row
+  pub is_row : slice_get folder.rows place ≡ Some row
+  pub why : JobFault
+  pub fails : KeepsFound d (sought_of sought row) (outcome_path folder.path (place + 1)) before failed (Err why)
+
+-- such a run is named, or the writer failed
+abbrev pub TellsUnkept : (told : List ℕ) → JobFault → (a b : Option (List ℕ))
     → Result (Unit {0}) JobFault → Type 0
-KeepsIfWanted d wanted old new result = KeepsAt d wanted old new result wanted.path
+TellsUnkept told why a b result =
+    ((result ≡ Err why) × Appends a b told) ⊎ (result ≡ Err (job.Serve serve.Write))
+
+-- an outcome whose run wasn't kept
+pub record NamesRow {D : Type 0} (d : Ghosts D) (sought : Sought D) (folder : Folder) (place : ℕ)
+    (before new : Reached D) : Type 0 where
+  pub failed : Reached D
+  pub row_fails : FailsAtRow d sought folder place before failed
+  pub result : Result (Unit {0}) JobFault
+  pub unasked : new.openings ≡ failed.openings
+  pub tells : TellsUnkept (unkept_text row_fails.row.first (outcome_path folder.path (place + 1))) row_fails.why
+      failed.written new.written result
+
+-- there was no memory for the path of its disk
+abbrev pub LacksPath : {D : Type 0} → (before new : Reached D) → Result (Unit {0}) JobFault → Type 0
+LacksPath before new result = (result ≡ Err job.OutOfMemory) × (new ≡ before)
+
+-- the runs of the outcomes before this one were kept, and its own wasn't
+pub record StopsAtRow {D : Type 0} (d : Ghosts D) (sought : Sought D) (folder : Folder)
+    (old new : Reached D) (result : Result (Unit {0}) JobFault) : Type 0 where
+  pub place : ℕ
+  pub before : Reached D
+  pub kept : AreKept d sought folder place old before
+  pub stops : LacksPath before new result
+      ⊎ ((named : NamesRow d sought folder place before new) × (named.result ≡ result))
+
+-- the run of each outcome was kept, or of those before the first one whose run wasn't
+abbrev pub KeepsEach : {D : Type 0} → Ghosts D → Sought D → Folder → (old new : Reached D)
+    → Result (Unit {0}) JobFault → Type 0
+KeepsEach d sought folder old new result =
+    ((result ≡ Ok tt) × AreKept d sought folder (length folder.rows) old new)
+    ⊎ StopsAtRow d sought folder old new result
+
+-- WHERE RUNS ARE KEPT
+
+-- nowhere, that of one seed on the disk of a path, or that of each outcome in a folder
+pub data Place : Type 0 where
+  nowhere : Place
+  on_disk : (path : List ℕ) → Place
+  in_folder : Folder → Place
+
+abbrev pub is_slash : Option ℕ → Bool
+is_slash None = false
+is_slash (Some b) = b == 47
+
+-- a path that ends with `/` names a folder
+abbrev pub is_folder : (path : List ℕ) → Bool
+is_folder path = is_slash (slice_get path (length path - 1))
+
+abbrev pub place_of : Option (List ℕ) → List Row → Place
+place_of None rows = nowhere
+place_of (Some path) rows =
+    if is_folder path then in_folder (record { path = path; rows = rows }) else on_disk path
+
+abbrev pub KeepsAt : {D : Type 0} → Ghosts D → Sought D → (old new : Reached D)
+    → Result (Unit {0}) JobFault → Place → Type 0
+KeepsAt d sought old new result nowhere = (result ≡ Ok tt) × (new ≡ old)
+KeepsAt d sought old new result (on_disk path) =
+    LacksRoom old new result ⊎ KeepsFound d sought path old new result
+KeepsAt d sought old new result (in_folder folder) =
+    LacksRoom old new result ⊎ KeepsEach d sought folder old new result
 
 -- what the job answers where keeping answered so
 abbrev pub answer_of : Result (Unit {0}) JobFault → Bool → Result Bool JobFault
@@ -136,16 +250,15 @@ answer_of (Err f) several = Err f
 
 -- a hunt that was told
 pub record EndsTold {D : Type 0} (d : Ghosts D) (wanted : Wanted D) (asked new : Reached D)
-    (several : Bool) (result : Result Bool JobFault) : Type 0 where
+    (tally : Tally) (result : Result Bool JobFault) : Type 0 where
   pub kept : Result (Unit {0}) JobFault
-  pub keeps : KeepsIfWanted d wanted asked new kept
-  pub gives : result ≡ answer_of kept several
+  pub keeps : KeepsAt d wanted.sought asked new kept (place_of wanted.path tally.rows.items)
+  pub gives : result ≡ answer_of kept (has_several tally)
 
 -- where it wasn't told nothing is kept
 abbrev pub EndsHunt : {D : Type 0} → Ghosts D → Wanted D → (asked new : Reached D)
     → Result Tally HuntFault → Result Bool JobFault → Type 0
-EndsHunt d wanted asked new (Ok tally) result =
-    EndsTold d wanted asked new (has_several tally) result
+EndsHunt d wanted asked new (Ok tally) result = EndsTold d wanted asked new tally result
 EndsHunt d wanted asked new (Err f) result = (result ≡ Err (fault_of f)) × (new ≡ asked)
 
 -- WHAT BECOMES OF THE WORDS

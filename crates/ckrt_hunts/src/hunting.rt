@@ -1,21 +1,17 @@
 //! The hunt of the image of a path.
-ghost use Rattle.std.specs.Prelude.{◌≡◌, ◌⊎◌, ℕ, List, None, Ok, Option, Result, true};
-ghost use Rattle.ckrt_checkpoint.specs.Layout.{is_valid, size_needed};
-ghost use Rattle.ckrt_stored.specs.Programs.{formatted_program};
+ghost use Rattle.std.specs.Prelude.{◌≡◌, ℕ, List, Option, Result, option_map, true};
+ghost use Rattle.ckrt_checkpoint.specs.Layout.{is_valid};
 ghost use Rattle.ckrt_hunt.specs.Tallies.{hunted_of};
 ghost use Rattle.ckrt_words.specs.Jobs.{hunting_of};
 ghost use Rattle.ckrt_outcomes.specs.Outside.{outside};
-ghost use Rattle.ckrt_hunts.specs.Keeping.{Keeps};
-ghost use Rattle.ckrt_hunts.specs.Hunting.{EndsHunt, HuntsPath, KeepsFound, KeepsIfWanted, LacksRoom, Tells, TellsKept, answer_of, config_of, fault_of, kept_size, reached, room_fault_of, wanted_of};
+ghost use Rattle.ckrt_hunts.specs.Hunting.{EndsHunt, HuntsPath, KeepsAt, Tells, answer_of, config_of, fault_of, kept_size, place_of, reached, sought_in, wanted_of};
 
-use crate::keeping::{Kept, keep};
+use crate::folder::{is_folder, keep_in_folder};
+use crate::found::{KeptAt, ToldHunt, keep_first};
 use ckrt_disk::Disk;
-use ckrt_hunt::{
-    Asked, Found, HuntFault, Seeds, Shape, Tally, hunt_and_tell, room_for, write_kept,
-};
+use ckrt_hunt::{Asked, HuntFault, Seeds, Shape, Tally, hunt_and_tell};
 use ckrt_jobs::fitting_image;
 use ckrt_main::ServeFault;
-use ckrt_memory::MemoryError;
 use ckrt_outcomes::JobFault;
 use ckrt_recovery::{Config, FormatFault};
 use ckrt_sources::Sources;
@@ -72,134 +68,38 @@ fn tell<W: Write>(
     }
 }
 
-/// What the job answers where there is no room to look for a shorter schedule.
-fn room_fault_of(fault: MemoryError) -> JobFault
-    ensures { result ≡ room_fault_of fault }
-{
-    match fault {
-        MemoryError::ImageTooLong => JobFault::Format(FormatFault::ImageTooLong),
-        MemoryError::OutOfMemory => JobFault::OutOfMemory,
-    }
-}
-
-/// Says which run was kept, and flushes that.
-#[tactic(auto, using(crate::proofs::AppendLemmas::appends_kept))]
-fn tell_kept<W: Write>(writer: &mut W, seed: u64, found: &Found<'_>) -> Result<(), JobFault>
-    ensures { TellsKept seed found.now (W.contents writer.old) (W.contents writer.new) (Ok tt)
-        result }
-{
-    if write_kept(writer, seed, found).is_err() {
-        return Err(JobFault::Serve(ServeFault::Write));
-    }
-    match writer.flush() {
-        Ok(()) => Ok(()),
-        Err(_) => Err(JobFault::Serve(ServeFault::Write)),
-    }
-}
-
-/// Keeps the run of the plan that was found for a seed on a disk of a path, and says so.
-fn keep_found<'a, I: Read, D: Disk, S: Sources<'a, I, D>, W: Write>(
-    alloc: Global,
-    seed: u64,
-    found: &Found<'_>,
-    what: &Kept<'a, '_>,
-    sources: &mut S,
-    writer: &mut W,
-) -> Result<(), JobFault>
-    requires { is_valid what.now.config ≡ true }
-    ensures { (kept : Result (Unit {0}) JobFault)
-        × Keeps D.Disk (record {
-          program = formatted_program what.now.config what.now.image.now;
-          plan = found.now.plan;
-          path = what.now.path.now;
-          Fills = S.fills sources.old what.now.path.now (size_needed what.now.config);
-        })
-        (S.openings sources.old) (S.openings sources.new) kept
-        × TellsKept seed found.now (W.contents writer.old) (W.contents writer.new) kept result }
-{
-    match keep::<I, D, S>(alloc, what, &found.plan, sources) {
-        Ok(()) => tell_kept(writer, seed, found),
-        Err(fault) => Err(fault),
-    }
-}
-
-/// Keeps the run of the first seed on the disk of a path, by the shortest schedule that is found.
-fn keep_first<'a, I: Read, D: Disk, S: Sources<'a, I, D>, W: Write>(
-    alloc: Global,
-    path: &'a str,
-    config: Config,
-    image: &[u8],
-    asked: &Asked<'a>,
-    sources: &mut S,
-    writer: &mut W,
-) -> Result<(), JobFault>
-    requires { is_valid config ≡ true }
-    ensures { LacksRoom (reached (S.openings sources.old) (W.contents writer.old))
-        (reached (S.openings sources.new) (W.contents writer.new)) result
-        ⊎ KeepsFound D.Disk (record {
-          path = None;
-          keeping = λ p path. record {
-            program = formatted_program config image.now;
-            plan = p;
-            path = path;
-            Fills = S.fills sources.old path (size_needed config);
-          };
-          hunted = hunted_of image.now asked.now.shape;
-          seed = asked.now.seeds.first;
-        }) path.now (reached (S.openings sources.old) (W.contents writer.old))
-        (reached (S.openings sources.new) (W.contents writer.new)) result }
-{
-    let (hunt, tries) = match room_for(alloc, image, asked.shape) {
-        Ok(room) => room,
-        Err(fault) => return Err(room_fault_of(fault)),
-    };
-    let mut hunt = hunt;
-    let mut tries = tries;
-    let seed = asked.seeds.first;
-    tries.search(&mut hunt, seed);
-    let found = tries.found(&mut hunt, seed);
-    drop(hunt);
-    let what = Kept {
-        path,
-        config,
-        image,
-    };
-    keep_found::<I, D, S, W>(alloc, seed, &found, &what, sources, writer)
-}
-
-/// Keeps the run of the first seed where the words name a disk for it.
+/// Keeps what the words ask for: the run of the first seed, or that of each outcome.
 fn keep_if_asked<'a, I: Read, D: Disk, S: Sources<'a, I, D>, W: Write>(
     alloc: Global,
-    job: &HuntJob<'a>,
-    image: &[u8],
-    asked: &Asked<'a>,
+    keep: Option<&'a str>,
+    told: ToldHunt<'_>,
     sources: &mut S,
     writer: &mut W,
 ) -> Result<(), JobFault>
-    requires { is_valid (config_of (hunting_of job.now)) ≡ true }
-    ensures { KeepsIfWanted D.Disk (wanted_of (record {
-      asked = hunting_of job.now;
-      known = S.image_bytes sources.old job.now.image.now;
-      Fills = λ path. S.fills sources.old path (kept_size (hunting_of job.now));
-    }) image.now asked.now)
+    requires { is_valid told.config ≡ true }
+    ensures { KeepsAt D.Disk
+        (sought_in (hunted_of told.image.now told.shape) told (S.fills sources.old))
         (reached (S.openings sources.old) (W.contents writer.old))
-        (reached (S.openings sources.new) (W.contents writer.new)) result }
+        (reached (S.openings sources.new) (W.contents writer.new)) result
+        (place_of (option_map (λ path. path.now) keep) told.rows.now) }
 {
-    match job.keep {
-        Some(path) => {
-            let config = config_of(job);
-            keep_first::<I, D, S, W>(alloc, path, config, image, asked, sources, writer)
-        }
-        None => Ok(()),
+    let Some(path) = keep else {
+        return Ok(());
+    };
+    let at = KeptAt { path, told };
+    if is_folder(path) {
+        keep_in_folder::<I, D, S, W>(alloc, &at, sources, writer)
+    } else {
+        keep_first::<I, D, S, W>(alloc, &at, sources, writer)
     }
 }
 
-/// Hunts an image that was read, tells what came of it, and keeps the first run where the words name a disk for it.
+/// Hunts an image that was read, tells what came of it, and keeps what the words ask for.
 fn hunt_image<'a, I: Read, D: Disk, S: Sources<'a, I, D>, W: Write>(
     alloc: Global,
     job: &HuntJob<'a>,
     image: &[u8],
-    asked: &Asked<'a>,
+    asked: &Asked<'_>,
     sources: &mut S,
     writer: &mut W,
 ) -> Result<bool, JobFault>
@@ -216,18 +116,25 @@ fn hunt_image<'a, I: Read, D: Disk, S: Sources<'a, I, D>, W: Write>(
 {
     match tell(alloc, image, asked, writer) {
         Ok(tally) => {
-            let several = tally.has_several();
-            drop(tally);
-            let kept = keep_if_asked::<I, D, S, W>(alloc, job, image, asked, sources, writer);
-            answer_of(kept, several)
+            let told = ToldHunt {
+                config: config_of(job),
+                image,
+                shape: asked.shape,
+                first: asked.seeds.first,
+                rows: tally.rows(),
+            };
+            let kept = keep_if_asked::<I, D, S, W>(alloc, job.keep, told, sources, writer);
+            answer_of(kept, tally.has_several())
         }
         Err(fault) => Err(fault_of(fault)),
     }
 }
 
 /// Runs the image of a path by one schedule after another, each drawn from its seed, and writes the table of what they come to. The
-/// answer is whether they came to several outcomes. Where the words name a disk for it, the run of the first seed is kept there, by
-/// the shortest schedule that is found, and how many switches it has is written too.
+/// answer is whether they came to several outcomes. Where the words name a disk, the run of the first seed is kept there; where they
+/// name a folder, by a path that ends with `/`, the first run of each outcome is, on a disk of its own. Each is kept by the shortest
+/// schedule that is found, and written is its disk too, and how many switches it has. Of a folder the first run that isn't kept is
+/// named as well.
 ///
 /// # Errors
 ///

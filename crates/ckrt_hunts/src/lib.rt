@@ -5,9 +5,13 @@
 //! the table of what they came to, or nothing, unless the writer failed. The answer is whether there were several outcomes. Where the
 //! words name a disk, it is asked for only then. It gets the name of its path only where it has a whole run that comes to what the
 //! first seed comes to, by the shortest schedule that was found: whatever a stop leaves of it recovers to just that. Else it is given
-//! up. Behind the table it is told how many switches that run has, and how many the seed drew.
+//! up. Behind the table it is told how many switches that run has, and how many the seed drew. Where the words name a folder, it is so
+//! with a disk for each outcome, in their order, each with the run of the first seed that came to it. The first one that isn't kept is
+//! named, and ends it.
 #![tactic(auto)]
 
+mod folder;
+mod found;
 mod hunting;
 mod keeping;
 

@@ -78,14 +78,14 @@ const OF_A: [u8; 32] = [
 ];
 
 /// A thread waits for each of what there is.
-const WAITINGS: [Waiting; 8] = [
+const WAITINGS: [Waiting; 9] = [
     Waiting {
         thread: 1,
         awaited: Awaited::End(2),
     },
     Waiting {
         thread: 2,
-        awaited: Awaited::Mutex(0x2c58),
+        awaited: Awaited::Mutex(0x2c58, Some(3)),
     },
     Waiting {
         thread: 3,
@@ -102,6 +102,10 @@ const WAITINGS: [Waiting; 8] = [
     Waiting {
         thread: 6,
         awaited: Awaited::Write(0xffff_fffc),
+    },
+    Waiting {
+        thread: 7,
+        awaited: Awaited::Mutex(0x2c5c, None),
     },
     Waiting {
         thread: 63,
@@ -172,9 +176,9 @@ outcome 1: 2 of 200 runs, first by seed 1: exit 7, output 559aead0
 outcome 2: 1 of 200 runs, first by seed 2: fault of thread 2 at 00001234, LoadRange
     ckrt hunt race.bin --seeds 2-2 --pages 16 --harts 2 --steps 10000 --keep seed-2.disk
 outcome 3: 1 of 200 runs, first by seed 4: deadlock, thread 1 waits for the end of thread 2, \
-thread 2 waits for mutex 00002c58, thread 3 waits for condition 00000040, \
+thread 2 waits for mutex 00002c58 (thread 3 has it), thread 3 waits for condition 00000040, \
 thread 4 waits for barrier 0000fffc, thread 5 waits for read lock 10000000, \
-thread 6 waits for write lock fffffffc, thread 63 waits for input, thread 64 waits for its deadline
+thread 6 waits for write lock fffffffc, thread 7 waits for mutex 00002c5c, thread 63 waits for input, thread 64 waits for its deadline
     ckrt hunt race.bin --seeds 4-4 --pages 16 --harts 2 --steps 10000 --keep seed-4.disk
 outcome 4: 1 of 200 runs, first by seed 5: waits for input
     ckrt hunt race.bin --seeds 5-5 --pages 16 --harts 2 --steps 10000 --keep seed-5.disk

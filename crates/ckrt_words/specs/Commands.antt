@@ -2,7 +2,7 @@
 -- `inspect DISK [--at K] [--code]`, `core DISK FILE [--at K]`, `calls DISK [--from K] [--to K]`, `debug DISK [--at K]`,
 -- `races DISK [--from K] [--to K]`, `timeline DISK [--from K] [--to K] [--width W] [--json]`,
 -- `profile DISK [--from K] [--to K] [--folded | --callgrind]`,
--- `hunt IMAGE [--seeds A-B] [--pages P] [--harts H] [--steps N] [--keep DISK]` and `drive DISK [--image IMAGE] [--pages P] [--harts H]
+-- `hunt IMAGE [--seeds A-B] [--pages P] [--harts H] [--steps N] [--keep DISK | FOLDER/]` and `drive DISK [--image IMAGE] [--pages P] [--harts H]
 -- [--journal J] [--input FILE] [--input-from OFFSET] [--output FILE] [--turn N] [--rounds-per-commit R] [--events N] [--seed S]
 -- [--progress SECONDS] [--status FILE] [--from OFFSET]`.
 use Rattle.std.specs.Prelude.{pos, codes, fold, Some, true, List, [], ◌∷◌}

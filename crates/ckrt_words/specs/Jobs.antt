@@ -64,8 +64,8 @@ pub record Profiling : Type 0 where
   pub stretch : DiskStretch
   pub form : ProfileForm
 
--- what `hunt` runs: the image, the text of its range of seeds, the sizes, how many steps a run has at most, and the new disk that the run of the
--- first seed is kept on
+-- what `hunt` runs: the image, the text of its range of seeds, the sizes, how many steps a run has at most, and the new disk or the folder that
+-- runs are kept on
 pub record Hunting : Type 0 where
   pub image : Text
   pub seeds : Text

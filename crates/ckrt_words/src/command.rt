@@ -377,7 +377,7 @@ fn profile_arguments<'a>(alloc: Global) -> Result<Vec<Arg<'a>>, AllocError>
     Ok(arguments)
 }
 
-/// `hunt IMAGE` with its options: which seeds, on what machine, how long a run is, and where the first run is kept.
+/// `hunt IMAGE` with its options: which seeds, on what machine, how long a run is, and where runs are kept.
 fn hunt_command<'a>(alloc: Global) -> Result<Command<'a>, AllocError>
     ensures app { IfOk result (λ c. app_of c ≡ hunt_app) }
     ensures local { IfOk result (λ c. (out-Command c).has_globals ≡ false) }
@@ -427,7 +427,7 @@ fn hunt_arguments<'a>(alloc: Global) -> Result<Vec<Arg<'a>>, AllocError>
             alloc,
             "keep",
             "DISK",
-            "A new disk that gets the run of the first seed, by a schedule of few switches"
+            "A new disk for the run of the first seed, by a schedule of few switches; FOLDER/ keeps each outcome in that folder"
         ),
     ]?;
     Ok(arguments)

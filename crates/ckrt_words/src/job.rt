@@ -133,7 +133,8 @@ pub struct HuntJob<'a> {
     pub harts: u32,
     /// Steps of a run, at most.
     pub steps: u32,
-    /// The path of the disk that is made for the run of the first seed; this isn't given where none is kept.
+    /// The path of the disk that is made for the run of the first seed, or, with a `/` at its end, of the folder in which each outcome
+    /// gets a disk; this isn't given where none is kept.
     pub keep: Option<&'a str>,
 }
 

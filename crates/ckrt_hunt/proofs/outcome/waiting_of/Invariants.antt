@@ -5,4 +5,4 @@ use Rattle.ckrt_hunt.proofs.outcome.waiting_of.Given as goal
 -- the threads before it have been looked at
 abbrev pub invariant-loop-thread : goal.invariant-loop-thread
 invariant-loop-thread l =
-    (l.waiting.items ≡ waiting_among l.threads (l.thread - 1)) × (length l.waiting.items ≤ l.thread - 1)
+    (l.waiting.items ≡ waiting_among l.tables (l.thread - 1)) × (length l.waiting.items ≤ l.thread - 1)

@@ -22,8 +22,8 @@ returns g c =
       Fills = λ path. g.S.Sources.fills c.args.sources.now path size;
     } in
     let written = g.W.Write.contents c.hunt_image.new.writer in
-    let ends = ends_weaker g.D.Disk _ (λ path. g.S.Sources.fills c.args.sources.now path size) _ (reached new written) h.0 c.hunt_image.result
-    (λ p path disk is. read.same.disks path size disk is) h.3 in
+    let ends = ends_weaker g.D.Disk _ (λ path. g.S.Sources.fills c.args.sources.now path size) guest asked _ (reached new written) h.0 c.hunt_image.result
+    (λ path disk is. read.same.disks path size disk is) h.3 in
     record {
       hunts = λ left.
           inr (inr (inr (record {
