@@ -105,7 +105,12 @@ fn waiting_of(tables: &Tables) -> ArrayVec<Waiting, 64>
 {
     let mut waiting = ArrayVec::new();
     for thread in 1..MAX_THREADS as ThreadId + 1 {
-        push_waiting(&mut waiting, &tables.mutexes, thread, tables.threads.wait_of(thread));
+        push_waiting(
+            &mut waiting,
+            &tables.mutexes,
+            thread,
+            tables.threads.wait_of(thread),
+        );
     }
     waiting
 }

@@ -195,12 +195,7 @@ pub fn write_unkept<W: Write>(out: &mut W, seed: u64, path: &str) -> Result<()>
 
 /// Writes which seed's run is kept, on the disk of which path, how many switches it has, and how many it was drawn with: a
 /// switch is a thread that runs after another one. It takes no memory.
-pub fn write_kept<W: Write>(
-    out: &mut W,
-    seed: u64,
-    path: &str,
-    found: &Found<'_>,
-) -> Result<()>
+pub fn write_kept<W: Write>(out: &mut W, seed: u64, path: &str, found: &Found<'_>) -> Result<()>
     ensures { OnOk result
         (Appends (W.contents out.old) (W.contents out.new) (kept_text seed path.now found.now)) }
 {
