@@ -1,5 +1,6 @@
 //! The run of a seed on a disk of a path, by the shortest schedule that is found.
-ghost use Rattle.std.specs.Prelude.{◌≡◌, ◌⊎◌, Ok, Unit, true};
+ghost use Rattle.std.specs.Prelude.{◌≡◌, ◌⊎◌, Ok, Result, true};
+ghost use Rattle.ckrt_outcomes.specs.declared.fault.JobFault.{JobFault};
 ghost use Rattle.ckrt_checkpoint.specs.Layout.{is_valid, size_needed};
 ghost use Rattle.ckrt_stored.specs.Programs.{formatted_program};
 ghost use Rattle.ckrt_hunt.specs.Table.{kept_text};

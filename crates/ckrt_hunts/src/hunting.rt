@@ -78,10 +78,11 @@ fn keep_if_asked<'a, I: Read, D: Disk, S: Sources<'a, I, D>, W: Write>(
 ) -> Result<(), JobFault>
     requires { is_valid told.config ≡ true }
     ensures { KeepsAt D.Disk
-        (sought_in (hunted_of told.image.now told.shape) told (S.fills sources.old))
+        (sought_in (hunted_of told.entry.image.now told.entry.shape) told.entry
+        (S.fills sources.old))
         (reached (S.openings sources.old) (W.contents writer.old))
         (reached (S.openings sources.new) (W.contents writer.new)) result
-        (place_of (option_map (λ path. path.now) keep) told.rows.now) }
+        (place_of (option_map (λ path. path.now) keep.entry) told.entry.rows.now) }
 {
     let Some(path) = keep else {
         return Ok(());

@@ -22,7 +22,13 @@ returns g c =
       Fills = λ path. g.S.Sources.fills c.args.sources.now path size;
     } in
     let written = g.W.Write.contents c.hunt_image.new.writer in
-    let ends = ends_weaker g.D.Disk _ (λ path. g.S.Sources.fills c.args.sources.now path size) guest asked _ (reached new written) h.0 c.hunt_image.result
+    let after = c.fitting_image.new.sources in
+    let looked : Hunter g.row.D.Denot = record {
+      asked = hunting_of job;
+      known = g.S.Sources.image_bytes after job.image.now;
+      Fills = λ path. g.S.Sources.fills after path size;
+    } in
+    let ends = ends_weaker g.D.Disk looked (λ path. g.S.Sources.fills c.args.sources.now path size) guest asked _ (reached new written) h.0 c.hunt_image.result
     (λ path disk is. read.same.disks path size disk is) h.3 in
     record {
       hunts = λ left.
