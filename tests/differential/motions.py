@@ -71,14 +71,16 @@ def signal_of(fault):
 
 
 def onward(steps, stops, place, last):
-    """The least position behind this one whose next step is at a breakpoint or faults, or before a change, where it may stay."""
+    """The least position behind this one whose next step is at a breakpoint, or before a change, where it may stay; or behind the
+    step of a fault."""
     for step in steps:
         answers = [f"T05watch:{address:x};thread:{step.thread:x};" for address in stops.changed_watches(step)]
-        if step.before > place:
-            answers += [f"T05thread:{step.thread:x};"] if step.place in stops.places else []
-            answers += [f"T{signal_of(step.fault)}thread:{step.thread:x};"] if step.fault else []
+        if step.before > place and step.place in stops.places:
+            answers.append(f"T05thread:{step.thread:x};")
         if step.before >= place and answers:
             return step.before, answers
+        if step.before >= place and step.fault:
+            return step.behind, [f"T{signal_of(step.fault)}thread:{step.thread:x};"]
     return last, [END]
 
 

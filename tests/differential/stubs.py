@@ -19,10 +19,12 @@ def monitor(text):
 
 
 def answers_in(output):
-    """The payloads, without the console's; beside each what the console was told before it."""
+    """The payloads, without the console's; beside each what the console was told before it. A wrong sum stands behind its payload."""
     answers, told = [], ""
-    for payload in re.findall(r"\$([^#]*)#..", output.decode()):
-        if re.fullmatch(r"O([0-9a-f]{2})+", payload):
+    for framed, payload in re.findall(r"(\$([^#]*)#..)", output.decode()):
+        if frame(payload) != framed.encode():
+            answers.append((told, framed))
+        elif re.fullmatch(r"O([0-9a-f]{2})+", payload):
             told += bytes.fromhex(payload[1:]).decode()
         else:
             answers.append((told, payload))

@@ -32,7 +32,9 @@ class Texts(WithKeys):
     def test_frames(self):
         self.assertEqual(frame("OK"), b"$OK#9a")
         self.assertEqual(frame(monitor("A")), b"$qRcmd,41#" + b"%02x" % (sum(b"qRcmd,41") % 256))
-        self.assertEqual(answers_in(b"+$O41#00+$O42#00$OK#9a$#00+$m1,2#00"), [("AB", "OK"), ("", ""), ("", "m1,2")])
+        framed = [frame(payload) for payload in ("O41", "O42", "OK", "", "m1,2")]
+        self.assertEqual(answers_in(b"+" + b"+".join(framed)), [("AB", "OK"), ("", ""), ("", "m1,2")])
+        self.assertEqual(answers_in(b"$OK#9b"), [("", "$OK#9b")])
 
     def test_positions(self):
         self.assertEqual([position_text(place) for place in [(7, 0), (7, 1)]], ["7", "7+1"])
