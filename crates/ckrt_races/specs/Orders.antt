@@ -3,12 +3,14 @@
 use Rattle.std.specs.Prelude.{ℕ, ◌+◌, ◌%◌, ◌^◌, ◌==◌, ◌&&◌, Bool, true, false, if◌then◌else◌, List, [], ◌∷◌, ◌++◌, Option, Some, None, is_some}
 use Rattle.std.specs.List.{find, flat_map}
 use Rattle.ckrt_registers.specs.Registers.{Registers, get}
-use Rattle.ckrt_thread.specs.Cancellation.{is_unwinding}
+use Rattle.ckrt_thread.specs.Cancellation.{CANCELED}
 use Rattle.ckrt_thread.specs.State as threads
 use Rattle.ckrt_thread.specs.Waits.{is_for, is_of}
 use Rattle.ckrt_thread.specs.declared.records.Object.TheVariants as object
 use Rattle.ckrt_thread.specs.declared.records.Reason.{Reason}
 use Rattle.ckrt_thread.specs.declared.records.Reason.TheVariants as reason
+use Rattle.ckrt_thread.specs.declared.records.Thread.{Thread}
+use Rattle.ckrt_thread.specs.declared.records.Thread.TheVariants as thread
 use Rattle.ckrt_thread.specs.declared.records.Wait.{Wait}
 use Rattle.ckrt_mutex.specs.Mutex.{is_owner, mutex_at}
 use Rattle.ckrt_barrier.specs.Rows.{SERIAL_THREAD}
@@ -71,10 +73,16 @@ taken_to_write p t a after =
     if is_writer t (lock_at a after.rwlocks) then acquired t (lock.Writers a) p ∷ acquired t (lock.Readers a) p ∷ []
     else []
 
--- a thread that unwinds has seen what those did who cancelled it
+-- a thread unwinds, or has ended as a cancelled one does
+abbrev pub is_on_its_way : Option Thread → Bool
+is_on_its_way None = false
+is_on_its_way (Some (thread.Live l)) = is_some l.cancellation.unwinding
+is_on_its_way (Some (thread.Ended v)) = v == CANCELED
+
+-- it has seen what those did who cancelled it
 abbrev pub taken_request : Place → (t : ℕ) → Tables → List Operation
 taken_request p t after =
-    if is_unwinding (threads.thread_of after.threads t) then acquired t (lock.Request t) p ∷ []
+    if is_on_its_way (threads.thread_of after.threads t) then acquired t (lock.Request t) p ∷ []
     else []
 
 -- CALLS
@@ -179,11 +187,15 @@ of_reason p t _ after = []
 
 abbrev pub of_wait : Place → Tables → Wait → List Operation
 of_wait p after w =
-    if waits_now w.thread after then []
-    else of_reason p w.thread w.reason after ++ taken_request p w.thread after
+    if waits_now w.thread after then [] else of_reason p w.thread w.reason after
 
+-- the request on which such a thread acts
+abbrev pub of_request : Place → Tables → Wait → List Operation
+of_request p after w = if waits_now w.thread after then [] else taken_request p w.thread after
+
+-- requests come first: who ends by one has seen it before others go on that waited for its end
 abbrev pub of_waits : Place → List Wait → Tables → List Operation
-of_waits p ws after = flat_map (of_wait p after) ws
+of_waits p ws after = flat_map (of_request p after) ws ++ flat_map (of_wait p after) ws
 
 -- A STEP that is no plain instruction, of the thread that is on the hart
 
@@ -196,4 +208,4 @@ of_actor p (Some t) after = taken_request p t after
 abbrev pub between : Place → Option ℕ → Before → Tables → List Operation
 between p actor b after =
     of_caller p b.caller b.is_writer b.waits.items after
-    ++ (of_waits p b.waits.items after ++ of_actor p actor after)
+    ++ (of_actor p actor after ++ of_waits p b.waits.items after)

@@ -1,16 +1,15 @@
 //! What puts accesses in an order: locks that threads have taken.
 ghost use Rattle.std.specs.Prelude.{◌≡◌, is_some};
 ghost use Rattle.std.specs.List.{find, flat_map};
-ghost use Rattle.ckrt_thread.specs.Cancellation.{is_unwinding};
 ghost use Rattle.ckrt_thread.specs.State.{is_live, thread_of};
 ghost use Rattle.ckrt_thread.specs.Waits.{is_of};
 ghost use Rattle.ckrt_order.specs.Detection.{behind_all};
-ghost use Rattle.ckrt_races.specs.Orders.{of_actor, of_reason, of_wait, of_waits, taken_mutex, taken_request, taken_to_read, taken_to_write, waits_now};
+ghost use Rattle.ckrt_races.specs.Orders.{is_on_its_way, of_actor, of_reason, of_request, of_wait, of_waits, taken_mutex, taken_request, taken_to_read, taken_to_write, waits_now};
 
 use crate::holders::{Lock, acquired, ordered};
 use ckrt_order::{Detector, Place};
 use ckrt_state::Tables;
-use ckrt_thread::{Reason, Thread, ThreadId, Threads, Wait};
+use ckrt_thread::{CANCELED, Reason, Thread, ThreadId, Threads, Wait};
 
 /// Whether a thread waits.
 pub(crate) fn waits_now(thread: ThreadId, after: &Tables) -> bool
@@ -68,22 +67,23 @@ pub(crate) fn take_to_write(
     }
 }
 
-/// Whether a thread unwinds.
-fn unwinds(threads: &Threads, thread: ThreadId) -> bool
-    ensures { result ≡ is_unwinding (thread_of threads.now thread) }
+/// Whether a thread unwinds, or has ended as a cancelled one does.
+fn is_on_its_way(threads: &Threads, thread: ThreadId) -> bool
+    ensures { result ≡ is_on_its_way (thread_of threads.now thread) }
 {
     match threads.thread(u32::from(thread)) {
         Some(Thread::Live(live)) => live.cancellation.unwinding.is_some(),
-        _ => false,
+        Some(Thread::Ended(value)) => *value == CANCELED,
+        None => false,
     }
 }
 
-/// A thread that unwinds has seen what those did who cancelled it.
+/// Such a thread has seen what those did who cancelled it.
 fn take_request(place: Place, thread: ThreadId, after: &Tables, detector: &mut Detector)
     ensures { detector.new
         ≡ behind_all (taken_request place thread after.now) detector.old }
 {
-    if unwinds(&after.threads, thread) {
+    if is_on_its_way(&after.threads, thread) {
         detector.note(&acquired(thread, Lock::Request(u32::from(thread)), place));
     }
 }
@@ -122,7 +122,6 @@ fn watch_reason(
 }
 
 /// A wait, if it is over.
-#[tactic(auto, using(crate::proofs::BehindLemmas::behind_both))]
 fn watch_wait(place: Place, after: &Tables, wait: &Wait, detector: &mut Detector)
     ensures { detector.new ≡ behind_all (of_wait place after.now wait.now) detector.old }
 {
@@ -130,16 +129,45 @@ fn watch_wait(place: Place, after: &Tables, wait: &Wait, detector: &mut Detector
         return;
     }
     watch_reason(place, wait.thread, wait.reason, after, detector);
+}
+
+/// The request on which a thread acts whose wait is over.
+fn watch_request(place: Place, after: &Tables, wait: &Wait, detector: &mut Detector)
+    ensures { detector.new ≡ behind_all (of_request place after.now wait.now) detector.old }
+{
+    if waits_now(wait.thread, after) {
+        return;
+    }
     take_request(place, wait.thread, after, detector);
 }
 
-/// Those waits that are over.
-pub(crate) fn watch_waits(place: Place, before: &[Wait], after: &Tables, detector: &mut Detector)
-    ensures { detector.new ≡ behind_all (of_waits place before.now after.now) detector.old }
+/// The requests on which those act whose waits are over.
+fn watch_requests(place: Place, before: &[Wait], after: &Tables, detector: &mut Detector)
+    ensures { detector.new
+        ≡ behind_all (flat_map (of_request place after.now) before.now) detector.old }
+{
+    for wait in before {
+        watch_request(place, after, wait, detector);
+    }
+}
+
+/// What those have by now whose waits are over.
+fn watch_reasons(place: Place, before: &[Wait], after: &Tables, detector: &mut Detector)
+    ensures { detector.new
+        ≡ behind_all (flat_map (of_wait place after.now) before.now) detector.old }
 {
     for wait in before {
         watch_wait(place, after, wait, detector);
     }
+}
+
+/// Those waits that are over: first the requests on which their threads act.
+#[tactic(auto, using(crate::proofs::BehindLemmas::behind_both))]
+pub(crate) fn watch_waits(place: Place, before: &[Wait], after: &Tables, detector: &mut Detector)
+    ensures { detector.new ≡ behind_all (of_waits place before.now after.now) detector.old }
+{
+    watch_requests(place, before, after, detector);
+    watch_reasons(place, before, after, detector);
 }
 
 /// The thread that made the step.

@@ -43,8 +43,8 @@ fn watch_between(
         after,
         detector,
     );
-    watch_waits(place, waits, after, detector);
     watch_actor(place, actor, after, detector);
+    watch_waits(place, waits, after, detector);
 }
 
 /// A step of a run of the thread on a hart: the first, or a further one.

@@ -1,7 +1,7 @@
 use Rattle.std.proofs.Common.{◌∙◌}
 use Rattle.ckrt_races.specs.Orders.{of_wait}
 use Rattle.ckrt_races.proofs.BehindLemmas.{behind_each, behind_on}
-use Rattle.ckrt_races.proofs.orders.watch_waits.Goals as goal
+use Rattle.ckrt_races.proofs.orders.watch_reasons.Goals as goal
 
 pub loop-wait-preserved : goal.loop-wait-preserved
 loop-wait-preserved c =
