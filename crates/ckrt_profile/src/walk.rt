@@ -129,8 +129,8 @@ fn count_straight(machine: &mut Machine, hart: u8, limit: u32, counts: &mut Coun
         × (machine.new.output ≡ machine.old.output) }
     ensures state { state_behind (limit - result) hart machine.new.state machine.new.output
         ≡ state_behind limit hart machine.old.state machine.old.output }
-    ensures counted { behind_all (of_rest (limit - result) hart machine.new.state machine.new.output)
-        counts.new
+    ensures counted { behind_all
+        (of_rest (limit - result) hart machine.new.state machine.new.output) counts.new
         ≡ behind_all (of_rest limit hart machine.old.state machine.old.output) counts.old }
 {
     let first = next_step(machine, hart, true);
@@ -147,8 +147,8 @@ fn count_piece(machine: &mut Machine, hart: u8, limit: u32, counts: &mut Counts)
     ensures within { result ≤ limit }
     ensures state { state_behind (limit - result) hart machine.new.state machine.new.output
         ≡ state_behind limit hart machine.old.state machine.old.output }
-    ensures counted { behind_all (of_rest (limit - result) hart machine.new.state machine.new.output)
-        counts.new
+    ensures counted { behind_all
+        (of_rest (limit - result) hart machine.new.state machine.new.output) counts.new
         ≡ behind_all (of_rest limit hart machine.old.state machine.old.output) counts.old }
 {
     let made = count_straight(machine, hart, limit, counts);
