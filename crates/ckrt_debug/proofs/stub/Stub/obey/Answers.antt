@@ -6,4 +6,4 @@ use Rattle.ckrt_debug.proofs.stub.Stub.obey.Goals as goal
 pub returns-clause-obeyed : goal.returns-clause-obeyed
 returns-clause-obeyed c =
     subst (λ command. IfOk c.perform.result (λ stub. (console : List ℕ) × Does command c.args.self stub console × (c.perform.new.out.items ≡ c.args.out.now.items ++ console)))
-    c.command_of.ensures c.perform.ensures.does
+    c.command_of.ensures.command c.perform.ensures.does
