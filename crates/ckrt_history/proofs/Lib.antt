@@ -6,8 +6,6 @@ pub mod AtLemmas
 pub mod OrderLemmas
 pub mod SearchLemmas
 pub mod WatchLemmas
-pub mod SeenLemmas
-pub mod PassLemmas
 pub mod SnapshotLemmas
 pub mod PageLemmas
 pub mod ForkLemmas

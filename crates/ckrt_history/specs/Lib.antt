@@ -1,5 +1,4 @@
 pub mod Positions
 pub mod Engine
 pub mod Stops
-pub mod Search
 pub mod Forks

@@ -3,4 +3,3 @@ pub mod Callgrind
 pub mod Texts
 pub mod Recorded
 pub mod Laws
-pub mod Straight

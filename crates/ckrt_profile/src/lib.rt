@@ -8,7 +8,6 @@ mod folded;
 mod form;
 mod laws;
 mod recorded;
-mod straight;
 mod table;
 mod texts;
 mod walk;

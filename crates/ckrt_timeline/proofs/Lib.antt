@@ -1,6 +1,6 @@
 pub mod DrawLemmas
 pub mod EventLemmas
 pub mod PieceLemmas
-pub mod StillLemmas
+pub mod QuietLemmas
 pub mod TrackLemmas
 pub mod WalkLemmas

@@ -1,5 +1,3 @@
 pub mod AppendLemmas
-pub mod QuietLemmas
-pub mod RowLemmas
 pub mod RunLemmas
 pub mod StretchLemmas
