@@ -1,5 +1,5 @@
 -- A whole picture, and the whole of trace events.
-use Rattle.std.specs.Prelude.{ℕ, ◌+◌, ◌*◌, ◌-◌, ◌/◌, ◌%◌, ◌==◌, ◌&&◌, Bool, true, if◌then◌else◌, List, [], ◌∷◌, ◌++◌, codes, decimal}
+use Rattle.std.specs.Prelude.{ℕ, ◌+◌, ◌*◌, ◌-◌, ◌/◌, ◌%◌, ◌==◌, ◌&&◌, max, Bool, true, if◌then◌else◌, List, [], ◌∷◌, ◌++◌, codes, decimal}
 use Rattle.ckrt_timeline.specs.declared.piece.Piece.{Piece}
 use Rattle.ckrt_timeline.specs.declared.words.Form.{Form}
 use Rattle.ckrt_timeline.specs.declared.words.Form.TheVariants as form
@@ -76,9 +76,9 @@ STRIDES = 20
 abbrev pub is_told : Chart → (k : ℕ) → Bool
 is_told c k = (k - c.first) % (c.events / STRIDES + 1) == 0
 
--- event k begins behind x steps
+-- event k begins behind x steps, as far to the right as the pieces of so many
 abbrev pub place_of : Chart → (x : ℕ) → ℕ
-place_of c x = LEFT + x * inner c / (c.steps + 1)
+place_of c x = LEFT + x * inner c / max c.steps 1
 
 -- at place x, down to y
 abbrev pub tick_text : (k x y : ℕ) → List ℕ

@@ -162,7 +162,7 @@ fn place_of(chart: &Chart, begin: u64) -> u64
     requires { begin ≤ chart.now.steps }
     ensures { result ≡ place_of chart.now begin }
 {
-    80 + (u128::from(begin) * u128::from(chart.width - 100) / (u128::from(chart.steps) + 1)) as u64
+    80 + (u128::from(begin) * u128::from(chart.width - 100) / u128::from(chart.steps.max(1))) as u64
 }
 
 /// Whether the number of an event is told.
