@@ -69,7 +69,7 @@ def difference_of_kept(ckrt, case, folder, seed):
     outcome, drawn = text_of_outcome(folded, case.options.steps), re.search(r"drawn with (\d+)$", lines[-1])
     if drawn is None or int(drawn[1]) < folded.switches:
         return outcome, f"{folded.switches} switches: {lines[-1]}"
-    expected = [*lines_of_table("image", {seed: outcome}, case.options), line_of_kept(seed, folded.switches, drawn[1])]
+    expected = [*lines_of_table("image", {seed: outcome}, case.options), line_of_kept(seed, "kept", folded.switches, drawn[1])]
     most = max(folded.steps, folded.events)
     if most > case.options.steps or (outcome.startswith("no end") and most < case.options.steps):
         return outcome, f"{outcome}: {folded.steps} steps and {folded.events} events"

@@ -13,6 +13,7 @@ from threads import Status, WaitKind
 DIGITS = 8  # of a digest
 AWAITED = {WaitKind.JOIN: "the end of thread {}", WaitKind.LOCK: "mutex {}", WaitKind.RETAKE: "mutex {}", WaitKind.CONDITION: "condition {}",
            WaitKind.BARRIER: "barrier {}", WaitKind.READ: "read lock {}", WaitKind.WRITE: "write lock {}"}
+MUTEX_WAITS = {WaitKind.LOCK, WaitKind.RETAKE}
 
 
 @dataclass
@@ -44,9 +45,15 @@ def fold(recording):
     return folded
 
 
-def text_of_awaited(wait):
+def text_of_owner(machine, wait):
+    """Who has the mutex that is waited for."""
+    owner = machine.mutexes[wait.subject].owner if wait.kind in MUTEX_WAITS and wait.subject in machine.mutexes else 0
+    return f" (thread {owner} has it)" if owner else ""
+
+
+def text_of_awaited(machine, wait):
     return f"thread {wait.thread} waits for " + AWAITED[wait.kind].format(
-        wait.subject if wait.kind is WaitKind.JOIN else address_text(wait.subject))
+        wait.subject if wait.kind is WaitKind.JOIN else address_text(wait.subject)) + text_of_owner(machine, wait)
 
 
 def text_of_outcome(folded, limit):
@@ -60,7 +67,7 @@ def text_of_outcome(folded, limit):
         return f"no end within {limit} steps or events"
     if machine.waits_for_input():
         return "waits for input"
-    return "deadlock, " + ", ".join(text_of_awaited(wait) for wait in sorted(machine.waits, key=lambda wait: wait.thread))
+    return "deadlock, " + ", ".join(text_of_awaited(machine, wait) for wait in sorted(machine.waits, key=lambda wait: wait.thread))
 
 
 @dataclass(frozen=True)
@@ -90,5 +97,5 @@ def lines_of_table(image, outcomes, options):
     return lines
 
 
-def line_of_kept(seed, switches, drawn):
-    return f"kept: the run of seed {seed}, switches: {switches}, drawn with {drawn}"
+def line_of_kept(seed, path, switches, drawn):
+    return f"kept: the run of seed {seed} on {path}, switches: {switches}, drawn with {drawn}"

@@ -33,7 +33,7 @@ def difference_of_rows(rows, timeline):
 
 
 def difference_of_ticks(picture, rows, timeline):
-    """Events have their numbers where they begin, to a pixel and less than a step; of many some, by their order."""
+    """Events have their numbers where they begin, to a pixel; of many some, by their order."""
     ticks = [(int(tick.text), float(tick.get("x"))) for tick in picture.findall(f"{SVG}text") if tick.get("text-anchor") == "middle"]
     steps, numbers = dict(timeline.events), [number for number, _ in ticks]
     if not set(numbers) <= set(steps) or sorted(set(numbers)) != numbers or bool(numbers) != bool(steps):
@@ -41,7 +41,7 @@ def difference_of_ticks(picture, rows, timeline):
     for number, at in ticks if rows else ():
         length = float(rows[0].get("width")) / timeline.steps
         place = float(rows[0].get("x")) + steps[number] * length
-        if abs(at - place) > ROUNDING + length:
+        if abs(at - place) > ROUNDING:
             return f"event {number} at {at}, model {place}"
     return None
 

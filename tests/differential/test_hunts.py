@@ -9,7 +9,7 @@ from test_races import call, load, locked, recording_of
 
 LOCK = Call.MUTEX_LOCK
 WAITS = [  # of thread 2, how it is told
-    (call(LOCK, 0x2000), "mutex 00002000"),
+    (call(LOCK, 0x2000), "mutex 00002000 (thread 1 has it)"),
     ([*call(LOCK, 0x2004), *call(Call.COND_WAIT, 0x3000, 0x2004)], "condition 00003000"),
     (call(Call.BARRIER_WAIT, 0x4000), "barrier 00004000"), (call(Call.RWLOCK_RDLOCK, 0x5000), "read lock 00005000"),
     (call(Call.RWLOCK_WRLOCK, 0x5000), "write lock 00005000"),
@@ -41,7 +41,8 @@ class Outcomes(WithKeys):
         for words, text in WAITS:
             self.comes_to(f"deadlock, thread 1 waits for the end of thread 2, thread 2 waits for {text}", (1, HELD), (2, words),
                           (1, call(Call.JOIN, 2)))
-        self.comes_to("deadlock, thread 1 waits for mutex 00002000, thread 2 waits for the end of thread 1", (2, call(LOCK, 0x2000)),
+        text = "deadlock, thread 1 waits for mutex 00002000 (thread 2 has it), thread 2 waits for the end of thread 1"
+        self.comes_to(text, (2, call(LOCK, 0x2000)),
                       (1, call(LOCK, 0x2000)), (2, call(Call.JOIN, 1)))
 
     def test_what_is_none(self):
@@ -55,7 +56,7 @@ class Outcomes(WithKeys):
     def test_ended_threads(self):
         """They wait for nothing, and get their mutexes back as they wait for others."""
         wait = [*call(LOCK, 0x2000), *call(Call.COND_WAIT, 0x3000, 0x2000)]
-        self.comes_to("deadlock, thread 1 waits for the end of thread 3, thread 3 waits for mutex 00002000", (3, wait),
+        self.comes_to("deadlock, thread 1 waits for the end of thread 3, thread 3 waits for mutex 00002000 (thread 2 has it)", (3, wait),
                       (2, [*call(LOCK, 0x2000), *call(Call.COND_SIGNAL, 0x3000), *call(Call.THREAD_EXIT, 0)]),
                       (1, call(Call.JOIN, 3)), threads=2)
 

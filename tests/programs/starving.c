@@ -17,7 +17,7 @@ static uint32_t mixed(uint32_t value, int steps) {
 static void *write_often(void *number) {
     for (int round = 0; round < ROUNDS; round++) {
         pthread_rwlock_wrlock(&lock);
-        value = mixed(value + (uint32_t)(intptr_t)number, 100);
+        value += mixed((uint32_t)(intptr_t)number + round, 100);
         pthread_rwlock_unlock(&lock);
     }
     return NULL;
