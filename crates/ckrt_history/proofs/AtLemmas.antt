@@ -1,14 +1,16 @@
 -- A machine at a position, and what it is then into.
-use Rattle.std.proofs.Common.{◌≡◌, ℕ, zero, suc, ◌+◌, ◌-◌, ◌<◌, ◌≤◌, List, [], ◌∷◌, take, drop, length, Option, Some, None, slice_get, refl, sym, ap, ◌∙◌, subst, arith, length-drop}
+use Rattle.std.proofs.Common.{◌≡◌, ℕ, zero, suc, ◌+◌, ◌-◌, ◌<◌, ◌≤◌, false, List, [], ◌∷◌, take, drop, length, Option, Some, None, slice_get, refl, sym, ap, ◌∙◌, subst, arith, length-drop}
 use Rattle.std.proofs.lemmas.Option.{slice_get_within}
 use Rattle.ckrt_events.specs.declared.event.Event.{Event}
 use Rattle.ckrt_events.specs.declared.event.Event.TheVariants.{RunLong}
+use Rattle.ckrt_memory.specs.Reasons.{Meets}
 use Rattle.ckrt_machine.specs.Steps.{State}
 use Rattle.ckrt_machine.specs.Events.{AllAccepted, Machine, step}
 use Rattle.ckrt_machine.proofs.Fixed.{same_harts, same_harts_after}
 use Rattle.ckrt_history.specs.declared.position.Position.{Position}
 use Rattle.ckrt_history.specs.Positions.{IsPosition, at_event, into_first, into_run, positions_after, positions_in, run_in, state_before, steps_in, steps_of}
 use Rattle.ckrt_history.specs.Engine.{IsAt, IsInto}
+use Rattle.ckrt_history.specs.Search.{first_meets, meets_at, meets_in}
 use Rattle.ckrt_history.proofs.CutLemmas.{cut}
 use Rattle.ckrt_history.proofs.IntoLemmas.{some_steps}
 use Rattle.ckrt_history.proofs.PlaceLemmas.{state_next, accepted_at, next_ahead}
@@ -87,6 +89,12 @@ module _ (p : Position) (es : List Event) (s : State) (m : Machine) (e : Event) 
     state = into.state ∙ ap (λ l. (into_first k l (state_before p.events es s)).state) (sym ahead);
     output = λ some. into.output some ∙ ap (λ l. (into_first k l (state_before p.events es s)).output) (sym ahead);
   }
+
+  -- a reason isn't met at a position of the event
+  pub not_met_at : (meets : Meets) (r : Position) → r.events ≡ p.events → meets_in meets (run_in e) (into_run r.steps (run_in e) (state_before p.events es s)).state ≡ false → meets_at meets r es s ≡ false
+  not_met_at meets r same not =
+      subst (λ k. first_meets meets (drop k es) (into_first r.steps (drop k es) (state_before k es s)).state ≡ false) (sym same)
+      (subst (λ l. first_meets meets l (into_first r.steps l (state_before p.events es s)).state ≡ false) (sym ahead) not)
 
 -- a position inside an event isn't behind the last
 inside_by : (l : List Event) (k n : ℕ) (es : List Event) (s : State) → drop k es ≡ l → 0 < n → n < positions_in l s → k < length es

@@ -6,6 +6,8 @@ pub mod AtLemmas
 pub mod OrderLemmas
 pub mod SearchLemmas
 pub mod WatchLemmas
+pub mod SeenLemmas
+pub mod PassLemmas
 pub mod SnapshotLemmas
 pub mod PageLemmas
 pub mod ForkLemmas

@@ -38,11 +38,22 @@ up_to_up_to p q r (inl a) (inr b) = (let same = b.0 in inl (omega (arith, a, sam
 up_to_up_to p q r (inr a) (inl b) = (let same = a.0 in inl (omega (arith, b, same)))
 up_to_up_to p q r (inr a) (inr b) = (let x = a.1 in let y = b.1 in inr (a.0 ∙ b.0, omega (arith, x, y)))
 
+pub events_up_to : (p q : Position) → IsUpTo p q → p.events ≤ q.events
+events_up_to p q (inl a) = omega (arith, a)
+events_up_to p q (inr a) = (let same = a.0 in omega (arith, same))
+
 pub not_both : (p q : Position) → IsBefore p q → IsUpTo q p → ⊥
 not_both p q (inl a) (inl b) = absurd (omega (arith, a, b))
 not_both p q (inl a) (inr b) = (let same = b.0 in absurd (omega (arith, a, same)))
 not_both p q (inr a) (inl b) = (let same = a.0 in absurd (omega (arith, b, same)))
 not_both p q (inr a) (inr b) = (let x = a.1 in let y = b.1 in absurd (omega (arith, x, y)))
+
+-- between two positions of an event
+pub within_event : (p q r : Position) → q.events ≡ p.events → IsUpTo p r → IsBefore r q → (r.events ≡ p.events) × (p.steps ≤ r.steps) × (r.steps < q.steps)
+within_event p q r same (inl a) (inl b) = absurd (omega (arith, same, a, b))
+within_event p q r same (inl a) (inr b) = (let there = b.0 in absurd (omega (arith, same, a, there)))
+within_event p q r same (inr a) (inl b) = (let here = a.0 in absurd (omega (arith, same, here, b)))
+within_event p q r same (inr a) (inr b) = (sym a.0, a.1, b.1)
 
 by_steps : (p q : Position) → p.events ≡ q.events → (p.steps ≡ q.steps) ⊎ ((p.steps < q.steps) ⊎ (q.steps < p.steps)) → (IsBefore p q → ⊥) → IsUpTo q p
 by_steps p q same (inl a) none = inr (sym same, omega (arith, a))
@@ -245,6 +256,36 @@ module _ (p : Position) (es : List Event) (s : State) (is : IsPosition p es s) (
 
   pub fewer_left : steps_left (next_position p es s) es s < steps_left p es s
   fewer_left = fewer_by (next_position p es s) (next_is p es s)
+
+-- the later an event, the fewer steps from it on
+one_less : (k : ℕ) (es : List Event) (s : State) → steps_from (suc k) es s ≤ steps_from k es s
+one_less zero [] s = omega arith
+one_less zero (e ∷ es) s = omega arith
+one_less (suc k) [] s = omega arith
+one_less (suc k) (e ∷ es) s = one_less k es (step e s).state
+
+some_less : (d k : ℕ) (es : List Event) (s : State) → steps_from (d + k) es s ≤ steps_from k es s
+some_less zero k es s = (let same : k ≡ 0 + k = omega arith in subst (λ i. steps_from i es s ≤ steps_from k es s) same (omega arith))
+some_less (suc d) k es s =
+    let same : suc (d + k) ≡ suc d + k = omega arith in
+    let one = one_less (d + k) es s in
+    let rest = some_less d k es s in
+    subst (λ i. steps_from i es s ≤ steps_from k es s) same (omega (arith, one, rest))
+
+no_more : (j k : ℕ) (es : List Event) (s : State) → k ≤ j → steps_from j es s ≤ steps_from k es s
+no_more j k es s up = (let same : (j - k) + k ≡ j = omega (arith, up) in subst (λ i. steps_from i es s ≤ steps_from k es s) same (some_less (j - k) k es s))
+
+pub fewer_ahead : (p q : Position) (es : List Event) (s : State) → IsPosition p es s → IsPosition q es s → p.events < length es → IsBefore p q → steps_left q es s < steps_left p es s
+fewer_ahead p q es s is one some (inl a) =
+    let all = event_less p.events es s some in
+    let rest = no_more q.events (suc p.events) es s (omega (arith, a)) in
+    let few = is.steps in
+    omega (arith, all, rest, few)
+fewer_ahead p q es s is one some (inr a) =
+    let all = event_less p.events es s some in
+    let less = a.1 in let few = is.steps in
+    let same : steps_from q.events es s ≡ steps_from p.events es s = ap (λ k. steps_from k es s) (sym a.0) in
+    omega (arith, all, less, few, same)
 
 -- how many steps the event at a place makes
 pub steps_index : (k : ℕ) (es : List Event) (s : State) → k < length es → slice_index (steps_through es s) k ≡ positions_after k es s

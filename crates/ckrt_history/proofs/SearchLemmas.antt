@@ -8,10 +8,10 @@ use Rattle.ckrt_machine.specs.Events.{AllAccepted}
 use Rattle.ckrt_history.specs.declared.position.Position.{Position}
 use Rattle.ckrt_history.specs.declared.stop.Stops.{Stops}
 use Rattle.ckrt_history.specs.declared.stop.Watch.{Watch}
-use Rattle.ckrt_history.specs.Positions.{History, IsBefore, IsGreatest, IsLastOnWay, IsLeast, IsPosition, IsUpTo, NoneBefore, NoneBehind, next_position, previous_position}
+use Rattle.ckrt_history.specs.Positions.{History, IsBefore, IsGreatest, IsLastOnWay, IsLeast, IsPosition, IsUpTo, NoneBefore, NoneBehind, PassesNone, next_position, previous_position}
 use Rattle.ckrt_history.specs.Stops.{AreNone, HasChanged, IsStop, Runner, is_hit, is_of, is_wanted, runner_at, watched_at}
 use Rattle.ckrt_history.proofs.AtLemmas.{inside}
-use Rattle.ckrt_history.proofs.OrderLemmas.{up_or_behind, fewer_left, next_of_previous, previous_first, previous_inside, steps_left, before_is_up_to, before_or_there, next_is_behind, next_up_to, none_between, not_both, previous_of_next, there, up_to_before, up_to_itself, up_to_up_to}
+use Rattle.ckrt_history.proofs.OrderLemmas.{up_or_behind, fewer_ahead, next_of_previous, previous_first, steps_left, before_is_up_to, before_or_there, next_is_behind, next_up_to, not_both, there, up_to_before, up_to_itself, up_to_up_to}
 
 -- where it stands, with the bytes that it has seen there
 pub record IsOnWay (stops : Stops) (h : History) (end : Position) (z : History) (seen : List ℕ) : Type 0 where
@@ -25,31 +25,25 @@ pub way_starts : (stops : Stops) (h : History) (end : Position) (seen : List ℕ
     → seen ≡ watched_at stops.watches.items h.position h.events h.start → IsOnWay stops h end h seen
 way_starts stops h end seen is up same = record { history = refl; is_one = is; begun = up_to_itself h.position; ahead = up; seen_is = same }
 
--- A STEP
+-- A STEP, AND WHAT IS PASSED BEHIND IT
 
 module _ (stops : Stops) (h : History) (end : Position) (z : History) (seen : List ℕ) (way : IsOnWay stops h end z seen)
-    (more : IsBefore z.position end) (is_end : IsPosition end h.events h.start)
-    (new : History) (made : new ≡ record z { position = next_position z.position z.events z.start })
-    (is_one : IsPosition new.position new.events new.start) where
+    (new : History) (made : new ≡ record z { position = new.position })
+    (passes : PassesNone (IsStop stops z) z.position end new.position z) where
   new_is : new ≡ record h { position = new.position }
-  new_is = λ i. record {
-    start = (ap (λ (x : History). x.start) made ∙ ap (λ (x : History). x.start) way.history) i;
-    events = (ap (λ (x : History). x.events) made ∙ ap (λ (x : History). x.events) way.history) i;
-    position = new.position;
-    most = (ap (λ (x : History). x.most) made ∙ ap (λ (x : History). x.most) way.history) i;
-  }
+  new_is = made ∙ ap (λ (x : History). record x { position = new.position }) way.history
 
-  next : new.position ≡ next_position z.position h.events h.start
-  next = ap (λ (x : History). x.position) made ∙ ap (λ (x : History). next_position z.position x.events x.start) way.history
-
-  behind : IsBefore z.position new.position
-  behind = subst (λ q. IsBefore z.position q) (sym next) (next_is_behind z.position h.events h.start)
+  of_start : PassesNone (IsStop stops (record h { position = z.position })) z.position end new.position (record h { position = z.position })
+  of_start = subst (λ (x : History). PassesNone (IsStop stops x) z.position end new.position x) way.history passes
 
   is_position : IsPosition new.position h.events h.start
-  is_position = subst (λ (x : History). IsPosition new.position x.events x.start) new_is is_one
+  is_position = of_start.is_one
+
+  behind : IsBefore z.position new.position
+  behind = passes.behind
 
   up_to_end : IsUpTo new.position end
-  up_to_end = subst (λ q. IsUpTo q end) (sym next) (next_up_to z.position h.events h.start end is_end more)
+  up_to_end = passes.within
 
   pub way_on : (now : List ℕ) → now ≡ watched_at stops.watches.items new.position new.events new.start → IsOnWay stops h end new now
   way_on now same = record {
@@ -60,15 +54,21 @@ module _ (stops : Stops) (h : History) (end : Position) (z : History) (seen : Li
     seen_is = same ∙ ap (λ (x : History). watched_at stops.watches.items new.position x.events x.start) new_is;
   }
 
-  -- a position up to here is the new one, or not behind the old
-  old_or_new : (r : Position) → IsPosition r h.events h.start → IsUpTo r new.position → IsUpTo r z.position ⊎ (r ≡ new.position)
-  old_or_new r is up = elim (before_or_there r new.position up) [
-    | inl less ↦ inl (none_between z.position h.events h.start r is (subst (λ q. IsBefore r q) next less))
+  -- a stop up to here is the new position, or not behind the old
+  old_or_new : (r : Position) → IsPosition r h.events h.start → IsUpTo r new.position → IsStop stops h r → IsUpTo r z.position ⊎ (r ≡ new.position)
+  old_or_new r is up holds = elim (before_or_there r new.position up) [
+    | inl less ↦ (elim (up_or_behind r z.position) [
+      | inl old ↦ inl old
+      | inr past ↦ absurd (of_start.none_between r is past less holds)
+    ])
     | inr same ↦ inr same
   ]
 
   here_too : (r : Position) → r ≡ new.position → IsStop stops h r → IsStop stops new new.position
   here_too r same holds = subst (λ q. IsStop stops new q) same (subst (λ (x : History). IsStop stops x r) (sym new_is) holds)
+
+  of_history : IsStop stops new new.position → IsStop stops h new.position
+  of_history holds = subst (λ (x : History). IsStop stops x new.position) new_is holds
 
   -- FORWARD
 
@@ -78,15 +78,18 @@ module _ (stops : Stops) (h : History) (end : Position) (z : History) (seen : Li
   none_here never none r is less holds (inr same) = never (here_too r same holds)
 
   pub none_more : (IsStop stops new new.position → ⊥) → NoneBehind (IsStop stops h) h.position z.position h → NoneBehind (IsStop stops h) h.position new.position h
-  none_more never none = λ r is less up holds. none_here never none r is less holds (old_or_new r is up)
+  none_more never none = λ r is less up holds. none_here never none r is less holds (old_or_new r is up holds)
 
   pub first_hit : IsStop stops new new.position → NoneBehind (IsStop stops h) h.position z.position h → IsLeast (IsStop stops h) h.position end new.position h
   first_hit holds none = record {
     is_one = is_position;
     behind = up_to_before h.position z.position new.position way.begun behind;
     within = up_to_end;
-    holds = subst (λ (x : History). IsStop stops x new.position) new_is holds;
-    none_between = λ r is less before. none r is less (none_between z.position h.events h.start r is (subst (λ q. IsBefore r q) next before));
+    holds = of_history holds;
+    none_between = λ r is less before hit. (elim (up_or_behind r z.position) [
+      | inl old ↦ none r is less old hit
+      | inr past ↦ of_start.none_between r is past before hit
+    ]);
   }
 
   -- BACKWARD
@@ -98,7 +101,7 @@ module _ (stops : Stops) (h : History) (end : Position) (z : History) (seen : Li
       behind = up_to_before h.position z.position new.position way.begun behind;
       within = up_to_itself new.position;
       before = before;
-      holds = subst (λ (x : History). IsStop stops x new.position) new_is holds;
+      holds = of_history holds;
       none_between = λ r is less up inside. absurd (not_both new.position r less up);
     }
 
@@ -107,14 +110,14 @@ module _ (stops : Stops) (h : History) (end : Position) (z : History) (seen : Li
     still_at never r before holds none (inr same) = never (here_too r same holds) (subst (λ q. IsBefore q here) same before)
 
     still_none : (IsStop stops new new.position → IsBefore new.position here → ⊥) → (found : Option Position) → IsLastOnWay (IsStop stops h) h.position z.position here h found → IsLastOnWay (IsStop stops h) h.position new.position here h found
-    still_none never None none = λ r is less up before holds. still_at never r before holds (λ old. none r is less old before holds) (old_or_new r is up)
+    still_none never None none = λ r is less up before holds. still_at never r before holds (λ old. none r is less old before holds) (old_or_new r is up holds)
     still_none never (Some q) last = record {
       is_one = last.is_one;
       behind = last.behind;
       within = up_to_up_to q z.position new.position last.within (before_is_up_to z.position new.position behind);
       before = last.before;
       holds = last.holds;
-      none_between = λ r is less up before holds. still_at never r before holds (λ old. last.none_between r is less old before holds) (old_or_new r is up);
+      none_between = λ r is less up before holds. still_at never r before holds (λ old. last.none_between r is less old before holds) (old_or_new r is up holds);
     }
 
     pub no_hit : (IsStop stops new new.position → ⊥) → (found : Option Position) → IsLastOnWay (IsStop stops h) h.position z.position here h found → IsLastOnWay (IsStop stops h) h.position new.position here h found
@@ -125,29 +128,23 @@ module _ (stops : Stops) (h : History) (end : Position) (z : History) (seen : Li
 
 -- WHAT CHANGES
 
-module _ (stops : Stops) (z new : History) (made : new ≡ record z { position = next_position z.position z.events z.start })
-    (was : IsPosition z.position z.events z.start) (seen bytes : List ℕ)
+module _ (stops : Stops) (z new : History) (seen bytes : List ℕ)
+    (same_before : watched_at stops.watches.items (previous_position new.position new.events new.start) new.events new.start ≡ watched_at stops.watches.items z.position z.events z.start)
     (seen_is : seen ≡ watched_at stops.watches.items z.position z.events z.start)
     (bytes_are : bytes ≡ watched_at stops.watches.items new.position new.events new.start) where
-  same_before : watched_at stops.watches.items (previous_position new.position new.events new.start) new.events new.start ≡ seen
-  same_before =
-      ap (λ (x : History). watched_at stops.watches.items (previous_position x.position x.events x.start) x.events x.start) made
-      ∙ ap (λ q. watched_at stops.watches.items q z.events z.start) (previous_of_next z.position z.events z.start was)
-      ∙ sym seen_is
-
   pub changed : (seen ≡ bytes → ⊥) → HasChanged stops.watches.items new.position new.events new.start
-  changed other = λ same. other (sym same_before ∙ same ∙ sym bytes_are)
+  changed other = λ same. other (seen_is ∙ sym same_before ∙ same ∙ sym bytes_are)
 
   pub unchanged : seen ≡ bytes → HasChanged stops.watches.items new.position new.events new.start → ⊥
-  unchanged same other = other (same_before ∙ same ∙ bytes_are)
+  unchanged same other = other (same_before ∙ sym seen_is ∙ same ∙ bytes_are)
 
--- A STEP MORE
+-- FEWER STEPS ARE LEFT
 
-module _ (z new : History) (made : new ≡ record z { position = next_position z.position z.events z.start }) where
+module _ (Holds : Position → Type 0) (end : Position) (z new : History) (made : new ≡ record z { position = new.position }) (passes : PassesNone Holds z.position end new.position z) where
   pub fewer : (p : Position) → p ≡ z.position → IsPosition p z.events z.start → z.position.events < length z.events → steps_left new.position new.events new.start < steps_left z.position z.events z.start
-  fewer p here is less =
-      subst (λ (x : History). steps_left x.position x.events x.start < steps_left z.position z.events z.start) (sym made)
-      (fewer_left z.position z.events z.start (subst (λ q. IsPosition q z.events z.start) here is) less)
+  fewer p here is some =
+      subst (λ (x : History). steps_left new.position x.events x.start < steps_left z.position z.events z.start) (sym made)
+      (fewer_ahead z.position new.position z.events z.start (subst (λ q. IsPosition q z.events z.start) here is) passes.is_one some passes.behind)
 
 -- who is before a position isn't behind the last event
 pub room_ahead : (p q : Position) (es : List Event) (s : State) → IsPosition q es s → IsBefore p q → p.events < length es
@@ -169,19 +166,35 @@ first_unchanged ws p es s none first other = other (ap (λ q. watched_at ws q es
 abbrev back : History → History
 back x = record x { position = previous_position x.position x.events x.start }
 
-abbrev forth : History → History
-forth x = record x { position = next_position x.position x.events x.start }
-
 module _ (h z y : History) (p : Position) (gone : z ≡ record h { position = p }) (behind : y ≡ back z)
     (all : AllAccepted h.events h.start) (is : IsPosition p h.events h.start) (some : p.steps ≡ 0 → p.events ≡ 0 → ⊥) where
   before_it : y ≡ back (record h { position = p })
   before_it = behind ∙ ap back gone
 
-  pub room_before : y.position.events < length y.events
-  room_before = subst (λ (x : History). x.position.events < length x.events) (sym before_it) (previous_inside h.events h.start p is some)
+  again : next_position (previous_position p h.events h.start) h.events h.start ≡ p
+  again = next_of_previous h.events h.start p all is some
 
-  pub there_again : (x : History) → x ≡ forth y → x ≡ record h { position = p }
-  there_again x made = made ∙ ap forth before_it ∙ ap (λ q. record h { position = q }) (next_of_previous h.events h.start p all is some)
+  pub last_before : IsPosition p y.events y.start
+  last_before = subst (λ (x : History). IsPosition p x.events x.start) (sym before_it) is
+
+  pub more_before : IsBefore y.position p
+  more_before =
+      subst (λ (x : History). IsBefore x.position p) (sym before_it)
+      (subst (λ q. IsBefore (previous_position p h.events h.start) q) again (next_is_behind (previous_position p h.events h.start) h.events h.start))
+
+  -- a walk from before it to it comes to it
+  module _ (stops : Stops) (x : History) (made : x ≡ record y { position = x.position }) (passes : PassesNone (IsStop stops y) y.position p x.position y) where
+    from_before : PassesNone (IsStop stops y) (previous_position p h.events h.start) p x.position (back (record h { position = p }))
+    from_before = subst (λ (w : History). PassesNone (IsStop stops y) w.position p x.position w) before_it passes
+
+    pub comes_there : x.position ≡ p
+    comes_there =
+        let from = previous_position p h.events h.start in
+        let up : IsUpTo p x.position = subst (λ q. IsUpTo q x.position) again (next_up_to from h.events h.start x.position from_before.is_one from_before.behind) in
+        there x.position p from_before.within (λ less. not_both x.position p less up)
+
+    pub there_again : x ≡ record h { position = p }
+    there_again = made ∙ ap (λ (w : History). record w { position = x.position }) before_it ∙ ap (λ q. record h { position = q }) comes_there
 
 -- BACK FROM HERE
 

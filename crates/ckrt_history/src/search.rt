@@ -1,6 +1,6 @@
 //! Searches for a reason to stop, forward and backward.
-ghost use Rattle.std.specs.Prelude.{◌≡◌, ◌≤◌, ◌<◌, ◌↔◌, IsTrue, true, false, length};
-ghost use Rattle.ckrt_history.specs.Positions.{IsGreatest, IsLastOnWay, IsLeast, IsPosition, IsUpTo, NoneBefore, NoneBehind, next_position};
+ghost use Rattle.std.specs.Prelude.{◌≡◌, ◌≤◌, ◌↔◌, IsTrue, true, false};
+ghost use Rattle.ckrt_history.specs.Positions.{IsBefore, IsGreatest, IsLastOnWay, IsLeast, IsPosition, IsUpTo, NoneBefore, NoneBehind, PassesNone, previous_position};
 ghost use Rattle.ckrt_history.specs.Stops.{IsStop, watched_at, widths};
 
 use crate::history::History;
@@ -8,23 +8,41 @@ use crate::position::Position;
 use crate::stop::{Stops, Watched};
 
 impl History {
-    /// Goes behind the next step, and says whether there is a reason to stop there. `seen` are the bytes under the watches.
-    fn advance(&mut self, stops: &Stops, seen: &mut Watched) -> bool
+    /// Goes behind the next step, and on to the first position at which there may be a reason to stop, or to `last`.
+    fn go_past(&mut self, stops: &Stops, last: Position)
         requires width { widths stops.now.watches.items ≤ 256 }
-        requires within { self.old.position.events < length self.old.events }
+        requires last { IsPosition last self.old.events self.old.start }
+        requires more { IsBefore self.old.position last }
+        ensures history { self.new ≡ record self.old { position = self.new.position } }
+        ensures passes { PassesNone (IsStop stops.now self.old) self.old.position last
+            self.new.position self.old }
+        ensures same { watched_at stops.now.watches.items
+            (previous_position self.new.position self.new.events self.new.start) self.new.events
+            self.new.start
+            ≡ watched_at stops.now.watches.items self.old.position self.old.events self.old.start }
+    {
+        self.known();
+        let seen = self.seen(stops);
+        self.step_forward();
+        self.pass(stops, seen.as_slice(), last);
+    }
+
+    /// Goes behind the next step, and on past positions without a reason to stop, to `last` at most; says whether there is one where it
+    /// stands then. `seen` are the bytes under the watches.
+    fn advance(&mut self, stops: &Stops, seen: &mut Watched, last: Position) -> bool
+        requires width { widths stops.now.watches.items ≤ 256 }
+        requires last { IsPosition last self.old.events self.old.start }
+        requires more { IsBefore self.old.position last }
         requires seen { seen.old.items
             ≡ watched_at stops.now.watches.items self.old.position self.old.events self.old.start }
-        ensures position { self.new ≡ record self.old {
-          position = next_position self.old.position self.old.events self.old.start;
-        } }
-        ensures is_one { IsPosition self.new.position self.new.events self.new.start }
+        ensures history { self.new ≡ record self.old { position = self.new.position } }
+        ensures passes { PassesNone (IsStop stops.now self.old) self.old.position last
+            self.new.position self.old }
         ensures seen { seen.new.items
             ≡ watched_at stops.now.watches.items self.new.position self.new.events self.new.start }
         ensures stop { IsTrue result ↔ IsStop stops.now self.new self.new.position }
     {
-        self.known();
-        self.step_forward();
-        self.known();
+        self.go_past(stops, last);
         if stops.watches.is_empty() {
             return self.is_halt(stops);
         }
@@ -55,7 +73,7 @@ impl History {
         self.known();
         let mut seen = self.watched(stops);
         'steps: while self.position().is_before(last) {
-            if self.advance(stops, &mut seen) {
+            if self.advance(stops, &mut seen, last) {
                 return true;
             }
         }
@@ -76,7 +94,7 @@ impl History {
         }
         self.step_back();
         let mut seen = self.watched(stops);
-        self.advance(stops, &mut seen)
+        self.advance(stops, &mut seen, position)
     }
 
     /// Goes on to `end`. The result is the last position on the way that has a reason to stop: behind this one, not behind `end`, and
@@ -93,7 +111,7 @@ impl History {
         let mut seen = self.watched(stops);
         let mut found = None;
         'steps: while self.position().is_before(end) {
-            if !self.advance(stops, &mut seen) {
+            if !self.advance(stops, &mut seen, end) {
                 continue;
             }
             let position = self.position();

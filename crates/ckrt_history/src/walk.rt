@@ -1,14 +1,16 @@
 //! How a machine goes on from one position to another.
-ghost use Rattle.std.specs.Prelude.{◌≡◌, ◌≤◌, ◌<◌, List, length};
+ghost use Rattle.std.specs.Prelude.{◌≡◌, ◌≤◌, ◌<◌, ℕ, List, false, length};
 ghost use Rattle.ckrt_machine.specs.Steps.{State};
 ghost use Rattle.ckrt_events.specs.declared.event.Event.{Event};
-ghost use Rattle.ckrt_history.specs.Positions.{IsPosition, IsUpTo, next_position, previous_position};
+ghost use Rattle.ckrt_history.specs.Positions.{IsBefore, IsPosition, IsUpTo, next_position, previous_position};
 ghost use Rattle.ckrt_history.specs.Engine.{IsAt, steps_through};
+ghost use Rattle.ckrt_history.specs.Search.{meets_at};
 
 use crate::position::Position;
-use crate::replay::{finish, go_into};
+use crate::replay::{finish, go_into, go_into_until};
 use ckrt_events::Event;
 use ckrt_machine::Machine;
+use ckrt_memory::StopReason;
 
 /// The machine makes the rest of the event that it is in, and all further ones until so many are done. The result is where it is
 /// then: where it was, if none was to be made.
@@ -57,6 +59,36 @@ pub fn go_on_to(machine: &mut Machine, events: &[Event], from: Position, to: Pos
 {
     let at = finish_events(machine, events, from, to.events);
     go_further(machine, events, at, to);
+}
+
+/// The machine, which is inside a run, goes on to another position of the run, or to the first one before it at which a reason to
+/// stop is met. The result is where it is then.
+pub fn go_on_until<R: StopReason>(
+    machine: &mut Machine,
+    events: &[Event],
+    from: Position,
+    to: Position,
+    reason: &R,
+) -> Position
+    requires at { (s : State) × IsAt machine.old from events.now s
+        × IsPosition to events.now s }
+    requires event { from.events ≡ to.events }
+    requires steps { (0 < from.steps) × (from.steps ≤ to.steps) }
+    ensures within { (result.events ≡ from.events) × (from.steps ≤ result.steps)
+        × (result.steps ≤ to.steps) }
+    ensures at { (s : State) → IsAt machine.old from events.now s → IsPosition to events.now s
+        → IsAt machine.new result events.now s }
+    ensures unmet { (s : State) → IsAt machine.old from events.now s
+        → (r : Position) → IsUpTo from r → IsBefore r result
+        → meets_at (R.meets reason.now) r events.now s ≡ false }
+    ensures size { length machine.new.state.bytes ≡ length machine.old.state.bytes }
+{
+    let event = &events[from.events];
+    let steps = go_into_until(machine, event, from.steps, to.steps, reason);
+    Position {
+        events: from.events,
+        steps,
+    }
 }
 
 /// The position behind the next step, where so many steps are made of each event.

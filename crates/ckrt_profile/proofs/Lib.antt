@@ -3,3 +3,5 @@ pub mod WalkLemmas
 pub mod CallgrindLemmas
 pub mod FrameLemmas
 pub mod SumLemmas
+pub mod WordLemmas
+pub mod StraightLemmas

@@ -3,3 +3,4 @@ pub mod Callgrind
 pub mod Texts
 pub mod Recorded
 pub mod Laws
+pub mod Straight

@@ -8,6 +8,7 @@ mod folded;
 mod form;
 mod laws;
 mod recorded;
+mod straight;
 mod table;
 mod texts;
 mod walk;

@@ -3,13 +3,14 @@ ghost use Rattle.std.specs.Prelude.{◌≡◌, ◌≤◌, ◌-◌, ◌%◌, [], 
 ghost use Rattle.ckrt_events.specs.Bytes.{IsInRange};
 ghost use Rattle.ckrt_events.specs.declared.event.Event.TheVariants.{Run};
 ghost use Rattle.ckrt_machine.specs.Events.{step, refusal_of};
-ghost use Rattle.ckrt_machine.specs.Runs.{run_on, with_byte};
+ghost use Rattle.ckrt_machine.specs.Runs.{run_on, stop_of, with_byte};
 ghost use Rattle.ckrt_machine.specs.Steps.{hart_of, hart_step};
 ghost use Rattle.ckrt_trace.specs.Events.{state_behind};
 ghost use Rattle.ckrt_trace.specs.Lines.{MayStep, put_before};
 ghost use Rattle.ckrt_counts.specs.Counts.{behind_all};
 ghost use Rattle.ckrt_profile.specs.Steps.{awaited_of, looks, looks_at, met, met_up_to, of_event, of_rest, of_run, of_step, step_by, turn_at, word_turn};
 
+use crate::straight::{AtTurns, note_straight};
 use ckrt_counts::{Awaited, Counts, Note, Step, Turn, turn_of};
 use ckrt_events::Event;
 use ckrt_machine::Machine;
@@ -17,7 +18,7 @@ use ckrt_memory::Memory;
 use ckrt_rv32i::{Bus, Size};
 use ckrt_state::Tables;
 use ckrt_thread::{Reason, Wait};
-use ckrt_trace::{advance, is_quiet, is_stopped};
+use ckrt_trace::{advance, go_quietly_to, is_quiet, is_stopped};
 
 /// What is waited for.
 fn awaited_of(reason: Reason) -> Awaited
@@ -119,6 +120,45 @@ fn count_step(machine: &mut Machine, hart: u8, is_first: bool, counts: &mut Coun
     advance(machine, hart, is_first);
 }
 
+/// Steps of a run that goes on, in a row, each at the next word: up to one from which the thread may go on elsewhere, and at most so many.
+/// The answer is how many were made.
+fn count_straight(machine: &mut Machine, hart: u8, limit: u32, counts: &mut Counts) -> u32
+    requires going { stop_of hart machine.old.state.tables machine.old.output ≡ None }
+    ensures within { result ≤ limit }
+    ensures same { result ≡ 0 → (machine.new.state ≡ machine.old.state)
+        × (machine.new.output ≡ machine.old.output) }
+    ensures state { state_behind (limit - result) hart machine.new.state machine.new.output
+        ≡ state_behind limit hart machine.old.state machine.old.output }
+    ensures counted { behind_all
+        (of_rest (limit - result) hart machine.new.state machine.new.output) counts.new
+        ≡ behind_all (of_rest limit hart machine.old.state machine.old.output) counts.old }
+{
+    let first = next_step(machine, hart, true);
+    let made = go_quietly_to(machine, hart, limit, &AtTurns);
+    note_straight(counts, first.thread, first.pc, made);
+    made
+}
+
+/// The same, and the step behind them, if there is one. The answer is how many were made.
+fn count_piece(machine: &mut Machine, hart: u8, limit: u32, counts: &mut Counts) -> u32
+    requires some { 1 ≤ limit }
+    requires going { stop_of hart machine.old.state.tables machine.old.output ≡ None }
+    ensures some { 1 ≤ result }
+    ensures within { result ≤ limit }
+    ensures state { state_behind (limit - result) hart machine.new.state machine.new.output
+        ≡ state_behind limit hart machine.old.state machine.old.output }
+    ensures counted { behind_all
+        (of_rest (limit - result) hart machine.new.state machine.new.output) counts.new
+        ≡ behind_all (of_rest limit hart machine.old.state machine.old.output) counts.old }
+{
+    let made = count_straight(machine, hart, limit, counts);
+    if made == limit || is_stopped(machine, hart) {
+        return made;
+    }
+    count_step(machine, hart, false, counts);
+    made + 1
+}
+
 /// So many steps more at most of a run of the thread on a hart.
 fn count_steps(machine: &mut Machine, hart: u8, more: u32, counts: &mut Counts)
     ensures state { machine.new.state
@@ -131,8 +171,7 @@ fn count_steps(machine: &mut Machine, hart: u8, more: u32, counts: &mut Counts)
         if is_stopped(machine, hart) {
             return;
         }
-        count_step(machine, hart, false, counts);
-        made += 1;
+        made += count_piece(machine, hart, more - made, counts);
     }
 }
 
@@ -160,7 +199,7 @@ fn count_other(machine: &mut Machine, event: &Event, counts: &mut Counts)
 }
 
 /// Applies an event that would be accepted if no output were held, as `Machine::step` does, and counts its steps and the waits before
-/// them. The steps of a run are made one by one. It takes no memory.
+/// them. It takes no memory.
 pub fn count_event(machine: &mut Machine, event: &Event, counts: &mut Counts)
     requires in_range { IsInRange event.now }
     requires accepted { refusal_of 0 event.now machine.old.state ≡ None }

@@ -1,6 +1,6 @@
 pub mod DrawLemmas
 pub mod EventLemmas
 pub mod PieceLemmas
-pub mod QuietLemmas
+pub mod StillLemmas
 pub mod TrackLemmas
 pub mod WalkLemmas

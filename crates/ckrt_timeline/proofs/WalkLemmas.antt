@@ -9,9 +9,9 @@ use Rattle.ckrt_machine.specs.declared.event.RunEnd.{RunEnd}
 use Rattle.ckrt_machine.specs.Runs.{after_steps, stop_after, stop_of, with_byte}
 use Rattle.ckrt_machine.specs.Steps.{State, hart_step}
 use Rattle.ckrt_trace.specs.Events.{state_behind}
-use Rattle.ckrt_timeline.specs.Quiet.{IsStill, is_quiet_after, standing}
-use Rattle.ckrt_timeline.proofs.QuietLemmas.{quiet_still}
-use Rattle.ckrt_trace.proofs.RunLemmas.{state_next}
+use Rattle.ckrt_timeline.specs.Still.{IsStill, standing}
+use Rattle.ckrt_timeline.proofs.StillLemmas.{quiet_still}
+use Rattle.ckrt_trace.proofs.RowLemmas.{GoOnQuietly}
 use Rattle.ckrt_timeline.specs.declared.piece.Activity.TheVariants as activity
 use Rattle.ckrt_timeline.specs.Activities.{activity_of, aside, by_standing}
 use Rattle.ckrt_timeline.specs.Tracks.{in_rest, in_run, unless_ended}
@@ -47,10 +47,6 @@ still_does h t s z still =
 
 -- STEPS THAT ARE QUIET, where n more may come
 
-abbrev pub GoOnQuietly : (made h : ℕ) → State → List ℕ → Type 0
-GoOnQuietly made h s out =
-    ((k : ℕ) → k < made → stop_after k h s out ≡ None) × ((k : ℕ) → k < made → is_quiet_after k h s out ≡ true)
-
 pub quiet_rest : (made n all t h : ℕ) (s : State) (out : List ℕ) → all ≡ made + n → GoOnQuietly made h s out
     → in_rest t all h s out ≡ replicate made (activity_of h t s.tables.threads) ++ in_rest t n h (after_steps made h s out).state (after_steps made h s out).output
 quiet_rest zero n all t h s out is quiet = let same : all ≡ n = omega (arith, is) in ap (λ j. in_rest t j h s out) same
@@ -62,14 +58,6 @@ quiet_rest (suc m) n all t h s out is quiet =
     ∙ ap (λ l. activity_of h t s.tables.threads ∷ l)
     (quiet_rest m n (m + n) t h z put refl ((λ k less. quiet.0 (suc k) (omega (arith, less))), (λ k less. quiet.1 (suc k) (omega (arith, less))))
     ∙ ap (λ a. replicate m a ++ in_rest t n h (after_steps m h z put).state (after_steps m h z put).output) (still_does h t s.tables.threads z.tables.threads (quiet_still h s (quiet.1 0 (omega arith)))))
-
-pub quiet_state : (made n all h : ℕ) (s : State) (out : List ℕ) → all ≡ made + n → ((k : ℕ) → k < made → stop_after k h s out ≡ None)
-    → state_behind all h s out ≡ state_behind n h (after_steps made h s out).state (after_steps made h s out).output
-quiet_state zero n all h s out is going = let same : all ≡ n = omega (arith, is) in ap (λ j. state_behind j h s out) same
-quiet_state (suc m) n all h s out is going =
-    let next : all ≡ suc (m + n) = omega (arith, is) in
-    ap (λ j. state_behind j h s out) next ∙ state_next (m + n) h s out (going 0 (omega arith))
-    ∙ quiet_state m n (m + n) h (hart_step h s).state (with_byte (hart_step h s).put out) refl (λ k less. going (suc k) (omega (arith, less)))
 
 -- a run, by its first step and those behind it
 pub run_done : (t n limit h : ℕ) (s z : State) (out : List ℕ) → suc n ≡ limit → z ≡ (hart_step h s).state → out ≡ with_byte (hart_step h s).put []

@@ -7,7 +7,7 @@ use Rattle.ckrt_thread.specs.Waits.{is_of}
 use Rattle.ckrt_thread.specs.declared.records.Reason.{Reason}
 use Rattle.ckrt_thread.specs.declared.records.Reason.TheVariants as reason
 use Rattle.ckrt_thread.specs.declared.records.Wait.{Wait}
-use Rattle.ckrt_timeline.specs.Quiet.{standing}
+use Rattle.ckrt_timeline.specs.Still.{standing}
 use Rattle.ckrt_timeline.specs.declared.piece.Activity.{Activity}
 use Rattle.ckrt_timeline.specs.declared.piece.Activity.TheVariants as activity
 

@@ -1,7 +1,7 @@
 //! What each thread of a guest did, step after step: on which hart it ran, what it waited for, and when it was ready.
 //!
-//! [`write_timeline`] goes over recorded events, and writes the pieces of each thread, as a
-//! picture or as trace events. Steps that call nothing are made in a row by [`go_quietly`], and looked at once.
+//! [`write_timeline`] goes over recorded events, and writes the pieces of each thread, as a picture or as trace events. Steps that call
+//! nothing are made in a row by [`go_quietly`](ckrt_trace::go_quietly), and looked at once.
 #![tactic(auto)]
 
 mod activity;
@@ -9,7 +9,6 @@ mod chart;
 mod page;
 mod part;
 mod piece;
-mod quiet;
 mod recorded;
 mod timeline;
 mod tracks;
@@ -18,6 +17,5 @@ mod words;
 
 pub use page::is_width;
 pub use piece::{Activity, Piece};
-pub use quiet::go_quietly;
 pub use recorded::{Style, write_timeline};
 pub use words::Form;

@@ -9,12 +9,11 @@ ghost use Rattle.ckrt_timeline.specs.Activities.{activity_of};
 ghost use Rattle.ckrt_timeline.specs.Tracks.{GoesAlike, GoesOn, IsWhole, in_event, in_rest, in_run};
 
 use crate::activity::activities;
-use crate::quiet::go_quietly;
 use crate::timeline::{Timeline, note};
 use ckrt_events::Event;
 use ckrt_machine::Machine;
 use ckrt_thread::Hart;
-use ckrt_trace::{advance, is_stopped};
+use ckrt_trace::{advance, go_quietly, is_stopped};
 use std::alloc::AllocError;
 
 /// Steps at which each thread does the same: quiet ones, or one that isn't. The answer is how many.

@@ -1,3 +1,5 @@
 pub mod AppendLemmas
+pub mod QuietLemmas
+pub mod RowLemmas
 pub mod RunLemmas
 pub mod StretchLemmas

@@ -1,10 +1,12 @@
 -- The lines of an event: of a run those of its steps, of any other a line for itself and one for each wait that it ended.
-use Rattle.std.specs.Prelude.{ℕ, zero, suc, List, [], ◌∷◌, ◌++◌, codes, decimal}
+use Rattle.std.specs.Prelude.{◌≡◌, ◌≤◌, ℕ, zero, suc, ◌+◌, ◌-◌, Option, List, [], ◌∷◌, ◌++◌, codes, decimal}
 use Rattle.std.specs.List.{flat_map}
+use Rattle.std.specs.Io.KnownBytes.{Appends}
 use Rattle.hex.specs.Hex.{encode_lower}
 use Rattle.ckrt_events.specs.declared.event.Event.{Event}
 use Rattle.ckrt_events.specs.declared.event.Event.TheVariants.{Place as Placing, Run, Input, Eof, Tick, RunLong}
 use Rattle.ckrt_machine.specs.Events as machine
+use Rattle.ckrt_machine.specs.Events.{Machine}
 use Rattle.ckrt_machine.specs.Runs.{run_on, stop_of, stopped, with_byte}
 use Rattle.ckrt_machine.specs.Steps.{State, Stepped, hart_step}
 use Rattle.ckrt_machine.specs.Stores.{unless_stopped}
@@ -63,3 +65,21 @@ abbrev pub event_lines : ℕ → Event → State → List ℕ
 event_lines k (Run h n) s = run_lines k n 0 h s []
 event_lines k (RunLong h n) s = run_lines k n 0 h s []
 event_lines k e s = other_lines k e s
+
+-- STEPS OF A RUN AND THEIR LINES, in a row
+
+-- a machine, and what its lines were written to
+pub record Told : Type 0 where
+  pub machine : Machine
+  pub text : Option (List ℕ)
+
+-- some steps were made behind the first ones, of `limit` in all, and their lines written: what is left is what is behind them
+pub record GoesOnTold (made : Place) (more limit h : ℕ) (old new : Told) : Type 0 where
+  pub some : 1 ≤ more
+  pub within : made.step + more ≤ limit
+  pub state : state_behind (limit - (made.step + more)) h new.machine.state new.machine.output
+      ≡ state_behind (limit - made.step) h old.machine.state old.machine.output
+  pub lines : List ℕ
+  pub written : Appends old.text new.text lines
+  pub parts : lines_after made.event (limit - made.step) made.step h old.machine.state old.machine.output
+      ≡ lines ++ lines_after made.event (limit - (made.step + more)) (made.step + more) h new.machine.state new.machine.output

@@ -1,5 +1,5 @@
 //! The lines of an event.
-ghost use Rattle.std.specs.Prelude.{◌≡◌, ◌≤◌, ◌-◌, [], None, OnOk, is_some};
+ghost use Rattle.std.specs.Prelude.{◌≡◌, ◌≤◌, ◌<◌, ◌-◌, [], None, IfOk, OnOk, is_some};
 ghost use Rattle.std.specs.List.{flat_map};
 ghost use Rattle.std.specs.Io.KnownBytes.{Appends};
 ghost use Rattle.ckrt_events.specs.Bytes.{IsInRange};
@@ -7,12 +7,13 @@ ghost use Rattle.ckrt_events.specs.declared.event.Event.TheVariants.{Place as Pl
 ghost use Rattle.ckrt_machine.specs.Events.{step, refusal_of};
 ghost use Rattle.ckrt_machine.specs.Runs.{run_on, stop_of, with_byte};
 ghost use Rattle.ckrt_machine.specs.Steps.{hart_step};
-ghost use Rattle.ckrt_trace.specs.Events.{byte_text, event_lines, event_text, input_text, lines_after, other_lines, run_lines, state_behind};
+ghost use Rattle.ckrt_trace.specs.Events.{GoesOnTold, byte_text, event_lines, event_text, input_text, lines_after, other_lines, run_lines, state_behind};
 ghost use Rattle.ckrt_trace.specs.Lines.{MayStep, lines_of_step, put_before, step_lines};
 
 use crate::lines::{
     Place, is_quiet, look, waits_now, write_between, write_fault, write_overs, write_place,
 };
+use crate::quiet::go_quietly;
 use crate::texts::{write_byte, write_counted};
 use arrayvec::ArrayVec;
 use ckrt_events::Event;
@@ -90,6 +91,34 @@ pub fn is_stopped(machine: &Machine, hart: u8) -> bool
         || machine.last_output().len() >= RUN_OUTPUT
 }
 
+/// Steps of a run that goes on, behind its first `made`, of `limit` in all, and their lines: quiet ones, or one that isn't. The answer is
+/// how many.
+fn trace_some<W: Write>(
+    machine: &mut Machine,
+    made: Place,
+    hart: u8,
+    limit: u32,
+    out: &mut W,
+) -> Result<u32>
+    requires some { made.step < limit }
+    requires going { stop_of hart machine.old.state.tables machine.old.output ≡ None }
+    ensures { IfOk result (λ more. GoesOnTold made more limit hart
+        (record { machine = machine.old; text = W.contents out.old })
+        (record { machine = machine.new; text = W.contents out.new })) }
+{
+    let quiet = go_quietly(machine, hart, limit - made.step);
+    if quiet == 0 {
+        trace_step(machine, made, hart, false, out)?;
+        return Ok(1);
+    }
+    let last = Place {
+        event: made.event,
+        step: made.step + quiet - 1,
+    };
+    write_fault(out, last, machine.status())?;
+    Ok(quiet)
+}
+
 /// The steps of a run of the thread on a hart behind its first `made`, of `limit` in all, and the lines of each of them.
 fn trace_steps<W: Write>(
     machine: &mut Machine,
@@ -106,7 +135,8 @@ fn trace_steps<W: Write>(
         (lines_after made.event (limit - made.step) made.step hart machine.old.state
         machine.old.output)) }
 {
-    for step in made.step..limit {
+    let mut step = made.step;
+    while step < limit {
         if is_stopped(machine, hart) {
             return Ok(());
         }
@@ -114,7 +144,7 @@ fn trace_steps<W: Write>(
             event: made.event,
             step,
         };
-        trace_step(machine, place, hart, false, out)?;
+        step += trace_some(machine, place, hart, limit, out)?;
     }
     Ok(())
 }
@@ -216,7 +246,7 @@ fn trace_other<W: Write>(
 }
 
 /// Applies an event that would be accepted if no output were held, as `Machine::step` does, and writes its lines, where so
-/// many events are done. The steps of a run are made one by one.
+/// many events are done. Steps of a run that write no line are made in a row.
 ///
 /// # Errors
 ///

@@ -54,7 +54,7 @@ pub struct Before {
 }
 
 /// The word of ECALL.
-const ECALL: u32 = 0x73;
+pub(crate) const ECALL: u32 = 0x73;
 
 /// Where a line stands.
 #[tactic(auto, using(crate::proofs::AppendLemmas::appends_both))]

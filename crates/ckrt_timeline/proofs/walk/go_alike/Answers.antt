@@ -5,7 +5,8 @@ use Rattle.ckrt_trace.specs.Events.{state_behind}
 use Rattle.ckrt_trace.proofs.RunLemmas.{state_next}
 use Rattle.ckrt_timeline.specs.Activities.{activity_of}
 use Rattle.ckrt_timeline.specs.Tracks.{in_rest}
-use Rattle.ckrt_timeline.proofs.WalkLemmas.{quiet_rest, quiet_state, rest_next}
+use Rattle.ckrt_trace.proofs.RowLemmas.{quiet_state}
+use Rattle.ckrt_timeline.proofs.WalkLemmas.{quiet_rest, rest_next}
 use Rattle.ckrt_timeline.proofs.walk.go_alike.Goals as goal
 
 -- some quiet ones

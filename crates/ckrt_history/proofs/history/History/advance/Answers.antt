@@ -11,7 +11,7 @@ returns-then-not-same-clause-stop c =
     let bytes = c.watched-bytes.result.items in let seen = c.args.seen.now.items in
     let tells = slice_eq-Decides Decides-eqb xs ys c.eq-same.result c.eq-same.ensures in
     let other = λ (same : seen ≡ bytes). false≢true (sym c.if-not-same.true ∙ tells.1 (c.as_slice.ensures.value ∙ sym same ∙ sym c.as_slice-2.ensures.value)) in
-    (λ _. inr (changed c.args.stops.now c.args.self.now c.step_forward.new.self c.step_forward.ensures c.known.ensures.position seen bytes c.requires.seen c.watched-bytes.ensures other), λ _. ap not c.if-not-same.true)
+    (λ _. inr (changed c.args.stops.now c.args.self.now c.go_past.new.self seen bytes c.go_past.ensures.same c.requires.seen c.watched-bytes.ensures other), λ _. ap not c.if-not-same.true)
 
 pub returns-else-not-same-clause-stop : goal.returns-else-not-same-clause-stop
 returns-else-not-same-clause-stop c =
@@ -22,6 +22,6 @@ returns-else-not-same-clause-stop c =
       λ halts. inl (sym c.is_halt-else-not-same.ensures ∙ halts),
       λ stops. (elim stops [
         | inl halts ↦ c.is_halt-else-not-same.ensures ∙ halts
-        | inr other ↦ absurd (unchanged c.args.stops.now c.args.self.now c.step_forward.new.self c.step_forward.ensures c.known.ensures.position seen bytes c.requires.seen c.watched-bytes.ensures same other)
+        | inr other ↦ absurd (unchanged c.args.stops.now c.args.self.now c.go_past.new.self seen bytes c.go_past.ensures.same c.requires.seen c.watched-bytes.ensures same other)
       ]),
     )

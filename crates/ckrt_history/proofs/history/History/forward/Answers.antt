@@ -1,6 +1,6 @@
 use Rattle.std.proofs.Common.{sym, subst, ◌∙◌}
 use Rattle.std.proofs.lemmas.Bool.{false≢true}
-use Rattle.ckrt_history.specs.Positions.{IsBefore, NoneBehind}
+use Rattle.ckrt_history.specs.Positions.{History, IsBefore, IsPosition, NoneBehind}
 use Rattle.ckrt_history.specs.Stops.{IsStop}
 use Rattle.ckrt_history.proofs.OrderLemmas.{not_both}
 use Rattle.ckrt_history.proofs.SearchLemmas.{fewer, first_hit, none_more, way_ends, way_on, way_room, way_seen, way_starts}
@@ -16,40 +16,38 @@ steps-init c =
 
 pub advance-requires : goal.advance-requires
 advance-requires c =
-    let stops = c.args.stops.now in let h = c.args.self.now in let z = c.steps.self in let way = c.steps.invariant.way in
-    let more = subst (λ q. IsBefore q c.args.last) c.position.ensures.position (c.is_before.ensures.0 c.steps-test.true) in
+    let z = c.steps.self in let way = c.steps.invariant.way in
     record {
       width = c.requires.width;
-      within = way_room stops h c.args.last z c.steps.seen.items way c.requires.last more;
-      seen = way_seen stops h c.args.last z c.steps.seen.items way;
+      last = subst (λ (x : History). IsPosition c.args.last x.events x.start) (sym way.history) c.requires.last;
+      more = subst (λ q. IsBefore q c.args.last) c.position.ensures.position (c.is_before.ensures.0 c.steps-test.true);
+      seen = way_seen c.args.stops.now c.args.self.now c.args.last z c.steps.seen.items way;
     }
 
 pub steps-preserved : goal.steps-preserved
 steps-preserved c =
     let stops = c.args.stops.now in let h = c.args.self.now in let z = c.steps.self in let way = c.steps.invariant.way in
     let seen = c.steps.seen.items in let new = c.advance.new.self in
-    let more = subst (λ q. IsBefore q c.args.last) c.position.ensures.position (c.is_before.ensures.0 c.steps-test.true) in
     let never = λ (holds : IsStop stops new new.position). false≢true (sym c.if-advance.false ∙ c.advance.ensures.stop.1 holds) in
     record {
-      way = way_on stops h c.args.last z seen way more c.requires.last new c.advance.ensures.position c.advance.ensures.is_one c.advance.new.seen.items c.advance.ensures.seen;
-      none = none_more stops h c.args.last z seen way more c.requires.last new c.advance.ensures.position c.advance.ensures.is_one never c.steps.invariant.none;
+      way = way_on stops h c.args.last z seen way new c.advance.ensures.history c.advance.ensures.passes c.advance.new.seen.items c.advance.ensures.seen;
+      none = none_more stops h c.args.last z seen way new c.advance.ensures.history c.advance.ensures.passes never c.steps.invariant.none;
     }
 
 pub steps-smaller : goal.steps-smaller
 steps-smaller c =
     let stops = c.args.stops.now in let h = c.args.self.now in let z = c.steps.self in let way = c.steps.invariant.way in
     let more = subst (λ q. IsBefore q c.args.last) c.position.ensures.position (c.is_before.ensures.0 c.steps-test.true) in
-    fewer z c.advance.new.self c.advance.ensures.position c.position.result c.position.ensures.position c.position.ensures.is_one (way_room stops h c.args.last z c.steps.seen.items way c.requires.last more)
+    fewer (IsStop stops z) c.args.last z c.advance.new.self c.advance.ensures.history c.advance.ensures.passes c.position.result c.position.ensures.position c.position.ensures.is_one (way_room stops h c.args.last z c.steps.seen.items way c.requires.last more)
 
 pub returns-then-advance : goal.returns-then-advance
 returns-then-advance c =
     let stops = c.args.stops.now in let h = c.args.self.now in let z = c.steps.self in let way = c.steps.invariant.way in
     let seen = c.steps.seen.items in let new = c.advance.new.self in
-    let more = subst (λ q. IsBefore q c.args.last) c.position.ensures.position (c.is_before.ensures.0 c.steps-test.true) in
-    let on = way_on stops h c.args.last z seen way more c.requires.last new c.advance.ensures.position c.advance.ensures.is_one c.advance.new.seen.items c.advance.ensures.seen in
+    let on = way_on stops h c.args.last z seen way new c.advance.ensures.history c.advance.ensures.passes c.advance.new.seen.items c.advance.ensures.seen in
     record {
       history = on.history;
-      found = λ _. first_hit stops h c.args.last z seen way more c.requires.last new c.advance.ensures.position c.advance.ensures.is_one (c.advance.ensures.stop.0 c.if-advance.true) c.steps.invariant.none;
+      found = λ _. first_hit stops h c.args.last z seen way new c.advance.ensures.history c.advance.ensures.passes (c.advance.ensures.stop.0 c.if-advance.true) c.steps.invariant.none;
       none = λ e. absurd (false≢true (sym e));
     }
 

@@ -1,0 +1,28 @@
+use Rattle.std.proofs.Common.{◌≡◌, ◌∙◌, ◌+◌, ◌-◌, ap, arith}
+use Rattle.ckrt_machine.specs.Runs.{after_steps}
+use Rattle.ckrt_counts.specs.declared.counts.Step.{Step}
+use Rattle.ckrt_counts.specs.Counts.{Counts, behind_all}
+use Rattle.ckrt_profile.specs.Steps.{of_rest}
+use Rattle.ckrt_profile.specs.Straight.{straight}
+use Rattle.ckrt_profile.proofs.StraightLemmas.{made_counted, made_state, met_at_calls}
+use Rattle.ckrt_profile.proofs.walk.count_straight.Goals as goal
+
+pub go_quietly_to-made-requires-clause-calls : goal.go_quietly_to-made-requires-clause-calls
+go_quietly_to-made-requires-clause-calls c = met_at_calls
+
+pub returns : goal.returns
+returns c =
+    let h = c.args.hart in
+    let old = c.args.machine.now in
+    let new = c.go_quietly_to-made.new.machine in
+    let made = c.go_quietly_to-made.result in
+    let did = c.go_quietly_to-made.ensures in
+    let n = c.args.limit - made in
+    let left : c.args.limit ≡ made + n = omega (arith, did.within) in
+    record {
+      within = did.within;
+      same = λ none. (did.state ∙ ap (λ k. (after_steps k h old.state old.output).state) none, did.output ∙ ap (λ k. (after_steps k h old.state old.output).output) none);
+      state = made_state c.args.limit made h n old new left did;
+      counted = ap (λ (w : Counts). behind_all (of_rest n h new.state new.output) w) (c.note_straight.ensures ∙ ap (λ (f : Step). behind_all (straight f.thread f.pc made) c.args.counts.now) c.next_step-first.ensures)
+          ∙ made_counted c.args.limit made h n old new left did c.args.counts.now;
+    }

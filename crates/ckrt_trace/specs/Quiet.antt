@@ -1,0 +1,72 @@
+-- Quiet steps in a row: they call nothing, and change no wait.
+use Rattle.std.specs.Prelude.{◌≡◌, ◌⊎◌, ◌≤◌, ◌<◌, ℕ, ◌==◌, Bool, true, false, if◌then◌else◌, Option, Some, None, is_some, List}
+use Rattle.ckrt_registers.specs.Registers.{Registers}
+use Rattle.ckrt_memory.specs.Reasons.{Meets}
+use Rattle.ckrt_thread.specs.Abi.{RETURN_GATE, UNWIND_GATE}
+use Rattle.ckrt_thread.specs.Cancellation.{is_immediate}
+use Rattle.ckrt_thread.specs.State as threads
+use Rattle.ckrt_thread.specs.declared.records.Thread.{Thread}
+use Rattle.ckrt_thread.specs.declared.records.Thread.TheVariants as thread
+use Rattle.ckrt_machine.specs.Events.{Machine}
+use Rattle.ckrt_machine.specs.Runs.{after_steps, stop_after}
+use Rattle.ckrt_machine.specs.RunsTo.{meets_after}
+use Rattle.ckrt_machine.specs.Steps.{State, hart_of}
+use Rattle.ckrt_trace.specs.Lines.{is_ecall_at, is_quiet}
+
+-- the next step is quiet behind k steps of the thread on hart h
+abbrev pub is_quiet_after : (k h : ℕ) → State → List ℕ → Bool
+is_quiet_after k h s out =
+    is_quiet (hart_of (after_steps k h s out).state.tables h) (after_steps k h s out).state
+
+-- A machine made some quiet steps of the thread on hart h, of `limit` at most, up to the first that isn't quiet, or to the end of the run.
+pub record GoesQuietly (limit made h : ℕ) (old new : Machine) : Type 0 where
+  pub within : made ≤ limit
+  pub state : new.state ≡ (after_steps made h old.state old.output).state
+  pub output : new.output ≡ (after_steps made h old.state old.output).output
+  pub goes_on : (k : ℕ) → k < made → stop_after k h old.state old.output ≡ None
+  pub quiet : (k : ℕ) → k < made → is_quiet_after k h old.state old.output ≡ true
+  pub ended : made < limit → (is_some (stop_after made h old.state old.output) ≡ true)
+      ⊎ (is_quiet_after made h old.state old.output ≡ false)
+
+-- WHICH STEPS AREN'T QUIET
+
+-- as far as registers and bytes tell: the pc is at a gate, or the word of ECALL is next
+abbrev pub is_at_gate : ℕ → Bool
+is_at_gate pc = if pc == RETURN_GATE then true else pc == UNWIND_GATE
+
+abbrev pub calls_next : Meets
+calls_next r m = if is_ecall_at m r.pc then true else is_at_gate r.pc
+
+-- the thread acts on a request by its next step
+abbrev pub acts_first : Option Thread → Bool
+acts_first None = false
+acts_first (Some (thread.Ended v)) = false
+acts_first (Some (thread.Live l)) = is_immediate l.cancellation
+
+-- the same of who is on a hart
+abbrev pub acts_next : Option ℕ → State → Bool
+acts_next None s = false
+acts_next (Some t) s = acts_first (threads.thread_of s.tables.threads t)
+
+-- whoever is on a hart hasn't ended
+abbrev pub IsLiveOn : (h : ℕ) → State → Type 0
+IsLiveOn h s = (t : ℕ) → hart_of s.tables h ≡ Some t → threads.is_live s.tables.threads t ≡ true
+
+-- WITH A REASON TO STOP
+
+-- a reason that is met before each call and at each gate
+abbrev pub IsMetAtCalls : Meets → Type 0
+IsMetAtCalls meets = (r : Registers) (m : List ℕ) → calls_next r m ≡ true → meets r m ≡ true
+
+-- A machine made some quiet steps, before each of which the reason wasn't met, up to the first before which it is, or that isn't quiet, or to the
+-- end of the run.
+pub record GoesQuietlyTo (meets : Meets) (limit made h : ℕ) (old new : Machine) : Type 0 where
+  pub within : made ≤ limit
+  pub state : new.state ≡ (after_steps made h old.state old.output).state
+  pub output : new.output ≡ (after_steps made h old.state old.output).output
+  pub goes_on : (k : ℕ) → k < made → stop_after k h old.state old.output ≡ None
+  pub quiet : (k : ℕ) → k < made → is_quiet_after k h old.state old.output ≡ true
+  pub unmet : (k : ℕ) → k < made → meets_after meets k h old.state old.output ≡ false
+  pub ended : made < limit → (is_some (stop_after made h old.state old.output) ≡ true)
+      ⊎ ((meets_after meets made h old.state old.output ≡ true)
+      ⊎ (is_quiet_after made h old.state old.output ≡ false))
