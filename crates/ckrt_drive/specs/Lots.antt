@@ -11,3 +11,12 @@ generator_of seed = started 64 multiplier_64 seed (increment_of 64 54)
 -- the number of 32 bits that it draws after n others
 abbrev pub lot_of : (seed n : ℕ) → ℕ
 lot_of seed n = output_xsh_rr (advance 64 multiplier_64 n (generator_of seed)).state
+
+-- the state of the generator after n lots of a seed
+abbrev pub state_behind : (seed n : ℕ) → ℕ
+state_behind seed n = (advance 64 multiplier_64 n (generator_of seed)).state
+
+-- the number that the generator draws from a state, after n others
+abbrev pub lot_from : (state n : ℕ) → ℕ
+lot_from state n =
+    output_xsh_rr (advance 64 multiplier_64 n (record { state = state; increment = increment_of 64 54 })).state

@@ -22,7 +22,7 @@ pub use laws::{
     checkpoints_find_nothing_pending, no_checkpoint_behind_a_checkpoint, plans_suit_the_version,
     stream_gets_the_output,
 };
-pub use lot::lot_of;
+pub use lot::{lot_from, lot_of, state_behind};
 pub use onlooker::{Nobody, Onlooker};
 pub use options::Options;
 pub use plan::{Next, idle, run_by};

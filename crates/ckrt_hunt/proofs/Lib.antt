@@ -5,5 +5,6 @@ pub mod TallyLemmas
 pub mod SameLemmas
 pub mod KeepLemmas
 pub mod AppendLemmas
+pub mod LotLemmas
 pub mod DiskLemmas
 mod NumberLemmas

@@ -1,11 +1,15 @@
 -- What a seed draws by lot (this project's choice). Turn 0 is the seed's own, before the first turn of its run; each turn has 128 lots, of which
 -- lots 1 to 64 are those of the threads.
 use Rattle.std.specs.Prelude.{ℕ, ◌+◌, ◌*◌, ◌/◌, ◌%◌, ◌==◌, min, Bool, if◌then◌else◌}
-use Rattle.ckrt_drive.specs.Lots.{lot_of}
+use Rattle.ckrt_drive.specs.Lots.{lot_of, state_behind}
 
 -- a lot of a turn
 abbrev pub lot_at : (seed turn place : ℕ) → ℕ
 lot_at seed turn place = lot_of seed (128 * turn + place)
+
+-- the state of the generator before the lots of a turn
+abbrev pub lots_of : (seed turn : ℕ) → ℕ
+lots_of seed turn = state_behind seed (128 * turn)
 
 -- one of 10, 100, .., 1,000,000
 abbrev pub scale_by : (pick : ℕ) → ℕ

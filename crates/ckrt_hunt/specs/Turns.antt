@@ -22,7 +22,9 @@ use Rattle.ckrt_hunt.specs.declared.made.Made.{Made}
 use Rattle.ckrt_hunt.specs.declared.given.Turn.{Turn}
 use Rattle.ckrt_hunt.specs.declared.turn.Ranked.{Ranked}
 use Rattle.ckrt_hunt.specs.Given as given
-use Rattle.ckrt_hunt.specs.Lots.{lot_at, shortest_of}
+use Rattle.ckrt_hunt.specs.declared.turn.Chooser.{Chooser}
+use Rattle.ckrt_hunt.specs.declared.turn.Chooser.TheVariants as chooser
+use Rattle.ckrt_hunt.specs.Lots.{lot_at, lots_of, shortest_of}
 
 -- WHOSE TURN IT IS
 
@@ -62,6 +64,11 @@ rank_of p m t = rank_by (given.given_turn p m) p m t
 
 abbrev pub ranked : Plan → Made → ℕ → Ranked
 ranked p m t = record { thread = t; rank = rank_of p m t }
+
+-- the turn behind what was made is chosen so: it is given, or drawn by the lots of its number
+abbrev pub Chooses : Plan → Made → Chooser → Type 0
+Chooses p m (chooser.Given turn) = given.given_turn p m ≡ Some turn
+Chooses p m (chooser.Drawn lots) = (given.given_turn p m ≡ None) × (lots.state ≡ lots_of p.seed (m.turns + 1))
 
 -- a thread's number is 1 to 64
 abbrev pub IsNumbered : Ranked → Type 0

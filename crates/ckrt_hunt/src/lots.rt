@@ -1,8 +1,8 @@
 //! What a seed draws by lot: each turn has lots of its own, and turn 0 is the seed's, before the first turn of its run.
-ghost use Rattle.std.specs.Prelude.{◌≡◌, ◌≤◌};
-ghost use Rattle.ckrt_hunt.specs.Lots.{lot_at, scale_by, scale_of, shortest_of};
+ghost use Rattle.std.specs.Prelude.{◌≡◌, ◌≤◌, ℕ};
+ghost use Rattle.ckrt_hunt.specs.Lots.{lot_at, lots_of, scale_by, scale_of, shortest_of};
 
-use ckrt_drive::lot_of;
+use ckrt_drive::{lot_from, lot_of, state_behind};
 
 /// How many lots a turn has. Lots 1 to 64 are those of the threads.
 const LOTS: u64 = 128;
@@ -31,6 +31,33 @@ pub fn lot_at(seed: u64, turn: u64, place: u8) -> u32
     ensures { result ≡ lot_at seed turn place }
 {
     lot_of(seed, LOTS * turn + u64::from(place))
+}
+
+/// The lots of one turn, each as near as the others: the state of the generator before the first of them.
+#[derive(Clone, Copy, Debug, PartialEq, Eq)]
+pub struct TurnLots {
+    state: u64,
+}
+
+impl TurnLots {
+    /// Those of a turn.
+    pub fn new(seed: u64, turn: u64) -> TurnLots
+        requires { turn ≤ 4294967296 }
+        ensures { result.state ≡ lots_of seed turn }
+    {
+        TurnLots {
+            state: state_behind(seed, LOTS * turn),
+        }
+    }
+
+    /// The lot at a place.
+    #[tactic(auto, using(crate::proofs::LotLemmas::lot_there))]
+    pub fn at(self, place: u8) -> u32
+        ensures { (seed turn : ℕ) → self.state ≡ lots_of seed turn
+            → result ≡ lot_at seed turn place }
+    {
+        lot_from(self.state, u64::from(place))
+    }
 }
 
 /// One of 10, 100, .., 1,000,000.

@@ -7,10 +7,11 @@ ghost use Rattle.ckrt_machine.specs.Runs.{is_running};
 ghost use Rattle.ckrt_drive.specs.Plan.{IsInRangeNext};
 ghost use Rattle.ckrt_hunt.specs.declared.made.Made.{Made};
 ghost use Rattle.ckrt_hunt.specs.declared.plan.Plan.{Plan};
-ghost use Rattle.ckrt_hunt.specs.Turns.{IsFitNext, IsNumbered, IsWithin, best_among, better, clock_period, considered, drawn_length, drawn_rank, drawn_tick, drawn_turn, event_for, hart_from, is_clocks, is_enough, length_of, may_run, nearer, next, next_for, next_point, on_or_onto, or_a_tick, or_enough, rank_of, ranked, runner_of, steps_in, steps_of, tick_by, wanted_hart};
+ghost use Rattle.ckrt_hunt.specs.Lots.{lots_of};
+ghost use Rattle.ckrt_hunt.specs.Turns.{Chooses, IsFitNext, IsNumbered, IsWithin, best_among, better, clock_period, considered, drawn_length, drawn_rank, drawn_tick, drawn_turn, event_for, hart_from, is_clocks, is_enough, length_of, may_run, nearer, next, next_for, next_point, on_or_onto, or_a_tick, or_enough, rank_of, ranked, runner_of, steps_in, steps_of, tick_by, wanted_hart};
 
-use crate::given::given_turn;
-use crate::lots::{CLOCK, HART, LENGTH, SCALE, lot_at, shortest_of};
+use crate::given::{Turn, given_turn};
+use crate::lots::{CLOCK, HART, LENGTH, SCALE, TurnLots, shortest_of};
 use crate::made::Made;
 use crate::plan::Plan;
 use ckrt_drive::{DriveEnd, Next, idle, run_by};
@@ -26,6 +27,25 @@ pub struct Ranked {
     pub rank: u64,
 }
 
+/// By what a turn is chosen.
+#[derive(Clone, Copy, Debug, PartialEq, Eq)]
+pub enum Chooser {
+    /// It is given.
+    Given(Turn),
+    /// It is drawn, by these lots.
+    Drawn(TurnLots),
+}
+
+/// By what the next turn is chosen.
+fn chooser_of(plan: &Plan<'_>, made: &Made) -> Chooser
+    ensures { Chooses plan.now made.now result }
+{
+    match given_turn(plan, made) {
+        Some(turn) => Chooser::Given(turn),
+        None => Chooser::Drawn(TurnLots::new(plan.seed, u64::from(made.turns) + 1)),
+    }
+}
+
 // Whose turn it is.
 
 /// Whether there is such a thread, and it has not ended.
@@ -39,35 +59,29 @@ fn is_live(threads: &Threads, thread: ThreadId) -> bool
 fn may_run(threads: &Threads, thread: ThreadId) -> bool
     ensures { result ≡ may_run threads.now thread }
 {
-    is_live(threads, thread) && threads.wait_of(thread).is_none()
-}
-
-/// The lots of the turn that is next.
-fn turn_of(made: &Made) -> u64
-    ensures turn { result ≡ made.now.turns + 1 }
-    ensures within { result ≤ 4294967296 }
-{
-    u64::from(made.turns) + 1
+    threads.wait_of(thread).is_none() && is_live(threads, thread)
 }
 
 /// The rank of a thread at a turn that is drawn.
-fn drawn_rank(plan: &Plan<'_>, made: &Made, thread: ThreadId) -> u64
+fn drawn_rank(lots: TurnLots, plan: &Plan<'_>, made: &Made, thread: ThreadId) -> u64
+    requires { lots.state ≡ lots_of plan.now.seed (made.now.turns + 1) }
     ensures { result ≡ drawn_rank plan.now made.now thread }
 {
     if made.steps < plan.horizon {
         made.lowered.priority_of(plan.seed, thread)
     } else {
-        u64::from(lot_at(plan.seed, turn_of(made), thread))
+        u64::from(lots.at(thread))
     }
 }
 
 /// The rank of a thread.
-fn rank_of(plan: &Plan<'_>, made: &Made, thread: ThreadId) -> u64
+fn rank_of(by: Chooser, plan: &Plan<'_>, made: &Made, thread: ThreadId) -> u64
+    requires { Chooses plan.now made.now by }
     ensures { result ≡ rank_of plan.now made.now thread }
 {
-    match given_turn(plan, made) {
-        Some(turn) => turn.rank_of(thread),
-        None => drawn_rank(plan, made, thread),
+    match by {
+        Chooser::Given(turn) => turn.rank_of(thread),
+        Chooser::Drawn(lots) => drawn_rank(lots, plan, made, thread),
     }
 }
 
@@ -86,35 +100,38 @@ fn better(best: Option<Ranked>, other: Ranked) -> Ranked
 }
 
 /// The better one of the best so far and a thread, where that may run.
+#[inline(always)]
 fn consider(
+    by: Chooser,
     plan: &Plan<'_>,
     made: &Made,
     threads: &Threads,
     thread: ThreadId,
     best: Option<Ranked>,
 ) -> Option<Ranked>
+    requires by { Chooses plan.now made.now by }
     requires number { (1 ≤ thread) × (thread ≤ 64) }
     requires best { IfSome best IsNumbered }
     ensures best { result
         ≡ considered (may_run threads.now thread) (ranked plan.now made.now thread) best }
     ensures number { IfSome result IsNumbered }
 {
-    if may_run(threads, thread) {
-        let rank = rank_of(plan, made, thread);
-        Some(better(best, Ranked { thread, rank }))
-    } else {
-        best
+    if !may_run(threads, thread) {
+        return best;
     }
+    let rank = rank_of(by, plan, made, thread);
+    Some(better(best, Ranked { thread, rank }))
 }
 
 /// Of the threads that may run, the one with the highest rank.
-fn best(plan: &Plan<'_>, made: &Made, threads: &Threads) -> Option<Ranked>
+fn best(by: Chooser, plan: &Plan<'_>, made: &Made, threads: &Threads) -> Option<Ranked>
+    requires { Chooses plan.now made.now by }
     ensures best { result ≡ best_among plan.now made.now threads.now 64 }
     ensures number { IfSome result IsNumbered }
 {
     let mut best = None;
     for thread in 1..MAX_THREADS as ThreadId + 1 {
-        best = consider(plan, made, threads, thread, best);
+        best = consider(by, plan, made, threads, thread, best);
     }
     best
 }
@@ -148,23 +165,24 @@ fn next_point(plan: &Plan<'_>, steps: u32) -> u32
 }
 
 /// A length by lot.
-fn drawn_length(plan: &Plan<'_>, made: &Made) -> u32
-    ensures length { result ≡ drawn_length plan.now made.now }
+fn drawn_length(lots: TurnLots, made: &Made) -> u32
+    ensures length { (p : Plan) → lots.state ≡ lots_of p.seed (made.now.turns + 1)
+        → result ≡ drawn_length p made.now }
     ensures some { 1 ≤ result }
     ensures few { result ≤ 1000000 }
 {
-    let turn = turn_of(made);
-    let most = shortest_of(made.is_near_call, lot_at(plan.seed, turn, SCALE));
-    lot_at(plan.seed, turn, LENGTH) % most + 1
+    let most = shortest_of(made.is_near_call, lots.at(SCALE));
+    lots.at(LENGTH) % most + 1
 }
 
 /// How long a turn is that is drawn.
-fn drawn_turn(plan: &Plan<'_>, made: &Made) -> u32
+fn drawn_turn(lots: TurnLots, plan: &Plan<'_>, made: &Made) -> u32
+    requires { lots.state ≡ lots_of plan.now.seed (made.now.turns + 1) }
     ensures length { result ≡ drawn_turn plan.now made.now }
     ensures some { 1 ≤ result }
     ensures few { result ≤ 1000000 }
 {
-    let drawn = drawn_length(plan, made);
+    let drawn = drawn_length(lots, made);
     if made.steps < plan.horizon {
         drawn.min(next_point(plan, made.steps) - made.steps)
     } else {
@@ -173,26 +191,28 @@ fn drawn_turn(plan: &Plan<'_>, made: &Made) -> u32
 }
 
 /// How long the turn of a thread is.
-fn length_of(plan: &Plan<'_>, made: &Made, thread: ThreadId) -> u32
+fn length_of(by: Chooser, plan: &Plan<'_>, made: &Made, thread: ThreadId) -> u32
+    requires { Chooses plan.now made.now by }
     ensures length { result ≡ length_of plan.now made.now thread }
     ensures some { 1 ≤ result }
     ensures few { result ≤ 1000000 }
 {
-    match given_turn(plan, made) {
-        Some(turn) => turn.length_of(thread),
-        None => drawn_turn(plan, made),
+    match by {
+        Chooser::Given(turn) => turn.length_of(thread),
+        Chooser::Drawn(lots) => drawn_turn(lots, plan, made),
     }
 }
 
 /// The steps of a thread's turn, as many as are left.
-fn steps_of(plan: &Plan<'_>, made: &Made, thread: ThreadId) -> u32
-    requires { made.now.steps < plan.now.limit }
+fn steps_of(by: Chooser, plan: &Plan<'_>, made: &Made, thread: ThreadId) -> u32
+    requires by { Chooses plan.now made.now by }
+    requires left { made.now.steps < plan.now.limit }
     ensures steps { result ≡ steps_of plan.now made.now thread }
     ensures some { 1 ≤ result }
     ensures few { result ≤ 1000000 }
     ensures within { made.now.steps + result ≤ plan.now.limit }
 {
-    length_of(plan, made, thread).min(plan.limit - made.steps)
+    length_of(by, plan, made, thread).min(plan.limit - made.steps)
 }
 
 // What it is.
@@ -221,19 +241,25 @@ fn hart_with(tables: &Tables, thread: ThreadId) -> Option<Hart>
 }
 
 /// Which hart is wanted for a thread that is on none; of so many harts it is that one modulo their number.
-fn wanted_hart(plan: &Plan<'_>, made: &Made) -> u32
-    ensures { result ≡ wanted_hart plan.now made.now }
+fn wanted_hart(by: Chooser) -> u32
+    ensures { (p : Plan) (m : Made) → Chooses p m by → result ≡ wanted_hart p m }
 {
-    match given_turn(plan, made) {
-        Some(turn) => turn.hart(),
-        None => lot_at(plan.seed, turn_of(made), HART),
+    match by {
+        Chooser::Given(turn) => turn.hart(),
+        Chooser::Drawn(lots) => lots.at(HART),
     }
 }
 
 /// A thread runs on its hart, and goes onto the one that is wanted where it is on none.
-fn on_or_onto(plan: &Plan<'_>, made: &Made, tables: &Tables, thread: ThreadId) -> Event
-    requires low { 1 ≤ thread }
-    requires high { thread ≤ 64 }
+fn on_or_onto(
+    by: Chooser,
+    plan: &Plan<'_>,
+    made: &Made,
+    tables: &Tables,
+    thread: ThreadId,
+) -> Event
+    requires by { Chooses plan.now made.now by }
+    requires number { (1 ≤ thread) × (thread ≤ 64) }
     requires left { made.now.steps < plan.now.limit }
     requires harts { (1 ≤ tables.now.threads.hart_count) × (tables.now.threads.hart_count ≤ 8) }
     ensures event { result ≡ on_or_onto (hart_from 0 thread tables.now)
@@ -242,10 +268,10 @@ fn on_or_onto(plan: &Plan<'_>, made: &Made, tables: &Tables, thread: ThreadId) -
     ensures within { made.now.steps + steps_in result ≤ plan.now.limit }
 {
     if let Some(hart) = hart_with(tables, thread) {
-        return run_by(hart, steps_of(plan, made, thread));
+        return run_by(hart, steps_of(by, plan, made, thread));
     }
     let harts = tables.threads.hart_count() as u32;
-    let hart = wanted_hart(plan, made) % harts;
+    let hart = wanted_hart(by) % harts;
     Event::Place(hart as u8, thread)
 }
 
@@ -258,12 +284,12 @@ fn clock_period(plan: &Plan<'_>) -> u32
 }
 
 /// Whether the turn is the clock's.
-fn is_clocks(plan: &Plan<'_>, made: &Made) -> bool
-    ensures { result ≡ is_clocks plan.now made.now }
+fn is_clocks(by: Chooser, plan: &Plan<'_>) -> bool
+    ensures { (m : Made) → Chooses plan.now m by → result ≡ is_clocks plan.now m }
 {
-    match given_turn(plan, made) {
-        Some(turn) => turn.is_clocks(),
-        None => lot_at(plan.seed, turn_of(made), CLOCK) % clock_period(plan) == 0,
+    match by {
+        Chooser::Given(turn) => turn.is_clocks(),
+        Chooser::Drawn(lots) => lots.at(CLOCK) % clock_period(plan) == 0,
     }
 }
 
@@ -283,31 +309,38 @@ fn drawn_tick(plan: &Plan<'_>, tables: &Tables) -> Event
 }
 
 /// The event of a clock's turn.
-fn tick_by(plan: &Plan<'_>, made: &Made, tables: &Tables) -> Event
-    ensures event { result ≡ tick_by plan.now made.now tables.now }
+fn tick_by(by: Chooser, plan: &Plan<'_>, tables: &Tables) -> Event
+    ensures event { (m : Made) → Chooses plan.now m by
+        → result ≡ tick_by plan.now m tables.now }
     ensures in_range { IsInRange result }
     ensures none { steps_in result ≡ 0 }
 {
-    match given_turn(plan, made) {
-        Some(turn) => Event::Tick(turn.ticks()),
-        None => drawn_tick(plan, tables),
+    match by {
+        Chooser::Given(turn) => Event::Tick(turn.ticks()),
+        Chooser::Drawn(_) => drawn_tick(plan, tables),
     }
 }
 
 /// The event of a turn, for the thread whose turn it is.
-fn event_for(plan: &Plan<'_>, made: &Made, tables: &Tables, thread: ThreadId) -> Event
-    requires low { 1 ≤ thread }
-    requires high { thread ≤ 64 }
+fn event_for(
+    by: Chooser,
+    plan: &Plan<'_>,
+    made: &Made,
+    tables: &Tables,
+    thread: ThreadId,
+) -> Event
+    requires by { Chooses plan.now made.now by }
+    requires number { (1 ≤ thread) × (thread ≤ 64) }
     requires left { made.now.steps < plan.now.limit }
     requires harts { (1 ≤ tables.now.threads.hart_count) × (tables.now.threads.hart_count ≤ 8) }
     ensures event { result ≡ event_for plan.now made.now thread tables.now }
     ensures in_range { IsInRange result }
     ensures within { made.now.steps + steps_in result ≤ plan.now.limit }
 {
-    if is_clocks(plan, made) {
-        tick_by(plan, made, tables)
+    if is_clocks(by, plan) {
+        tick_by(by, plan, tables)
     } else {
-        on_or_onto(plan, made, tables, thread)
+        on_or_onto(by, plan, made, tables, thread)
     }
 }
 
@@ -320,8 +353,9 @@ fn next_for(plan: &Plan<'_>, made: &Made, tables: &Tables) -> Next
         plan.now made.now tables.now }
     ensures within { IsWithin plan.now made.now result }
 {
-    match best(plan, made, &tables.threads) {
-        Some(best) => Next::Submit(event_for(plan, made, tables, best.thread)),
+    let by = chooser_of(plan, made);
+    match best(by, plan, made, &tables.threads) {
+        Some(best) => Next::Submit(event_for(by, plan, made, tables, best.thread)),
         None => idle(tables),
     }
 }
