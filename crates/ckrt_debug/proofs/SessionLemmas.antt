@@ -15,7 +15,7 @@ use Rattle.ckrt_debug.specs.Session.{AnswersBy, HasMoved, IsOfRun, IsOutside, Is
 use Rattle.ckrt_playback.proofs.MotionLemmas.{is_run, moved_run}
 
 pub same : (s : Stub) → IsSame s s
-same s = record { history = refl; view = refl; stops = refl; bounds_are = refl; first = refl }
+same s = record { history = refl; view = refl; stops = refl; bounds_are = refl; first = refl; recorded = refl }
 
 pub by_look : (look : Option (List ℕ)) (way : Option Way) (request : Request) (s : Stub) (out : List ℕ) → is_some look ≡ true
     → IfSome look (λ text. out ≡ fitting text) → AnswersBy look way request s s out

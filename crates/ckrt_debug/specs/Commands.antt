@@ -12,7 +12,7 @@ use Rattle.ckrt_events.specs.declared.command.LineFault.{LineFault}
 use Rattle.ckrt_events.specs.declared.command.LineFault.TheVariants.{Unknown}
 use Rattle.ckrt_events.specs.declared.event.Event.{Event}
 use Rattle.ckrt_debug.specs.declared.command.Command.{Command}
-use Rattle.ckrt_debug.specs.declared.command.Command.TheVariants.{Append, Events, Fork, GoTo, Help, Inspect, Limit, Until}
+use Rattle.ckrt_debug.specs.declared.command.Command.TheVariants.{Append, Events, Extend, Fork, GoTo, Help, Inspect, Limit, Until}
 use Rattle.ckrt_debug.specs.declared.command.Place.{Place}
 
 -- NUMBERS in decimal
@@ -70,6 +70,10 @@ is_space b = b == 32
 abbrev pub limit_in : ℕ → Option Command
 limit_in n = if nat_lt 0 n then Some (Limit n) else None
 
+-- of events, 1 or more
+abbrev pub extend_in : ℕ → Option Command
+extend_in n = if nat_lt 0 n then Some (Extend n) else None
+
 abbrev pub named : List ℕ → List ℕ → Option Command
 named name word =
     if bytes_eq name (codes "goto") then option_map GoTo (place_of word)
@@ -79,6 +83,7 @@ named name word =
     else if bytes_eq name (codes "inspect") then Some Inspect
     else if bytes_eq name (codes "fork") then Some Fork
     else if bytes_eq name (codes "event") then Some (Append (event_of word))
+    else if bytes_eq name (codes "live") then option_and_then extend_in (word_of word)
     else None
 
 abbrev pub command_in : List ℕ → Option Command

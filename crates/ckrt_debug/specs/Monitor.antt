@@ -1,23 +1,25 @@
 -- What the stub makes of a command of gdb's user, and what it tells.
-use Rattle.std.specs.Prelude.{◌≡◌, ℕ, ◌+◌, ◌-◌, ◌^◌, ◌==◌, min, Bool, true, false, if◌then◌else◌, List, [], ◌++◌, length, codes, decimal, Option, Some, None, Result, Ok, Err}
+use Rattle.std.specs.Prelude.{◌≡◌, ℕ, ◌+◌, ◌-◌, ◌^◌, ◌==◌, min, nat_lt, Bool, true, false, if◌then◌else◌, List, [], ◌++◌, length, codes, decimal, Option, Some, None, Result, Ok, Err}
 use Rattle.ckrt_events.specs.declared.command.LineFault.{LineFault}
 use Rattle.ckrt_events.specs.declared.event.Event.{Event}
 use Rattle.ckrt_commands.specs.Replies.{line_fault_text, no_line, refusal_text}
+use Rattle.ckrt_schedule.specs.declared.next.ScheduleEnd.{ScheduleEnd}
+use Rattle.ckrt_schedule.specs.declared.next.ScheduleEnd.TheVariants.{Ended, WaitsForInput, Deadlock, Enough}
 use Rattle.ckrt_history.specs.declared.forking.AppendFault.{AppendFault}
 use Rattle.ckrt_history.specs.declared.forking.AppendFault.TheVariants.{NotAtEnd, NoRoom, Refused}
 use Rattle.ckrt_history.specs.declared.position.Position.{Position}
 use Rattle.ckrt_history.specs.Forks.{append_fault}
 use Rattle.ckrt_inspect.specs.Listing.{listing_by}
 use Rattle.ckrt_debug.specs.declared.command.Command.{Command}
-use Rattle.ckrt_debug.specs.declared.command.Command.TheVariants.{Append, Events, Fork, GoTo, Help, Inspect, Limit, Until}
+use Rattle.ckrt_debug.specs.declared.command.Command.TheVariants.{Append, Events, Extend, Fork, GoTo, Help, Inspect, Limit, Until}
 use Rattle.ckrt_debug.specs.declared.monitor.TheConstants.{HELP}
 use Rattle.ckrt_debug.specs.declared.stub.Stub.{Stub}
 use Rattle.ckrt_debug.specs.Commands.{command_of}
 use Rattle.ckrt_playback.specs.Playback.{history_of, state_of}
-use Rattle.ckrt_debug.specs.Session.{HasBounds, HasForked, IsSame, Makes, Names, Reaches}
+use Rattle.ckrt_debug.specs.Session.{HasBounds, HasForked, HasGoneOn, IsSame, Makes, Names, Reaches, gone_on}
 use Rattle.ckrt_playback.specs.Told.{is_before, is_same}
 
--- WHERE IT STANDS: `event K+S, from F to L`
+-- WHERE IT STANDS: `event K+S, from F to L`, and how many of these events are recorded where not all are
 
 -- so many events of all, as a number of 64 bits
 abbrev pub count_of : (first k : ℕ) → ℕ
@@ -31,14 +33,21 @@ steps_text s = if s == 0 then [] else codes "+" ++ decimal s
 abbrev pub event_text : (first : ℕ) → Position → List ℕ
 event_text first p = (codes "event " ++ decimal (count_of first p.events)) ++ steps_text p.steps
 
+-- `, recorded to R`, where not all are recorded
+abbrev pub recorded_text : (first recorded count : ℕ) → List ℕ
+recorded_text first recorded count =
+    if nat_lt recorded count then codes ", recorded to " ++ decimal (count_of first recorded) else []
+
 -- `, from F to L`
-abbrev pub range_text : (first count : ℕ) → List ℕ
-range_text first count =
-    (codes ", from " ++ decimal first) ++ ((codes " to " ++ decimal (count_of first count)) ++ codes "\n")
+abbrev pub range_text : (first recorded count : ℕ) → List ℕ
+range_text first recorded count =
+    (codes ", from " ++ decimal first)
+    ++ ((codes " to " ++ decimal (count_of first count)) ++ (recorded_text first recorded count ++ codes "\n"))
 
 abbrev pub standing_line : Stub → List ℕ
 standing_line s =
-    event_text s.desk.first (history_of s.playback).position ++ range_text s.desk.first (length (history_of s.playback).events)
+    event_text s.desk.first (history_of s.playback).position
+    ++ range_text s.desk.first s.desk.recorded (length (history_of s.playback).events)
 
 abbrev pub nowhere : List ℕ
 nowhere = codes "no such position\n"
@@ -81,6 +90,29 @@ abbrev pub made_text : Option AppendFault → Stub → List ℕ
 made_text None s = standing_line s
 made_text (Some fault) s = append_fault_text fault
 
+-- why there is no further event by turns; nothing where as many were made as were to be
+abbrev pub end_text : ScheduleEnd → List ℕ
+end_text Ended = codes "the program has ended\n"
+end_text WaitsForInput = codes "the program waits for input: monitor event in HEX gives it some\n"
+end_text Deadlock = codes "no thread can go on\n"
+end_text Enough = []
+
+abbrev pub why_text : Result ScheduleEnd AppendFault → List ℕ
+why_text (Ok end) = end_text end
+why_text (Err fault) = append_fault_text fault
+
+abbrev pub count_text : ℕ → List ℕ
+count_text n = (codes "events made: " ++ decimal n) ++ codes "\n"
+
+-- how many events were made, why there is no further one, and where it stands
+abbrev pub gone_on_text : (made : ℕ) → Result ScheduleEnd AppendFault → Stub → List ℕ
+gone_on_text made end s = count_text made ++ (why_text end ++ standing_line s)
+
+-- so many events more than before
+abbrev pub made_between : (old new : Stub) → ℕ
+made_between old new =
+    length (history_of new.playback).events - length (history_of old.playback).events
+
 -- WHAT IT DOES
 
 -- it makes an event behind the last, if a line has one, and the machine takes it
@@ -103,6 +135,8 @@ Does Events old new console = IsSame old new × (console ≡ standing_line old)
 Does Inspect old new console = IsSame old new × (console ≡ listing_text old)
 Does Fork old new console = HasForked old new × (console ≡ standing_line new)
 Does (Append event) old new console = DoesAppend event old new console
+Does (Extend most) old new console =
+    HasGoneOn most old new × (console ≡ gone_on_text (made_between old new) (gone_on most old).end new)
 Does Help old new console = IsSame old new × (console ≡ HELP.now)
 
 -- from old to new it does what a text commands, and tells this

@@ -1,8 +1,9 @@
 -- A session with a debugger, between two packets.
-use Rattle.std.specs.Prelude.{◌≡◌, ◌+◌, ℕ, Bool, true, false, List, Option, Some, None, is_some}
+use Rattle.std.specs.Prelude.{◌≡◌, ◌+◌, ℕ, min, Bool, true, false, List, length, Option, Some, None, is_some}
 use Rattle.ckrt_history.specs.declared.position.Position.{Position}
 use Rattle.ckrt_history.specs.Positions.{History, at_event}
 use Rattle.ckrt_history.specs.Forks.{forked, with_event}
+use Rattle.ckrt_history.specs.Extended.{Extended}
 use Rattle.ckrt_history.specs.declared.forking.AppendFault.{AppendFault}
 use Rattle.ckrt_events.specs.declared.event.Event.{Event}
 use Rattle.ckrt_packets.specs.declared.request.Request.{Request}
@@ -10,6 +11,7 @@ use Rattle.ckrt_playback.specs.declared.going.Way.{Way}
 use Rattle.ckrt_playback.specs.declared.limits.Bounds.{Bounds}
 use Rattle.ckrt_playback.specs.declared.motion.Found.{Found}
 use Rattle.ckrt_debug.specs.declared.stub.Stub.{Stub}
+use Rattle.ckrt_playback.specs.Extending.{going_on, view_behind}
 use Rattle.ckrt_playback.specs.Limits.{unbounded}
 use Rattle.ckrt_playback.specs.Look.{fitting}
 use Rattle.ckrt_playback.specs.Marks.{IsWithoutStops}
@@ -48,6 +50,7 @@ pub record BeginsAt (begin : Option ℕ) (first : ℕ) (h : History) (s : Stub) 
   pub stops : IsWithoutStops s.desk.stops
   pub bounds : s.desk.bounds ≡ unbounded
   pub first_is : s.desk.first ≡ first
+  pub recorded : s.desk.recorded ≡ length h.events
 
 -- THE ANSWER TO A REQUEST
 
@@ -58,6 +61,7 @@ pub record HasBounds (bounds : Bounds) (old new : Stub) : Type 0 where
   pub stops : new.desk.stops ≡ old.desk.stops
   pub bounds_are : new.desk.bounds ≡ bounds
   pub first : new.desk.first ≡ old.desk.first
+  pub recorded : new.desk.recorded ≡ old.desk.recorded
 
 -- nothing has changed
 abbrev pub IsSame : (old new : Stub) → Type 0
@@ -73,6 +77,7 @@ pub record HasMoved (way : Way) (old new : Stub) : Type 0 where
   pub stops : new.desk.stops ≡ old.desk.stops
   pub bounds : new.desk.bounds ≡ old.desk.bounds
   pub first : new.desk.first ≡ old.desk.first
+  pub recorded : new.desk.recorded ≡ old.desk.recorded
 
 -- a session has gone to a position, and shows whose step is next; nothing else changes
 pub record HasGone (p : Position) (old new : Stub) : Type 0 where
@@ -82,6 +87,7 @@ pub record HasGone (p : Position) (old new : Stub) : Type 0 where
   pub stops : new.desk.stops ≡ old.desk.stops
   pub bounds : new.desk.bounds ≡ old.desk.bounds
   pub first : new.desk.first ≡ old.desk.first
+  pub recorded : new.desk.recorded ≡ old.desk.recorded
 
 -- it has gone where so many events of all are done, and so many steps of the next, or there is no such position
 abbrev pub Reaches : (events steps : ℕ) → (old : Stub) → (is_there : Bool) → (new : Stub) → Type 0
@@ -100,13 +106,15 @@ Names events steps old (Some p) new =
 Names events steps old None new =
     (HasPlace old.desk.first events steps (history_of old.playback) → ⊥) × IsSame old new
 
--- the history ends where it stands from now on; nothing else changes
+-- the history ends where it stands from now on, and a run that is cut isn't recorded; nothing else changes
 pub record HasForked (old new : Stub) : Type 0 where
   pub history : history_of new.playback ≡ forked (history_of old.playback)
   pub view : new.desk.view ≡ old.desk.view
   pub stops : new.desk.stops ≡ old.desk.stops
   pub bounds : new.desk.bounds ≡ old.desk.bounds
   pub first : new.desk.first ≡ old.desk.first
+  pub recorded : new.desk.recorded
+      ≡ min old.desk.recorded (history_of old.playback).position.events
 
 -- one more event was made behind the last, and it shows who was there; nothing else changes
 pub record HasMade (e : Event) (old new : Stub) : Type 0 where
@@ -116,11 +124,25 @@ pub record HasMade (e : Event) (old new : Stub) : Type 0 where
   pub stops : new.desk.stops ≡ old.desk.stops
   pub bounds : new.desk.bounds ≡ old.desk.bounds
   pub first : new.desk.first ≡ old.desk.first
+  pub recorded : new.desk.recorded ≡ old.desk.recorded
 
 -- or it wasn't, and nothing changes
 abbrev pub Makes : Event → Option AppendFault → (old new : Stub) → Type 0
 Makes e None old new = HasMade e old new
 Makes e (Some fault) old new = IsSame old new
+
+-- its history with so many events more at most
+abbrev pub gone_on : (most : ℕ) → Stub → Extended
+gone_on most s = going_on most s.desk.first (history_of s.playback)
+
+-- by turns so many events at most were made behind the last, and it shows whose step is next then; nothing else changes
+pub record HasGoneOn (most : ℕ) (old new : Stub) : Type 0 where
+  pub history : history_of new.playback ≡ (gone_on most old).history
+  pub view : new.desk.view ≡ view_behind (gone_on most old).end old.desk.view (history_of new.playback)
+  pub stops : new.desk.stops ≡ old.desk.stops
+  pub bounds : new.desk.bounds ≡ old.desk.bounds
+  pub first : new.desk.first ≡ old.desk.first
+  pub recorded : new.desk.recorded ≡ old.desk.recorded
 
 -- a request that neither looks nor moves has set what it sets, and nothing else
 pub record HasSet (request : Request) (old new : Stub) : Type 0 where
@@ -129,6 +151,7 @@ pub record HasSet (request : Request) (old new : Stub) : Type 0 where
   pub stops : HasSetStops request old.desk.stops new.desk.stops
   pub bounds : new.desk.bounds ≡ old.desk.bounds
   pub first : new.desk.first ≡ old.desk.first
+  pub recorded : new.desk.recorded ≡ old.desk.recorded
 
 -- what a session shows for a request, and the way that it goes for one
 abbrev pub look_in : Request → Stub → Option (List ℕ)

@@ -1,7 +1,7 @@
 //! What gdb's user commands by `monitor`.
 ghost use Rattle.std.specs.Prelude.{◌≡◌, IfSome};
 ghost use Rattle.std.specs.List.{before_first};
-ghost use Rattle.ckrt_debug.specs.Commands.{IsInRangeCommand, IsInRangeEvent, command_in, command_of, event_of, is_plus, limit_in, named, number_of, place_of, steps_of, word_in, word_of};
+ghost use Rattle.ckrt_debug.specs.Commands.{IsInRangeCommand, IsInRangeEvent, command_in, command_of, event_of, extend_in, is_plus, limit_in, named, number_of, place_of, steps_of, word_in, word_of};
 
 use ckrt_events::{Command as LineCommand, Event, LineFault, parse_command};
 
@@ -29,6 +29,8 @@ pub enum Command {
     Fork,
     /// To make one more event behind the last, if the line is that of one.
     Append(Result<Event, LineFault>),
+    /// To make so many at most behind the last, 1 or more, each the one that is next by turns.
+    Extend(u32),
     Help,
 }
 
@@ -94,6 +96,17 @@ fn limit_in(number: u32) -> Option<Command>
     }
 }
 
+/// A number of events, 1 or more.
+fn extend_in(number: u32) -> Option<Command>
+    ensures { result ≡ extend_in number }
+{
+    if number > 0 {
+        Some(Command::Extend(number))
+    } else {
+        None
+    }
+}
+
 /// The event of a line, as a session of `ckrt run` takes it.
 fn event_of(line: &str) -> Result<Event, LineFault>
     ensures event { result ≡ event_of line.now }
@@ -124,6 +137,8 @@ fn named(name: &str, word: &str) -> Option<Command>
         Some(Command::Fork)
     } else if name == "event" {
         Some(Command::Append(event_of(word)))
+    } else if name == "live" {
+        extend_in(word_of(word)?)
     } else {
         None
     }

@@ -7,7 +7,7 @@ ghost use Rattle.ckrt_events.specs.Bytes.{IsInRange};
 ghost use Rattle.ckrt_events.specs.declared.command.LineFault.{LineFault};
 ghost use Rattle.ckrt_events.specs.declared.event.Event.{Event};
 ghost use Rattle.ckrt_debug.specs.Commands.{IsInRangeCommand, IsInRangeEvent};
-ghost use Rattle.ckrt_debug.specs.Monitor.{Does, DoesAppend, Obeys, count_of, event_text, gone_text, limit_text, listing_text, made_text, named_text, range_text, standing_line, steps_text, until_text};
+ghost use Rattle.ckrt_debug.specs.Monitor.{Does, DoesAppend, Obeys, count_of, count_text, end_text, event_text, gone_on_text, gone_text, limit_text, listing_text, made_text, named_text, range_text, recorded_text, standing_line, steps_text, until_text, why_text};
 ghost use Rattle.ckrt_playback.specs.Playback.{history_of};
 
 use crate::command::{Command, Place, command_of};
@@ -18,6 +18,7 @@ use ckrt_events::{Event, LineFault};
 use ckrt_history::{AppendFault, Position};
 use ckrt_inspect::write_listing;
 use ckrt_playback::is_same;
+use ckrt_schedule::ScheduleEnd;
 use std::alloc::AllocError;
 
 const HELP: &[u8] = b"monitor events      the events that there are, and where it stands\n\
@@ -26,7 +27,8 @@ monitor goto K+S    stand where K events are done and S steps of the next; then:
 monitor until K+S   continue or reverse-continue stop there\n\
 monitor limit N     a continue makes N steps at most, by and large\n\
 monitor fork        forget the events behind where it stands, in this session alone\n\
-monitor event LINE  behind the last event make one more, such as run 0 100; then: maintenance flush register-cache\n";
+monitor event LINE  behind the last event make one more, such as run 0 100; then: maintenance flush register-cache\n\
+monitor live N      make N more at most, as ckrt drive would go on; then: maintenance flush register-cache\n";
 
 /// A text and a number in decimal.
 fn push_counted(out: &mut Vec<u8>, text: &[u8], number: u64) -> Result<(), AllocError>
@@ -61,12 +63,34 @@ fn push_event(out: &mut Vec<u8>, first: u64, position: Position) -> Result<(), A
     push_steps(out, position.steps)
 }
 
+/// How many events are recorded, where not all are.
+fn push_recorded(
+    out: &mut Vec<u8>,
+    first: u64,
+    recorded: usize,
+    events: usize,
+) -> Result<(), AllocError>
+    ensures { OnOk result (out.new.items ≡ out.old.items ++ recorded_text first recorded events) }
+{
+    if recorded < events {
+        push_counted(out, b", recorded to ", count_of(first, recorded))
+    } else {
+        Ok(())
+    }
+}
+
 /// Which events there are.
-fn push_range(out: &mut Vec<u8>, first: u64, events: usize) -> Result<(), AllocError>
-    ensures { OnOk result (out.new.items ≡ out.old.items ++ range_text first events) }
+fn push_range(
+    out: &mut Vec<u8>,
+    first: u64,
+    recorded: usize,
+    events: usize,
+) -> Result<(), AllocError>
+    ensures { OnOk result (out.new.items ≡ out.old.items ++ range_text first recorded events) }
 {
     push_counted(out, b", from ", first)?;
     push_counted(out, b" to ", count_of(first, events))?;
+    push_recorded(out, first, recorded, events)?;
     out.extend_from_slice(b"\n")
 }
 
@@ -101,6 +125,38 @@ fn push_limit(out: &mut Vec<u8>, limit: u32) -> Result<(), AllocError>
     out.extend_from_slice(b"\n")
 }
 
+/// Why there is no further event by turns.
+fn push_end(out: &mut Vec<u8>, end: ScheduleEnd) -> Result<(), AllocError>
+    ensures { OnOk result (out.new.items ≡ out.old.items ++ end_text end) }
+{
+    match end {
+        ScheduleEnd::Ended => out.extend_from_slice(b"the program has ended\n"),
+        ScheduleEnd::WaitsForInput => out.extend_from_slice(
+            b"the program waits for input: monitor event in HEX gives it some\n",
+        ),
+        ScheduleEnd::Deadlock => out.extend_from_slice(b"no thread can go on\n"),
+        ScheduleEnd::Enough => Ok(()),
+    }
+}
+
+/// The same where an event may not have been appended.
+fn push_why(out: &mut Vec<u8>, end: Result<ScheduleEnd, AppendFault>) -> Result<(), AllocError>
+    ensures { OnOk result (out.new.items ≡ out.old.items ++ why_text end) }
+{
+    match end {
+        Ok(end) => push_end(out, end),
+        Err(fault) => push_append_fault(out, fault),
+    }
+}
+
+/// How many events were made.
+fn push_count(out: &mut Vec<u8>, made: usize) -> Result<(), AllocError>
+    ensures { OnOk result (out.new.items ≡ out.old.items ++ count_text made) }
+{
+    push_counted(out, b"events made: ", made as u64)?;
+    out.extend_from_slice(b"\n")
+}
+
 /// The commands that there are.
 fn push_help(out: &mut Vec<u8>) -> Result<(), AllocError>
     ensures { OnOk result (out.new.items ≡ out.old.items ++ HELP.now) }
@@ -114,7 +170,8 @@ impl Stub {
         ensures { OnOk result (out.new.items ≡ out.old.items ++ standing_line self.now) }
     {
         push_event(out, self.desk.first, self.playback.position())?;
-        push_range(out, self.desk.first, self.playback.event_count())
+        let count = self.playback.event_count();
+        push_range(out, self.desk.first, self.desk.recorded, count)
     }
 
     /// Where it stands, and before that whether that isn't where it was to go.
@@ -232,6 +289,37 @@ impl Stub {
         }
     }
 
+    /// How many events were made by turns, why there is no further one, and where it stands.
+    fn push_gone_on(
+        &self,
+        made: usize,
+        end: Result<ScheduleEnd, AppendFault>,
+        out: &mut Vec<u8>,
+    ) -> Result<(), AllocError>
+        ensures { OnOk result
+            (out.new.items ≡ out.old.items ++ gone_on_text made end self.now) }
+    {
+        push_count(out, made)?;
+        push_why(out, end)?;
+        self.push_standing(out)
+    }
+
+    /// Makes so many events at most behind the last, each the one that is next by turns, and tells how many, and why no more.
+    fn go_on_by_turns(self, most: u32, out: &mut Vec<u8>) -> Result<Stub, DebugFault>
+        ensures does { IfOk result (λ stub. (console : List ℕ)
+            × Does (Command.Extend most) self stub console
+            × (out.new.items ≡ out.old.items ++ console)) }
+        ensures refused { IsErrOf result Refused
+            → AllAccepted (history_of self.playback).events (history_of self.playback).start → ⊥ }
+        ensures fault { IfErr result (λ e. (e ≡ Refused) ⊎ (e ≡ OutOfMemory)) }
+    {
+        let before = self.playback.event_count();
+        let (stub, end) = self.extend(most)?;
+        let made = stub.playback.event_count().saturating_sub(before);
+        stub.push_gone_on(made, end, out)?;
+        Ok(stub)
+    }
+
     /// A motion makes so many steps at most.
     fn limit(self, limit: u32, out: &mut Vec<u8>) -> Result<Stub, DebugFault>
         ensures does { IfOk result (λ stub. (console : List ℕ)
@@ -295,6 +383,7 @@ impl Stub {
             Command::Inspect => self.tell_listing(out),
             Command::Fork => self.end_here(out),
             Command::Append(event) => self.make_by(event, out),
+            Command::Extend(most) => self.go_on_by_turns(most, out),
             Command::Help => self.tell_help(out),
         }
     }

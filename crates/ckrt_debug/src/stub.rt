@@ -8,7 +8,7 @@ ghost use Rattle.ckrt_playback.specs.Look.{fitting};
 ghost use Rattle.ckrt_playback.specs.Requests.{last_text};
 ghost use Rattle.ckrt_events.specs.Bytes.{IsInRange};
 ghost use Rattle.ckrt_history.specs.Forks.{append_fault};
-ghost use Rattle.ckrt_debug.specs.Session.{Answers, BeginsAt, HasForked, HasMoved, HasSet, IsMotion, IsOfRun, IsOutside, Makes, Names, Reaches, look_in, set_text_in, way_in};
+ghost use Rattle.ckrt_debug.specs.Session.{Answers, BeginsAt, HasForked, HasGoneOn, HasMoved, HasSet, IsMotion, IsOfRun, IsOutside, Makes, Names, Reaches, gone_on, look_in, set_text_in, way_in};
 
 use crate::fault::DebugFault;
 use ckrt_events::Event;
@@ -16,6 +16,7 @@ use ckrt_history::{AppendFault, HistoryFault, Position};
 use ckrt_machine::Machine;
 use ckrt_packets::{Payload, Request};
 use ckrt_playback::{Desk, Playback, Way, tell_state, way_of};
+use ckrt_schedule::ScheduleEnd;
 use std::alloc::Global;
 
 /// What gdb asks is answered by this, from a recorded run: a state of the machine and the events from there on.
@@ -53,7 +54,7 @@ impl Stub {
         ensures fault { IfErr result (λ e. (e ≡ Refused) ⊎ (e ≡ OutOfMemory) ⊎ (e ≡ Range)) }
         ensures sure { at ≡ None → IfErr result (λ e. e ≡ OutOfMemory) }
     {
-        let desk = Desk::new(first, &machine.tables().threads);
+        let desk = Desk::new(first, events.len(), &machine.tables().threads);
         let playback = Playback::new(alloc, machine, events)?;
         let stub = Stub {
             alloc,
@@ -134,10 +135,10 @@ impl Stub {
         let Stub {
             alloc,
             playback,
-            desk,
+            mut desk,
         } = self;
         let mut history = playback.played()?;
-        history.cut();
+        desk.cut(&mut history);
         let playback = Playback::Played(history);
         Ok(Stub {
             alloc,
@@ -169,6 +170,35 @@ impl Stub {
                 desk,
             },
             fault,
+        ))
+    }
+
+    /// Makes so many events at most behind the last, each the one that is next by turns, and shows whose step is next then. It is told
+    /// why there is no further one.
+    pub(crate) fn extend(
+        self,
+        most: u32,
+    ) -> Result<(Stub, Result<ScheduleEnd, AppendFault>), HistoryFault>
+        ensures end { IfOk result (λ r. r.1 ≡ (gone_on most self).end) }
+        ensures made { IfOk result (λ r. HasGoneOn most self r.0) }
+        ensures refused { IfErr result (λ _.
+            AllAccepted (history_of self.playback).events (history_of self.playback).start → ⊥) }
+    {
+        let Stub {
+            alloc,
+            playback,
+            mut desk,
+        } = self;
+        let mut history = playback.played()?;
+        let end = desk.extend(&mut history, most);
+        let playback = Playback::Played(history);
+        Ok((
+            Stub {
+                alloc,
+                playback,
+                desk,
+            },
+            end,
         ))
     }
 

@@ -24,15 +24,17 @@ use Rattle.ckrt_recovery.specs.View.{View, checkpointed, first_refusal, output_e
 use Rattle.ckrt_drive.specs.declared.fault.DriveFault.{DriveFault}
 use Rattle.ckrt_drive.specs.declared.fault.DriveFault.TheVariants.{Refused}
 use Rattle.ckrt_drive.specs.declared.options.Options.{Options}
-use Rattle.ckrt_drive.specs.declared.plan.Next.{Next}
-use Rattle.ckrt_drive.specs.declared.plan.Next.TheVariants.{Submit, End}
-use Rattle.ckrt_drive.specs.declared.plan.Sought.TheVariants.{Busy}
-use Rattle.ckrt_drive.specs.declared.plan.Turn.{Turn}
-use Rattle.ckrt_drive.specs.declared.step_done.DriveEnd.TheVariants.{Ended, Enough}
+use Rattle.ckrt_schedule.specs.declared.next.Next.{Next}
+use Rattle.ckrt_schedule.specs.declared.next.Next.TheVariants.{Submit, End}
+use Rattle.ckrt_schedule.specs.declared.schedule.Sought.TheVariants.{Busy}
+use Rattle.ckrt_schedule.specs.declared.schedule.Turn.{Turn}
+use Rattle.ckrt_schedule.specs.declared.next.ScheduleEnd.TheVariants.{Ended, Enough}
 use Rattle.ckrt_drive.specs.declared.step_done.StepDone.{StepDone}
 use Rattle.ckrt_drive.specs.declared.step_done.StepDone.TheVariants.{Checkpointed, Committed, Released, Stopped}
 use Rattle.ckrt_drive.specs.declared.supply.Supply.{Supply}
-use Rattle.ckrt_drive.specs.Plan.{Schedule, earliest_deadline, event_at, idle_until, is_commit_due, is_settled, is_shortage, make_room, next, next_by, next_event, next_sought, of_runner, offered, on_hart, or_scheduled, plan, plan_for, plan_next, plan_onward, run_by, runner_at, schedule_of, turn_at}
+use Rattle.ckrt_schedule.specs.declared.schedule.Schedule.{Schedule}
+use Rattle.ckrt_schedule.specs.Schedules.{earliest_deadline, event_at, idle_until, next_by, next_event, next_sought, of_runner, on_hart, or_scheduled, run_by, runner_at, turn_at}
+use Rattle.ckrt_drive.specs.Plan.{is_commit_due, is_settled, is_shortage, make_room, next, offered, plan, plan_for, plan_next, plan_onward, schedule_of}
 use Rattle.ckrt_drive.proofs.Choices.{either}
 
 -- THE EVENTS OF A PLAN ARE SHORT

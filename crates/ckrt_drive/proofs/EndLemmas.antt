@@ -11,15 +11,17 @@ use Rattle.ckrt_state.specs.declared.table.Tables.{Tables}
 use Rattle.ckrt_machine.specs.Plans.{ready_from, least_ready, next_ready, or_else, or_zero, planned}
 use Rattle.ckrt_machine.specs.Runs.{is_running}
 use Rattle.ckrt_machine.specs.Steps.{hart_of}
-use Rattle.ckrt_drive.specs.declared.step_done.DriveEnd.{DriveEnd}
-use Rattle.ckrt_drive.specs.declared.step_done.DriveEnd.TheVariants.{Ended, WaitsForInput, Deadlock, Enough}
-use Rattle.ckrt_drive.specs.declared.plan.Next.{Next}
-use Rattle.ckrt_drive.specs.declared.plan.Next.TheVariants.{End}
-use Rattle.ckrt_drive.specs.declared.plan.Sought.TheVariants.{Busy}
-use Rattle.ckrt_drive.specs.declared.plan.Turn.{Turn}
+use Rattle.ckrt_schedule.specs.declared.next.ScheduleEnd.{ScheduleEnd}
+use Rattle.ckrt_schedule.specs.declared.next.ScheduleEnd.TheVariants.{Ended, WaitsForInput, Deadlock, Enough}
+use Rattle.ckrt_schedule.specs.declared.next.Next.{Next}
+use Rattle.ckrt_schedule.specs.declared.next.Next.TheVariants.{End}
+use Rattle.ckrt_schedule.specs.declared.schedule.Sought.TheVariants.{Busy}
+use Rattle.ckrt_schedule.specs.declared.schedule.Turn.{Turn}
 use Rattle.ckrt_drive.specs.declared.supply.Supply.{Supply}
 use Rattle.ckrt_drive.specs.Ends.{IsStuck, IsRead, IsUnread, IsEnd}
-use Rattle.ckrt_drive.specs.Plan.{Schedule, is_sought, sought_among, next_sought, sooner, earliest_deadline, idle_until, next_by, next_event, next, or_scheduled, turn_at}
+use Rattle.ckrt_schedule.specs.declared.schedule.Schedule.{Schedule}
+use Rattle.ckrt_schedule.specs.Schedules.{is_sought, sought_among, next_sought, sooner, earliest_deadline, idle_until, next_by, next_event, or_scheduled, turn_at}
+use Rattle.ckrt_drive.specs.Plan.{next}
 use Rattle.ckrt_drive.proofs.Choices.{neither, both, both_are, same_number}
 
 -- SEARCHES THAT FIND NOTHING
@@ -94,11 +96,11 @@ read (w ∷ ws) e = read_by (is_for Input w) w ws refl (λ no. read ws (found_by
 
 -- WHAT LEADS TO AN END
 
-at_idle : (o : Option ℕ) (s : Tables) (ending : DriveEnd) → idle_until o s ≡ End ending → (o ≡ None) × (ending ≡ (if is_some (threads.first_waiter Input s.threads) then WaitsForInput else Deadlock))
+at_idle : (o : Option ℕ) (s : Tables) (ending : ScheduleEnd) → idle_until o s ≡ End ending → (o ≡ None) × (ending ≡ (if is_some (threads.first_waiter Input s.threads) then WaitsForInput else Deadlock))
 at_idle (Some d) s ending e = absurd (cc)
 at_idle None s ending e = (refl, cc)
 
-at_next : (least : Option ℕ) (turn : Turn) (s : Tables) (ending : DriveEnd) → next_by least turn s ≡ End ending → (least ≡ None) × (idle_until (earliest_deadline s.threads.waits) s ≡ End ending)
+at_next : (least : Option ℕ) (turn : Turn) (s : Tables) (ending : ScheduleEnd) → next_by least turn s ≡ End ending → (least ≡ None) × (idle_until (earliest_deadline s.threads.waits) s ≡ End ending)
 at_next (Some h) turn s ending e = absurd (cc)
 at_next None turn s ending e = (refl, e)
 
@@ -126,28 +128,28 @@ stuck s running idle none = record {
   endless = endless s.threads.waits none;
 }
 
-waits_or_not : (b : Bool) (left : ℕ) (s : Tables) (ending : DriveEnd) → IsStuck s → is_some (threads.first_waiter Input s.threads) ≡ b → ending ≡ (if b then WaitsForInput else Deadlock) → IsEnd ending left s
+waits_or_not : (b : Bool) (left : ℕ) (s : Tables) (ending : ScheduleEnd) → IsStuck s → is_some (threads.first_waiter Input s.threads) ≡ b → ending ≡ (if b then WaitsForInput else Deadlock) → IsEnd ending left s
 waits_or_not true left s ending h is e = subst (λ x. IsEnd x left s) (sym e) (record { stuck = h; read = read s.threads.waits is })
 waits_or_not false left s ending h is e = subst (λ x. IsEnd x left s) (sym e) (record { stuck = h; unread = unread s.threads.waits is })
 
-end_idle : (turn : Turn) (left : ℕ) (s : Tables) (ending : DriveEnd) → is_running s.status ≡ true → next_by (next_sought Busy 0 s) turn s ≡ End ending → IsEnd ending left s
+end_idle : (turn : Turn) (left : ℕ) (s : Tables) (ending : ScheduleEnd) → is_running s.status ≡ true → next_by (next_sought Busy 0 s) turn s ≡ End ending → IsEnd ending left s
 end_idle turn left s ending running e =
     let none = at_next (next_sought Busy 0 s) turn s ending e in
     let idle = at_idle (earliest_deadline s.threads.waits) s ending none.1 in
     waits_or_not (is_some (threads.first_waiter Input s.threads)) left s ending (stuck s running none.0 idle.0) refl idle.1
 
 -- an end isn't given: it is the schedule's
-end_scheduled : (given : Option Event) (n : Next) (ending : DriveEnd) → or_scheduled given n ≡ End ending → n ≡ End ending
+end_scheduled : (given : Option Event) (n : Next) (ending : ScheduleEnd) → or_scheduled given n ≡ End ending → n ≡ End ending
 end_scheduled (Some e) n ending is = absurd (cc)
 end_scheduled None n ending is = is
 
-end_running : (b : Bool) (given : Option Event) (turn : Turn) (left : ℕ) (s : Tables) (ending : DriveEnd) → is_running s.status ≡ b → (if b then or_scheduled given (next_by (next_sought Busy 0 s) turn s) else End Ended) ≡ End ending → IsEnd ending left s
+end_running : (b : Bool) (given : Option Event) (turn : Turn) (left : ℕ) (s : Tables) (ending : ScheduleEnd) → is_running s.status ≡ b → (if b then or_scheduled given (next_by (next_sought Busy 0 s) turn s) else End Ended) ≡ End ending → IsEnd ending left s
 end_running true given turn left s ending running e = end_idle turn left s ending running (end_scheduled given (next_by (next_sought Busy 0 s) turn s) ending e)
 end_running false given turn left s ending running e =
     let is : Ended ≡ ending = cc in
     subst (λ x. IsEnd x left s) is running
 
-end_by : (b : Bool) (u : Schedule) (w : Supply) (n : ℕ) (s : Tables) (ending : DriveEnd) → (is_running s.status && (w.left == 0)) ≡ b → (if b then End Enough else next_event u w.given n s) ≡ End ending → IsEnd ending w.left s
+end_by : (b : Bool) (u : Schedule) (w : Supply) (n : ℕ) (s : Tables) (ending : ScheduleEnd) → (is_running s.status && (w.left == 0)) ≡ b → (if b then End Enough else next_event u w.given n s) ≡ End ending → IsEnd ending w.left s
 end_by true u w n s ending none e =
     let is : Enough ≡ ending = cc in
     let parts = both_are (is_running s.status) (w.left == 0) none in
@@ -155,5 +157,5 @@ end_by true u w n s ending none e =
 end_by false u w n s ending some e = end_running (is_running s.status) w.given (turn_at u n s) w.left s ending refl e
 
 -- an end that is next is what it says
-pub end_of : (u : Schedule) (w : Supply) (n : ℕ) (s : Tables) (ending : DriveEnd) → next u w n s ≡ End ending → IsEnd ending w.left s
+pub end_of : (u : Schedule) (w : Supply) (n : ℕ) (s : Tables) (ending : ScheduleEnd) → next u w n s ≡ End ending → IsEnd ending w.left s
 end_of u w n s ending e = end_by (is_running s.status && (w.left == 0)) u w n s ending refl e

@@ -1,6 +1,6 @@
 -- What a program is given, and that the schedule gives nothing.
-use Rattle.std.proofs.Common.{◌≡◌, ◌⊎◌, inl, inr, ⊎_elim, ℕ, ◌+◌, ◌-◌, ◌^◌, ◌<◌, ◌≤◌, min, nat_le, Bool, true, false, if◌then◌else◌, Option, Some, None, List, [], ◌∷◌, ◌++◌, length, take, drop, Result, Ok, Err, refl, sym, ◌∙◌, ap, subst, arith, append-nil}
-use Rattle.std.specs.Prelude.{◌==◌, ◌*◌, IfSome, is_none, is_some, option_map, unwrap_or}
+use Rattle.std.proofs.Common.{◌≡◌, ◌⊎◌, inl, inr, ⊎_elim, ℕ, ◌+◌, ◌-◌, ◌^◌, ◌<◌, ◌≤◌, min, nat_le, Bool, true, false, if◌then◌else◌, Option, Some, None, List, [], ◌∷◌, length, take, drop, Ok, refl, sym, ◌∙◌, ap, subst, arith, append-nil}
+use Rattle.std.specs.Prelude.{◌==◌, ◌*◌, IfSome, is_none, is_some, unwrap_or}
 use Rattle.std.specs.Bool.{then_some}
 use Rattle.std.proofs.lemmas.Bool.{cases_lt}
 use Rattle.std.proofs.lemmas.Bool.Decides.{nat_tests}
@@ -16,17 +16,18 @@ use Rattle.ckrt_machine.specs.Runs.{is_running}
 use Rattle.ckrt_recovery.specs.View.{View}
 use Rattle.ckrt_state.specs.declared.table.Tables.{Tables}
 use Rattle.ckrt_drive.specs.declared.options.Options.{Options}
-use Rattle.ckrt_drive.specs.declared.fault.DriveFault.{DriveFault}
-use Rattle.ckrt_drive.specs.declared.plan.Next.{Next}
-use Rattle.ckrt_drive.specs.declared.plan.Next.TheVariants.{Submit, End}
-use Rattle.ckrt_drive.specs.declared.plan.Sought.TheVariants.{Busy}
-use Rattle.ckrt_drive.specs.declared.plan.Turn.{Turn}
-use Rattle.ckrt_drive.specs.declared.step_done.DriveEnd.TheVariants.{Ended}
+use Rattle.ckrt_schedule.specs.declared.next.Next.{Next}
+use Rattle.ckrt_schedule.specs.declared.next.Next.TheVariants.{Submit, End}
+use Rattle.ckrt_schedule.specs.declared.schedule.Sought.TheVariants.{Busy}
+use Rattle.ckrt_schedule.specs.declared.schedule.Turn.{Turn}
+use Rattle.ckrt_schedule.specs.declared.next.ScheduleEnd.TheVariants.{Ended}
 use Rattle.ckrt_drive.specs.declared.step_done.StepDone.{StepDone}
 use Rattle.ckrt_drive.specs.declared.step_done.StepDone.TheVariants.{Submitted, Committed, Checkpointed, Released, Stopped}
 use Rattle.ckrt_drive.specs.declared.supply.Supply.{Supply}
-use Rattle.ckrt_drive.specs.Given.{given_in, record_of}
-use Rattle.ckrt_drive.specs.Plan.{Schedule, earliest_deadline, event_at, idle_until, next_by, next_event, next_sought, of_runner, on_hart, or_scheduled, plan, run_by, runner_at, schedule_of, turn_at}
+use Rattle.ckrt_drive.specs.Given.{record_of}
+use Rattle.ckrt_schedule.specs.declared.schedule.Schedule.{Schedule}
+use Rattle.ckrt_schedule.specs.Schedules.{earliest_deadline, event_at, idle_until, next_by, next_event, next_sought, of_runner, on_hart, or_scheduled, run_by, runner_at, turn_at}
+use Rattle.ckrt_drive.specs.Plan.{plan, schedule_of}
 use Rattle.ckrt_drive.specs.Steps.{accepted_by}
 use Rattle.ckrt_drive.proofs.Choices.{either}
 use Rattle.ckrt_drive.proofs.PlannedLemmas.{planned_event}

@@ -14,12 +14,13 @@ use Rattle.ckrt_recovery.specs.View.{View, first_refusal, output_end, refusal_of
 use Rattle.ckrt_drive.specs.declared.fault.DriveFault.{DriveFault}
 use Rattle.ckrt_drive.specs.declared.fault.DriveFault.TheVariants.{Refused}
 use Rattle.ckrt_drive.specs.declared.options.Options.{Options}
-use Rattle.ckrt_drive.specs.declared.plan.Next.{Next}
-use Rattle.ckrt_drive.specs.declared.plan.Next.TheVariants.{Submit, End}
+use Rattle.ckrt_schedule.specs.declared.next.Next.{Next}
+use Rattle.ckrt_schedule.specs.declared.next.Next.TheVariants.{Submit, End}
 use Rattle.ckrt_drive.specs.declared.step_done.StepDone.{StepDone}
 use Rattle.ckrt_drive.specs.declared.step_done.StepDone.TheVariants.{Checkpointed, Committed, Released, Stopped}
 use Rattle.ckrt_drive.specs.declared.supply.Supply.{Supply}
-use Rattle.ckrt_drive.specs.Plan.{is_checkpoint_due, is_commit_due, is_old, is_settled, is_shortage, make_room, next, offered, places_of, plan, plan_for, plan_next, plan_onward, schedule_of}
+use Rattle.ckrt_schedule.specs.Schedules.{places_of}
+use Rattle.ckrt_drive.specs.Plan.{is_checkpoint_due, is_commit_due, is_old, is_settled, is_shortage, make_room, next, offered, plan, plan_for, plan_next, plan_onward, schedule_of}
 use Rattle.ckrt_drive.proofs.Choices.{either, neither}
 
 -- A SESSION'S REFUSAL

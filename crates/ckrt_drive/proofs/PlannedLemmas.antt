@@ -16,14 +16,16 @@ use Rattle.ckrt_recovery.specs.View.{View, refusal_of, view_of}
 use Rattle.ckrt_drive.specs.declared.options.Options.{Options}
 use Rattle.ckrt_drive.specs.declared.fault.DriveFault.{DriveFault}
 use Rattle.ckrt_drive.specs.declared.fault.DriveFault.TheVariants.{Refused}
-use Rattle.ckrt_drive.specs.declared.plan.Next.{Next}
-use Rattle.ckrt_drive.specs.declared.plan.Next.TheVariants.{Submit, End}
-use Rattle.ckrt_drive.specs.declared.step_done.DriveEnd.{DriveEnd}
-use Rattle.ckrt_drive.specs.declared.step_done.DriveEnd.TheVariants.{Ended, Enough}
+use Rattle.ckrt_schedule.specs.declared.next.Next.{Next}
+use Rattle.ckrt_schedule.specs.declared.next.Next.TheVariants.{Submit, End}
+use Rattle.ckrt_schedule.specs.declared.next.ScheduleEnd.{ScheduleEnd}
+use Rattle.ckrt_schedule.specs.declared.next.ScheduleEnd.TheVariants.{Ended, Enough}
 use Rattle.ckrt_drive.specs.declared.step_done.StepDone.{StepDone}
 use Rattle.ckrt_drive.specs.declared.step_done.StepDone.TheVariants.{Submitted, Committed, Checkpointed, Released, Stopped}
 use Rattle.ckrt_drive.specs.declared.supply.Supply.{Supply}
-use Rattle.ckrt_drive.specs.Plan.{Schedule, is_checkpoint_due, is_commit_due, is_filled, is_old, is_settled, is_shortage, make_room, next, next_event, offered, plan, plan_for, plan_next, plan_onward, schedule_of}
+use Rattle.ckrt_schedule.specs.declared.schedule.Schedule.{Schedule}
+use Rattle.ckrt_schedule.specs.Schedules.{next_event}
+use Rattle.ckrt_drive.specs.Plan.{is_checkpoint_due, is_commit_due, is_filled, is_old, is_settled, is_shortage, make_room, next, offered, plan, plan_for, plan_next, plan_onward, schedule_of}
 use Rattle.ckrt_drive.proofs.Choices.{both_are, same_number, not_zero}
 
 -- NEITHER A SAVE NOR A RELEASE
@@ -66,7 +68,7 @@ offered_event : (v : View) (x e : Event) (answer : Answer) (o : Option SubmitFau
 offered_event v x e answer None is = cc
 offered_event v x e answer (Some why) is = absurd (refused_is_none (is_shortage why) v why e answer is)
 
-stop_is_none : (b : Bool) (why : DriveEnd) (e : Event) (answer : Answer) → ◌≡◌ {A = Result StepDone DriveFault} (if b then Ok (Stopped why) else Ok Committed) (Ok (Submitted e answer)) → ⊥
+stop_is_none : (b : Bool) (why : ScheduleEnd) (e : Event) (answer : Answer) → ◌≡◌ {A = Result StepDone DriveFault} (if b then Ok (Stopped why) else Ok Committed) (Ok (Submitted e answer)) → ⊥
 stop_is_none true why e answer is = absurd (cc)
 stop_is_none false why e answer is = absurd (cc)
 
@@ -105,33 +107,33 @@ some_left o w v e answer is =
 
 -- AN END
 
-room_no_end : (b : Bool) (ending : DriveEnd) → ◌≡◌ {A = Result StepDone DriveFault} (Ok (if b then Checkpointed else Committed)) (Ok (Stopped ending)) → ⊥
+room_no_end : (b : Bool) (ending : ScheduleEnd) → ◌≡◌ {A = Result StepDone DriveFault} (Ok (if b then Checkpointed else Committed)) (Ok (Stopped ending)) → ⊥
 room_no_end true ending is = absurd (cc)
 room_no_end false ending is = absurd (cc)
 
-refused_no_end : (b : Bool) (v : View) (why : SubmitFault) (ending : DriveEnd) → (if b then Ok (make_room v) else Err (Refused why)) ≡ Ok (Stopped ending) → ⊥
+refused_no_end : (b : Bool) (v : View) (why : SubmitFault) (ending : ScheduleEnd) → (if b then Ok (make_room v) else Err (Refused why)) ≡ Ok (Stopped ending) → ⊥
 refused_no_end true v why ending is = room_no_end (is_settled v) ending is
 refused_no_end false v why ending is = absurd (cc)
 
-offered_no_end : (v : View) (e : Event) (ending : DriveEnd) (o : Option SubmitFault) → offered v e o ≡ Ok (Stopped ending) → ⊥
+offered_no_end : (v : View) (e : Event) (ending : ScheduleEnd) (o : Option SubmitFault) → offered v e o ≡ Ok (Stopped ending) → ⊥
 offered_no_end v e ending None is = absurd (cc)
 offered_no_end v e ending (Some why) is = refused_no_end (is_shortage why) v why ending is
 
-end_by : (b : Bool) (why ending : DriveEnd) → ◌≡◌ {A = Result StepDone DriveFault} (if b then Ok (Stopped why) else Ok Committed) (Ok (Stopped ending)) → (b ≡ true) × (why ≡ ending)
+end_by : (b : Bool) (why ending : ScheduleEnd) → ◌≡◌ {A = Result StepDone DriveFault} (if b then Ok (Stopped why) else Ok Committed) (Ok (Stopped ending)) → (b ≡ true) × (why ≡ ending)
 end_by true why ending is = (refl, cc)
 end_by false why ending is = absurd (cc)
 
-end_for : (n : Next) (v : View) (ending : DriveEnd) → plan_for n v ≡ Ok (Stopped ending) → (is_settled v ≡ true) × (n ≡ End ending)
+end_for : (n : Next) (v : View) (ending : ScheduleEnd) → plan_for n v ≡ Ok (Stopped ending) → (is_settled v ≡ true) × (n ≡ End ending)
 end_for (Submit e) v ending is = absurd (offered_no_end v e ending (refusal_of v e) is)
 end_for (End why) v ending is = let h = end_by (is_settled v) why ending is in (h.0, ap End h.1)
 
 -- an end is planned where it is next, and all is acknowledged and confirmed
-pub record IsPlannedEnd (o : Options) (w : Supply) (v : View) (ending : DriveEnd) : Type 0 where
+pub record IsPlannedEnd (o : Options) (w : Supply) (v : View) (ending : ScheduleEnd) : Type 0 where
   pub confirmed : nat_lt v.recovered.confirmed v.released ≡ false
   pub settled : v.acknowledged ≡ v.recovered.count
   pub planned : next (schedule_of o) w v.recovered.count v.recovered.state.tables ≡ End ending
 
-pub planned_end : (o : Options) (w : Supply) (v : View) (ending : DriveEnd) → plan o w v ≡ Ok (Stopped ending) → IsPlannedEnd o w v ending
+pub planned_end : (o : Options) (w : Supply) (v : View) (ending : ScheduleEnd) → plan o w v ≡ Ok (Stopped ending) → IsPlannedEnd o w v ending
 planned_end o w v ending is =
     let planned = planned_next o w v (Stopped ending) tt is in
     let h = end_for (next (schedule_of o) w v.recovered.count v.recovered.state.tables) v ending planned.planned in
@@ -155,7 +157,7 @@ settled_offered : (v : View) (e : Event) (o : Option SubmitFault) → IsSettledF
 settled_offered v e None is = absurd (cc)
 settled_offered v e (Some why) is = settled_refused (is_shortage why) v why is
 
-settled_end : (b : Bool) (v : View) (ending : DriveEnd) → IsSettledFor v (if b then Ok (Stopped ending) else Ok Committed)
+settled_end : (b : Bool) (v : View) (ending : ScheduleEnd) → IsSettledFor v (if b then Ok (Stopped ending) else Ok Committed)
 settled_end true v ending is = absurd (cc)
 settled_end false v ending is = absurd (cc)
 

@@ -13,8 +13,8 @@ use Rattle.ckrt_commands.proofs.AcceptLemmas.{accepts_kept, accepts_more, since_
 use Rattle.ckrt_drive.specs.declared.options.Options.{Options}
 use Rattle.ckrt_drive.specs.declared.fault.DriveFault.{DriveFault}
 use Rattle.ckrt_drive.specs.declared.fault.DriveFault.TheVariants.{Device, Input, NoRecord, Output, OutputFull, GenerationsUsed, Refused}
-use Rattle.ckrt_drive.specs.declared.step_done.DriveEnd.{DriveEnd}
-use Rattle.ckrt_drive.specs.declared.step_done.DriveEnd.TheVariants.{Enough}
+use Rattle.ckrt_schedule.specs.declared.next.ScheduleEnd.{ScheduleEnd}
+use Rattle.ckrt_schedule.specs.declared.next.ScheduleEnd.TheVariants.{Enough}
 use Rattle.ckrt_drive.specs.declared.step_done.StepDone.{StepDone}
 use Rattle.ckrt_drive.specs.declared.step_done.StepDone.TheVariants.{Submitted, Committed, Checkpointed, Released, Stopped}
 use Rattle.ckrt_drive.specs.declared.supply.Supply.{Supply}
@@ -34,7 +34,7 @@ reached : (n m : ℕ) → nat_lt n m ≡ false → n ≤ m → n ≡ m
 reached n m e le = grind (arith, nat_tests)
 
 -- an end is planned only where all is saved, and it is what it says
-pub at_end : (o : Options) (w : Supply) (v : View) (ending : DriveEnd) → v.recovered.confirmed ≤ v.released → plan o w v ≡ Ok (Stopped ending) → IsAtEnd w.left v ending
+pub at_end : (o : Options) (w : Supply) (v : View) (ending : ScheduleEnd) → v.recovered.confirmed ≤ v.released → plan o w v ≡ Ok (Stopped ending) → IsAtEnd w.left v ending
 at_end o w v ending le is =
     let h = planned_end o w v ending is in
     record {
@@ -56,7 +56,7 @@ counted o (Released ∷ more) x y h = counted o more (stand_after Released x) y 
 counted o (Stopped ending ∷ more) x y h = absurd h.1
 
 -- whatever isn't an end goes on
-pub onward : (did : StepDone) → ((ending : DriveEnd) → did ≡ Stopped ending → ⊥) → IsOnward did
+pub onward : (did : StepDone) → ((ending : ScheduleEnd) → did ≡ Stopped ending → ⊥) → IsOnward did
 onward (Submitted e answer) no_stop = tt
 onward Committed no_stop = tt
 onward Checkpointed no_stop = tt
@@ -74,13 +74,13 @@ events_more (x ∷ xs) did = ap (λ (l : List Event). accepted_by x ++ l) (event
 same_stand : (c d : ℕ) (v w : View) → c ≡ d → v ≡ w → stand c v ≡ stand d w
 same_stand c d v w e f = ap (λ q. stand q v) e ∙ ap (λ q. stand d q) f
 
-enough_by : (o : Options) (did : List StepDone) (x y : Stand) (ending : DriveEnd) → FollowsPlan o did x y → IsAtEnd y.left y.view ending → (result : Result (Option DriveEnd) DriveFault) → result ≡ Ok (Some ending) → result ≡ Ok (Some Enough) → length (events_in did) ≡ x.left
+enough_by : (o : Options) (did : List StepDone) (x y : Stand) (ending : ScheduleEnd) → FollowsPlan o did x y → IsAtEnd y.left y.view ending → (result : Result (Option ScheduleEnd) DriveFault) → result ≡ Ok (Some ending) → result ≡ Ok (Some Enough) → length (events_in did) ≡ x.left
 enough_by o did x y ending h at result gives is =
     let same : ending ≡ Enough = cc in
     let none = subst (λ e. IsAtEnd y.left y.view e) same at in
     omega (arith, counted o did x y h, none.is.1)
 
-no_room : (fault : DriveFault) (result : Result (Option DriveEnd) DriveFault) → result ≡ Err fault → result ≡ Err OutputFull → fault ≡ OutputFull
+no_room : (fault : DriveFault) (result : Result (Option ScheduleEnd) DriveFault) → result ≡ Err fault → result ≡ Err OutputFull → fault ≡ OutputFull
 no_room fault result is full = cc
 
 module _ {D O : Type 0} {g : Ghosts D} (o : Ghosts O) where
@@ -161,7 +161,7 @@ module _ {D O : Type 0} {g : Ghosts D} (o : Ghosts O) where
   module _ (law : (disk : D) (image : List ℕ) → g.is_honest disk → g.left_since disk (g.moment disk) image → IsImage (g.content disk) (g.pending disk) image)
       (output_law : (disk : O) (image : List ℕ) → o.is_honest disk → o.left_since disk (o.moment disk) image → IsImage (o.content disk) (o.pending disk) image)
       (options : Options) (steps : ℕ) where
-    runs_by : (accepted : List Event) (c e : ℕ) (s u : Session D g) (x z : O) (result : Result (Option DriveEnd) DriveFault) → Accepts accepted s u → Writes o accepted s u x z → PutsOutput o accepted s u x z (is_output_fault result)
+    runs_by : (accepted : List Event) (c e : ℕ) (s u : Session D g) (x z : O) (result : Result (Option ScheduleEnd) DriveFault) → Accepts accepted s u → Writes o accepted s u x z → PutsOutput o accepted s u x z (is_output_fault result)
         → (result ≡ Err OutputFull → o.size x < u.released) → GoesByPlan options steps accepted (stand_of c s) (stand_of e u) result → Runs o options steps c e s u x z result
     runs_by accepted c e s u x z result accepts writes puts full goes = record {
       accepted = accepted;
@@ -190,7 +190,7 @@ module _ {D O : Type 0} {g : Ghosts D} (o : Ghosts O) where
     })
 
     -- steps so far, and then an end
-    pub runs_to_end : (w : Supply) (made : ℕ) (c d e : ℕ) (ending : DriveEnd) (s m u : Session D g) (x y z : O) → made < steps → SoFar options made c d s m x y → w.left ≡ d → Steps o (aim_of options w (view_of m)) m u y z (Ok (Stopped ending))
+    pub runs_to_end : (w : Supply) (made : ℕ) (c d e : ℕ) (ending : ScheduleEnd) (s m u : Session D g) (x y z : O) → made < steps → SoFar options made c d s m x y → w.left ≡ d → Steps o (aim_of options w (view_of m)) m u y z (Ok (Stopped ending))
         → e ≡ d → IsAtEnd e (view_of u) ending → Runs o options steps c e s u x z (Ok (Some ending))
     runs_to_end w made c d e ending s m u x y z some h left k same at =
         let there = same_stand e d (view_of u) (view_of m) same k.done.1 in

@@ -7,8 +7,8 @@ use Rattle.ckrt_thread.specs.Waits.{is_for}
 use Rattle.ckrt_state.specs.declared.table.Tables.{Tables}
 use Rattle.ckrt_machine.specs.Steps.{hart_of}
 use Rattle.ckrt_machine.specs.Runs.{is_running}
-use Rattle.ckrt_drive.specs.declared.step_done.DriveEnd.{DriveEnd}
-use Rattle.ckrt_drive.specs.declared.step_done.DriveEnd.TheVariants.{Ended, WaitsForInput, Deadlock, Enough}
+use Rattle.ckrt_schedule.specs.declared.next.ScheduleEnd.{ScheduleEnd}
+use Rattle.ckrt_schedule.specs.declared.next.ScheduleEnd.TheVariants.{Ended, WaitsForInput, Deadlock, Enough}
 
 -- No thread can go on, however long one waits.
 pub record IsStuck (s : Tables) : Type 0 where
@@ -40,7 +40,7 @@ pub record IsHungry (s : Tables) : Type 0 where
   pub read : IsRead s.threads.waits
 
 -- what an end says of the program; one that goes on had all its events
-abbrev pub IsEnd : DriveEnd → (left : ℕ) → Tables → Type 0
+abbrev pub IsEnd : ScheduleEnd → (left : ℕ) → Tables → Type 0
 IsEnd Ended left s = is_running s.status ≡ false
 IsEnd WaitsForInput left s = IsHungry s
 IsEnd Deadlock left s = IsDeadlock s

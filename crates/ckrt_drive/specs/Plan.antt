@@ -1,143 +1,37 @@
 -- What a drive does next (this project's choice). Which event comes next is a function of what the input gives, of the schedule, of how many
 -- events were accepted since the disk was formatted, and of the tables; what is saved when is one of what is pending and of the journal's room.
 -- A drive remembers nothing of it but how many events are left to it, and how many bytes of its input the program has taken.
-use Rattle.std.specs.Prelude.{ℕ, zero, suc, ◌+◌, ◌-◌, ◌*◌, ◌/◌, ◌%◌, ◌==◌, ◌||◌, ◌&&◌, nat_lt, nat_le, min, max, Bool, true, false, if◌then◌else◌, Option, Some, None, is_some, unwrap_or, List, [], ◌∷◌, Result, Ok, Err}
+use Rattle.std.specs.Prelude.{ℕ, ◌+◌, ◌-◌, ◌*◌, ◌==◌, ◌||◌, ◌&&◌, nat_lt, nat_le, Bool, true, false, if◌then◌else◌, Option, Some, None, Result, Ok, Err}
 use Rattle.ckrt_journal.specs.Chain.{FRAME_BYTES}
-use Rattle.ckrt_thread.specs.declared.records.Wait.{Wait}
-use Rattle.ckrt_thread.specs.declared.records.Object.TheVariants.{Input}
-use Rattle.ckrt_thread.specs.State.{first_waiter}
 use Rattle.ckrt_state.specs.declared.table.Tables.{Tables}
-use Rattle.ckrt_events.specs.Bytes.{IsInRange, BATCH_LIMIT, RUN_LIMIT}
+use Rattle.ckrt_events.specs.Bytes.{BATCH_LIMIT}
 use Rattle.ckrt_events.specs.declared.event.Event.{Event}
-use Rattle.ckrt_events.specs.declared.event.Event.TheVariants.{Place, Run, Tick, RunLong}
 use Rattle.ckrt_machine.specs.declared.event.Refusal.TheVariants.{OutputFull}
 use Rattle.ckrt_machine.specs.Events.{step}
-use Rattle.ckrt_machine.specs.Steps.{hart_of}
 use Rattle.ckrt_machine.specs.Runs.{is_running}
-use Rattle.ckrt_machine.specs.Plans.{or_else, planned}
 use Rattle.ckrt_stored.specs.Recovery.{room_of}
 use Rattle.ckrt_recovery.specs.declared.fault.SubmitFault.{SubmitFault}
 use Rattle.ckrt_recovery.specs.declared.fault.SubmitFault.TheVariants as fault
 use Rattle.ckrt_recovery.specs.View.{View, refusal_of, version_of}
-use Rattle.ckrt_drive.specs.Lots.{lot_of}
+use Rattle.ckrt_schedule.specs.declared.next.Next.{Next}
+use Rattle.ckrt_schedule.specs.declared.next.Next.TheVariants.{Submit, End}
+use Rattle.ckrt_schedule.specs.declared.next.ScheduleEnd.TheVariants.{Enough}
+use Rattle.ckrt_schedule.specs.declared.schedule.Schedule.{Schedule}
+use Rattle.ckrt_schedule.specs.Schedules.{next_event, places_of}
 use Rattle.ckrt_drive.specs.declared.options.Options.{Options}
 use Rattle.ckrt_drive.specs.declared.fault.DriveFault.{DriveFault}
 use Rattle.ckrt_drive.specs.declared.fault.DriveFault.TheVariants.{Refused}
-use Rattle.ckrt_drive.specs.declared.step_done.DriveEnd.TheVariants.{Ended, WaitsForInput, Deadlock, Enough}
 use Rattle.ckrt_drive.specs.declared.step_done.StepDone.{StepDone}
 use Rattle.ckrt_drive.specs.declared.step_done.StepDone.TheVariants.{Submitted, Committed, Checkpointed, Released, Stopped}
-use Rattle.ckrt_drive.specs.declared.plan.Next.{Next}
-use Rattle.ckrt_drive.specs.declared.plan.Next.TheVariants.{Submit, End}
-use Rattle.ckrt_drive.specs.declared.plan.Sought.{Sought}
-use Rattle.ckrt_drive.specs.declared.plan.Sought.TheVariants.{Busy, Occupied}
-use Rattle.ckrt_drive.specs.declared.plan.Turn.{Turn}
 use Rattle.ckrt_drive.specs.declared.supply.Supply.{Supply}
-
--- THE PROGRAM
-
--- whether a hart is one that is sought: an occupied one has a thread on it; a busy one has, or a thread is ready to go there
-abbrev pub is_sought : Sought → Tables → ℕ → Bool
-is_sought Occupied s h = is_some (hart_of s h)
-is_sought Busy s h = is_some (hart_of s h) || is_some (planned h s)
-
--- the first of n harts, h, h + 1, .., that is sought
-abbrev pub sought_among : Sought → (n h : ℕ) → Tables → Option ℕ
-sought_among sought zero h s = None
-sought_among sought (suc n) h s = if is_sought sought s h then Some h else sought_among sought n (h + 1) s
-
--- the first one from a hart on, up to the last hart
-abbrev pub next_sought : Sought → (h : ℕ) → Tables → Option ℕ
-next_sought sought h s = sought_among sought (s.threads.hart_count - h) h s
-
-abbrev pub sooner : Option ℕ → Option ℕ → Option ℕ
-sooner None o = o
-sooner (Some d) None = Some d
-sooner (Some d) (Some e) = Some (min d e)
-
--- the least deadline of these waits
-abbrev pub earliest_deadline : List Wait → Option ℕ
-earliest_deadline [] = None
-earliest_deadline (w ∷ ws) = sooner w.deadline (earliest_deadline ws)
-
--- the ticks from one moment to a later one, as many as one event takes
-abbrev pub ticks_to : (deadline clock : ℕ) → ℕ
-ticks_to deadline clock = max 1 (min (deadline - clock) 4294967295)
-
--- ROUNDS
-
--- by what the events of a drive are chosen: how many steps a run has at most, and the seed of its lots, where it has one
-pub record Schedule : Type 0 where
-  pub turn : ℕ
-  pub seed : Option ℕ
-
-abbrev pub schedule_of : Options → Schedule
-schedule_of o = record { turn = o.turn; seed = o.seed }
-
--- With H harts a round has 2 H + 1 places. Those of hart h are 2 h, where a thread may be placed, and 2 h + 1, for running; the last one is
--- the clock's.
-abbrev pub places_of : Tables → ℕ
-places_of s = 2 * s.threads.hart_count + 1
-
--- a turn at the place after n events: the hart that is looked at first, and how many steps a run has
-abbrev pub turn_by : (seed : Option ℕ) → (most place n harts : ℕ) → Turn
-turn_by None most place n harts = record { place = place; first = place / 2; steps = most }
-turn_by (Some seed) most place n harts =
-    record { place = place; first = lot_of seed n % harts; steps = lot_of seed n / 8 % most + 1 }
-
--- the turn after n events
-abbrev pub turn_at : Schedule → (n : ℕ) → Tables → Turn
-turn_at u n s = turn_by u.seed u.turn (n % places_of s) n s.threads.hart_count
 
 -- THE NEXT EVENT
 
--- a run of n steps, by the shortest event that has as many
-abbrev pub run_by : (h n : ℕ) → Event
-run_by h n = if nat_le n RUN_LIMIT then Run h n else RunLong h n
+-- by what the events of a drive are chosen: how many steps a run has at most, and the seed of its lots, where it has one
+abbrev pub schedule_of : Options → Schedule
+schedule_of o = record { turn = o.turn; seed = o.seed }
 
--- the hart whose thread runs at a turn: at a place for running the first occupied one, from the turn's on and around
-abbrev pub runner_at : Turn → Tables → Option ℕ
-runner_at turn s = if turn.place % 2 == 1 then or_else (next_sought Occupied turn.first s) (next_sought Occupied 0 s) else None
-
--- the thread that is planned for a hart goes onto it, and where nobody is, its thread runs
-abbrev pub on_hart : (who : Option ℕ) → (h n : ℕ) → Event
-on_hart (Some t) h n = Place h t
-on_hart None h n = run_by h n
-
--- the event of a busy hart
-abbrev pub of_busy : (h n : ℕ) → Tables → Event
-of_busy h n s = on_hart (planned h s) h n
-
--- the thread of the hart that runs does so; where none does, it is for the first busy hart, from the turn's on and around
-abbrev pub of_runner : (runner : Option ℕ) → Turn → (least : ℕ) → Tables → Event
-of_runner (Some h) turn least s = run_by h turn.steps
-of_runner None turn least s = of_busy (unwrap_or (next_sought Busy turn.first s) least) turn.steps s
-
--- the event of a turn, where `least` is the least busy hart
-abbrev pub event_at : Turn → (least : ℕ) → Tables → Event
-event_at turn least s = if turn.place == 2 * s.threads.hart_count then Tick 1 else of_runner (runner_at turn s) turn least s
-
--- nobody is on a hart or ready: the clock goes to the earliest deadline, and without one there is nothing more to do
-abbrev pub idle_until : Option ℕ → Tables → Next
-idle_until (Some d) s = Submit (Tick (ticks_to d s.clock))
-idle_until None s = End (if is_some (first_waiter Input s.threads) then WaitsForInput else Deadlock)
-
-abbrev pub next_by : (least : Option ℕ) → Turn → Tables → Next
-next_by (Some h) turn s = Submit (event_at turn h s)
-next_by None turn s = idle_until (earliest_deadline s.threads.waits) s
-
--- what the input gives comes first
-abbrev pub or_scheduled : (given : Option Event) → Next → Next
-or_scheduled (Some e) scheduled = Submit e
-or_scheduled None scheduled = scheduled
-
--- the event that is next after n others, or why there is none
-abbrev pub next_event : Schedule → (given : Option Event) → (n : ℕ) → Tables → Next
-next_event u given n s =
-    if is_running s.status
-    then or_scheduled given (next_by (next_sought Busy 0 s) (turn_at u n s) s)
-    else End Ended
-
--- the same for a drive with this supply
+-- the event that is next after n others for a drive with this supply, or why there is none
 abbrev pub next : Schedule → Supply → (n : ℕ) → Tables → Next
 next u w n s = if is_running s.status && (w.left == 0) then End Enough else next_event u w.given n s
 
@@ -215,8 +109,3 @@ left_after Committed left = left
 left_after Checkpointed left = left
 left_after Released left = left
 left_after (Stopped ending) left = left
-
--- the event's fields are in their ranges
-abbrev pub IsInRangeNext : Next → Type 0
-IsInRangeNext (Submit e) = IsInRange e
-IsInRangeNext (End ending) = Unit {0}

@@ -11,8 +11,8 @@ use Rattle.ckrt_commands.specs.Accepts.{Accepts}
 use Rattle.ckrt_drive.specs.declared.fault.DriveFault.{DriveFault}
 use Rattle.ckrt_drive.specs.declared.fault.DriveFault.TheVariants.{Device, Input, NoRecord, Output, OutputFull, GenerationsUsed, Refused}
 use Rattle.ckrt_drive.specs.declared.options.Options.{Options}
-use Rattle.ckrt_drive.specs.declared.step_done.DriveEnd.{DriveEnd}
-use Rattle.ckrt_drive.specs.declared.step_done.DriveEnd.TheVariants.{Enough}
+use Rattle.ckrt_schedule.specs.declared.next.ScheduleEnd.{ScheduleEnd}
+use Rattle.ckrt_schedule.specs.declared.next.ScheduleEnd.TheVariants.{Enough}
 use Rattle.ckrt_drive.specs.declared.step_done.StepDone.{StepDone}
 use Rattle.ckrt_drive.specs.declared.step_done.StepDone.TheVariants.{Submitted, Committed, Checkpointed, Released, Stopped}
 use Rattle.ckrt_drive.specs.declared.supply.Supply.{Supply}
@@ -30,7 +30,7 @@ pub record IsAllSaved (v : View) : Type 0 where
   pub confirmed : v.recovered.confirmed ≡ v.released
 
 -- at an end all is saved, and the end is what it says
-pub record IsAtEnd (left : ℕ) (v : View) (ending : DriveEnd) : Type 0 where
+pub record IsAtEnd (left : ℕ) (v : View) (ending : ScheduleEnd) : Type 0 where
   pub saved : IsAllSaved v
   pub is : IsEnd ending left v.recovered.state.tables
 
@@ -94,7 +94,7 @@ IsFault o x y (Refused why) = IsPlanned o x (Err (Refused why)) × (y ≡ x)
 -- Why a drive that may make that many steps makes no more than these, after which it stood at x: it made them all, an end is planned, or it
 -- couldn't do what is planned.
 abbrev pub IsWhyNoMore : Options → (steps made : ℕ) → (x y : Stand)
-    → Result (Option DriveEnd) DriveFault → Type 0
+    → Result (Option ScheduleEnd) DriveFault → Type 0
 IsWhyNoMore o steps made x y (Ok None) = (made ≡ steps) × (y ≡ x)
 IsWhyNoMore o steps made x y (Ok (Some ending)) =
     IsPlanned o x (Ok (Stopped ending)) × (y ≡ x) × IsAtEnd y.left y.view ending
@@ -102,7 +102,7 @@ IsWhyNoMore o steps made x y (Err fault) = (made < steps) × IsFault o x y fault
 
 -- From x to y a drive took these events, in at most that many steps.
 pub record GoesByPlan (o : Options) (steps : ℕ) (accepted : List Event) (x y : Stand)
-    (result : Result (Option DriveEnd) DriveFault) : Type 0 where
+    (result : Result (Option ScheduleEnd) DriveFault) : Type 0 where
   pub did : List StepDone
   pub last : Stand
   pub follows : FollowsPlan o did x last
@@ -117,7 +117,7 @@ pub record GoesByPlan (o : Options) (steps : ℕ) (accepted : List Event) (x y :
 -- From s to t, with the output from a to b, a drive made at most that many steps by its plan, whatever they answered.
 pub record Runs {D O : Type 0} {g : Ghosts D} (o : Ghosts O) (options : Options)
     (steps left left' : ℕ) (s t : Session D g) (a b : O)
-    (result : Result (Option DriveEnd) DriveFault) : Type 0 where
+    (result : Result (Option ScheduleEnd) DriveFault) : Type 0 where
   -- the events that the session took
   pub accepted : List Event
   pub accepts : Accepts accepted s t

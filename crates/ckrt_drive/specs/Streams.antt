@@ -10,7 +10,7 @@ use Rattle.ckrt_recovery.specs.Represents.{Represents}
 use Rattle.ckrt_commands.specs.Writing.{AppendsPart}
 use Rattle.ckrt_drive.specs.declared.fault.DriveFault.{DriveFault}
 use Rattle.ckrt_drive.specs.declared.options.Options.{Options}
-use Rattle.ckrt_drive.specs.declared.step_done.DriveEnd.{DriveEnd}
+use Rattle.ckrt_schedule.specs.declared.next.ScheduleEnd.{ScheduleEnd}
 use Rattle.ckrt_drive.specs.declared.stream.StreamOutput.{StreamOutput}
 use Rattle.ckrt_drive.specs.Output.{acknowledged_output}
 use Rattle.ckrt_drive.specs.PutOut.{between, is_output_fault}
@@ -101,6 +101,6 @@ pub record StreamsOutput {D W : Type 0} {g : Ghosts D} (contents : W → Option 
 abbrev pub GetsTheOutput : {D W : Type 0} {g : Ghosts D} → Ghosts (StreamOutput W)
     → (contents : W → Option (List ℕ)) → (s t : Session D g) → (a b : StreamOutput W) → Type 0
 GetsTheOutput o contents s t a b =
-    (options : Options) (steps first last : ℕ) (result : Result (Option DriveEnd) DriveFault)
+    (options : Options) (steps first last : ℕ) (result : Result (Option ScheduleEnd) DriveFault)
     → (runs : Runs o options steps first last s t a b result)
     → StreamsOutput contents runs.accepted s t a b (is_output_fault result)

@@ -6,7 +6,6 @@ mod drive;
 mod fault;
 mod feed;
 mod laws;
-mod lot;
 mod onlooker;
 mod options;
 mod plan;
@@ -22,10 +21,8 @@ pub use laws::{
     checkpoints_find_nothing_pending, no_checkpoint_behind_a_checkpoint, plans_suit_the_version,
     stream_gets_the_output,
 };
-pub use lot::{lot_from, lot_of, state_behind};
 pub use onlooker::{Nobody, Onlooker};
 pub use options::Options;
-pub use plan::{Next, idle, run_by};
-pub use step_done::{DriveEnd, StepDone};
+pub use step_done::StepDone;
 pub use stream::StreamOutput;
 pub use supply::Supply;

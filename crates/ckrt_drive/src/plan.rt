@@ -1,269 +1,37 @@
-//! Which event is next.
-ghost use Rattle.std.specs.Prelude.{◌≡◌, ◌≤◌, ◌<◌, ℕ, IfSome, Some};
+//! Which event is next for a drive.
+ghost use Rattle.std.specs.Prelude.{◌≡◌, ◌≤◌, IfSome};
 ghost use Rattle.ckrt_events.specs.Bytes.{IsInRange};
 ghost use Rattle.ckrt_events.specs.declared.event.TheConstants.{LONG_RUN_LIMIT};
-ghost use Rattle.ckrt_thread.specs.declared.records.Object.TheVariants.{Input};
-ghost use Rattle.ckrt_machine.specs.Plans.{planned};
-ghost use Rattle.ckrt_machine.specs.Runs.{is_running};
-ghost use Rattle.ckrt_drive.specs.declared.plan.Sought.TheVariants.{Busy};
-ghost use Rattle.ckrt_drive.specs.Plan.{IsInRangeNext, earliest_deadline, event_at, idle_until, is_sought, next, next_by, next_event, next_sought, of_busy, run_by, runner_at, schedule_of, sooner, ticks_to, turn_at, turn_by};
+ghost use Rattle.ckrt_schedule.specs.Schedules.{IsInRangeNext};
+ghost use Rattle.ckrt_drive.specs.Plan.{next, schedule_of};
 
-use crate::lot::lot_of;
 use crate::options::Options;
-use crate::step_done::DriveEnd;
 use crate::supply::Supply;
-use ckrt_events::{Event, LONG_RUN_LIMIT, RUN_LIMIT};
 use ckrt_machine::Machine;
-use ckrt_state::{Status, Tables};
-use ckrt_thread::{Hart, Object, Wait};
+use ckrt_schedule::{Next, Schedule, ScheduleEnd, next_event};
+use ckrt_state::Status;
 
-/// The event that is next, or why there is none.
-#[derive(Clone, Debug, Drop, PartialEq, Eq)]
-pub enum Next {
-    Submit(Event),
-    End(DriveEnd),
-}
-
-/// Which hart is sought.
-#[derive(Clone, Copy, Debug, PartialEq, Eq)]
-pub enum Sought {
-    /// One that a thread is on.
-    Occupied,
-    /// One that a thread is on, or is ready for.
-    Busy,
-}
-
-/// A turn in a round.
-#[derive(Clone, Copy, Debug, PartialEq, Eq)]
-pub struct Turn {
-    /// Its place in the round.
-    pub place: u8,
-    /// The hart that is looked at first.
-    pub first: u8,
-    /// How many steps a run has.
-    pub steps: u32,
-}
-
-/// Whether the hart is one that is sought.
-fn is_sought(machine: &Machine, sought: Sought, hart: Hart) -> bool
-    ensures { result ≡ is_sought sought machine.now.state.tables hart }
+/// By what the events of a drive are chosen.
+fn schedule_of(options: &Options) -> Schedule
+    ensures schedule { result ≡ schedule_of options.now }
+    ensures some { 1 ≤ result.turn }
+    ensures few { result.turn ≤ LONG_RUN_LIMIT }
 {
-    let is_occupied = machine
-        .tables()
-        .threads
-        .on_hart(usize::from(hart))
-        .is_some();
-    match sought {
-        Sought::Occupied => is_occupied,
-        Sought::Busy => is_occupied || machine.planned(hart).is_some(),
+    Schedule {
+        turn: options.turn,
+        seed: options.seed,
     }
 }
 
-/// The first one from a hart on, up to the last hart.
-fn next_sought(machine: &Machine, sought: Sought, from: Hart) -> Option<Hart>
-    requires { from ≤ 8 }
-    ensures found { result ≡ next_sought sought from machine.now.state.tables }
-    ensures small { IfSome result (λ hart. hart ≤ 7) }
-    ensures within { IfSome result (λ hart. hart < machine.now.state.tables.threads.hart_count) }
-{
-    let count = machine.tables().threads.hart_count() as u8;
-    for hart in from..count {
-        if is_sought(machine, sought, hart) {
-            return Some(hart);
-        }
-    }
-    None
-}
-
-/// The sooner of two deadlines, where there are two.
-fn sooner(first: Option<u64>, second: Option<u64>) -> Option<u64>
-    ensures { result ≡ sooner first second }
-{
-    match (first, second) {
-        (None, other) => other,
-        (Some(deadline), None) => Some(deadline),
-        (Some(deadline), Some(other)) => Some(deadline.min(other)),
-    }
-}
-
-/// The least deadline of the waits.
-fn earliest_deadline(waits: &[Wait]) -> Option<u64>
-    ensures { result ≡ earliest_deadline waits.now }
-{
-    let mut earliest = None;
-    for place in (0..waits.len()).rev() {
-        earliest = sooner(waits[place].deadline, earliest);
-    }
-    earliest
-}
-
-/// The ticks from one moment to a later one, as many as one event takes.
-fn ticks_to(deadline: u64, clock: u64) -> u32
-    ensures ticks { result ≡ ticks_to deadline clock }
-    ensures some { 1 ≤ result }
-{
-    deadline
-        .saturating_sub(clock)
-        .min(u64::from(u32::MAX))
-        .max(1) as u32
-}
-
-/// What is next where nobody is on a hart or ready.
-pub fn idle(tables: &Tables) -> Next
-    ensures next { result ≡ idle_until (earliest_deadline tables.now.threads.waits) tables.now }
-    ensures in_range { IsInRangeNext result }
-{
-    if let Some(deadline) = earliest_deadline(tables.threads.waits().as_slice()) {
-        return Next::Submit(Event::Tick(ticks_to(deadline, tables.clock)));
-    }
-    if tables.threads.first_waiter(Object::Input).is_some() {
-        return Next::End(DriveEnd::WaitsForInput);
-    }
-    Next::End(DriveEnd::Deadlock)
-}
-
-/// The turn of a seed, or of none, at a place of a round: after that many events, among that many harts.
-fn turn_by(seed: Option<u64>, most: u32, place: u8, behind: u64, harts: u32) -> Turn
-    requires some { 1 ≤ most }
-    requires place { place ≤ 16 }
-    requires harts { (1 ≤ harts) × (harts ≤ 8) }
-    ensures turn { result ≡ turn_by seed most place behind harts }
-    ensures first { result.first ≤ 8 }
-    ensures steps { (1 ≤ result.steps) × (result.steps ≤ most) }
-{
-    match seed {
-        None => Turn {
-            place,
-            first: place / 2,
-            steps: most,
-        },
-        Some(seed) => {
-            let lot = lot_of(seed, behind);
-            Turn {
-                place,
-                first: (lot % harts) as u8,
-                steps: lot / 8 % most + 1,
-            }
-        }
-    }
-}
-
-/// The turn after that many events.
-fn turn_at(machine: &Machine, options: &Options, behind: u64) -> Turn
-    requires { 1 ≤ machine.now.state.tables.threads.hart_count }
-    ensures turn { result ≡ turn_at (schedule_of options.now) behind machine.now.state.tables }
-    ensures first { result.first ≤ 8 }
-    ensures steps { (1 ≤ result.steps) × (result.steps ≤ LONG_RUN_LIMIT) }
-{
-    let harts = machine.tables().threads.hart_count() as u32;
-    let place = behind % u64::from(2 * harts + 1);
-    turn_by(options.seed, options.turn, place as u8, behind, harts)
-}
-
-/// A run of that many steps, by the shortest event that has as many.
-pub fn run_by(hart: Hart, steps: u32) -> Event
-    requires hart { hart ≤ 7 }
-    requires some { 1 ≤ steps }
-    requires few { steps ≤ LONG_RUN_LIMIT }
-    ensures event { result ≡ run_by hart steps }
-    ensures in_range { IsInRange result }
-{
-    if steps <= RUN_LIMIT {
-        Event::Run(hart, steps as u16)
-    } else {
-        Event::RunLong(hart, steps)
-    }
-}
-
-/// The hart whose thread runs at a turn.
-fn runner_at(machine: &Machine, turn: Turn) -> Option<Hart>
-    requires { turn.first ≤ 8 }
-    ensures runner { result ≡ runner_at turn machine.now.state.tables }
-    ensures small { IfSome result (λ hart. hart ≤ 7) }
-{
-    if turn.place % 2 != 1 {
-        return None;
-    }
-    match next_sought(machine, Sought::Occupied, turn.first) {
-        Some(hart) => Some(hart),
-        None => next_sought(machine, Sought::Occupied, 0),
-    }
-}
-
-/// The event of a busy hart: the thread that is planned for it goes onto it, and where nobody is, its thread runs.
-fn of_busy(machine: &Machine, hart: Hart, steps: u32) -> Event
-    requires hart { hart ≤ 7 }
-    requires some { 1 ≤ steps }
-    requires few { steps ≤ LONG_RUN_LIMIT }
-    ensures event { result ≡ of_busy hart steps machine.now.state.tables }
-    ensures in_range { IsInRange result }
-{
-    match machine.planned(hart) {
-        Some(thread) => Event::Place(hart, thread),
-        None => run_by(hart, steps),
-    }
-}
-
-/// The event of a turn, where `least` is the least busy hart.
-fn event_at(machine: &Machine, turn: Turn, least: u8) -> Event
-    requires first { turn.first ≤ 8 }
-    requires some { 1 ≤ turn.steps }
-    requires few { turn.steps ≤ LONG_RUN_LIMIT }
-    requires least { least ≤ 7 }
-    ensures event { result ≡ event_at turn least machine.now.state.tables }
-    ensures in_range { IsInRange result }
-{
-    if usize::from(turn.place) == 2 * machine.tables().threads.hart_count() {
-        return Event::Tick(1);
-    }
-    if let Some(runner) = runner_at(machine, turn) {
-        return run_by(runner, turn.steps);
-    }
-    match next_sought(machine, Sought::Busy, turn.first) {
-        Some(hart) => of_busy(machine, hart, turn.steps),
-        None => of_busy(machine, least, turn.steps),
-    }
-}
-
-/// The event that the schedule has next for a program that runs, or why there is none.
-fn next_scheduled(machine: &Machine, options: &Options, behind: u64) -> Next
-    ensures next { result ≡ next_by (next_sought Busy 0 machine.now.state.tables)
-        (turn_at (schedule_of options.now) behind machine.now.state.tables)
-        machine.now.state.tables }
-    ensures in_range { IsInRangeNext result }
-{
-    let Some(least) = next_sought(machine, Sought::Busy, 0) else {
-        return idle(machine.tables());
-    };
-    let turn = turn_at(machine, options, behind);
-    Next::Submit(event_at(machine, turn, least))
-}
-
-/// The event that is next after that many others, or why there is none: what is given, and else what the schedule has.
-fn next_event(machine: &Machine, options: &Options, given: Option<Event>, behind: u64) -> Next
-    requires { IfSome given IsInRange }
-    ensures next { result ≡ next_event (schedule_of options.now) given behind
-        machine.now.state.tables }
-    ensures in_range { IsInRangeNext result }
-{
-    if !matches!(machine.status(), Status::Running) {
-        return Next::End(DriveEnd::Ended);
-    }
-    match given {
-        Some(event) => Next::Submit(event),
-        None => next_scheduled(machine, options, behind),
-    }
-}
-
-/// The same for a drive with this supply.
-pub(crate) fn next_for(machine: &Machine, options: &Options, supply: Supply, behind: u64) -> Next
+/// The event that is next for a drive with this supply, after that many others, or why there is none.
+pub fn next_for(machine: &Machine, options: &Options, supply: Supply, behind: u64) -> Next
     requires { IfSome supply.given IsInRange }
     ensures next { result ≡ next (schedule_of options.now) supply behind
         machine.now.state.tables }
     ensures in_range { IsInRangeNext result }
 {
     if matches!(machine.status(), Status::Running) && supply.left == 0 {
-        return Next::End(DriveEnd::Enough);
+        return Next::End(ScheduleEnd::Enough);
     }
-    next_event(machine, options, supply.given, behind)
+    next_event(machine, schedule_of(options), supply.given, behind)
 }

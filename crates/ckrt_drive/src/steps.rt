@@ -6,7 +6,8 @@ ghost use Rattle.ckrt_recovery.specs.declared.fault.SubmitFault.{SubmitFault};
 ghost use Rattle.ckrt_recovery.specs.View.{view_of, refusal_of};
 ghost use Rattle.ckrt_drive.specs.declared.fault.DriveFault.TheVariants.{Input};
 ghost use Rattle.ckrt_drive.specs.declared.step_done.StepDone.TheVariants.{Committed, Checkpointed, Released};
-ghost use Rattle.ckrt_drive.specs.Plan.{is_checkpoint_due, is_commit_due, is_filled, is_old, is_settled, is_shortage, left_after, make_room, offered, places_of, plan, plan_for, plan_next, plan_onward};
+ghost use Rattle.ckrt_schedule.specs.Schedules.{places_of};
+ghost use Rattle.ckrt_drive.specs.Plan.{is_checkpoint_due, is_commit_due, is_filled, is_old, is_settled, is_shortage, left_after, make_room, offered, plan, plan_for, plan_next, plan_onward};
 ghost use Rattle.ckrt_drive.specs.Given.{CountsRead, IsSupplied};
 ghost use Rattle.ckrt_drive.specs.Stages.{TakesStep, stage};
 ghost use Rattle.ckrt_drive.specs.Steps.{Advances, Steps, accepted_by, aim, aim_of};
@@ -15,7 +16,7 @@ ghost use Rattle.ckrt_input.specs.Taken as input;
 use crate::fault::DriveFault;
 use crate::feed::Feed;
 use crate::options::Options;
-use crate::plan::{Next, next_for};
+use crate::plan::next_for;
 use crate::step_done::StepDone;
 use crate::supply::Supply;
 use ckrt_disk::{DeviceFault, Disk, write_synced};
@@ -25,6 +26,7 @@ use ckrt_journal::FRAME_LIMIT;
 use ckrt_machine::Refusal;
 use ckrt_record::{RECORD_BYTES, TAKEN_LIMIT};
 use ckrt_recovery::{CommitFault, Session, SubmitFault};
+use ckrt_schedule::Next;
 
 /// Acknowledges the events so far by a commit.
 fn commit<D: Disk>(session: &mut Session<D>, recorded: Option<u64>) -> Result<StepDone, DriveFault>

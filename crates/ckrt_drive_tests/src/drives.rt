@@ -7,12 +7,11 @@ use crate::sessions::submitted;
 use crate::small_disk::{SMALL, format_outcome, recovered_in_memory, recovery_outcome};
 use arrayvec::ArrayVec;
 use ckrt_disk::{Disk, MemoryDisk, StoppingDisk};
-use ckrt_drive::{
-    Drive, DriveEnd, DriveFault, Nobody, Nothing, Onlooker, Options, StepDone, StreamOutput,
-};
+use ckrt_drive::{Drive, DriveFault, Nobody, Nothing, Onlooker, Options, StepDone, StreamOutput};
 use ckrt_events::Event;
 use ckrt_machine::{Answer, RunEnd};
 use ckrt_recovery::{Config, Session};
+use ckrt_schedule::ScheduleEnd;
 use ckrt_test_data::{BOUNDED, COUNTERS, LOOPS, PAIR, READERS, ROUNDS, SIZE, SLEEPERS};
 use std::io::{self, ErrorKind, Write};
 use std::process::Abort;
@@ -129,7 +128,7 @@ pub fn ended<R: Abort, D: Disk, O: Disk>(
     session: Session<D>,
     output: O,
     options: Options,
-    ending: DriveEnd,
+    ending: ScheduleEnd,
 ) -> (Session<D>, O) {
     let mut drive = Drive::new(session, output, options);
     expect_eq(rt, drive.run(1_000_000, &mut Nobody), Ok(Some(ending)));
@@ -148,7 +147,7 @@ pub fn expect_held<R: Abort + AllocGlobal>(rt: &R, output: MemoryDisk, want: &[u
 }
 
 /// The guest comes to this end on 1, 3 and 8 harts, and puts these bytes.
-fn expect_driven<R: Abort + AllocGlobal>(rt: &R, words: &[u32], ending: DriveEnd, want: &[u8]) {
+fn expect_driven<R: Abort + AllocGlobal>(rt: &R, words: &[u32], ending: ScheduleEnd, want: &[u8]) {
     for harts in [1, 3, 8] {
         let session = recovered_in_memory(rt, formatted_for(rt, words, harts));
         let output = memory_disk(rt, filled(rt, 0, 64));
@@ -160,15 +159,15 @@ fn expect_driven<R: Abort + AllocGlobal>(rt: &R, words: &[u32], ending: DriveEnd
 
 #[test]
 fn guests_are_driven_to_their_ends(rt: HostRuntime) {
-    expect_driven(&rt, &BOUNDED, DriveEnd::Ended, &[0x6e]);
+    expect_driven(&rt, &BOUNDED, ScheduleEnd::Ended, &[0x6e]);
     expect_driven(
         &rt,
         &ROUNDS,
-        DriveEnd::Ended,
+        ScheduleEnd::Ended,
         &[0x06, 0x0c, 0x12, 0x18, 0x00],
     );
-    expect_driven(&rt, &PAIR, DriveEnd::Ended, &[0x14]);
-    expect_driven(&rt, &COUNTERS, DriveEnd::Ended, &[0x50]);
+    expect_driven(&rt, &PAIR, ScheduleEnd::Ended, &[0x14]);
+    expect_driven(&rt, &COUNTERS, ScheduleEnd::Ended, &[0x50]);
 }
 
 /// Compares what it is told with a list.
@@ -192,7 +191,7 @@ impl Onlooker for Listener<'_> {
 fn expect_told<R: Abort, D: Disk, O: Disk>(
     rt: &R,
     drive: &mut Drive<D, O, Nothing>,
-    ending: DriveEnd,
+    ending: ScheduleEnd,
     awaited: &[StepDone],
 ) {
     let mut listener = Listener {
@@ -219,10 +218,10 @@ fn an_onlooker_is_told_each_step(rt: HostRuntime) {
         StepDone::Committed,
         StepDone::Released,
         StepDone::Checkpointed,
-        StepDone::Stopped(DriveEnd::Ended),
+        StepDone::Stopped(ScheduleEnd::Ended),
     ];
     let mut drive = Drive::new(session, output, usual(u64::MAX));
-    expect_told(&rt, &mut drive, DriveEnd::Ended, &awaited);
+    expect_told(&rt, &mut drive, ScheduleEnd::Ended, &awaited);
 }
 
 /// An area of version 1 is checkpointed first. A round of one hart has a place for placing, where the hart runs if nobody is to
@@ -242,10 +241,10 @@ fn a_disk_of_version_1_is_checkpointed_first(rt: HostRuntime) {
         StepDone::Submitted(Event::RunLong(0, 100_000), Answer::Ran(100_000, RunEnd::On)),
         StepDone::Committed,
         StepDone::Checkpointed,
-        StepDone::Stopped(DriveEnd::Enough),
+        StepDone::Stopped(ScheduleEnd::Enough),
     ];
     let mut drive = Drive::new(session, output, Options::new(100_000, 1, 5));
-    expect_told(&rt, &mut drive, DriveEnd::Enough, &awaited);
+    expect_told(&rt, &mut drive, ScheduleEnd::Enough, &awaited);
 }
 
 #[test]
@@ -255,7 +254,7 @@ fn guests_are_driven_by_lot(rt: HostRuntime) {
             let session = recovered_in_memory(&rt, formatted_for(&rt, &COUNTERS, harts));
             let output = memory_disk(&rt, filled(&rt, 0, 64));
             let options = Options::new(7, 16, u64::MAX).with_seed(seed);
-            let (_, output) = ended(&rt, session, output, options, DriveEnd::Ended);
+            let (_, output) = ended(&rt, session, output, options, ScheduleEnd::Ended);
             expect_held(&rt, output, &[0x50]);
         }
     }
@@ -263,13 +262,13 @@ fn guests_are_driven_by_lot(rt: HostRuntime) {
 
 #[test]
 fn idle_time_passes_at_once(rt: HostRuntime) {
-    expect_driven(&rt, &SLEEPERS, DriveEnd::Ended, &[0x14, 0x28, 0x3c]);
-    expect_driven(&rt, &SLEEPS_LONG, DriveEnd::Ended, b"Y");
+    expect_driven(&rt, &SLEEPERS, ScheduleEnd::Ended, &[0x14, 0x28, 0x3c]);
+    expect_driven(&rt, &SLEEPS_LONG, ScheduleEnd::Ended, b"Y");
 }
 
 #[test]
 fn nobody_can_ever_go_on(rt: HostRuntime) {
-    expect_driven(&rt, &DEADLOCK, DriveEnd::Deadlock, b"");
+    expect_driven(&rt, &DEADLOCK, ScheduleEnd::Deadlock, b"");
 }
 
 /// Twenty times the bytes 1 and 3, and the end of input.
@@ -293,10 +292,10 @@ fn waits_for_input_and_goes_on(rt: HostRuntime) {
         session,
         output,
         usual(u64::MAX),
-        DriveEnd::WaitsForInput,
+        ScheduleEnd::WaitsForInput,
     );
     feed(&rt, &mut session);
-    let (_, output) = ended(&rt, session, output, usual(u64::MAX), DriveEnd::Ended);
+    let (_, output) = ended(&rt, session, output, usual(u64::MAX), ScheduleEnd::Ended);
     expect_held(&rt, output, &[0x50]);
 }
 
@@ -304,7 +303,7 @@ fn waits_for_input_and_goes_on(rt: HostRuntime) {
 fn output_goes_on_over_many_checkpoints(rt: HostRuntime) {
     let session = recovered_in_memory(&rt, formatted_for(&rt, &PUTS_FOR_EVER, 1));
     let output = memory_disk(&rt, filled(&rt, 0xff, 200_000));
-    let (session, output) = ended(&rt, session, output, usual(200), DriveEnd::Enough);
+    let (session, output) = ended(&rt, session, output, usual(200), ScheduleEnd::Enough);
     let end = session.confirmed() as usize;
     let image = output.into_image();
     assert!(rt; end <= image.len());
@@ -347,7 +346,7 @@ fn output_that_fails(rt: HostRuntime) {
         session,
         memory_disk(&rt, output.into_image()),
         usual(u64::MAX),
-        DriveEnd::Ended,
+        ScheduleEnd::Ended,
     );
     expect_held(&rt, output, &[0x14]);
 }
@@ -383,7 +382,7 @@ fn narrow_writer<R: AllocGlobal>(rt: &R, takes: usize) -> Narrow {
 
 /// The session is driven to its end.
 fn drive_to_end<R: Abort, D: Disk + Drop, O: Disk + Drop>(rt: &R, session: Session<D>, output: O) {
-    let _ended = ended(rt, session, output, usual(u64::MAX), DriveEnd::Ended);
+    let _ended = ended(rt, session, output, usual(u64::MAX), ScheduleEnd::Ended);
 }
 
 /// The session is driven to its end, and hands these bytes on, which lie at or after an offset.

@@ -5,8 +5,9 @@ use crate::expect::{
 };
 use crate::small_disk::{SMALL, format_outcome, recovered};
 use ckrt_disk::{Disk, MemoryDisk};
-use ckrt_drive::{Drive, DriveEnd, DriveFault, FromDisk, Nobody, Options};
+use ckrt_drive::{Drive, DriveFault, FromDisk, Nobody, Options};
 use ckrt_record::{RECORD_BYTES, read_offset};
+use ckrt_schedule::ScheduleEnd;
 use ckrt_test_data::{FILLS, SIZE};
 use std::process::Abort;
 
@@ -55,7 +56,7 @@ fn driven<R: Abort + AllocGlobal, D: Disk>(
     rt: &R,
     disk: D,
     output: MemoryDisk,
-) -> (Result<Option<DriveEnd>, DriveFault>, D, MemoryDisk) {
+) -> (Result<Option<ScheduleEnd>, DriveFault>, D, MemoryDisk) {
     let mut disk = disk;
     let taken = offset(rt, &mut disk);
     let session = recovered(rt, disk);
@@ -69,7 +70,7 @@ fn driven<R: Abort + AllocGlobal, D: Disk>(
 /// The program has ended, and has put all of its input, once.
 fn expect_echoed<R: Abort + AllocGlobal>(rt: &R, at_call: u64, image: Vec<u8>, output: MemoryDisk) {
     let (answer, mut disk, output) = driven(rt, memory_disk(rt, image), output);
-    expect_eq_at(rt, at_call, answer, Ok(Some(DriveEnd::Ended)));
+    expect_eq_at(rt, at_call, answer, Ok(Some(ScheduleEnd::Ended)));
     expect_eq_at(rt, at_call, offset(rt, &mut disk), TEXT.len() as u64);
     let image = output.into_image();
     assert!(rt; TEXT.len() <= image.len());

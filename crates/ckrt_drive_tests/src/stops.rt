@@ -5,7 +5,8 @@ use crate::drives::{RACERS, ended, formatted_for, usual};
 use crate::expect::{expect_bytes, expect_eq, expect_eq_at, filled, memory_disk, stopping_disk};
 use crate::small_disk::{recovered_in_memory, recovery_outcome};
 use ckrt_disk::{MemoryDisk, StoppingDisk};
-use ckrt_drive::{Drive, DriveEnd, DriveFault, Nobody, Nothing, Options};
+use ckrt_drive::{Drive, DriveFault, Nobody, Nothing, Options};
+use ckrt_schedule::ScheduleEnd;
 use ckrt_test_data::{COUNTERS, SLEEPERS};
 use std::process::Abort;
 
@@ -55,13 +56,13 @@ fn copied<R: Abort + AllocGlobal>(rt: &R, bytes: &[u8]) -> Vec<u8> {
 /// The drive has answered this fault, where its device was stopped, or came to its end.
 fn expect_stopped_or_ended<R: Abort>(
     rt: &R,
-    answer: Result<Option<DriveEnd>, DriveFault>,
+    answer: Result<Option<ScheduleEnd>, DriveFault>,
     fault: DriveFault,
 ) -> bool {
     if answer == Err(fault) {
         return true;
     }
-    expect_eq(rt, answer, Ok(Some(DriveEnd::Ended)));
+    expect_eq(rt, answer, Ok(Some(ScheduleEnd::Ended)));
     false
 }
 
@@ -120,7 +121,7 @@ impl TwoDrives<'_> {
     fn finished<R: Abort + AllocGlobal>(&self, rt: &R, disk: Vec<u8>, output: Vec<u8>) -> Vec<u8> {
         let session = recovered_in_memory(rt, disk);
         let output = memory_disk(rt, output);
-        let (_, output) = ended(rt, session, output, self.behind, DriveEnd::Ended);
+        let (_, output) = ended(rt, session, output, self.behind, ScheduleEnd::Ended);
         output.into_image()
     }
 

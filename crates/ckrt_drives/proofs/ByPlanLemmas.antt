@@ -2,16 +2,17 @@
 use Rattle.std.proofs.Common.{◌≡◌, ◌⊎◌, inl, inr, ⊎_elim, ℕ, ◌+◌, ◌==◌, ◌&&◌, Bool, true, false, if◌then◌else◌, Option, Some, None, List, [], ◌∷◌, ◌++◌, length, take, Result, Ok, Err, refl, sym, ◌∙◌, ap, subst, arith, append_assoc, append-nil, length-append}
 use Rattle.std.proofs.lemmas.List.{append_cancel_left}
 use Rattle.ckrt_drive.specs.Given.{IsSupplied, given_in}
-use Rattle.ckrt_drive.specs.Plan.{next_event, schedule_of}
+use Rattle.ckrt_schedule.specs.Schedules.{next_event}
+use Rattle.ckrt_drive.specs.Plan.{schedule_of}
 use Rattle.ckrt_disk.specs.declared.disk.Disk.{Ghosts}
 use Rattle.ckrt_drive.specs.Output.{HoldsOutput}
 use Rattle.ckrt_drive.specs.Steps.{Steps, accepted_in, aim_of}
 use Rattle.ckrt_drive.specs.declared.fault.DriveFault.{DriveFault}
 use Rattle.ckrt_drive.specs.declared.options.Options.{Options}
-use Rattle.ckrt_drive.specs.declared.plan.Next.{Next}
-use Rattle.ckrt_drive.specs.declared.plan.Next.TheVariants.{Submit, End}
-use Rattle.ckrt_drive.specs.declared.step_done.DriveEnd.{DriveEnd}
-use Rattle.ckrt_drive.specs.declared.step_done.DriveEnd.TheVariants.{Enough}
+use Rattle.ckrt_schedule.specs.declared.next.Next.{Next}
+use Rattle.ckrt_schedule.specs.declared.next.Next.TheVariants.{Submit, End}
+use Rattle.ckrt_schedule.specs.declared.next.ScheduleEnd.{ScheduleEnd}
+use Rattle.ckrt_schedule.specs.declared.next.ScheduleEnd.TheVariants.{Enough}
 use Rattle.ckrt_drive.specs.declared.step_done.StepDone.{StepDone}
 use Rattle.ckrt_drive.specs.declared.step_done.StepDone.TheVariants.{Submitted, Committed, Checkpointed, Released, Stopped}
 use Rattle.ckrt_drive.specs.declared.supply.Supply.{Supply}
@@ -35,7 +36,7 @@ use Rattle.ckrt_drives.specs.Together.{Past}
 same_event : (n : Next) (x y : Event) → n ≡ Submit x → n ≡ Submit y → y ≡ x
 same_event n x y is are = cc
 
-no_event_at_end : (n : Next) (x : Event) (ending : DriveEnd) → n ≡ Submit x → n ≡ End ending → ⊥
+no_event_at_end : (n : Next) (x : Event) (ending : ScheduleEnd) → n ≡ Submit x → n ≡ End ending → ⊥
 no_event_at_end n x ending is ends = absurd (cc)
 
 begins_both : (x : Event) (xs ys : List Event) → IsBeginningOf xs ys → IsBeginningOf (x ∷ xs) (x ∷ ys)
@@ -68,13 +69,13 @@ module _ (u : Course) (p : Program) where
       (⊎_elim (λ (h : _). inl (begins_both x xs ys h)) (λ (h : _). inr (begins_both x ys xs h)) (are_one (b ++ x ∷ []) xs ys h.1 rest))
 
   -- nothing goes on behind an end
-  ends_by : (b xs ys rest : List Event) (ending : DriveEnd) → AreByPlan u p b ys → next_behind u p (b ++ xs) ≡ End ending → ys ≡ xs ++ rest → ys ≡ xs
+  ends_by : (b xs ys rest : List Event) (ending : ScheduleEnd) → AreByPlan u p b ys → next_behind u p (b ++ xs) ≡ End ending → ys ≡ xs ++ rest → ys ≡ xs
   ends_by b xs ys [] ending h over is = is ∙ append-nil xs
   ends_by b xs ys (z ∷ zs) ending h over is =
       let goes = next_at b xs z zs (subst (AreByPlan u p b) is h) in
       absurd (no_event_at_end (next_behind u p (b ++ xs)) z ending goes over)
 
-  of_whole : (b xs ys : List Event) (ending : DriveEnd) → AreByPlan u p b xs → AreByPlan u p b ys → next_behind u p (b ++ xs) ≡ End ending → IsBeginningOf ys xs
+  of_whole : (b xs ys : List Event) (ending : ScheduleEnd) → AreByPlan u p b xs → AreByPlan u p b ys → next_behind u p (b ++ xs) ≡ End ending → IsBeginningOf ys xs
   of_whole b xs ys ending h k over = ⊎_elim
       (λ (longer : _). ([], sym (ends_by b xs ys longer.0 ending k over longer.1) ∙ sym (append-nil ys)))
       (λ (shorter : _). shorter)
@@ -169,7 +170,7 @@ module _ {D O : Type 0} {d : Ghosts D} (o : Ghosts O) (options : Options) (file 
 
 -- MANY DRIVES
 
-not_enough : (b : Bool) (n : Next) (ending : DriveEnd) → (if b then End Enough else n) ≡ End ending → (ending ≡ Enough → ⊥) → n ≡ End ending
+not_enough : (b : Bool) (n : Next) (ending : ScheduleEnd) → (if b then End Enough else n) ≡ End ending → (ending ≡ Enough → ⊥) → n ≡ End ending
 not_enough true n ending is other = let same : ending ≡ Enough = cc in absurd (other same)
 not_enough false n ending is other = is
 

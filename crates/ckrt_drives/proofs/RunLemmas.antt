@@ -6,7 +6,7 @@ use Rattle.ckrt_drive.specs.Runs.{IsAtEnd, IsWhyNoMore, Stand, stand_of}
 use Rattle.ckrt_drive.specs.Stages.{IsOver, Stage, stage}
 use Rattle.ckrt_drive.specs.declared.fault.DriveFault.{DriveFault}
 use Rattle.ckrt_drive.specs.declared.options.Options.{Options}
-use Rattle.ckrt_drive.specs.declared.step_done.DriveEnd.{DriveEnd}
+use Rattle.ckrt_schedule.specs.declared.next.ScheduleEnd.{ScheduleEnd}
 use Rattle.ckrt_stored.specs.declared.fault.RecoverFault.{RecoverFault}
 use Rattle.ckrt_jobs.specs.Driving.{IsRecovered, Way, way_of}
 use Rattle.ckrt_jobs.specs.Feeding.{EndsWithRoom, LooksUp, MakesRoom, SuppliesFrom, SuppliesOpened, SuppliesRoomy, SuppliesTaken, taken_by_words}
@@ -26,10 +26,10 @@ use Rattle.ckrt_drives.proofs.DriveLemmas.{disk_honest}
 
 -- IT IS A DRIVE
 
-ends_saved : (options : Options) (steps made : ℕ) (x y : Stand) (r : Result (Option DriveEnd) DriveFault) (ending : DriveEnd) → IsWhyNoMore options steps made x y r → r ≡ Ok (Some ending) → IsAtEnd y.left y.view ending
+ends_saved : (options : Options) (steps made : ℕ) (x y : Stand) (r : Result (Option ScheduleEnd) DriveFault) (ending : ScheduleEnd) → IsWhyNoMore options steps made x y r → r ≡ Ok (Some ending) → IsAtEnd y.left y.view ending
 ends_saved options steps made x y r ending why is = let h = subst (IsWhyNoMore options steps made x y) is why in h.2
 
-over_at : (r : Result (Option DriveEnd) DriveFault) (P : DriveEnd → Type 0) (ending : DriveEnd) → IfOk r (λ ended. IfSome ended P) → r ≡ Ok (Some ending) → P ending
+over_at : (r : Result (Option ScheduleEnd) DriveFault) (P : ScheduleEnd → Type 0) (ending : ScheduleEnd) → IfOk r (λ ended. IfSome ended P) → r ≡ Ok (Some ending) → P ending
 over_at r P ending h is = subst (λ q. IfOk q (λ ended. IfSome ended P)) is h
 
 module _ {D O : Type 0} (d : Ghosts D) (o : Ghosts O) (r : ProgramRun d o) where

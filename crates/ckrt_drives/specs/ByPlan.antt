@@ -1,10 +1,11 @@
 -- Lists of events by plan: each event is the one that the plan has next where it stands.
 use Rattle.std.specs.Prelude.{◌≡◌, ◌⊎◌, ℕ, List, [], ◌∷◌, ◌++◌, length, Option}
 use Rattle.ckrt_drive.specs.Given.{given_in}
-use Rattle.ckrt_drive.specs.Plan.{Schedule, next_event}
-use Rattle.ckrt_drive.specs.declared.plan.Next.{Next}
-use Rattle.ckrt_drive.specs.declared.plan.Next.TheVariants.{Submit, End}
-use Rattle.ckrt_drive.specs.declared.step_done.DriveEnd.{DriveEnd}
+use Rattle.ckrt_schedule.specs.declared.schedule.Schedule.{Schedule}
+use Rattle.ckrt_schedule.specs.Schedules.{next_event}
+use Rattle.ckrt_schedule.specs.declared.next.Next.{Next}
+use Rattle.ckrt_schedule.specs.declared.next.Next.TheVariants.{Submit, End}
+use Rattle.ckrt_schedule.specs.declared.next.ScheduleEnd.{ScheduleEnd}
 use Rattle.ckrt_events.specs.declared.event.Event.{Event}
 use Rattle.ckrt_stored.specs.Programs.{Program, state_after}
 use Rattle.ckrt_input.specs.Taken.{taken_by}
@@ -42,7 +43,7 @@ IsByPlan u p events = IsByPlanFrom u p [] events
 
 -- nothing is next after these events
 abbrev pub IsOver : Course → Program → List Event → Type 0
-IsOver u p events = (ending : DriveEnd) × (next_behind u p events ≡ End ending)
+IsOver u p events = (ending : ScheduleEnd) × (next_behind u p events ≡ End ending)
 
 -- the list of a drive that nothing stops
 pub record IsUnbroken (u : Course) (p : Program) (first events : List Event) : Type 0 where

@@ -5,7 +5,7 @@ use Rattle.ckrt_drive.specs.Runs.{IsAtEnd}
 use Rattle.ckrt_drive.specs.Stages.{IsOver, Stage, stage}
 use Rattle.ckrt_drive.specs.declared.fault.DriveFault.{DriveFault}
 use Rattle.ckrt_drive.specs.declared.options.Options.{Options}
-use Rattle.ckrt_drive.specs.declared.step_done.DriveEnd.{DriveEnd}
+use Rattle.ckrt_schedule.specs.declared.next.ScheduleEnd.{ScheduleEnd}
 use Rattle.ckrt_jobs.specs.Driving.{DrivesWay, IsRecovered, Way, way_of}
 use Rattle.ckrt_jobs.specs.Feeding.{SuppliesFrom}
 use Rattle.ckrt_sources.specs.Openings.{Openings}
@@ -53,10 +53,10 @@ drive_of {o = o} r at = record {
 -- it is one, and saves all before an end
 pub record IsRun {D O : Type 0} {d : Ghosts D} {o : Ghosts O} (r : ProgramRun d o) : Type 0 where
   pub is : (at : Stage d o) → IsDrive (drive_of r at)
-  pub ends : (ending : DriveEnd) → r.drives.ran ≡ Ok (Some ending)
+  pub ends : (ending : ScheduleEnd) → r.drives.ran ≡ Ok (Some ending)
       → IsAtEnd r.drives.left (view_of r.after) ending
   -- which is what the plan has next
-  pub over : (ending : DriveEnd) → r.drives.ran ≡ Ok (Some ending)
+  pub over : (ending : ScheduleEnd) → r.drives.ran ≡ Ok (Some ending)
       → IsOver (way_of_run r).options (way_of_run r).file
       (stage o r.drives.left r.drives.taken r.after r.end) ending
 

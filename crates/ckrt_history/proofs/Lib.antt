@@ -11,3 +11,4 @@ pub mod PassLemmas
 pub mod SnapshotLemmas
 pub mod PageLemmas
 pub mod ForkLemmas
+pub mod ExtendLemmas

@@ -3,3 +3,4 @@ pub mod Engine
 pub mod Stops
 pub mod Search
 pub mod Forks
+pub mod Extended

@@ -21,7 +21,7 @@ use Rattle.ckrt_recovery.specs.Opening.{IsSyncedAndRead}
 use Rattle.ckrt_recovery.specs.View.{View, opened, view_of}
 use Rattle.ckrt_recovery.specs.Represents.{Represents, RepresentsDisk, acknowledged_of}
 use Rattle.ckrt_commands.specs.Accepts.{Accepts}
-use Rattle.ckrt_drive.specs.declared.step_done.DriveEnd.{DriveEnd}
+use Rattle.ckrt_schedule.specs.declared.next.ScheduleEnd.{ScheduleEnd as DriveEnd}
 use Rattle.ckrt_hunt.specs.declared.plan.Plan.{Plan}
 use Rattle.ckrt_hunt.specs.declared.disks.SeedFault.{SeedFault}
 use Rattle.ckrt_hunt.specs.declared.disks.SeedFault.TheVariants as fault
@@ -33,7 +33,7 @@ use Rattle.ckrt_hunt.specs.KeptDisks.{FailedIfDevice, HasRun, IsCutShort, IsFail
 use Rattle.ckrt_hunt.specs.Outcomes.{digest_of, outcome_of}
 use Rattle.ckrt_hunt.specs.Runs.{AreScheduled, ComesTo, beginning, behind, next_at}
 use Rattle.ckrt_hunt.proofs.RunLemmas.{same_events}
-use Rattle.ckrt_drive.specs.declared.plan.Next.TheVariants.{End}
+use Rattle.ckrt_schedule.specs.declared.next.Next.TheVariants.{End}
 
 begins : (program : Program) (image : List ℕ) → RecoversToStart program image → RecoversTo program [] 0 image
 begins program image starts = record {

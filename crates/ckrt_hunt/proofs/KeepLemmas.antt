@@ -16,8 +16,8 @@ use Rattle.ckrt_recovery.specs.Represents.{Represents}
 use Rattle.ckrt_recovery.specs.View.{View, view_of, refusal_of, refusal_when_running, after_event, committed, confirmed_to}
 use Rattle.ckrt_commands.specs.Accepts.{Accepts}
 use Rattle.ckrt_commands.proofs.AcceptLemmas.{accepts_kept, accepts_more, accepts_still}
-use Rattle.ckrt_drive.specs.declared.plan.Next.TheVariants.{Submit, End}
-use Rattle.ckrt_drive.specs.declared.step_done.DriveEnd.{DriveEnd}
+use Rattle.ckrt_schedule.specs.declared.next.Next.TheVariants.{Submit, End}
+use Rattle.ckrt_schedule.specs.declared.next.ScheduleEnd.{ScheduleEnd as DriveEnd}
 use Rattle.ckrt_hunt.specs.declared.keeping.KeepFault.{KeepFault}
 use Rattle.ckrt_hunt.specs.declared.keeping.KeepFault.TheVariants.{Device, Refused}
 use Rattle.ckrt_hunt.specs.declared.made.Made.{Made}

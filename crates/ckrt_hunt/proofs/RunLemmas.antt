@@ -7,8 +7,8 @@ use Rattle.ckrt_machine.specs.Steps.{State}
 use Rattle.ckrt_machine.specs.declared.event.Answer.{Answer}
 use Rattle.ckrt_machine.specs.Events.{After, IsAccepted, output_of, step}
 use Rattle.ckrt_machine.proofs.FoldLaws.{state_on, output_on, accepted_on}
-use Rattle.ckrt_drive.specs.declared.plan.Next.TheVariants.{Submit, End}
-use Rattle.ckrt_drive.specs.declared.step_done.DriveEnd.{DriveEnd}
+use Rattle.ckrt_schedule.specs.declared.next.Next.TheVariants.{Submit, End}
+use Rattle.ckrt_schedule.specs.declared.next.ScheduleEnd.{ScheduleEnd as DriveEnd}
 use Rattle.ckrt_hunt.specs.declared.plan.Plan.{Plan}
 use Rattle.ckrt_hunt.specs.declared.made.Made.{Made}
 use Rattle.ckrt_hunt.specs.declared.outcome.Outcome.{Outcome}

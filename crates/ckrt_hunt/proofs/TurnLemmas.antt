@@ -9,8 +9,8 @@ use Rattle.ckrt_events.specs.declared.event.Event.TheVariants.{Place, Run, Input
 use Rattle.ckrt_events.specs.Bytes.{RUN_LIMIT}
 use Rattle.ckrt_machine.specs.Steps.{State, hart_of}
 use Rattle.ckrt_machine.specs.Events.{step}
-use Rattle.ckrt_drive.specs.Plan.{idle_until, run_by, ticks_to}
-use Rattle.ckrt_drive.specs.declared.plan.Next.TheVariants.{Submit}
+use Rattle.ckrt_schedule.specs.Schedules.{idle_until, run_by, ticks_to}
+use Rattle.ckrt_schedule.specs.declared.next.Next.TheVariants.{Submit}
 use Rattle.ckrt_hunt.specs.declared.plan.Plan.{Plan}
 use Rattle.ckrt_hunt.specs.declared.made.Made.{Made}
 use Rattle.ckrt_hunt.specs.declared.outcome.Waiting.{Waiting}

@@ -14,8 +14,8 @@ use Rattle.ckrt_stored.specs.declared.fault.RecoverFault.TheVariants.{NotFormatt
 use Rattle.ckrt_recovery.specs.declared.session.Session.{Session}
 use Rattle.ckrt_recovery.specs.Represents.{Represents}
 use Rattle.ckrt_recovery.specs.View.{opened, view_of}
-use Rattle.ckrt_drive.specs.declared.plan.Next.TheVariants.{End}
-use Rattle.ckrt_drive.specs.declared.step_done.DriveEnd.{DriveEnd}
+use Rattle.ckrt_schedule.specs.declared.next.Next.TheVariants.{End}
+use Rattle.ckrt_schedule.specs.declared.next.ScheduleEnd.{ScheduleEnd as DriveEnd}
 use Rattle.ckrt_hunt.specs.Kept.{KeepsRun}
 use Rattle.ckrt_hunt.specs.Outcomes.{digest_of, outcome_of}
 use Rattle.ckrt_hunt.specs.Runs.{AreScheduled, beginning, behind, next_at}

@@ -1,7 +1,7 @@
 -- What a seed draws by lot (this project's choice). Turn 0 is the seed's own, before the first turn of its run; each turn has 128 lots, of which
 -- lots 1 to 64 are those of the threads.
 use Rattle.std.specs.Prelude.{ℕ, ◌+◌, ◌*◌, ◌/◌, ◌%◌, ◌==◌, min, Bool, if◌then◌else◌}
-use Rattle.ckrt_drive.specs.Lots.{lot_of, state_behind}
+use Rattle.ckrt_schedule.specs.Lots.{lot_of, state_behind}
 
 -- a lot of a turn
 abbrev pub lot_at : (seed turn place : ℕ) → ℕ

@@ -12,8 +12,8 @@ use Rattle.ckrt_thread.specs.declared.records.Wait.{Wait}
 use Rattle.ckrt_state.specs.declared.table.Status.{Status}
 use Rattle.ckrt_state.specs.declared.table.Status.TheVariants as status
 use Rattle.ckrt_state.specs.declared.table.Tables.{Tables}
-use Rattle.ckrt_drive.specs.declared.step_done.DriveEnd.{DriveEnd}
-use Rattle.ckrt_drive.specs.declared.step_done.DriveEnd.TheVariants as ending
+use Rattle.ckrt_schedule.specs.declared.next.ScheduleEnd.{ScheduleEnd as DriveEnd}
+use Rattle.ckrt_schedule.specs.declared.next.ScheduleEnd.TheVariants as ending
 use Rattle.ckrt_hunt.specs.declared.outcome.Awaited.{Awaited}
 use Rattle.ckrt_hunt.specs.declared.outcome.Awaited.TheVariants as awaited
 use Rattle.ckrt_hunt.specs.declared.outcome.Outcome.{Outcome}

@@ -11,10 +11,10 @@ use Rattle.ckrt_events.specs.declared.event.Event.TheVariants.{Place, Run, Tick,
 use Rattle.ckrt_machine.specs.Steps.{hart_of}
 use Rattle.ckrt_machine.specs.Runs.{is_running}
 use Rattle.ckrt_machine.specs.Refusals.{refusal_in}
-use Rattle.ckrt_drive.specs.Plan.{earliest_deadline, idle_until, run_by}
-use Rattle.ckrt_drive.specs.declared.plan.Next.{Next}
-use Rattle.ckrt_drive.specs.declared.plan.Next.TheVariants.{Submit, End}
-use Rattle.ckrt_drive.specs.declared.step_done.DriveEnd.TheVariants.{Ended, Enough}
+use Rattle.ckrt_schedule.specs.Schedules.{earliest_deadline, idle_until, run_by}
+use Rattle.ckrt_schedule.specs.declared.next.Next.{Next}
+use Rattle.ckrt_schedule.specs.declared.next.Next.TheVariants.{Submit, End}
+use Rattle.ckrt_schedule.specs.declared.next.ScheduleEnd.TheVariants.{Ended, Enough}
 use Rattle.ckrt_hunt.specs.declared.lots.TheConstants.{CLOCK, HART, LENGTH, SCALE}
 use Rattle.ckrt_hunt.specs.declared.plan.Plan.{Plan}
 use Rattle.ckrt_hunt.specs.declared.made.Lowered.{Lowered}

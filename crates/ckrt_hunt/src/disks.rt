@@ -11,8 +11,8 @@ ghost use Rattle.ckrt_hunt.specs.KeptDisks.{HasReason, IsNoRefusal, IsOverReason
 use crate::keeping::{KeepFault, keep};
 use crate::plan::Plan;
 use ckrt_disk::Disk;
-use ckrt_drive::DriveEnd;
 use ckrt_recovery::{Config, FormatFault, RecoverFault, Session, format, recover};
+use ckrt_schedule::ScheduleEnd as DriveEnd;
 use std::alloc::Global;
 use thiserror::Error;
 

@@ -10,10 +10,10 @@ use crate::made::Made;
 use crate::plan::Plan;
 use crate::turn::{next, runner_of};
 use ckrt_disk::Disk;
-use ckrt_drive::{DriveEnd, Next};
 use ckrt_events::Event;
 use ckrt_machine::{Answer, Refusal};
 use ckrt_recovery::{Session, SubmitFault};
+use ckrt_schedule::{Next, ScheduleEnd as DriveEnd};
 use thiserror::Error;
 
 /// Why a run isn't kept whole. The disk then has the events before, as far as they were acknowledged.

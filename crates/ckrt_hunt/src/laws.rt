@@ -4,7 +4,7 @@ ghost use Rattle.std.specs.Prelude.{◌≡◌, ℕ};
 ghost use Rattle.ckrt_machine.specs.Steps.{State};
 ghost use Rattle.ckrt_hunt.specs.declared.plan.Plan.{Plan};
 ghost use Rattle.ckrt_hunt.specs.declared.runs.Told.{Told};
-ghost use Rattle.ckrt_drive.specs.declared.step_done.DriveEnd.{DriveEnd};
+ghost use Rattle.ckrt_schedule.specs.declared.next.ScheduleEnd.{ScheduleEnd as DriveEnd};
 ghost use Rattle.ckrt_stored.specs.Programs.{Program, start_of};
 ghost use Rattle.ckrt_hunt.specs.KeptDisks.{HasRun, IsToldOf};
 ghost use Rattle.ckrt_hunt.specs.Runs.{ComesTo};

@@ -2,7 +2,7 @@
 ghost use Rattle.std.specs.Prelude.{◌≡◌, ◌≤◌, ℕ};
 ghost use Rattle.ckrt_hunt.specs.Lots.{lot_at, lots_of, scale_by, scale_of, shortest_of};
 
-use ckrt_drive::{lot_from, lot_of, state_behind};
+use ckrt_schedule::{lot_from, lot_of, state_behind};
 
 /// How many lots a turn has. Lots 1 to 64 are those of the threads.
 const LOTS: u64 = 128;

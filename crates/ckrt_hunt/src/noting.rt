@@ -1,6 +1,6 @@
 //! Which turns a run has.
 ghost use Rattle.std.specs.Prelude.{◌≡◌, ◌≤◌, ◌<◌, ◌+◌, length};
-ghost use Rattle.ckrt_drive.specs.declared.plan.Next.TheVariants.{Submit};
+ghost use Rattle.ckrt_schedule.specs.declared.next.Next.TheVariants.{Submit};
 ghost use Rattle.ckrt_hunt.specs.Given.{run_made, turn_made};
 ghost use Rattle.ckrt_hunt.specs.Turns.{IsFit, next};
 
@@ -9,9 +9,9 @@ use crate::made::{Made, has_left};
 use crate::plan::Plan;
 use crate::turn::{next, runner_of};
 use crate::turns::Turns;
-use ckrt_drive::Next;
 use ckrt_events::Event;
 use ckrt_machine::{Answer, Machine};
+use ckrt_schedule::Next;
 use ckrt_thread::{Hart, ThreadId};
 
 /// The turn of a run: as many steps as it made, or until its thread leaves its hart where it did.

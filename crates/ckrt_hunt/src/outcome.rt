@@ -3,10 +3,10 @@ ghost use Rattle.std.specs.Prelude.{◌≡◌, ◌≤◌, ◌<◌, ◌+◌, ◌+
 ghost use Rattle.ckrt_hunt.specs.Outcomes.{awaited_by, by_status, outcome_of, owner_of, waiting_among, waiting_by};
 
 use arrayvec::ArrayVec;
-use ckrt_drive::DriveEnd;
 use ckrt_mutex::Mutexes;
 use ckrt_objects::get;
 use ckrt_rv32i::Cause;
+use ckrt_schedule::ScheduleEnd as DriveEnd;
 use ckrt_state::{Status, Tables};
 use ckrt_thread::{MAX_THREADS, Reason, ThreadId, Wait};
 

@@ -2,7 +2,7 @@
 ghost use Rattle.std.specs.Prelude.{◌≡◌, ◌≤◌, ◌<◌, ◌+◌, ℕ, List, length};
 ghost use Rattle.sha2.specs.Hashers.{Holds256};
 ghost use Rattle.ckrt_machine.specs.Steps.{State};
-ghost use Rattle.ckrt_drive.specs.declared.plan.Next.TheVariants.{Submit};
+ghost use Rattle.ckrt_schedule.specs.declared.next.Next.TheVariants.{Submit};
 ghost use Rattle.ckrt_hunt.specs.Outcomes.{digest_of, outcome_of};
 ghost use Rattle.ckrt_hunt.specs.Turns.{IsFit, next};
 ghost use Rattle.ckrt_hunt.specs.Runs.{EndsWith, HasComeTo};
@@ -11,9 +11,9 @@ use crate::made::Made;
 use crate::outcome::{Outcome, outcome_of};
 use crate::plan::Plan;
 use crate::turn::{next, runner_of};
-use ckrt_drive::{DriveEnd, Next};
 use ckrt_events::Event;
 use ckrt_machine::Machine;
+use ckrt_schedule::{Next, ScheduleEnd as DriveEnd};
 use sha2::{Digest, Sha256};
 
 /// What is told of a run.

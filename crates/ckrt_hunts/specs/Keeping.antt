@@ -4,7 +4,7 @@ use Rattle.ckrt_disk.specs.Frame.{IsSameDisk}
 use Rattle.ckrt_disk.specs.declared.disk.Disk.{Ghosts}
 use Rattle.ckrt_stored.specs.Programs.{Program}
 use Rattle.ckrt_stored.specs.declared.fault.RecoverFault.TheVariants as recover
-use Rattle.ckrt_drive.specs.declared.step_done.DriveEnd.{DriveEnd}
+use Rattle.ckrt_schedule.specs.declared.next.ScheduleEnd.{ScheduleEnd as DriveEnd}
 use Rattle.ckrt_hunt.specs.KeptDisks.{KeepsSeed}
 use Rattle.ckrt_hunt.specs.declared.disks.KeptDisk.{KeptDisk}
 use Rattle.ckrt_hunt.specs.declared.disks.SeedFault.{SeedFault}

@@ -5,10 +5,10 @@ ghost use Rattle.ckrt_stored.specs.Programs.{formatted_program};
 ghost use Rattle.ckrt_hunts.specs.Keeping.{EndsKeeping, Keeps, KeepsOn, fault_of, keep_fault_of};
 
 use ckrt_disk::Disk;
-use ckrt_drive::DriveEnd;
 use ckrt_hunt::{KeepFault, KeptDisk, Plan, SeedFault, keep_seed};
 use ckrt_outcomes::JobFault;
 use ckrt_recovery::{Config, RecoverFault};
+use ckrt_schedule::ScheduleEnd as DriveEnd;
 use ckrt_sources::{JobFile, Sources};
 use std::alloc::Global;
 use std::io::Read;

@@ -6,7 +6,7 @@ use Rattle.ckrt_disk.specs.declared.disk.DeviceFault.{DeviceFault}
 use Rattle.ckrt_disk.specs.declared.disk.Disk.{Ghosts}
 use Rattle.ckrt_drive.specs.declared.fault.DriveFault.{DriveFault}
 use Rattle.ckrt_drive.specs.declared.options.Options.{Options}
-use Rattle.ckrt_drive.specs.declared.step_done.DriveEnd.{DriveEnd}
+use Rattle.ckrt_schedule.specs.declared.next.ScheduleEnd.{ScheduleEnd}
 use Rattle.ckrt_drive.specs.declared.stream.StreamOutput.{StreamOutput}
 use Rattle.ckrt_stored.specs.declared.fault.RecoverFault.{RecoverFault}
 use Rattle.ckrt_words.specs.Jobs.{Driving}
@@ -23,7 +23,7 @@ use Rattle.ckrt_jobs.specs.declared.feeding.Supplied.{Supplied}
 use Rattle.ckrt_jobs.specs.declared.feeding.Unready.{Unready}
 
 -- what is true of a run's fault is true of the drive's
-pub err_kept : (s : State) (r : Result (Option DriveEnd) DriveFault) (P : DriveFault → Type 0) → IfErr r P → IfErr (driven_of s r) P
+pub err_kept : (s : State) (r : Result (Option ScheduleEnd) DriveFault) (P : DriveFault → Type 0) → IfErr r P → IfErr (driven_of s r) P
 err_kept s (Ok ending) P h = tt
 err_kept s (Err fault) P h = h
 

@@ -24,7 +24,7 @@ use Rattle.ckrt_drive.specs.Streams.{got_to, writer_of}
 use Rattle.ckrt_drive.specs.declared.fault.DriveFault.{DriveFault}
 use Rattle.ckrt_drive.specs.declared.fault.DriveFault.TheVariants.{Output}
 use Rattle.ckrt_drive.specs.declared.options.Options.{Options}
-use Rattle.ckrt_drive.specs.declared.step_done.DriveEnd.{DriveEnd}
+use Rattle.ckrt_schedule.specs.declared.next.ScheduleEnd.{ScheduleEnd}
 use Rattle.ckrt_drive.specs.declared.stream.StreamOutput.{StreamOutput}
 use Rattle.ckrt_words.specs.Jobs.{Driving}
 use Rattle.ckrt_words.specs.declared.job.Sizes.{Sizes}
@@ -68,7 +68,7 @@ pub record IsAsked (j : Driving) (o : Options) : Type 0 where
 -- THE SESSION
 
 -- what a drive came to where its run answered so, and the machine is in this state
-abbrev pub driven_of : State → Result (Option DriveEnd) DriveFault → Result Driven DriveFault
+abbrev pub driven_of : State → Result (Option ScheduleEnd) DriveFault → Result Driven DriveFault
 driven_of s (Ok ending) =
     Ok (record { ending = ending; status = s.tables.status; address = fault_address s })
 driven_of s (Err fault) = Err fault
@@ -102,7 +102,7 @@ way_of d options (Some it) (Some end) = fed_from d options it end
 -- From s to t, with its output from a to b, a session was driven this way: by the plan, with all its events left, up to an end.
 pub record DrivesWay {D O : Type 0} {g : Ghosts D} (o : Ghosts O) (way : Way) (s t : Session D g)
     (a b : O) (answer : Result Driven DriveFault) : Type 0 where
-  pub ran : Result (Option DriveEnd) DriveFault
+  pub ran : Result (Option ScheduleEnd) DriveFault
   -- how many events are left in the end, and how many bytes of input the program has taken
   pub left : ℕ
   pub taken : ℕ

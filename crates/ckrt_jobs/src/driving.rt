@@ -10,10 +10,11 @@ use crate::feeding::{Intake, Supplied, close_both, file_of, supply};
 use crate::missing::find_disk;
 use crate::sizes::other_sizes;
 use ckrt_disk::Disk;
-use ckrt_drive::{Drive, DriveEnd, DriveFault, Feed, FromDisk, Nothing, Options, StreamOutput};
+use ckrt_drive::{Drive, DriveFault, Feed, FromDisk, Nothing, Options, StreamOutput};
 use ckrt_machine::Machine;
 use ckrt_outcomes::{Driven, JobFault, Meter, OutputLengths, Watch, is_in_range};
 use ckrt_recovery::{RecoverFault, Session, recover};
+use ckrt_schedule::ScheduleEnd;
 use ckrt_sources::{JobFile, OpenedOutput, OutputReason, Sources};
 use ckrt_words::DriveJob;
 use std::alloc::Global;
@@ -54,7 +55,7 @@ fn watch_of<'a>(job: &DriveJob<'a>) -> Watch<'a>
 /// What a drive came to where its run answered so, and the machine stands so.
 fn driven_of(
     machine: &Machine,
-    answer: Result<Option<DriveEnd>, DriveFault>,
+    answer: Result<Option<ScheduleEnd>, DriveFault>,
 ) -> Result<Driven, DriveFault>
     ensures { result ≡ driven_of machine.now.state answer }
 {

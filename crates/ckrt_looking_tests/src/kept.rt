@@ -4,9 +4,9 @@ use crate::expect::{expect_eq, image_of};
 use crate::hunts::{SHAPE, tally_of};
 use crate::outcomes::RACES;
 use ckrt_disk::{Disk, MemoryDisk};
-use ckrt_drive::DriveEnd;
 use ckrt_hunt::{KeptDisk, Outcome, Plan, Row, SeedFault, keep_seed};
 use ckrt_recovery::{Config, FormatFault, Session, recover};
+use ckrt_schedule::ScheduleEnd;
 use ckrt_state::Status;
 use std::process::Abort;
 
@@ -53,7 +53,7 @@ fn keep_on<R: Abort + AllocGlobal>(
 /// The first seed of a row is kept, and its disk recovers to the row's outcome.
 fn expect_kept<R: Abort + AllocGlobal>(rt: &R, words: &[u32], row: &Row) {
     let kept = keep_on(rt, words, SIZE, row.first);
-    expect_eq(rt, kept.result, Ok(DriveEnd::Ended));
+    expect_eq(rt, kept.result, Ok(ScheduleEnd::Ended));
     let again = session_of(rt, kept.disk);
     match (again.machine().status(), &row.told.outcome) {
         (Status::Exited(got), Outcome::Exited(want)) => expect_eq(rt, got, *want),

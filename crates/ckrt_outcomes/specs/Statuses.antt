@@ -2,8 +2,8 @@
 use Rattle.std.specs.Prelude.{if◌then◌else◌, ℕ, nat_eq, Option, Some, None, Result, Ok, Err}
 use Rattle.ckrt_state.specs.declared.table.Status.{Status}
 use Rattle.ckrt_state.specs.declared.table.Status.TheVariants as status
-use Rattle.ckrt_drive.specs.declared.step_done.DriveEnd.{DriveEnd}
-use Rattle.ckrt_drive.specs.declared.step_done.DriveEnd.TheVariants.{Ended, WaitsForInput, Deadlock, Enough}
+use Rattle.ckrt_schedule.specs.declared.next.ScheduleEnd.{ScheduleEnd}
+use Rattle.ckrt_schedule.specs.declared.next.ScheduleEnd.TheVariants.{Ended, WaitsForInput, Deadlock, Enough}
 use Rattle.ckrt_words.specs.declared.job.WordsFault.{WordsFault}
 use Rattle.ckrt_words.specs.declared.job.WordsFault.TheVariants as words
 use Rattle.ckrt_outcomes.specs.declared.done.Done.{Done}
@@ -17,7 +17,7 @@ ended_status (status.Exited code) = if nat_eq code 0 then 0 else 7
 ended_status (status.Faulted t pc c) = 6
 
 -- 3 where a thread waits for input, 4 where none can ever go on, 5 where the drive had enough events
-abbrev pub end_status : Option DriveEnd → Status → ℕ
+abbrev pub end_status : Option ScheduleEnd → Status → ℕ
 end_status None status = 5
 end_status (Some Ended) status = ended_status status
 end_status (Some WaitsForInput) status = 3

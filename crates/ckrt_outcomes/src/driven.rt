@@ -2,14 +2,14 @@
 ghost use Rattle.std.specs.Prelude.{◌≡◌};
 ghost use Rattle.ckrt_outcomes.specs.Statuses.{end_status, ended_status};
 
-use ckrt_drive::DriveEnd;
+use ckrt_schedule::ScheduleEnd;
 use ckrt_state::Status;
 
 /// What a drive came to.
 #[derive(Clone, Copy, Debug, PartialEq, Eq)]
 pub struct Driven {
     /// Why there is nothing more to do; this isn't known after 2^64 - 1 steps.
-    pub ending: Option<DriveEnd>,
+    pub ending: Option<ScheduleEnd>,
     /// How the program stands.
     pub status: Status,
     /// The address that its fault is about, where one ended it and there is one.
@@ -34,10 +34,10 @@ impl Driven {
         ensures { result ≡ end_status self.ending self.status }
     {
         match self.ending {
-            Some(DriveEnd::Ended) => ended_status(self.status),
-            Some(DriveEnd::WaitsForInput) => 3,
-            Some(DriveEnd::Deadlock) => 4,
-            Some(DriveEnd::Enough) | None => 5,
+            Some(ScheduleEnd::Ended) => ended_status(self.status),
+            Some(ScheduleEnd::WaitsForInput) => 3,
+            Some(ScheduleEnd::Deadlock) => 4,
+            Some(ScheduleEnd::Enough) | None => 5,
         }
     }
 }

@@ -8,3 +8,4 @@ pub mod Requests
 pub mod Settings
 pub mod Standing
 pub mod Told
+pub mod Extending

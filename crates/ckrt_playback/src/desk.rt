@@ -1,8 +1,9 @@
 //! What a session has beside the run: what gdb said last, its stops, and what bounds its motions.
-ghost use Rattle.std.specs.Prelude.{◌≡◌, ◌≤◌, ◌↔◌, IfSome, IsNone, IsSome, IsTrue, true, false};
+ghost use Rattle.std.specs.Prelude.{◌≡◌, ◌≤◌, ◌↔◌, IfSome, IsNone, IsSome, IsTrue, min, true, false};
 ghost use Rattle.ckrt_events.specs.Bytes.{IsInRange};
-ghost use Rattle.ckrt_history.specs.Forks.{append_fault, with_event};
+ghost use Rattle.ckrt_history.specs.Forks.{append_fault, forked, with_event};
 ghost use Rattle.ckrt_history.specs.Positions.{IsPosition};
+ghost use Rattle.ckrt_playback.specs.Extending.{going_on, view_behind};
 ghost use Rattle.ckrt_playback.specs.Playback.{HasPlace, position_of};
 ghost use Rattle.ckrt_history.specs.Stops.{widths};
 ghost use Rattle.ckrt_playback.specs.declared.motion.Found.{Found};
@@ -24,13 +25,19 @@ use crate::view::View;
 use ckrt_events::Event;
 use ckrt_history::{AppendFault, History, Position, Stops};
 use ckrt_packets::{Choice, Payload, Reply, Request};
+use ckrt_schedule::{Schedule, ScheduleEnd};
 use ckrt_thread::Threads;
+
+/// How many steps a turn has in a run that goes on by itself: as many as in a drive that is given no other number.
+const TURN: u32 = 1_000_000;
 
 /// What a session has beside the run.
 #[derive(Drop)]
 pub struct Desk {
     /// How many events were done before the first of the run.
     pub first: u64,
+    /// How many of the run's events are recorded: its first ones.
+    pub recorded: usize,
     pub view: View,
     pub stops: Stops,
     pub bounds: Bounds,
@@ -86,17 +93,29 @@ fn place_of(history: &History, first: u64, events: u64, steps: u32) -> Option<Po
     }
 }
 
+/// What is shown of a run that went on by itself: whose step is next, but where it didn't stand at the end.
+fn view_behind(end: &Result<ScheduleEnd, AppendFault>, view: &View, history: &History) -> View
+    ensures { result ≡ view_behind end.now view.now history.now }
+{
+    match end {
+        Err(AppendFault::NotAtEnd) => *view,
+        _ => standing_in(view, next_or(history, view.last.thread)),
+    }
+}
+
 impl Desk {
     /// A session that begins: thread 1 is shown, or whoever is left, and there is no stop. Before the first event of the run `first`
-    /// were done.
-    pub fn new(first: u64, threads: &Threads) -> Desk
+    /// were done, and so many are recorded.
+    pub fn new(first: u64, recorded: usize, threads: &Threads) -> Desk
         ensures view { result.view ≡ first_view (shown 1 threads.now) }
         ensures stops { IsWithoutStops result.stops }
         ensures bounds { result.bounds ≡ unbounded }
         ensures first { result.first ≡ first }
+        ensures recorded { result.recorded ≡ recorded }
     {
         Desk {
             first,
+            recorded,
             view: first_view(shown(threads, 1)),
             stops: Stops::new(),
             bounds: Bounds::new(),
@@ -107,7 +126,8 @@ impl Desk {
     pub fn set(&mut self, request: &Request, threads: &Threads, out: &mut Payload)
         ensures view { self.new.view ≡ view_after request.now self.old.view threads.now }
         ensures stops { HasSetStops request.now self.old.stops self.new.stops }
-        ensures kept { (self.new.bounds ≡ self.old.bounds) × (self.new.first ≡ self.old.first) }
+        ensures kept { (self.new.bounds ≡ self.old.bounds) × (self.new.first ≡ self.old.first)
+            × (self.new.recorded ≡ self.old.recorded) }
         ensures payload { out.new.items
             ≡ fitting (set_text request.now self.old.stops threads.now) }
     {
@@ -128,6 +148,7 @@ impl Desk {
     pub fn walk(&mut self, history: &mut History, way: Way, out: &mut Payload)
         ensures stops { self.new.stops ≡ self.old.stops }
         ensures kept { (self.new.bounds ≡ self.old.bounds) × (self.new.first ≡ self.old.first)
+            × (self.new.recorded ≡ self.old.recorded)
             × (self.new.view.chosen ≡ self.old.view.chosen) }
         ensures moved { (found : Found)
             × Moved self.old.bounds way self.old.stops history.old history.new found
@@ -146,7 +167,8 @@ impl Desk {
     /// run has no such position, and then nothing changes.
     pub fn reach(&mut self, history: &mut History, events: u64, steps: u32) -> bool
         ensures stops { self.new.stops ≡ self.old.stops }
-        ensures kept { (self.new.bounds ≡ self.old.bounds) × (self.new.first ≡ self.old.first) }
+        ensures kept { (self.new.bounds ≡ self.old.bounds) × (self.new.first ≡ self.old.first)
+            × (self.new.recorded ≡ self.old.recorded) }
         ensures has { IsTrue result ↔ HasPlace self.old.first events steps history.old }
         ensures there { result ≡ true
             → (history.new ≡ at (position_of self.old.first events steps) history.old)
@@ -168,7 +190,8 @@ impl Desk {
     /// the run has none, and then nothing changes.
     pub fn stop_at(&mut self, history: &History, events: u64, steps: u32) -> Option<Position>
         ensures stops { self.new.stops ≡ self.old.stops }
-        ensures kept { (self.new.view ≡ self.old.view) × (self.new.first ≡ self.old.first) }
+        ensures kept { (self.new.view ≡ self.old.view) × (self.new.first ≡ self.old.first)
+            × (self.new.recorded ≡ self.old.recorded) }
         ensures has { IsSome result ↔ HasPlace self.old.first events steps history.now }
         ensures there { IfSome result (λ p. (p ≡ position_of self.old.first events steps)
             × (self.new.bounds ≡ record self.old.bounds { until = Some p })) }
@@ -179,11 +202,25 @@ impl Desk {
         Some(position)
     }
 
+    /// The history ends where it stands. What is left of its events is recorded still, but for a run that is cut.
+    pub fn cut(&mut self, history: &mut History)
+        ensures history { history.new ≡ forked history.old }
+        ensures recorded { self.new.recorded
+            ≡ min self.old.recorded history.old.position.events }
+        ensures stops { self.new.stops ≡ self.old.stops }
+        ensures kept { (self.new.view ≡ self.old.view) × (self.new.bounds ≡ self.old.bounds)
+            × (self.new.first ≡ self.old.first) }
+    {
+        self.recorded = self.recorded.min(history.position().events);
+        history.cut();
+    }
+
     /// Makes one more event behind the last, and shows whose step was next. Else it is told why not, and then nothing changes.
     pub fn append(&mut self, history: &mut History, event: Event) -> Option<AppendFault>
         requires { IsInRange event }
         ensures stops { self.new.stops ≡ self.old.stops }
-        ensures kept { (self.new.bounds ≡ self.old.bounds) × (self.new.first ≡ self.old.first) }
+        ensures kept { (self.new.bounds ≡ self.old.bounds) × (self.new.first ≡ self.old.first)
+            × (self.new.recorded ≡ self.old.recorded) }
         ensures fault { result ≡ append_fault event history.old }
         ensures made { IsNone result → (history.new ≡ with_event event history.old)
             × (self.new.view
@@ -196,5 +233,24 @@ impl Desk {
         }
         self.view = standing_in(&self.view, next_or(history, self.view.last.thread));
         None
+    }
+
+    /// Makes the events behind the last that are next by turns, `most` at most, and shows whose step is next then. The result is why there
+    /// is no further one. Nothing changes where it doesn't stand at the end.
+    pub fn extend(&mut self, history: &mut History, most: u32) -> Result<ScheduleEnd, AppendFault>
+        ensures stops { self.new.stops ≡ self.old.stops }
+        ensures kept { (self.new.bounds ≡ self.old.bounds) × (self.new.first ≡ self.old.first)
+            × (self.new.recorded ≡ self.old.recorded) }
+        ensures history { history.new ≡ (going_on most self.old.first history.old).history }
+        ensures end { result ≡ (going_on most self.old.first history.old).end }
+        ensures view { self.new.view ≡ view_behind result self.old.view history.new }
+    {
+        let schedule = Schedule {
+            turn: TURN,
+            seed: None,
+        };
+        let end = history.extend(schedule, self.first, most);
+        self.view = view_behind(&end, &self.view, history);
+        end
     }
 }

@@ -5,8 +5,8 @@ use Rattle.ckrt_state.specs.declared.table.Status.TheVariants as status
 use Rattle.ckrt_inspect.specs.Texts.{hex_text, status_text}
 use Rattle.ckrt_inspect.specs.declared.metrics.Standing.{Standing}
 use Rattle.ckrt_inspect.specs.declared.metrics.Standing.TheVariants as stands
-use Rattle.ckrt_drive.specs.declared.step_done.DriveEnd.{DriveEnd}
-use Rattle.ckrt_drive.specs.declared.step_done.DriveEnd.TheVariants.{Ended, WaitsForInput, Deadlock, Enough}
+use Rattle.ckrt_schedule.specs.declared.next.ScheduleEnd.{ScheduleEnd}
+use Rattle.ckrt_schedule.specs.declared.next.ScheduleEnd.TheVariants.{Ended, WaitsForInput, Deadlock, Enough}
 use Rattle.ckrt_drive.specs.declared.step_done.StepDone.{StepDone}
 use Rattle.ckrt_drive.specs.declared.step_done.StepDone.TheVariants.{Stopped}
 use Rattle.ckrt_outcomes.specs.declared.driven.Driven.{Driven}
@@ -35,7 +35,7 @@ abbrev pub ended_text : Status → Option ℕ → List ℕ
 ended_text status address = hint_text status address ++ (codes "ended: " ++ (status_text status ++ address_text address))
 
 -- the end in words
-abbrev pub end_text : Option DriveEnd → Status → Option ℕ → List ℕ
+abbrev pub end_text : Option ScheduleEnd → Status → Option ℕ → List ℕ
 end_text None status address = codes "enough"
 end_text (Some Ended) status address = ended_text status address
 end_text (Some WaitsForInput) status address = codes "waits for input"

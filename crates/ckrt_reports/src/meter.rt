@@ -4,13 +4,14 @@ ghost use Rattle.ckrt_reports.specs.Ends.{standing_of};
 
 use crate::status::StatusFile;
 use ckrt_disk::Disk;
-use ckrt_drive::{DriveEnd, Onlooker, StepDone};
+use ckrt_drive::{Onlooker, StepDone};
 use ckrt_events::Event;
 use ckrt_input::taken_by;
 use ckrt_inspect::{Readings, Standing};
 use ckrt_machine::Answer;
 use ckrt_outcomes::{Meter, Watch};
 use ckrt_recovery::Session;
+use ckrt_schedule::ScheduleEnd;
 use std::alloc::Global;
 use std::fs::{File, Files};
 use std::rt::Clock;
@@ -21,10 +22,10 @@ fn standing_of(did: &StepDone) -> Standing
     ensures { result ≡ standing_of did.now }
 {
     match did {
-        StepDone::Stopped(DriveEnd::Ended) => Standing::Ended,
-        StepDone::Stopped(DriveEnd::WaitsForInput) => Standing::WaitsForInput,
-        StepDone::Stopped(DriveEnd::Deadlock) => Standing::Deadlock,
-        StepDone::Stopped(DriveEnd::Enough) => Standing::Enough,
+        StepDone::Stopped(ScheduleEnd::Ended) => Standing::Ended,
+        StepDone::Stopped(ScheduleEnd::WaitsForInput) => Standing::WaitsForInput,
+        StepDone::Stopped(ScheduleEnd::Deadlock) => Standing::Deadlock,
+        StepDone::Stopped(ScheduleEnd::Enough) => Standing::Enough,
         StepDone::Submitted(_, _)
         | StepDone::Committed
         | StepDone::Checkpointed

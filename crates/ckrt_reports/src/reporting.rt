@@ -15,11 +15,11 @@ use crate::reporter::{Reporter, Unsaid};
 use crate::unfit::{say_unfit, say_unfit_sizes};
 use crate::version::VERSION;
 use arrayvec::ArrayVec;
-use ckrt_drive::DriveEnd;
 use ckrt_main::write_reply;
 use ckrt_outcomes::{Done, Driven, InputLengths, JobFault, OutputLengths};
 use ckrt_recovery::{Config, FormatFault};
 use ckrt_rv32i::Cause;
+use ckrt_schedule::ScheduleEnd;
 use ckrt_sources::JobFile;
 use ckrt_state::Status;
 use ckrt_thread::ThreadId;
@@ -388,10 +388,10 @@ fn say_end_text<E: Reporter>(reporter: &mut E, driven: Driven) -> Result<(), Uns
     ensures failed { OnErr result (E.has_failed reporter.new ≡ true) }
 {
     match driven.ending {
-        Some(DriveEnd::Ended) => say_ended(reporter, driven.status, driven.address),
-        Some(DriveEnd::WaitsForInput) => reporter.say(b"waits for input"),
-        Some(DriveEnd::Deadlock) => reporter.say(b"deadlock"),
-        Some(DriveEnd::Enough) | None => reporter.say(b"enough"),
+        Some(ScheduleEnd::Ended) => say_ended(reporter, driven.status, driven.address),
+        Some(ScheduleEnd::WaitsForInput) => reporter.say(b"waits for input"),
+        Some(ScheduleEnd::Deadlock) => reporter.say(b"deadlock"),
+        Some(ScheduleEnd::Enough) | None => reporter.say(b"enough"),
     }
 }
 

@@ -1,4 +1,4 @@
-use Rattle.std.proofs.Common.{rules, ◌≡◌, ◌+◌, ◌∙◌, ℕ, length, take, drop, true, ap, sym, subst, arith}
+use Rattle.std.proofs.Common.{rules, ◌≡◌, ◌+◌, ◌∙◌, length, take, drop, true, ap, sym, subst, arith}
 use Rattle.std.specs.Prelude.{IfSome, is_none, ◌≤◌, [], ◌∷◌}
 use Rattle.ckrt_events.specs.Bytes.{IsInRange}
 use Rattle.ckrt_input.specs.Next.{next_input}

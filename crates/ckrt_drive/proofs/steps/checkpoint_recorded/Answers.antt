@@ -1,6 +1,6 @@
 use Rattle.std.proofs.Common.{rules, Some}
 use Rattle.ckrt_recovery.specs.declared.fault.CommitFault.TheVariants.{Failed, Device}
-use Rattle.ckrt_drive.proofs.SaveLemmas.{advances_checkpoint, advances_used, advances_unsaved, advances_unrecorded}
+use Rattle.ckrt_drive.proofs.SaveLemmas.{advances_checkpoint, advances_used, advances_unsaved}
 use Rattle.ckrt_drive.proofs.FeedLemmas.{saved_feeds}
 use Rattle.ckrt_drive.proofs.steps.checkpoint_recorded.Goals as goal
 

@@ -1,4 +1,4 @@
-use Rattle.std.proofs.Common.{rules, ◌≡◌, ◌+◌, ◌∙◌, Err, refl, sym, subst, arith}
+use Rattle.std.proofs.Common.{rules, ◌≡◌, Err, refl, sym, subst, arith}
 use Rattle.ckrt_recovery.specs.View.{view_of}
 use Rattle.ckrt_drive.specs.Given.{CountsRead, given_in, record_of}
 use Rattle.ckrt_drive.specs.Steps.{aim_of}

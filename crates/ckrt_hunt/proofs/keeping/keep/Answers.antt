@@ -1,5 +1,5 @@
 use Rattle.std.proofs.Common.{rules, ◌≡◌, ◌≤◌, ◌∙◌, Err, ap, arith, sym, subst}
-use Rattle.ckrt_drive.specs.declared.plan.Next.TheVariants.{Submit, End}
+use Rattle.ckrt_schedule.specs.declared.next.Next.TheVariants.{Submit, End}
 use Rattle.ckrt_hunt.specs.Kept.{KeepsRun}
 use Rattle.ckrt_hunt.specs.Turns.{IsFit, next}
 use Rattle.ckrt_hunt.proofs.KeepLemmas.{harts_on, kept_nothing, kept_on, kept_to_end, kept_up_to}

@@ -82,6 +82,17 @@ returns-in-Append-clause-refused c = c.make_by.ensures.refused
 pub returns-in-Append-clause-fault : goal.returns-in-Append-clause-fault
 returns-in-Append-clause-fault c = c.make_by.ensures.fault
 
+pub returns-in-Extend-clause-does : goal.returns-in-Extend-clause-does
+returns-in-Extend-clause-does c =
+    subst (λ (k : Command). IfOk c.go_on_by_turns.result (λ stub. (console : List ℕ) × Does k c.args.self stub console × (c.go_on_by_turns.new.out.items ≡ c.args.out.now.items ++ console)))
+    (sym c.in-Extend.is) c.go_on_by_turns.ensures.does
+
+pub returns-in-Extend-clause-refused : goal.returns-in-Extend-clause-refused
+returns-in-Extend-clause-refused c = c.go_on_by_turns.ensures.refused
+
+pub returns-in-Extend-clause-fault : goal.returns-in-Extend-clause-fault
+returns-in-Extend-clause-fault c = c.go_on_by_turns.ensures.fault
+
 pub returns-in-Help-clause-does : goal.returns-in-Help-clause-does
 returns-in-Help-clause-does c =
     subst (λ (k : Command). IfOk c.tell_help.result (λ stub. (console : List ℕ) × Does k c.args.self stub console × (c.tell_help.new.out.items ≡ c.args.out.now.items ++ console)))

@@ -1,0 +1,3 @@
+pub mod LotLemmas
+mod SearchLemmas
+mod RangeLemmas
