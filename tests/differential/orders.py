@@ -49,7 +49,7 @@ class Orders:
 
     def place(self, kind, address):
         """Locks of one kind that count as one have one holder."""
-        return kind, address % PLACES // 4 if self.is_wide else address % PLACES
+        return kind, address % PLACES
 
     def hand_on(self, before, machine):
         """First what is given, then what is taken: a lock may go from hand to hand in one step."""
@@ -93,10 +93,8 @@ class Orders:
             self.clocks.give(before.caller, ("request", before.words[0]))
 
     def act_on_requests(self, before, machine):
-        """In the narrow reading a thread that ends at once has done nothing since; in the wide one all that unwind act."""
-        acting = set(acting_threads(before, machine))
-        there = {number for number, thread in machine.threads.items() if thread.is_unwinding and not thread.has_ended}
-        for number in acting | there if self.is_wide else acting & there:
+        """Who acts on requests has seen what those did who made them."""
+        for number in acting_threads(before, machine):
             self.clocks.take(number, ("request", number))
 
 

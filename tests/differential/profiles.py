@@ -30,7 +30,7 @@ class Profile:
     def __init__(self, machine):
         self.machine = machine
         self.ran = 0  # as the replies to runs say
-        self.at, self.called, self.by, self.waits = Counter(), Counter(), Counter(), Counter()
+        self.by, self.waits = Counter(), Counter()
         self.stacks = {}  # a path, from the thread on, to its calls and steps
         self.places = {}  # a thread's path, and how it goes on from its last step
         for number, thread in sorted(machine.threads.items()):
@@ -43,15 +43,15 @@ class Profile:
         return path
 
     def arrive(self, number, pc):
-        """The path of a thread's next step, and whether that begins a function to which it was called."""
+        """The path of a thread's next step."""
         path, (turn, behind) = self.places.get(number, ((number,), ("begin", None)))
         if turn == "begin" or turn == "behind" and behind != pc:
-            return self.entered((number,), pc), True
+            return self.entered((number,), pc)
         if turn in ("return", "swap") and len(path) > 2:
             path = path[:-1]
         if turn in ("call", "swap"):
-            return self.entered(path, pc), True
-        return path, False
+            return self.entered(path, pc)
+        return path
 
     def turn_of(self, thread):
         pc, memory = thread.pc, self.machine.memory
@@ -71,10 +71,7 @@ class Profile:
     def step(self, hart):
         number = self.machine.harts[hart]
         thread = self.machine.threads[number]
-        pc = thread.pc
-        path, is_begun = self.arrive(number, pc)
-        self.at[pc] += 1
-        self.called[pc] += is_begun
+        path = self.arrive(number, thread.pc)
         self.by[number] += 1
         self.stacks[path][1] += 1
         self.places[number] = path, self.turn_of(thread)
@@ -95,31 +92,28 @@ class Profile:
                 break
 
     def functions(self):
-        """Address, calls and steps of each, and how many steps were made elsewhere."""
-        end = self.machine.memory.end
-        starts = sorted({4096} | {pc for pc, count in self.called.items() if count and 4096 <= pc < end})
-        inside = {pc: count for pc, count in self.at.items() if 4096 <= pc < end}
-        rows = []
-        for begin, behind in zip(starts, [*starts[1:], end]):
-            rows.append((begin, self.called[begin], sum(count for pc, count in inside.items() if begin <= pc < behind)))
-        return rows, sum(self.at.values()) - sum(inside.values())
+        """Calls and steps of each, by its address: those of the stacks on top of which it is."""
+        rows = {}
+        for path, (calls, steps) in self.stacks.items():
+            before = rows.get(path[-1], (0, 0))
+            rows[path[-1]] = before[0] + calls, before[1] + steps
+        return rows
 
     def share(self, steps):
         hundredths = steps * 10_000 // self.by.total() if self.by else 0
         return f"{hundredths // 100:4}.{hundredths % 100:02}%{steps:18}  "
 
-    def section(self, head, rows, rest=0):
+    def section(self, head, rows):
         """Rows of steps and a text, the most steps first."""
         ranked = sorted((row for row in rows if row[0]), key=lambda row: -row[0])
         lines = ["", f"  share             steps  {head}", *(self.share(steps) + text for steps, text in ranked[:TOP])]
         if others := sum(steps for steps, _ in ranked[TOP:]):
             lines.append(self.share(others) + "others")
-        return lines + ([self.share(rest) + "elsewhere"] if rest else [])
+        return lines
 
     def table(self):
-        rows, elsewhere = self.functions()
         return [f"steps {self.by.total()}",
-                *self.section("function", [(steps, f"pc {address_text(pc)}, calls {calls}") for pc, calls, steps in rows], elsewhere),
+                *self.section("function", [(steps, f"pc {address_text(pc)}, calls {calls}") for pc, (calls, steps) in self.functions().items()]),
                 *self.section("thread", [(steps, f"thread {number}") for number, steps in sorted(self.by.items())]),
                 *self.section("wait", [(steps, text) for text, steps in self.waits.items()])]
 

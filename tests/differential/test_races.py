@@ -162,7 +162,7 @@ class Locks(WithKeys):
 
     def test_locks_that_count_as_one(self):
         self.no_race((2, locked(store())), (3, locked(load(), 0x5000)))
-        self.is_open((2, locked(store())), (3, locked(load(), 0x2001)))
+        self.race((2, locked(store())), (3, locked(load(), 0x2001)))
         self.race((2, locked(store())), (3, [*call(Call.RWLOCK_WRLOCK, 0x2000), *load()]))
 
     def test_levels(self):
@@ -255,11 +255,11 @@ class Requests(WithKeys):
         self.race((3, call(Call.SETCANCELSTATE, 1)), (2, self.CANCELS), (3, [*call(Call.TESTCANCEL), *load()]))
         self.race((3, self.PUSHED), (2, [*call(Call.CANCEL, 3), *store()]), (3, call(Call.TESTCANCEL)), (3, 3), routines=self.HANDLER)
 
-    def test_left_open(self):
-        """A thread that ends where it acts, and one that unwinds by itself."""
-        self.is_open((3, call(Call.GETC)), (2, self.CANCELS), (1, [*call(Call.JOIN, 3), *load()]))
+    def test_ends(self):
+        """A thread that ends where it acts has seen who cancelled it; one that unwinds by itself hasn't."""
+        self.no_race((3, call(Call.GETC)), (2, self.CANCELS), (1, [*call(Call.JOIN, 3), *load()]))
         left = [*self.PUSHED, *call(Call.SETCANCELSTATE, 1)]
-        self.is_open((3, left), (2, self.CANCELS), (3, call(Call.THREAD_EXIT, 0)), (3, 3), routines=self.HANDLER)
+        self.race((3, left), (2, self.CANCELS), (3, call(Call.THREAD_EXIT, 0)), (3, 3), routines=self.HANDLER)
 
 
 class Stretches(WithKeys):

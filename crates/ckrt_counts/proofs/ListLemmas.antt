@@ -1,6 +1,7 @@
 -- The row that is looked for.
-use Rattle.std.proofs.Common.{◌≡◌, ◌<◌, ◌≤◌, ℕ, zero, suc, ◌+◌, nat_lt, Bool, true, false, if◌then◌else◌, List, [], ◌∷◌, length, drop, get_or, slice_get, Some, refl, sym, ap, ◌∙◌, arith}
+use Rattle.std.proofs.Common.{◌≡◌, ◌≢◌, ◌<◌, ◌≤◌, ◌==◌, ℕ, zero, suc, ◌+◌, nat_lt, Bool, true, false, if◌then◌else◌, List, [], ◌∷◌, ◌++◌, length, drop, get_or, slice_get, slice_set, Some, refl, sym, ap, ◌∙◌, subst, arith}
 use Rattle.std.proofs.lemmas.Option.{slice_get-get_or}
+use Rattle.ckrt_counts.specs.declared.functions.Function.{Function}
 use Rattle.ckrt_counts.specs.declared.row.Base.{Base}
 use Rattle.ckrt_counts.specs.declared.row.Row.{Row}
 use Rattle.ckrt_counts.specs.declared.waits.Awaited.{Awaited}
@@ -8,6 +9,7 @@ use Rattle.ckrt_counts.specs.declared.waits.Waited.{Waited}
 use Rattle.std.proofs.lemmas.Bool.Decides.{nat_tests}
 use Rattle.std.specs.List.{insert}
 use Rattle.ckrt_counts.specs.declared.shares.Share.{Share}
+use Rattle.ckrt_counts.specs.Functions.{first_of, function_place, joined, with_stack}
 use Rattle.ckrt_counts.specs.Shares.{placed, rank_of}
 use Rattle.ckrt_counts.specs.Stacks.{is_row, place_of}
 use Rattle.ckrt_counts.specs.Waits.{is_waited, wait_place}
@@ -78,6 +80,56 @@ row_further b p rs i r read lt is =
 
 pub no_row_ahead : (b : Base) (p : ℕ) (rs : List Row) (i : ℕ) → length rs ≤ i → place_of b p (drop i rs) ≡ 0
 no_row_ahead b p rs i le = place_is_first b p (drop i rs) ∙ none_ahead (is_row b p) rs i le
+
+-- A FUNCTION
+
+abbrev pub is_at : ℕ → Function → Bool
+is_at p f = f.entry == p
+
+function_is_first : (p : ℕ) (fs : List Function) → function_place p fs ≡ first (is_at p) fs
+function_is_first p [] = refl
+function_is_first p (f ∷ fs) = ap (λ n. if f.entry == p then 0 else suc n) (function_is_first p fs)
+
+pub function_here : (p : ℕ) (fs : List Function) (i : ℕ) (f : Function) → f ≡ get_or fs i f → i < length fs → f.entry ≡ p → function_place p (drop i fs) ≡ 0
+function_here p fs i f read lt is = function_is_first p (drop i fs) ∙ here (is_at p) fs i f (read_at fs i f read lt) (grind (arith, nat_tests, is))
+
+pub function_further : (p : ℕ) (fs : List Function) (i : ℕ) (f : Function) → f ≡ get_or fs i f → i < length fs → f.entry ≢ p → function_place p (drop i fs) ≡ suc (function_place p (drop (i + 1) fs))
+function_further p fs i f read lt is =
+    function_is_first p (drop i fs) ∙ not_here (is_at p) fs i f (read_at fs i f read lt) (grind (arith, nat_tests, is))
+    ∙ ap suc (ap (λ j. first (is_at p) (drop j fs)) (sym one) ∙ sym (function_is_first p (drop (i + 1) fs)))
+  where
+    one : i + 1 ≡ suc i
+    one = omega arith
+
+pub no_function_ahead : (p : ℕ) (fs : List Function) (i : ℕ) → length fs ≤ i → function_place p (drop i fs) ≡ 0
+no_function_ahead p fs i le = function_is_first p (drop i fs) ∙ none_ahead (is_at p) fs i le
+
+-- a stack joins the one at its place
+pub joined_there : (r : Row) (fs : List Function) (i : ℕ) (f : Function) → f ≡ get_or fs i f → i < length fs → i ≡ function_place r.entry fs → slice_set fs i (joined f r) ≡ with_stack r fs
+joined_there r fs i f read less there =
+    let is : slice_get fs (function_place r.entry fs) ≡ Some f = subst (λ k. slice_get fs k ≡ Some f) there (read_at fs i f read less) in
+    ap (λ k. slice_set fs k (joined f r)) there ∙ joins r fs f is
+  where
+    joins : (r : Row) (fs : List Function) (f : Function) → slice_get fs (function_place r.entry fs) ≡ Some f → slice_set fs (function_place r.entry fs) (joined f r) ≡ with_stack r fs
+    joins r [] f there = absurd (cc)
+    joins r (g ∷ fs) f there = go (g.entry == r.entry) (joins r fs f) there
+      where
+        go : (t : Bool) → (slice_get fs (function_place r.entry fs) ≡ Some f → slice_set fs (function_place r.entry fs) (joined f r) ≡ with_stack r fs)
+            → slice_get (g ∷ fs) (if t then 0 else suc (function_place r.entry fs)) ≡ Some f
+            → slice_set (g ∷ fs) (if t then 0 else suc (function_place r.entry fs)) (joined f r) ≡ (if t then joined g r ∷ fs else g ∷ with_stack r fs)
+        go true rest is = (let same : g ≡ f = cc in ap (λ (h : Function). joined h r ∷ fs) (sym same))
+        go false rest is = ap (λ l. g ∷ l) (rest is)
+
+-- or stands behind all, where there is none
+pub joined_last : (r : Row) (fs : List Function) → length fs ≤ function_place r.entry fs → fs ++ first_of r ∷ [] ≡ with_stack r fs
+joined_last r [] le = refl
+joined_last r (g ∷ fs) le = go (g.entry == r.entry) (joined_last r fs) le
+  where
+    go : (t : Bool) → (length fs ≤ function_place r.entry fs → fs ++ first_of r ∷ [] ≡ with_stack r fs)
+        → suc (length fs) ≤ (if t then 0 else suc (function_place r.entry fs))
+        → g ∷ (fs ++ first_of r ∷ []) ≡ (if t then joined g r ∷ fs else g ∷ with_stack r fs)
+    go true rest fewer = absurd (omega (arith, fewer))
+    go false rest fewer = ap (λ l. g ∷ l) (rest (omega (arith, fewer)))
 
 -- A SHARE
 

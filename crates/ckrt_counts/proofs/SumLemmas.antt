@@ -1,5 +1,5 @@
 -- Each step counts once: sums of lists of which one item counts one more.
-use Rattle.std.proofs.Common.{◌≡◌, ◌<◌, ◌≤◌, ℕ, zero, suc, ◌+◌, ◌*◌, ◌==◌, min, Bool, true, false, if◌then◌else◌, nat_lt, List, [], ◌∷◌, ◌++◌, length, get_or, slice_get, slice_set, replicate, Option, Some, None, refl, sym, ap, ◌∙◌, subst, arith}
+use Rattle.std.proofs.Common.{◌≡◌, ◌<◌, ℕ, zero, suc, ◌+◌, ◌*◌, ◌==◌, Bool, true, false, if◌then◌else◌, nat_lt, List, [], ◌∷◌, ◌++◌, length, get_or, slice_get, slice_set, replicate, Option, Some, None, refl, sym, ap, ◌∙◌, subst, arith}
 use Rattle.std.proofs.lemmas.Bool.Decides.{nat_tests}
 use Rattle.std.proofs.lemmas.List.Sums.{sum_by-append, sum_by-cons}
 use Rattle.std.proofs.lemmas.List.Folds.{sum_by-replicate}
@@ -18,10 +18,8 @@ use Rattle.ckrt_counts.specs.declared.stacks.Frame.{Frame}
 use Rattle.ckrt_counts.specs.declared.stacks.TheConstants.{THREADS}
 use Rattle.ckrt_counts.specs.declared.turn.Turn.{Turn}
 use Rattle.ckrt_counts.specs.declared.turn.Turn.TheVariants as turn
-use Rattle.ckrt_counts.specs.declared.words.Word.{Word}
 use Rattle.ckrt_counts.specs.Stacks as stacks
-use Rattle.ckrt_counts.specs.Stacks.{Counted, Entered, Stacks, arrived, begin, bottom, counted, counted_at, entered, entered_at, first_row, frame_of, left, met_frame, next_frame, no_stacks, one_more, place_of, row_at, stepped, with_row}
-use Rattle.ckrt_counts.specs.Words.{Words, no_word, no_words, word_behind, word_of, word_stepped, word_stepped_at}
+use Rattle.ckrt_counts.specs.Stacks.{Counted, Entered, Stacks, arrived, begin, bottom, counted, counted_at, entered, entered_at, first_row, frame_of, left, met_frame, next_frame, no_stacks, one_more, place_of, row_at, stepped, together, with_row}
 use Rattle.ckrt_counts.specs.Counts.{Counts, behind, behind_all, nothing, number_of}
 use Rattle.ckrt_counts.specs.Laws.{CountsSteps, EachStepCountsOnce, steps_in}
 
@@ -57,9 +55,6 @@ module _ {X : Type 0} (f : X → ℕ) where
 
 abbrev pub row_steps : List Row → ℕ
 row_steps rs = sum_by (λ (r : Row). r.steps) rs
-
-abbrev pub word_steps : List Word → ℕ
-word_steps ws = sum_by (λ (w : Word). w.steps) ws
 
 abbrev pub frame_steps : List Frame → ℕ
 frame_steps fs = sum_by (λ (f : Frame). f.steps) fs
@@ -113,7 +108,7 @@ total_of c = row_steps c.rows + c.unkept
 unkept_once : (rows : List Row) (n : ℕ) → row_steps rows + n < 18446744073709551615 → row_steps rows + one_more n ≡ suc (row_steps rows + n)
 unkept_once rows n lt = (let one : one_more n ≡ suc n = more_is n (omega (arith, lt)) in omega (arith, one))
 
-count_at_once : (b : Base) (o : Option Row) (rows : List Row) (n : ℕ) → row_at b rows ≡ o → row_steps rows + n < 18446744073709551615 → total_of (counted_at b o rows n) ≡ suc (row_steps rows + n)
+count_at_once : (b : Base) (o : Option Row) (rows : List Row) (n : ℕ) → row_at b rows ≡ o → row_steps rows + n < 18446744073709551615 → total_of (counted_at 1 b o rows n) ≡ suc (row_steps rows + n)
 count_at_once (base.Row k) (Some r) rows n there lt =
     let one : row_steps (slice_set rows k (record r { steps = one_more r.steps })) ≡ suc (row_steps rows) =
     set_sum (λ (x : Row). x.steps) rows k r (record r { steps = one_more r.steps }) there refl (omega (arith, lt)) in
@@ -122,20 +117,12 @@ count_at_once (base.Row k) None rows n there lt = unkept_once rows n lt
 count_at_once (base.Thread t) (Some r) rows n there lt = unkept_once rows n lt
 count_at_once (base.Thread t) None rows n there lt = unkept_once rows n lt
 
-count_once : (q : Position) (rows : List Row) (n : ℕ) → row_steps rows + n < 18446744073709551615 → total_of (counted q rows n) ≡ suc (row_steps rows + n)
+count_once : (q : Position) (rows : List Row) (n : ℕ) → row_steps rows + n < 18446744073709551615 → total_of (counted 1 q rows n) ≡ suc (row_steps rows + n)
 count_once q rows n lt = go (q.lost == 0)
   where
-    go : (t : Bool) → total_of (if◌then◌else◌ {A = Counted} t (counted_at q.base (row_at q.base rows) rows n) (record { rows = rows; unkept = one_more n })) ≡ suc (row_steps rows + n)
+    go : (t : Bool) → total_of (if◌then◌else◌ {A = Counted} t (counted_at 1 q.base (row_at q.base rows) rows n) (record { rows = rows; unkept = one_more n })) ≡ suc (row_steps rows + n)
     go true = count_at_once q.base (row_at q.base rows) rows n refl lt
     go false = unkept_once rows n lt
-
-word_at_once : (pc : ℕ) (e : Bool) (o : Option Word) (w : Words) → slice_get w.words (word_of pc) ≡ o → word_steps w.words + w.outside < 18446744073709551615
-    → word_steps (word_stepped_at pc e o w).words + (word_stepped_at pc e o w).outside ≡ suc (word_steps w.words + w.outside)
-word_at_once pc e (Some x) w there lt =
-    let one : word_steps (slice_set w.words (word_of pc) (word_behind e x)) ≡ suc (word_steps w.words) =
-    set_sum (λ (y : Word). y.steps) w.words (word_of pc) x (word_behind e x) there refl (omega (arith, lt)) in
-    ap (λ m. m + w.outside) one ∙ omega arith
-word_at_once pc e None w there lt = (let one : one_more w.outside ≡ suc w.outside = more_is w.outside (omega (arith, lt)) in omega (arith, one))
 
 -- ALL STEPS
 
@@ -144,7 +131,7 @@ pub record IsCounted (c : Counts) (n : ℕ) : Type 0 where
   pub sums : CountsSteps c n
   pub threads : length c.stacks.frames ≡ THREADS
 
-number_small : (t : ℕ) → number_of t < THREADS
+pub number_small : (t : ℕ) → number_of t < THREADS
 number_small t = go (nat_lt t THREADS) refl
   where
     go : (b : Bool) → nat_lt t THREADS ≡ b → (if b then t else 0) < THREADS
@@ -155,14 +142,14 @@ read_frame : (fs : List Frame) (i : ℕ) → i < length fs → slice_get fs i �
 read_frame fs i lt = slice_get-get_or fs i begin lt
 
 stacks_once : (t p : ℕ) (u : Turn) (s : Stacks) (n : ℕ) → t < length s.frames → n < 18446744073709551615 → row_steps s.rows + s.unkept ≡ n → frame_steps s.frames ≡ n
-    → (row_steps (stepped t p u s).rows + (stepped t p u s).unkept ≡ suc n) × (frame_steps (stepped t p u s).frames ≡ suc n)
+    → (row_steps (stepped 1 t p u s).rows + (stepped 1 t p u s).unkept ≡ suc n) × (frame_steps (stepped 1 t p u s).frames ≡ suc n)
 stacks_once t p u s n lt less rows frames =
     let f = frame_of t s in
     let e = arrived t p f.position f.last s.rows in
     let same : row_steps e.rows ≡ row_steps s.rows = arrival_same t p f.position f.last s.rows in
     let now : row_steps e.rows + s.unkept ≡ n = ap (λ m. m + s.unkept) same ∙ rows in (
       count_once e.position e.rows s.unkept (omega (arith, now, less)) ∙ ap suc now,
-      set_sum (λ (x : Frame). x.steps) s.frames t f (next_frame f e.position u) (read_frame s.frames t lt) refl (omega (arith, frames, less)) ∙ ap suc frames,
+      set_sum (λ (x : Frame). x.steps) s.frames t f (next_frame 1 f e.position u) (read_frame s.frames t lt) refl (omega (arith, frames, less)) ∙ ap suc frames,
     )
 
 step_once : (s : Step) (c : Counts) (n : ℕ) → n < 18446744073709551615 → IsCounted c n → IsCounted (behind (note.Step s) c) (suc n)
@@ -171,11 +158,9 @@ step_once s c n less is =
     let f = frame_of t c.stacks in
     let there : t < length c.stacks.frames = omega (arith, number_small s.thread, is.threads) in
     let both = stacks_once t s.pc s.turn c.stacks n there less is.sums.by_stack is.sums.by_thread in
-    let e = stacks.is_entry s.pc f.last in
-    let word = word_at_once s.pc e (slice_get c.words.words (word_of s.pc)) c.words refl (omega (arith, is.sums.by_address, less)) in
     record {
-      sums = record { by_address = word ∙ ap suc is.sums.by_address; by_stack = both.0; by_thread = both.1 };
-      threads = length-set c.stacks.frames t (next_frame f (arrived t s.pc f.position f.last c.stacks.rows).position s.turn) ∙ is.threads;
+      sums = record { by_stack = both.0; by_thread = both.1 };
+      threads = length-set c.stacks.frames t (next_frame 1 f (arrived t s.pc f.position f.last c.stacks.rows).position s.turn) ∙ is.threads;
     }
 
 -- a thread that is met makes no step
@@ -187,7 +172,6 @@ met_same thread p c n is =
     let there : t < length c.stacks.frames = omega (arith, number_small thread, is.threads) in
     record {
       sums = record {
-        by_address = is.sums.by_address;
         by_stack = ap (λ m. m + c.stacks.unkept) (entry_same (bottom t) p c.stacks.rows) ∙ is.sums.by_stack;
         by_thread = set_same (λ (x : Frame). x.steps) c.stacks.frames t f (met_frame f e.position p) (read_frame c.stacks.frames t there) refl ∙ is.sums.by_thread;
       };
@@ -200,13 +184,12 @@ all_once (note.Met t p ∷ ns) c n less is = all_once ns (behind (note.Met t p) 
 all_once (note.Step s ∷ ns) c n less is =
     subst (IsCounted (behind_all ns (behind (note.Step s) c))) (omega arith)
     (all_once ns (behind (note.Step s) c) (suc n) (omega (arith, less)) (step_once s c n (omega (arith, less)) is))
-all_once (note.Wait t a ∷ ns) c n less is = all_once ns (behind (note.Wait t a) c) n less (record { sums = record { by_address = is.sums.by_address; by_stack = is.sums.by_stack; by_thread = is.sums.by_thread }; threads = is.threads })
-all_once (note.Looked ∷ ns) c n less is = all_once ns (behind note.Looked c) n less (record { sums = record { by_address = is.sums.by_address; by_stack = is.sums.by_stack; by_thread = is.sums.by_thread }; threads = is.threads })
+all_once (note.Wait t a ∷ ns) c n less is = all_once ns (behind (note.Wait t a) c) n less (record { sums = record { by_stack = is.sums.by_stack; by_thread = is.sums.by_thread }; threads = is.threads })
+all_once (note.Looked ∷ ns) c n less is = all_once ns (behind note.Looked c) n less (record { sums = record { by_stack = is.sums.by_stack; by_thread = is.sums.by_thread }; threads = is.threads })
 
-begin_counted : (words : ℕ) → IsCounted (nothing words) 0
-begin_counted words = record {
+begin_counted : IsCounted nothing 0
+begin_counted = record {
   sums = record {
-    by_address = ap (λ m. m + 0) (none_sum (λ (w : Word). w.steps) words no_word refl);
     by_stack = refl;
     by_thread = none_sum (λ (f : Frame). f.steps) 65 begin refl;
   };
@@ -214,4 +197,4 @@ begin_counted words = record {
 }
 
 pub each_counts_once : EachStepCountsOnce
-each_counts_once ns words less = (subst (IsCounted (behind_all ns (nothing words))) (omega arith) (all_once ns (nothing words) 0 (omega (arith, less)) (begin_counted words))).sums
+each_counts_once ns less = (subst (IsCounted (behind_all ns nothing)) (omega arith) (all_once ns nothing 0 (omega (arith, less)) begin_counted)).sums

@@ -5,23 +5,18 @@ use Rattle.ckrt_counts.specs.declared.counts.Note.TheVariants as note
 use Rattle.ckrt_counts.specs.declared.counts.Step.{Step}
 use Rattle.ckrt_counts.specs.declared.stacks.Stacks as declared_stacks
 use Rattle.ckrt_counts.specs.declared.stacks.TheConstants.{THREADS}
-use Rattle.ckrt_counts.specs.declared.words.Words as declared_words
+use Rattle.ckrt_counts.specs.declared.turn.Turn.TheVariants as turn
 use Rattle.ckrt_counts.specs.declared.waits.Waits as declared_waits
-use Rattle.ckrt_counts.specs.Stacks.{Stacks, frame_of, is_entry, met, no_stacks, stepped}
-use Rattle.ckrt_counts.specs.Words.{Words, no_words, word_stepped}
+use Rattle.ckrt_counts.specs.Stacks.{Stacks, met, no_stacks, stepped}
 use Rattle.ckrt_counts.specs.Waits.{Waits, looked, no_waits, passed, waited}
 
 abbrev pub stacks_in : declared_stacks.Stacks → Stacks
 stacks_in s = record { rows = s.rows.items; unkept = s.unkept; frames = s.frames }
 
-abbrev pub words_in : declared_words.Words → Words
-words_in w = record { words = w.words.items; outside = w.outside }
-
 abbrev pub waits_in : declared_waits.Waits → Waits
 waits_in w = record { rows = w.rows.items; unkept = w.unkept; since = w.since }
 
 pub record Counts : Type 0 where
-  pub words : Words
   pub stacks : Stacks
   pub waits : Waits
 
@@ -32,9 +27,8 @@ number_of t = if nat_lt t THREADS then t else 0
 -- behind a step of the thread with this number
 abbrev pub behind_step : (t : ℕ) → Step → Counts → Counts
 behind_step t s c = record {
-  words = word_stepped s.pc (is_entry s.pc (frame_of t c.stacks).last) c.words;
-  stacks = stepped t s.pc s.turn c.stacks;
-  waits = passed c.waits;
+  stacks = stepped 1 t s.pc s.turn c.stacks;
+  waits = passed 1 c.waits;
 }
 
 abbrev pub behind : Note → Counts → Counts
@@ -48,6 +42,12 @@ abbrev pub behind_all : List Note → Counts → Counts
 behind_all [] c = c
 behind_all (n ∷ ns) c = behind_all ns (behind n c)
 
--- nothing was done yet in a memory of so many words
-abbrev pub nothing : (words : ℕ) → Counts
-nothing n = record { words = no_words n; stacks = no_stacks; waits = no_waits }
+-- steps of a thread at these addresses, from each of which it goes on in the same function
+abbrev pub onward : (t : ℕ) → (pcs : List ℕ) → List Note
+onward t [] = []
+onward t (p ∷ ps) =
+    note.Step (record { thread = t; pc = p; turn = turn.Onward }) ∷ onward t ps
+
+-- nothing was done yet
+abbrev pub nothing : Counts
+nothing = record { stacks = no_stacks; waits = no_waits }

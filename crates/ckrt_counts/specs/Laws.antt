@@ -13,14 +13,13 @@ steps_in (note.Step s ∷ ns) = 1 + steps_in ns
 steps_in (note.Wait t a ∷ ns) = steps_in ns
 steps_in (note.Looked ∷ ns) = steps_in ns
 
--- so many steps: by address, by stack, and by thread
+-- so many steps: by stack, and by thread
 pub record CountsSteps (c : Counts) (n : ℕ) : Type 0 where
-  pub by_address : sum_by (λ w. w.steps) c.words.words + c.words.outside ≡ n
   pub by_stack : sum_by (λ r. r.steps) c.stacks.rows + c.stacks.unkept ≡ n
   pub by_thread : sum_by (λ f. f.steps) c.stacks.frames ≡ n
 
--- EACH STEP COUNTS ONCE, at its address, on its stack and for its thread, so the sums of what is counted are the steps
+-- EACH STEP COUNTS ONCE, on its stack and for its thread, so the sums of what is counted are the steps
 abbrev pub EachStepCountsOnce : Type 0
 EachStepCountsOnce =
-    (ns : List Note) (words : ℕ) → steps_in ns < 2 ^ 64
-    → CountsSteps (behind_all ns (nothing words)) (steps_in ns)
+    (ns : List Note) → steps_in ns < 2 ^ 64
+    → CountsSteps (behind_all ns nothing) (steps_in ns)

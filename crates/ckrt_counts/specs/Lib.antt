@@ -1,6 +1,6 @@
 pub mod Turns
 pub mod Stacks
-pub mod Words
+pub mod Functions
 pub mod Waits
 pub mod Counts
 pub mod Shares

@@ -1,36 +1,26 @@
 -- What was counted, by function, by thread and by wait, and that with the most steps first.
-use Rattle.std.specs.Prelude.{ℕ, suc, ◌+◌, ◌%◌, nat_lt, Bool, if◌then◌else◌, List, [], ◌∷◌, map}
+use Rattle.std.specs.Prelude.{ℕ, suc, ◌+◌, nat_lt, if◌then◌else◌, List, [], ◌∷◌, map}
+use Rattle.ckrt_counts.specs.declared.functions.Function.{Function}
+use Rattle.ckrt_counts.specs.declared.row.Row.{Row}
 use Rattle.ckrt_counts.specs.declared.shares.Share.{Share}
-use Rattle.ckrt_counts.specs.declared.shares.Subject.{Subject}
 use Rattle.ckrt_counts.specs.declared.shares.Subject.TheVariants as subject
 use Rattle.ckrt_counts.specs.declared.stacks.Frame.{Frame}
 use Rattle.ckrt_counts.specs.declared.waits.Waited.{Waited}
-use Rattle.ckrt_counts.specs.declared.words.Word.{Word}
-use Rattle.ckrt_counts.specs.Waits.{together}
+use Rattle.ckrt_counts.specs.Functions.{functions_of}
+use Rattle.ckrt_counts.specs.Stacks.{together}
 use Rattle.ckrt_counts.specs.Counts.{Counts}
 
--- FUNCTIONS: one is what is from a word that was called up to the next. The first begins with the memory.
+-- FUNCTIONS
 
--- one that begins with the word at this address
-abbrev pub begun : (address : ℕ) → Word → Share
-begun a w = record { steps = w.steps; subject = subject.Function a w.calls }
+abbrev pub function_share : Function → Share
+function_share f = record { steps = f.steps; subject = subject.Function f.entry f.calls }
 
-abbrev pub with_word : Share → Word → Share
-with_word f w = record f { steps = together f.steps w.steps }
+abbrev pub function_shares : List Function → List Share
+function_shares fs = map function_share fs
 
-abbrev pub next : (address : ℕ) → ℕ
-next a = (a + 4) % 4294967296
-
--- the functions of words, the first of which stands at this address, where this function comes before
-abbrev pub spans : (address : ℕ) → Share → List Word → List Share
-spans a f [] = f ∷ []
-spans a f (w ∷ ws) =
-    if nat_lt 0 w.calls then f ∷ spans (next a) (begun a w) ws
-    else spans (next a) (with_word f w) ws
-
-abbrev pub functions : List Word → List Share
-functions [] = []
-functions (w ∷ ws) = spans 4100 (begun 4096 w) ws
+-- those of stacks
+abbrev pub functions : List Row → List Share
+functions rows = function_shares (functions_of rows)
 
 -- THREADS, the first of which has this number
 

@@ -1,6 +1,6 @@
 -- The stack of calls of each thread, and how many steps were made on each stack (this project's choice): a call puts a function onto
 -- the stack, a return takes one away, and each step counts to the stack on which it is made.
-use Rattle.std.specs.Prelude.{ℕ, suc, ◌+◌, ◌-◌, ◌==◌, nat_lt, min, Bool, true, false, ◌&&◌, not, if◌then◌else◌, List, [], ◌∷◌, ◌++◌, length, get_or, slice_get, slice_set, replicate, Option, Some, None}
+use Rattle.std.specs.Prelude.{ℕ, suc, ◌+◌, ◌-◌, ◌==◌, nat_lt, min, Bool, false, ◌&&◌, if◌then◌else◌, List, [], ◌∷◌, ◌++◌, length, get_or, slice_get, slice_set, replicate, Option, Some, None}
 use Rattle.ckrt_counts.specs.declared.row.Base.{Base}
 use Rattle.ckrt_counts.specs.declared.row.Base.TheVariants as base
 use Rattle.ckrt_counts.specs.declared.row.Row.{Row}
@@ -10,9 +10,12 @@ use Rattle.ckrt_counts.specs.declared.stacks.Frame.{Frame}
 use Rattle.ckrt_counts.specs.declared.turn.Turn.{Turn}
 use Rattle.ckrt_counts.specs.declared.turn.Turn.TheVariants as turn
 
--- one more, as far as 64 bits count
+-- two together, as far as 64 bits count
+abbrev pub together : ℕ → ℕ → ℕ
+together n m = min (n + m) 18446744073709551615
+
 abbrev pub one_more : ℕ → ℕ
-one_more n = min (n + 1) 18446744073709551615
+one_more n = together n 1
 
 -- ROWS: the row of a function on its base
 
@@ -80,22 +83,22 @@ below q (Some r) = on_base q r.base
 abbrev pub left : Position → List Row → Position
 left q rows = if q.lost == 0 then below q (row_at q.base rows) else record q { lost = q.lost - 1 }
 
--- A STEP counts to the row of its stack, or to those without
+-- STEPS, so many on one stack, count to its row, or to those without
 
 pub record Counted : Type 0 where
   pub rows : List Row
   pub unkept : ℕ
 
-abbrev pub counted_at : Base → Option Row → List Row → (unkept : ℕ) → Counted
-counted_at (base.Row k) (Some r) rows n =
-    record { rows = slice_set rows k (record r { steps = one_more r.steps }); unkept = n }
-counted_at (base.Row k) None rows n = record { rows = rows; unkept = one_more n }
-counted_at (base.Thread t) o rows n = record { rows = rows; unkept = one_more n }
+abbrev pub counted_at : (m : ℕ) → Base → Option Row → List Row → (unkept : ℕ) → Counted
+counted_at m (base.Row k) (Some r) rows n =
+    record { rows = slice_set rows k (record r { steps = together r.steps m }); unkept = n }
+counted_at m (base.Row k) None rows n = record { rows = rows; unkept = together n m }
+counted_at m (base.Thread t) o rows n = record { rows = rows; unkept = together n m }
 
-abbrev pub counted : Position → List Row → (unkept : ℕ) → Counted
-counted q rows n =
-    if q.lost == 0 then counted_at q.base (row_at q.base rows) rows n
-    else record { rows = rows; unkept = one_more n }
+abbrev pub counted : (m : ℕ) → Position → List Row → (unkept : ℕ) → Counted
+counted m q rows n =
+    if q.lost == 0 then counted_at m q.base (row_at q.base rows) rows n
+    else record { rows = rows; unkept = together n m }
 
 -- WHERE A THREAD COMES TO, by how it went on from its step before. A thread begins a stack anew with its first step, and where the runtime
 -- lets it go on elsewhere than behind its call: in a clean-up handler or a destructor, or as another thread of the same number.
@@ -115,15 +118,6 @@ arrived t p q (Some turn.Swap) rows = entered (left q rows) p rows
 arrived t p q (Some (turn.Runtime e)) rows =
     if e == p then stays q rows else entered (bottom t) p rows
 
--- whether it comes to the first instruction of a function by that
-abbrev pub is_entry : (p : ℕ) → Option Turn → Bool
-is_entry p None = true
-is_entry p (Some turn.Onward) = false
-is_entry p (Some turn.Call) = true
-is_entry p (Some turn.Return) = false
-is_entry p (Some turn.Swap) = true
-is_entry p (Some (turn.Runtime e)) = not (e == p)
-
 -- ALL STACKS: the rows, the steps without one, and of each thread where it is, how it goes on from there, and how many steps it made
 
 pub record Stacks : Type 0 where
@@ -137,21 +131,23 @@ begin = record { position = record { base = base.Thread 0; lost = 0 }; last = No
 abbrev pub frame_of : (t : ℕ) → Stacks → Frame
 frame_of t s = get_or s.frames t begin
 
-abbrev pub next_frame : Frame → Position → Turn → Frame
-next_frame f q u = record { position = q; last = Some u; steps = one_more f.steps }
+-- behind m steps on a stack, from the last of which the thread goes on so
+abbrev pub next_frame : (m : ℕ) → Frame → Position → Turn → Frame
+next_frame m f q u = record { position = q; last = Some u; steps = together f.steps m }
 
--- behind a step of a thread that came there so
-abbrev pub stepped_from : (t : ℕ) → Turn → Frame → Entered → Stacks → Stacks
-stepped_from t u f e s = record {
-  rows = (counted e.position e.rows s.unkept).rows;
-  unkept = (counted e.position e.rows s.unkept).unkept;
-  frames = slice_set s.frames t (next_frame f e.position u);
+-- the same of all stacks, where the thread came to its one so
+abbrev pub stepped_from : (m t : ℕ) → Turn → Frame → Entered → Stacks → Stacks
+stepped_from m t u f e s = record {
+  rows = (counted m e.position e.rows s.unkept).rows;
+  unkept = (counted m e.position e.rows s.unkept).unkept;
+  frames = slice_set s.frames t (next_frame m f e.position u);
 }
 
--- behind a step of a thread, at the instruction at p, from which it goes on so
-abbrev pub stepped : (t p : ℕ) → Turn → Stacks → Stacks
-stepped t p u s =
-    stepped_from t u (frame_of t s) (arrived t p (frame_of t s).position (frame_of t s).last s.rows) s
+-- behind m steps of a thread on one stack, the first of them at p, from the last of which it goes on so
+abbrev pub stepped : (m t p : ℕ) → Turn → Stacks → Stacks
+stepped m t p u s =
+    stepped_from m t u (frame_of t s)
+    (arrived t p (frame_of t s).position (frame_of t s).last s.rows) s
 
 -- A thread that made steps before, whose next is at p: its stack begins there, by no call
 abbrev pub met_frame : Frame → Position → (p : ℕ) → Frame

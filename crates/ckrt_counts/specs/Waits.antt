@@ -1,10 +1,10 @@
 -- How long threads waited, in steps that were made meanwhile, by the thread and what it waited for.
-use Rattle.std.specs.Prelude.{ℕ, suc, ◌+◌, ◌==◌, nat_lt, min, Bool, true, false, ◌&&◌, if◌then◌else◌, List, [], ◌∷◌, ◌++◌, length, slice_get, slice_set, Option, Some, None}
+use Rattle.std.specs.Prelude.{ℕ, suc, ◌==◌, nat_lt, Bool, true, false, ◌&&◌, if◌then◌else◌, List, [], ◌∷◌, ◌++◌, length, slice_get, slice_set, Option, Some, None}
 use Rattle.ckrt_counts.specs.declared.waits.Awaited.{Awaited}
 use Rattle.ckrt_counts.specs.declared.waits.Awaited.TheVariants as awaited
 use Rattle.ckrt_counts.specs.declared.waits.Waited.{Waited}
 use Rattle.ckrt_counts.specs.declared.waits.TheConstants.{WAITS}
-use Rattle.ckrt_counts.specs.Stacks.{one_more}
+use Rattle.ckrt_counts.specs.Stacks.{together}
 
 -- of each thread and what it waited for; how long threads waited for which no row was left; and how many steps were made since waits
 -- were counted
@@ -12,10 +12,6 @@ pub record Waits : Type 0 where
   pub rows : List Waited
   pub unkept : ℕ
   pub since : ℕ
-
--- two together, as far as 64 bits count
-abbrev pub together : ℕ → ℕ → ℕ
-together n m = min (n + m) 18446744073709551615
 
 abbrev pub is_awaited : Awaited → Awaited → Bool
 is_awaited awaited.Input awaited.Input = true
@@ -51,9 +47,9 @@ waited_at t a k (Some w) s =
 abbrev pub waited : (t : ℕ) → Awaited → Waits → Waits
 waited t a s = waited_at t a (wait_place t a s.rows) (slice_get s.rows (wait_place t a s.rows)) s
 
--- one step more
-abbrev pub passed : Waits → Waits
-passed s = record s { since = one_more s.since }
+-- so many steps more
+abbrev pub passed : (m : ℕ) → Waits → Waits
+passed m s = record s { since = together s.since m }
 
 -- all waits are counted
 abbrev pub looked : Waits → Waits

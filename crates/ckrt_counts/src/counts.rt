@@ -1,5 +1,5 @@
 //! All that is counted.
-ghost use Rattle.std.specs.Prelude.{◌≡◌, IfOk};
+ghost use Rattle.std.specs.Prelude.{◌≡◌, ◌∷◌, ℕ, suc, List, length, IfOk};
 ghost use Rattle.ckrt_counts.specs.Counts.{number_of};
 ghost use Rattle.ckrt_counts.specs.declared.counts.Note.TheVariants as note;
 
@@ -7,7 +7,6 @@ use crate::row::Row;
 use crate::stacks::{Frame, Stacks, THREADS};
 use crate::turn::Turn;
 use crate::waits::{Awaited, Waited, Waits};
-use crate::words::{Word, Words};
 use std::alloc::{AllocError, Global};
 use std::marker::Model;
 
@@ -37,18 +36,16 @@ pub enum Note {
 /// Where the steps of a run went, and how long threads waited.
 #[derive(Drop)]
 pub struct Counts {
-    words: Words,
     stacks: Stacks,
     waits: Waits,
 }
 
 impl Model for Counts {
-    ghost use Rattle.ckrt_counts.specs.Counts.{Counts, stacks_in, waits_in, words_in};
+    ghost use Rattle.ckrt_counts.specs.Counts.{Counts, stacks_in, waits_in};
 
     ghost Value = { Counts };
 
     ghost view = { λ c. record {
-      words = words_in c.words;
       stacks = stacks_in c.stacks;
       waits = waits_in c.waits;
     } };
@@ -66,18 +63,17 @@ fn number_of(thread: u8) -> u8
 }
 
 impl Counts {
-    ghost use Rattle.ckrt_counts.specs.Counts.{behind, behind_step, nothing};
+    ghost use Rattle.ckrt_counts.specs.Counts.{behind, behind_all, behind_step, nothing, onward};
 
-    /// Nothing was done yet in a memory of so many words. It takes 16 bytes for each of these, and 60 KB.
+    /// Nothing was done yet. It takes 60 KB.
     ///
     /// # Errors
     ///
     /// `AllocError` where memory was refused.
-    pub fn new(alloc: Global, words: usize) -> Result<Counts, AllocError>
-        ensures { IfOk result (λ counts. counts ≡ nothing words) }
+    pub fn new(alloc: Global) -> Result<Counts, AllocError>
+        ensures { IfOk result (λ counts. counts ≡ nothing) }
     {
         Ok(Counts {
-            words: Words::new(alloc, words)?,
             stacks: Stacks::new(alloc)?,
             waits: Waits::new(alloc)?,
         })
@@ -94,10 +90,24 @@ impl Counts {
     pub fn step(&mut self, step: &Step)
         ensures { self.new ≡ behind_step (number_of step.now.thread) step.now self.old }
     {
-        let thread = number_of(step.thread);
-        let is_entry = self.stacks.step(thread, step.pc, step.turn);
-        self.words.step(step.pc, is_entry);
-        self.waits.pass();
+        self.stacks
+            .step(number_of(step.thread), step.pc, step.turn, 1);
+        self.waits.pass(1);
+    }
+
+    /// So many steps of a thread were made, the first of them at `pc`, from each of which it goes on in the same function: wherever
+    /// the further ones are.
+    pub fn onward(&mut self, thread: u8, pc: u32, count: u32)
+        ensures none { count ≡ 0 → self.new ≡ self.old }
+        ensures some { (further : List ℕ) → suc (length further) ≡ count
+            → self.new ≡ behind_all (onward thread (pc ∷ further)) self.old }
+    {
+        if count == 0 {
+            return;
+        }
+        let count = u64::from(count);
+        self.stacks.step(number_of(thread), pc, Turn::Onward, count);
+        self.waits.pass(count);
     }
 
     /// The next note.
@@ -110,20 +120,6 @@ impl Counts {
             Note::Wait(thread, awaited) => self.waits.wait(*thread, *awaited),
             Note::Looked => self.waits.look(),
         }
-    }
-
-    /// What was counted of each word of memory, from 4,096 on.
-    pub fn words(&self) -> &[Word]
-        ensures { result.now ≡ self.now.words.words }
-    {
-        self.words.words.as_slice()
-    }
-
-    /// How many steps were made elsewhere: at a gate, or at an address that has no word.
-    pub fn outside(&self) -> u64
-        ensures { result ≡ self.now.words.outside }
-    {
-        self.words.outside
     }
 
     /// The stacks on which steps were made, each behind those that it stands on.

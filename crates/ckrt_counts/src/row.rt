@@ -162,17 +162,17 @@ pub(crate) fn leave(rows: &[Row], position: Position) -> Position
     }
 }
 
-/// A step at a position. Where it has no row, it is one of those without.
-pub(crate) fn count(rows: &mut Vec<Row>, unkept: &mut u64, position: Position)
+/// So many steps at a position. Where it has no row, they are some of those without.
+pub(crate) fn count(rows: &mut Vec<Row>, unkept: &mut u64, position: Position, steps: u64)
     requires room { rows_limit ≤ vec_capacity rows.old }
-    ensures rows { rows.new.items ≡ (counted position rows.old.items unkept.old).rows }
-    ensures unkept { unkept.new ≡ (counted position rows.old.items unkept.old).unkept }
+    ensures rows { rows.new.items ≡ (counted steps position rows.old.items unkept.old).rows }
+    ensures unkept { unkept.new ≡ (counted steps position rows.old.items unkept.old).unkept }
     ensures room { rows_limit ≤ vec_capacity rows.new }
 {
     match position.base {
         Base::Row(row) if position.lost == 0 && row < rows.len() => {
-            rows[row].steps = rows[row].steps.saturating_add(1);
+            rows[row].steps = rows[row].steps.saturating_add(steps);
         }
-        _ => *unkept = unkept.saturating_add(1),
+        _ => *unkept = unkept.saturating_add(steps),
     }
 }

@@ -1,11 +1,11 @@
 //! What was counted, by function and by wait, and that with the most steps first.
-ghost use Rattle.std.specs.Prelude.{◌≡◌, ◌≤◌, ◌++◌, ◌∷◌, List, length, IfOk};
-ghost use Rattle.ckrt_counts.specs.declared.words.Word.{Word};
-ghost use Rattle.ckrt_counts.specs.Shares.{begun, functions, next, placed, rank_of, ranked, spans, steps_of, thread_shares, total_behind, wait_share, wait_shares, with_word};
+ghost use Rattle.std.specs.Prelude.{◌≡◌, ◌≤◌, length, IfOk};
+ghost use Rattle.ckrt_counts.specs.Shares.{function_share, function_shares, functions, placed, rank_of, ranked, steps_of, thread_shares, total_behind, wait_share, wait_shares};
 
+use crate::functions::{Function, join_stacks};
+use crate::row::Row;
 use crate::stacks::Frame;
 use crate::waits::{Awaited, Waited};
-use crate::words::{FIRST, Word};
 use std::alloc::{AllocError, Global};
 
 /// What steps are counted of.
@@ -26,68 +26,39 @@ pub struct Share {
     pub subject: Subject,
 }
 
-/// A function that begins with the word at an address.
-fn begun(address: u32, word: Word) -> Share
-    ensures { result ≡ begun address word }
+/// A function.
+fn function_share(function: &Function) -> Share
+    ensures { result ≡ function_share function.now }
 {
     Share {
-        steps: word.steps,
-        subject: Subject::Function(address, word.calls),
+        steps: function.steps,
+        subject: Subject::Function(function.entry, function.calls),
     }
 }
 
-/// A function with a word more.
-fn with_word(share: Share, word: Word) -> Share
-    ensures { result ≡ with_word share word }
+/// Functions, in their order.
+fn function_shares(alloc: Global, functions: &[Function]) -> Result<Vec<Share>, AllocError>
+    ensures { IfOk result (λ shares. shares.items ≡ function_shares functions.now) }
 {
-    Share {
-        steps: share.steps.saturating_add(word.steps),
-        subject: share.subject,
+    let mut shares = Vec::with_capacity(alloc, functions.len())?;
+    for function in functions {
+        if shares.push(function_share(function)).is_err() {
+            return Err(AllocError);
+        }
     }
+    Ok(shares)
 }
 
-/// A word more behind this function: the function as far as that. One that ends before it goes to the shares.
-fn go_on(
-    shares: &mut Vec<Share>,
-    address: u32,
-    share: Share,
-    word: Word,
-) -> Result<Share, AllocError>
-    ensures { IfOk result (λ share'. (ws : List Word)
-        → shares.new.items ++ spans (next address) share' ws
-        ≡ shares.old.items ++ spans address share (word ∷ ws)) }
-{
-    if word.calls == 0 {
-        return Ok(with_word(share, word));
-    }
-    match shares.push(share) {
-        Ok(()) => Ok(begun(address, word)),
-        Err(_) => Err(AllocError),
-    }
-}
-
-/// The functions, by address.
+/// The functions of stacks, in the order in which they were met.
 ///
 /// # Errors
 ///
 /// `AllocError` where memory was refused.
-pub fn functions_of(alloc: Global, words: &[Word]) -> Result<Vec<Share>, AllocError>
-    ensures { IfOk result (λ shares. shares.items ≡ functions words.now) }
+pub fn functions_of(alloc: Global, rows: &[Row]) -> Result<Vec<Share>, AllocError>
+    ensures { IfOk result (λ shares. shares.items ≡ functions rows.now) }
 {
-    let mut shares = Vec::new(alloc);
-    let Some((first, rest)) = words.split_first() else {
-        return Ok(shares);
-    };
-    let mut share = begun(FIRST, *first);
-    let mut address = FIRST + 4;
-    for word in rest {
-        share = go_on(&mut shares, address, share, *word)?;
-        address = address.wrapping_add(4);
-    }
-    match shares.push(share) {
-        Ok(()) => Ok(shares),
-        Err(_) => Err(AllocError),
-    }
+    let functions = join_stacks(alloc, rows)?;
+    function_shares(alloc, functions.as_slice())
 }
 
 /// The threads, by number.

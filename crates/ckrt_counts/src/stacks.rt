@@ -1,10 +1,11 @@
 //! The stacks of all threads.
-ghost use Rattle.std.specs.Prelude.{◌≡◌, ◌≤◌, ◌<◌, vec_capacity, IfOk};
+ghost use Rattle.std.specs.Prelude.{◌≡◌, ◌≤◌, ◌<◌, length, vec_capacity, IfOk};
 ghost use Rattle.ckrt_counts.specs.declared.row.TheConstants.{ROWS as rows_limit};
 ghost use Rattle.ckrt_counts.specs.declared.stacks.TheConstants.{THREADS as threads_limit};
-ghost use Rattle.ckrt_counts.specs.Stacks.{arrived, begin, bottom, is_entry};
+ghost use Rattle.ckrt_counts.specs.Stacks.{arrived, begin, bottom};
 
-use crate::row::{Base, Position, ROWS, Row, count, enter, leave};
+use crate::row;
+use crate::row::{Base, Position, ROWS, Row, enter, leave};
 use crate::turn::Turn;
 use std::alloc::{AllocError, Global};
 
@@ -82,20 +83,8 @@ fn arrive(
     }
 }
 
-/// Whether a thread comes to the first instruction of a function by that.
-fn is_entry(pc: u32, last: Option<Turn>) -> bool
-    ensures { result ≡ is_entry pc last }
-{
-    match last {
-        None | Some(Turn::Call) | Some(Turn::Swap) => true,
-        Some(Turn::Onward) | Some(Turn::Return) => false,
-        Some(Turn::Runtime(behind)) => behind != pc,
-    }
-}
-
 impl Stacks {
-    ghost use Rattle.std.specs.Prelude.{get_or};
-    ghost use Rattle.ckrt_counts.specs.Stacks.{frame_of, met, no_stacks, stepped};
+    ghost use Rattle.ckrt_counts.specs.Stacks.{met, no_stacks, stepped};
     ghost use Rattle.ckrt_counts.specs.Counts.{stacks_in};
 
     /// No step was made yet.
@@ -124,12 +113,11 @@ impl Stacks {
         };
     }
 
-    /// A step of a thread, at the instruction at `pc`, from which it goes on so. The answer is whether that is the first of a function
-    /// to which it was called.
-    pub(crate) fn step(&mut self, thread: u8, pc: u32, turn: Turn) -> bool
+    /// So many steps of a thread on one stack, the first of them at `pc`, from the last of which it goes on so.
+    pub(crate) fn step(&mut self, thread: u8, pc: u32, turn: Turn, count: u64)
         requires { thread < threads_limit }
-        ensures stacks { stacks_in self.new ≡ stepped thread pc turn (stacks_in self.old) }
-        ensures entry { result ≡ is_entry pc (frame_of thread (stacks_in self.old)).last }
+        ensures stacks { stacks_in self.new ≡ stepped count thread pc turn (stacks_in self.old) }
+        ensures threads { length (stacks_in self.old).frames ≡ threads_limit }
     {
         let place = usize::from(thread);
         let Frame {
@@ -138,12 +126,11 @@ impl Stacks {
             steps,
         } = self.frames[place];
         let position = arrive(&mut self.rows, thread, pc, position, last);
-        count(&mut self.rows, &mut self.unkept, position);
+        row::count(&mut self.rows, &mut self.unkept, position, count);
         self.frames[place] = Frame {
             position,
             last: Some(turn),
-            steps: steps.saturating_add(1),
+            steps: steps.saturating_add(count),
         };
-        is_entry(pc, last)
     }
 }

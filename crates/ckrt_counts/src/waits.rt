@@ -92,11 +92,11 @@ impl Waits {
         })
     }
 
-    /// A step was made.
-    pub(crate) fn pass(&mut self)
-        ensures { waits_in self.new ≡ passed (waits_in self.old) }
+    /// So many steps were made.
+    pub(crate) fn pass(&mut self, steps: u64)
+        ensures { waits_in self.new ≡ passed steps (waits_in self.old) }
     {
-        self.since = self.since.saturating_add(1);
+        self.since = self.since.saturating_add(steps);
     }
 
     /// A thread waits for this, since waits were counted.

@@ -3,5 +3,4 @@ pub mod WalkLemmas
 pub mod CallgrindLemmas
 pub mod FrameLemmas
 pub mod SumLemmas
-pub mod WordLemmas
-pub mod StraightLemmas
+pub mod LeavingLemmas

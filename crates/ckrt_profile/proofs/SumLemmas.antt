@@ -1,5 +1,5 @@
 -- The steps that are noted of events are those that the machine answers, and functions have them all.
-use Rattle.std.proofs.Common.{◌≡◌, ◌<◌, ◌≤◌, ℕ, zero, suc, ◌+◌, ◌-◌, min, Bool, true, false, if◌then◌else◌, nat_lt, List, [], ◌∷◌, ◌++◌, Option, Some, None, refl, sym, ap, ◌∙◌, subst, arith}
+use Rattle.std.proofs.Common.{◌≡◌, ◌<◌, ◌==◌, ℕ, zero, suc, ◌+◌, ◌-◌, Bool, true, false, if◌then◌else◌, nat_lt, List, [], ◌∷◌, ◌++◌, Option, Some, None, refl, sym, ap, ◌∙◌, subst, arith}
 use Rattle.std.proofs.lemmas.List.Sums.{sum_by-cons}
 use Rattle.std.specs.List.{sum_by}
 use Rattle.ckrt_registers.specs.Registers.{Registers}
@@ -14,13 +14,15 @@ use Rattle.ckrt_machine.specs.Steps.{State, hart_of, hart_step}
 use Rattle.ckrt_trace.specs.Lines.{is_quiet}
 use Rattle.ckrt_counts.specs.declared.counts.Note.{Note}
 use Rattle.ckrt_counts.specs.declared.counts.Note.TheVariants as note
+use Rattle.ckrt_counts.specs.declared.functions.Function.{Function}
+use Rattle.ckrt_counts.specs.declared.row.Row.{Row}
 use Rattle.ckrt_counts.specs.declared.shares.Share.{Share}
-use Rattle.ckrt_counts.specs.declared.words.Word.{Word}
+use Rattle.ckrt_counts.specs.Functions.{first_of, functions_behind, functions_of, joined, with_stack}
 use Rattle.ckrt_counts.specs.Laws.{CountsSteps, steps_in}
-use Rattle.ckrt_counts.specs.Shares.{begun, functions, next, placed, ranked, ranked_behind, spans, with_word}
+use Rattle.ckrt_counts.specs.Shares.{function_share, function_shares, functions, placed, ranked, ranked_behind}
 use Rattle.ckrt_counts.proofs.SumLemmas.{each_counts_once}
 use Rattle.ckrt_profile.specs.Steps.{looks, looks_at, met_at, met_up_to, notes, of_event, of_events, of_run, of_step, unless_ended}
-use Rattle.ckrt_profile.specs.Recorded.{counted_of, words_of}
+use Rattle.ckrt_profile.specs.Recorded.{counted_of}
 use Rattle.ckrt_profile.specs.Laws.{FunctionsHaveAllSteps, SumsAreTheSteps, share_steps, steps_made, steps_of}
 
 -- STEPS IN NOTES
@@ -98,31 +100,45 @@ notes_steps es s = both (met_up_to 64 s) (of_events es s) ∙ ap (λ n. n + step
 pub sums_steps : SumsAreTheSteps
 sums_steps es s less =
     let all = notes_steps es s in
-    subst (CountsSteps (counted_of es s)) all (each_counts_once (notes es s) (words_of s) (omega (arith, all, less)))
+    subst (CountsSteps (counted_of es s)) all (each_counts_once (notes es s) (omega (arith, all, less)))
 
 -- FUNCTIONS
 
-abbrev word_steps : List Word → ℕ
-word_steps ws = sum_by (λ (w : Word). w.steps) ws
+abbrev row_steps : List Row → ℕ
+row_steps rs = sum_by (λ (r : Row). r.steps) rs
 
-spans_steps : (a : ℕ) (f : Share) (ws : List Word) → f.steps + word_steps ws < 18446744073709551616 → share_steps (spans a f ws) ≡ f.steps + word_steps ws
-spans_steps a f [] less = omega arith
-spans_steps a f (w ∷ ws) less =
-    let all : word_steps (w ∷ ws) ≡ w.steps + word_steps ws = sum_by-cons (λ (x : Word). x.steps) w ws in
-    go (nat_lt 0 w.calls) all (spans_steps (next a) (begun a w) ws (omega (arith, all, less)))
-    (spans_steps (next a) (with_word f w) ws (omega (arith, all, less)))
+abbrev all_steps : List Function → ℕ
+all_steps fs = sum_by (λ (f : Function). f.steps) fs
+
+-- with a stack more
+stack_steps : (r : Row) (fs : List Function) → r.steps + all_steps fs < 18446744073709551616 → all_steps (with_stack r fs) ≡ r.steps + all_steps fs
+stack_steps r [] less = sum_by-cons (λ (f : Function). f.steps) (first_of r) []
+stack_steps r (f ∷ fs) less =
+    let all : all_steps (f ∷ fs) ≡ f.steps + all_steps fs = sum_by-cons (λ (g : Function). g.steps) f fs in
+    go (f.entry == r.entry) all (stack_steps r fs (omega (arith, all, less)))
   where
-    go : (t : Bool) → word_steps (w ∷ ws) ≡ w.steps + word_steps ws → share_steps (spans (next a) (begun a w) ws) ≡ w.steps + word_steps ws
-        → share_steps (spans (next a) (with_word f w) ws) ≡ min (f.steps + w.steps) 18446744073709551615 + word_steps ws
-        → share_steps (if t then f ∷ spans (next a) (begun a w) ws else spans (next a) (with_word f w) ws) ≡ f.steps + word_steps (w ∷ ws)
-    go true all new same = sum_by-cons (λ (x : Share). x.steps) f (spans (next a) (begun a w) ws) ∙ ap (λ n. f.steps + n) (new ∙ sym all)
-    go false all new same = same ∙ omega (arith, all, less)
+    go : (t : Bool) → all_steps (f ∷ fs) ≡ f.steps + all_steps fs → all_steps (with_stack r fs) ≡ r.steps + all_steps fs
+        → all_steps (if t then joined f r ∷ fs else f ∷ with_stack r fs) ≡ r.steps + all_steps (f ∷ fs)
+    go true all rest = sum_by-cons (λ (g : Function). g.steps) (joined f r) fs ∙ omega (arith, all, less)
+    go false all rest = sum_by-cons (λ (g : Function). g.steps) f (with_stack r fs) ∙ omega (arith, all, rest)
 
-function_steps : (ws : List Word) → word_steps ws < 18446744073709551616 → share_steps (functions ws) ≡ word_steps ws
-function_steps [] less = refl
-function_steps (w ∷ ws) less =
-    let all : word_steps (w ∷ ws) ≡ w.steps + word_steps ws = sum_by-cons (λ (x : Word). x.steps) w ws in
-    spans_steps 4100 (begun 4096 w) ws (omega (arith, all, less)) ∙ sym all
+-- with many
+stacks_steps : (rs : List Row) (fs : List Function) → row_steps rs + all_steps fs < 18446744073709551616 → all_steps (functions_behind fs rs) ≡ row_steps rs + all_steps fs
+stacks_steps [] fs less = let none : row_steps [] ≡ 0 = refl in omega (arith, none)
+stacks_steps (r ∷ rs) fs less =
+    let all : row_steps (r ∷ rs) ≡ r.steps + row_steps rs = sum_by-cons (λ (x : Row). x.steps) r rs in
+    let one : all_steps (with_stack r fs) ≡ r.steps + all_steps fs = stack_steps r fs (omega (arith, all, less)) in
+    let rest = stacks_steps rs (with_stack r fs) (omega (arith, all, one, less)) in
+    omega (arith, all, one, rest)
+
+shared_steps : (fs : List Function) → share_steps (function_shares fs) ≡ all_steps fs
+shared_steps [] = refl
+shared_steps (f ∷ fs) =
+    sum_by-cons (λ (x : Share). x.steps) (function_share f) (function_shares fs) ∙ ap (λ n. f.steps + n) (shared_steps fs)
+    ∙ sym (sum_by-cons (λ (g : Function). g.steps) f fs)
+
+function_steps : (rs : List Row) → row_steps rs < 18446744073709551616 → share_steps (functions rs) ≡ row_steps rs
+function_steps rs less = shared_steps (functions_of rs) ∙ stacks_steps rs [] (omega (arith, less)) ∙ omega arith
 
 placed_steps : (x : Share) (ys : List Share) → share_steps (placed x ys) ≡ x.steps + share_steps ys
 placed_steps x [] = omega arith
@@ -144,7 +160,7 @@ pub functions_steps : FunctionsHaveAllSteps
 functions_steps es s less =
     let c = counted_of es s in
     let sums = sums_steps es s less in
-    let ws = c.words.words in
-    let fits : word_steps ws < 18446744073709551616 = omega (arith, sums.by_address, less) in
-    let functions_all : share_steps (ranked (functions ws)) ≡ word_steps ws = ranked_steps (functions ws) [] ∙ omega arith ∙ function_steps ws fits in
-    ap (λ n. n + c.words.outside) functions_all ∙ sums.by_address
+    let rs = c.stacks.rows in
+    let fits : row_steps rs < 18446744073709551616 = omega (arith, sums.by_stack, less) in
+    let functions_all : share_steps (ranked (functions rs)) ≡ row_steps rs = ranked_steps (functions rs) [] ∙ omega arith ∙ function_steps rs fits in
+    ap (λ n. n + c.stacks.unkept) functions_all ∙ sums.by_stack

@@ -7,7 +7,7 @@ use Rattle.ckrt_counts.specs.declared.row.Base.TheVariants as base
 use Rattle.ckrt_counts.specs.declared.row.Row.{Row}
 use Rattle.ckrt_counts.specs.Counts.{Counts}
 use Rattle.ckrt_counts.specs.Shares.{total}
-use Rattle.ckrt_counts.specs.Waits.{together}
+use Rattle.ckrt_counts.specs.Stacks.{together}
 
 -- WHETHER A ROW IS ONE OF A BASE, of which so many calls are on the way at most
 

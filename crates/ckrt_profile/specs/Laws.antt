@@ -23,7 +23,7 @@ abbrev pub steps_made : List Event → State → ℕ
 steps_made [] s = 0
 steps_made (e ∷ es) s = steps_of (machine.step e s).answer + steps_made es (machine.step e s).state
 
--- BY ADDRESS, BY STACK AND BY THREAD the sums are just the steps that the machine answers
+-- BY STACK AND BY THREAD the sums are just the steps that the machine answers
 abbrev pub SumsAreTheSteps : Type 0
 SumsAreTheSteps =
     (es : List Event) (s : State) → steps_made es s < 2 ^ 64
@@ -32,9 +32,9 @@ SumsAreTheSteps =
 abbrev pub share_steps : List Share → ℕ
 share_steps xs = sum_by (λ x. x.steps) xs
 
--- AND SO ARE THOSE OF THE FUNCTIONS that the table tells, with the steps elsewhere
+-- AND SO ARE THOSE OF THE FUNCTIONS that the table tells, with the steps on stacks without a row
 abbrev pub FunctionsHaveAllSteps : Type 0
 FunctionsHaveAllSteps =
     (es : List Event) (s : State) → steps_made es s < 2 ^ 64
-    → share_steps (ranked (functions (counted_of es s).words.words))
-    + (counted_of es s).words.outside ≡ steps_made es s
+    → share_steps (ranked (functions (counted_of es s).stacks.rows))
+    + (counted_of es s).stacks.unkept ≡ steps_made es s

@@ -3,4 +3,4 @@ pub mod Callgrind
 pub mod Texts
 pub mod Recorded
 pub mod Laws
-pub mod Straight
+pub mod Leaving

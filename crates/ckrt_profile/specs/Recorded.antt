@@ -1,5 +1,5 @@
 -- The profile of recorded events, as it is written.
-use Rattle.std.specs.Prelude.{◌≡◌, ℕ, ◌/◌, List, length}
+use Rattle.std.specs.Prelude.{◌≡◌, ℕ, List}
 use Rattle.ckrt_events.specs.declared.event.Event.{Event}
 use Rattle.ckrt_machine.specs.Steps.{State}
 use Rattle.ckrt_counts.specs.Counts.{Counts, behind_all, nothing}
@@ -7,13 +7,9 @@ use Rattle.ckrt_profile.specs.declared.form.Form.{Form}
 use Rattle.ckrt_profile.specs.Steps.{notes}
 use Rattle.ckrt_profile.specs.Texts.{profile_text}
 
--- how many words of memory there are
-abbrev pub words_of : State → ℕ
-words_of s = length s.bytes / 4
-
 -- what is counted of these events
 abbrev pub counted_of : List Event → State → Counts
-counted_of es s = behind_all (notes es s) (nothing (words_of s))
+counted_of es s = behind_all (notes es s) nothing
 
 -- what is written of them in this form
 abbrev pub text_of : Form → List Event → State → List ℕ

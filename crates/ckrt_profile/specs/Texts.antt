@@ -1,6 +1,6 @@
 -- A profile as text: a table (this project's own format), or a line a stack (the folded stacks of flame graphs: frames with `;` between,
 -- a space, and how often).
-use Rattle.std.specs.Prelude.{ℕ, zero, suc, ◌+◌, ◌-◌, ◌*◌, ◌/◌, ◌%◌, ◌==◌, nat_lt, min, Bool, if◌then◌else◌, List, [], ◌++◌, length, take, drop, slice_get, codes, decimal, Option, Some, None}
+use Rattle.std.specs.Prelude.{ℕ, zero, suc, ◌-◌, ◌*◌, ◌/◌, ◌%◌, ◌==◌, nat_lt, min, if◌then◌else◌, List, [], ◌++◌, length, take, drop, slice_get, codes, decimal, Option, Some, None}
 use Rattle.std.specs.List.{flat_map}
 use Rattle.ckrt_inspect.specs.Texts.{hex_text}
 use Rattle.ckrt_counts.specs.declared.row.Base.{Base}
@@ -9,7 +9,6 @@ use Rattle.ckrt_counts.specs.declared.row.Row.{Row}
 use Rattle.ckrt_counts.specs.declared.shares.Share.{Share}
 use Rattle.ckrt_counts.specs.declared.shares.Subject.{Subject}
 use Rattle.ckrt_counts.specs.declared.shares.Subject.TheVariants as subject
-use Rattle.ckrt_counts.specs.declared.stacks.Frame.{Frame}
 use Rattle.ckrt_counts.specs.declared.waits.Awaited.{Awaited}
 use Rattle.ckrt_counts.specs.declared.waits.Awaited.TheVariants as awaited
 use Rattle.ckrt_counts.specs.Counts.{Counts}
@@ -89,7 +88,7 @@ section_text all head xs n text = head_text head ++ top_text all xs ++ line_of a
 
 abbrev pub functions_text : (all : ℕ) → Counts → List ℕ
 functions_text all c =
-    section_text all (codes "function") (ranked (functions c.words.words)) c.words.outside
+    section_text all (codes "function") (ranked (functions c.stacks.rows)) c.stacks.unkept
     (codes "elsewhere")
 
 abbrev pub threads_text : (all : ℕ) → Counts → List ℕ

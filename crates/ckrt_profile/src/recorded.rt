@@ -5,7 +5,7 @@ ghost use Rattle.std.specs.Io.KnownBytes.{Appends};
 ghost use Rattle.ckrt_machine.specs.Events.{AllAccepted};
 ghost use Rattle.ckrt_trace.specs.Stretches.{IsEventsFault};
 ghost use Rattle.ckrt_counts.specs.Counts.{behind_all};
-ghost use Rattle.ckrt_profile.specs.Recorded.{text_of, words_of};
+ghost use Rattle.ckrt_profile.specs.Recorded.{text_of};
 ghost use Rattle.ckrt_profile.specs.Steps.{notes, of_events};
 ghost use Rattle.ckrt_profile.specs.Texts.{profile_text};
 
@@ -45,15 +45,8 @@ fn count_all(machine: &mut Machine, events: &[Event], counts: &mut Counts) -> bo
     count_events(machine, events, counts)
 }
 
-/// How many words of memory there are.
-fn words_of(machine: &Machine) -> usize
-    ensures { result ≡ words_of machine.now.state }
-{
-    1024 * machine.memory().pages() as usize - 1024
-}
-
 /// Makes events, each of which is to be accepted at its turn, and writes their profile: how many steps were made in each function, on each
-/// stack of calls and by each thread, and how long threads waited. It takes 60 KB, and 4 bytes for each of the guest's memory.
+/// stack of calls and by each thread, and how long threads waited. It takes 60 KB.
 ///
 /// # Errors
 ///
@@ -70,7 +63,7 @@ pub fn write_profile<W: Write>(
         (text_of form events.now machine.old.state)) }
     ensures fault { IfErr result (IsEventsFault events.now machine.old.state) }
 {
-    let Ok(mut counts) = Counts::new(alloc, words_of(machine)) else {
+    let Ok(mut counts) = Counts::new(alloc) else {
         return Err(InspectFault::OutOfMemory);
     };
     if !count_all(machine, events, &mut counts) {

@@ -22,9 +22,9 @@ struct Ranks {
 
 /// The functions.
 fn ranked_functions(alloc: Global, counts: &Counts) -> Result<Vec<Share>, AllocError>
-    ensures { IfOk result (λ shares. shares.items ≡ ranked (functions counts.now.words.words)) }
+    ensures { IfOk result (λ shares. shares.items ≡ ranked (functions counts.now.stacks.rows)) }
 {
-    let shares = functions_of(alloc, counts.words())?;
+    let shares = functions_of(alloc, counts.rows())?;
     rank(alloc, shares.as_slice())
 }
 
@@ -48,7 +48,7 @@ fn ranked_waits(alloc: Global, counts: &Counts) -> Result<Vec<Share>, AllocError
 /// All of them.
 fn ranks_of(alloc: Global, counts: &Counts) -> Result<Ranks, AllocError>
     ensures { IfOk result (λ ranks.
-        (ranks.functions.items ≡ ranked (functions counts.now.words.words))
+        (ranks.functions.items ≡ ranked (functions counts.now.stacks.rows))
         × (ranks.threads.items ≡ ranked (thread_shares counts.now.stacks.frames))
         × (ranks.waits.items ≡ ranked (wait_shares counts.now.waits.rows))) }
 {
@@ -76,14 +76,14 @@ fn write_functions<W: Write>(
     counts: &Counts,
     shares: &[Share],
 ) -> io::Result<()>
-    requires { shares.now ≡ ranked (functions counts.now.words.words) }
+    requires { shares.now ≡ ranked (functions counts.now.stacks.rows) }
     ensures { OnOk result
         (Appends (W.contents out.old) (W.contents out.new) (functions_text all counts.now)) }
 {
     let section = Section {
         head: b"function",
         shares,
-        rest: counts.outside(),
+        rest: counts.unkept(),
         word: b"elsewhere",
     };
     write_section(out, all, &section)
@@ -127,7 +127,8 @@ fn write_waits<W: Write>(out: &mut W, all: u64, counts: &Counts, shares: &[Share
 /// The whole table.
 #[tactic(auto, using(ckrt_trace::proofs::AppendLemmas::appends_both))]
 fn write_ranks<W: Write>(out: &mut W, all: u64, counts: &Counts, ranks: &Ranks) -> io::Result<()>
-    requires functions { ranks.now.functions.items ≡ ranked (functions counts.now.words.words) }
+    requires functions { ranks.now.functions.items
+        ≡ ranked (functions counts.now.stacks.rows) }
     requires threads { ranks.now.threads.items
         ≡ ranked (thread_shares counts.now.stacks.frames) }
     requires waits { ranks.now.waits.items ≡ ranked (wait_shares counts.now.waits.rows) }

@@ -10,7 +10,7 @@ ghost use Rattle.ckrt_trace.specs.Lines.{MayStep, put_before};
 ghost use Rattle.ckrt_counts.specs.Counts.{behind_all};
 ghost use Rattle.ckrt_profile.specs.Steps.{awaited_of, looks, looks_at, met, met_up_to, of_event, of_rest, of_run, of_step, step_by, turn_at, word_turn};
 
-use crate::straight::{AtTurns, note_straight};
+use crate::leaving::AtLeaving;
 use ckrt_counts::{Awaited, Counts, Note, Step, Turn, turn_of};
 use ckrt_events::Event;
 use ckrt_machine::Machine;
@@ -94,10 +94,7 @@ fn next_step(machine: &Machine, hart: u8, is_quiet: bool) -> Step
     let Some(thread) = threads.on_hart(usize::from(hart)) else {
         return IDLE;
     };
-    let Some(regs) = threads.regs(thread) else {
-        return IDLE;
-    };
-    let pc = regs.pc();
+    let pc = threads.live(thread).regs.pc();
     let turn = turn_at(is_quiet, machine.memory(), pc);
     Step { thread, pc, turn }
 }
@@ -120,9 +117,9 @@ fn count_step(machine: &mut Machine, hart: u8, is_first: bool, counts: &mut Coun
     advance(machine, hart, is_first);
 }
 
-/// Steps of a run that goes on, in a row, each at the next word: up to one from which the thread may go on elsewhere, and at most so many.
-/// The answer is how many were made.
-fn count_straight(machine: &mut Machine, hart: u8, limit: u32, counts: &mut Counts) -> u32
+/// Steps of a run that goes on, in a row, in one function: up to one by which the thread leaves it, and at most so many. The answer is
+/// how many were made.
+fn count_onward(machine: &mut Machine, hart: u8, limit: u32, counts: &mut Counts) -> u32
     requires going { stop_of hart machine.old.state.tables machine.old.output ≡ None }
     ensures within { result ≤ limit }
     ensures same { result ≡ 0 → (machine.new.state ≡ machine.old.state)
@@ -134,8 +131,8 @@ fn count_straight(machine: &mut Machine, hart: u8, limit: u32, counts: &mut Coun
         ≡ behind_all (of_rest limit hart machine.old.state machine.old.output) counts.old }
 {
     let first = next_step(machine, hart, true);
-    let made = go_quietly_to(machine, hart, limit, &AtTurns);
-    note_straight(counts, first.thread, first.pc, made);
+    let made = go_quietly_to(machine, hart, limit, &AtLeaving);
+    counts.onward(first.thread, first.pc, made);
     made
 }
 
@@ -151,7 +148,7 @@ fn count_piece(machine: &mut Machine, hart: u8, limit: u32, counts: &mut Counts)
         (of_rest (limit - result) hart machine.new.state machine.new.output) counts.new
         ≡ behind_all (of_rest limit hart machine.old.state machine.old.output) counts.old }
 {
-    let made = count_straight(machine, hart, limit, counts);
+    let made = count_onward(machine, hart, limit, counts);
     if made == limit || is_stopped(machine, hart) {
         return made;
     }

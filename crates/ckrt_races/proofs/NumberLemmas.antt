@@ -99,7 +99,7 @@ module _ (p : Place) where
       (is_acquisition t (lock.Writers a) p, (is_acquisition t (lock.Readers a) p, tt))
 
   request_passes : (t : ℕ) (after : Tables) → ArePassesAt p (orders.taken_request p t after)
-  request_passes t after = if_so p (orders.is_on_its_way (threads.thread_of after.threads t)) (acquired t (lock.Request t) p ∷ []) (is_acquisition t (lock.Request t) p, tt)
+  request_passes t after = if_so p (orders.is_cancelled (threads.thread_of after.threads t)) (acquired t (lock.Request t) p ∷ []) (is_acquisition t (lock.Request t) p, tt)
 
   answered_passes : (v : ℕ) (c : Caller) (after : Tables) (os : List Operation) → ArePassesAt p os → ArePassesAt p (orders.if_answered v c after os)
   answered_passes v c after os are = if_so p (orders.is_answered v c after) os are
@@ -190,18 +190,18 @@ module _ (p : Place) where
   wait_passes after w = if_not p (orders.waits_now w.thread after) (orders.of_reason p w.thread w.reason after) (reason_passes w.thread w.reason after)
 
   acted_passes : (after : Tables) (w : Wait) → ArePassesAt p (orders.of_request p after w)
-  acted_passes after w = if_not p (orders.waits_now w.thread after) (orders.taken_request p w.thread after) (request_passes w.thread after)
+  acted_passes after w = if_not p (orders.is_retake w.reason) (orders.taken_request p w.thread after) (request_passes w.thread after)
 
   pub waits_pass : (ws : List Wait) (after : Tables) → ArePassesAt p (orders.of_waits p ws after)
   waits_pass ws after =
       both p (flat_map (orders.of_request p after) ws) (flat_map (orders.of_wait p after) ws) (each p (orders.of_request p after) ws (acted_passes after)) (each p (orders.of_wait p after) ws (wait_passes after))
 
-  actor_passes : (o : Option ℕ) (after : Tables) → ArePassesAt p (orders.of_actor p o after)
-  actor_passes None after = tt
-  actor_passes (Some t) after = request_passes t after
+  acting_passes : (o : Option ℕ) → ArePassesAt p (orders.of_acting p o)
+  acting_passes None = tt
+  acting_passes (Some t) = (is_acquisition t (lock.Request t) p, tt)
 
-  pub between_passes : (actor : Option ℕ) (b : Before) (after : Tables) → ArePassesAt p (orders.between p actor b after)
-  between_passes actor b after =
-      both p (orders.of_caller p b.caller b.is_writer b.waits.items after) (orders.of_actor p actor after ++ orders.of_waits p b.waits.items after)
+  pub between_passes : (b : Before) (after : Tables) → ArePassesAt p (orders.between p b after)
+  between_passes b after =
+      both p (orders.of_caller p b.caller b.is_writer b.waits.items after) (orders.of_acting p b.acting ++ orders.of_waits p b.waits.items after)
       (caller_passes b.caller b.is_writer b.waits.items after)
-      (both p (orders.of_actor p actor after) (orders.of_waits p b.waits.items after) (actor_passes actor after) (waits_pass b.waits.items after))
+      (both p (orders.of_acting p b.acting) (orders.of_waits p b.waits.items after) (acting_passes b.acting) (waits_pass b.waits.items after))

@@ -127,9 +127,9 @@ accesses_rise p (Some t) s = registers_rise t p s.bytes (threads.regs_of (thread
 step_rises : (p : Place) (h : ℕ) (s : State) → IsAtMostOne p (of_step p h s)
 step_rises p h s = go (is_quiet (hart_of s.tables h) s)
   where
-    go : (b : Bool) → IsAtMostOne p (if b then accesses p (hart_of s.tables h) s else between p (hart_of s.tables h) (before_step h s) (hart_step h s).state.tables)
+    go : (b : Bool) → IsAtMostOne p (if b then accesses p (hart_of s.tables h) s else between p (before_step h s) (hart_step h s).state.tables)
     go true = accesses_rise p (hart_of s.tables h) s
-    go false = passes_rise p (moment p) (between p (hart_of s.tables h) (before_step h s) (hart_step h s).state.tables) (omega arith) (between_passes p (hart_of s.tables h) (before_step h s) (hart_step h s).state.tables)
+    go false = passes_rise p (moment p) (between p (before_step h s) (hart_step h s).state.tables) (omega arith) (between_passes p (before_step h s) (hart_step h s).state.tables)
 
 -- A RUN
 

@@ -12,18 +12,22 @@ abbrev pub thread_holder : ℕ → ℕ
 thread_holder t = if nat_le t 64 then t else 0
 
 abbrev pub place_of : (address : ℕ) → ℕ
-place_of a = a / 4 % 1024
+place_of a = a % 4096
+
+-- atomic operations are of whole words
+abbrev pub word_of : (address : ℕ) → ℕ
+word_of a = a / 4 % 1024
 
 abbrev pub lock_holder : Lock → ℕ
 lock_holder (lock.Mutex a) = 65 + place_of a
-lock_holder (lock.Writers a) = 1089 + place_of a
-lock_holder (lock.Readers a) = 2113 + place_of a
-lock_holder (lock.Word a) = 3137 + place_of a
-lock_holder (lock.Request t) = 4161 + thread_holder t
+lock_holder (lock.Writers a) = 4161 + place_of a
+lock_holder (lock.Readers a) = 8257 + place_of a
+lock_holder (lock.Word a) = 12353 + word_of a
+lock_holder (lock.Request t) = 13377 + thread_holder t
 
--- all holders: 65 numbers of threads, 1,024 locks of each of four kinds, and a request for each thread
+-- all holders: 65 numbers of threads, 4,096 locks of each of three kinds, 1,024 words, and a request for each thread
 abbrev pub HOLDERS : ℕ
-HOLDERS = 4226
+HOLDERS = 13442
 
 -- a thread gives up what others that come later take
 abbrev pub released : (t : ℕ) → Lock → Place → Operation

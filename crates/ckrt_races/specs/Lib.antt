@@ -1,5 +1,6 @@
 pub mod Holders
 pub mod Accesses
+pub mod Acting
 pub mod Writers
 pub mod Orders
 pub mod Steps

@@ -1,6 +1,6 @@
 -- Which steps put the accesses of threads in an order: those functions that synchronize memory (POSIX.1-2017, 4.12), by what became of
 -- them. A condition orders nothing of itself: its mutex does, since a wait may end without a signal (pthread_cond_wait).
-use Rattle.std.specs.Prelude.{ℕ, ◌+◌, ◌%◌, ◌^◌, ◌==◌, ◌&&◌, Bool, true, false, if◌then◌else◌, List, [], ◌∷◌, ◌++◌, Option, Some, None, is_some}
+use Rattle.std.specs.Prelude.{ℕ, ◌+◌, ◌%◌, ◌^◌, ◌==◌, ◌&&◌, not, Bool, true, false, if◌then◌else◌, List, [], ◌∷◌, ◌++◌, Option, Some, None, is_some, unwrap_or}
 use Rattle.std.specs.List.{find, flat_map}
 use Rattle.ckrt_registers.specs.Registers.{Registers, get}
 use Rattle.ckrt_thread.specs.Cancellation.{CANCELED}
@@ -73,16 +73,17 @@ taken_to_write p t a after =
     if is_writer t (lock_at a after.rwlocks) then acquired t (lock.Writers a) p ∷ acquired t (lock.Readers a) p ∷ []
     else []
 
--- a thread unwinds, or has ended as a cancelled one does
-abbrev pub is_on_its_way : Option Thread → Bool
-is_on_its_way None = false
-is_on_its_way (Some (thread.Live l)) = is_some l.cancellation.unwinding
-is_on_its_way (Some (thread.Ended v)) = v == CANCELED
+-- a thread unwinds as a cancelled one, and acted on each request; or it has ended as such
+abbrev pub is_cancelled : Option Thread → Bool
+is_cancelled None = false
+is_cancelled (Some (thread.Live l)) =
+    not l.cancellation.is_requested && unwrap_or l.cancellation.unwinding 0 == CANCELED
+is_cancelled (Some (thread.Ended v)) = v == CANCELED
 
 -- it has seen what those did who cancelled it
 abbrev pub taken_request : Place → (t : ℕ) → Tables → List Operation
 taken_request p t after =
-    if is_on_its_way (threads.thread_of after.threads t) then acquired t (lock.Request t) p ∷ []
+    if is_cancelled (threads.thread_of after.threads t) then acquired t (lock.Request t) p ∷ []
     else []
 
 -- CALLS
@@ -189,23 +190,28 @@ abbrev pub of_wait : Place → Tables → Wait → List Operation
 of_wait p after w =
     if waits_now w.thread after then [] else of_reason p w.thread w.reason after
 
--- the request on which such a thread acts
+-- the request on which a thread acts that waited; behind a condition it acted before
+abbrev pub is_retake : Reason → Bool
+is_retake (reason.Retake m r) = true
+is_retake _ = false
+
 abbrev pub of_request : Place → Tables → Wait → List Operation
-of_request p after w = if waits_now w.thread after then [] else taken_request p w.thread after
+of_request p after w = if is_retake w.reason then [] else taken_request p w.thread after
 
 -- requests come first: who ends by one has seen it before others go on that waited for its end
 abbrev pub of_waits : Place → List Wait → Tables → List Operation
 of_waits p ws after = flat_map (of_request p after) ws ++ flat_map (of_wait p after) ws
 
--- A STEP that is no plain instruction, of the thread that is on the hart
+-- A STEP that is no plain instruction
 
-abbrev pub of_actor : Place → Option ℕ → Tables → List Operation
-of_actor p None after = []
-of_actor p (Some t) after = taken_request p t after
+-- of a thread that acts on a request by it
+abbrev pub of_acting : Place → Option ℕ → List Operation
+of_acting p None = []
+of_acting p (Some t) = acquired t (lock.Request t) p ∷ []
 
 -- what is looked at before it: who makes a call by it, whether that thread has the read-write lock of its first argument to write,
--- and who waits
-abbrev pub between : Place → Option ℕ → Before → Tables → List Operation
-between p actor b after =
+-- who acts on a request by it, and who waits
+abbrev pub between : Place → Before → Tables → List Operation
+between p b after =
     of_caller p b.caller b.is_writer b.waits.items after
-    ++ (of_actor p actor after ++ of_waits p b.waits.items after)
+    ++ (of_acting p b.acting ++ of_waits p b.waits.items after)

@@ -11,6 +11,7 @@ use Rattle.ckrt_order.specs.declared.operation.Place.{Place}
 use Rattle.ckrt_order.specs.declared.operation.Operation.{Operation}
 use Rattle.ckrt_races.specs.Accesses.{accesses}
 use Rattle.ckrt_races.specs.declared.looking.Before.{Before}
+use Rattle.ckrt_races.specs.Acting.{acting}
 use Rattle.ckrt_races.specs.Writers.{writes}
 use Rattle.ckrt_races.specs.Orders.{between, of_waits}
 
@@ -23,6 +24,7 @@ abbrev pub before_step : ℕ → State → Before
 before_step h s = record {
   caller = caller_of (hart_of s.tables h) s;
   is_writer = writes (caller_of (hart_of s.tables h) s) s.tables;
+  acting = acting (hart_of s.tables h) s;
   waits = record { items = s.tables.threads.waits };
 }
 
@@ -30,7 +32,7 @@ before_step h s = record {
 abbrev pub of_step : Place → ℕ → State → List Operation
 of_step p h s =
     if is_quiet (hart_of s.tables h) s then accesses p (hart_of s.tables h) s
-    else between p (hart_of s.tables h) (before_step h s) (hart_step h s).state.tables
+    else between p (before_step h s) (hart_step h s).state.tables
 
 -- A RUN: what more is done, unless it has ended
 abbrev pub unless_ended : Option RunEnd → List Operation → List Operation

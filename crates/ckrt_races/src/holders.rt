@@ -1,11 +1,11 @@
 //! Numbers of holders, and what they pass on.
 ghost use Rattle.std.specs.Prelude.{◌≡◌, ◌≤◌, ◌<◌};
-ghost use Rattle.ckrt_races.specs.Holders.{acquired, lock_holder, ordered, place_of, released, thread_holder};
+ghost use Rattle.ckrt_races.specs.Holders.{acquired, lock_holder, ordered, place_of, released, thread_holder, word_of};
 
 use ckrt_order::{Operation, Place};
 
-/// How many holders there are: 65 numbers of threads, 1,024 locks of each of four kinds, and a request for each thread.
-pub(crate) const HOLDERS: usize = 4226;
+/// How many holders there are: 65 numbers of threads, 4,096 locks of each of three kinds, 1,024 words, and a request for each thread.
+pub(crate) const HOLDERS: usize = 13442;
 
 /// What a thread gives up, or takes.
 #[derive(Clone, Copy, Debug)]
@@ -30,9 +30,17 @@ pub(crate) fn thread_holder(thread: u32) -> u16
     if thread <= 64 { thread as u16 } else { 0 }
 }
 
-/// Where an address stands among 1,024.
+/// Where an address stands among 4,096.
 fn place_of(address: u32) -> u16
     ensures place { result ≡ place_of address }
+    ensures few { result < 4096 }
+{
+    (address % 4096) as u16
+}
+
+/// Where the word at an address stands among 1,024.
+fn word_of(address: u32) -> u16
+    ensures place { result ≡ word_of address }
     ensures few { result < 1024 }
 {
     (address / 4 % 1024) as u16
@@ -44,10 +52,10 @@ fn lock_holder(lock: Lock) -> u16
 {
     match lock {
         Lock::Mutex(address) => 65 + place_of(address),
-        Lock::Writers(address) => 1089 + place_of(address),
-        Lock::Readers(address) => 2113 + place_of(address),
-        Lock::Word(address) => 3137 + place_of(address),
-        Lock::Request(thread) => 4161 + thread_holder(thread),
+        Lock::Writers(address) => 4161 + place_of(address),
+        Lock::Readers(address) => 8257 + place_of(address),
+        Lock::Word(address) => 12353 + word_of(address),
+        Lock::Request(thread) => 13377 + thread_holder(thread),
     }
 }
 

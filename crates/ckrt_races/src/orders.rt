@@ -4,7 +4,7 @@ ghost use Rattle.std.specs.List.{find, flat_map};
 ghost use Rattle.ckrt_thread.specs.State.{is_live, thread_of};
 ghost use Rattle.ckrt_thread.specs.Waits.{is_of};
 ghost use Rattle.ckrt_order.specs.Detection.{behind_all};
-ghost use Rattle.ckrt_races.specs.Orders.{is_on_its_way, of_actor, of_reason, of_request, of_wait, of_waits, taken_mutex, taken_request, taken_to_read, taken_to_write, waits_now};
+ghost use Rattle.ckrt_races.specs.Orders.{is_cancelled, is_retake, of_acting, of_reason, of_request, of_wait, of_waits, taken_mutex, taken_request, taken_to_read, taken_to_write, waits_now};
 
 use crate::holders::{Lock, acquired, ordered};
 use ckrt_order::{Detector, Place};
@@ -67,12 +67,15 @@ pub(crate) fn take_to_write(
     }
 }
 
-/// Whether a thread unwinds, or has ended as a cancelled one does.
-fn is_on_its_way(threads: &Threads, thread: ThreadId) -> bool
-    ensures { result ≡ is_on_its_way (thread_of threads.now thread) }
+/// Whether a thread unwinds as a cancelled one, and acted on each request; or it has ended as such.
+fn is_cancelled(threads: &Threads, thread: ThreadId) -> bool
+    ensures { result ≡ is_cancelled (thread_of threads.now thread) }
 {
     match threads.thread(u32::from(thread)) {
-        Some(Thread::Live(live)) => live.cancellation.unwinding.is_some(),
+        Some(Thread::Live(live)) => {
+            let cancellation = live.cancellation;
+            !cancellation.is_requested && cancellation.unwinding.unwrap_or(0) == CANCELED
+        }
         Some(Thread::Ended(value)) => *value == CANCELED,
         None => false,
     }
@@ -83,7 +86,7 @@ fn take_request(place: Place, thread: ThreadId, after: &Tables, detector: &mut D
     ensures { detector.new
         ≡ behind_all (taken_request place thread after.now) detector.old }
 {
-    if is_on_its_way(&after.threads, thread) {
+    if is_cancelled(&after.threads, thread) {
         detector.note(&acquired(thread, Lock::Request(u32::from(thread)), place));
     }
 }
@@ -131,17 +134,24 @@ fn watch_wait(place: Place, after: &Tables, wait: &Wait, detector: &mut Detector
     watch_reason(place, wait.thread, wait.reason, after, detector);
 }
 
-/// The request on which a thread acts whose wait is over.
+/// Whether a thread waits for its mutex behind a condition.
+fn is_retake(reason: Reason) -> bool
+    ensures { result ≡ is_retake reason }
+{
+    matches!(reason, Reason::Retake(_, _))
+}
+
+/// The request on which a thread acts that waited; behind a condition it acted before.
 fn watch_request(place: Place, after: &Tables, wait: &Wait, detector: &mut Detector)
     ensures { detector.new ≡ behind_all (of_request place after.now wait.now) detector.old }
 {
-    if waits_now(wait.thread, after) {
+    if is_retake(wait.reason) {
         return;
     }
     take_request(place, wait.thread, after, detector);
 }
 
-/// The requests on which those act whose waits are over.
+/// The requests on which those act who waited.
 fn watch_requests(place: Place, before: &[Wait], after: &Tables, detector: &mut Detector)
     ensures { detector.new
         ≡ behind_all (flat_map (of_request place after.now) before.now) detector.old }
@@ -161,7 +171,7 @@ fn watch_reasons(place: Place, before: &[Wait], after: &Tables, detector: &mut D
     }
 }
 
-/// Those waits that are over: first the requests on which their threads act.
+/// Those waits that are over: first the requests on which threads act.
 #[tactic(auto, using(crate::proofs::BehindLemmas::behind_both))]
 pub(crate) fn watch_waits(place: Place, before: &[Wait], after: &Tables, detector: &mut Detector)
     ensures { detector.new ≡ behind_all (of_waits place before.now after.now) detector.old }
@@ -170,16 +180,11 @@ pub(crate) fn watch_waits(place: Place, before: &[Wait], after: &Tables, detecto
     watch_reasons(place, before, after, detector);
 }
 
-/// The thread that made the step.
-pub(crate) fn watch_actor(
-    place: Place,
-    actor: Option<ThreadId>,
-    after: &Tables,
-    detector: &mut Detector,
-)
-    ensures { detector.new ≡ behind_all (of_actor place actor after.now) detector.old }
+/// The thread that acted on a request by a step.
+pub(crate) fn watch_acting(place: Place, acting: Option<ThreadId>, detector: &mut Detector)
+    ensures { detector.new ≡ behind_all (of_acting place acting) detector.old }
 {
-    if let Some(thread) = actor {
-        take_request(place, thread, after, detector);
+    if let Some(thread) = acting {
+        detector.note(&acquired(thread, Lock::Request(u32::from(thread)), place));
     }
 }

@@ -63,7 +63,7 @@ fn write_detected<W: Write>(out: &mut W, detector: &Detector) -> Result<(), Insp
 
 /// Makes events, each of which is to be accepted at its turn, and writes their races: each pair of places in them once, with the first two
 /// accesses there that race, and how often, or that there were none. The first event is behind `count` others, and what was done
-/// before it is taken as ordered. It takes 4.4 MB, and 24 bytes for each of the guest's memory.
+/// before it is taken as ordered. It takes 14 MB, and 24 bytes for each of the guest's memory.
 ///
 /// # Errors
 ///

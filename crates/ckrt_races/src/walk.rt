@@ -4,7 +4,7 @@ ghost use Rattle.ckrt_events.specs.Bytes.{IsInRange};
 ghost use Rattle.ckrt_events.specs.declared.event.Event.TheVariants.{Run};
 ghost use Rattle.ckrt_machine.specs.Events.{step, refusal_of};
 ghost use Rattle.ckrt_machine.specs.Runs.{run_on, with_byte};
-ghost use Rattle.ckrt_machine.specs.Steps.{hart_of, hart_step};
+ghost use Rattle.ckrt_machine.specs.Steps.{hart_step};
 ghost use Rattle.ckrt_trace.specs.Events.{state_behind};
 ghost use Rattle.ckrt_trace.specs.Lines.{MayStep, put_before};
 ghost use Rattle.ckrt_order.specs.Detection.{behind_all};
@@ -14,25 +14,18 @@ ghost use Rattle.ckrt_races.specs.Steps.{at, of_event, of_other, of_rest, of_run
 use crate::accesses::watch_accesses;
 use crate::calls::watch_caller;
 use crate::looking::{Before, look};
-use crate::orders::{watch_actor, watch_waits};
+use crate::orders::{watch_acting, watch_waits};
 use ckrt_events::Event;
 use ckrt_machine::Machine;
 use ckrt_order::{Detector, Place};
 use ckrt_state::Tables;
-use ckrt_thread::ThreadId;
 use ckrt_trace::{advance, is_quiet, is_stopped};
 
 /// A step that was made, and is no plain instruction.
 #[tactic(auto, using(crate::proofs::BehindLemmas::behind_both))]
-fn watch_between(
-    place: Place,
-    actor: Option<ThreadId>,
-    before: &Before,
-    after: &Tables,
-    detector: &mut Detector,
-)
+fn watch_between(place: Place, before: &Before, after: &Tables, detector: &mut Detector)
     ensures { detector.new
-        ≡ behind_all (between place actor before.now after.now) detector.old }
+        ≡ behind_all (between place before.now after.now) detector.old }
 {
     let waits = before.waits.as_slice();
     watch_caller(
@@ -43,7 +36,7 @@ fn watch_between(
         after,
         detector,
     );
-    watch_actor(place, actor, after, detector);
+    watch_acting(place, before.acting, detector);
     watch_waits(place, waits, after, detector);
 }
 
@@ -67,10 +60,9 @@ fn watch_step(
         advance(machine, hart, is_first);
         return;
     }
-    let actor = machine.tables().threads.on_hart(usize::from(hart));
     let before = look(machine, hart);
     advance(machine, hart, is_first);
-    watch_between(place, actor, &before, machine.tables(), detector);
+    watch_between(place, &before, machine.tables(), detector);
 }
 
 /// The steps of a run of the thread on a hart behind its first `made`, of `limit` in all.

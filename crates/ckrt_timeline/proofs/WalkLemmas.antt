@@ -1,14 +1,13 @@
 -- What a thread does at the steps of a run, one after another.
-use Rattle.std.proofs.Common.{◌≡◌, ◌∙◌, ◌<◌, ◌+◌, ℕ, zero, suc, true, if◌then◌else◌, List, [], ◌∷◌, ◌++◌, replicate, Option, None, Some, is_some, refl, sym, ap, true≢false, arith}
+use Rattle.std.proofs.Common.{◌≡◌, ◌∙◌, ◌+◌, ℕ, zero, suc, true, if◌then◌else◌, List, [], ◌∷◌, ◌++◌, replicate, Option, None, Some, is_some, refl, sym, ap, true≢false, arith}
 use Rattle.std.specs.List.{find}
 use Rattle.std.specs.Option.{option_flatten}
 use Rattle.std.specs.Prelude.{slice_get}
 use Rattle.ckrt_thread.specs.State as threads
 use Rattle.ckrt_thread.specs.Waits.{is_of}
 use Rattle.ckrt_machine.specs.declared.event.RunEnd.{RunEnd}
-use Rattle.ckrt_machine.specs.Runs.{after_steps, stop_after, stop_of, with_byte}
+use Rattle.ckrt_machine.specs.Runs.{after_steps, stop_of, with_byte}
 use Rattle.ckrt_machine.specs.Steps.{State, hart_step}
-use Rattle.ckrt_trace.specs.Events.{state_behind}
 use Rattle.ckrt_timeline.specs.Still.{IsStill, standing}
 use Rattle.ckrt_timeline.proofs.StillLemmas.{quiet_still}
 use Rattle.ckrt_trace.proofs.RowLemmas.{GoOnQuietly}

@@ -5,6 +5,7 @@ use Rattle.ckrt_timeline.specs.declared.words.Form.{Form}
 use Rattle.ckrt_timeline.specs.declared.words.Form.TheVariants as form
 use Rattle.ckrt_timeline.specs.declared.page.Chart.{Chart}
 use Rattle.ckrt_timeline.specs.Parts.{joined}
+use Rattle.ckrt_timeline.specs.Shares.{dense_text}
 use Rattle.ckrt_timeline.specs.Texts.{is_absent, pieces_text}
 
 -- THE PAGE, in pixels: labels stand left of the bars, a heading and the legend above them, and the numbers of the events below
@@ -36,12 +37,17 @@ abbrev pub rows_in : List (List Piece) → ℕ
 rows_in [] = 0
 rows_in (ps ∷ more) = if is_blank ps then rows_in more else rows_in more + 1
 
+-- how high a row is, of pieces or of columns; these are drawn without seams
+abbrev pub tall_text : Chart → List ℕ
+tall_text c =
+    if c.span == 0 then codes " 16" else codes " 1600\" shape-rendering=\"crispEdges"
+
 -- the label of thread t, and the begin of its bars, whose places are in steps; y is where its row begins
 abbrev pub bars_text : Chart → (t y : ℕ) → List ℕ
 bars_text c t y = joined (
     codes "<text x=\"4\" y=\"" ∷ decimal (y + 13) ∷ codes "\">thread " ∷ decimal t ∷ codes "</text>\n<svg x=\"80\" y=\"" ∷ decimal y
     ∷ codes "\" width=\"" ∷ decimal (inner c) ∷ codes "\" height=\"16\" viewBox=\"0 0 " ∷ decimal c.steps
-    ∷ codes " 16\" preserveAspectRatio=\"none\">\n" ∷ [])
+    ∷ tall_text c ∷ codes "\" preserveAspectRatio=\"none\">\n" ∷ [])
 
 -- the name of thread t
 abbrev pub name_text : (t : ℕ) → List ℕ
@@ -57,8 +63,13 @@ abbrev pub foot_text : Form → List ℕ
 foot_text form.Picture = codes "</svg>\n"
 foot_text form.Events = []
 
+-- a thread's pieces one by one, or its columns
+abbrev pub inside_text : Form → Chart → (t : ℕ) → List Piece → List ℕ
+inside_text f c t ps =
+    if c.span == 0 then pieces_text f t 0 ps else dense_text c.span c.steps t ps
+
 abbrev pub row_text : Form → Chart → (t y : ℕ) → List Piece → List ℕ
-row_text f c t y ps = head_text f c t y ++ pieces_text f t 0 ps ++ foot_text f
+row_text f c t y ps = head_text f c t y ++ inside_text f c t ps ++ foot_text f
 
 -- the rows of threads from t on, the first of which begins at y
 abbrev pub rows_text : Form → Chart → (t y : ℕ) → List (List Piece) → List ℕ
@@ -124,12 +135,20 @@ LEGEND = joined (
     ∷ codes "<rect class=\"ended\" x=\"322\" y=\"48\" width=\"12\" height=\"12\"/><text x=\"338\" y=\"59\">ended</text>\n"
     ∷ [])
 
-abbrev pub page_text : Chart → List ℕ
-page_text c = joined (
+-- how many steps a column has, where there are columns
+abbrev pub scale_text : Chart → List ℕ
+scale_text c =
+    if c.span == 0 then [] else joined (codes ", " ∷ decimal c.span ∷ codes " in each column" ∷ [])
+
+abbrev pub heading_text : Chart → List ℕ
+heading_text c = joined (
     codes "<svg xmlns=\"http://www.w3.org/2000/svg\" width=\"" ∷ decimal c.width ∷ codes "\" height=\"" ∷ decimal (bottom c + 24)
     ∷ codes "\" font-family=\"sans-serif\" font-size=\"12\">\n"
     ∷ codes "<rect width=\"100%\" height=\"100%\" fill=\"white\"/>\n<text x=\"10\" y=\"20\" font-size=\"14\">events " ∷ decimal c.first
-    ∷ codes " to " ∷ decimal (c.first + c.events) ∷ codes ": " ∷ decimal c.steps ∷ codes " steps</text>\n" ∷ [])
+    ∷ codes " to " ∷ decimal (c.first + c.events) ∷ codes ": " ∷ decimal c.steps ∷ codes " steps" ∷ [])
+
+abbrev pub page_text : Chart → List ℕ
+page_text c = heading_text c ++ scale_text c ++ codes "</text>\n"
 
 abbrev pub begin_text : Form → Chart → List ℕ
 begin_text form.Picture c = page_text c ++ STYLE ++ LEGEND

@@ -3,6 +3,7 @@ pub mod Charts
 pub mod Recorded
 pub mod Parts
 pub mod Pieces
+pub mod Shares
 pub mod Still
 pub mod Texts
 pub mod Tracks

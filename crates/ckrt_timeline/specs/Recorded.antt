@@ -7,6 +7,7 @@ use Rattle.ckrt_timeline.specs.declared.piece.Piece.{Piece}
 use Rattle.ckrt_timeline.specs.declared.recorded.Style.{Style}
 use Rattle.ckrt_timeline.specs.Charts.{chart_text, rows_in}
 use Rattle.ckrt_timeline.specs.Pieces.{ArePieces}
+use Rattle.ckrt_timeline.specs.Shares.{drawn_in, span_of}
 use Rattle.ckrt_timeline.specs.Tracks.{THREADS, begins_of, in_events}
 
 -- The pieces of each thread in events: thread i + 1 is at index i.
@@ -22,6 +23,7 @@ pub record IsChartOf (style : Style) (k : ℕ) (es : List Event) (s : State) (tr
   pub events : c.events ≡ length es
   pub steps : c.steps ≡ length (in_events 1 es s)
   pub rows : c.rows ≡ rows_in tracks
+  pub span : c.span ≡ span_of style.form (drawn_in tracks) c.rows c.steps
 
 -- this is the text of the timeline of events, of which the first is behind k others
 pub record IsDrawing (style : Style) (k : ℕ) (es : List Event) (s : State) (text : List ℕ)

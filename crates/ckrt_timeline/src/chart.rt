@@ -1,13 +1,14 @@
 //! A whole picture, and the whole of trace events.
 ghost use Rattle.std.specs.Prelude.{◌≡◌, ◌≤◌, ◌<◌, ◌+◌, ◌^◌, ◌++◌, ℕ, OnOk, length};
 ghost use Rattle.std.specs.Io.KnownBytes.{Appends};
-ghost use Rattle.ckrt_timeline.specs.Charts.{LEGEND, STYLE, begin_text, bottom, chart_text, end_text, foot_text, head_text, instant_text, is_blank, is_told, mark_text, marks_text, name_text, bars_text, page_text, place_of, row_text, rows_in, rows_text, tick_text};
+ghost use Rattle.ckrt_timeline.specs.Charts.{LEGEND, STYLE, begin_text, bottom, chart_text, end_text, foot_text, head_text, heading_text, inside_text, instant_text, is_blank, is_told, mark_text, marks_text, name_text, bars_text, page_text, place_of, row_text, rows_in, rows_text, scale_text, tall_text, tick_text};
 ghost use Rattle.ckrt_timeline.specs.Tracks.{AreUpTo};
 ghost use Rattle.ckrt_timeline.specs.Pieces.{laid, pieces_at, tracks_of};
 
 use crate::page::Chart;
 use crate::part::{Part, write_parts};
 use crate::piece::{Activity, Piece};
+use crate::shares::write_columns;
 use crate::words::{Form, write_pieces};
 use std::io::{Result, Write};
 
@@ -45,6 +46,17 @@ pub(crate) fn rows_in(tracks: &[Vec<Piece>]) -> u64
     rows
 }
 
+/// How high a row is, of pieces or of columns; these are drawn without seams.
+fn tall_of(chart: &Chart) -> &'static [u8]
+    ensures { result.now ≡ tall_text chart.now }
+{
+    if chart.span == 0 {
+        b" 16".as_slice()
+    } else {
+        b" 1600\" shape-rendering=\"crispEdges".as_slice()
+    }
+}
+
 /// The label of a thread, and the begin of its bars.
 fn write_bars<W: Write>(out: &mut W, chart: &Chart, thread: u64, top: u64) -> Result<()>
     requires { top ≤ 1616 }
@@ -64,7 +76,8 @@ fn write_bars<W: Write>(out: &mut W, chart: &Chart, thread: u64, top: u64) -> Re
             Part::Number(chart.width - 100),
             Part::Text(b"\" height=\"16\" viewBox=\"0 0 "),
             Part::Number(chart.steps),
-            Part::Text(b" 16\" preserveAspectRatio=\"none\">\n"),
+            Part::Text(tall_of(chart)),
+            Part::Text(b"\" preserveAspectRatio=\"none\">\n"),
         ],
     )
 }
@@ -117,6 +130,25 @@ fn end_of(form: Form) -> &'static [u8]
     }
 }
 
+/// The pieces of a thread one by one, or its columns.
+fn write_inside<W: Write>(
+    out: &mut W,
+    form: Form,
+    chart: &Chart,
+    thread: u64,
+    pieces: &[Piece],
+) -> Result<()>
+    requires few { length (laid pieces.now) < 2 ^ 64 }
+    ensures { OnOk result (Appends (W.contents out.old) (W.contents out.new)
+        (inside_text form chart.now thread pieces.now)) }
+{
+    if chart.span == 0 {
+        write_pieces(out, form, thread, pieces)
+    } else {
+        write_columns(out, chart.span, chart.steps, thread, pieces)
+    }
+}
+
 /// The row of a thread.
 #[tactic(auto, using(ckrt_trace::proofs::AppendLemmas::appends_both))]
 fn write_row<W: Write>(
@@ -133,7 +165,7 @@ fn write_row<W: Write>(
         (row_text form chart.now thread top pieces.now)) }
 {
     write_head(out, form, chart, thread, top)?;
-    write_pieces(out, form, thread, pieces)?;
+    write_inside(out, form, chart, thread, pieces)?;
     out.write_all(foot_of(form))
 }
 
@@ -254,10 +286,10 @@ fn write_marks<W: Write>(out: &mut W, form: Form, chart: &Chart, begins: &[u64])
     Ok(())
 }
 
-/// The begin of a picture.
-fn write_page<W: Write>(out: &mut W, chart: &Chart) -> Result<()>
+/// The begin of a picture, up to how many steps there are.
+fn write_heading<W: Write>(out: &mut W, chart: &Chart) -> Result<()>
     ensures { OnOk result
-        (Appends (W.contents out.old) (W.contents out.new) (page_text chart.now)) }
+        (Appends (W.contents out.old) (W.contents out.new) (heading_text chart.now)) }
 {
     write_parts(
         out,
@@ -275,9 +307,39 @@ fn write_page<W: Write>(out: &mut W, chart: &Chart) -> Result<()>
             Part::Number(chart.first + chart.events),
             Part::Text(b": "),
             Part::Number(chart.steps),
-            Part::Text(b" steps</text>\n"),
+            Part::Text(b" steps"),
         ],
     )
+}
+
+/// How many steps a column has, where there are columns.
+#[tactic(auto, using(ckrt_trace::proofs::AppendLemmas::appends_none))]
+fn write_scale<W: Write>(out: &mut W, chart: &Chart) -> Result<()>
+    ensures { OnOk result
+        (Appends (W.contents out.old) (W.contents out.new) (scale_text chart.now)) }
+{
+    if chart.span == 0 {
+        return Ok(());
+    }
+    write_parts(
+        out,
+        &[
+            Part::Text(b", "),
+            Part::Number(chart.span),
+            Part::Text(b" in each column"),
+        ],
+    )
+}
+
+/// The begin of a picture.
+#[tactic(auto, using(ckrt_trace::proofs::AppendLemmas::appends_both))]
+fn write_page<W: Write>(out: &mut W, chart: &Chart) -> Result<()>
+    ensures { OnOk result
+        (Appends (W.contents out.old) (W.contents out.new) (page_text chart.now)) }
+{
+    write_heading(out, chart)?;
+    write_scale(out, chart)?;
+    out.write_all(b"</text>\n")
 }
 
 /// The colours.

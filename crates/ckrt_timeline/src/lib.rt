@@ -10,6 +10,7 @@ mod page;
 mod part;
 mod piece;
 mod recorded;
+mod shares;
 mod timeline;
 mod tracks;
 mod walk;

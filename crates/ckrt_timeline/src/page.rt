@@ -15,6 +15,8 @@ pub struct Chart {
     pub steps: u64,
     /// How many threads have a row.
     pub rows: u64,
+    /// How many steps each column of a row has, or 0 where its pieces are drawn one by one.
+    pub span: u64,
     ghost fits: { is_width width ≡ true },
     ghost few: { first + events < 2 ^ 64 },
     ghost short: { steps < 2 ^ 63 },

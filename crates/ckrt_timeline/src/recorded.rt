@@ -12,6 +12,7 @@ ghost use Rattle.ckrt_timeline.specs.Tracks.{AreUpTo, GoesOn, IsWhole, begins_of
 
 use crate::chart::{rows_in, write_chart};
 use crate::page::Chart;
+use crate::shares::span_of;
 use crate::timeline::{Timeline, no_steps};
 use crate::walk::watch_event;
 use crate::words::Form;
@@ -134,12 +135,16 @@ pub fn write_timeline<W: Write>(
     };
     let mut begins = Vec::new(alloc);
     watch_events(machine, events, &mut timeline, &mut begins)?;
+    let tracks = timeline.tracks.as_slice();
+    let rows = rows_in(tracks);
+    let span = span_of(style.form, tracks, rows, timeline.steps);
     let chart = Chart {
         width: u64::from(style.width),
         first: count,
         events: events.len() as u64,
         steps: timeline.steps,
-        rows: rows_in(timeline.tracks.as_slice()),
+        rows,
+        span,
     };
     write_tracks(out, style.form, &chart, begins.as_slice(), &timeline)
 }

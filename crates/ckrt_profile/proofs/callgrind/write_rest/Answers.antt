@@ -1,8 +1,7 @@
-use Rattle.std.proofs.Common.{◌≡◌, ◌++◌, ◌==◌, true, false, Bool, List, [], if◌then◌else◌, ℕ, codes, decimal, sym, subst, rules, arith}
+use Rattle.std.proofs.Common.{◌++◌, codes, decimal, sym, subst}
 use Rattle.std.proofs.lemmas.Result.{on_ok_weaker}
 use Rattle.std.specs.Io.KnownBytes.{Appends}
 use Rattle.ckrt_trace.proofs.AppendLemmas.{appends_both}
-use Rattle.ckrt_profile.specs.Callgrind.{rest_line, rest_text}
 use Rattle.ckrt_profile.proofs.CallgrindLemmas.{some_rest}
 use Rattle.ckrt_profile.proofs.callgrind.write_rest.Goals as goal
 

@@ -1,4 +1,4 @@
-use Rattle.std.proofs.Common.{◌<◌, length, arith}
+use Rattle.std.proofs.Common.{arith}
 use Rattle.ckrt_profile.specs.Callgrind.{rows_text}
 use Rattle.ckrt_profile.proofs.CallgrindLemmas.{completes_row, completes_rows}
 use Rattle.ckrt_profile.proofs.callgrind.write_rows.Goals as goal

@@ -1,6 +1,5 @@
-use Rattle.std.proofs.Common.{◌++◌, rules, codes, decimal}
+use Rattle.std.proofs.Common.{◌++◌, codes, decimal}
 use Rattle.std.proofs.lemmas.Result.{on_ok_weaker}
-use Rattle.std.specs.Io.KnownBytes.{Appends}
 use Rattle.ckrt_trace.proofs.AppendLemmas.{appends_both}
 use Rattle.ckrt_profile.specs.Callgrind.{HEADER}
 use Rattle.ckrt_profile.proofs.callgrind.write_start.Goals as goal
