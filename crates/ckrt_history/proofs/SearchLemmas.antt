@@ -11,7 +11,7 @@ use Rattle.ckrt_history.specs.declared.stop.Watch.{Watch}
 use Rattle.ckrt_history.specs.Positions.{History, IsBefore, IsGreatest, IsLastOnWay, IsLeast, IsPosition, IsUpTo, NoneBefore, NoneBehind, PassesNone, next_position, previous_position}
 use Rattle.ckrt_history.specs.Stops.{AreNone, HasChanged, IsStop, Runner, is_hit, is_of, is_wanted, runner_at, watched_at}
 use Rattle.ckrt_history.proofs.AtLemmas.{inside}
-use Rattle.ckrt_history.proofs.OrderLemmas.{up_or_behind, fewer_ahead, next_of_previous, previous_first, steps_left, before_is_up_to, before_or_there, next_is_behind, next_up_to, not_both, there, up_to_before, up_to_itself, up_to_up_to}
+use Rattle.ckrt_history.proofs.OrderLemmas.{up_or_behind, fewer_ahead, next_of_previous, previous_first, steps_left, before_is_up_to, before_or_there, next_is_behind, next_up_to, none_between, not_both, previous_is_one, there, up_to_before, up_to_itself, up_to_up_to}
 
 -- where it stands, with the bytes that it has seen there
 pub record IsOnWay (stops : Stops) (h : History) (end : Position) (z : History) (seen : List ℕ) : Type 0 where
@@ -282,3 +282,33 @@ none_stops stops points watches thread ends h p (inl halts) =
     false≢true (sym (ap (λ b. b || (stops.event_ends && p.steps == 0)) (unwanted stops (runner_at p h.events h.start) points thread) ∙ ap (λ b. b && p.steps == 0) ends) ∙ halts)
 none_stops stops points watches thread ends h p (inr changed) =
     changed (ap (λ ws. watched_at ws (previous_position p h.events h.start) h.events h.start) watches ∙ sym (ap (λ ws. watched_at ws p h.events h.start) watches))
+
+-- BACKWARD, BY ONE STEP
+
+-- a position at which somebody may stand is not the first, where another is before it
+not_first : (p q : Position) → IsBefore p q → q.steps ≡ 0 → q.events ≡ 0 → ⊥
+not_first p q (inl a) none first = omega (arith, a, first)
+not_first p q (inr a) none first = (let less = a.1 in omega (arith, less, none))
+
+module _ (stops : Stops) (h : History) (first : Position) (all : AllAccepted h.events h.start)
+    (is : IsPosition h.position h.events h.start) (first_is : IsPosition first h.events h.start)
+    (less : IsBefore first h.position) where
+  abbrev last : Position
+  last = previous_position h.position h.events h.start
+
+  on : next_position last h.events h.start ≡ h.position
+  on = next_of_previous h.events h.start h.position all is (not_first first h.position less)
+
+  pub last_is_one : IsPosition last h.events h.start
+  last_is_one = previous_is_one h.events h.start h.position all is
+
+  -- the last position before it has a reason to stop
+  pub last_is_greatest : IsStop stops h last → IsGreatest (IsStop stops h) first h.position last h
+  last_is_greatest holds = record {
+    is_one = last_is_one;
+    before = subst (λ x. IsBefore last x) on (next_is_behind last h.events h.start);
+    within = none_between last h.events h.start first first_is (subst (λ x. IsBefore first x) (sym on) less);
+    holds = holds;
+    none_between = λ r one past before _.
+        not_both last r past (none_between last h.events h.start r one (subst (λ x. IsBefore r x) (sym on) before));
+  }

@@ -123,9 +123,8 @@ impl History {
         found
     }
 
-    /// Goes back to the greatest position with a reason to stop that is before this one, and not before `first`. `false` where
-    /// there is none, and then it stands at `first`.
-    pub fn backward(&mut self, stops: &Stops, first: Position) -> bool
+    /// The same by going over all positions from those on that are kept on the way, the last first.
+    fn search_back(&mut self, stops: &Stops, first: Position) -> bool
         requires width { widths stops.now.watches.items ≤ 256 }
         requires first { IsPosition first self.old.events self.old.start }
         requires behind { IsUpTo first self.old.position }
@@ -137,10 +136,6 @@ impl History {
             → (self.new.position ≡ first)
             × NoneBefore (IsStop stops.now self.old) first self.old.position self.old }
     {
-        if stops.are_none() {
-            self.go_to(first);
-            return false;
-        }
         let here = self.position();
         if !first.is_before(here) {
             return false;
@@ -160,5 +155,37 @@ impl History {
             return true;
         }
         self.look_at(stops, first)
+    }
+
+    /// Goes back to the greatest position with a reason to stop that is before this one, and not before `first`. `false` where
+    /// there is none, and then it stands at `first`.
+    pub fn backward(&mut self, stops: &Stops, first: Position) -> bool
+        requires width { widths stops.now.watches.items ≤ 256 }
+        requires first { IsPosition first self.old.events self.old.start }
+        requires behind { IsUpTo first self.old.position }
+        ensures history { self.new ≡ record self.old { position = self.new.position } }
+        ensures found { result ≡ true
+            → IsGreatest (IsStop stops.now self.old) first self.old.position self.new.position
+            self.old }
+        ensures none { result ≡ false
+            → (self.new.position ≡ first)
+            × NoneBefore (IsStop stops.now self.old) first self.old.position self.old }
+    {
+        if stops.are_none() {
+            self.go_to(first);
+            return false;
+        }
+        self.known();
+        let here = self.position();
+        if !first.is_before(here) {
+            return false;
+        }
+        self.step_back();
+        let previous = self.position();
+        if self.look_at(stops, previous) {
+            return true;
+        }
+        self.go_to(here);
+        self.search_back(stops, first)
     }
 }

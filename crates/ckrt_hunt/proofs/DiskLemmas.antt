@@ -21,7 +21,7 @@ use Rattle.ckrt_recovery.specs.Opening.{IsSyncedAndRead}
 use Rattle.ckrt_recovery.specs.View.{View, opened, view_of}
 use Rattle.ckrt_recovery.specs.Represents.{Represents, RepresentsDisk, acknowledged_of}
 use Rattle.ckrt_commands.specs.Accepts.{Accepts}
-use Rattle.ckrt_schedule.specs.declared.next.ScheduleEnd.{ScheduleEnd as DriveEnd}
+use Rattle.ckrt_schedule.specs.declared.next.ScheduleEnd.{ScheduleEnd}
 use Rattle.ckrt_hunt.specs.declared.plan.Plan.{Plan}
 use Rattle.ckrt_hunt.specs.declared.disks.SeedFault.{SeedFault}
 use Rattle.ckrt_hunt.specs.declared.disks.SeedFault.TheVariants as fault
@@ -66,7 +66,7 @@ module _ {D : Type 0} {g : Ghosts D} where
       go false f = all (h.images f image left).to
       go true f = either (h.failed f image left)
 
-  pub has_run : (program : Program) (p : Plan) (disk : D) (first last : Session D g) (ending : DriveEnd) → (g.is_honest disk → RecoversToStart program (g.content disk)) → IsSameDisk g disk first.disk
+  pub has_run : (program : Program) (p : Plan) (disk : D) (first last : Session D g) (ending : ScheduleEnd) → (g.is_honest disk → RecoversToStart program (g.content disk)) → IsSameDisk g disk first.disk
       → (g.is_honest first.disk → Recovers (g.content disk) (Ok (recovered_of first.progress))) → RepresentsDisk disk first → KeepsRun p first last (Ok ending) → g.is_honest last.disk → HasRun g program p last.disk ending
   has_run program p disk first last ending starts same answers represents kept honest =
       let was = kept.accepts.honest honest in
@@ -135,13 +135,13 @@ module _ {D : Type 0} {g : Ghosts D} where
   unrecovered program before now recover.OutOfMemory starts read agrees honest = tt
 
   -- what is told of a run is what a disk with the run has
-  pub is_told : (program : Program) (p : Plan) (disk : D) (ending : DriveEnd) (told : Told) → (has : HasRun g program p disk ending) → ComesTo p (start_of program) told → IsToldOf has told
+  pub is_told : (program : Program) (p : Plan) (disk : D) (ending : ScheduleEnd) (told : Told) → (has : HasRun g program p disk ending) → ComesTo p (start_of program) told → IsToldOf has told
   is_told program p disk ending told has c =
       let start = start_of program in
       let es : c.events ≡ has.events = same_events p c.events has.events (beginning start) c.ending ending c.scheduled c.ended has.scheduled has.ended in
       let ends : End c.ending ≡ End ending = sym c.ended ∙ ap (λ (es : List Event). next_at p (behind p es (beginning start))) es ∙ has.ended in
       let same : c.ending ≡ ending = cc in
-      let outcome : told.outcome ≡ outcome_of ending (state_after program has.events).tables = c.outcome ∙ ap (λ (es : List Event). outcome_of c.ending (fold es start).state.tables) es ∙ ap (λ (e : DriveEnd). outcome_of e (state_after program has.events).tables) same in
+      let outcome : told.outcome ≡ outcome_of ending (state_after program has.events).tables = c.outcome ∙ ap (λ (es : List Event). outcome_of c.ending (fold es start).state.tables) es ∙ ap (λ (e : ScheduleEnd). outcome_of e (state_after program has.events).tables) same in
       record {
         outcome = outcome;
         digest = c.digest ∙ ap (λ (es : List Event). digest_of told.outcome (output_of es start)) es;

@@ -17,7 +17,7 @@ use Rattle.ckrt_recovery.specs.View.{View, view_of, refusal_of, refusal_when_run
 use Rattle.ckrt_commands.specs.Accepts.{Accepts}
 use Rattle.ckrt_commands.proofs.AcceptLemmas.{accepts_kept, accepts_more, accepts_still}
 use Rattle.ckrt_schedule.specs.declared.next.Next.TheVariants.{Submit, End}
-use Rattle.ckrt_schedule.specs.declared.next.ScheduleEnd.{ScheduleEnd as DriveEnd}
+use Rattle.ckrt_schedule.specs.declared.next.ScheduleEnd.{ScheduleEnd}
 use Rattle.ckrt_hunt.specs.declared.keeping.KeepFault.{KeepFault}
 use Rattle.ckrt_hunt.specs.declared.keeping.KeepFault.TheVariants.{Device, Refused}
 use Rattle.ckrt_hunt.specs.declared.made.Made.{Made}
@@ -125,7 +125,7 @@ module _ {D : Type 0} {g : Ghosts D} where
   no_more p first old new m h last = subst (λ (es : List Event). Accepts es first new) (append-nil h.events) (accepts_more h.events [] first old new h.accepts last)
 
   -- a run that is kept whole
-  pub kept_whole : (p : Plan) (first old new : Session D g) (m : Made) (ending : DriveEnd) → HasKept p first old m → next p m old.progress.machine.state.tables ≡ End ending → Accepts [] old new → new.acknowledged ≡ new.progress.count → KeepsRun p first new (Ok ending)
+  pub kept_whole : (p : Plan) (first old new : Session D g) (m : Made) (ending : ScheduleEnd) → HasKept p first old m → next p m old.progress.machine.state.tables ≡ End ending → Accepts [] old new → new.acknowledged ≡ new.progress.count → KeepsRun p first new (Ok ending)
   kept_whole p first old new m ending h n last saved = record {
     events = h.events;
     scheduled = h.scheduled;
@@ -162,6 +162,6 @@ module _ {D : Type 0} {g : Ghosts D} where
   }
 
   -- a run whose last commit answers so
-  pub kept_to_end : (p : Plan) (first old new : Session D g) (m : Made) (ending : DriveEnd) (r : Result DriveEnd KeepFault) → HasKept p first old m → next p m old.progress.machine.state.tables ≡ End ending → Accepts [] old new → IfOk r (λ e. e ≡ ending) → OnOk r (new.acknowledged ≡ new.progress.count) → IfErr r (λ fault. fault ≡ Device) → OnErr r (new.failed ≡ true) → KeepsRun p first new r
-  kept_to_end p first old new m ending (Ok e) h n last is saved device failed = subst (λ (e : DriveEnd). KeepsRun p first new (Ok e)) (sym is) (kept_whole p first old new m ending h n last saved)
+  pub kept_to_end : (p : Plan) (first old new : Session D g) (m : Made) (ending : ScheduleEnd) (r : Result ScheduleEnd KeepFault) → HasKept p first old m → next p m old.progress.machine.state.tables ≡ End ending → Accepts [] old new → IfOk r (λ e. e ≡ ending) → OnOk r (new.acknowledged ≡ new.progress.count) → IfErr r (λ fault. fault ≡ Device) → OnErr r (new.failed ≡ true) → KeepsRun p first new r
+  kept_to_end p first old new m ending (Ok e) h n last is saved device failed = subst (λ (e : ScheduleEnd). KeepsRun p first new (Ok e)) (sym is) (kept_whole p first old new m ending h n last saved)
   kept_to_end p first old new m ending (Err fault) h n last is saved device failed = subst (λ (f : KeepFault). KeepsRun p first new (Err f)) (sym device) (kept_unsaved p first old new m h last failed)

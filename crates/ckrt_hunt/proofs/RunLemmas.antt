@@ -8,7 +8,7 @@ use Rattle.ckrt_machine.specs.declared.event.Answer.{Answer}
 use Rattle.ckrt_machine.specs.Events.{After, IsAccepted, output_of, step}
 use Rattle.ckrt_machine.proofs.FoldLaws.{state_on, output_on, accepted_on}
 use Rattle.ckrt_schedule.specs.declared.next.Next.TheVariants.{Submit, End}
-use Rattle.ckrt_schedule.specs.declared.next.ScheduleEnd.{ScheduleEnd as DriveEnd}
+use Rattle.ckrt_schedule.specs.declared.next.ScheduleEnd.{ScheduleEnd}
 use Rattle.ckrt_hunt.specs.declared.plan.Plan.{Plan}
 use Rattle.ckrt_hunt.specs.declared.made.Made.{Made}
 use Rattle.ckrt_hunt.specs.declared.outcome.Outcome.{Outcome}
@@ -60,7 +60,7 @@ module _ (p : Plan) where
   }
 
   -- a run that has come to its end
-  pub comes_to : (start : State) (m : Made) (s : State) (hasher : Sha256) (ending : DriveEnd) (told : Told) → HasComeTo p start m s hasher → next p m s.tables ≡ End ending → told.outcome ≡ outcome_of ending s.tables → ((o : List ℕ) → Holds256 hasher o → told.digest ≡ digest_of told.outcome o) → ComesTo p start told
+  pub comes_to : (start : State) (m : Made) (s : State) (hasher : Sha256) (ending : ScheduleEnd) (told : Told) → HasComeTo p start m s hasher → next p m s.tables ≡ End ending → told.outcome ≡ outcome_of ending s.tables → ((o : List ℕ) → Holds256 hasher o → told.digest ≡ digest_of told.outcome o) → ComesTo p start told
   comes_to start m s hasher ending told h n o d =
       let es = h.events in
       let c = h.come in
@@ -75,7 +75,7 @@ module _ (p : Plan) where
       }
 
   -- and what it has made by then
-  pub ends_with : (start : State) (m : Made) (s : State) (hasher : Sha256) (ending : DriveEnd) (told : Told) → HasComeTo p start m s hasher → next p m s.tables ≡ End ending → told.outcome ≡ outcome_of ending s.tables → ((o : List ℕ) → Holds256 hasher o → told.digest ≡ digest_of told.outcome o) → EndsWith p start told m
+  pub ends_with : (start : State) (m : Made) (s : State) (hasher : Sha256) (ending : ScheduleEnd) (told : Told) → HasComeTo p start m s hasher → next p m s.tables ≡ End ending → told.outcome ≡ outcome_of ending s.tables → ((o : List ℕ) → Holds256 hasher o → told.digest ≡ digest_of told.outcome o) → EndsWith p start told m
   unfolding comes_to
   ends_with start m s hasher ending told h n o d = record {
     comes = comes_to start m s hasher ending told h n o d;
@@ -83,7 +83,7 @@ module _ (p : Plan) where
   }
 
   -- a run has one list of events
-  pub same_events : (es fs : List Event) (x : Point) (a b : DriveEnd) → AreScheduled p es x → next_at p (behind p es x) ≡ End a → AreScheduled p fs x → next_at p (behind p fs x) ≡ End b → es ≡ fs
+  pub same_events : (es fs : List Event) (x : Point) (a b : ScheduleEnd) → AreScheduled p es x → next_at p (behind p es x) ≡ End a → AreScheduled p fs x → next_at p (behind p fs x) ≡ End b → es ≡ fs
   same_events [] [] x a b s n t m = refl
   same_events [] (f ∷ fs) x a b s n t m = let h = t.0 in cc
   same_events (e ∷ es) [] x a b s n t m = let h = s.0 in cc

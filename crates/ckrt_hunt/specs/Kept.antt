@@ -8,7 +8,7 @@ use Rattle.ckrt_recovery.specs.declared.session.Session.{Session}
 use Rattle.ckrt_recovery.specs.View.{refusal_of, view_of}
 use Rattle.ckrt_commands.specs.Accepts.{Accepts}
 use Rattle.ckrt_schedule.specs.declared.next.Next.TheVariants.{Submit, End}
-use Rattle.ckrt_schedule.specs.declared.next.ScheduleEnd.{ScheduleEnd as DriveEnd}
+use Rattle.ckrt_schedule.specs.declared.next.ScheduleEnd.{ScheduleEnd}
 use Rattle.ckrt_hunt.specs.declared.keeping.KeepFault.{KeepFault}
 use Rattle.ckrt_hunt.specs.declared.keeping.KeepFault.TheVariants.{Device, Refused}
 use Rattle.ckrt_hunt.specs.declared.made.Made.{Made}
@@ -66,7 +66,7 @@ IsWhyNotWhole p x s (Refused why) = (e : Event) × (next_at p x ≡ Submit e) ×
 -- A run by the plan, from where the session stands: it took these events, which are those of the schedule. With Ok they are all, and are
 -- acknowledged.
 pub record KeepsRun {D : Type 0} {g : Ghosts D} (p : Plan) (old new : Session D g)
-    (result : Result DriveEnd KeepFault) : Type 0 where
+    (result : Result ScheduleEnd KeepFault) : Type 0 where
   pub events : List Event
   pub scheduled : AreScheduled p events (beginning old.progress.machine.state)
   pub accepts : Accepts events old new

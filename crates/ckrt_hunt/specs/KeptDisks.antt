@@ -15,7 +15,7 @@ use Rattle.ckrt_recovery.specs.declared.session.Session.{Session}
 use Rattle.ckrt_recovery.specs.Represents.{Represents}
 use Rattle.ckrt_recovery.specs.View.{opened, view_of}
 use Rattle.ckrt_schedule.specs.declared.next.Next.TheVariants.{End}
-use Rattle.ckrt_schedule.specs.declared.next.ScheduleEnd.{ScheduleEnd as DriveEnd}
+use Rattle.ckrt_schedule.specs.declared.next.ScheduleEnd.{ScheduleEnd}
 use Rattle.ckrt_hunt.specs.Kept.{KeepsRun}
 use Rattle.ckrt_hunt.specs.Outcomes.{digest_of, outcome_of}
 use Rattle.ckrt_hunt.specs.Runs.{AreScheduled, beginning, behind, next_at}
@@ -29,7 +29,7 @@ use Rattle.ckrt_hunt.specs.declared.runs.Told.{Told}
 
 -- A disk has the run of a plan, from the beginning of a program to this ending: its events are all of the schedule's, and whatever a stop leaves
 -- of the disk recovers to just these.
-pub record HasRun {D : Type 0} (d : Ghosts D) (program : Program) (p : Plan) (disk : D) (ending : DriveEnd)
+pub record HasRun {D : Type 0} (d : Ghosts D) (program : Program) (p : Plan) (disk : D) (ending : ScheduleEnd)
     : Type 0 where
   pub events : List Event
   pub scheduled : AreScheduled p events (beginning (start_of program))
@@ -50,7 +50,7 @@ IsNoRefusal (fault.Recover f) = Unit {0}
 IsNoRefusal (fault.Keep f) = Unit {0}
 
 -- it is refused exactly where formatting refuses, and by what formatting does
-abbrev pub IsRefusedAsFormat : Option FormatFault → Result DriveEnd SeedFault → Type 0
+abbrev pub IsRefusedAsFormat : Option FormatFault → Result ScheduleEnd SeedFault → Type 0
 IsRefusedAsFormat (Some f) result = result ≡ Err (fault.Format f)
 IsRefusedAsFormat None result = IfErr result IsNoRefusal
 
@@ -102,7 +102,7 @@ IsOverReason p old new (fault.Keep f) = KeepsRun p old new (Err f)
 
 -- What is told of a run is what a disk with the run has: it is what the plain fold over its events comes to, and so what any state that the disk
 -- recovers to does.
-pub record IsToldOf {D : Type 0} {d : Ghosts D} {program : Program} {p : Plan} {disk : D} {ending : DriveEnd}
+pub record IsToldOf {D : Type 0} {d : Ghosts D} {program : Program} {p : Plan} {disk : D} {ending : ScheduleEnd}
     (has : HasRun d program p disk ending) (told : Told) : Type 0 where
   pub outcome : told.outcome ≡ outcome_of ending (state_after program has.events).tables
   pub digest : told.digest ≡ digest_of told.outcome (output_after program has.events)

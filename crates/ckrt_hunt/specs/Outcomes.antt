@@ -12,7 +12,7 @@ use Rattle.ckrt_thread.specs.declared.records.Wait.{Wait}
 use Rattle.ckrt_state.specs.declared.table.Status.{Status}
 use Rattle.ckrt_state.specs.declared.table.Status.TheVariants as status
 use Rattle.ckrt_state.specs.declared.table.Tables.{Tables}
-use Rattle.ckrt_schedule.specs.declared.next.ScheduleEnd.{ScheduleEnd as DriveEnd}
+use Rattle.ckrt_schedule.specs.declared.next.ScheduleEnd.{ScheduleEnd}
 use Rattle.ckrt_schedule.specs.declared.next.ScheduleEnd.TheVariants as ending
 use Rattle.ckrt_hunt.specs.declared.outcome.Awaited.{Awaited}
 use Rattle.ckrt_hunt.specs.declared.outcome.Awaited.TheVariants as awaited
@@ -58,7 +58,7 @@ by_status (status.Exited v) = outcome.Exited v
 by_status (status.Faulted t pc c) = outcome.Faulted t pc c
 
 -- what a run comes to that ends so, with these tables
-abbrev pub outcome_of : DriveEnd → Tables → Outcome
+abbrev pub outcome_of : ScheduleEnd → Tables → Outcome
 outcome_of ending.Ended s = by_status s.status
 outcome_of ending.WaitsForInput s = outcome.WaitsForInput
 outcome_of ending.Deadlock s = outcome.Deadlock (record { items = waiting_among s 64 })

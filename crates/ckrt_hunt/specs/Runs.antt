@@ -7,7 +7,7 @@ use Rattle.ckrt_machine.specs.Steps.{State}
 use Rattle.ckrt_machine.specs.Events.{AllAccepted, fold, output_of, step}
 use Rattle.ckrt_schedule.specs.declared.next.Next.{Next}
 use Rattle.ckrt_schedule.specs.declared.next.Next.TheVariants.{Submit, End}
-use Rattle.ckrt_schedule.specs.declared.next.ScheduleEnd.{ScheduleEnd as DriveEnd}
+use Rattle.ckrt_schedule.specs.declared.next.ScheduleEnd.{ScheduleEnd}
 use Rattle.ckrt_hunt.specs.declared.plan.Plan.{Plan}
 use Rattle.ckrt_hunt.specs.declared.made.Made.{Made}
 use Rattle.ckrt_hunt.specs.declared.runs.Told.{Told}
@@ -57,7 +57,7 @@ pub record HasCome (p : Plan) (start : State) (events : List Event) (x : Point) 
 -- accepted at its turn; and the outcome and the digest are those of the plain fold over them.
 pub record ComesTo (p : Plan) (start : State) (told : Told) : Type 0 where
   pub events : List Event
-  pub ending : DriveEnd
+  pub ending : ScheduleEnd
   pub scheduled : AreScheduled p events (beginning start)
   pub ended : next_at p (behind p events (beginning start)) ≡ End ending
   pub accepted : AllAccepted events start

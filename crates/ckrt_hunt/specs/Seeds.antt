@@ -1,5 +1,5 @@
 -- A range of seeds as a text (this project's own format): `A-B`, the first and the last one, in decimal.
-use Rattle.std.specs.Prelude.{ℕ, ◌^◌, ◌==◌, ◌&&◌, nat_le, nat_lt, Bool, if◌then◌else◌, List, length, Option, Some, None, option_and_then}
+use Rattle.std.specs.Prelude.{◌≡◌, ◌≤◌, ℕ, ◌^◌, ◌==◌, ◌&&◌, nat_le, nat_lt, Bool, false, if◌then◌else◌, List, length, Option, Some, None, option_and_then}
 use Rattle.std.specs.Char.{digit_value}
 use Rattle.std.specs.List.{after_first, before_first, list_all}
 use Rattle.std.specs.Str.Parse.{digits_value, without_leading_plus}
@@ -28,3 +28,9 @@ seeds_of t =
 -- the ends of a range
 abbrev pub ends_of : Seeds → ℕ × ℕ
 ends_of s = (s.first, s.last)
+
+-- a beginning of a range; all of it, where it may not end early
+pub record IsBeginning (all : Seeds) (may_end : Bool) (some : Seeds) : Type 0 where
+  pub first : some.first ≡ all.first
+  pub last : some.last ≤ all.last
+  pub whole : may_end ≡ false → some.last ≡ all.last

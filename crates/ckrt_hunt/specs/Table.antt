@@ -18,6 +18,7 @@ use Rattle.ckrt_hunt.specs.declared.shape.Shape.{Shape}
 use Rattle.ckrt_hunt.specs.declared.shorten.Found.{Found}
 use Rattle.ckrt_hunt.specs.declared.table.Asked.{Asked}
 use Rattle.ckrt_hunt.specs.declared.tally.Tally.{Tally}
+use Rattle.ckrt_hunt.specs.declared.telling.HuntDone.{HuntDone}
 
 -- WHAT A RUN CAME TO
 
@@ -105,6 +106,10 @@ others_line a others =
 
 abbrev pub table_text : Asked → Tally → List ℕ
 table_text a t = rows_text a t.rows.items (length t.rows.items) ++ others_line a t.others
+
+-- of the seeds that were run
+abbrev pub done_text : Asked → HuntDone → List ℕ
+done_text a done = table_text (record a { seeds = done.seeds }) done.tally
 
 -- A RUN THAT IS KEPT
 --

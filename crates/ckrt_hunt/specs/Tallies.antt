@@ -7,11 +7,14 @@ use Rattle.ckrt_machine.specs.Steps.{State}
 use Rattle.ckrt_hunt.specs.declared.runs.Told.{Told}
 use Rattle.ckrt_hunt.specs.declared.row.Row.{Row}
 use Rattle.ckrt_hunt.specs.declared.seeds.Seeds.{Seeds}
+use Rattle.ckrt_hunt.specs.declared.table.Asked.{Asked}
 use Rattle.ckrt_hunt.specs.declared.shape.Shape.{Shape}
 use Rattle.ckrt_hunt.specs.declared.tally.Tally.{Tally}
 use Rattle.ckrt_hunt.specs.declared.tally.TheConstants.{TALLY_ROWS}
+use Rattle.ckrt_hunt.specs.declared.telling.HuntDone.{HuntDone}
 use Rattle.ckrt_hunt.specs.Plans.{plan_of}
 use Rattle.ckrt_hunt.specs.Runs.{ComesTo}
+use Rattle.ckrt_hunt.specs.Seeds.{IsBeginning}
 
 -- one more, as far as 64 bits count
 abbrev pub one_more : ℕ → ℕ
@@ -93,3 +96,8 @@ pub record IsTallyOf (h : Hunted) (seeds : Seeds) (tally : Tally) : Type 0 where
 -- the program with this image, as it is run with a shape
 abbrev pub hunted_of : (image : List ℕ) → Shape → Hunted
 hunted_of image s = record { limit = s.limit; start = fresh s.pages s.harts image }
+
+-- the program with this image was hunted as it was asked for: by the first seeds of its range, or by all of them
+pub record IsHunted (image : List ℕ) (asked : Asked) (done : HuntDone) : Type 0 where
+  pub begins : IsBeginning asked.seeds asked.may_end done.seeds
+  pub tally : IsTallyOf (hunted_of image asked.shape) done.seeds done.tally

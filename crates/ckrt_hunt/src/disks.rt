@@ -12,7 +12,7 @@ use crate::keeping::{KeepFault, keep};
 use crate::plan::Plan;
 use ckrt_disk::Disk;
 use ckrt_recovery::{Config, FormatFault, RecoverFault, Session, format, recover};
-use ckrt_schedule::ScheduleEnd as DriveEnd;
+use ckrt_schedule::ScheduleEnd;
 use std::alloc::Global;
 use thiserror::Error;
 
@@ -34,11 +34,11 @@ pub enum SeedFault {
 #[derive(Drop)]
 pub struct KeptDisk<D: Disk> {
     pub disk: D,
-    pub result: Result<DriveEnd, SeedFault>,
+    pub result: Result<ScheduleEnd, SeedFault>,
 }
 
 /// Keeps a run over a session.
-fn keep_over<D: Disk>(session: &mut Session<D>, plan: &Plan<'_>) -> Result<DriveEnd, SeedFault>
+fn keep_over<D: Disk>(session: &mut Session<D>, plan: &Plan<'_>) -> Result<ScheduleEnd, SeedFault>
     ensures kept { IfOk result (λ ending. KeepsRun plan.now session.old session.new (Ok ending)) }
     ensures took { (events : List Event) × Accepts events session.old session.new }
     ensures why { IfErr result (IsOverReason plan.now session.old session.new) }

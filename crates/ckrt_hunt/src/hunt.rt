@@ -1,11 +1,13 @@
 //! One seed after another.
-ghost use Rattle.std.specs.Prelude.{◌≡◌, ◌≤◌, ◌*◌, ◌-◌, ◌<◌, ◌↔◌, length, IfOk, IsErrOf};
+ghost use Rattle.std.specs.Prelude.{◌≡◌, ◌≤◌, ◌*◌, ◌+◌, ◌-◌, ◌<◌, ◌↔◌, length, IfOk, IsErrOf};
 ghost use Rattle.ckrt_memory.specs.declared.MemoryError.TheVariants.{ImageTooLong};
 ghost use Rattle.ckrt_machine.specs.Events.{fresh};
 
 use crate::noting::note_turns;
+use crate::onlooker::HuntOnlooker;
 use crate::plan::Plan;
 use crate::runs::{Finished, Told, run};
+use crate::seeds::Seeds;
 use crate::shape::Shape;
 use crate::tally::Tally;
 use crate::turns::Turns;
@@ -41,6 +43,7 @@ impl Model for Hunt {
 impl Hunt {
     ghost use Rattle.ckrt_hunt.specs.Plans.{plan_of};
     ghost use Rattle.ckrt_hunt.specs.Runs.{EndsWith};
+    ghost use Rattle.ckrt_hunt.specs.Seeds.{IsBeginning};
     ghost use Rattle.ckrt_hunt.specs.Tallies.{AreNoted, SeedComesTo};
 
     /// The hunt of a program that begins with this image.
@@ -102,14 +105,31 @@ impl Hunt {
         self.run_by(&Plan::new(self.limit, seed)).told
     }
 
-    /// Notes what the seeds from one on, up to but not including another, come to, in turn. It takes no memory, and the hunt
-    /// is as it was.
-    pub fn note_seeds(&mut self, tally: &mut Tally, first: u64, end: u64)
-        ensures noted { AreNoted self.old first (end - first) tally.old tally.new }
+    /// Notes what the seeds of a range come to, in turn. An onlooker is told of each but the last one. Where the hunt may end early, it
+    /// ends behind the first seed after which the onlooker has no time. The answer is the range that was noted. It takes no
+    /// memory, and the hunt is as it was.
+    pub fn note_seeds<O: HuntOnlooker>(
+        &mut self,
+        tally: &mut Tally,
+        seeds: Seeds,
+        may_end: bool,
+        onlooker: &mut O,
+    ) -> Seeds
+        ensures begins { IsBeginning seeds may_end result }
+        ensures noted { AreNoted self.old seeds.first (result.last - seeds.first + 1)
+            tally.old tally.new }
         ensures same { self.new ≡ self.old }
     {
-        for seed in first..end {
+        for seed in seeds.first..seeds.last {
             tally.note(seed, self.run_seed(seed));
+            if !onlooker.has_time(seed, tally) && may_end {
+                return Seeds {
+                    first: seeds.first,
+                    last: seed,
+                };
+            }
         }
+        tally.note(seeds.last, self.run_seed(seeds.last));
+        seeds
     }
 }

@@ -13,7 +13,7 @@ use ckrt_disk::Disk;
 use ckrt_events::Event;
 use ckrt_machine::{Answer, Refusal};
 use ckrt_recovery::{Session, SubmitFault};
-use ckrt_schedule::{Next, ScheduleEnd as DriveEnd};
+use ckrt_schedule::{Next, ScheduleEnd};
 use thiserror::Error;
 
 /// Why a run isn't kept whole. The disk then has the events before, as far as they were acknowledged.
@@ -116,7 +116,7 @@ fn keep_event<D: Disk>(
 }
 
 /// The end of a run: all its events are acknowledged.
-fn finish<D: Disk>(session: &mut Session<D>, ending: DriveEnd) -> Result<DriveEnd, KeepFault>
+fn finish<D: Disk>(session: &mut Session<D>, ending: ScheduleEnd) -> Result<ScheduleEnd, KeepFault>
     ensures accepts { Accepts [] session.old session.new }
     ensures ended { IfOk result (λ e. e ≡ ending) }
     ensures saved { OnOk result (session.new.acknowledged ≡ session.new.progress.count) }
@@ -131,7 +131,7 @@ fn finish<D: Disk>(session: &mut Session<D>, ending: DriveEnd) -> Result<DriveEn
 
 /// Runs a program by a plan over a session, from where it stands, and acknowledges the run's events: they are those that
 /// [`run`](crate::run) has from there. Its output isn't kept. It takes no memory.
-pub fn keep<D: Disk>(session: &mut Session<D>, plan: &Plan<'_>) -> Result<DriveEnd, KeepFault>
+pub fn keep<D: Disk>(session: &mut Session<D>, plan: &Plan<'_>) -> Result<ScheduleEnd, KeepFault>
     requires { 1 ≤ session.old.progress.machine.state.tables.threads.hart_count }
     ensures { KeepsRun plan.now session.old session.new result }
 {

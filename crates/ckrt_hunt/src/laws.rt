@@ -4,7 +4,7 @@ ghost use Rattle.std.specs.Prelude.{◌≡◌, ℕ};
 ghost use Rattle.ckrt_machine.specs.Steps.{State};
 ghost use Rattle.ckrt_hunt.specs.declared.plan.Plan.{Plan};
 ghost use Rattle.ckrt_hunt.specs.declared.runs.Told.{Told};
-ghost use Rattle.ckrt_schedule.specs.declared.next.ScheduleEnd.{ScheduleEnd as DriveEnd};
+ghost use Rattle.ckrt_schedule.specs.declared.next.ScheduleEnd.{ScheduleEnd};
 ghost use Rattle.ckrt_stored.specs.Programs.{Program, start_of};
 ghost use Rattle.ckrt_hunt.specs.KeptDisks.{HasRun, IsToldOf};
 ghost use Rattle.ckrt_hunt.specs.Runs.{ComesTo};
@@ -22,14 +22,15 @@ pub fn seed_repeats()
 /// What is told of a run, and what a disk has that the run was kept on, are one thing: whatever a stop leaves of the disk
 /// recovers to the outcome that was told.
 pub fn told_is_kept<D: Disk>()
-    ensures { (program : Program) (p : Plan) (disk : D) (ending : DriveEnd) (told : Told)
+    ensures { (program : Program) (p : Plan) (disk : D) (ending : ScheduleEnd) (told : Told)
         → (has : HasRun D.Disk program p disk ending)
         → ComesTo p (start_of program) told → IsToldOf has told }
 {}
 
 /// What is told of a seed, and what a disk has on which its run was kept by a shorter schedule, are one thing too.
 pub fn told_is_kept_short<D: Disk>()
-    ensures { (h : Hunted) (seed : ℕ) (program : Program) (p : Plan) (disk : D) (ending : DriveEnd)
+    ensures { (h : Hunted) (seed : ℕ) (program : Program) (p : Plan) (disk : D)
+        (ending : ScheduleEnd)
         (told : Told) → h.start ≡ start_of program → Repeats h seed p
         → (has : HasRun D.Disk program p disk ending) → SeedComesTo h seed told
         → IsToldOf has told }

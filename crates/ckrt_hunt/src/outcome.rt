@@ -6,7 +6,7 @@ use arrayvec::ArrayVec;
 use ckrt_mutex::Mutexes;
 use ckrt_objects::get;
 use ckrt_rv32i::Cause;
-use ckrt_schedule::ScheduleEnd as DriveEnd;
+use ckrt_schedule::ScheduleEnd;
 use ckrt_state::{Status, Tables};
 use ckrt_thread::{MAX_THREADS, Reason, ThreadId, Wait};
 
@@ -127,13 +127,13 @@ fn by_status(status: Status) -> Outcome
 }
 
 /// What a run comes to that ends so, with these tables.
-pub fn outcome_of(tables: &Tables, ending: DriveEnd) -> Outcome
+pub fn outcome_of(tables: &Tables, ending: ScheduleEnd) -> Outcome
     ensures { result ≡ outcome_of ending tables.now }
 {
     match ending {
-        DriveEnd::Ended => by_status(tables.status),
-        DriveEnd::WaitsForInput => Outcome::WaitsForInput,
-        DriveEnd::Deadlock => Outcome::Deadlock(waiting_of(tables)),
-        DriveEnd::Enough => Outcome::NoEnd,
+        ScheduleEnd::Ended => by_status(tables.status),
+        ScheduleEnd::WaitsForInput => Outcome::WaitsForInput,
+        ScheduleEnd::Deadlock => Outcome::Deadlock(waiting_of(tables)),
+        ScheduleEnd::Enough => Outcome::NoEnd,
     }
 }

@@ -13,7 +13,7 @@ use crate::plan::Plan;
 use crate::turn::{next, runner_of};
 use ckrt_events::Event;
 use ckrt_machine::Machine;
-use ckrt_schedule::{Next, ScheduleEnd as DriveEnd};
+use ckrt_schedule::{Next, ScheduleEnd};
 use sha2::{Digest, Sha256};
 
 /// What is told of a run.
@@ -73,7 +73,7 @@ fn digest_of(outcome: &Outcome, hasher: Sha256) -> Option<[u8; 32]>
 }
 
 /// What is told of a run that has come to its end.
-fn tell(machine: &Machine, ending: DriveEnd, hasher: Sha256) -> Told
+fn tell(machine: &Machine, ending: ScheduleEnd, hasher: Sha256) -> Told
     ensures outcome { result.outcome ≡ outcome_of ending machine.now.state.tables }
     ensures digest { (output : List ℕ) → Holds256 hasher output
         → result.digest ≡ digest_of result.outcome output }

@@ -18,6 +18,8 @@ pub struct Asked<'a> {
     pub image: &'a str,
     pub shape: Shape,
     pub seeds: Seeds,
+    /// Whether it may end before its last seed.
+    pub may_end: bool,
 }
 
 /// Of how many runs.

@@ -2,10 +2,12 @@
 ghost use Rattle.std.specs.Prelude.{◌≡◌, ◌≢◌, ◌*◌, ◌-◌, ◌<◌, ◌↔◌, length, IfErr, IfOk, IsErrOf};
 ghost use Rattle.std.specs.Io.KnownBytes.{Appends};
 ghost use Rattle.ckrt_memory.specs.declared.MemoryError.TheVariants as memory;
-ghost use Rattle.ckrt_hunt.specs.Table.{table_text};
-ghost use Rattle.ckrt_hunt.specs.Tallies.{IsTallyOf, hunted_of};
+ghost use Rattle.ckrt_hunt.specs.Table.{done_text};
+ghost use Rattle.ckrt_hunt.specs.Tallies.{IsHunted};
 
 use crate::hunt::Hunt;
+use crate::onlooker::HuntOnlooker;
+use crate::seeds::Seeds;
 use crate::table::{Asked, write_table};
 use crate::tally::Tally;
 use ckrt_memory::MemoryError;
@@ -27,17 +29,30 @@ pub enum HuntFault {
     Write,
 }
 
-/// What the seeds come to.
-fn tally_of(alloc: Global, image: &[u8], asked: &Asked<'_>) -> Result<Tally, MemoryError>
-    ensures hunted { IfOk result
-        (IsTallyOf (hunted_of image.now asked.now.shape) asked.now.seeds) }
+/// What a hunt came to.
+#[derive(Drop)]
+pub struct HuntDone {
+    /// The seeds that were run.
+    pub seeds: Seeds,
+    /// What they came to.
+    pub tally: Tally,
+}
+
+/// Runs the seeds.
+fn hunt_seeds<O: HuntOnlooker>(
+    alloc: Global,
+    image: &[u8],
+    asked: &Asked<'_>,
+    onlooker: &mut O,
+) -> Result<HuntDone, MemoryError>
+    ensures hunted { IfOk result (IsHunted image.now asked.now) }
     ensures too_long { IsErrOf result memory.ImageTooLong
         ↔ (4096 * (asked.now.shape.pages - 1) < length image.now) }
 {
     let mut hunt = Hunt::new(alloc, image, asked.shape)?;
     let mut tally = Tally::new(alloc)?;
-    hunt.note_seeds(&mut tally, asked.seeds.first, asked.seeds.last + 1);
-    Ok(tally)
+    let seeds = hunt.note_seeds(&mut tally, asked.seeds, asked.may_end, onlooker);
+    Ok(HuntDone { seeds, tally })
 }
 
 /// The fault that comes of a machine's.
@@ -52,32 +67,37 @@ fn fault_of(fault: MemoryError) -> HuntFault
 }
 
 /// Hunts a program that begins with this image: runs each seed of the range in turn, and writes the table of what they
-/// came to, which it answers too. All room is taken before the first run.
+/// came to, which it answers too. Where the hunt may end early, an onlooker says behind which seed it does, and the table is that of the
+/// seeds up to it. All room is taken before the first run.
 ///
 /// # Errors
 ///
 /// `ImageTooLong` where the image has more bytes than the pages from page 1 on, and `OutOfMemory` where the allocator
 /// refuses the room, before anything is written; `Write` where the writer failed.
-pub fn hunt_and_tell<W: Write>(
+pub fn hunt_and_tell<O: HuntOnlooker, W: Write>(
     alloc: Global,
     image: &[u8],
     asked: &Asked<'_>,
+    onlooker: &mut O,
     out: &mut W,
-) -> Result<Tally, HuntFault>
-    ensures hunted { IfOk result
-        (IsTallyOf (hunted_of image.now asked.now.shape) asked.now.seeds) }
-    ensures told { IfOk result (λ tally.
-        Appends (W.contents out.old) (W.contents out.new) (table_text asked.now tally)) }
+) -> Result<HuntDone, HuntFault>
+    ensures hunted { IfOk result (IsHunted image.now asked.now) }
+    ensures told { IfOk result (λ done.
+        Appends (W.contents out.old) (W.contents out.new) (done_text asked.now done)) }
     ensures too_long { IsErrOf result HuntFault.ImageTooLong
         ↔ (4096 * (asked.now.shape.pages - 1) < length image.now) }
     ensures unwritten { IfErr result (λ e. e ≢ HuntFault.Write → out.new ≡ out.old) }
 {
-    let tally = match tally_of(alloc, image, asked) {
-        Ok(tally) => tally,
+    let done = match hunt_seeds(alloc, image, asked, onlooker) {
+        Ok(done) => done,
         Err(fault) => return Err(fault_of(fault)),
     };
-    match write_table(out, asked, &tally) {
-        Ok(()) => Ok(tally),
+    let told = Asked {
+        seeds: done.seeds,
+        ..*asked
+    };
+    match write_table(out, &told, &done.tally) {
+        Ok(()) => Ok(done),
         Err(_) => Err(HuntFault::Write),
     }
 }

@@ -16,7 +16,7 @@ use crate::made::Made;
 use crate::plan::Plan;
 use ckrt_events::Event;
 use ckrt_machine::Machine;
-use ckrt_schedule::{Next, ScheduleEnd as DriveEnd, idle, run_by};
+use ckrt_schedule::{Next, ScheduleEnd, idle, run_by};
 use ckrt_state::{Status, Tables};
 use ckrt_thread::{Hart, MAX_HARTS, MAX_THREADS, Thread, ThreadId, Threads};
 
@@ -251,13 +251,7 @@ fn wanted_hart(by: Chooser) -> u32
 }
 
 /// A thread runs on its hart, and goes onto the one that is wanted where it is on none.
-fn on_or_onto(
-    by: Chooser,
-    plan: &Plan<'_>,
-    made: &Made,
-    tables: &Tables,
-    thread: ThreadId,
-) -> Event
+fn on_or_onto(by: Chooser, plan: &Plan<'_>, made: &Made, tables: &Tables, thread: ThreadId) -> Event
     requires by { Chooses plan.now made.now by }
     requires number { (1 ≤ thread) × (thread ≤ 64) }
     requires left { made.now.steps < plan.now.limit }
@@ -322,13 +316,7 @@ fn tick_by(by: Chooser, plan: &Plan<'_>, tables: &Tables) -> Event
 }
 
 /// The event of a turn, for the thread whose turn it is.
-fn event_for(
-    by: Chooser,
-    plan: &Plan<'_>,
-    made: &Made,
-    tables: &Tables,
-    thread: ThreadId,
-) -> Event
+fn event_for(by: Chooser, plan: &Plan<'_>, made: &Made, tables: &Tables, thread: ThreadId) -> Event
     requires by { Chooses plan.now made.now by }
     requires number { (1 ≤ thread) × (thread ≤ 64) }
     requires left { made.now.steps < plan.now.limit }
@@ -379,7 +367,7 @@ fn or_enough(machine: &Machine, next: Next) -> Next
     match next {
         Next::Submit(event) => match machine.accept(0, &event) {
             Ok(()) => Next::Submit(event),
-            Err(_) => Next::End(DriveEnd::Enough),
+            Err(_) => Next::End(ScheduleEnd::Enough),
         },
         Next::End(ending) => Next::End(ending),
     }
@@ -392,10 +380,10 @@ pub fn next(machine: &Machine, plan: &Plan<'_>, made: &Made) -> Next
     ensures fit { IsFitNext plan.now made.now machine.now.state.tables result }
 {
     if !matches!(machine.status(), Status::Running) {
-        return Next::End(DriveEnd::Ended);
+        return Next::End(ScheduleEnd::Ended);
     }
     if is_enough(plan, made) {
-        return Next::End(DriveEnd::Enough);
+        return Next::End(ScheduleEnd::Enough);
     }
     let next = next_for(plan, made, machine.tables());
     or_enough(machine, next)

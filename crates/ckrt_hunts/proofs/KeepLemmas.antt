@@ -1,7 +1,7 @@
 -- What is kept, with other disks for a path.
 use Rattle.std.proofs.Common.{◌≡◌, ◌⊎◌, ℕ, zero, suc, Bool, List, length, Option, Some, None, Result, Ok, Err, inl, inr, subst, sym}
 use Rattle.ckrt_disk.specs.declared.disk.Disk.{Ghosts}
-use Rattle.ckrt_hunt.specs.declared.tally.Tally.{Tally}
+use Rattle.ckrt_hunt.specs.declared.telling.HuntDone.{HuntDone}
 use Rattle.ckrt_hunt.specs.declared.telling.HuntFault.{HuntFault}
 use Rattle.ckrt_sources.specs.Openings.{Openings, opened, with_making}
 use Rattle.ckrt_outcomes.specs.declared.fault.JobFault.{JobFault}
@@ -107,11 +107,11 @@ module _ {D : Type 0} (d : Ghosts D) (h : Hunted) (seed : ℕ) (config : Config)
   at_weaker (in_folder folder) old new result more (inl lacks) = inl lacks
   at_weaker (in_folder folder) old new result more (inr k) = inr (each_same folder old new result k)
 
-pub ends_weaker : {D : Type 0} (d : Ghosts D) (it : Hunter D) (More : List ℕ → D → Type 0) (guest : List ℕ) (asked : Asked) (old new : Reached D) (told : Result Tally HuntFault) (result : Result Bool JobFault)
+pub ends_weaker : {D : Type 0} (d : Ghosts D) (it : Hunter D) (More : List ℕ → D → Type 0) (guest : List ℕ) (asked : Asked) (old new : Reached D) (told : Result HuntDone HuntFault) (result : Result Bool JobFault)
     → ((at : List ℕ) (disk : D) → it.Fills at disk → More at disk) → EndsHunt d (wanted_of it guest asked) old new told result → EndsHunt d (wanted_of (record it { Fills = More }) guest asked) old new told result
-ends_weaker d it More guest asked old new (Ok tally) result more e = record {
+ends_weaker d it More guest asked old new (Ok done) result more e = record {
   kept = e.kept;
-  keeps = at_weaker d (hunted_of guest asked.shape) asked.seeds.first (config_of it.asked) guest it.Fills More (place_of it.asked.keep tally.rows.items) old new e.kept more e.keeps;
+  keeps = at_weaker d (hunted_of guest asked.shape) asked.seeds.first (config_of it.asked) guest it.Fills More (place_of it.asked.keep done.tally.rows.items) old new e.kept more e.keeps;
   gives = e.gives;
 }
 ends_weaker d it More guest asked old new (Err f) result more e = e

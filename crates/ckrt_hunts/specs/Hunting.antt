@@ -1,5 +1,5 @@
 -- The hunt of the image of a path: what is told, what is kept, and what it comes to.
-use Rattle.std.specs.Prelude.{◌≡◌, ◌≢◌, ◌⊎◌, ℕ, zero, suc, ◌+◌, ◌-◌, ◌==◌, nat_lt, Bool, false, if◌then◌else◌, List, ◌++◌, length, slice_get, codes, decimal, Option, Some, None, Result, Ok, Err, IfErr, IfOk}
+use Rattle.std.specs.Prelude.{◌≡◌, ◌≢◌, ◌⊎◌, ℕ, zero, suc, ◌+◌, ◌-◌, ◌==◌, nat_lt, Bool, true, false, if◌then◌else◌, List, ◌++◌, length, slice_get, codes, decimal, Option, Some, None, is_some, Result, Ok, Err, IfErr, IfOk}
 use Rattle.std.specs.Io.KnownBytes.{Appends}
 use Rattle.ckrt_disk.specs.declared.disk.Disk.{Ghosts}
 use Rattle.ckrt_checkpoint.specs.declared.config.Config.{Config}
@@ -11,18 +11,20 @@ use Rattle.ckrt_memory.specs.declared.MemoryError.{MemoryError}
 use Rattle.ckrt_memory.specs.declared.MemoryError.TheVariants as memory
 use Rattle.ckrt_hunt.specs.Seeds.{ends_of, seeds_of}
 use Rattle.ckrt_hunt.specs.Short.{IsFound}
-use Rattle.ckrt_hunt.specs.Table.{kept_text, table_text, unkept_text}
-use Rattle.ckrt_hunt.specs.Tallies.{Hunted, IsTallyOf, hunted_of, numbers_of, shape_of}
+use Rattle.ckrt_hunt.specs.Table.{done_text, kept_text, unkept_text}
+use Rattle.ckrt_hunt.specs.Tallies.{Hunted, IsHunted, hunted_of, numbers_of, shape_of}
 use Rattle.ckrt_hunt.specs.declared.plan.Plan.{Plan}
 use Rattle.ckrt_hunt.specs.declared.row.Row.{Row}
 use Rattle.ckrt_hunt.specs.declared.shorten.Found.{Found}
 use Rattle.ckrt_hunt.specs.declared.table.Asked.{Asked}
 use Rattle.ckrt_hunt.specs.declared.tally.Tally.{Tally}
+use Rattle.ckrt_hunt.specs.declared.telling.HuntDone.{HuntDone}
 use Rattle.ckrt_hunt.specs.declared.telling.HuntFault.{HuntFault}
 use Rattle.ckrt_hunt.specs.declared.telling.HuntFault.TheVariants as hunt
 use Rattle.ckrt_words.specs.Jobs.{Hunting}
 use Rattle.ckrt_sources.specs.Openings.{Openings, opened, with_image}
 use Rattle.ckrt_outcomes.specs.Outside.{Outside}
+use Rattle.ckrt_outcomes.specs.Ranges.{is_hunt_in_range}
 use Rattle.ckrt_outcomes.specs.declared.fault.JobFault.{JobFault}
 use Rattle.ckrt_outcomes.specs.declared.fault.JobFault.TheVariants as job
 use Rattle.ckrt_jobs.specs.Making.{EndsOnImage, IsFit}
@@ -37,6 +39,15 @@ config_of h = record { pages = h.pages; harts = h.harts; journal = 1048576 }
 abbrev pub kept_size : Hunting → ℕ
 kept_size h = size_needed (config_of h)
 
+-- the seeds that the words ask for: all from 1 on that there is time for, or those of a range, which is 1-200 where they name none
+abbrev pub seeds_by : (seconds : Option ℕ) → (seeds : Option (List ℕ)) → Option (ℕ × ℕ)
+seeds_by None None = seeds_of (codes "1-200")
+seeds_by None (Some text) = seeds_of text
+seeds_by (Some seconds) seeds = Some (1, 18446744073709551614)
+
+abbrev pub asked_seeds : Hunting → Option (ℕ × ℕ)
+asked_seeds h = seeds_by h.seconds h.seeds
+
 -- What is hunted: what the words ask for, the bytes of the image, where they are known, and the disks that may be made for a path.
 pub record Hunter (D : Type 0) : Type 1 where
   pub asked : Hunting
@@ -49,11 +60,11 @@ fault_of hunt.ImageTooLong = job.Format format.ImageTooLong
 fault_of hunt.OutOfMemory = job.OutOfMemory
 fault_of hunt.Write = job.Serve serve.Write
 
--- the table was written of a tally that is that of the seeds; where it wasn't, nothing was, but where the writer failed
+-- the table was written of the seeds that were run; where it wasn't, nothing was, but where the writer failed
 pub record Tells (guest : List ℕ) (asked : Asked) (a b : Option (List ℕ))
-    (told : Result Tally HuntFault) : Type 0 where
-  pub hunted : IfOk told (IsTallyOf (hunted_of guest asked.shape) asked.seeds)
-  pub written : IfOk told (λ tally. Appends a b (table_text asked tally))
+    (told : Result HuntDone HuntFault) : Type 0 where
+  pub hunted : IfOk told (IsHunted guest asked)
+  pub written : IfOk told (λ done. Appends a b (done_text asked done))
   pub unwritten : IfErr told (λ e. e ≢ hunt.Write → b ≡ a)
 
 -- whether runs came to several outcomes
@@ -257,8 +268,8 @@ pub record EndsTold {D : Type 0} (d : Ghosts D) (wanted : Wanted D) (asked new :
 
 -- where it wasn't told nothing is kept
 abbrev pub EndsHunt : {D : Type 0} → Ghosts D → Wanted D → (asked new : Reached D)
-    → Result Tally HuntFault → Result Bool JobFault → Type 0
-EndsHunt d wanted asked new (Ok tally) result = EndsTold d wanted asked new tally result
+    → Result HuntDone HuntFault → Result Bool JobFault → Type 0
+EndsHunt d wanted asked new (Ok done) result = EndsTold d wanted asked new done.tally result
 EndsHunt d wanted asked new (Err f) result = (result ≡ Err (fault_of f)) × (new ≡ asked)
 
 -- WHAT BECOMES OF THE WORDS
@@ -271,10 +282,10 @@ pub record RefusesSizes {D : Type 0} (it : Hunter D) (old new : Outside D)
   pub is : result ≡ Err (job.Format format.BadConfig)
   pub unasked : new ≡ old
 
--- the text of the seeds is no range, and nothing was asked for
-pub record RefusesSeeds {D : Type 0} (it : Hunter D) (old new : Outside D)
+-- the words have a number that is out of its range, or seeds beside seconds, or the text of the seeds is no range; and nothing was asked for
+pub record RefusesRange {D : Type 0} (it : Hunter D) (old new : Outside D)
     (result : Result Bool JobFault) : Type 0 where
-  pub none : seeds_of it.asked.seeds ≡ None
+  pub unfit : (is_hunt_in_range it.asked ≡ false) ⊎ (asked_seeds it.asked ≡ None)
   pub is : result ≡ Err job.Range
   pub unasked : new ≡ old
 
@@ -287,11 +298,13 @@ pub record LacksImage {D : Type 0} (it : Hunter D) (old new : Outside D)
   pub unwritten : new.written ≡ old.written
   pub unread : new.unread ≡ old.unread
 
--- the words ask for this image, with this shape and these seeds
+-- the words ask for this image, with this shape and these seeds, and only a hunt by time may end before the last one
 pub record IsAsked (h : Hunting) (asked : Asked) : Type 0 where
+  pub in_range : is_hunt_in_range h ≡ true
   pub image : asked.image.now ≡ h.image
   pub shape : Some (numbers_of asked.shape) ≡ shape_of h.pages h.harts h.steps
-  pub seeds : Some (ends_of asked.seeds) ≡ seeds_of h.seeds
+  pub seeds : Some (ends_of asked.seeds) ≡ asked_seeds h
+  pub may_end : asked.may_end ≡ is_some h.seconds
 
 -- the image was read, and hunted: the table was written, and then what is told of a run that was kept
 pub record HuntsImage {D : Type 0} (d : Ghosts D) (it : Hunter D) (old new : Outside D)
@@ -301,7 +314,7 @@ pub record HuntsImage {D : Type 0} (d : Ghosts D) (it : Hunter D) (old new : Out
   pub fit : IsFit (config_of it.asked) it.known
   pub asked : Asked
   pub is_asked : IsAsked it.asked asked
-  pub told : Result Tally HuntFault
+  pub told : Result HuntDone HuntFault
   pub table : Option (List ℕ)
   pub tells : Tells guest asked old.written table told
   pub ends : EndsHunt d (wanted_of it guest asked)
@@ -312,4 +325,4 @@ pub record HuntsImage {D : Type 0} (d : Ghosts D) (it : Hunter D) (old new : Out
 abbrev pub HuntsPath : {D : Type 0} → Ghosts D → Hunter D → (old new : Outside D)
     → Result Bool JobFault → Type 0
 HuntsPath d it old new result =
-    RefusesSizes it old new result ⊎ RefusesSeeds it old new result ⊎ LacksImage it old new result ⊎ HuntsImage d it old new result
+    RefusesSizes it old new result ⊎ RefusesRange it old new result ⊎ LacksImage it old new result ⊎ HuntsImage d it old new result

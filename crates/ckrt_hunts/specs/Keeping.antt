@@ -4,7 +4,7 @@ use Rattle.ckrt_disk.specs.Frame.{IsSameDisk}
 use Rattle.ckrt_disk.specs.declared.disk.Disk.{Ghosts}
 use Rattle.ckrt_stored.specs.Programs.{Program}
 use Rattle.ckrt_stored.specs.declared.fault.RecoverFault.TheVariants as recover
-use Rattle.ckrt_schedule.specs.declared.next.ScheduleEnd.{ScheduleEnd as DriveEnd}
+use Rattle.ckrt_schedule.specs.declared.next.ScheduleEnd.{ScheduleEnd}
 use Rattle.ckrt_hunt.specs.KeptDisks.{KeepsSeed}
 use Rattle.ckrt_hunt.specs.declared.disks.KeptDisk.{KeptDisk}
 use Rattle.ckrt_hunt.specs.declared.disks.SeedFault.{SeedFault}
@@ -43,7 +43,7 @@ pub record LacksName {D : Type 0} (path : List ℕ) (end : D) (asked new : Openi
 
 -- only a disk that has the whole run gets a name, and any other is given up
 abbrev pub EndsKeeping : {D : Type 0} → (path : List ℕ) → (end : D) → (asked new : Openings D)
-    → Result DriveEnd SeedFault → Result (Unit {0}) JobFault → Type 0
+    → Result ScheduleEnd SeedFault → Result (Unit {0}) JobFault → Type 0
 EndsKeeping path end asked new (Ok ending) result =
     GetsName path end asked new result ⊎ LacksName path end asked new result
 EndsKeeping path end asked new (Err f) result =

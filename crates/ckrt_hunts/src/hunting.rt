@@ -1,18 +1,19 @@
 //! The hunt of the image of a path.
 ghost use Rattle.std.specs.Prelude.{◌≡◌, ℕ, List, Option, Result, option_map, true};
+ghost use Rattle.ckrt_hunt.specs.Seeds.{ends_of};
 ghost use Rattle.ckrt_checkpoint.specs.Layout.{is_valid};
 ghost use Rattle.ckrt_hunt.specs.Tallies.{hunted_of};
 ghost use Rattle.ckrt_words.specs.Jobs.{hunting_of};
 ghost use Rattle.ckrt_outcomes.specs.Outside.{outside};
-ghost use Rattle.ckrt_hunts.specs.Hunting.{EndsHunt, HuntsPath, KeepsAt, Tells, answer_of, config_of, fault_of, kept_size, place_of, reached, sought_in, wanted_of};
+ghost use Rattle.ckrt_hunts.specs.Hunting.{EndsHunt, HuntsPath, KeepsAt, Tells, answer_of, asked_seeds, config_of, fault_of, kept_size, place_of, reached, sought_in, wanted_of};
 
 use crate::folder::{is_folder, keep_in_folder};
 use crate::found::{KeptAt, ToldHunt, keep_first};
 use ckrt_disk::Disk;
-use ckrt_hunt::{Asked, HuntFault, Seeds, Shape, Tally, hunt_and_tell};
+use ckrt_hunt::{Asked, HuntDone, HuntFault, HuntOnlooker, HuntWatch, Seeds, Shape, hunt_and_tell};
 use ckrt_jobs::fitting_image;
 use ckrt_main::ServeFault;
-use ckrt_outcomes::JobFault;
+use ckrt_outcomes::{JobFault, is_hunt_in_range};
 use ckrt_recovery::{Config, FormatFault};
 use ckrt_sources::Sources;
 use ckrt_words::HuntJob;
@@ -27,6 +28,20 @@ fn config_of(job: &HuntJob<'_>) -> Config
         pages: job.pages,
         harts: job.harts,
         journal: 1_048_576,
+    }
+}
+
+/// The seeds that the words ask for: of a hunt by time all from 1 on, and 1 to 200 where they say nothing.
+fn seeds_for(job: &HuntJob<'_>) -> Option<Seeds>
+    ensures { option_map ends_of result ≡ asked_seeds (hunting_of job.now) }
+{
+    match (job.seconds, job.seeds) {
+        (Some(_), _) => Some(Seeds {
+            first: 1,
+            last: u64::MAX - 1,
+        }),
+        (None, Some(text)) => Seeds::read(text),
+        (None, None) => Seeds::read("1-200"),
     }
 }
 
@@ -53,17 +68,18 @@ fn answer_of(kept: Result<(), JobFault>, several: bool) -> Result<bool, JobFault
 
 /// Hunts, and writes the table of it, which is flushed.
 #[tactic(auto, using(crate::proofs::AppendLemmas::appends_kept))]
-fn tell<W: Write>(
+fn tell<O: HuntOnlooker, W: Write>(
     alloc: Global,
     image: &[u8],
     asked: &Asked<'_>,
+    onlooker: &mut O,
     writer: &mut W,
-) -> Result<Tally, HuntFault>
+) -> Result<HuntDone, HuntFault>
     ensures { Tells image.now asked.now (W.contents writer.old) (W.contents writer.new) result }
 {
-    let tally = hunt_and_tell(alloc, image, asked, writer)?;
+    let done = hunt_and_tell(alloc, image, asked, onlooker, writer)?;
     match writer.flush() {
-        Ok(()) => Ok(tally),
+        Ok(()) => Ok(done),
         Err(_) => Err(HuntFault::Write),
     }
 }
@@ -96,16 +112,17 @@ fn keep_if_asked<'a, I: Read, D: Disk, S: Sources<'a, I, D>, W: Write>(
 }
 
 /// Hunts an image that was read, tells what came of it, and keeps what the words ask for.
-fn hunt_image<'a, I: Read, D: Disk, S: Sources<'a, I, D>, W: Write>(
+fn hunt_image<'a, I: Read, D: Disk, S: Sources<'a, I, D>, W: Write, O: HuntOnlooker>(
     alloc: Global,
     job: &HuntJob<'a>,
     image: &[u8],
     asked: &Asked<'_>,
     sources: &mut S,
     writer: &mut W,
+    onlooker: &mut O,
 ) -> Result<bool, JobFault>
     requires { is_valid (config_of (hunting_of job.now)) ≡ true }
-    ensures hunts { (told : Result Tally HuntFault) × (table : Option (List ℕ))
+    ensures hunts { (told : Result HuntDone HuntFault) × (table : Option (List ℕ))
         × Tells image.now asked.now (W.contents writer.old) table told
         × EndsHunt D.Disk (wanted_of (record {
           asked = hunting_of job.now;
@@ -115,39 +132,45 @@ fn hunt_image<'a, I: Read, D: Disk, S: Sources<'a, I, D>, W: Write>(
         (reached (S.openings sources.old) table)
         (reached (S.openings sources.new) (W.contents writer.new)) told result }
 {
-    match tell(alloc, image, asked, writer) {
-        Ok(tally) => {
+    onlooker.begin_hunt(HuntWatch {
+        seconds: job.seconds,
+        progress: job.progress,
+    });
+    match tell(alloc, image, asked, onlooker, writer) {
+        Ok(done) => {
             let told = ToldHunt {
                 config: config_of(job),
                 image,
                 shape: asked.shape,
                 first: asked.seeds.first,
-                rows: tally.rows(),
+                rows: done.tally.rows(),
             };
             let kept = keep_if_asked::<I, D, S, W>(alloc, job.keep, told, sources, writer);
-            answer_of(kept, tally.has_several())
+            answer_of(kept, done.tally.has_several())
         }
         Err(fault) => Err(fault_of(fault)),
     }
 }
 
 /// Runs the image of a path by one schedule after another, each drawn from its seed, and writes the table of what they come to. The
-/// answer is whether they came to several outcomes. Where the words name a disk, the run of the first seed is kept there; where they
-/// name a folder, by a path that ends with `/`, the first run of each outcome is, on a disk of its own. Each is kept by the shortest
-/// schedule that is found, and written is its disk too, and how many switches it has. Of a folder the first run that isn't kept is
-/// named as well.
+/// seeds are those of a range, or those from 1 on for which an onlooker has time, one at least: the table is that of the range up to the
+/// last seed that was run. The answer is whether they came to several outcomes. Where the words name a disk, the run of the first seed is
+/// kept there; where they name a folder, by a path that ends with `/`, the first run of each outcome is, on a disk of its own. Each is
+/// kept by the shortest schedule that is found, and written is its disk too, and how many switches it has. Of a folder the first run
+/// that isn't kept is named as well.
 ///
 /// # Errors
 ///
-/// The first that applies: `BadConfig` where pages or harts are out of their ranges; `Range` where the text of the seeds isn't a
-/// range; `File` and `OutOfMemory` of the image, `File` also where it is an ELF file; `ImageTooLong`; `OutOfMemory` of the hunt;
-/// `Serve` where the writer failed; of the disk `OutOfMemory` of the search for a schedule, `File`, what formatting and recovery answer,
-/// `RunTooLong`, and `Serve` where the writer failed once the disk had its name.
-pub fn hunt_path<'a, I: Read + Drop, D: Disk, S: Sources<'a, I, D>, W: Write>(
+/// The first that applies: `BadConfig` where pages or harts are out of their ranges; `Range` where seconds are, where there are seeds
+/// beside seconds, or where the text of the seeds isn't a range; `File` and `OutOfMemory` of the image, `File` also where it is an ELF
+/// file; `ImageTooLong`; `OutOfMemory` of the hunt; `Serve` where the writer failed; of the disk `OutOfMemory` of the search for a
+/// schedule, `File`, what formatting and recovery answer, `RunTooLong`, and `Serve` where the writer failed once the disk had its name.
+pub fn hunt_path<'a, I: Read + Drop, D: Disk, S: Sources<'a, I, D>, W: Write, O: HuntOnlooker>(
     alloc: Global,
     job: &HuntJob<'a>,
     sources: &mut S,
     writer: &mut W,
+    onlooker: &mut O,
 ) -> Result<bool, JobFault>
     ensures hunts { (left : Option (List ℕ))
         → HuntsPath D.Disk (record {
@@ -165,7 +188,10 @@ pub fn hunt_path<'a, I: Read + Drop, D: Disk, S: Sources<'a, I, D>, W: Write>(
     let Some(shape) = Shape::new(job.pages, job.harts, job.steps) else {
         return Err(JobFault::Format(FormatFault::BadConfig));
     };
-    let Some(seeds) = Seeds::read(job.seeds) else {
+    if !is_hunt_in_range(job) {
+        return Err(JobFault::Range);
+    }
+    let Some(seeds) = seeds_for(job) else {
         return Err(JobFault::Range);
     };
     let image = fitting_image::<I, D, S>(alloc, sources, job.image, config)?;
@@ -173,6 +199,7 @@ pub fn hunt_path<'a, I: Read + Drop, D: Disk, S: Sources<'a, I, D>, W: Write>(
         image: job.image,
         shape,
         seeds,
+        may_end: job.seconds.is_some(),
     };
-    hunt_image::<I, D, S, W>(alloc, job, &image, &asked, sources, writer)
+    hunt_image::<I, D, S, W, O>(alloc, job, &image, &asked, sources, writer, onlooker)
 }

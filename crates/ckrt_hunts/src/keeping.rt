@@ -8,7 +8,7 @@ use ckrt_disk::Disk;
 use ckrt_hunt::{KeepFault, KeptDisk, Plan, SeedFault, keep_seed};
 use ckrt_outcomes::JobFault;
 use ckrt_recovery::{Config, RecoverFault};
-use ckrt_schedule::ScheduleEnd as DriveEnd;
+use ckrt_schedule::ScheduleEnd;
 use ckrt_sources::{JobFile, Sources};
 use std::alloc::Global;
 use std::io::Read;
@@ -45,7 +45,7 @@ fn fault_of(fault: SeedFault) -> JobFault
 /// Gives a disk with a whole run the name of its path, or gives it up where it can't have that.
 fn name_kept<'a, I: Read, D: Disk, S: Sources<'a, I, D>>(
     disk: D,
-    ending: DriveEnd,
+    ending: ScheduleEnd,
     sources: &mut S,
     path: &'a str,
 ) -> Result<(), JobFault>

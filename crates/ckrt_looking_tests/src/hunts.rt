@@ -1,7 +1,10 @@
 //! Hunts of small programs, and what their seeds come to.
 
+ghost use Rattle.std.specs.Prelude.{◌≤◌};
+
 use crate::expect::{expect_eq, image_of};
-use ckrt_hunt::{Hunt, Outcome, Row, Shape, Tally, Waiting};
+use ckrt_drive::Nobody;
+use ckrt_hunt::{Hunt, Outcome, Row, Seeds, Shape, Tally, Waiting};
 use ckrt_rv32i::Cause;
 use std::process::Abort;
 
@@ -31,11 +34,17 @@ fn hunt_of<R: Abort + AllocGlobal>(rt: &R, words: &[u32]) -> Hunt {
 }
 
 /// What so many seeds of a program come to, from seed 0 on.
-pub fn tally_of<R: Abort + AllocGlobal>(rt: &R, words: &[u32], seeds: u64) -> Tally {
+pub fn tally_of<R: Abort + AllocGlobal>(rt: &R, words: &[u32], seeds: u64) -> Tally
+    requires some { 1 ≤ seeds }
+{
+    let seeds = Seeds {
+        first: 0,
+        last: seeds - 1,
+    };
     match Tally::new(rt.alloc()) {
         Ok(tally) => {
             let mut tally = tally;
-            hunt_of(rt, words).note_seeds(&mut tally, 0, seeds);
+            hunt_of(rt, words).note_seeds(&mut tally, seeds, false, &mut Nobody);
             tally
         }
         Err(_) => panic!(rt; "memory for a tally"),

@@ -5,9 +5,10 @@ ghost use Rattle.std.specs.Prelude.{◌≤◌, ◌<◌};
 use crate::expect::{expect_eq, image_of};
 use crate::hunts::SHAPE;
 use arrayvec::ArrayVec;
+use ckrt_drive::Nobody;
 use ckrt_hunt::{
-    Asked, Awaited, HuntFault, Outcome, Seeds, Shape, Tally, Told, Waiting, hunt_and_tell,
-    write_table,
+    Asked, Awaited, HuntFault, HuntOnlooker, HuntWatch, Outcome, Seeds, Shape, Tally, Told,
+    Waiting, hunt_and_tell, write_table,
 };
 use ckrt_rv32i::Cause;
 use std::process::Abort;
@@ -159,6 +160,7 @@ fn asked_for(first: u64, last: u64) -> Asked<'static>
         image: "race.bin",
         shape: SHAPE,
         seeds: Seeds { first, last },
+        may_end: false,
     }
 }
 
@@ -230,16 +232,67 @@ fn hunt_is_told(rt: HostRuntime) {
     let mut writer = Vec::new(rt.alloc());
     let image = image_of(&rt, &PUTS);
     let asked = asked_for(5, 14);
-    let told = hunt_and_tell(rt.alloc(), image.as_slice(), &asked, &mut writer);
+    let told = hunt_and_tell(
+        rt.alloc(),
+        image.as_slice(),
+        &asked,
+        &mut Nobody,
+        &mut writer,
+    );
     assert!(rt; told.is_ok());
     expect_eq(&rt, writer.as_slice(), ONE_OUTCOME);
+}
+
+/// Has time up to this seed.
+struct Patience {
+    last: u64,
+}
+
+impl HuntOnlooker for Patience {
+    fn begin_hunt(&mut self, _watch: HuntWatch) {}
+
+    fn has_time(&mut self, seed: u64, _tally: &Tally) -> bool {
+        seed < self.last
+    }
+}
+
+/// What is printed of a hunt of the seeds 5 to 14, by an onlooker who has time up to seed 7.
+fn table_by_time<R: Abort + AllocGlobal>(rt: &R, may_end: bool) -> Vec<u8> {
+    let mut writer = Vec::new(rt.alloc());
+    let image = image_of(rt, &PUTS);
+    let asked = Asked {
+        may_end,
+        ..asked_for(5, 14)
+    };
+    let mut onlooker = Patience { last: 7 };
+    let done = hunt_and_tell(rt.alloc(), &image, &asked, &mut onlooker, &mut writer);
+    assert!(rt; done.is_ok());
+    writer
+}
+
+const THREE_SEEDS: &[u8] = b"\
+outcome 1: 3 of 3 runs, first by seed 5: exit 7, output 559aead0
+    ckrt hunt race.bin --seeds 5-5 --pages 16 --harts 2 --steps 10000 --keep seed-5.disk
+";
+
+#[test]
+fn hunt_ends_early_where_it_may(rt: HostRuntime) {
+    expect_eq(&rt, table_by_time(&rt, true).as_slice(), THREE_SEEDS);
+    expect_eq(&rt, table_by_time(&rt, false).as_slice(), ONE_OUTCOME);
 }
 
 /// Why a hunt of so many zero bytes isn't told.
 fn fault_of<R: Abort + AllocGlobal>(rt: &R, size: usize) -> Option<HuntFault> {
     let image = vec![in rt.alloc(); 0; size].expect(rt, "memory for an image");
     let mut writer = Vec::new(rt.alloc());
-    hunt_and_tell(rt.alloc(), &image, &asked_for(1, 1), &mut writer).err()
+    hunt_and_tell(
+        rt.alloc(),
+        &image,
+        &asked_for(1, 1),
+        &mut Nobody,
+        &mut writer,
+    )
+    .err()
 }
 
 #[test]

@@ -2,7 +2,7 @@
 use Rattle.std.specs.Prelude.{◌&&◌, ℕ, nat_lt, nat_le, Bool, true, false, List, Option, Some, None, unwrap_or}
 use Rattle.ckrt_checkpoint.specs.declared.config.Config.{Config}
 use Rattle.ckrt_record.specs.Slot.{TAKEN_LIMIT}
-use Rattle.ckrt_words.specs.Jobs.{Driving}
+use Rattle.ckrt_words.specs.Jobs.{Driving, Hunting}
 use Rattle.ckrt_words.specs.declared.job.Sizes.{Sizes}
 
 -- what a disk is made with: what `format` takes, where a size isn't given
@@ -38,3 +38,18 @@ is_in_range j =
     && (nat_le j.turn 1000000
     && (nat_lt 0 j.rounds
     && (is_interval j.progress && (is_target j.output j.from && is_intake j.input j.input_from))))
+
+-- seeds of a range, or as many as there is time for, and not both
+abbrev pub is_choice : (seeds : Option (List ℕ)) → (seconds : Option ℕ) → Bool
+is_choice None seconds = true
+is_choice (Some seeds) None = true
+is_choice (Some seeds) (Some seconds) = false
+
+-- a hunt that goes by time takes seeds for a second or more, and for 365 days at most
+abbrev pub is_time : Option ℕ → Bool
+is_time None = true
+is_time (Some seconds) = nat_lt 0 seconds && nat_le seconds 31536000
+
+-- what a hunt is told besides its sizes and the text of its seeds
+abbrev pub is_hunt_in_range : Hunting → Bool
+is_hunt_in_range h = is_choice h.seeds h.seconds && (is_time h.seconds && is_interval h.progress)

@@ -1,12 +1,15 @@
 //! The numbers of the words: what is given where they have none, and which of them are in their ranges.
 ghost use Rattle.std.specs.Prelude.{◌≡◌, option_map};
-ghost use Rattle.ckrt_words.specs.Jobs.{driving_of};
-ghost use Rattle.ckrt_outcomes.specs.Ranges.{config_for, is_in_range, is_intake, is_target};
+ghost use Rattle.ckrt_words.specs.Jobs.{driving_of, hunting_of};
+ghost use Rattle.ckrt_outcomes.specs.Ranges.{config_for, is_choice, is_hunt_in_range, is_in_range, is_intake, is_target, is_time};
 
 use ckrt_events::LONG_RUN_LIMIT;
 use ckrt_record::TAKEN_LIMIT;
 use ckrt_recovery::Config;
-use ckrt_words::{DriveJob, Sizes};
+use ckrt_words::{DriveJob, HuntJob, Sizes};
+
+/// For how many seconds a hunt takes seeds at most: 365 days.
+const MOST_SECONDS: u64 = 31_536_000;
 
 /// What a disk is made with: what `format` takes, where a size isn't given.
 pub fn config_for(sizes: &Sizes) -> Config
@@ -47,4 +50,28 @@ pub fn is_in_range(job: &DriveJob<'_>) -> bool
         && job.progress != Some(0)
         && is_target(job.output, job.from)
         && is_intake(job.input, job.input_from)
+}
+
+/// Whether the seeds of a hunt are those of a range, or as many as there is time for, and not both.
+pub fn is_choice(seeds: Option<&str>, seconds: Option<u64>) -> bool
+    ensures { result ≡ is_choice (option_map (λ text. text.now) seeds.entry) seconds }
+{
+    seeds.is_none() || seconds.is_none()
+}
+
+/// Whether a hunt takes seeds for 1 to 31,536,000 seconds, where it goes by time.
+pub fn is_time(seconds: Option<u64>) -> bool
+    ensures { result ≡ is_time seconds }
+{
+    match seconds {
+        Some(seconds) => 1 <= seconds && seconds <= MOST_SECONDS,
+        None => true,
+    }
+}
+
+/// Whether the numbers of a hunt, but for its sizes, are in their ranges, and it takes seeds from one range or by time.
+pub fn is_hunt_in_range(job: &HuntJob<'_>) -> bool
+    ensures { result ≡ is_hunt_in_range (hunting_of job.now) }
+{
+    is_choice(job.seeds, job.seconds) && is_time(job.seconds) && job.progress != Some(0)
 }

@@ -39,7 +39,9 @@ pub fn print_kinds(rt: &HostRuntime, seeds: u32, path: &str) -> Result<()> {
     let image = fs::read(rt, path)?;
     let mut hunt = Hunt::new(rt.alloc(), &image, SHAPE)?;
     let mut tally = Tally::new(rt.alloc())?;
-    hunt.note_seeds(&mut tally, 0, u64::from(seeds));
+    for seed in 0..u64::from(seeds) {
+        tally.note(seed, hunt.run_seed(seed));
+    }
     print!(rt; "{path}:")?;
     for kind in KINDS {
         if has_kind(&tally, kind) {

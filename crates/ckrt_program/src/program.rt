@@ -12,6 +12,7 @@ ghost use Rattle.ckrt_reports.specs.Lines.{version_line};
 use crate::stored;
 use ckrt_disk::Disk;
 use ckrt_drive::StreamOutput;
+use ckrt_hunt::HuntOnlooker;
 use ckrt_hunts::hunt_path;
 use ckrt_jobs::{core_path, drive_path, inspect_disk, make_disk, run_disk};
 use ckrt_looks::{calls_path, debug_path, profile_path, races_path, timeline_path};
@@ -187,7 +188,7 @@ fn perform<
     S: Sources<'a, I, D>,
     R: Read,
     W: Write + 'a,
-    M: Meter,
+    M: Meter + HuntOnlooker,
 >(
     alloc: Global,
     job: &Job<'a>,
@@ -225,7 +226,9 @@ fn perform<
             without_end(timeline_path::<I, D, S, W>(alloc, job, sources, writer))
         }
         Job::Profile(job) => without_end(profile_path::<I, D, S, W>(alloc, job, sources, writer)),
-        Job::Hunt(job) => of_hunt(hunt_path::<I, D, S, W>(alloc, job, sources, writer)),
+        Job::Hunt(job) => {
+            of_hunt(hunt_path::<I, D, S, W, M>(alloc, job, sources, writer, meter))
+        }
         Job::Drive(job) => {
             with_end(drive_path::<I, D, S, W, M>(alloc, job, sources, writer, meter))
         }
@@ -239,7 +242,7 @@ fn perform<
 /// runs its program to its end, with its output in a file or printed, and reports what it came to in a line, `--version`
 /// prints the version and its kit, no words serve the stored program in memory. Of a fault two lines are reported: what is
 /// wrong in plain words, with the path of the file that it is of, and `ckrt: NAME`. Of words that name no job a text is. A
-/// drive is looked on by the meter. The answer is the program's status: 0 where all was done, 1 for a fault, 2 for words that
+/// drive is looked on by the meter, and so is a hunt. The answer is the program's status: 0 where all was done, 1 for a fault, 2 for words that
 /// name no job. Of a drive it is 0 where the guest ended by `exit 0` alone, 3 where it waits for input, 4 for a deadlock, 5 where
 /// it made as many events as were asked for, 6 where a fault ended the guest, 7 where the guest ended by another status. Of a hunt
 /// it is 8 where its runs came to several outcomes.
@@ -251,7 +254,7 @@ pub fn run_words_with<
     R: Read,
     W: Write + 'a,
     E: Reporter,
-    M: Meter,
+    M: Meter + HuntOnlooker,
 >(
     alloc: Global,
     words: &'a [&'a str],
@@ -303,7 +306,14 @@ pub fn run_words_with<
 
 /// Does what the words after the program's name ask for, with images and disks that are files of the system, as
 /// [`run_words_with`] says.
-pub fn run_words<'a, F: Files<File = File>, R: Read, W: Write + 'a, E: Reporter, M: Meter>(
+pub fn run_words<
+    'a,
+    F: Files<File = File>,
+    R: Read,
+    W: Write + 'a,
+    E: Reporter,
+    M: Meter + HuntOnlooker,
+>(
     alloc: Global,
     words: &'a [&'a str],
     sources: &mut SystemSources<'a, F, SystemDisk<'a>>,

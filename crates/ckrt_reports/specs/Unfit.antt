@@ -1,8 +1,8 @@
 -- What is said of numbers in the words that are out of their ranges: the first of them, by its option, with its value and its range.
 use Rattle.std.specs.Prelude.{ℕ, nat_lt, Bool, not, ◌||◌, if◌then◌else◌, List, [], ◌++◌, codes, decimal}
 use Rattle.ckrt_checkpoint.specs.declared.config.Config.{Config}
-use Rattle.ckrt_outcomes.specs.Ranges.{config_for, is_interval, is_target}
-use Rattle.ckrt_words.specs.Jobs.{Drawing, Driving, Request, calls, drive, format, hunt, profile, races, timeline}
+use Rattle.ckrt_outcomes.specs.Ranges.{config_for, is_choice, is_interval, is_target, is_time}
+use Rattle.ckrt_words.specs.Jobs.{Drawing, Driving, Hunting, Request, calls, drive, format, hunt, profile, races, timeline}
 
 -- a number between two texts
 abbrev pub size_text : (before : List ℕ) → ℕ → (behind : List ℕ) → List ℕ
@@ -40,6 +40,14 @@ unfit_drawing_text j =
     if is_outside 400 4000 j.width then size_text (codes "--width ") j.width (codes " isn't 400 to 4000: ")
     else turned_text
 
+-- how no hunt goes
+abbrev pub unfit_hunt_text : Hunting → List ℕ
+unfit_hunt_text h =
+    if not (is_choice h.seeds h.seconds) then codes "--seconds doesn't go with --seeds: "
+    else if not (is_time h.seconds) then codes "--seconds isn't 1 to 31536000: "
+    else if not (is_interval h.progress) then codes "--progress 0 isn't 1 or more: "
+    else codes "--seeds isn't FIRST-LAST, two numbers below 2^64 - 1, the first one not above the last: "
+
 -- what was asked for with such numbers
 abbrev pub unfit_of : Request → List ℕ
 unfit_of (drive j) = unfit_drive_text j
@@ -47,7 +55,7 @@ unfit_of (calls s) = turned_text
 unfit_of (races s) = turned_text
 unfit_of (timeline j) = unfit_drawing_text j
 unfit_of (profile p) = turned_text
-unfit_of (hunt h) = codes "--seeds isn't FIRST-LAST, two numbers below 2^64 - 1, the first one not above the last: "
+unfit_of (hunt h) = unfit_hunt_text h
 unfit_of _ = []
 
 abbrev pub unfit_sizes_of : Request → List ℕ

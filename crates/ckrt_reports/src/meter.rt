@@ -1,11 +1,14 @@
-//! How far a drive is, told while it runs.
+//! How far a drive or a hunt is, told while it runs.
 ghost use Rattle.std.specs.Prelude.{◌≡◌};
 ghost use Rattle.ckrt_reports.specs.Ends.{standing_of};
 
+use crate::hunted::HuntTimes;
+use crate::rhythm::Rhythm;
 use crate::status::StatusFile;
 use ckrt_disk::Disk;
 use ckrt_drive::{Onlooker, StepDone};
 use ckrt_events::Event;
+use ckrt_hunt::{HuntOnlooker, HuntWatch, Tally};
 use ckrt_input::taken_by;
 use ckrt_inspect::{Readings, Standing};
 use ckrt_machine::Answer;
@@ -38,32 +41,6 @@ const STEPS_PER_LOOK: u32 = 64;
 
 /// The seconds from one status to the next.
 const STATUS_INTERVAL: u64 = 10;
-
-/// When something is told again.
-#[derive(Clone, Copy)]
-struct Rhythm {
-    /// From one time to the next; none: it is never told.
-    interval: Option<Duration>,
-    /// When it was told last, where the clock said so.
-    last: Option<Instant>,
-}
-
-impl Rhythm {
-    /// Never.
-    fn never() -> Rhythm {
-        Rhythm {
-            interval: None,
-            last: None,
-        }
-    }
-
-    /// How long ago it was told, where that is long enough.
-    fn due<R: Clock>(&self, rt: &R) -> Option<Duration> {
-        let interval = self.interval?;
-        let since = self.last?.elapsed(rt).ok()?;
-        if since < interval { None } else { Some(since) }
-    }
-}
 
 /// What was counted since a drive began.
 #[derive(Clone, Copy)]
@@ -121,7 +98,8 @@ impl Counts {
 
 /// Tells from time to time how far a drive is: by a line on standard error, with the events of the disk since its first one, guest
 /// steps since the drive began, guest steps a second since the last line, bytes of output of acknowledged events, generation, and
-/// the room that the journal has left in bytes; and by a file. Where the clock or standard error fails there is no line.
+/// the room that the journal has left in bytes; and by a file. Of a hunt the line has the seeds that were run and the last of them, seeds a
+/// second since the last line, and how many outcomes there are. Where the clock or standard error fails there is no line.
 #[derive(Drop)]
 pub struct SystemMeter<'a, R> {
     rt: &'a R,
@@ -133,6 +111,7 @@ pub struct SystemMeter<'a, R> {
     unlooked: u32,
     counts: Counts,
     steps_at_last_line: u64,
+    hunt: HuntTimes,
 }
 
 impl<'a, R: Clock + Eprint + Files<File = File>> SystemMeter<'a, R> {
@@ -147,6 +126,7 @@ impl<'a, R: Clock + Eprint + Files<File = File>> SystemMeter<'a, R> {
             unlooked: 0,
             counts: Counts::new(),
             steps_at_last_line: 0,
+            hunt: HuntTimes::begun(None, None),
         }
     }
 
@@ -174,6 +154,19 @@ impl<'a, R: Clock + Eprint + Files<File = File>> SystemMeter<'a, R> {
             session.room()
         );
         self.steps_at_last_line = self.counts.steps;
+        self.lines.last = self.moment();
+    }
+
+    /// Prints a line of a hunt.
+    fn print_hunt(&mut self, since: Duration, seed: u64, tally: &Tally) {
+        let rate = self.hunt.rate(since);
+        let _ = eprintln!(self.rt;
+            "progress: {} runs, seed {}, {} runs a second, outcomes: {}",
+            self.hunt.runs,
+            seed,
+            rate,
+            tally.rows().len()
+        );
         self.lines.last = self.moment();
     }
 
@@ -240,5 +233,24 @@ impl<'a, R: Clock + Eprint + Files<File = File>> Meter for SystemMeter<'a, R> {
 
     fn fed(&mut self, taken: u64) {
         self.counts.taken = Some(taken);
+    }
+}
+
+impl<'a, R: Clock + Eprint + Files<File = File>> HuntOnlooker for SystemMeter<'a, R> {
+    fn begin_hunt(&mut self, watch: HuntWatch) {
+        let moment = self.moment();
+        self.hunt = HuntTimes::begun(moment, watch.seconds);
+        self.lines = Rhythm {
+            interval: watch.progress.map(Duration::from_secs),
+            last: moment,
+        };
+    }
+
+    fn has_time(&mut self, seed: u64, tally: &Tally) -> bool {
+        self.hunt.count();
+        if let Some(since) = self.lines.due(self.rt) {
+            self.print_hunt(since, seed, tally);
+        }
+        self.hunt.has_time(self.rt)
     }
 }

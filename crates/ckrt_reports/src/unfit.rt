@@ -1,18 +1,21 @@
 //! What is said of numbers in the words that are out of their ranges.
 ghost use Rattle.std.specs.Prelude.{◌≡◌, OnErr, OnOk, true};
 ghost use Rattle.std.specs.Io.KnownBytes.{Appends};
-ghost use Rattle.ckrt_reports.specs.Unfit.{is_outside, unfit_drawing_text, unfit_drive_text, unfit_of, unfit_sizes_of, unfit_sizes_text};
-ghost use Rattle.ckrt_words.specs.Jobs.{drawing_of, driving_of, request_of};
+ghost use Rattle.ckrt_reports.specs.Unfit.{is_outside, unfit_drawing_text, unfit_drive_text, unfit_hunt_text, unfit_of, unfit_sizes_of, unfit_sizes_text};
+ghost use Rattle.ckrt_words.specs.Jobs.{drawing_of, driving_of, hunting_of, request_of};
 
 use crate::reporter::{Reporter, Unsaid};
 use crate::reporting::say_size;
 use ckrt_events::LONG_RUN_LIMIT;
-use ckrt_outcomes::{config_for, is_target};
+use ckrt_outcomes::{config_for, is_choice, is_target, is_time};
 use ckrt_recovery::Config;
-use ckrt_words::{DriveJob, Job, TimelineJob};
+use ckrt_words::{DriveJob, HuntJob, Job, TimelineJob};
 
 /// What is said of a stretch that would end before it begins.
 const TURNED_TEXT: &[u8] = b"--from is above --to: ";
+
+/// What is said of no time between two lines that tell how far something is.
+const PROGRESS_TEXT: &[u8] = b"--progress 0 isn't 1 or more: ";
 
 /// What is said of a text that is no range of seeds.
 const SEEDS_TEXT: &[u8] =
@@ -53,7 +56,7 @@ fn say_unfit_drive<E: Reporter>(reporter: &mut E, job: &DriveJob<'_>) -> Result<
         return reporter.say(b"--rounds-per-commit 0 isn't 1 or more: ");
     }
     if job.progress == Some(0) {
-        return reporter.say(b"--progress 0 isn't 1 or more: ");
+        return reporter.say(PROGRESS_TEXT);
     }
     if !is_target(job.output, job.from) {
         return reporter.say(b"--from doesn't go with --output: ");
@@ -73,6 +76,24 @@ fn say_unfit_drawing<E: Reporter>(reporter: &mut E, job: &TimelineJob<'_>) -> Re
     reporter.say(TURNED_TEXT)
 }
 
+/// Says which number of the words no hunt goes by, or that there is one too many.
+fn say_unfit_hunt<E: Reporter>(reporter: &mut E, job: &HuntJob<'_>) -> Result<(), Unsaid>
+    ensures said { OnOk result (Appends (E.said reporter.old) (E.said reporter.new)
+        (unfit_hunt_text (hunting_of job.now))) }
+    ensures failed { OnErr result (E.has_failed reporter.new ≡ true) }
+{
+    if !is_choice(job.seeds, job.seconds) {
+        return reporter.say(b"--seconds doesn't go with --seeds: ");
+    }
+    if !is_time(job.seconds) {
+        return reporter.say(b"--seconds isn't 1 to 31536000: ");
+    }
+    if job.progress == Some(0) {
+        return reporter.say(PROGRESS_TEXT);
+    }
+    reporter.say(SEEDS_TEXT)
+}
+
 /// Says which number of the words is the fault Range, where they ask for a drive, for a stretch, for a timeline or for a hunt.
 pub(crate) fn say_unfit<E: Reporter>(reporter: &mut E, job: &Job<'_>) -> Result<(), Unsaid>
     ensures said { OnOk result (Appends (E.said reporter.old) (E.said reporter.new)
@@ -83,7 +104,7 @@ pub(crate) fn say_unfit<E: Reporter>(reporter: &mut E, job: &Job<'_>) -> Result<
         Job::Drive(job) => say_unfit_drive(reporter, job),
         Job::Calls(_) | Job::Races(_) | Job::Profile(_) => reporter.say(TURNED_TEXT),
         Job::Timeline(job) => say_unfit_drawing(reporter, job),
-        Job::Hunt(_) => reporter.say(SEEDS_TEXT),
+        Job::Hunt(job) => say_unfit_hunt(reporter, job),
         _ => reporter.say(b""),
     }
 }

@@ -2,8 +2,8 @@
 -- `inspect DISK [--at K] [--code]`, `core DISK FILE [--at K]`, `calls DISK [--from K] [--to K]`, `debug DISK [--at K]`,
 -- `races DISK [--from K] [--to K]`, `timeline DISK [--from K] [--to K] [--width W] [--json]`,
 -- `profile DISK [--from K] [--to K] [--folded | --callgrind]`,
--- `hunt IMAGE [--seeds A-B] [--pages P] [--harts H] [--steps N] [--keep DISK | FOLDER/]` and `drive DISK [--image IMAGE] [--pages P] [--harts H]
--- [--journal J] [--input FILE] [--input-from OFFSET] [--output FILE] [--turn N] [--rounds-per-commit R] [--events N] [--seed S]
+-- `hunt IMAGE [--seeds A-B | --seconds S] [--pages P] [--harts H] [--steps N] [--keep DISK | FOLDER/] [--progress SECONDS]` and
+-- `drive DISK [--image IMAGE] [--pages P] [--harts H] [--journal J] [--input FILE] [--input-from OFFSET] [--output FILE] [--turn N] [--rounds-per-commit R] [--events N] [--seed S]
 -- [--progress SECONDS] [--status FILE] [--from OFFSET]`.
 use Rattle.std.specs.Prelude.{pos, codes, fold, Some, true, List, [], ◌∷◌}
 use Rattle.clap.specs.Words.{App, Rule, Text, new_app, new_rule, with_rule, with_subcommand}
@@ -42,10 +42,6 @@ place_rule id = record (new_rule id) {
 -- an option `--id FILE`, a text, which may be left out
 abbrev pub option_rule : Text → Rule
 option_rule id = record (new_rule id) { long = Some id; value_names = 1 }
-
--- an option `--id TEXT`, and its text where it isn't given
-abbrev pub text_rule : Text → Text → Rule
-text_rule id default = record (new_rule id) { long = Some id; value_names = 1; defaults = default ∷ [] }
 
 -- an option `--id` without a value
 abbrev pub flag_rule : Text → Rule
@@ -111,13 +107,15 @@ profile_app =
 
 abbrev pub hunt_app : App
 hunt_app =
-    with_rule (with_rule (with_rule (with_rule (with_rule (with_rule (new_app (codes "hunt"))
+    with_rule (with_rule (with_rule (with_rule (with_rule (with_rule (with_rule (with_rule (new_app (codes "hunt"))
     (needed_rule (codes "image")))
-    (text_rule (codes "seeds") (codes "1-200")))
+    (option_rule (codes "seeds")))
+    (place_rule (codes "seconds")))
     (number_rule (codes "pages") (codes "64")))
     (number_rule (codes "harts") (codes "1")))
     (number_rule (codes "steps") (codes "10000000")))
-    (option_rule (codes "keep"))
+    (option_rule (codes "keep")))
+    (place_rule (codes "progress"))
 
 abbrev pub drive_app : App
 drive_app =

@@ -64,15 +64,17 @@ pub record Profiling : Type 0 where
   pub stretch : DiskStretch
   pub form : ProfileForm
 
--- what `hunt` runs: the image, the text of its range of seeds, the sizes, how many steps a run has at most, and the new disk or the folder that
--- runs are kept on
+-- what `hunt` runs: the image, the text of its range of seeds, or after how many seconds it takes no further seed, the sizes, how many steps a
+-- run has at most, the new disk or the folder that runs are kept on, and at most each how many seconds it tells how far it is
 pub record Hunting : Type 0 where
   pub image : Text
-  pub seeds : Text
+  pub seeds : Option Text
+  pub seconds : Option ℕ
   pub pages : ℕ
   pub harts : ℕ
   pub steps : ℕ
   pub keep : Option Text
+  pub progress : Option ℕ
 
 -- what `drive` drives: which disk, the image that a missing one is made with, its sizes, the file of its input and where that goes on, the file
 -- of its output, steps of a turn, rounds between commits, after how many events it ends, the seed of its lots, at most each how many seconds it
@@ -139,11 +141,13 @@ profiling_of p = record { stretch = disk_stretch_of p.stretch; form = p.form }
 abbrev pub hunting_of : HuntJob → Hunting
 hunting_of h = record {
   image = h.image.now;
-  seeds = h.seeds.now;
+  seeds = option_map (λ text. text.now) h.seeds;
+  seconds = h.seconds;
   pages = h.pages;
   harts = h.harts;
   steps = h.steps;
   keep = option_map (λ path. path.now) h.keep;
+  progress = h.progress;
 }
 
 abbrev pub driving_of : DriveJob → Driving
@@ -260,11 +264,19 @@ profiling_in rows = do
 abbrev pub hunting_in : List Row → Option Hunting
 hunting_in rows = do
   image ← first_of (codes "image") rows
-  seeds ← first_of (codes "seeds") rows
   pages ← number_in (codes "pages") rows
   harts ← number_in (codes "harts") rows
   steps ← number_in (codes "steps") rows
-  Some (record { image = image; seeds = seeds; pages = pages; harts = harts; steps = steps; keep = first_of (codes "keep") rows })
+  Some (record {
+    image = image;
+    seeds = first_of (codes "seeds") rows;
+    seconds = place_in (codes "seconds") rows;
+    pages = pages;
+    harts = harts;
+    steps = steps;
+    keep = first_of (codes "keep") rows;
+    progress = place_in (codes "progress") rows;
+  })
 
 -- the sizes that are given
 abbrev pub sizes_in : List Row → Sizes

@@ -3,7 +3,7 @@ ghost use Rattle.std.specs.Prelude.{◌≡◌, ◌∷◌, [], IfOk, codes, false
 ghost use Rattle.std.specs.List.{list_all};
 ghost use Rattle.clap.specs.Words.{App, app_of, new_app, rule_of, with_rule, with_subcommand};
 ghost use Rattle.clap.specs.declared.builder.command.Command.TheViews.{out-Command};
-ghost use Rattle.ckrt_words.specs.Commands.{app_with, bare_app, calls_app, ckrt_app, core_app, debug_app, drive_app, flag_rule, format_app, hunt_app, inspect_app, needed_rule, number_rule, option_rule, place_rule, profile_app, races_app, run_app, size_rule, stretch_app, text_rule, timeline_app};
+ghost use Rattle.ckrt_words.specs.Commands.{app_with, bare_app, calls_app, ckrt_app, core_app, debug_app, drive_app, flag_rule, format_app, hunt_app, inspect_app, needed_rule, number_rule, option_rule, place_rule, profile_app, races_app, run_app, size_rule, stretch_app, timeline_app};
 
 use clap::{Arg, ArgAction, Command, value_parser};
 use std::alloc::{AllocError, Global};
@@ -62,18 +62,6 @@ fn option<'a>(alloc: Global, id: &'a str, name: &'a str, help: &'a str) -> Arg<'
     ensures local { result.global ≡ false }
 {
     Arg::new(alloc, id).long(id).value_name(name).help(help)
-}
-
-/// An option with a text, and its text where it isn't given.
-fn text<'a>(alloc: Global, id: &'a str, name: &'a str, default: &'a str, help: &'a str) -> Arg<'a>
-    ensures rule { rule_of result ≡ text_rule id.entry.now default.entry.now }
-    ensures local { result.global ≡ false }
-{
-    Arg::new(alloc, id)
-        .long(id)
-        .value_name(name)
-        .default_value(default)
-        .help(help)
 }
 
 /// An option without a value.
@@ -377,7 +365,7 @@ fn profile_arguments<'a>(alloc: Global) -> Result<Vec<Arg<'a>>, AllocError>
     Ok(arguments)
 }
 
-/// `hunt IMAGE` with its options: which seeds, on what machine, how long a run is, and where runs are kept.
+/// `hunt IMAGE` with its options: which seeds, on what machine, how long a run is, where runs are kept, and how often it tells how far it is.
 fn hunt_command<'a>(alloc: Global) -> Result<Command<'a>, AllocError>
     ensures app { IfOk result (λ c. app_of c ≡ hunt_app) }
     ensures local { IfOk result (λ c. (out-Command c).has_globals ≡ false) }
@@ -403,12 +391,17 @@ fn hunt_arguments<'a>(alloc: Global) -> Result<Vec<Arg<'a>>, AllocError>
             "IMAGE",
             "The guest program, a flat binary linked at 0x1000"
         ),
-        text(
+        option(
             alloc,
             "seeds",
             "A-B",
-            "1-200",
-            "The first and the last seed, each with a schedule of its own"
+            "The first and the last seed, each with a schedule of its own; 1-200 without it"
+        ),
+        place(
+            alloc,
+            "seconds",
+            "S",
+            "Take seeds from 1 on until S seconds have passed, 1 to 31536000; not with --seeds"
         ),
         number(
             alloc,
@@ -428,6 +421,12 @@ fn hunt_arguments<'a>(alloc: Global) -> Result<Vec<Arg<'a>>, AllocError>
             "keep",
             "DISK",
             "A new disk for the run of the first seed, by a schedule of few switches; FOLDER/ keeps each outcome in that folder"
+        ),
+        place(
+            alloc,
+            "progress",
+            "SECONDS",
+            "Tell how far it is, at most once in so many seconds, 1 or more"
         ),
     ]?;
     Ok(arguments)

@@ -125,8 +125,10 @@ pub struct ProfileJob<'a> {
 pub struct HuntJob<'a> {
     /// The path of the image.
     pub image: &'a str,
-    /// The first and the last seed, as they were given: `A-B` where they are numbers.
-    pub seeds: &'a str,
+    /// The first and the last seed, as they were given: `A-B` where they are numbers; this isn't given where the words have none.
+    pub seeds: Option<&'a str>,
+    /// After how many seconds no further seed is run; this isn't given where a range of them is.
+    pub seconds: Option<u64>,
     /// Pages of guest memory, of 4,096 bytes each.
     pub pages: u32,
     /// Harts.
@@ -136,6 +138,8 @@ pub struct HuntJob<'a> {
     /// The path of the disk that is made for the run of the first seed, or, with a `/` at its end, of the folder in which each outcome
     /// gets a disk; this isn't given where none is kept.
     pub keep: Option<&'a str>,
+    /// How many seconds lie at least between two lines that tell how far it is; this isn't given where no line does.
+    pub progress: Option<u64>,
 }
 
 /// The sizes that a disk is asked to have. The numbers are as they were given, and may be out of a disk's ranges.

@@ -117,13 +117,16 @@ fn profiling<'a>(matches: &ArgMatches<'a>) -> Option<ProfileJob<'a>>
 fn hunting<'a>(matches: &ArgMatches<'a>) -> Option<HuntJob<'a>>
     ensures { option_map hunting_of result ≡ hunting_in (rows_of (found_of matches.now)) }
 {
+    let (seconds, progress) = (place(matches, "seconds"), place(matches, "progress"));
     Some(HuntJob {
         image: text(matches, "image")?,
-        seeds: text(matches, "seeds")?,
+        seeds: text(matches, "seeds"),
+        seconds,
         pages: number(matches, "pages")?,
         harts: number(matches, "harts")?,
         steps: number(matches, "steps")?,
         keep: text(matches, "keep"),
+        progress,
     })
 }
 

@@ -4,8 +4,8 @@ use Rattle.ckrt_hunt.proofs.hunt.Hunt.note_seeds.Given as goal
 
 -- the seeds before it have been noted
 abbrev pub invariant-loop-seed : goal.invariant-loop-seed
-invariant-loop-seed l = record {
-  noted : AreNoted l.fn.self l.first (l.seed - l.first) l.fn.tally l.tally;
+invariant-loop-seed g l = record {
+  noted : AreNoted l.fn.self l.seeds.first (l.seed - l.seeds.first) l.fn.tally l.tally;
   same : l.self ≡ l.fn.self;
-  few : l.seed - l.first ≤ l.end - l.first;
+  few : l.seed - l.seeds.first ≤ l.seeds.last - l.seeds.first;
 }

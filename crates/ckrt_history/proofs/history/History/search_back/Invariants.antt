@@ -1,7 +1,7 @@
 use Rattle.std.proofs.Common.{◌≡◌}
 use Rattle.ckrt_history.specs.Positions.{IsPosition, IsUpTo}
 use Rattle.ckrt_history.proofs.SearchLemmas.{NonePast, kept_left}
-use Rattle.ckrt_history.proofs.history.History.backward.Given as goal
+use Rattle.ckrt_history.proofs.history.History.search_back.Given as goal
 
 -- none behind `end` has a reason to stop
 abbrev pub invariant-kept : goal.invariant-kept
