@@ -82,8 +82,9 @@ class Branch:
 
 @dataclass(frozen=True)
 class Jump:
-    """A jump to a label."""
+    """A jump to a label, which leaves the address behind it in a register."""
     label: str
+    link: int = 0
 
 
 STOP = jump_form(0, 0)  # a jump to itself
@@ -142,6 +143,6 @@ class Program:
                 return [load_upper(register, (self.labels[label] - low) >> 12), add_immediate(register, register, low)]
             case Branch(funct3, left, right, label):
                 return [branch_form(funct3, left, right, self.labels[label] - here)]
-            case Jump(label):
-                return [jump_form(0, self.labels[label] - here)]
+            case Jump(label, link):
+                return [jump_form(link, self.labels[label] - here)]
         return [item]

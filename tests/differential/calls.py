@@ -245,4 +245,5 @@ def cleanup_pop(state, caller, is_executed):
         return 0
     thread.registers[1], thread.registers[10] = thread.pc, handler.argument
     thread.pc = handler.routine
+    thread.sendings += 1
     return MOVED

@@ -5,7 +5,9 @@ from random import Random
 from abi import Call
 from assembler import call_words, image_of, jump_form
 from call_by_call import Script, flavour_of
+from callers import Caller, Digger
 from computations import computation
+from crowded import Weaver, dense_case
 from damage import Damage
 from debugged import debugged_case
 from drive_cases import drives_case
@@ -18,12 +20,15 @@ from hunted import hunts_case
 from input_cases import inputs_case
 from layout import Geometry, format_disk
 from limits import limit_case
+from lived import Living, lived_case
 from mixed_cases import mixed_case
 from moved import moved_case
+from profiled import profiles_case
 from saved_disks import ChangedArea, asks, serve_and_save, stopped_disk, with_checkpoints
 from sharers import Sharer
 from streams import joined, last_lines, malformed_line, mangled, random_lines, with_long_runs
 from switches import SWITCHES
+from timed import timed_case
 from traced_cases import cuts_case, fates_case, listings_case, lists_case, parts_case
 from words import words_case
 
@@ -194,17 +199,34 @@ def checkpoints_case(chance, seed):
     return case
 
 
-def sharers_case(chance):
-    """Several threads that share words, run in turn."""
-    guest = Sharer(chance)
+def turns_case(chance, guest):
+    """The guest's threads, run in turn."""
     geometry = Geometry(16, chance.choice([1, 2, 2, 3, 8]), 65536)
     lines = [line for _ in range(chance.choice([1, 2, 4])) for line in [*random_lines(chance, geometry.harts), b"tick 20"]]
     return Case(geometry, guest.image, [joined(chance, lines)], version=disk_version(chance))
 
 
+def of_guests(guest, kind, share):
+    """A kind whose cases are made of turns of such a guest, for this share of them, or of any guest's case."""
+    return lambda chance, seed: kind(chance, turns_case(chance, guest(chance)) if chance.random() < share else guest_case(chance, seed))
+
+
+def digging_case(chance):
+    """Threads with deep stacks, in longer turns."""
+    turns = [(chance.choice([1, 1, 2, 3]), chance.choice([100, 1000, 2000, 5000])) for _ in range(chance.choice([4, 8, 12]))]
+    lines = [line for thread, steps in turns for line in (b"place 0 %d" % thread, b"run 0 %d" % steps)]
+    return Case(Geometry(16, 1, 65536), Digger(chance).image, [joined(chance, [*lines, b"commit"])])
+
+
+def profiled_case(chance, seed):
+    if chance.random() < 0.1:
+        return profiles_case(chance, digging_case(chance))
+    return of_guests(Caller, profiles_case, 0.85)(chance, seed)
+
+
 def of_sharers(kind, share):
-    """A kind whose cases are made of a case of these threads, for this share of them, or of a guest's case."""
-    return lambda chance, seed: kind(chance, sharers_case(chance) if chance.random() < share else guest_case(chance, seed))
+    """The same, of threads that share words."""
+    return of_guests(Sharer, kind, share)
 
 
 def of_guest(kind):
@@ -219,6 +241,8 @@ KINDS = {
     "fates": of_guest(fates_case), "parts": of_guest(parts_case), "listings": of_guest(listings_case), "cuts": cuts_case,
     "histories": of_guest(histories_case), "races": of_sharers(races_case, 0.9), "timelines": of_sharers(timelines_case, 0.4),
     "hunts": hunts_case, "debugged": of_sharers(debugged_case, 0.4), "moved": of_sharers(moved_case, 0.6),
+    "profiles": profiled_case, "dense": of_guests(Weaver, dense_case, 1),
+    "lived": of_guests(Living, lived_case, 1), "timed": timed_case,
     "words": words_case, "drives": of_guest(drives_case), "halts": of_guest(halts_case),
     "inputs": of_guest(inputs_case), "mixed": of_guest(mixed_case),
 }

@@ -24,11 +24,14 @@ from input_cases import InputsCase, difference_of_inputs
 from layout import Geometry, format_disk
 from lines import serve_disk
 from listing import OutOfRange, listing
+from lived import LivedCase, difference_of_lived
 from mixed_cases import MixedCase, difference_of_mixed
 from moved import MovedCase, difference_of_moved
+from profiled import ProfilesCase, difference_of_profiles
 from recovery import Unrecovered
 from streams import joined
 from switches import SWITCHES
+from timed import TimedCase, difference_of_timed
 from traced_cases import CutCase, ListingsCase, LivesCase, TracedCase
 from traced_runs import difference_of_cut, difference_of_lists, difference_of_traced
 from words import WordsCase
@@ -232,8 +235,12 @@ def first_difference(ckrt, case, folder, tally, count_life):
             return difference_of_format(ckrt, case, folder, tally)
         case MovedCase():
             return difference_of_moved(ckrt, case, path, tally)
+        case LivedCase():
+            return difference_of_lived(ckrt, case, path, tally)
         case DebuggedCase():
             return difference_of_debugged(ckrt, case, path, tally)
+        case TimedCase():
+            return difference_of_timed(ckrt, case, folder, tally)
         case HuntsCase():
             return difference_of_hunts(ckrt, case, folder, tally)
         case WordsCase():
@@ -252,6 +259,8 @@ def first_difference(ckrt, case, folder, tally, count_life):
             return difference_of_histories(ckrt, case, path, tally)
         case TimelinesCase():
             return difference_of_timelines(ckrt, case, path, tally)
+        case ProfilesCase():
+            return difference_of_profiles(ckrt, case, path, tally)
         case RacesCase():
             return difference_of_races(ckrt, case, path, tally)
         case LivesCase():

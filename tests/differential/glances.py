@@ -3,6 +3,7 @@ import json
 import subprocess
 from dataclasses import dataclass
 
+from columns import is_dense
 from histories import drawn_stretches, is_turned, recorded_disk
 from listing import OutOfRange
 from pictures import difference_of_picture
@@ -116,7 +117,7 @@ def difference_of_timelines(ckrt, case, path, tally):
     recording, unrecovered = recording_of(case.contents)
     for stretch in case.stretches:
         timeline, fault = shown(recording, unrecovered, stretch, Timeline())
-        tally["timeline", fault.fault[6:] if fault else "shown"] += 1
+        tally["timeline", fault.fault[6:] if fault else "shown by columns" if is_dense(timeline) else "shown"] += 1
         tally.update(("piece of a timeline", piece.activity.category) for pieces in (timeline.pieces.values() if timeline else ())
                      for piece in pieces)
         for compare in (difference_of_events, difference_of_chart):

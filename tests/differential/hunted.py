@@ -6,7 +6,7 @@ from dataclasses import dataclass
 from abi import Call
 from assembler import STOP, Jump, call_words, image_of
 from guests import RETURN
-from hunts import Options, fold, line_of_kept, lines_of_table, text_of_outcome
+from hunts import Options, fold, is_fed, line_of_kept, lines_of_table, text_of_outcome
 from sharers import Sharer
 from stretches import Recording
 
@@ -16,9 +16,10 @@ LAST_SEED = 2 ** 64 - 2
 
 
 class Hunted(Sharer):
-    """Nobody sleeps till the end of time to print, hardly anybody reads, and most loops are left by a return."""
+    """Nobody sleeps till the end of time to print, hardly anybody reads where there is nothing to read, and most loops are left by a return."""
 
-    def __init__(self, chance):
+    def __init__(self, chance, reads):
+        self.reads = reads
         super().__init__(chance)
         is_endless = chance.random() < 0.2
         items = [item if is_endless or not (item == STOP or isinstance(item, Jump)) else RETURN for item in self.program.items]
@@ -26,7 +27,7 @@ class Hunted(Sharer):
         self.image = image_of(self.program.words())
 
     def theme_weights(self):
-        return {**super().theme_weights(), "stream": 0.2, "odd": 0.4}
+        return {**super().theme_weights(), "stream": 4 if self.reads else 0.2, "odd": 0.4}
 
     def add_dump(self):
         self.program.label("dump")
@@ -38,6 +39,7 @@ class HuntsCase:
     image: bytes
     seeds: range
     options: Options
+    input: bytes | None  # what each run reads
 
     def disk(self):
         """None is given."""
@@ -45,9 +47,11 @@ class HuntsCase:
 
 
 def hunts_case(chance, seed):
-    options = Options(chance.choice([16, 17]), chance.choice([1, 1, 2, 3]), chance.choice([50, 500, 3000, 3000]))
+    data = chance.choice([None, b"", b"\xff", chance.randbytes(chance.choice([63, 64, 65, 300, 5000]))])
+    fed = None if data is None else "input"
+    options = Options(chance.choice([16, 17]), chance.choice([1, 1, 2, 3]), chance.choice([50, 500, 3000, 3000]), fed)
     first = chance.choice([1, chance.randrange(1000), chance.randrange(LAST_SEED - 9), LAST_SEED - 4])
-    return HuntsCase(Hunted(chance).image, range(first, first + chance.choice([1, 3, 5])), options)
+    return HuntsCase(Hunted(chance, data is not None).image, range(first, first + chance.choice([1, 3, 5])), options, data)
 
 
 def hunt(ckrt, folder, seeds, options, *more):
@@ -65,6 +69,8 @@ def difference_of_kept(ckrt, case, folder, seed):
     recording = Recording(bytearray(disk.read_bytes()))
     if recording.first or bytes(recording.machine.memory.bytes).rstrip(b"\0") != case.image.rstrip(b"\0"):
         return None, f"a disk of {recording.first} events at its begin, or of another image"
+    if not is_fed(recording, case.input):
+        return None, "an input that isn't given as a drive gives it"
     folded = fold(recording)
     outcome, drawn = text_of_outcome(folded, case.options.steps), re.search(r"drawn with (\d+)$", lines[-1])
     if drawn is None or int(drawn[1]) < folded.switches:
@@ -79,6 +85,8 @@ def difference_of_kept(ckrt, case, folder, seed):
 def difference_of_hunts(ckrt, case, folder, tally):
     """None, or where they differ: by each kept disk, or in the table of all seeds."""
     (folder / "image").write_bytes(case.image)
+    if case.input is not None:
+        (folder / "input").write_bytes(case.input)
     outcomes = {}
     for seed in case.seeds:
         outcomes[seed], difference = difference_of_kept(ckrt, case, folder, seed)

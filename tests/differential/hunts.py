@@ -4,7 +4,8 @@ from copy import deepcopy
 from dataclasses import dataclass, field
 from hashlib import sha256
 
-from events import Run
+from events import Eof, Input, Run
+from feeding import next_input
 from listing import CAUSES, address_text
 from machine import Machine
 from processor import Cause
@@ -45,6 +46,18 @@ def fold(recording):
     return folded
 
 
+def is_fed(recording, data):
+    """Whether events give bytes of a file, or none, just as a drive does: as soon as there is room, and before all else."""
+    machine, taken = deepcopy(recording.machine), 0
+    for event in recording.events:
+        due = None if data is None else next_input(data, taken, machine)
+        if (due or isinstance(event, (Input, Eof))) and event != due:
+            return False
+        taken += len(event.data) if isinstance(event, Input) else 0
+        machine.step(event)
+    return True
+
+
 def text_of_owner(machine, wait):
     """Who has the mutex that is waited for."""
     owner = machine.mutexes[wait.subject].owner if wait.kind in MUTEX_WAITS and wait.subject in machine.mutexes else 0
@@ -76,9 +89,11 @@ class Options:
     pages: int
     harts: int
     steps: int
+    input: str | None = None  # the path of the file that each run reads
 
     def words(self):
-        return f"--pages {self.pages} --harts {self.harts} --steps {self.steps}"
+        fed = f" --input {self.input}" if self.input else ""
+        return f"--pages {self.pages} --harts {self.harts} --steps {self.steps}{fed}"
 
 
 def command_of(image, seed, options):

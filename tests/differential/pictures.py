@@ -1,6 +1,7 @@
 """A picture of `ckrt timeline`, read back: its width, the pieces of each row, and the numbers of events below."""
 from xml.etree import ElementTree
 
+from columns import difference_of_columns, is_dense
 from timelines import title_of
 
 SVG = "{http://www.w3.org/2000/svg}"
@@ -81,4 +82,5 @@ def difference_of_picture(text, width, timeline):
     if picture.get("width") != str(width):
         return f"a picture of width {picture.get('width')}"
     rows = picture.findall(f"{SVG}svg")
-    return difference_of_rows(rows, timeline) or difference_of_ticks(picture, rows, timeline)
+    difference = difference_of_columns(picture, rows, timeline) if is_dense(timeline) else difference_of_rows(rows, timeline)
+    return difference or difference_of_ticks(picture, rows, timeline)

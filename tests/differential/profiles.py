@@ -1,150 +1,210 @@
-"""What `ckrt profile` writes of a disk, step by step: every wait is looked at before every step, and each stack is kept whole.
-
-Written from docs/PROFILE.md alone.
-"""
+"""What `ckrt profile` counts of a recorded run: steps by function, by stack of calls and by thread, and those that went by at waits."""
 from collections import Counter
+from dataclasses import dataclass, field
 
 from abi import RETURN_GATE, UNWIND_GATE
-from devices import MemoryDisk
-from events import Run
 from listing import address_text, reason_of_wait
-from machine import OUTPUT_OF_RUN
-from processor import ECALL
-from recorded import recorded_areas
-from recovery import events_of_journal
-from threads import WaitKind
+from stretches import Recording, next_word
+from threads import Status, WaitKind
 
+JUMP, JUMP_TO_REGISTER, ECALL = 0b1101111, 0b1100111, 0x73
 LINKS = (1, 5)
-JAL, JALR = 0x6F, 0x67
-TOP = 20
+STACKS, WAITS, LINES = 1024, 256, 20
 
 
-def awaited(wait):
-    """What is waited for, in a word and its address."""
-    if wait.kind is WaitKind.RETAKE:
-        return f"mutex {address_text(wait.subject)}"
-    return " ".join(reason_of_wait(wait).split()[:2])
+def calls(word):
+    """Whether a jump writes a link register."""
+    return word & 127 in (JUMP, JUMP_TO_REGISTER) and word >> 7 & 31 in LINKS
+
+
+def returns(word):
+    """Whether a jump reads a link register and doesn't write it. One that writes the other one calls, too."""
+    return word & 127 == JUMP_TO_REGISTER and word >> 15 & 31 in LINKS and word >> 7 & 31 != word >> 15 & 31
+
+
+@dataclass
+class Frame:
+    """A function on top of a stack; below it are its parents, down to the one that its thread began with."""
+    function: int
+    thread: int
+    parent: "Frame | None" = None
+    has_row: bool = False
+    steps: int = 0
+    calls: int = 0
+    children: dict = field(default_factory=dict)
+
+    def path(self):
+        """The functions from the one that the thread began with up to this one."""
+        found, frame = [], self
+        while frame:
+            found.append(frame.function)
+            frame = frame.parent
+        return found[::-1]
 
 
 class Profile:
-    def __init__(self, machine):
-        self.machine = machine
-        self.ran = 0  # as the replies to runs say
-        self.by, self.waits = Counter(), Counter()
-        self.stacks = {}  # a path, from the thread on, to its calls and steps
-        self.places = {}  # a thread's path, and how it goes on from its last step
-        for number, thread in sorted(machine.threads.items()):
-            if not thread.has_ended:
-                self.places[number] = self.entered((number,), thread.pc), ("behind", thread.pc)
+    """Looks on. A thread's stack is kept with the thread that it is of, and how often the runtime had sent that on.
 
-    def entered(self, path, pc):
-        path += (pc,)
-        self.stacks.setdefault(path, [0, 0])[0] += 1
-        return path
+    Functions and waits have their steps in the order in which they were met. `entered` has by thread the function that it called, or was
+    sent to, behind its last step. No page tells what a gate counts for that the runtime itself sends a thread to: `is_left_open` then.
+    """
 
-    def arrive(self, number, pc):
-        """The path of a thread's next step."""
-        path, (turn, behind) = self.places.get(number, ((number,), ("begin", None)))
-        if turn == "begin" or turn == "behind" and behind != pc:
-            return self.entered((number,), pc)
-        if turn in ("return", "swap") and len(path) > 2:
-            path = path[:-1]
-        if turn in ("call", "swap"):
-            return self.entered(path, pc)
-        return path
+    def __init__(self):
+        self.steps = 0
+        self.bottoms, self.frames, self.others = {}, [], 0
+        self.stacks, self.has_begun = {}, False
+        self.calls, self.threads, self.waits = Counter(), Counter(), Counter()
+        self.other_waits, self.entered, self.is_left_open = 0, {}, False
+        self.called_at = {}
 
-    def turn_of(self, thread):
-        pc, memory = thread.pc, self.machine.memory
-        requested = thread.is_request_pending and thread.is_asynchronous and not thread.is_disabled
-        word = memory.load(pc, 4) if memory.is_valid(pc, 4) else 0
-        if requested or pc in (RETURN_GATE, UNWIND_GATE) or word == ECALL:
-            return "behind", pc + 4 & 0xFFFFFFFF
-        to, back = word >> 7 & 31, word >> 15 & 31
-        if word & 127 == JAL:
-            return ("call" if to in LINKS else "on"), None
-        if word & 127 == JALR:
-            if to in LINKS:
-                return ("swap" if back in LINKS and back != to else "call"), None
-            return ("return" if back in LINKS else "on"), None
-        return "on", None
+    def begin_event(self, number):
+        """Nothing is counted by events."""
 
-    def step(self, hart):
-        number = self.machine.harts[hart]
-        thread = self.machine.threads[number]
-        path = self.arrive(number, thread.pc)
-        self.by[number] += 1
-        self.stacks[path][1] += 1
-        self.places[number] = path, self.turn_of(thread)
-        for wait in self.machine.waits:
-            self.waits[f"thread {wait.thread} waits {awaited(wait)}"] += 1
-        return self.machine.step(Run(hart, 1))
+    def look(self, machine, hart, step, make):
+        self.begin(machine)
+        if hart is None:
+            return make()
+        number = machine.harts[hart]
+        thread = machine.threads[number]
+        for wait in machine.waits:
+            self.count_wait(wait)
+        self.count_step(number, self.top(number, thread))
+        word = next_word(machine, number)
+        self.called_at[number] = thread.pc if word == ECALL else None
+        made = make()
+        if word is not None and machine.status is not Status.FAULTED:
+            self.move(number, thread, word)
+        for sent in [other for other, (known, sendings, _) in self.stacks.items() if known.sendings != sendings]:
+            self.entered[sent] = self.top(sent, self.stacks[sent][0])
+        return made
 
-    def event(self, event):
-        if not isinstance(event, Run):
-            self.machine.step(event)
-            return
-        put = 0
-        for _ in range(event.steps):
-            answer, bytes_put = self.step(event.hart)
-            self.ran += int(answer.split()[1])
-            put += len(bytes_put)
-            if not answer.endswith("on") or put == OUTPUT_OF_RUN:
-                break
+    def begin(self, machine):
+        """Threads that are under way where the stretch begins begin their stacks there."""
+        if not self.has_begun:
+            self.has_begun = True
+            for number, thread in sorted(machine.threads.items()):
+                if not thread.has_ended:
+                    self.top(number, thread)
+
+    def count_wait(self, wait):
+        """Of each thread by what it waits for; who waits for its mutex behind a condition waits for the mutex."""
+        key = wait.thread, awaited(wait)
+        if key in self.waits or len(self.waits) < WAITS:
+            self.waits[key] += 1
+        else:
+            self.other_waits += 1
+
+    def top(self, number, thread):
+        """A stack is begun by a thread's first step, and where the runtime sends it, but just behind its call."""
+        known, sendings, frame = self.stacks.get(number, (None, 0, None))
+        if self.called_at.get(number) is not None and thread.pc == self.called_at[number] + 4:
+            known, sendings = thread, thread.sendings
+            self.stacks[number] = known, sendings, frame
+        if known is not thread or sendings != thread.sendings:
+            self.is_left_open |= thread.pc in (RETURN_GATE, UNWIND_GATE)
+            frame = self.enter(self.bottoms, (number, thread.pc), thread.pc, number, None)
+            self.stacks[number] = thread, thread.sendings, frame
+        return frame
+
+    def enter(self, siblings, key, function, number, parent):
+        self.calls[function] += 1
+        if key not in siblings:
+            siblings[key] = Frame(function, number, parent, has_row=len(self.frames) < STACKS)
+            if siblings[key].has_row:
+                self.frames.append(siblings[key])
+        siblings[key].calls += 1
+        return siblings[key]
+
+    def count_step(self, number, frame):
+        self.steps += 1
+        self.threads[number] += 1
+        self.entered.pop(number, None)
+        if frame.has_row:
+            frame.steps += 1
+        else:
+            self.others += 1
+
+    def move(self, number, thread, word):
+        """The function that a stack began with stays on it."""
+        known, sendings, frame = self.stacks[number]
+        if returns(word):
+            frame = frame.parent or frame
+        if calls(word):
+            frame = self.enter(frame.children, thread.pc, thread.pc, number, frame)
+            self.entered[number] = frame
+        self.stacks[number] = known, sendings, frame
+
+    def count_fewer_calls(self):
+        """As if nobody had called what it made no step of, nor anything on a stack without a row."""
+        for frame in self.entered.values():
+            frame.calls -= 1
+        self.entered, self.calls = {}, Counter()
+        for frame in self.frames:
+            self.calls[frame.function] += frame.calls
+
+    def is_open(self):
+        """A stack without a step had a row here, and has none there, which tells once there are no more rows."""
+        return self.is_left_open or len(self.frames) == STACKS and any(not frame.steps for frame in self.frames)
 
     def functions(self):
-        """Calls and steps of each, by its address: those of the stacks on top of which it is."""
-        rows = {}
-        for path, (calls, steps) in self.stacks.items():
-            before = rows.get(path[-1], (0, 0))
-            rows[path[-1]] = before[0] + calls, before[1] + steps
-        return rows
-
-    def share(self, steps):
-        hundredths = steps * 10_000 // self.by.total() if self.by else 0
-        return f"{hundredths // 100:4}.{hundredths % 100:02}%{steps:18}  "
-
-    def section(self, head, rows):
-        """Rows of steps and a text, the most steps first."""
-        ranked = sorted((row for row in rows if row[0]), key=lambda row: -row[0])
-        lines = ["", f"  share             steps  {head}", *(self.share(steps) + text for steps, text in ranked[:TOP])]
-        if others := sum(steps for steps, _ in ranked[TOP:]):
-            lines.append(self.share(others) + "others")
-        return lines
+        """The steps of each, on all stacks that have rows."""
+        steps = Counter()
+        for frame in self.frames:
+            steps[frame.function] += frame.steps
+        return steps
 
     def table(self):
-        return [f"steps {self.by.total()}",
-                *self.section("function", [(steps, f"pc {address_text(pc)}, calls {calls}") for pc, (calls, steps) in self.functions().items()]),
-                *self.section("thread", [(steps, f"thread {number}") for number, steps in sorted(self.by.items())]),
-                *self.section("wait", [(steps, text) for text, steps in self.waits.items()])]
+        functions = [(steps, f"pc {address_text(function)}, calls {self.calls[function]}") for function, steps in self.functions().items()]
+        threads = [(steps, f"thread {number}") for number, steps in sorted(self.threads.items())]
+        waits = [(steps, f"thread {number} waits {what}") for (number, what), steps in self.waits.items()]
+        lines = [f"steps {self.steps}"]
+        for head, rows, others in [("function", [*functions, (self.others, "elsewhere")], 0), ("thread", threads, 0),
+                                   ("wait", waits, self.other_waits)]:
+            lines += ["", line_of("share", "steps", head), *self.section(rows, others)]
+        return lines
+
+    def section(self, rows, others):
+        """The rows with the most steps; of the same number that which comes first."""
+        rows = sorted((row for row in rows if row[0]), key=lambda row: -row[0])
+        rest = others + sum(steps for steps, _ in rows[LINES:])
+        return [line_of(share_of(steps, self.steps), steps, name) for steps, name in [*rows[:LINES], *[(rest, "others")] * (rest > 0)]]
 
     def folded(self):
-        return [";".join([f"thread {path[0]}", *map(address_text, path[1:])]) + f" {steps}"
-                for path, (_, steps) in self.stacks.items() if steps]
+        """A line for each stack with steps of its own, in the order in which they were met."""
+        lines = [";".join([f"thread {frame.thread}", *map(address_text, frame.path())]) + f" {frame.steps}" for frame in self.frames if frame.steps]
+        return lines + [f"others {self.others}"] * (self.others > 0)
 
-    def callgrind(self):
-        lines = ["# callgrind format", "version: 1", "creator: ckrt", "positions: instr", "events: Steps", f"summary: {self.by.total()}", "", "fl=???"]
-        for path, (calls, steps) in self.stacks.items():
-            name, whole = address_text(path[-1]), sum(more for other, (_, more) in self.stacks.items() if other[:len(path)] == path)
-            caller, at = (f"thread {path[0]}", 0) if len(path) == 2 else (address_text(path[-2]), path[-2])
-            lines += [f"fn={name}", f"0x{name} {steps}", f"fn={caller}", f"cfn={name}", f"calls={calls} 0x{name}", f"0x{address_text(at)} {whole}"]
-        return lines
+
+    def costs(self):
+        """The own steps of each function, and those on stacks without a row; of each function and what it called, which is a thread for
+        those that stacks begin with, how often it called it, and the steps on all stacks with the one on the other."""
+        below, edges = Counter(), {}
+        for frame in reversed(self.frames):
+            below[id(frame)] += frame.steps
+            if frame.parent:
+                below[id(frame.parent)] += below[id(frame)]
+            key = address_text(frame.parent.function) if frame.parent else f"thread {frame.thread}", address_text(frame.function)
+            count, steps = edges.get(key, (0, 0))
+            edges[key] = count + frame.calls, steps + below[id(frame)]
+        own = {**{address_text(function): steps for function, steps in self.functions().items()}, "others": self.others}
+        return {name: steps for name, steps in own.items() if steps}, {pair: edge for pair, edge in edges.items() if edge[1]}
+
+
+def awaited(wait):
+    """In the words of a listing, but for what it has beside the object."""
+    words = reason_of_wait(wait).split()[:2]
+    return " ".join(["mutex", words[1]] if wait.kind is WaitKind.RETAKE else words)
+
+
+def share_of(steps, whole):
+    """In percent, to a hundredth, rounded down, and at most all of it."""
+    hundredths = min(10_000, 10_000 * steps // whole)
+    return f"{hundredths // 100}.{hundredths % 100:02}%"
+
+
+def line_of(share, steps, name):
+    return f"{share:>7}{steps:>18}  {name}"
 
 
 def profile_of(contents, first=None, last=None):
-    """Of the events behind the first so many, and up to the last."""
-    disk = MemoryDisk(bytearray(contents))
-    profile = None
-    for found in recorded_areas(disk):
-        done = found.events
-        for event in events_of_journal(disk, found)[0]:
-            if last is not None and done >= last:
-                break
-            if profile is None and done >= (first or 0):
-                profile = Profile(found.machine)
-            if profile is None:
-                found.machine.step(event)
-            else:
-                profile.machine = found.machine
-                profile.event(event)
-            done += 1
-    return profile or Profile(found.machine)
+    return Recording(bytearray(contents)).show(Profile(), first, last)

@@ -8,8 +8,8 @@ LOADS, STORES = [2, 2, 2, 0, 1, 4, 5], [2, 2, 2, 0, 1]  # by funct3
 FENCE_RW_W, FENCE_R_RW = 0x0310000F, 0x0230000F
 OTHER_FENCES = [0x0330000F, 0x0FF0000F, 0x0120000F, 0x0310008F, 0x0230800F, 0x8330000F, 0x0130000F, 0x0320000F, 0x0210000F]
 WEIGHTS = {"mutex": 8, "condition": 5, "barrier": 4, "lock": 6, "thread": 6, "cancel": 6, "stream": 1, "odd": 0.1}
-APART = [0x2000, 0x2000, 0x2004, 0x2009, 0x2FFF]  # no two of these words count as one
-AS_ONE = [0x2000, 0x2000, 0x3000, 0x2004, 0x9004]  # two pairs that do
+APART = [0x2000, 0x2000, 0x2001, 0x2003, 0x2004, 0x2009, 0x2FFF]  # no two of these addresses count as one, though some are in one word
+AS_ONE = [0x2000, 0x2000, 0x3000, 0x2001, 0x9001]  # two pairs that do
 PLAIN = {Call.MUTEX_TRYLOCK: Call.MUTEX_LOCK, Call.MUTEX_TIMEDLOCK: Call.MUTEX_LOCK, Call.RWLOCK_RDLOCK: Call.RWLOCK_WRLOCK,
          Call.RWLOCK_TRYRDLOCK: Call.RWLOCK_WRLOCK, Call.RWLOCK_TRYWRLOCK: Call.RWLOCK_WRLOCK, Call.MUTEX_INIT: Call.COND_INIT,
          Call.MUTEX_DESTROY: Call.COND_INIT}
@@ -43,7 +43,7 @@ class Sharer(Guest):
 
     def lock_operation(self):
         """The second lock of two counts as the first one, or doesn't."""
-        second = 0x5000 if self.has_locks_as_one else 0x5004
+        second = 0x5000 if self.has_locks_as_one else self.chance.choice([0x5001, 0x5004])
         return [(number, *[second if address == 0x5000 else address for address in rest])
                 for number, *rest in super().lock_operation()]
 

@@ -3,7 +3,8 @@ import unittest
 from hashlib import sha256
 
 from abi import Call
-from hunts import Options, fold, lines_of_table, text_of_outcome
+from events import Eof, Input
+from hunts import Options, fold, is_fed, lines_of_table, text_of_outcome
 from switches import switched
 from test_races import call, load, locked, recording_of
 
@@ -74,6 +75,19 @@ class Counts(WithKeys):
         self.assertEqual(fold(recording_of([(2, [*call(Call.GETC), *load()])], threads=1)).steps, 9)
 
 
+class Inputs(WithKeys):
+    def test_given(self):
+        """At once, before all else, and the end behind it."""
+        recording = recording_of([(1, load())], threads=0)
+        self.assertTrue(is_fed(recording, None))
+        self.assertFalse(is_fed(recording, b""))
+        events = recording.events
+        for given, data, is_so in [([Eof()], b"", True), ([Input(b"ab"), Eof()], b"ab", True), ([Eof()], b"ab", False), ([Eof()], None, False),
+                                   ([Input(b"ab")], b"ab", False), ([Input(b"ab"), Eof()], b"abc", False)]:
+            recording.events = [*given, *events]
+            self.assertEqual(is_fed(recording, data), is_so)
+
+
 class Tables(unittest.TestCase):
     def test_order_and_counts(self):
         outcomes = dict(zip(range(8, 13), ["exit 0, output 1", "deadlock", "exit 0, output 1", "exit 1, output 1", "deadlock"]))
@@ -84,6 +98,8 @@ class Tables(unittest.TestCase):
             "    ckrt hunt a.bin --seeds 9-9 --pages 16 --harts 2 --steps 99 --keep seed-9.disk",
             "outcome 3: 1 of 5 runs, first by seed 11: exit 1, output 1",
             "    ckrt hunt a.bin --seeds 11-11 --pages 16 --harts 2 --steps 99 --keep seed-11.disk"])
+        self.assertEqual(lines_of_table("a.bin", {8: "deadlock"}, Options(16, 2, 99, "b.txt"))[1],
+                         "    ckrt hunt a.bin --seeds 8-8 --pages 16 --harts 2 --steps 99 --input b.txt --keep seed-8.disk")
 
 
 if __name__ == "__main__":

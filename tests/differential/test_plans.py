@@ -84,7 +84,7 @@ class Plans(unittest.TestCase):
             states = [Session(MemoryDisk(disk)) for disk in (parts, whole)]
             self.assertEqual(outputs[0], outputs[1])
             self.assertEqual(states[0].events, states[1].events)
-            self.assertEqual(vars(states[0].machine.threads[1]), vars(states[1].machine.threads[1]))
+            self.assertEqual(states[0].machine.threads[1], states[1].machine.threads[1])
 
 
 if __name__ == "__main__":

@@ -2,7 +2,7 @@
 import unittest
 from random import Random
 
-from abi import Call
+from abi import ALL_ONES, Call
 from assembler import STOP, Jump, Label, Program, call_words, image_of, immediate_form, length_of, load_number, store_form
 from clocks import Clocks
 from layout import Geometry, format_disk
@@ -160,9 +160,28 @@ class Locks(WithKeys):
         self.no_race((2, [*call(Call.MUTEX_LOCK, 0x2000), *store()]), (3, call(Call.MUTEX_LOCK, 0x2000)),
                      (2, call(Call.MUTEX_UNLOCK, 0x2000)), (3, load()))
 
+    def test_locks_of_one_word(self):
+        """A lock is known by its address, be there another one at the next byte; one of another kind is another one."""
+        def held(lock, taken, items):
+            return [*call(taken, lock), *items, *call(Call.RWLOCK_UNLOCK, lock)]
+
+        for one, other in [(0x2000, 0x2001), (0x2001, 0x2000), (0x2001, 0x2002), (0x2000, 0x3003), (ALL_ONES, ALL_ONES - 1)]:
+            self.race((2, locked(store(), one)), (3, locked(load(), other)))
+            self.race((2, held(one, Call.RWLOCK_WRLOCK, store())), (3, held(other, Call.RWLOCK_RDLOCK, load())))
+            self.no_race((2, locked(store(), one)), (3, locked(load(), one)))
+            self.no_race((2, held(one, Call.RWLOCK_WRLOCK, store())), (3, held(one, Call.RWLOCK_RDLOCK, load())))
+        self.race((2, locked(store())), (3, held(0x2000, Call.RWLOCK_RDLOCK, load())))
+        wait = [*call(Call.MUTEX_LOCK, 0x2001), *store(), *call(Call.COND_WAIT, 0x3000, 0x2001)]
+        self.race((2, wait), (3, locked(load(), 0x2002)))
+        self.no_race((2, wait), (3, locked(load(), 0x2001)))
+
+    def test_words_that_may_count_as_one(self):
+        self.is_open((2, [*store(), *published(8)]), (3, [*looked_at(8 + 4096), *load()]))
+        self.race((2, [*store(), *published(8)]), (3, [*looked_at(12), *load()]))
+        self.no_race((2, [*store(), *published(8)]), (3, [*looked_at(8), *load()]))
+
     def test_locks_that_count_as_one(self):
         self.no_race((2, locked(store())), (3, locked(load(), 0x5000)))
-        self.race((2, locked(store())), (3, locked(load(), 0x2001)))
         self.race((2, locked(store())), (3, [*call(Call.RWLOCK_WRLOCK, 0x2000), *load()]))
 
     def test_levels(self):

@@ -40,7 +40,8 @@ class Handler(NamedTuple):
 
 @dataclass
 class Thread:
-    """`values` has by key those that aren't 0; `round` and `next_key` tell how far destructors have come."""
+    """`values` has by key those that aren't 0; `round` and `next_key` tell how far destructors have come. `sendings` counts how often
+    the runtime has sent it to a routine of its own, for who looks on."""
     pc: int = 0
     registers: list = field(default_factory=lambda: [0] * 32)
     is_initial: bool = False
@@ -55,6 +56,7 @@ class Thread:
     values: dict = field(default_factory=dict)
     round: int = 0
     next_key: int = 0
+    sendings: int = field(default=0, compare=False)
 
     def set_value(self, key, value):
         """A value of 0 is none."""
@@ -67,6 +69,7 @@ class Thread:
         """A handler or destructor, from which the thread comes back to its unwinding."""
         self.pc = routine
         self.registers[1], self.registers[10] = UNWIND_GATE, argument
+        self.sendings += 1
 
 
 def new_thread(start, argument, stack, is_detached, is_initial=False):

@@ -8,10 +8,10 @@ use Rattle.ckrt_machine.specs.declared.event.Answer.TheVariants.{Placed, Ran, Ta
 use Rattle.ckrt_hunt.specs.declared.made.Made.{Made}
 use Rattle.ckrt_hunt.specs.declared.plan.Plan.{Plan}
 use Rattle.ckrt_hunt.specs.declared.runs.Told.{Told}
-use Rattle.ckrt_hunt.specs.Plans.{made_with, plan_of}
+use Rattle.ckrt_hunt.specs.Plans.{made_with}
 use Rattle.ckrt_hunt.specs.Runs.{ComesTo, EndsWith, Point, beginning, behind, on}
 use Rattle.ckrt_hunt.specs.Short.{HasSwitches, Repeats}
-use Rattle.ckrt_hunt.specs.Tallies.{Hunted}
+use Rattle.ckrt_hunt.specs.Tallies.{Hunted, plan_in}
 use Rattle.ckrt_hunt.specs.Turns.{runner_of}
 use Rattle.ckrt_hunt.proofs.RunLemmas.{same_events, same_told}
 
@@ -48,9 +48,9 @@ module _ (p : Plan) (start : State) where
       ap (λ (es : List Event). (behind p es (beginning start)).made.switches) (same other told c e.comes) ∙ sym (ap (λ (x : Made). x.switches) e.has_made)
 
 -- a run that comes to what the seed comes to, in no more events
-pub repeats : (h : Hunted) (seed : ℕ) (p : Plan) (told other : Told) (m n : Made) → EndsWith (plan_of h.limit seed) h.start told m → EndsWith p h.start other n → other ≡ told → n.events ≤ m.events → Repeats h seed p
+pub repeats : (h : Hunted) (seed : ℕ) (p : Plan) (told other : Told) (m n : Made) → EndsWith (plan_in h seed) h.start told m → EndsWith p h.start other n → other ≡ told → n.events ≤ m.events → Repeats h seed p
 repeats h seed p told other m n e f is few =
-    let drawn = plan_of h.limit seed in
+    let drawn = plan_in h seed in
     record {
       same = λ t c. subst (λ (u : Told). ComesTo p h.start u) (is ∙ same_told drawn h.start told t e.comes c) f.comes;
       few = λ t u a b.
@@ -60,9 +60,9 @@ repeats h seed p told other m n e f is few =
     }
 
 -- the seed itself
-pub repeats_itself : (h : Hunted) (seed : ℕ) → Repeats h seed (plan_of h.limit seed)
+pub repeats_itself : (h : Hunted) (seed : ℕ) → Repeats h seed (plan_in h seed)
 repeats_itself h seed =
-    let drawn = plan_of h.limit seed in
+    let drawn = plan_in h seed in
     record {
       same = λ t c. c;
       few = λ t u a b.

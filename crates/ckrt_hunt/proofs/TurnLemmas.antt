@@ -1,5 +1,6 @@
 -- The search for the thread whose turn it is, and for its hart.
-use Rattle.std.proofs.Common.{◌≡◌, [], ◌++◌, ℕ, suc, ◌+◌, ◌-◌, ◌<◌, ◌≤◌, Bool, true, false, Option, Some, None, List, ap, sym, arith, cond, nat_le, refl}
+use Rattle.std.proofs.Common.{◌≡◌, ◌==◌, [], ◌∷◌, ◌++◌, ℕ, zero, suc, ◌+◌, ◌-◌, ◌<◌, ◌≤◌, min, drop, length, Bool, true, false, Option, Some, None, List, ap, sym, arith, cond, nat_le, refl}
+use Rattle.std.specs.Prelude.{IfSome}
 use Rattle.std.specs.List.{find}
 use Rattle.ckrt_thread.specs.State as threads
 use Rattle.ckrt_thread.specs.Waits.{is_of}
@@ -9,6 +10,7 @@ use Rattle.ckrt_events.specs.declared.event.Event.TheVariants.{Place, Run, Input
 use Rattle.ckrt_events.specs.Bytes.{RUN_LIMIT}
 use Rattle.ckrt_machine.specs.Steps.{State, hart_of}
 use Rattle.ckrt_machine.specs.Events.{step}
+use Rattle.ckrt_input.specs.Next.{given_by, has_room, next_bytes, next_input}
 use Rattle.ckrt_schedule.specs.Schedules.{idle_until, run_by, ticks_to}
 use Rattle.ckrt_schedule.specs.declared.next.Next.TheVariants.{Submit}
 use Rattle.ckrt_hunt.specs.declared.plan.Plan.{Plan}
@@ -70,6 +72,12 @@ ran_within (RunLong h n) s = omega arith
 -- a run has the steps that it is to have, by whichever event
 pub steps_of_run : (h n : ℕ) → steps_in (run_by h n) ≡ n
 steps_of_run h n = elim (nat_le n RUN_LIMIT) as (λ b. steps_in (cond b (Run h n) (RunLong h n)) ≡ n) [ true ↦ refl | false ↦ refl ]
+
+-- what is given of an input has no steps
+pub no_steps_given : (s : Tables) (rest : List ℕ) → IfSome (next_input s rest) (λ e. steps_in e ≡ 0)
+no_steps_given s rest =
+    elim (has_room s (length (next_bytes rest))) as (λ b. IfSome (cond b (Some (given_by (next_bytes rest))) None) (λ e. steps_in e ≡ 0))
+    [ true ↦ elim (length (next_bytes rest) == 0) as (λ b. steps_in (cond b Eof (Input (record { items = next_bytes rest }))) ≡ 0) [ true ↦ refl | false ↦ refl ] | false ↦ tt ]
 
 -- where no thread may run, no steps are made
 pub no_steps : (o : Option ℕ) (s : Tables) (e : Event) → idle_until o s ≡ Submit e → steps_in e ≡ 0

@@ -13,6 +13,7 @@ use Rattle.ckrt_machine.specs.declared.event.Answer.TheVariants.{Placed, Ran, Ta
 use Rattle.ckrt_machine.specs.declared.event.RunEnd.{RunEnd}
 use Rattle.ckrt_machine.specs.declared.event.RunEnd.TheVariants.{On, Off, End}
 use Rattle.ckrt_hunt.specs.declared.lots.TheConstants.{CHANGES, CLOCK, POINTS, SCALE}
+use Rattle.ckrt_hunt.specs.declared.plan.Input.{Input}
 use Rattle.ckrt_hunt.specs.declared.plan.Plan.{Plan}
 use Rattle.ckrt_hunt.specs.declared.made.Lowered.{Lowered}
 use Rattle.ckrt_hunt.specs.declared.made.Made.{Made}
@@ -29,6 +30,10 @@ abbrev pub point_of : (seed k i : ℕ) → ℕ
 point_of seed k i =
     if nat_lt i (lot_at seed 0 CHANGES % 4) then lot_at seed 0 (POINTS + i) % k + 1 else k
 
+-- a program is given nothing to read
+abbrev pub no_input : Input
+no_input = record { bytes = None }
+
 -- priorities for k steps; none, where k is 0
 abbrev pub plan_with : (limit seed k : ℕ) → (first second third : ℕ) → Plan
 plan_with limit seed k first second third = record {
@@ -40,6 +45,7 @@ plan_with limit seed k first second third = record {
   third = third;
   is_early = is_early seed;
   turns = None;
+  input = no_input;
 }
 
 abbrev pub by_priorities : (limit seed k : ℕ) → Plan
@@ -66,6 +72,7 @@ nothing_made = record {
   is_near_call = false;
   runner = None;
   switches = 0;
+  taken = 0;
   lowered = record { first = None; second = None; third = None };
 }
 
@@ -96,7 +103,7 @@ switch_to (Some t) (Some u) = if t == u then 0 else 1
 
 -- one more event, which came to this; who was on the hart of a run made its steps
 abbrev pub made_with : Plan → (who : Option ℕ) → Answer → Made → Made
-made_with p who (Ran n how) m = record {
+made_with p who (Ran n how) m = record m {
   events = m.events + 1;
   turns = m.turns + 1;
   steps = m.steps + n;
@@ -107,7 +114,8 @@ made_with p who (Ran n how) m = record {
 }
 made_with p who (Ticked ended) m = record m { events = m.events + 1; turns = m.turns + 1 }
 made_with p who Placed m = record m { events = m.events + 1 }
-made_with p who (Taken count) m = record m { events = m.events + 1 }
+made_with p who (Taken count) m =
+    record m { events = m.events + 1; taken = min (m.taken + count) 4294967295 }
 made_with p who Closed m = record m { events = m.events + 1 }
 
 -- how many steps an answer tells of

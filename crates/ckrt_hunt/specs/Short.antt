@@ -5,9 +5,8 @@ use Rattle.ckrt_machine.specs.Steps.{State}
 use Rattle.ckrt_hunt.specs.declared.plan.Plan.{Plan}
 use Rattle.ckrt_hunt.specs.declared.runs.Told.{Told}
 use Rattle.ckrt_hunt.specs.declared.shorten.Found.{Found}
-use Rattle.ckrt_hunt.specs.Plans.{plan_of}
 use Rattle.ckrt_hunt.specs.Runs.{ComesTo, beginning, behind}
-use Rattle.ckrt_hunt.specs.Tallies.{Hunted, SeedComesTo}
+use Rattle.ckrt_hunt.specs.Tallies.{Hunted, SeedComesTo, plan_in}
 
 -- a run by the plan comes to what the seed comes to, in no more events
 pub record Repeats (h : Hunted) (seed : ℕ) (p : Plan) : Type 0 where
@@ -23,5 +22,5 @@ HasSwitches p start n = (told : Told) → (c : ComesTo p start told)
 -- a plan was found, and the switches of the seed's run and of its own were counted
 pub record IsFound (h : Hunted) (seed : ℕ) (found : Found) : Type 0 where
   pub repeats : Repeats h seed found.plan
-  pub drawn : HasSwitches (plan_of h.limit seed) h.start found.drawn
+  pub drawn : HasSwitches (plan_in h seed) h.start found.drawn
   pub switches : HasSwitches found.plan h.start found.switches

@@ -3,7 +3,7 @@
 --
 --     outcome 2: 3 of 200 runs, first by seed 17: deadlock, thread 2 waits for mutex 00002c58 (thread 3 has it)
 --         ckrt hunt race.bin --seeds 17-17 --pages 64 --harts 2 --steps 10000000 --keep seed-17.disk
-use Rattle.std.specs.Prelude.{ℕ, zero, suc, ◌+◌, ◌-◌, ◌==◌, if◌then◌else◌, List, [], ◌∷◌, ◌++◌, length, take, slice_get, codes, decimal, Option, Some, None}
+use Rattle.std.specs.Prelude.{ℕ, zero, suc, ◌+◌, ◌-◌, ◌==◌, if◌then◌else◌, List, [], ◌∷◌, ◌++◌, length, take, slice_get, codes, decimal, Option, Some, None, option_map}
 use Rattle.std.specs.List.{flat_map}
 use Rattle.hex.specs.Hex.{encode_lower}
 use Rattle.ckrt_rv32i.specs.Names.{cause_name}
@@ -79,9 +79,17 @@ abbrev pub shape_text : Shape → List ℕ
 shape_text s =
     codes " --pages " ++ decimal s.pages ++ (codes " --harts " ++ decimal s.harts) ++ (codes " --steps " ++ decimal s.limit)
 
+-- the input, where there is one
+abbrev pub input_path_text : Option (List ℕ) → List ℕ
+input_path_text None = []
+input_path_text (Some path) = codes " --input " ++ path
+
+abbrev pub input_text : Asked → List ℕ
+input_text a = input_path_text (option_map (λ path. path.now) a.input)
+
 abbrev pub command_line : Asked → (seed : ℕ) → List ℕ
 command_line a seed =
-    codes "    ckrt hunt " ++ a.image.now ++ seed_text seed ++ shape_text a.shape
+    codes "    ckrt hunt " ++ a.image.now ++ seed_text seed ++ shape_text a.shape ++ input_text a
     ++ (codes " --keep seed-" ++ decimal seed)
     ++ codes ".disk\n"
 

@@ -4,6 +4,8 @@ use Rattle.ckrt_memory.specs.Marks.{Memory}
 use Rattle.ckrt_state.specs.declared.table.Tables.{Tables}
 use Rattle.ckrt_machine.specs.Events.{fresh}
 use Rattle.ckrt_machine.specs.Steps.{State}
+use Rattle.ckrt_hunt.specs.declared.plan.Input.{Input}
+use Rattle.ckrt_hunt.specs.declared.plan.Plan.{Plan}
 use Rattle.ckrt_hunt.specs.declared.runs.Told.{Told}
 use Rattle.ckrt_hunt.specs.declared.row.Row.{Row}
 use Rattle.ckrt_hunt.specs.declared.seeds.Seeds.{Seeds}
@@ -58,10 +60,15 @@ shape_of pages harts limit =
     if nat_le 16 pages && (nat_le pages 1024 && (nat_le 1 harts && nat_le harts 8)) then Some (pages, harts, limit)
     else None
 
--- a program that is hunted: how many steps and events a run has at most, and the state that each begins with
+-- a program that is hunted: how many steps and events a run has at most, the state that each begins with, and what it is given to read
 pub record Hunted : Type 0 where
   pub limit : ℕ
   pub start : State
+  pub input : Input
+
+-- the plan of a seed
+abbrev pub plan_in : Hunted → (seed : ℕ) → Plan
+plan_in h seed = record (plan_of h.limit seed) { input = h.input }
 
 -- a memory and tables have the room for a state, which has a hart at least
 pub record IsRoomFor (s : State) (memory : Memory) (tables : Tables) : Type 0 where
@@ -71,7 +78,7 @@ pub record IsRoomFor (s : State) (memory : Memory) (tables : Tables) : Type 0 wh
 
 -- what a seed comes to, from the beginning of the program
 abbrev pub SeedComesTo : Hunted → (seed : ℕ) → Told → Type 0
-SeedComesTo h seed told = ComesTo (plan_of h.limit seed) h.start told
+SeedComesTo h seed told = ComesTo (plan_in h seed) h.start told
 
 -- a tally that grew by a seed out of one of which something was so
 pub record Grew (WasSo : Tally → Type 0) (h : Hunted) (seed : ℕ) (tally : Tally) : Type 0 where
@@ -93,11 +100,11 @@ pub record IsTallyOf (h : Hunted) (seeds : Seeds) (tally : Tally) : Type 0 where
   pub no_others : begun.others ≡ 0
   pub noted : AreNoted h seeds.first (seeds.last - seeds.first + 1) begun tally
 
--- the program with this image, as it is run with a shape
-abbrev pub hunted_of : (image : List ℕ) → Shape → Hunted
-hunted_of image s = record { limit = s.limit; start = fresh s.pages s.harts image }
+-- the program with this image, as it is run with a shape and an input
+abbrev pub hunted_of : (image : List ℕ) → Shape → Input → Hunted
+hunted_of image s input = record { limit = s.limit; start = fresh s.pages s.harts image; input = input }
 
--- the program with this image was hunted as it was asked for: by the first seeds of its range, or by all of them
-pub record IsHunted (image : List ℕ) (asked : Asked) (done : HuntDone) : Type 0 where
+-- the program with this image and this input was hunted as it was asked for: by the first seeds of its range, or by all of them
+pub record IsHunted (image : List ℕ) (input : Input) (asked : Asked) (done : HuntDone) : Type 0 where
   pub begins : IsBeginning asked.seeds asked.may_end done.seeds
-  pub tally : IsTallyOf (hunted_of image asked.shape) done.seeds done.tally
+  pub tally : IsTallyOf (hunted_of image asked.shape input) done.seeds done.tally

@@ -1,6 +1,6 @@
 -- Which event comes next (this project's choice): a function of the plan of the seed, of what the run has made so far, and of the tables.
 -- A turn is a run, or a tick. Before the run of a thread that is on no hart, it goes onto one, which ends no turn.
-use Rattle.std.specs.Prelude.{◌≡◌, ◌≤◌, ◌<◌, ℕ, zero, suc, ◌+◌, ◌-◌, ◌%◌, ◌==◌, ◌||◌, ◌&&◌, nat_le, nat_lt, min, Bool, true, false, is_none, if◌then◌else◌, Option, Some, None}
+use Rattle.std.specs.Prelude.{◌≡◌, ◌≤◌, ◌<◌, ℕ, zero, suc, ◌+◌, ◌-◌, ◌%◌, ◌==◌, ◌||◌, ◌&&◌, nat_le, nat_lt, min, Bool, true, false, is_none, if◌then◌else◌, Option, Some, None, List, option_map}
 use Rattle.std.specs.List.{find}
 use Rattle.ckrt_thread.specs.State as threads
 use Rattle.ckrt_thread.specs.Waits.{is_of}
@@ -11,11 +11,13 @@ use Rattle.ckrt_events.specs.declared.event.Event.TheVariants.{Place, Run, Tick,
 use Rattle.ckrt_machine.specs.Steps.{hart_of}
 use Rattle.ckrt_machine.specs.Runs.{is_running}
 use Rattle.ckrt_machine.specs.Refusals.{refusal_in}
-use Rattle.ckrt_schedule.specs.Schedules.{earliest_deadline, idle_until, run_by}
+use Rattle.ckrt_drive.specs.Given.{given_in}
+use Rattle.ckrt_schedule.specs.Schedules.{earliest_deadline, idle_until, or_scheduled, run_by}
 use Rattle.ckrt_schedule.specs.declared.next.Next.{Next}
 use Rattle.ckrt_schedule.specs.declared.next.Next.TheVariants.{Submit, End}
 use Rattle.ckrt_schedule.specs.declared.next.ScheduleEnd.TheVariants.{Ended, Enough}
 use Rattle.ckrt_hunt.specs.declared.lots.TheConstants.{CLOCK, HART, LENGTH, SCALE}
+use Rattle.ckrt_hunt.specs.declared.plan.Input.{Input}
 use Rattle.ckrt_hunt.specs.declared.plan.Plan.{Plan}
 use Rattle.ckrt_hunt.specs.declared.made.Lowered.{Lowered}
 use Rattle.ckrt_hunt.specs.declared.made.Made.{Made}
@@ -185,7 +187,16 @@ abbrev pub next_for : Option Ranked → Plan → Made → Tables → Next
 next_for (Some r) p m s = Submit (event_for p m r.thread s)
 next_for None p m s = idle_until (earliest_deadline s.threads.waits) s
 
--- a tick that the clock has no room for ends a run
+-- the bytes of an input, where there is one
+abbrev pub bytes_of : Input → Option (List ℕ)
+bytes_of input = option_map (λ bytes. bytes.now) input.bytes
+
+-- what the program is given of its input comes first, as soon as there is room for it
+abbrev pub given_or_next : Plan → Made → Tables → Next
+given_or_next p m s =
+    or_scheduled (given_in (bytes_of p.input) m.taken s) (next_for (best_among p m s.threads 64) p m s)
+
+-- an event that is refused ends a run, as a tick that the clock has no room for
 abbrev pub or_enough : Next → Tables → Next
 or_enough (Submit e) s = if is_none (refusal_in 0 e s) then Submit e else End Enough
 or_enough (End ending) s = End ending
@@ -199,7 +210,7 @@ abbrev pub next : Plan → Made → Tables → Next
 next p m s =
     if is_running s.status then
     (if is_enough p m then End Enough
-    else or_enough (next_for (best_among p m s.threads 64) p m s) s)
+    else or_enough (given_or_next p m s) s)
     else End Ended
 
 -- WHO MAKES ITS STEPS

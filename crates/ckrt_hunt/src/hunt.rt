@@ -1,11 +1,10 @@
 //! One seed after another.
 ghost use Rattle.std.specs.Prelude.{◌≡◌, ◌≤◌, ◌*◌, ◌+◌, ◌-◌, ◌<◌, ◌↔◌, length, IfOk, IsErrOf};
 ghost use Rattle.ckrt_memory.specs.declared.MemoryError.TheVariants.{ImageTooLong};
-ghost use Rattle.ckrt_machine.specs.Events.{fresh};
 
 use crate::noting::note_turns;
 use crate::onlooker::HuntOnlooker;
-use crate::plan::Plan;
+use crate::plan::{Input, Plan};
 use crate::runs::{Finished, Told, run};
 use crate::seeds::Seeds;
 use crate::shape::Shape;
@@ -21,8 +20,10 @@ use std::marker::Model;
 /// A program that is hunted. Each seed has a run of its own, from the beginning of the program. All room is taken by
 /// [`Hunt::new`].
 #[derive(Drop)]
-pub struct Hunt {
+pub struct Hunt<'i> {
     limit: u32,
+    /// What each run is given to read.
+    input: Input<'i>,
     /// At the beginning of the program, between two runs.
     machine: Machine,
     /// The room for the beginning of the run after the next one.
@@ -30,29 +31,32 @@ pub struct Hunt {
     tables: Tables,
 }
 
-impl Model for Hunt {
+impl<'i> Model for Hunt<'i> {
     ghost use Rattle.ckrt_hunt.specs.Tallies.{Hunted, IsRoomFor};
 
     ghost Value = { Hunted };
 
-    ghost view = { λ h. record { limit = h.limit; start = h.machine.state } };
+    ghost view = { λ h. record { limit = h.limit; start = h.machine.state; input = h.input } };
 
     ghost invariant = { λ h. IsRoomFor h.machine.state h.memory h.tables };
 }
 
-impl Hunt {
-    ghost use Rattle.ckrt_hunt.specs.Plans.{plan_of};
+impl<'i> Hunt<'i> {
     ghost use Rattle.ckrt_hunt.specs.Runs.{EndsWith};
     ghost use Rattle.ckrt_hunt.specs.Seeds.{IsBeginning};
-    ghost use Rattle.ckrt_hunt.specs.Tallies.{AreNoted, SeedComesTo};
+    ghost use Rattle.ckrt_hunt.specs.Tallies.{AreNoted, SeedComesTo, hunted_of, plan_in};
 
-    /// The hunt of a program that begins with this image.
+    /// The hunt of a program that begins with this image, and is given this to read.
     ///
     /// `ImageTooLong` where the image has more bytes than the pages from page 1 on, and else `OutOfMemory` where the allocator
     /// refuses the room.
-    pub fn new(alloc: Global, image: &[u8], shape: Shape) -> Result<Hunt, MemoryError>
-        ensures hunted { IfOk result (λ hunt. hunt
-            ≡ record { limit = shape.limit; start = fresh shape.pages shape.harts image.now }) }
+    pub fn new(
+        alloc: Global,
+        image: &[u8],
+        shape: Shape,
+        input: Input<'i>,
+    ) -> Result<Hunt<'i>, MemoryError>
+        ensures hunted { IfOk result (λ hunt. hunt ≡ hunted_of image.now shape input.entry) }
         ensures too_long { IsErrOf result ImageTooLong
             ↔ (4096 * (shape.pages - 1) < length image.now) }
     {
@@ -61,6 +65,7 @@ impl Hunt {
         let tables = Tables::new(alloc, shape.pages, shape.harts)?;
         Ok(Hunt {
             limit: shape.limit,
+            input,
             machine,
             memory,
             tables,
@@ -68,10 +73,10 @@ impl Hunt {
     }
 
     /// The plan of a seed.
-    pub fn plan_of<'a>(&self, seed: u64) -> Plan<'a>
-        ensures { result ≡ plan_of self.now.limit seed }
+    pub fn plan_of(&self, seed: u64) -> Plan<'i>
+        ensures { result ≡ plan_in self.now seed }
     {
-        Plan::new(self.limit, seed)
+        Plan::new(self.limit, seed).with_input(self.input)
     }
 
     /// What a run by a plan comes to. It takes no memory, and the hunt is as it was.
@@ -102,7 +107,8 @@ impl Hunt {
         ensures comes { SeedComesTo self.old seed result }
         ensures same { self.new ≡ self.old }
     {
-        self.run_by(&Plan::new(self.limit, seed)).told
+        let plan = self.plan_of(seed);
+        self.run_by(&plan).told
     }
 
     /// Notes what the seeds of a range come to, in turn. An onlooker is told of each but the last one. Where the hunt may end early, it

@@ -34,7 +34,7 @@ pub use laws::{seed_repeats, told_is_kept, told_is_kept_short};
 pub use made::{Lowered, Made};
 pub use onlooker::{HuntOnlooker, HuntWatch};
 pub use outcome::{Awaited, Outcome, Waiting};
-pub use plan::Plan;
+pub use plan::{Input, Plan};
 pub use row::Row;
 pub use runs::{Finished, Told, run};
 pub use seeds::Seeds;

@@ -29,6 +29,8 @@ pub struct Made {
     pub runner: Option<ThreadId>,
     /// How often a run was of another thread than the run before.
     pub switches: u32,
+    /// How many bytes of its input the program has taken.
+    pub taken: u32,
     pub lowered: Lowered,
 }
 
@@ -116,6 +118,7 @@ impl Made {
             is_near_call: false,
             runner: None,
             switches: 0,
+            taken: 0,
             lowered: Lowered {
                 first: None,
                 second: None,
@@ -140,13 +143,19 @@ impl Made {
                 runner: who,
                 switches: self.switches.saturating_add(switch_to(self.runner, who)),
                 lowered: self.lowered.with(plan, self.steps + steps, who),
+                ..self
             },
             Answer::Ticked(_) => Made {
                 events: self.events + 1,
                 turns: self.turns + 1,
                 ..self
             },
-            Answer::Placed | Answer::Taken(_) | Answer::Closed => Made {
+            Answer::Taken(count) => Made {
+                events: self.events + 1,
+                taken: self.taken.saturating_add(count),
+                ..self
+            },
+            Answer::Placed | Answer::Closed => Made {
                 events: self.events + 1,
                 ..self
             },

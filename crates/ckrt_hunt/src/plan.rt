@@ -5,6 +5,23 @@ use crate::drawn::{is_early, point_of};
 use crate::given::Turn;
 use crate::lots::{SCALE, lot_at, scale_of};
 
+/// What a run is given to read: these bytes, and then the end of input; or nothing at all.
+#[derive(Clone, Copy, Debug)]
+pub struct Input<'a> {
+    pub bytes: Option<&'a [u8]>,
+}
+
+impl<'a> Input<'a> {
+    ghost use Rattle.ckrt_hunt.specs.Plans.{no_input};
+
+    /// Nothing.
+    pub fn none() -> Input<'a>
+        ensures { result ≡ no_input }
+    {
+        Input { bytes: None }
+    }
+}
+
 /// The plan of a run: what its seed has drawn before it begins, and the turns that are given in place of drawn ones.
 #[derive(Clone, Copy, Debug)]
 pub struct Plan<'a> {
@@ -21,6 +38,8 @@ pub struct Plan<'a> {
     pub is_early: bool,
     /// The first turns of the run, where they are given. Those behind them are then [`Turn::Lowest`].
     pub turns: Option<&'a [Turn]>,
+    /// What the program is given to read.
+    pub input: Input<'a>,
 }
 
 impl<'a> Plan<'a> {
@@ -47,6 +66,13 @@ impl<'a> Plan<'a> {
         }
     }
 
+    /// The same with this input.
+    pub fn with_input(self, input: Input<'a>) -> Plan<'a>
+        ensures { result ≡ record self.entry { input = input.entry } }
+    {
+        Plan { input, ..self }
+    }
+
     /// All goes by lot.
     fn by_lot(limit: u32, seed: u64) -> Plan<'a>
         ensures { result ≡ by_lot limit seed }
@@ -60,6 +86,7 @@ impl<'a> Plan<'a> {
             third: 0,
             is_early: is_early(seed),
             turns: None,
+            input: Input::none(),
         }
     }
 
@@ -78,6 +105,7 @@ impl<'a> Plan<'a> {
             third: point_of(seed, steps, 2),
             is_early: is_early(seed),
             turns: None,
+            input: Input::none(),
         }
     }
 }

@@ -6,7 +6,7 @@ ghost use Rattle.ckrt_hunt.specs.Tallies.{hunted_of};
 
 use crate::hunt::Hunt;
 use crate::made::Made;
-use crate::plan::Plan;
+use crate::plan::{Input, Plan};
 use crate::runs::{Finished, Told};
 use crate::shape::Shape;
 use crate::turns::Turns;
@@ -128,7 +128,7 @@ impl Tries {
     }
 
     /// Leaves out turns as long as the rest comes to the same.
-    fn leave_out(&mut self, hunt: &mut Hunt, plan: &Plan<'_>, first: &Finished)
+    fn leave_out(&mut self, hunt: &mut Hunt<'_>, plan: &Plan<'_>, first: &Finished)
         ensures { hunt.new ≡ hunt.old }
     {
         let mut least = first.made;
@@ -150,7 +150,7 @@ impl Tries {
 
     /// Looks for turns by which a program comes to what a seed comes to, with as few switches as it finds. They are a proposal, which
     /// [`Tries::found`] tries. It takes no memory, and the hunt is as it was.
-    pub fn search(&mut self, hunt: &mut Hunt, seed: u64)
+    pub fn search(&mut self, hunt: &mut Hunt<'_>, seed: u64)
         ensures { hunt.new ≡ hunt.old }
     {
         let plan = hunt.plan_of(seed);
@@ -162,11 +162,11 @@ impl Tries {
 
     /// The plan with the turns that were proposed, where it comes to what the seed comes to in no more events and switches, and else the
     /// plan of the seed. It takes no memory, and the hunt is as it was.
-    pub fn found<'a>(&'a self, hunt: &mut Hunt, seed: u64) -> Found<'a>
+    pub fn found<'a, 'i: 'a>(&'a self, hunt: &mut Hunt<'i>, seed: u64) -> Found<'a>
         ensures found { IsFound hunt.old seed result }
         ensures same { hunt.new ≡ hunt.old }
     {
-        let drawn = hunt.plan_of(seed);
+        let drawn: Plan<'a> = hunt.plan_of(seed);
         let first = hunt.run_by(&drawn);
         let plan = drawn.with_turns(self.best.as_slice());
         let again = hunt.run_by(&plan);
@@ -190,12 +190,17 @@ impl Tries {
 ///
 /// `ImageTooLong` where the image has more bytes than the pages from page 1 on, and else `OutOfMemory` where the allocator
 /// refuses the room.
-pub fn room_for(alloc: Global, image: &[u8], shape: Shape) -> Result<(Hunt, Tries), MemoryError>
-    ensures hunted { IfOk result (λ room. room.0 ≡ hunted_of image.now shape) }
+pub fn room_for<'i>(
+    alloc: Global,
+    image: &[u8],
+    shape: Shape,
+    input: Input<'i>,
+) -> Result<(Hunt<'i>, Tries), MemoryError>
+    ensures hunted { IfOk result (λ room. room.0 ≡ hunted_of image.now shape input.entry) }
     ensures too_long { IsErrOf result ImageTooLong
         ↔ (4096 * (shape.pages - 1) < length image.now) }
 {
-    let hunt = Hunt::new(alloc, image, shape)?;
+    let hunt = Hunt::new(alloc, image, shape, input)?;
     let tries = Tries::new(alloc)?;
     Ok((hunt, tries))
 }

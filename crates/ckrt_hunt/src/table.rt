@@ -1,7 +1,7 @@
 //! What a hunt came to, as a table.
 ghost use Rattle.std.specs.Prelude.{◌≡◌, ◌+◌, ◌≤◌, ◌++◌, ◌∷◌, [], codes, decimal, length, OnOk};
 ghost use Rattle.std.specs.Io.KnownBytes.{Appends};
-ghost use Rattle.ckrt_hunt.specs.Table.{command_line, drawn_text, head_text, kept_text, outcome_line, others_line, placed_text, row_text, rows_text, runs_text, seed_text, shape_text, table_text, unkept_text};
+ghost use Rattle.ckrt_hunt.specs.Table.{command_line, drawn_text, head_text, input_text, kept_text, outcome_line, others_line, placed_text, row_text, rows_text, runs_text, seed_text, shape_text, table_text, unkept_text};
 
 use crate::row::Row;
 use crate::seeds::Seeds;
@@ -20,6 +20,8 @@ pub struct Asked<'a> {
     pub seeds: Seeds,
     /// Whether it may end before its last seed.
     pub may_end: bool,
+    /// The path of the input, as it was given, where there is one.
+    pub input: Option<&'a str>,
 }
 
 /// Of how many runs.
@@ -84,6 +86,26 @@ fn write_shape<W: Write>(out: &mut W, shape: &Shape) -> Result<()>
     write_counted(out, b" --steps ", u64::from(shape.limit))
 }
 
+fn write_known_input<W: Write>(out: &mut W, path: &str) -> Result<()>
+    ensures { OnOk result
+        (Appends (W.contents out.old) (W.contents out.new) (codes " --input " ++ path.now)) }
+{
+    out.write_all(b" --input ")?;
+    out.write_all(path.as_bytes())
+}
+
+/// The input of a command, where there is one.
+#[tactic(auto, using(crate::proofs::AppendLemmas::appends_none))]
+fn write_input<W: Write>(out: &mut W, asked: &Asked<'_>) -> Result<()>
+    ensures { OnOk result
+        (Appends (W.contents out.old) (W.contents out.new) (input_text asked.now)) }
+{
+    match asked.input {
+        Some(path) => write_known_input(out, path),
+        None => Ok(()),
+    }
+}
+
 /// The command that runs a seed alone, and keeps it.
 fn write_command_line<W: Write>(out: &mut W, asked: &Asked<'_>, seed: u64) -> Result<()>
     ensures { OnOk result
@@ -93,6 +115,7 @@ fn write_command_line<W: Write>(out: &mut W, asked: &Asked<'_>, seed: u64) -> Re
     out.write_all(asked.image.as_bytes())?;
     write_seed(out, seed)?;
     write_shape(out, &asked.shape)?;
+    write_input(out, asked)?;
     write_counted(out, b" --keep seed-", seed)?;
     out.write_all(b".disk\n")
 }

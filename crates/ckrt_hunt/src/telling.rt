@@ -7,6 +7,7 @@ ghost use Rattle.ckrt_hunt.specs.Tallies.{IsHunted};
 
 use crate::hunt::Hunt;
 use crate::onlooker::HuntOnlooker;
+use crate::plan::Input;
 use crate::seeds::Seeds;
 use crate::table::{Asked, write_table};
 use crate::tally::Tally;
@@ -42,14 +43,15 @@ pub struct HuntDone {
 fn hunt_seeds<O: HuntOnlooker>(
     alloc: Global,
     image: &[u8],
+    input: Input<'_>,
     asked: &Asked<'_>,
     onlooker: &mut O,
 ) -> Result<HuntDone, MemoryError>
-    ensures hunted { IfOk result (IsHunted image.now asked.now) }
+    ensures hunted { IfOk result (IsHunted image.now input.entry asked.now) }
     ensures too_long { IsErrOf result memory.ImageTooLong
         ↔ (4096 * (asked.now.shape.pages - 1) < length image.now) }
 {
-    let mut hunt = Hunt::new(alloc, image, asked.shape)?;
+    let mut hunt = Hunt::new(alloc, image, asked.shape, input)?;
     let mut tally = Tally::new(alloc)?;
     let seeds = hunt.note_seeds(&mut tally, asked.seeds, asked.may_end, onlooker);
     Ok(HuntDone { seeds, tally })
@@ -66,7 +68,7 @@ fn fault_of(fault: MemoryError) -> HuntFault
     }
 }
 
-/// Hunts a program that begins with this image: runs each seed of the range in turn, and writes the table of what they
+/// Hunts a program that begins with this image, and is given this to read: runs each seed of the range in turn, and writes the table of what they
 /// came to, which it answers too. Where the hunt may end early, an onlooker says behind which seed it does, and the table is that of the
 /// seeds up to it. All room is taken before the first run.
 ///
@@ -77,18 +79,19 @@ fn fault_of(fault: MemoryError) -> HuntFault
 pub fn hunt_and_tell<O: HuntOnlooker, W: Write>(
     alloc: Global,
     image: &[u8],
+    input: Input<'_>,
     asked: &Asked<'_>,
     onlooker: &mut O,
     out: &mut W,
 ) -> Result<HuntDone, HuntFault>
-    ensures hunted { IfOk result (IsHunted image.now asked.now) }
+    ensures hunted { IfOk result (IsHunted image.now input.entry asked.now) }
     ensures told { IfOk result (λ done.
         Appends (W.contents out.old) (W.contents out.new) (done_text asked.now done)) }
     ensures too_long { IsErrOf result HuntFault.ImageTooLong
         ↔ (4096 * (asked.now.shape.pages - 1) < length image.now) }
     ensures unwritten { IfErr result (λ e. e ≢ HuntFault.Write → out.new ≡ out.old) }
 {
-    let done = match hunt_seeds(alloc, image, asked, onlooker) {
+    let done = match hunt_seeds(alloc, image, input, asked, onlooker) {
         Ok(done) => done,
         Err(fault) => return Err(fault_of(fault)),
     };

@@ -7,14 +7,16 @@ ghost use Rattle.ckrt_machine.specs.Runs.{is_running};
 ghost use Rattle.ckrt_schedule.specs.Schedules.{IsInRangeNext};
 ghost use Rattle.ckrt_hunt.specs.declared.made.Made.{Made};
 ghost use Rattle.ckrt_hunt.specs.declared.plan.Plan.{Plan};
+ghost use Rattle.ckrt_drive.specs.Given.{given_in};
 ghost use Rattle.ckrt_hunt.specs.Lots.{lots_of};
-ghost use Rattle.ckrt_hunt.specs.Turns.{Chooses, IsFitNext, IsNumbered, IsWithin, best_among, better, clock_period, considered, drawn_length, drawn_rank, drawn_tick, drawn_turn, event_for, hart_from, is_clocks, is_enough, length_of, may_run, nearer, next, next_for, next_point, on_or_onto, or_a_tick, or_enough, rank_of, ranked, runner_of, steps_in, steps_of, tick_by, wanted_hart};
+ghost use Rattle.ckrt_hunt.specs.Turns.{Chooses, IsFitNext, IsNumbered, IsWithin, best_among, better, bytes_of, clock_period, considered, drawn_length, drawn_rank, drawn_tick, drawn_turn, event_for, given_or_next, hart_from, is_clocks, is_enough, length_of, may_run, nearer, next, next_for, next_point, on_or_onto, or_a_tick, or_enough, rank_of, ranked, runner_of, steps_in, steps_of, tick_by, wanted_hart};
 
 use crate::given::{Turn, given_turn};
 use crate::lots::{CLOCK, HART, LENGTH, SCALE, TurnLots, shortest_of};
 use crate::made::Made;
 use crate::plan::Plan;
 use ckrt_events::Event;
+use ckrt_input::next_input;
 use ckrt_machine::Machine;
 use ckrt_schedule::{Next, ScheduleEnd, idle, run_by};
 use ckrt_state::{Status, Tables};
@@ -358,7 +360,32 @@ fn is_enough(plan: &Plan<'_>, made: &Made) -> bool
     plan.limit <= made.events || plan.limit <= made.steps
 }
 
-/// A tick that the clock has no room for ends a run.
+/// What the program is given of its input, if it is given something.
+fn given_by(plan: &Plan<'_>, made: &Made, tables: &Tables) -> Option<Event>
+    ensures given { result ≡ given_in (bytes_of plan.now.input) made.now.taken tables.now }
+    ensures in_range { IfSome result IsInRange }
+    ensures none { IfSome result (λ e. steps_in e ≡ 0) }
+{
+    let bytes = plan.input.bytes?;
+    let at = (made.taken as usize).min(bytes.len());
+    let (_, rest) = bytes.split_at(at);
+    next_input(tables, rest)
+}
+
+/// What the program is given of its input comes first, as soon as there is room for it.
+fn given_or_next(plan: &Plan<'_>, made: &Made, tables: &Tables) -> Next
+    requires left { made.now.steps < plan.now.limit }
+    requires harts { (1 ≤ tables.now.threads.hart_count) × (tables.now.threads.hart_count ≤ 8) }
+    ensures next { result ≡ given_or_next plan.now made.now tables.now }
+    ensures within { IsWithin plan.now made.now result }
+{
+    match given_by(plan, made, tables) {
+        Some(event) => Next::Submit(event),
+        None => next_for(plan, made, tables),
+    }
+}
+
+/// An event that is refused ends a run, as a tick that the clock has no room for.
 fn or_enough(machine: &Machine, next: Next) -> Next
     ensures next { result ≡ or_enough next machine.now.state.tables }
     ensures fit { (p : Plan) (m : Made) → p.limit < 4294967296 → m.events < p.limit
@@ -385,7 +412,7 @@ pub fn next(machine: &Machine, plan: &Plan<'_>, made: &Made) -> Next
     if is_enough(plan, made) {
         return Next::End(ScheduleEnd::Enough);
     }
-    let next = next_for(plan, made, machine.tables());
+    let next = given_or_next(plan, made, machine.tables());
     or_enough(machine, next)
 }
 

@@ -1,5 +1,5 @@
 -- The hunt of the image of a path: what is told, what is kept, and what it comes to.
-use Rattle.std.specs.Prelude.{◌≡◌, ◌≢◌, ◌⊎◌, ℕ, zero, suc, ◌+◌, ◌-◌, ◌==◌, nat_lt, Bool, true, false, if◌then◌else◌, List, ◌++◌, length, slice_get, codes, decimal, Option, Some, None, is_some, Result, Ok, Err, IfErr, IfOk}
+use Rattle.std.specs.Prelude.{◌≡◌, ◌≢◌, ◌⊎◌, ℕ, zero, suc, ◌+◌, ◌-◌, ◌==◌, nat_lt, Bool, true, false, if◌then◌else◌, List, ◌++◌, length, slice_get, codes, decimal, Option, Some, None, is_some, option_map, Result, Ok, Err, IfErr, IfOk}
 use Rattle.std.specs.Io.KnownBytes.{Appends}
 use Rattle.ckrt_disk.specs.declared.disk.Disk.{Ghosts}
 use Rattle.ckrt_checkpoint.specs.declared.config.Config.{Config}
@@ -13,6 +13,8 @@ use Rattle.ckrt_hunt.specs.Seeds.{ends_of, seeds_of}
 use Rattle.ckrt_hunt.specs.Short.{IsFound}
 use Rattle.ckrt_hunt.specs.Table.{done_text, kept_text, unkept_text}
 use Rattle.ckrt_hunt.specs.Tallies.{Hunted, IsHunted, hunted_of, numbers_of, shape_of}
+use Rattle.ckrt_hunt.specs.Turns.{bytes_of}
+use Rattle.ckrt_hunt.specs.declared.plan.Input.{Input}
 use Rattle.ckrt_hunt.specs.declared.plan.Plan.{Plan}
 use Rattle.ckrt_hunt.specs.declared.row.Row.{Row}
 use Rattle.ckrt_hunt.specs.declared.shorten.Found.{Found}
@@ -30,6 +32,7 @@ use Rattle.ckrt_outcomes.specs.declared.fault.JobFault.TheVariants as job
 use Rattle.ckrt_jobs.specs.Making.{EndsOnImage, IsFit}
 use Rattle.ckrt_hunts.specs.declared.found.KeptAt.{KeptAt}
 use Rattle.ckrt_hunts.specs.declared.found.ToldHunt.{ToldHunt}
+use Rattle.ckrt_hunts.specs.Inputs.{EndsOnAskedInput, IsAskedInput, with_asked_input}
 use Rattle.ckrt_hunts.specs.Keeping.{Keeping, Keeps}
 
 -- a disk that a run is kept on has the sizes of the hunt, and the longest journal
@@ -48,10 +51,10 @@ seeds_by (Some seconds) seeds = Some (1, 18446744073709551614)
 abbrev pub asked_seeds : Hunting → Option (ℕ × ℕ)
 asked_seeds h = seeds_by h.seconds h.seeds
 
--- What is hunted: what the words ask for, the bytes of the image, where they are known, and the disks that may be made for a path.
+-- What is hunted: what the words ask for, the bytes of the files of a path, where they are known, and the disks that may be made for it.
 pub record Hunter (D : Type 0) : Type 1 where
   pub asked : Hunting
-  pub known : Option (List ℕ)
+  pub known : List ℕ → Option (List ℕ)
   pub Fills : List ℕ → D → Type 0
 
 -- what the job answers where the hunt wasn't told
@@ -61,9 +64,9 @@ fault_of hunt.OutOfMemory = job.OutOfMemory
 fault_of hunt.Write = job.Serve serve.Write
 
 -- the table was written of the seeds that were run; where it wasn't, nothing was, but where the writer failed
-pub record Tells (guest : List ℕ) (asked : Asked) (a b : Option (List ℕ))
+pub record Tells (guest : List ℕ) (input : Input) (asked : Asked) (a b : Option (List ℕ))
     (told : Result HuntDone HuntFault) : Type 0 where
-  pub hunted : IfOk told (IsHunted guest asked)
+  pub hunted : IfOk told (IsHunted guest input asked)
   pub written : IfOk told (λ done. Appends a b (done_text asked done))
   pub unwritten : IfErr told (λ e. e ≢ hunt.Write → b ≡ a)
 
@@ -102,10 +105,10 @@ pub record Wanted (D : Type 0) : Type 1 where
   pub sought : Sought D
 
 -- the run of the first seed of the range
-abbrev pub wanted_of : {D : Type 0} → Hunter D → (guest : List ℕ) → Asked → Wanted D
-wanted_of it guest asked = record {
+abbrev pub wanted_of : {D : Type 0} → Hunter D → (guest : List ℕ) → Input → Asked → Wanted D
+wanted_of it guest input asked = record {
   path = it.asked.keep;
-  sought = sought_by (hunted_of guest asked.shape) asked.seeds.first (config_of it.asked) guest it.Fills;
+  sought = sought_by (hunted_of guest asked.shape input) asked.seeds.first (config_of it.asked) guest it.Fills;
 }
 
 -- what a hunt has reached: what its sources were asked for, and what its writer has, where that is known
@@ -294,35 +297,49 @@ pub record LacksImage {D : Type 0} (it : Hunter D) (old new : Outside D)
     (result : Result Bool JobFault) : Type 0 where
   pub why : JobFault
   pub is : result ≡ Err why
-  pub unfit : EndsOnImage (config_of it.asked) it.known it.asked.image old.openings new.openings why
+  pub unfit : EndsOnImage (config_of it.asked) (it.known it.asked.image) it.asked.image old.openings new.openings why
   pub unwritten : new.written ≡ old.written
   pub unread : new.unread ≡ old.unread
 
--- the words ask for this image, with this shape and these seeds, and only a hunt by time may end before the last one
+-- the image was read, and the input wasn't
+pub record LacksInput {D : Type 0} (it : Hunter D) (old new : Outside D)
+    (result : Result Bool JobFault) : Type 0 where
+  pub why : JobFault
+  pub is : result ≡ Err why
+  pub fit : IsFit (config_of it.asked) (it.known it.asked.image)
+  pub unread_input : EndsOnAskedInput it.known it.asked.input
+      (with_image old.openings (opened it.asked.image)) new.openings why
+  pub unwritten : new.written ≡ old.written
+  pub unread : new.unread ≡ old.unread
+
+-- the words ask for this image and this input, with this shape and these seeds, and only a hunt by time may end before the last one
 pub record IsAsked (h : Hunting) (asked : Asked) : Type 0 where
   pub in_range : is_hunt_in_range h ≡ true
   pub image : asked.image.now ≡ h.image
   pub shape : Some (numbers_of asked.shape) ≡ shape_of h.pages h.harts h.steps
   pub seeds : Some (ends_of asked.seeds) ≡ asked_seeds h
   pub may_end : asked.may_end ≡ is_some h.seconds
+  pub input : option_map (λ path. path.now) asked.input ≡ h.input
 
--- the image was read, and hunted: the table was written, and then what is told of a run that was kept
+-- the image and the input were read, and it was hunted: the table was written, and then what is told of a run that was kept
 pub record HuntsImage {D : Type 0} (d : Ghosts D) (it : Hunter D) (old new : Outside D)
     (result : Result Bool JobFault) : Type 0 where
   pub guest : List ℕ
-  pub is_guest : (bytes : List ℕ) → it.known ≡ Some bytes → guest ≡ bytes
-  pub fit : IsFit (config_of it.asked) it.known
+  pub is_guest : (bytes : List ℕ) → it.known it.asked.image ≡ Some bytes → guest ≡ bytes
+  pub fit : IsFit (config_of it.asked) (it.known it.asked.image)
+  pub input : Input
+  pub is_input : IsAskedInput it.known it.asked.input (bytes_of input)
   pub asked : Asked
   pub is_asked : IsAsked it.asked asked
   pub told : Result HuntDone HuntFault
   pub table : Option (List ℕ)
-  pub tells : Tells guest asked old.written table told
-  pub ends : EndsHunt d (wanted_of it guest asked)
-      (reached (with_image old.openings (opened it.asked.image)) table)
+  pub tells : Tells guest input asked old.written table told
+  pub ends : EndsHunt d (wanted_of it guest input asked)
+      (reached (with_asked_input it.asked.input (with_image old.openings (opened it.asked.image))) table)
       (reached new.openings new.written) told result
   pub unread : new.unread ≡ old.unread
 
 abbrev pub HuntsPath : {D : Type 0} → Ghosts D → Hunter D → (old new : Outside D)
     → Result Bool JobFault → Type 0
 HuntsPath d it old new result =
-    RefusesSizes it old new result ⊎ RefusesRange it old new result ⊎ LacksImage it old new result ⊎ HuntsImage d it old new result
+    RefusesSizes it old new result ⊎ RefusesRange it old new result ⊎ LacksImage it old new result ⊎ LacksInput it old new result ⊎ HuntsImage d it old new result

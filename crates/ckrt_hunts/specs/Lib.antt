@@ -1,2 +1,3 @@
 pub mod Hunting
+pub mod Inputs
 pub mod Keeping

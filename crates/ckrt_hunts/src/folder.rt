@@ -54,9 +54,9 @@ fn tell_unkept<W: Write>(writer: &mut W, seed: u64, path: &str, why: JobFault) -
 /// Keeps the run of an outcome in a folder, or names it where it isn't kept.
 fn keep_row<'a, I: Read, D: Disk, S: Sources<'a, I, D>, W: Write>(
     alloc: Global,
-    at: &KeptAt<'a, '_>,
+    at: &KeptAt<'a, '_, '_>,
     place: usize,
-    hunt: &mut Hunt,
+    hunt: &mut Hunt<'_>,
     tries: &mut Tries,
     sources: &mut S,
     writer: &mut W,
@@ -96,8 +96,8 @@ fn keep_row<'a, I: Read, D: Disk, S: Sources<'a, I, D>, W: Write>(
 /// Keeps the run of each outcome in a folder, in their order, up to the first one that isn't kept.
 fn keep_rows<'a, I: Read, D: Disk, S: Sources<'a, I, D>, W: Write>(
     alloc: Global,
-    at: &KeptAt<'a, '_>,
-    hunt: &mut Hunt,
+    at: &KeptAt<'a, '_, '_>,
+    hunt: &mut Hunt<'_>,
     tries: &mut Tries,
     sources: &mut S,
     writer: &mut W,
@@ -116,7 +116,7 @@ fn keep_rows<'a, I: Read, D: Disk, S: Sources<'a, I, D>, W: Write>(
 /// Keeps the run of each outcome in a folder, by the shortest schedule that is found.
 pub(crate) fn keep_in_folder<'a, I: Read, D: Disk, S: Sources<'a, I, D>, W: Write>(
     alloc: Global,
-    at: &KeptAt<'a, '_>,
+    at: &KeptAt<'a, '_, '_>,
     sources: &mut S,
     writer: &mut W,
 ) -> Result<(), JobFault>
@@ -124,12 +124,12 @@ pub(crate) fn keep_in_folder<'a, I: Read, D: Disk, S: Sources<'a, I, D>, W: Writ
     ensures { LacksRoom (reached (S.openings sources.old) (W.contents writer.old))
         (reached (S.openings sources.new) (W.contents writer.new)) result
         ⊎ KeepsEach D.Disk
-        (sought_in (hunted_of at.now.told.image.now at.now.told.shape) at.now.told
-        (S.fills sources.old))
+        (sought_in (hunted_of at.now.told.image.now at.now.told.shape at.now.told.input)
+        at.now.told (S.fills sources.old))
         (folder_at at.now) (reached (S.openings sources.old) (W.contents writer.old))
         (reached (S.openings sources.new) (W.contents writer.new)) result }
 {
-    let (hunt, tries) = match room_for(alloc, at.told.image, at.told.shape) {
+    let (hunt, tries) = match room_for(alloc, at.told.image, at.told.shape, at.told.input) {
         Ok(room) => room,
         Err(fault) => return Err(room_fault_of(fault)),
     };

@@ -10,7 +10,7 @@ ghost use Rattle.ckrt_hunts.specs.Hunting.{KeepsFound, LacksRoom, TellsKept, rea
 
 use crate::keeping::{Kept, keep};
 use ckrt_disk::Disk;
-use ckrt_hunt::{Found, Hunt, Row, Shape, Tries, room_for, write_kept};
+use ckrt_hunt::{Found, Hunt, Input, Row, Shape, Tries, room_for, write_kept};
 use ckrt_main::ServeFault;
 use ckrt_memory::MemoryError;
 use ckrt_outcomes::JobFault;
@@ -19,21 +19,22 @@ use ckrt_sources::Sources;
 use std::alloc::Global;
 use std::io::{Read, Write};
 
-/// A hunt that was told: of which image, the sizes of disks for its runs, the first seed, and the outcomes.
+/// A hunt that was told: of which image, with which input, the sizes of disks for its runs, the first seed, and the outcomes.
 #[derive(Clone, Copy)]
-pub(crate) struct ToldHunt<'b> {
+pub(crate) struct ToldHunt<'b, 'i> {
     pub(crate) config: Config,
     pub(crate) image: &'b [u8],
     pub(crate) shape: Shape,
+    pub(crate) input: Input<'i>,
     pub(crate) first: u64,
     pub(crate) rows: &'b [Row],
 }
 
 /// A hunt that was told, and the path of the disk or of the folder where runs of it are kept.
 #[derive(Clone, Copy)]
-pub(crate) struct KeptAt<'a, 'b> {
+pub(crate) struct KeptAt<'a, 'b, 'i> {
     pub(crate) path: &'a str,
-    pub(crate) told: ToldHunt<'b>,
+    pub(crate) told: ToldHunt<'b, 'i>,
 }
 
 /// What the job answers where there is no room to look for a shorter schedule.
@@ -97,7 +98,7 @@ fn keep_found<'a, I: Read, D: Disk, S: Sources<'a, I, D>, W: Write>(
 pub(crate) fn keep_run<'a, I: Read, D: Disk, S: Sources<'a, I, D>, W: Write>(
     alloc: Global,
     seed: u64,
-    hunt: &mut Hunt,
+    hunt: &mut Hunt<'_>,
     tries: &mut Tries,
     what: &Kept<'a, '_>,
     sources: &mut S,
@@ -119,7 +120,7 @@ pub(crate) fn keep_run<'a, I: Read, D: Disk, S: Sources<'a, I, D>, W: Write>(
 /// Keeps the run of the first seed on the disk of a path, by the shortest schedule that is found.
 pub(crate) fn keep_first<'a, I: Read, D: Disk, S: Sources<'a, I, D>, W: Write>(
     alloc: Global,
-    at: &KeptAt<'a, '_>,
+    at: &KeptAt<'a, '_, '_>,
     sources: &mut S,
     writer: &mut W,
 ) -> Result<(), JobFault>
@@ -127,13 +128,14 @@ pub(crate) fn keep_first<'a, I: Read, D: Disk, S: Sources<'a, I, D>, W: Write>(
     ensures { LacksRoom (reached (S.openings sources.old) (W.contents writer.old))
         (reached (S.openings sources.new) (W.contents writer.new)) result
         ⊎ KeepsFound D.Disk
-        (sought_in (hunted_of at.now.told.image.now at.now.told.shape) at.now.told
+        (sought_in (hunted_of at.now.told.image.now at.now.told.shape at.now.told.input)
+        at.now.told
         (S.fills sources.old))
         at.now.path.now (reached (S.openings sources.old) (W.contents writer.old))
         (reached (S.openings sources.new) (W.contents writer.new)) result }
 {
     let told = &at.told;
-    let (hunt, tries) = match room_for(alloc, told.image, told.shape) {
+    let (hunt, tries) = match room_for(alloc, told.image, told.shape, told.input) {
         Ok(room) => room,
         Err(fault) => return Err(room_fault_of(fault)),
     };

@@ -3,14 +3,18 @@ ghost use Rattle.std.specs.Prelude.{◌≡◌, ℕ, List, Option, Result, option
 ghost use Rattle.ckrt_hunt.specs.Seeds.{ends_of};
 ghost use Rattle.ckrt_checkpoint.specs.Layout.{is_valid};
 ghost use Rattle.ckrt_hunt.specs.Tallies.{hunted_of};
+ghost use Rattle.ckrt_hunt.specs.Turns.{bytes_of};
 ghost use Rattle.ckrt_words.specs.Jobs.{hunting_of};
 ghost use Rattle.ckrt_outcomes.specs.Outside.{outside};
 ghost use Rattle.ckrt_hunts.specs.Hunting.{EndsHunt, HuntsPath, KeepsAt, Tells, answer_of, asked_seeds, config_of, fault_of, kept_size, place_of, reached, sought_in, wanted_of};
 
 use crate::folder::{is_folder, keep_in_folder};
 use crate::found::{KeptAt, ToldHunt, keep_first};
+use crate::input::asked_input;
 use ckrt_disk::Disk;
-use ckrt_hunt::{Asked, HuntDone, HuntFault, HuntOnlooker, HuntWatch, Seeds, Shape, hunt_and_tell};
+use ckrt_hunt::{
+    Asked, HuntDone, HuntFault, HuntOnlooker, HuntWatch, Input, Seeds, Shape, hunt_and_tell,
+};
 use ckrt_jobs::fitting_image;
 use ckrt_main::ServeFault;
 use ckrt_outcomes::{JobFault, is_hunt_in_range};
@@ -19,6 +23,26 @@ use ckrt_sources::Sources;
 use ckrt_words::HuntJob;
 use std::alloc::Global;
 use std::io::{Read, Write};
+
+/// What is hunted: an image, what its program is given to read, and what was asked for.
+#[derive(Clone, Copy)]
+struct Hunted<'a, 'b> {
+    image: &'b [u8],
+    input: Input<'b>,
+    asked: Asked<'a>,
+}
+
+/// What is given of bytes that were read.
+fn input_over(read: &Option<Vec<u8>>) -> Input<'_>
+    ensures { bytes_of result ≡ option_map (λ bytes. bytes.items) read.now }
+{
+    match read {
+        Some(bytes) => Input {
+            bytes: Some(bytes.as_slice()),
+        },
+        None => Input::none(),
+    }
+}
 
 /// The sizes of a disk that a run is kept on.
 fn config_of(job: &HuntJob<'_>) -> Config
@@ -70,14 +94,15 @@ fn answer_of(kept: Result<(), JobFault>, several: bool) -> Result<bool, JobFault
 #[tactic(auto, using(crate::proofs::AppendLemmas::appends_kept))]
 fn tell<O: HuntOnlooker, W: Write>(
     alloc: Global,
-    image: &[u8],
-    asked: &Asked<'_>,
+    hunted: &Hunted<'_, '_>,
     onlooker: &mut O,
     writer: &mut W,
 ) -> Result<HuntDone, HuntFault>
-    ensures { Tells image.now asked.now (W.contents writer.old) (W.contents writer.new) result }
+    ensures { Tells hunted.now.image.now hunted.now.input hunted.now.asked
+        (W.contents writer.old) (W.contents writer.new) result }
 {
-    let done = hunt_and_tell(alloc, image, asked, onlooker, writer)?;
+    let asked = &hunted.asked;
+    let done = hunt_and_tell(alloc, hunted.image, hunted.input, asked, onlooker, writer)?;
     match writer.flush() {
         Ok(()) => Ok(done),
         Err(_) => Err(HuntFault::Write),
@@ -88,13 +113,13 @@ fn tell<O: HuntOnlooker, W: Write>(
 fn keep_if_asked<'a, I: Read, D: Disk, S: Sources<'a, I, D>, W: Write>(
     alloc: Global,
     keep: Option<&'a str>,
-    told: ToldHunt<'_>,
+    told: ToldHunt<'_, '_>,
     sources: &mut S,
     writer: &mut W,
 ) -> Result<(), JobFault>
     requires { is_valid told.config ≡ true }
     ensures { KeepsAt D.Disk
-        (sought_in (hunted_of told.entry.image.now told.entry.shape) told.entry
+        (sought_in (hunted_of told.entry.image.now told.entry.shape told.entry.input) told.entry
         (S.fills sources.old))
         (reached (S.openings sources.old) (W.contents writer.old))
         (reached (S.openings sources.new) (W.contents writer.new)) result
@@ -115,20 +140,20 @@ fn keep_if_asked<'a, I: Read, D: Disk, S: Sources<'a, I, D>, W: Write>(
 fn hunt_image<'a, I: Read, D: Disk, S: Sources<'a, I, D>, W: Write, O: HuntOnlooker>(
     alloc: Global,
     job: &HuntJob<'a>,
-    image: &[u8],
-    asked: &Asked<'_>,
+    hunted: &Hunted<'_, '_>,
     sources: &mut S,
     writer: &mut W,
     onlooker: &mut O,
 ) -> Result<bool, JobFault>
     requires { is_valid (config_of (hunting_of job.now)) ≡ true }
     ensures hunts { (told : Result HuntDone HuntFault) × (table : Option (List ℕ))
-        × Tells image.now asked.now (W.contents writer.old) table told
+        × Tells hunted.now.image.now hunted.now.input hunted.now.asked
+        (W.contents writer.old) table told
         × EndsHunt D.Disk (wanted_of (record {
           asked = hunting_of job.now;
-          known = S.image_bytes sources.old job.now.image.now;
+          known = S.image_bytes sources.old;
           Fills = λ path. S.fills sources.old path (kept_size (hunting_of job.now));
-        }) image.now asked.now)
+        }) hunted.now.image.now hunted.now.input hunted.now.asked)
         (reached (S.openings sources.old) table)
         (reached (S.openings sources.new) (W.contents writer.new)) told result }
 {
@@ -136,13 +161,15 @@ fn hunt_image<'a, I: Read, D: Disk, S: Sources<'a, I, D>, W: Write, O: HuntOnloo
         seconds: job.seconds,
         progress: job.progress,
     });
-    match tell(alloc, image, asked, onlooker, writer) {
+    match tell(alloc, hunted, onlooker, writer) {
         Ok(done) => {
+            let input = hunted.input;
             let told = ToldHunt {
                 config: config_of(job),
-                image,
-                shape: asked.shape,
-                first: asked.seeds.first,
+                image: hunted.image,
+                shape: hunted.asked.shape,
+                input,
+                first: hunted.asked.seeds.first,
                 rows: done.tally.rows(),
             };
             let kept = keep_if_asked::<I, D, S, W>(alloc, job.keep, told, sources, writer);
@@ -154,17 +181,18 @@ fn hunt_image<'a, I: Read, D: Disk, S: Sources<'a, I, D>, W: Write, O: HuntOnloo
 
 /// Runs the image of a path by one schedule after another, each drawn from its seed, and writes the table of what they come to. The
 /// seeds are those of a range, or those from 1 on for which an onlooker has time, one at least: the table is that of the range up to the
-/// last seed that was run. The answer is whether they came to several outcomes. Where the words name a disk, the run of the first seed is
-/// kept there; where they name a folder, by a path that ends with `/`, the first run of each outcome is, on a disk of its own. Each is
-/// kept by the shortest schedule that is found, and written is its disk too, and how many switches it has. Of a folder the first run
-/// that isn't kept is named as well.
+/// last seed that was run. Where the words name an input, each run reads its bytes, and then its end. The answer is whether they came to
+/// several outcomes. Where the words name a disk, the run of the first seed is kept there; where they name a folder, by a path that ends
+/// with `/`, the first run of each outcome is, on a disk of its own. Each is kept by the shortest schedule that is found, and written is
+/// its disk too, and how many switches it has. Of a folder the first run that isn't kept is named as well.
 ///
 /// # Errors
 ///
 /// The first that applies: `BadConfig` where pages or harts are out of their ranges; `Range` where seconds are, where there are seeds
 /// beside seconds, or where the text of the seeds isn't a range; `File` and `OutOfMemory` of the image, `File` also where it is an ELF
-/// file; `ImageTooLong`; `OutOfMemory` of the hunt; `Serve` where the writer failed; of the disk `OutOfMemory` of the search for a
-/// schedule, `File`, what formatting and recovery answer, `RunTooLong`, and `Serve` where the writer failed once the disk had its name.
+/// file; `ImageTooLong`; of the input `File`, `OutOfMemory`, and `InputTooLong` where it has more than 1,048,576 bytes; `OutOfMemory` of
+/// the hunt; `Serve` where the writer failed; of the disk `OutOfMemory` of the search for a schedule, `File`, what formatting and recovery
+/// answer, `RunTooLong`, and `Serve` where the writer failed once the disk had its name.
 pub fn hunt_path<'a, I: Read + Drop, D: Disk, S: Sources<'a, I, D>, W: Write, O: HuntOnlooker>(
     alloc: Global,
     job: &HuntJob<'a>,
@@ -175,7 +203,7 @@ pub fn hunt_path<'a, I: Read + Drop, D: Disk, S: Sources<'a, I, D>, W: Write, O:
     ensures hunts { (left : Option (List ℕ))
         → HuntsPath D.Disk (record {
           asked = hunting_of job.now;
-          known = S.image_bytes sources.old job.now.image.now;
+          known = S.image_bytes sources.old;
           Fills = λ path. S.fills sources.old path (kept_size (hunting_of job.now));
         })
         (outside (S.openings sources.old) (W.contents writer.old) left)
@@ -195,11 +223,19 @@ pub fn hunt_path<'a, I: Read + Drop, D: Disk, S: Sources<'a, I, D>, W: Write, O:
         return Err(JobFault::Range);
     };
     let image = fitting_image::<I, D, S>(alloc, sources, job.image, config)?;
+    let input = asked_input::<I, D, S>(alloc, sources, job.input)?;
+    let given = input_over(&input);
     let asked = Asked {
         image: job.image,
         shape,
         seeds,
         may_end: job.seconds.is_some(),
+        input: job.input,
     };
-    hunt_image::<I, D, S, W, O>(alloc, job, &image, &asked, sources, writer, onlooker)
+    let hunted = Hunted {
+        image: &image,
+        input: given,
+        asked,
+    };
+    hunt_image::<I, D, S, W, O>(alloc, job, &hunted, sources, writer, onlooker)
 }

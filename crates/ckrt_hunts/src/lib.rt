@@ -2,7 +2,7 @@
 //!
 //! Proved of [`hunt_path`]: BadConfig comes where pages or harts are out of their ranges, and else Range exactly where another number
 //! is, where there are seeds beside seconds, or where the text of the seeds is no range, before anything is asked for. Else the image
-//! is read as for a disk, and each seed is run, or each from 1 on up to one that has taken the time; what was written is the table of
+//! is read as for a disk, then the input, if the words name one, and each seed is run with it, or each from 1 on up to one that has taken the time; what was written is the table of
 //! what these came to, or nothing, unless the writer failed. The answer is whether there were several outcomes. Where the
 //! words name a disk, it is asked for only then. It gets the name of its path only where it has a whole run that comes to what the
 //! first seed comes to, by the shortest schedule that was found: whatever a stop leaves of it recovers to just that. Else it is given
@@ -14,6 +14,7 @@
 mod folder;
 mod found;
 mod hunting;
+mod input;
 mod keeping;
 
 pub use hunting::hunt_path;

@@ -4,7 +4,7 @@ ghost use Rattle.std.specs.Prelude.{◌≤◌};
 
 use crate::expect::{expect_eq, image_of};
 use ckrt_drive::Nobody;
-use ckrt_hunt::{Hunt, Outcome, Row, Seeds, Shape, Tally, Waiting};
+use ckrt_hunt::{Hunt, Input, Outcome, Row, Seeds, Shape, Tally, Waiting};
 use ckrt_rv32i::Cause;
 use std::process::Abort;
 
@@ -26,8 +26,9 @@ pub enum Wanted {
 }
 
 /// The hunt of a program that begins with these words.
-fn hunt_of<R: Abort + AllocGlobal>(rt: &R, words: &[u32]) -> Hunt {
-    match Hunt::new(rt.alloc(), image_of(rt, words).as_slice(), SHAPE) {
+fn hunt_of<R: Abort + AllocGlobal>(rt: &R, words: &[u32]) -> Hunt<'static> {
+    let image = image_of(rt, words);
+    match Hunt::new(rt.alloc(), image.as_slice(), SHAPE, Input::none()) {
         Ok(hunt) => hunt,
         Err(error) => panic!(rt; "{error}"),
     }

@@ -7,7 +7,7 @@ use crate::hunts::SHAPE;
 use arrayvec::ArrayVec;
 use ckrt_drive::Nobody;
 use ckrt_hunt::{
-    Asked, Awaited, HuntFault, HuntOnlooker, HuntWatch, Outcome, Seeds, Shape, Tally, Told,
+    Asked, Awaited, HuntFault, HuntOnlooker, HuntWatch, Input, Outcome, Seeds, Shape, Tally, Told,
     Waiting, hunt_and_tell, write_table,
 };
 use ckrt_rv32i::Cause;
@@ -161,6 +161,7 @@ fn asked_for(first: u64, last: u64) -> Asked<'static>
         shape: SHAPE,
         seeds: Seeds { first, last },
         may_end: false,
+        input: None,
     }
 }
 
@@ -235,6 +236,7 @@ fn hunt_is_told(rt: HostRuntime) {
     let told = hunt_and_tell(
         rt.alloc(),
         image.as_slice(),
+        Input::none(),
         &asked,
         &mut Nobody,
         &mut writer,
@@ -244,6 +246,7 @@ fn hunt_is_told(rt: HostRuntime) {
 }
 
 /// Has time up to this seed.
+#[derive(Drop)]
 struct Patience {
     last: u64,
 }
@@ -265,7 +268,8 @@ fn table_by_time<R: Abort + AllocGlobal>(rt: &R, may_end: bool) -> Vec<u8> {
         ..asked_for(5, 14)
     };
     let mut onlooker = Patience { last: 7 };
-    let done = hunt_and_tell(rt.alloc(), &image, &asked, &mut onlooker, &mut writer);
+    let none = Input::none();
+    let done = hunt_and_tell(rt.alloc(), &image, none, &asked, &mut onlooker, &mut writer);
     assert!(rt; done.is_ok());
     writer
 }
@@ -288,6 +292,7 @@ fn fault_of<R: Abort + AllocGlobal>(rt: &R, size: usize) -> Option<HuntFault> {
     hunt_and_tell(
         rt.alloc(),
         &image,
+        Input::none(),
         &asked_for(1, 1),
         &mut Nobody,
         &mut writer,

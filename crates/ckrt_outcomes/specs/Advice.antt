@@ -57,6 +57,7 @@ file_of (job.OutputFailed why) = Some file.Output
 file_of (job.Drive f) = Some (file_of_drive f)
 file_of job.Unrecorded = Some file.Disk
 file_of job.RunTooLong = Some file.Making
+file_of job.InputTooLong = Some file.Input
 file_of _ = None
 
 -- behind a number that is out of its range
@@ -126,3 +127,4 @@ advice_of (job.OutputFailed why) = reason_text why
 advice_of (job.Drive f) = advice_of_drive f
 advice_of job.Unrecorded = codes "it hasn't recorded all events of --from and --to, no longer or not yet; without these it tells all that it has"
 advice_of job.RunTooLong = codes "it can't take the whole run, mostly since that has more events than a journal; give fewer --steps"
+advice_of job.InputTooLong = codes "a hunt gives at most 1048576 bytes; give the first ones, by `head -c`"

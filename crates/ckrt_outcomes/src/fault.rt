@@ -45,6 +45,8 @@ pub enum JobFault {
     Unrecorded,
     /// The disk that is made for a run of a hunt can't take all of its events.
     RunTooLong,
+    /// The file of the input of a hunt has more bytes than a hunt gives.
+    InputTooLong,
 }
 
 /// What is said where the disk failed a call.
@@ -191,6 +193,9 @@ const STRETCH_ADVICE: &str =
 const RUN_ADVICE: &str =
     "it can't take the whole run, mostly since that has more events than a journal; give fewer --steps";
 
+/// What is said of an input that is longer than a hunt gives.
+const LONG_ADVICE: &str = "a hunt gives at most 1048576 bytes; give the first ones, by `head -c`";
+
 /// What is said of an output whose file has another length than that of the disk, behind its numbers.
 fn lengths_advice(lengths: OutputLengths) -> &'static str
     ensures { result.now ≡ advice_of_lengths lengths }
@@ -252,6 +257,7 @@ impl JobFault {
             JobFault::Drive(fault) => drive_name(fault),
             JobFault::Unrecorded => "Range",
             JobFault::RunTooLong => "RunTooLong",
+            JobFault::InputTooLong => "InputTooLong",
         }
     }
 
@@ -276,6 +282,7 @@ impl JobFault {
             JobFault::Drive(fault) => drive_advice(fault),
             JobFault::Unrecorded => STRETCH_ADVICE,
             JobFault::RunTooLong => RUN_ADVICE,
+            JobFault::InputTooLong => LONG_ADVICE,
         }
     }
 
@@ -307,7 +314,7 @@ impl JobFault {
             | JobFault::OffsetDiffers(_)
             | JobFault::Unrecorded => Some(JobFile::Disk),
             JobFault::OutputDiffers(_) | JobFault::OutputFailed(_) => Some(JobFile::Output),
-            JobFault::InputTooShort(_) => Some(JobFile::Input),
+            JobFault::InputTooShort(_) | JobFault::InputTooLong => Some(JobFile::Input),
             JobFault::Drive(fault) => Some(drive_file(fault)),
             JobFault::RunTooLong => Some(JobFile::Making),
             _ => None,

@@ -1,7 +1,7 @@
 //! The hunt of a guest.
 
 use anyhow::Result;
-use ckrt_hunt::{Hunt, Outcome, Shape, Tally};
+use ckrt_hunt::{Hunt, Input, Outcome, Shape, Tally};
 use std::fs;
 
 /// How each guest is run: on two harts, and for at most a million steps.
@@ -37,7 +37,7 @@ fn has_kind(tally: &Tally, kind: &str) -> bool {
 /// Hunts a guest from seed 0 on, and prints the kinds of its outcomes on a line.
 pub fn print_kinds(rt: &HostRuntime, seeds: u32, path: &str) -> Result<()> {
     let image = fs::read(rt, path)?;
-    let mut hunt = Hunt::new(rt.alloc(), &image, SHAPE)?;
+    let mut hunt = Hunt::new(rt.alloc(), &image, SHAPE, Input::none())?;
     let mut tally = Tally::new(rt.alloc())?;
     for seed in 0..u64::from(seeds) {
         tally.note(seed, hunt.run_seed(seed));

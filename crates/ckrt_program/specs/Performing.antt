@@ -210,7 +210,7 @@ making_in it f = record {
 
 -- for a hunt
 abbrev pub hunter_in : {D W : Type 0} {d : Ghosts D} → Reach d W → Hunting → Hunter D
-hunter_in it h = record { asked = h; known = it.images h.image; Fills = λ path. it.Fills path (kept_size h) }
+hunter_in it h = record { asked = h; known = it.images; Fills = λ path. it.Fills path (kept_size h) }
 
 -- and for a drive
 abbrev pub means_in : {D W : Type 0} {d : Ghosts D} → Reach d W → (old new : Outside D) → Driving

@@ -74,6 +74,7 @@ path_of file.Disk (asks_profile p) = p.stretch.disk
 path_of file.Image (asks_hunt h) = h.image
 path_of file.Disk (asks_hunt h) = path_text h.keep
 path_of file.Making (asks_hunt h) = path_text h.keep
+path_of file.Input (asks_hunt h) = path_text h.input
 path_of _ _ = []
 
 -- the file that is spoken of, with its path

@@ -64,14 +64,15 @@ pub record Profiling : Type 0 where
   pub stretch : DiskStretch
   pub form : ProfileForm
 
--- what `hunt` runs: the image, the text of its range of seeds, or after how many seconds it takes no further seed, the sizes, how many steps a
--- run has at most, the new disk or the folder that runs are kept on, and at most each how many seconds it tells how far it is
+-- what `hunt` runs: the image, the text of its range of seeds, or after how many seconds it takes no further seed, the sizes, the file of each
+-- run's input, how many steps a run has at most, the new disk or the folder that runs are kept on, and at most each how many seconds it tells how far it is
 pub record Hunting : Type 0 where
   pub image : Text
   pub seeds : Option Text
   pub seconds : Option ℕ
   pub pages : ℕ
   pub harts : ℕ
+  pub input : Option Text
   pub steps : ℕ
   pub keep : Option Text
   pub progress : Option ℕ
@@ -145,6 +146,7 @@ hunting_of h = record {
   seconds = h.seconds;
   pages = h.pages;
   harts = h.harts;
+  input = option_map (λ path. path.now) h.input;
   steps = h.steps;
   keep = option_map (λ path. path.now) h.keep;
   progress = h.progress;
@@ -273,6 +275,7 @@ hunting_in rows = do
     seconds = place_in (codes "seconds") rows;
     pages = pages;
     harts = harts;
+    input = first_of (codes "input") rows;
     steps = steps;
     keep = first_of (codes "keep") rows;
     progress = place_in (codes "progress") rows;

@@ -365,7 +365,7 @@ fn profile_arguments<'a>(alloc: Global) -> Result<Vec<Arg<'a>>, AllocError>
     Ok(arguments)
 }
 
-/// `hunt IMAGE` with its options: which seeds, on what machine, how long a run is, where runs are kept, and how often it tells how far it is.
+/// `hunt IMAGE` with its options: which seeds, on what machine, with what input, how long a run is, where runs are kept, and how often it tells how far it is.
 fn hunt_command<'a>(alloc: Global) -> Result<Command<'a>, AllocError>
     ensures app { IfOk result (λ c. app_of c ≡ hunt_app) }
     ensures local { IfOk result (λ c. (out-Command c).has_globals ≡ false) }
@@ -410,6 +410,12 @@ fn hunt_arguments<'a>(alloc: Global) -> Result<Vec<Arg<'a>>, AllocError>
             "Pages of the memory of each run, 16 to 1024"
         ),
         number(alloc, "harts", "1", "Harts, 1 to 8"),
+        option(
+            alloc,
+            "input",
+            "FILE",
+            "The file whose bytes, at most 1048576, and then its end, are the input of each run"
+        ),
         number(
             alloc,
             "steps",

@@ -133,6 +133,8 @@ pub struct HuntJob<'a> {
     pub pages: u32,
     /// Harts.
     pub harts: u32,
+    /// The path of the file that each run reads as its input; this isn't given where no file is.
+    pub input: Option<&'a str>,
     /// Steps of a run, at most.
     pub steps: u32,
     /// The path of the disk that is made for the run of the first seed, or, with a `/` at its end, of the folder in which each outcome

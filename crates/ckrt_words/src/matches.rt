@@ -118,14 +118,16 @@ fn hunting<'a>(matches: &ArgMatches<'a>) -> Option<HuntJob<'a>>
     ensures { option_map hunting_of result ≡ hunting_in (rows_of (found_of matches.now)) }
 {
     let (seconds, progress) = (place(matches, "seconds"), place(matches, "progress"));
+    let (input, keep) = (text(matches, "input"), text(matches, "keep"));
     Some(HuntJob {
         image: text(matches, "image")?,
         seeds: text(matches, "seeds"),
         seconds,
         pages: number(matches, "pages")?,
         harts: number(matches, "harts")?,
+        input,
         steps: number(matches, "steps")?,
-        keep: text(matches, "keep"),
+        keep,
         progress,
     })
 }

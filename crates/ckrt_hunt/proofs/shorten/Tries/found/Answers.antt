@@ -1,8 +1,7 @@
 use Rattle.std.proofs.Common.{refl, subst, sym}
-use Rattle.ckrt_hunt.specs.Plans.{plan_of}
 use Rattle.ckrt_hunt.specs.Runs.{EndsWith}
 use Rattle.ckrt_hunt.specs.Short.{Repeats}
-use Rattle.ckrt_hunt.specs.Tallies.{Hunted}
+use Rattle.ckrt_hunt.specs.Tallies.{Hunted, plan_in}
 use Rattle.ckrt_hunt.specs.declared.plan.Plan.{Plan}
 use Rattle.ckrt_hunt.proofs.ShortLemmas.{repeats, repeats_itself, switches_of}
 use Rattle.ckrt_hunt.proofs.shorten.Tries.found.Goals as goal
@@ -12,7 +11,7 @@ pub returns-then-is_as_good-clause-found : goal.returns-then-is_as_good-clause-f
 returns-then-is_as_good-clause-found c =
     let h = c.args.hunt.now in
     let seed = c.args.seed in
-    let drawn = plan_of h.limit seed in
+    let drawn = plan_in h seed in
     let p = c.with_turns-plan.result in
     let run = c.run_by-first.result in
     let other = c.run_by-again.result in
@@ -34,6 +33,6 @@ returns-else-is_as_good-clause-found c =
     let drawn = subst (λ (q : Plan). EndsWith q h.start run.told run.made) c.plan_of-drawn.ensures c.run_by-first.ensures.ends in
     record {
       repeats = subst (λ (q : Plan). Repeats h seed q) (sym c.plan_of-drawn.ensures) (repeats_itself h seed);
-      drawn = switches_of (plan_of h.limit seed) h.start run.told run.made drawn;
+      drawn = switches_of (plan_in h seed) h.start run.told run.made drawn;
       switches = switches_of p h.start run.told run.made c.run_by-first.ensures.ends;
     }

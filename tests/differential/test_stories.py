@@ -1,0 +1,199 @@
+"""Other ways on: what a cut leaves, events behind it and why there are none, and turns of a drive."""
+import unittest
+from copy import deepcopy
+
+from abi import Call
+from assembler import STOP, Branch, Program, call_words, image_of
+from devices import MemoryDisk
+from events import Place, Run, RunLong, Tick
+from layout import Geometry, format_disk
+from lines import serve_disk
+from lived import is_answered, is_untold_end
+from plans import Drive, Options
+from stories import MOST_STEPS, Story, TooLong, make
+from stretches import Recording
+from switches import switched
+
+NOT_AT_END = "not at the end of the history: monitor fork ends it here"
+LOCKS = call_words(Call.MUTEX_LOCK, 0x2000)
+SMALL = Geometry(16, 1, 4096)
+
+
+def story_of(words, *lines, at=None):
+    disk = format_disk(SMALL, image_of(words))
+    serve_disk(disk, "\n".join([*lines, "commit", ""]).encode())
+    return Story(Recording(disk), at)
+
+
+class WithKeys(unittest.TestCase):
+    def setUp(self):
+        switch = switched(keys=True, long_runs=True)
+        switch.__enter__()
+        self.addCleanup(switch.__exit__, None, None, None)
+
+    def at_end(self, words, *lines):
+        story = story_of(words, *lines)
+        story.goto((story.last, 0))
+        return story
+
+
+class Cuts(WithKeys):
+    def setUp(self):
+        super().setUp()
+        self.story = story_of([*call_words(Call.SELF), STOP], "place 0 1", "run 0 9", "tick 1", "run 0 5")
+
+    def test_whole(self):
+        self.assertEqual((self.story.position, self.story.positions), ((0, 0), [1, 9, 1, 5]))
+        self.assertEqual(self.story.place_text(), "event 0, from 0 to 4\n")
+        self.assertEqual(story_of([STOP], "place 0 1", "tick 1", at=1).position, (1, 0))
+
+    def test_places(self):
+        self.assertEqual([self.story.has(place) for place in [(1, 8), (1, 9), (2, 0), (2, 1), (4, 0), (4, 1), (5, 0)]],
+                         [True, False, True, False, True, False, False])
+        self.assertEqual([self.story.goto(place) for place in [(1, 2), (1, 9)]], [True, False])
+        self.assertEqual(self.story.place_text(), "event 1+2, from 0 to 4\n")
+
+    def test_at_an_event(self):
+        """What is left the disk has, too."""
+        self.story.goto((2, 0))
+        self.assertEqual(self.story.fork(), "event 2, from 0 to 2\n")
+        self.assertEqual(self.story.add("tick 7"), "event 3, from 0 to 3, recorded to 2\n")
+        self.assertEqual((self.story.events[1:], self.story.end.clock), ([Run(0, 9), Tick(7)], 7))
+        self.assertEqual(self.story.fork(), "event 3, from 0 to 3, recorded to 2\n")
+
+    def test_within_a_run(self):
+        """Of it the steps that are made are left, which the disk hasn't as an event."""
+        self.story.goto((1, 2))
+        self.assertEqual(self.story.fork(), "event 2, from 0 to 2, recorded to 1\n")
+        self.assertEqual((self.story.events, self.story.positions), ([Place(0, 1), Run(0, 2)], [1, 2]))
+        self.assertEqual((self.story.end.threads[1].pc, self.story.machine_at((1, 1)).threads[1].pc), (0x1008, 0x1004))
+        self.story.goto((1, 1))
+        self.assertEqual(self.story.fork(), "event 2, from 0 to 2, recorded to 1\n")
+        self.story.goto((0, 0))
+        self.assertEqual(self.story.fork(), "event 0, from 0 to 0\n")
+        self.assertEqual(self.story.add("place 0 1"), "event 1, from 0 to 1, recorded to 0\n")
+
+    def test_end(self):
+        self.story.goto((4, 0))
+        self.assertEqual(self.story.fork(), "event 4, from 0 to 4\n")
+
+
+class Events(WithKeys):
+    def test_refusals(self):
+        """A line that is none comes before all else; then where one stands; then what the machine refuses."""
+        story = story_of([STOP], "place 0 1")
+        for line, told in [("jump", "no 31 Unknown"), ("", "no 31 Unknown"), ("commit", "no 31 Unknown"), ("auto 0 1", "no 31 Unknown"),
+                           ("run 0 x", "no 32 Number"), ("in 4", "no 33 Hex"), ("run 0 0", "no 34 Range"), ("a" * 161, "no 35 TooLong"),
+                           ("tick 1", NOT_AT_END), ("place 0 1", NOT_AT_END)]:
+            self.assertEqual(story.add(line), told + "\n")
+        story.goto((1, 0))
+        self.assertEqual([story.add(line) for line in ("place 0 1", "run 1 1", "run 0 1")],
+                         ["no 4 NotReady\n", "no 2 NoSuchHart\n", "event 2, from 0 to 2, recorded to 1\n"])
+
+    def test_room(self):
+        """Behind a cut there may be as many more as the cut forgot."""
+        story = self.at_end([STOP], "tick 1", "tick 1")
+        story.goto((1, 0))
+        story.fork()
+        story.events += [Tick(1)] * 65_536
+        story.positions += [1] * 65_536
+        story.position = story.last, 0
+        self.assertEqual(story.add("tick 1"), "event 65538, from 0 to 65538, recorded to 1\n")
+        self.assertEqual(story.add("tick 1"), "no room for another event\n")
+        self.assertEqual(story.live(3).splitlines()[:2], ["events made: 0", "no room for another event"])
+
+
+class Turns(WithKeys):
+    def test_ends(self):
+        """Each is told; also where just so many events were made."""
+        for words, count, reason in [
+                (call_words(Call.EXIT, 0), 2, "the program has ended"), ([0], 2, "the program has ended"),
+                ([*call_words(Call.GETC), STOP], 2, "the program waits for input: monitor event in HEX gives it some"),
+                (LOCKS * 2, 2, "no thread can go on")]:
+            for most in (count, 9):
+                story = story_of(words)
+                self.assertEqual(story.live(most), f"events made: {count}\n{reason}\nevent {count}, from 0 to {count}, recorded to 0\n")
+                self.assertEqual(story.live(most).splitlines()[:2], ["events made: 0", reason])
+            self.assertEqual(story_of(words).live(1), "events made: 1\nevent 1, from 0 to 1, recorded to 0\n")
+
+    def test_not_at_end(self):
+        story = story_of([STOP], "place 0 1")
+        self.assertEqual(story.live(3), f"events made: 0\n{NOT_AT_END}\nevent 0, from 0 to 1\n")
+
+    def test_turns(self):
+        """A round's place hangs on how many events there are."""
+        story = self.at_end([STOP], "tick 1")
+        story.live(5)
+        self.assertEqual(story.events, [Tick(1), Place(0, 1), Tick(1), RunLong(0, 1_000_000), RunLong(0, 1_000_000), Tick(1)])
+        self.assertEqual(story.position, (6, 0))
+
+    def test_last_moment(self):
+        words = [*call_words(Call.SLEEP_UNTIL, 0xFFFFFFFF, 0x7FFFFFFF), STOP]
+        story = story_of(words)
+        story.live(2)
+        story.end.clock = 2 ** 63 - 2
+        self.assertEqual(story.live(1), "events made: 1\nevent 3, from 0 to 3, recorded to 0\n")
+        self.assertEqual(story.live(9).splitlines()[1:2], ["no 8 ClockEnd"])
+
+    def test_as_a_drive(self):
+        """Behind what a drive has recorded come the events that it would go on with."""
+        words = [*call_words(Call.PUTC, 65), *call_words(Call.CLOCK), *call_words(Call.SLEEP_UNTIL, 9, 0), *call_words(Call.GETC)]
+        whole, part = (bytearray(format_disk(SMALL, image_of(words))) for _ in range(2))
+        Drive(MemoryDisk(whole), bytearray(), Options(), None).run()
+        driven = Recording(whole)
+        for count in range(len(driven.events)):
+            part = bytearray(format_disk(SMALL, image_of(words)))
+            Drive(MemoryDisk(part), bytearray(), Options(events=count), None).run()
+            story = Story(Recording(part))
+            story.goto((count, 0))
+            story.live(99)
+            self.assertEqual(story.events, driven.events)
+
+
+class Steps(WithKeys):
+    def test_made(self):
+        """As the machine makes them, though they are fewer than may be."""
+        for words, steps in [([*call_words(Call.GETC), STOP], 9), ([STOP], 1_000_000), ([0], 9)]:
+            story = self.at_end(words, "place 0 1")
+            other = deepcopy(story.end)
+            made = make(story.end, RunLong(0, steps))
+            reply, _ = other.step(Run(0, min(steps, 9)))
+            self.assertEqual(made, steps if words == [STOP] else int(reply.split()[1]))
+            self.assertEqual((vars(story.end.threads[1]), story.end.harts), (vars(other.threads[1]), other.harts))
+        self.assertEqual(make(story.end, Tick(1)), 0)
+
+    def test_output(self):
+        """A run ends with its 1,024th byte."""
+        program = Program()
+        program.label("again")
+        program.add([*call_words(Call.PUTC, 65), Branch(0, 0, 0, "again")])
+        story = self.at_end(program.words(), "place 0 1")
+        self.assertEqual(make(story.end, RunLong(0, 5000)), 1023 * 4 + 3)
+
+    def test_too_long(self):
+        program = Program()
+        program.label("again")
+        program.add([Branch(0, 0, 0, "again")])
+        with self.assertRaises(TooLong):
+            make(self.at_end(program.words(), "place 0 1").end, RunLong(0, MOST_STEPS + 1))
+
+
+class Answers(unittest.TestCase):
+    def test_untold_ends(self):
+        """What `ckrt debug` leaves out, and nothing else."""
+        still, ended = (f"events made: 2\n{reason}\nevent 2\n" for reason in ("no thread can go on", "the program has ended"))
+        self.assertTrue(is_untold_end(still, "events made: 2\nevent 2\n"))
+        for expected, told in [(ended, "events made: 2\nevent 2\n"), (still, "events made: 2\nevent 3\n"), ("event 2\n", "event 2\n"),
+                               ("events made: 2\nevent 2\n", "event 2\n")]:
+            self.assertFalse(is_untold_end(expected, told), expected)
+
+    def test_answers(self):
+        for expected, got, is_right in [(("a\n", "OK"), ("a\n", "OK"), True), (("a\n", "OK"), ("b\n", "OK"), False), (None, ("b", "E"), True),
+                                        ((None, "OK"), ("b", "OK"), True), ((None, "OK"), ("b", "E01"), False),
+                                        (("no such position\n", "OK"), ("no such position\nevent 3\n", "OK"), True),
+                                        (["T05thread:1;"], ("", "T05thread:1;"), True), (["T05thread:1;"], ("", "T05thread:2;"), False)]:
+            self.assertEqual(is_answered(expected, got), is_right, (expected, got))
+
+
+if __name__ == "__main__":
+    unittest.main()
