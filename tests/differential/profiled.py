@@ -85,7 +85,7 @@ def difference_of_profiles(ckrt, case, path, tally):
     recording, unrecovered = recording_of(case.contents)
     for stretch in case.stretches:
         profile, fault = shown(recording, unrecovered, stretch, Profile())
-        is_left_open = profile is not None and profile.is_open()
+        is_left_open = profile is not None and profile.is_left_open
         tally["profile", fault.fault[6:] if fault else "left open" if is_left_open else "shown"] += 1
         if is_left_open:
             continue
@@ -101,14 +101,10 @@ def fault_differs(ckrt, path, stretch, fault):
 
 
 def difference_of_stretch(ckrt, path, stretch, profile, tally):
-    """Whether a call is told that no step of its function follows, or whose stack has no row, isn't decided: either will do, in table
-    and costs alike."""
+    """In each form."""
     table, folded, costs = (glance_of_program(ckrt, "profile", path, stretch, *options).text
                             for options in ((), ("--folded",), ("--callgrind",)))
     difference = difference_of_counted(profile, table, costs)
-    if difference:
-        profile.count_fewer_calls()
-        difference = difference_of_counted(profile, table, costs) and difference
     tally.update(("line of a profile", "elsewhere" if "elsewhere" in line else kind_of_row(line)) for line in profile.table() if "%" in line)
     return difference or unlike(sorted(profile.folded()), sorted(folded.splitlines()))
 

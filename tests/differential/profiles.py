@@ -5,7 +5,7 @@ from dataclasses import dataclass, field
 from abi import RETURN_GATE, UNWIND_GATE
 from listing import address_text, reason_of_wait
 from stretches import Recording, next_word
-from threads import Status, WaitKind
+from threads import WaitKind
 
 JUMP, JUMP_TO_REGISTER, ECALL = 0b1101111, 0b1100111, 0x73
 LINKS = (1, 5)
@@ -28,6 +28,7 @@ class Frame:
     function: int
     thread: int
     parent: "Frame | None" = None
+    is_met: bool = False
     has_row: bool = False
     steps: int = 0
     calls: int = 0
@@ -45,8 +46,8 @@ class Frame:
 class Profile:
     """Looks on. A thread's stack is kept with the thread that it is of, and how often the runtime had sent that on.
 
-    Functions and waits have their steps in the order in which they were met. `entered` has by thread the function that it called, or was
-    sent to, behind its last step. No page tells what a gate counts for that the runtime itself sends a thread to: `is_left_open` then.
+    Functions and waits have their steps in the order in which they were met. `entered` has by thread the function that it called
+    with its last step. No page tells what a gate counts for that the runtime itself sends a thread to: `is_left_open` then.
     """
 
     def __init__(self):
@@ -72,10 +73,8 @@ class Profile:
         word = next_word(machine, number)
         self.called_at[number] = thread.pc if word == ECALL else None
         made = make()
-        if word is not None and machine.status is not Status.FAULTED:
+        if word is not None:
             self.move(number, thread, word)
-        for sent in [other for other, (known, sendings, _) in self.stacks.items() if known.sendings != sendings]:
-            self.entered[sent] = self.top(sent, self.stacks[sent][0])
         return made
 
     def begin(self, machine):
@@ -103,22 +102,29 @@ class Profile:
         if known is not thread or sendings != thread.sendings:
             self.is_left_open |= thread.pc in (RETURN_GATE, UNWIND_GATE)
             frame = self.enter(self.bottoms, (number, thread.pc), thread.pc, number, None)
+            self.entered.pop(number, None)
+            self.count_call(frame)
             self.stacks[number] = thread, thread.sendings, frame
         return frame
 
     def enter(self, siblings, key, function, number, parent):
-        self.calls[function] += 1
-        if key not in siblings:
-            siblings[key] = Frame(function, number, parent, has_row=len(self.frames) < STACKS)
-            if siblings[key].has_row:
-                self.frames.append(siblings[key])
-        siblings[key].calls += 1
-        return siblings[key]
+        return siblings.setdefault(key, Frame(function, number, parent))
+
+    def count_call(self, frame):
+        """With the first step behind it; a stack gets its row with its first one."""
+        if not frame.is_met:
+            frame.is_met, frame.has_row = True, len(self.frames) < STACKS
+            if frame.has_row:
+                self.frames.append(frame)
+        if frame.has_row:
+            frame.calls += 1
+            self.calls[frame.function] += 1
 
     def count_step(self, number, frame):
         self.steps += 1
         self.threads[number] += 1
-        self.entered.pop(number, None)
+        if self.entered.pop(number, None) is frame:
+            self.count_call(frame)
         if frame.has_row:
             frame.steps += 1
         else:
@@ -133,18 +139,6 @@ class Profile:
             frame = self.enter(frame.children, thread.pc, thread.pc, number, frame)
             self.entered[number] = frame
         self.stacks[number] = known, sendings, frame
-
-    def count_fewer_calls(self):
-        """As if nobody had called what it made no step of, nor anything on a stack without a row."""
-        for frame in self.entered.values():
-            frame.calls -= 1
-        self.entered, self.calls = {}, Counter()
-        for frame in self.frames:
-            self.calls[frame.function] += frame.calls
-
-    def is_open(self):
-        """A stack without a step had a row here, and has none there, which tells once there are no more rows."""
-        return self.is_left_open or len(self.frames) == STACKS and any(not frame.steps for frame in self.frames)
 
     def functions(self):
         """The steps of each, on all stacks that have rows."""

@@ -101,7 +101,7 @@ class Stacks(WithKeys):
         self.stacks(profile, "thread 1;00001000 1", "thread 1;00001000;00001004 1", "thread 1;00001000;00001004;00001004 1",
                     "thread 1;00001000;00001004;00001004;00001004 1")
         self.assertEqual(profile.costs()[1], {("thread 1", "00001000"): (1, 4), ("00001000", "00001004"): (1, 3),
-                                              ("00001004", "00001004"): (3, 3)})
+                                              ("00001004", "00001004"): (2, 3)})
 
     def test_fault(self):
         """A call to no word calls nothing."""
@@ -109,11 +109,11 @@ class Stacks(WithKeys):
         self.assertEqual((profile.steps, profile.calls), (1, {0x1000: 1}))
 
     def test_last_step(self):
-        """A call by the last step is one. As if it weren't there is the other count."""
+        """A call by the last step is none: no step of what it called follows."""
         profile = profile_of_words(jump_form(1, 4), steps=1)
+        self.assertEqual(profile.calls, {0x1000: 1})
+        profile = profile_of_words(jump_form(1, 4), steps=2)
         self.assertEqual(profile.calls, {0x1000: 1, 0x1004: 1})
-        profile.count_fewer_calls()
-        self.assertEqual(+profile.calls, {0x1000: 1})
 
     def test_threads(self):
         """Each begins at its routine; where that returns to the runtime counts for it. A later thread of the number begins anew."""
@@ -180,9 +180,7 @@ class Stacks(WithKeys):
         self.assertEqual(profile.folded()[-1], f"others {profile.others}")
         self.assertEqual(profile.costs()[0]["others"], profile.others)
         self.assertEqual(sum(steps for steps in profile.costs()[0].values()), profile.steps)
-        self.assertEqual((profile.calls[0x1008], profile.frames[0].steps), (1100, 7))
-        profile.count_fewer_calls()
-        self.assertEqual(profile.calls[0x1008], 1023)
+        self.assertEqual((profile.calls[0x1008], profile.frames[0].steps), (1023, 7))
 
 
 class Waits(WithKeys):
