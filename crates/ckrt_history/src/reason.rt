@@ -105,4 +105,9 @@ impl<'a> StopReason for Sought<'a> {
     fn is_met(&self, pc: u32, _file: &[u32; 33], bytes: &[u8]) -> bool {
         is_at(self.breakpoints, pc) || !are_there(bytes, self.seen)
     }
+
+    #[inline]
+    fn is_only_at_jumps(&self) -> bool {
+        false
+    }
 }

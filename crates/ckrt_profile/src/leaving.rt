@@ -70,4 +70,9 @@ impl StopReason for AtLeaving {
     fn is_met(&self, pc: u32, _file: &[u32; 33], bytes: &[u8]) -> bool {
         pc == RETURN_GATE || pc == UNWIND_GATE || leaves_at(bytes, pc)
     }
+
+    #[inline(always)]
+    fn is_only_at_jumps(&self) -> bool {
+        true
+    }
 }

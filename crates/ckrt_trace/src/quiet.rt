@@ -43,6 +43,11 @@ impl StopReason for AtCalls {
     fn is_met(&self, pc: u32, _file: &[u32; 33], bytes: &[u8]) -> bool {
         is_ecall_in(bytes, pc) || is_at_gate(pc)
     }
+
+    #[inline(always)]
+    fn is_only_at_jumps(&self) -> bool {
+        true
+    }
 }
 
 /// What holds of every machine: whoever is on a hart hasn't ended.
