@@ -49,6 +49,9 @@ pub fn next_handler(tables: &mut Tables, thread: ThreadId)
 }
 
 /// A thread that is on a hart acts on the request to cancel it: it begins to unwind, to end as a cancelled thread.
+///
+/// It isn't inlined: a run would clear the room of its locals at each step that is made by itself.
+#[inline(never)]
 pub fn act_on_request(tables: &mut Tables, thread: ThreadId)
     requires live { is_live tables.old.threads thread ≡ true }
     requires free { is_waiting tables.old.threads thread ≡ false }

@@ -110,6 +110,20 @@ impl Counts {
         self.waits.pass(count);
     }
 
+    /// So many steps of a thread were made, the first of them at `pc`, from each of which it goes on in the same function, wherever the
+    /// further ones are; and one more behind them, from which it goes on as the turn says, wherever that one is.
+    pub fn leaving(&mut self, thread: u8, pc: u32, count: u32, turn: Turn)
+        ensures none { count ≡ 0 → self.new
+            ≡ behind (note.Step (record { thread = thread; pc = pc; turn = turn })) self.old }
+        ensures some { (further : List ℕ) (last : ℕ) → suc (length further) ≡ count
+            → self.new ≡ behind (note.Step (record { thread = thread; pc = last; turn = turn }))
+            (behind_all (onward thread (pc ∷ further)) self.old) }
+    {
+        let count = u64::from(count) + 1;
+        self.stacks.step(number_of(thread), pc, turn, count);
+        self.waits.pass(count);
+    }
+
     /// The next note.
     pub fn note(&mut self, note: &Note)
         ensures { self.new ≡ behind note.now self.old }

@@ -11,3 +11,4 @@ pub mod WellFormedImplies
 pub mod StepsOfRuns
 pub mod StepsOfRunsTo
 pub mod Fixed
+pub mod RangeLemmas

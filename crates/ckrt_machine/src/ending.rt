@@ -15,6 +15,9 @@ use ckrt_thread::{CallResult, RETURN_GATE, ThreadId, UNWIND_GATE};
 
 /// What follows the last instruction of a burst, whose registers are back in the table: nothing, a call, or what a
 /// fault comes to. The result is the byte that a call puts.
+///
+/// It isn't inlined: a run would clear the room of its locals at each step that is made by itself.
+#[inline(never)]
 pub fn end_burst(tables: &mut Tables, outcome: Outcome, thread: ThreadId) -> Option<u8>
     requires live { is_live tables.old.threads thread ≡ true }
     requires free { is_waiting tables.old.threads thread ≡ false }

@@ -1,8 +1,10 @@
 -- Steps in a row of a thread in one function, and what is noted of them.
-use Rattle.std.proofs.Common.{◌≡◌, ◌<◌, ◌∙◌, ◌+◌, ◌==◌, ◌&&◌, ◌||◌, not, ℕ, zero, suc, Bool, true, false, if◌then◌else◌, List, [], ◌∷◌, ◌++◌, Option, None, Some, length, refl, sym, ap, true≢false, arith}
+use Rattle.std.proofs.Common.{◌≡◌, ◌<◌, ◌∙◌, ◌+◌, ◌%◌, ◌==◌, ◌&&◌, ◌||◌, not, ℕ, zero, suc, Bool, true, false, if◌then◌else◌, List, [], ◌∷◌, ◌++◌, Option, None, Some, length, refl, sym, ap, true≢false, arith}
 use Rattle.ckrt_registers.specs.Registers.{Registers}
 use Rattle.ckrt_rv32i.specs.Memory.{is_valid, loaded}
 use Rattle.ckrt_rv32i.specs.declared.memory_bus.Size.TheVariants as size
+use Rattle.ckrt_memory.specs.Reasons.{IsOnlyAtJumps}
+use Rattle.ckrt_memory.proofs.JumpLemmas.{IsOtherOpcode, low_there, other_opcode}
 use Rattle.ckrt_thread.specs.Abi.{RETURN_GATE, UNWIND_GATE}
 use Rattle.ckrt_thread.specs.Cancellation.{is_immediate}
 use Rattle.ckrt_thread.specs.State as threads
@@ -13,15 +15,16 @@ use Rattle.ckrt_machine.specs.Events.{Machine}
 use Rattle.ckrt_machine.specs.Runs.{after_steps, stop_after, with_byte}
 use Rattle.ckrt_machine.specs.RunsTo.{meets_after, meets_for, meets_on, meets_with}
 use Rattle.ckrt_machine.specs.Steps.{State, hart_of, hart_step}
-use Rattle.ckrt_counts.specs.Counts.{Counts, behind_all, onward}
-use Rattle.ckrt_counts.specs.Turns.{turn_of}
+use Rattle.ckrt_counts.specs.Counts.{Counts, behind, behind_all, onward}
+use Rattle.ckrt_counts.specs.declared.counts.Step.{Step}
+use Rattle.ckrt_counts.specs.Turns.{jump_turn, register_turn, turn_of}
 use Rattle.ckrt_counts.specs.declared.counts.Note.TheVariants as note
 use Rattle.ckrt_counts.specs.declared.turn.Turn.{Turn}
 use Rattle.ckrt_counts.specs.declared.turn.Turn.TheVariants as turn
 use Rattle.ckrt_trace.specs.Events.{state_behind}
 use Rattle.ckrt_trace.specs.Lines.{is_ecall_at, is_plain_of, is_quiet}
 use Rattle.ckrt_trace.specs.Quiet.{GoesQuietlyTo, IsMetAtCalls, calls_next, is_at_gate, is_quiet_after}
-use Rattle.ckrt_trace.proofs.QuietLemmas.{IsCalm, calm_behind, meets_is}
+use Rattle.ckrt_trace.proofs.QuietLemmas.{IsCalm, calm_behind, meets_is, no_gate}
 use Rattle.ckrt_trace.proofs.RowLemmas.{quiet_state}
 use Rattle.ckrt_profile.specs.Steps.{looks_at, of_rest, of_step, step_by, step_with, word_turn}
 use Rattle.ckrt_profile.specs.Leaving.{addresses, is_onward, leaves, leaves_at, leaves_next}
@@ -47,6 +50,20 @@ met_at_calls r m e = go (is_ecall_at m r.pc) (is_at_gate r.pc) refl e
     go c true is e = refl
     go true false is e = ecall_leaves m r.pc is
     go false false is e = absurd (true≢false (sym e))
+
+-- and at jumps alone: no other word leaves
+onward_by : (w : ℕ) → IsOtherOpcode w → turn_of w ≡ turn.Onward
+onward_by w other =
+    ap (λ b. if b then jump_turn w else if w % 128 == 0x67 then register_turn w else turn.Onward) other.no_jal
+    ∙ ap (λ b. if b then register_turn w else turn.Onward) other.no_jalr
+
+pub met_at_jumps : IsOnlyAtJumps leaves_next
+met_at_jumps r m i whole valid is none =
+    let w = loaded m r.pc size.Word in
+    let other = other_opcode w i is none in
+    ap (λ b. if b then true else leaves_at m r.pc) (no_gate r.pc (low_there m r.pc whole valid))
+    ∙ ap (λ b. if b then leaves w else false) valid
+    ∙ ap (λ b. b || not (is_onward (turn_of w))) other.no_call ∙ ap (λ u. not (is_onward u)) (onward_by w other)
 
 -- and elsewhere it is met where a word leaves
 stays_there : (r : Registers) (m : List ℕ) → leaves_next r m ≡ false → leaves_at m r.pc ≡ false
@@ -178,6 +195,18 @@ how_many : (m h : ℕ) (s : State) (out : List ℕ) → length (addresses m h s 
 how_many zero h s out = refl
 how_many (suc m) h s out = ap suc (how_many m h (hart_step h s).state (with_byte (hart_step h s).put out))
 
+-- whoever makes the steps stays on the hart
+stays_calm : (m h t : ℕ) (s : State) (out : List ℕ) → IsCalm h t s → GoOnward m h s out → IsCalm h t (after_steps m h s out).state
+stays_calm zero h t s out calm go = calm
+stays_calm (suc m) h t s out calm go = stays_calm m h t (hart_step h s).state (with_byte (hart_step h s).put out) (calm_next h t s calm (go.unmet 0 (omega arith))) (later m h s out go)
+
+-- a step that is quiet is noted alone
+pub quiet_noted : (h : ℕ) (s : State) → is_quiet (hart_of s.tables h) s ≡ true → of_step h s ≡ note.Step (step_by (hart_of s.tables h) true s) ∷ []
+quiet_noted h s quiet = ap (λ b. note.Step (step_by (hart_of s.tables h) b s) ∷ (if b then [] else looks_at s)) quiet
+
+as_last : {t p : ℕ} (u : Turn) (last : Step) → last.thread ≡ t → last.turn ≡ u → p ≡ last.pc → record { thread = t; pc = p; turn = u } ≡ last
+as_last u last who how at = rw (sym who, sym how, at) refl
+
 -- WHAT A MACHINE MADE
 
 -- as it is counted at once
@@ -187,6 +216,18 @@ pub at_once : (made h t : ℕ) (s : State) (out : List ℕ) (c w : Counts) → (
 at_once zero h t s out c w none some = none refl
 at_once (suc m) h t s out c w none some =
     some (addresses m h (hart_step h s).state (with_byte (hart_step h s).put out)) (ap suc (how_many m h (hart_step h s).state (with_byte (hart_step h s).put out)))
+
+-- and one more behind them, which leaves
+pub at_leaving : (made h t : ℕ) (s : State) (out : List ℕ) (u : Turn) (c w : Counts) (last : Step) → last.thread ≡ t → last.turn ≡ u → (made ≡ 0 → last.pc ≡ pc_on h s)
+    → (made ≡ 0 → w ≡ behind (note.Step (record { thread = t; pc = pc_on h s; turn = u })) c)
+    → ((further : List ℕ) (p : ℕ) → suc (length further) ≡ made → w ≡ behind (note.Step (record { thread = t; pc = p; turn = u })) (behind_all (onward t (pc_on h s ∷ further)) c))
+    → w ≡ behind (note.Step last) (behind_all (onward t (addresses made h s out)) c)
+at_leaving zero h t s out u c w last who how where_first none some =
+    none refl ∙ ap (λ (x : Step). behind (note.Step x) c) (as_last u last who how (sym (where_first refl)))
+at_leaving (suc m) h t s out u c w last who how where_first none some =
+    let those = addresses m h (hart_step h s).state (with_byte (hart_step h s).put out) in
+    some those last.pc (ap suc (how_many m h (hart_step h s).state (with_byte (hart_step h s).put out)))
+    ∙ ap (λ (x : Step). behind (note.Step x) (behind_all (onward t (pc_on h s ∷ those)) c)) (as_last u last who how refl)
 
 module _ (limit made h n : ℕ) (old new : Machine) (left : limit ≡ made + n) (did : GoesQuietlyTo leaves_next limit made h old new) where
   abbrev pub t : ℕ
@@ -200,6 +241,19 @@ module _ (limit made h n : ℕ) (old new : Machine) (left : limit ≡ made + n) 
       let rest = of_rest n h (after_steps (suc m) h old.state old.output).state (after_steps (suc m) h old.state old.output).output in
       onward_rest (suc m) n limit h who.0 old.state old.output is who.1 go
       ∙ ap (λ u. onward u (addresses (suc m) h old.state old.output) ++ rest) (sym (who_is h who.0 old.state who.1))
+
+  pub same_thread : (step_by (hart_of new.state.tables h) true new.state).thread ≡ t
+  same_thread = ap (λ (s : State). (step_by (hart_of s.tables h) true s).thread) did.state ∙ go made (record { goes_on = did.goes_on; quiet = did.quiet; unmet = did.unmet })
+    where
+      thread_of : State → ℕ
+      thread_of s = (step_by (hart_of s.tables h) true s).thread
+
+      go : (m : ℕ) → GoOnward m h old.state old.output → thread_of (after_steps m h old.state old.output).state ≡ t
+      go zero steps = refl
+      go (suc m) steps =
+          let who = calm_first h old.state (steps.unmet 0 (omega arith)) (steps.quiet 0 (omega arith)) in
+          who_is h who.0 (after_steps (suc m) h old.state old.output).state (stays_calm (suc m) h who.0 old.state old.output who.1 steps)
+          ∙ sym (who_is h who.0 old.state who.1)
 
   pub made_counted : (c w : Counts) → w ≡ behind_all (onward t (addresses made h old.state old.output)) c
       → behind_all (of_rest n h new.state new.output) w ≡ behind_all (of_rest limit h old.state old.output) c

@@ -117,26 +117,8 @@ fn count_step(machine: &mut Machine, hart: u8, is_first: bool, counts: &mut Coun
     advance(machine, hart, is_first);
 }
 
-/// Steps of a run that goes on, in a row, in one function: up to one by which the thread leaves it, and at most so many. The answer is
-/// how many were made.
-fn count_onward(machine: &mut Machine, hart: u8, limit: u32, counts: &mut Counts) -> u32
-    requires going { stop_of hart machine.old.state.tables machine.old.output ≡ None }
-    ensures within { result ≤ limit }
-    ensures same { result ≡ 0 → (machine.new.state ≡ machine.old.state)
-        × (machine.new.output ≡ machine.old.output) }
-    ensures state { state_behind (limit - result) hart machine.new.state machine.new.output
-        ≡ state_behind limit hart machine.old.state machine.old.output }
-    ensures counted { behind_all
-        (of_rest (limit - result) hart machine.new.state machine.new.output) counts.new
-        ≡ behind_all (of_rest limit hart machine.old.state machine.old.output) counts.old }
-{
-    let first = next_step(machine, hart, true);
-    let made = go_quietly_to(machine, hart, limit, &AtLeaving);
-    counts.onward(first.thread, first.pc, made);
-    made
-}
-
-/// The same, and the step behind them, if there is one. The answer is how many were made.
+/// Steps of a run that goes on, in a row, in one function: up to one by which the thread leaves it, that one included, and at most so
+/// many. The answer is how many were made.
 fn count_piece(machine: &mut Machine, hart: u8, limit: u32, counts: &mut Counts) -> u32
     requires some { 1 ≤ limit }
     requires going { stop_of hart machine.old.state.tables machine.old.output ≡ None }
@@ -148,10 +130,19 @@ fn count_piece(machine: &mut Machine, hart: u8, limit: u32, counts: &mut Counts)
         (of_rest (limit - result) hart machine.new.state machine.new.output) counts.new
         ≡ behind_all (of_rest limit hart machine.old.state machine.old.output) counts.old }
 {
-    let made = count_onward(machine, hart, limit, counts);
+    let first = next_step(machine, hart, true);
+    let made = go_quietly_to(machine, hart, limit, &AtLeaving);
     if made == limit || is_stopped(machine, hart) {
+        counts.onward(first.thread, first.pc, made);
         return made;
     }
+    if is_quiet(machine, hart) {
+        let last = next_step(machine, hart, true);
+        counts.leaving(first.thread, first.pc, made, last.turn);
+        advance(machine, hart, false);
+        return made + 1;
+    }
+    counts.onward(first.thread, first.pc, made);
     count_step(machine, hart, false, counts);
     made + 1
 }

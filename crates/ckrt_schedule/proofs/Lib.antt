@@ -1,3 +1,2 @@
 pub mod LotLemmas
 mod SearchLemmas
-mod RangeLemmas

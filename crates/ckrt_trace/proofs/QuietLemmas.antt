@@ -1,5 +1,6 @@
 -- Quiet steps: an instruction calls only where ECALL stands, and of a thread that acts on no request whatever stands before it is looked for by its registers and the bytes.
 use Rattle.std.proofs.Common.{◌≡◌, ◌≢◌, ◌<◌, ◌∙◌, ◌%◌, ◌==◌, ◌&&◌, not, ℕ, zero, suc, Bool, true, false, cond, List, Option, None, Some, is_some, refl, sym, ap, subst, true≢false, arith, ◌⊎◌, inl, inr}
+use Rattle.std.proofs.lemmas.Bool.Decides.{nat_tests}
 use Rattle.ckrt_registers.specs.Registers.{Registers, get}
 use Rattle.ckrt_rv32i.specs.Memory.{is_aligned, is_valid, loaded}
 use Rattle.ckrt_rv32i.specs.Decoding.{instruction_of}
@@ -14,7 +15,8 @@ use Rattle.ckrt_rv32i.specs.declared.execution.Outcome.{Outcome}
 use Rattle.ckrt_rv32i.specs.declared.execution.Outcome.TheVariants.{Next, Call, Fault}
 use Rattle.ckrt_rv32i.specs.declared.execution.Cause.{Cause}
 use Rattle.ckrt_rv32i.specs.declared.execution.Cause.TheVariants as cause
-use Rattle.ckrt_memory.specs.Reasons.{Meets}
+use Rattle.ckrt_memory.specs.Reasons.{IsOnlyAtJumps, Meets}
+use Rattle.ckrt_memory.proofs.JumpLemmas.{low_there, other_opcode}
 use Rattle.ckrt_thread.specs.Abi.{RETURN_GATE, UNWIND_GATE}
 use Rattle.ckrt_thread.specs.Cancellation.{is_immediate}
 use Rattle.ckrt_thread.specs.State as threads
@@ -31,7 +33,7 @@ use Rattle.ckrt_machine.specs.Runs.{RUN_OUTPUT, after_steps, is_running, stop_af
 use Rattle.ckrt_machine.specs.RunsTo.{EndedBy, HasMadeTo, meets_after, meets_for, meets_on, meets_with}
 use Rattle.ckrt_machine.proofs.RegsLaws.{regs_read}
 use Rattle.ckrt_trace.specs.Lines.{is_ecall_at, is_plain, is_plain_of, is_quiet}
-use Rattle.ckrt_trace.specs.Quiet.{GoesQuietly, GoesQuietlyTo, IsLiveOn, IsMetAtCalls, acts_first, acts_next, calls_next, is_quiet_after}
+use Rattle.ckrt_trace.specs.Quiet.{GoesQuietly, GoesQuietlyTo, IsLiveOn, IsMetAtCalls, acts_first, acts_next, calls_next, is_at_gate, is_quiet_after}
 
 -- AN INSTRUCTION CALLS ONLY WHERE ECALL STANDS
 
@@ -94,6 +96,20 @@ calls_there h m = go (is_valid m h.pc size.Word)
     go : (b : Bool) → Calls ((b && (w == 0x73)) ≡ true) (cond b (performed (instruction_of w) h m) (fault cause.FetchRange h m))
     go true = λ e. is_word w (calls_if (instruction_of w) h m e)
     go false = λ e. absurd (cc)
+
+-- SO THE REASON IS MET AT JUMPS ALONE: an instruction that neither jumps nor calls is no ECALL, and no gate is in a memory
+
+pub no_gate : (pc : ℕ) → pc < 4194304 → is_at_gate pc ≡ false
+no_gate pc low =
+    let first : (pc == RETURN_GATE) ≡ false = grind (arith, nat_tests, low) in
+    let second : (pc == UNWIND_GATE) ≡ false = grind (arith, nat_tests, low) in
+    ap (λ b. if b then true else pc == UNWIND_GATE) first ∙ second
+
+pub calls_at_jumps : IsOnlyAtJumps calls_next
+calls_at_jumps r m i whole valid is none =
+    let w = loaded m r.pc size.Word in
+    let no_call : is_ecall_at m r.pc ≡ false = ap (λ b. b && (w == 0x73)) valid ∙ (other_opcode w i is none).no_call in
+    ap (λ b. if b then true else is_at_gate r.pc) no_call ∙ no_gate r.pc (low_there m r.pc whole valid)
 
 -- A STEP MORE
 

@@ -1,6 +1,6 @@
 use Rattle.std.proofs.Common.{◌≤◌, sym, subst}
 use Rattle.std.specs.Prelude.{IfSome}
-use Rattle.ckrt_commands.proofs.EventLemmas.{planned_in_range}
+use Rattle.ckrt_machine.proofs.RangeLemmas.{planned_in_range}
 use Rattle.ckrt_commands.proofs.performing.planned.Goals as goal
 
 pub returns-clause-planned : goal.returns-clause-planned

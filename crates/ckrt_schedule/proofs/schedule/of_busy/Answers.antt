@@ -1,7 +1,7 @@
 use Rattle.std.proofs.Common.{◌≡◌, ◌≤◌, ◌∙◌, Some, sym, subst}
 use Rattle.std.specs.Prelude.{IfSome}
 use Rattle.ckrt_machine.specs.Plans.{planned}
-use Rattle.ckrt_schedule.proofs.RangeLemmas.{planned_in_range}
+use Rattle.ckrt_machine.proofs.RangeLemmas.{planned_in_range}
 use Rattle.ckrt_schedule.proofs.schedule.of_busy.Goals as goal
 
 pub returns-in-Some-clause-in_range : goal.returns-in-Some-clause-in_range
