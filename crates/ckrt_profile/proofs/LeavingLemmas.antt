@@ -213,8 +213,8 @@ as_last u last who how at = rw (sym who, sym how, at) refl
 pub at_once : (made h t : ℕ) (s : State) (out : List ℕ) (c w : Counts) → (made ≡ 0 → w ≡ c)
     → ((further : List ℕ) → suc (length further) ≡ made → w ≡ behind_all (onward t (pc_on h s ∷ further)) c)
     → w ≡ behind_all (onward t (addresses made h s out)) c
-at_once zero h t s out c w none some = none refl
-at_once (suc m) h t s out c w none some =
+at_once zero h t s out c w nothing some = nothing refl
+at_once (suc m) h t s out c w nothing some =
     some (addresses m h (hart_step h s).state (with_byte (hart_step h s).put out)) (ap suc (how_many m h (hart_step h s).state (with_byte (hart_step h s).put out)))
 
 -- and one more behind them, which leaves
@@ -222,9 +222,9 @@ pub at_leaving : (made h t : ℕ) (s : State) (out : List ℕ) (u : Turn) (c w :
     → (made ≡ 0 → w ≡ behind (note.Step (record { thread = t; pc = pc_on h s; turn = u })) c)
     → ((further : List ℕ) (p : ℕ) → suc (length further) ≡ made → w ≡ behind (note.Step (record { thread = t; pc = p; turn = u })) (behind_all (onward t (pc_on h s ∷ further)) c))
     → w ≡ behind (note.Step last) (behind_all (onward t (addresses made h s out)) c)
-at_leaving zero h t s out u c w last who how where_first none some =
-    none refl ∙ ap (λ (x : Step). behind (note.Step x) c) (as_last u last who how (sym (where_first refl)))
-at_leaving (suc m) h t s out u c w last who how where_first none some =
+at_leaving zero h t s out u c w last who how where_first nothing some =
+    nothing refl ∙ ap (λ (x : Step). behind (note.Step x) c) (as_last u last who how (sym (where_first refl)))
+at_leaving (suc m) h t s out u c w last who how where_first nothing some =
     let those = addresses m h (hart_step h s).state (with_byte (hart_step h s).put out) in
     some those last.pc (ap suc (how_many m h (hart_step h s).state (with_byte (hart_step h s).put out)))
     ∙ ap (λ (x : Step). behind (note.Step x) (behind_all (onward t (pc_on h s ∷ those)) c)) (as_last u last who how refl)

@@ -1,8 +1,11 @@
 -- The notes of a run's steps, one after another.
 use Rattle.std.proofs.Common.{◌≡◌, ◌∙◌, ℕ, suc, List, [], ◌++◌, Option, None, Some, is_some, true, refl, sym, ap, true≢false}
 use Rattle.ckrt_machine.specs.declared.event.RunEnd.{RunEnd}
+use Rattle.ckrt_machine.specs.Events.{Machine}
 use Rattle.ckrt_machine.specs.Runs.{stop_of, with_byte}
 use Rattle.ckrt_machine.specs.Steps.{State, hart_step}
+use Rattle.ckrt_trace.specs.Events.{state_behind}
+use Rattle.ckrt_trace.proofs.RunLemmas.{state_next}
 use Rattle.ckrt_counts.specs.Counts.{Counts, behind_all}
 use Rattle.ckrt_profile.specs.Steps.{of_rest, of_run, of_step, unless_ended}
 use Rattle.ckrt_profile.proofs.BehindLemmas.{behind_both}
@@ -36,3 +39,21 @@ run_counted n limit h s t out c all state output =
     ∙ ap (λ o. behind_all (of_rest n h (hart_step h s).state o) (behind_all (of_step h s) c)) output
     ∙ sym (behind_both (of_step h s) (of_rest n h (hart_step h s).state (with_byte (hart_step h s).put [])) c)
     ∙ ap (λ j. behind_all (of_run j h s []) c) all
+
+-- ONE STEP MORE of a run that goes on, behind some of it
+module _ (more n h : ℕ) (m new : Machine) (left : more ≡ suc n) (going : stop_of h m.state.tables m.output ≡ None) (state : new.state ≡ (hart_step h m.state).state) (output : new.output ≡ with_byte (hart_step h m.state).put m.output) where
+  pub more_state : state_behind n h new.state new.output ≡ state_behind more h m.state m.output
+  more_state =
+      ap (λ (s : State). state_behind n h s new.output) state ∙ ap (λ out. state_behind n h (hart_step h m.state).state out) output
+      ∙ sym (state_next n h m.state m.output going) ∙ ap (λ j. state_behind j h m.state m.output) (sym left)
+
+  pub more_counted : (w v : Counts) → v ≡ behind_all (of_step h m.state) w → behind_all (of_rest n h new.state new.output) v ≡ behind_all (of_rest more h m.state m.output) w
+  more_counted w v is =
+      let e = hart_step h m.state in
+      let behind : of_rest n h new.state new.output ≡ of_rest n h e.state (with_byte e.put m.output) =
+      ap (λ (s : State). of_rest n h s new.output) state ∙ ap (λ out. of_rest n h e.state out) output in
+      let parts : behind_all (of_rest more h m.state m.output) w ≡ behind_all (of_rest n h new.state new.output) (behind_all (of_step h m.state) w) =
+      ap (λ j. behind_all (of_rest j h m.state m.output) w) left ∙ ap (λ l. behind_all l w) (rest_next n h m.state m.output going)
+      ∙ behind_both (of_step h m.state) (of_rest n h e.state (with_byte e.put m.output)) w
+      ∙ ap (λ l. behind_all l (behind_all (of_step h m.state) w)) (sym behind) in
+      ap (λ (x : Counts). behind_all (of_rest n h new.state new.output) x) is ∙ sym parts

@@ -22,6 +22,7 @@ use std::io::Write;
 fn count_events(machine: &mut Machine, events: &[Event], counts: &mut Counts) -> bool
     ensures counted { OnTrue result
         (counts.new ≡ behind_all (of_events events.now machine.old.state) counts.old) }
+    ensures accepted { OnTrue result (AllAccepted events.now machine.old.state) }
     ensures refused { OnFalse result (AllAccepted events.now machine.old.state → ⊥) }
 {
     for event in events {
@@ -39,6 +40,7 @@ fn count_events(machine: &mut Machine, events: &[Event], counts: &mut Counts) ->
 fn count_all(machine: &mut Machine, events: &[Event], counts: &mut Counts) -> bool
     ensures counted { OnTrue result
         (counts.new ≡ behind_all (notes events.now machine.old.state) counts.old) }
+    ensures accepted { OnTrue result (AllAccepted events.now machine.old.state) }
     ensures refused { OnFalse result (AllAccepted events.now machine.old.state → ⊥) }
 {
     meet_all(machine, counts);
@@ -61,6 +63,7 @@ pub fn write_profile<W: Write>(
     ensures profile { OnOk result
         (Appends (W.contents out.old) (W.contents out.new)
         (text_of form events.now machine.old.state)) }
+    ensures accepted { OnOk result (AllAccepted events.now machine.old.state) }
     ensures fault { IfErr result (IsEventsFault events.now machine.old.state) }
 {
     let Ok(mut counts) = Counts::new(alloc) else {

@@ -29,6 +29,7 @@ fn watch_events(
     requires few { count + length events.now < 2 ^ 64 }
     ensures watched { OnTrue result
         (detector.new ≡ behind_all (of_events count events.now machine.old.state) detector.old) }
+    ensures accepted { OnTrue result (AllAccepted events.now machine.old.state) }
     ensures refused { OnFalse result (AllAccepted events.now machine.old.state → ⊥) }
 {
     let mut done = count;
@@ -79,6 +80,7 @@ pub fn write_races<W: Write>(
     ensures races { OnOk result
         (Appends (W.contents out.old) (W.contents out.new)
         (races_text count events.now machine.old.state)) }
+    ensures accepted { OnOk result (AllAccepted events.now machine.old.state) }
     ensures fault { IfErr result (IsEventsFault events.now machine.old.state) }
 {
     let Ok(mut detector) = Detector::new(alloc, HOLDERS, words_of(machine)) else {

@@ -2,3 +2,5 @@ pub mod ReadLemmas
 pub mod FindLemmas
 pub mod RecordedLemmas
 pub mod WayLemmas
+pub mod CountLemmas
+pub mod UnreplayedLemmas

@@ -17,8 +17,10 @@ mod reading;
 mod recording;
 mod replay;
 mod same;
+mod unreplayed;
 
 pub use laws::{recordings_are_one, recordings_lead_on};
 pub use reading::read_recording;
 pub use recording::Recording;
 pub use replay::make_events;
+pub use unreplayed::read_unreplayed;

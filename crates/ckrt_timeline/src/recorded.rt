@@ -2,7 +2,7 @@
 ghost use Rattle.std.specs.Prelude.{◌≡◌, true, ◌⊎◌, ◌≤◌, ◌<◌, ◌+◌, ◌*◌, ◌^◌, ◌++◌, ◌∷◌, [], None, IfErr, OnOk, length};
 ghost use Rattle.std.specs.Io.KnownBytes.{Appends};
 ghost use Rattle.ckrt_events.specs.Bytes.{IsInRange};
-ghost use Rattle.ckrt_machine.specs.Events.{refusal_of, step};
+ghost use Rattle.ckrt_machine.specs.Events.{AllAccepted, refusal_of, step};
 ghost use Rattle.ckrt_trace.specs.Stretches.{IsEventsFault, Writes};
 ghost use Rattle.ckrt_timeline.specs.Charts.{chart_text};
 ghost use Rattle.ckrt_timeline.specs.Widths.{is_width};
@@ -70,6 +70,7 @@ fn watch_events(
     ensures steps { OnOk result (timeline.new.steps ≤ 4294967295 * length events.now) }
     ensures begins { OnOk result
         (begins.new.items ≡ begins.old.items ++ begins_of 0 events.now machine.old.state) }
+    ensures accepted { OnOk result (AllAccepted events.now machine.old.state) }
     ensures fault { IfErr result (IsEventsFault events.now machine.old.state) }
 {
     for event in events {
@@ -125,6 +126,7 @@ pub fn write_timeline<W: Write>(
     ensures draws { OnOk result
         (Writes (IsDrawing style count events.now machine.old.state) (W.contents out.old)
         (W.contents out.new)) }
+    ensures accepted { OnOk result (AllAccepted events.now machine.old.state) }
     ensures fault { IfErr result (IsEventsFault events.now machine.old.state) }
 {
     if events.len() > MAX_EVENTS {

@@ -1,12 +1,14 @@
 -- A stretch of what a disk has recorded, and what is told of it (this project's choice).
-use Rattle.std.specs.Prelude.{◌≡◌, ◌≤◌, ℕ, ◌+◌, ◌-◌, List, length, take, drop, Option, unwrap_or, Result, Ok, Err}
+use Rattle.std.specs.Prelude.{◌≡◌, ◌≤◌, ℕ, ◌+◌, ◌-◌, List, length, take, drop, Option, Some, None, unwrap_or, Result, Ok, Err}
 use Rattle.std.specs.Io.KnownBytes.{Appends}
 use Rattle.ckrt_events.specs.declared.event.Event.{Event}
 use Rattle.ckrt_machine.specs.Events.{AllAccepted, fold}
 use Rattle.ckrt_machine.specs.Steps.{State}
 use Rattle.ckrt_stored.specs.Recovery.{Recovers}
 use Rattle.ckrt_stored.specs.declared.fault.RecoverFault.TheVariants as recover
-use Rattle.ckrt_recording.specs.Recording.{HasRecording, Recorded}
+use Rattle.ckrt_stored.specs.declared.fault.RecoverFault.{RecoverFault}
+use Rattle.ckrt_recording.specs.Reading.{RecordsUnreplayed}
+use Rattle.ckrt_recording.specs.Recording.{HasRecording, Recorded, Records}
 use Rattle.ckrt_inspect.specs.declared.fault.InspectFault.{InspectFault}
 use Rattle.ckrt_inspect.specs.declared.fault.InspectFault.TheVariants.{NotFormatted, Version, Damaged, Device, OutOfMemory, Write, Range}
 use Rattle.ckrt_trace.specs.declared.stretch.Stretch.{Stretch}
@@ -39,19 +41,34 @@ abbrev pub events_of : Stretch → Recorded → List Event
 events_of s r =
     take (to_of s (last_of r) - from_of s r.first) (drop (from_of s r.first - r.first) r.events)
 
+-- READING IT
+
+-- What is read for a stretch that ends there. Where it has an end of its own, events may lie behind it that nobody makes when it's told, so all are
+-- made before: what is recorded is known. Else whoever tells it makes them to the last.
+abbrev pub RecordsTo : (to : Option ℕ) → List ℕ → Result Recorded RecoverFault → Type 0
+RecordsTo (Some to) = Records
+RecordsTo None = RecordsUnreplayed
+
 -- GOING THERE
 
--- it was recorded: it begins behind k events, has the events es, and its state is z
+-- the events before it
+abbrev pub before_of : Stretch → Recorded → List Event
+before_of s r = take (from_of s r.first - r.first) r.events
+
+-- it was recorded: it begins behind k events, has the events es, and its state is z; each event before it is accepted at its turn
 pub record IsReached (s : Stretch) (r : Recorded) (k : ℕ) (es : List Event) (z : State)
     : Type 0 where
   pub within : IsWithin s r.first (last_of r)
   pub first : k ≡ from_of s r.first
   pub events : es ≡ events_of s r
   pub state : z ≡ state_of s r
+  pub before : AllAccepted (before_of s r) r.start
 
--- not all of it was recorded, or not each event is accepted at its turn
+-- Not all of it was recorded, though each event is accepted, as is known before where it has an end of its own. Or not each event is accepted at its
+-- turn.
 abbrev pub IsReachFault : Stretch → Recorded → InspectFault → Type 0
-IsReachFault s r Range = IsWithin s r.first (last_of r) → ⊥
+IsReachFault s r Range =
+    (IsWithin s r.first (last_of r) → ⊥) × (s.to ≡ None → AllAccepted r.events r.start)
 IsReachFault s r Damaged = AllAccepted r.events r.start → ⊥
 IsReachFault s r _ = ⊥
 

@@ -2,7 +2,7 @@
 ghost use Rattle.std.specs.Prelude.{◌≡◌, ◌⊎◌, ◌<◌, ◌+◌, ◌^◌, None, IfErr, OnOk, length};
 ghost use Rattle.std.specs.Io.KnownBytes.{Appends};
 ghost use Rattle.ckrt_events.specs.Bytes.{IsInRange};
-ghost use Rattle.ckrt_machine.specs.Events.{refusal_of, step};
+ghost use Rattle.ckrt_machine.specs.Events.{AllAccepted, refusal_of, step};
 ghost use Rattle.ckrt_inspect.specs.declared.fault.InspectFault.TheVariants.{OutOfMemory, Write as Writing};
 ghost use Rattle.ckrt_trace.specs.Events.{event_lines};
 ghost use Rattle.ckrt_trace.specs.Recorded.{AreLines, lines_from};
@@ -55,6 +55,7 @@ fn write_events<W: Write>(
     ensures lines { OnOk result
         (Appends (W.contents out.old) (W.contents out.new)
         (lines_from count events.now machine.old.state)) }
+    ensures accepted { OnOk result (AllAccepted events.now machine.old.state) }
     ensures fault { IfErr result (IsEventsFault events.now machine.old.state) }
 {
     let mut text = Vec::new(alloc);

@@ -1,14 +1,20 @@
 //! Stretches of what a disk has recorded.
 ghost use Rattle.std.specs.Prelude.{◌≡◌, ◌<◌, ◌+◌, ◌^◌, None, IfErr, IfOk, IfSome, OnOk, length};
+ghost use Rattle.std.specs.Bool.{OnFalse, OnTrue};
 ghost use Rattle.ckrt_disk.specs.Frame.{IsOnlyRead};
 ghost use Rattle.ckrt_inspect.specs.Inspect.{is_device};
-ghost use Rattle.ckrt_trace.specs.Stretches.{IsEventsFault, IsReachFault, IsReached, IsWithin, TellsStretch, Writes, from_of, to_of};
+ghost use Rattle.ckrt_machine.specs.Events.{AllAccepted};
+ghost use Rattle.ckrt_recording.specs.Recording.{recorded_of};
+ghost use Rattle.ckrt_stored.specs.Reads as reads;
+ghost use Rattle.ckrt_stored.specs.Reads.{IsReadAs};
+ghost use Rattle.ckrt_trace.specs.Stretches.{IsEventsFault, IsReachFault, IsReached, IsWithin, RecordsTo, TellsStretch, Writes, from_of, to_of};
 
 use ckrt_disk::Disk;
 use ckrt_events::Event;
 use ckrt_inspect::InspectFault;
 use ckrt_machine::Machine;
-use ckrt_recording::{make_events, read_recording};
+use ckrt_recording::{Recording, make_events, read_recording, read_unreplayed};
+use ckrt_stored::RecoverFault;
 use std::alloc::Global;
 use std::io::Write;
 
@@ -28,7 +34,8 @@ pub trait Telling {
     /// Which text tells of events that are behind so many others.
     ghost Tells: { Self → Account };
 
-    /// Makes events, each of which is to be accepted at its turn, and tells them. The first is behind `count` others.
+    /// Makes events, each of which is to be accepted at its turn, and tells them. The first is behind `count` others. A text that is
+    /// whole before the last of them is made is told of a damaged disk too, so it's written behind them where it can be.
     ///
     /// # Errors
     ///
@@ -45,6 +52,7 @@ pub trait Telling {
         ensures told { OnOk result
             (Writes (Tells self.now count events.now machine.old.state) (W.contents out.old)
             (W.contents out.new)) }
+        ensures accepted { OnOk result (AllAccepted events.now machine.old.state) }
         ensures fault { IfErr result (IsEventsFault events.now machine.old.state) };
 }
 
@@ -64,13 +72,24 @@ fn bounds(stretch: Stretch, first: u64, last: u64) -> Option<(u64, u64)>
     }
 }
 
+/// Whether each event is accepted at its turn. Those of a stretch with an end of its own were made when they were read.
+fn are_accepted(machine: &mut Machine, events: &[Event], to: Option<u64>) -> bool
+    ensures accepted { OnTrue result (to ≡ None → AllAccepted events.now machine.old.state) }
+    ensures refused { OnFalse result (AllAccepted events.now machine.old.state → ⊥) }
+{
+    match to {
+        Some(_) => true,
+        None => make_events(machine, events),
+    }
+}
+
 /// Makes the events of a recording, which are behind `first` others, up to a stretch of it. The answer is behind how many events the
 /// stretch begins, and its events.
 ///
 /// # Errors
 ///
-/// `Range` where the recording hasn't all of the stretch, or that ends before it begins, and nothing is made then; `Damaged` where an
-/// event before the stretch isn't accepted at its turn.
+/// `Range` where the recording hasn't all of the stretch, or that ends before it begins; `Damaged` where an event before the stretch, or
+/// any one of a recording that hasn't all of it, isn't accepted at its turn.
 fn go_to_stretch<'a>(
     machine: &mut Machine,
     first: u64,
@@ -91,7 +110,10 @@ fn go_to_stretch<'a>(
     })) }
 {
     let Some((from, to)) = bounds(stretch, first, first + events.len() as u64) else {
-        return Err(InspectFault::Range);
+        if are_accepted(machine, events, stretch.to) {
+            return Err(InspectFault::Range);
+        }
+        return Err(InspectFault::Damaged);
     };
     let (before, rest) = events.split_at((from - first) as usize);
     let (told, _behind) = rest.split_at((to - from) as usize);
@@ -114,12 +136,29 @@ fn tell_flushed<T: Telling, W: Write>(
     ensures told { OnOk result
         (Writes (T.Tells telling.now count events.now machine.old.state) (W.contents out.old)
         (W.contents out.new)) }
+    ensures accepted { OnOk result (AllAccepted events.now machine.old.state) }
     ensures fault { IfErr result (IsEventsFault events.now machine.old.state) }
 {
     telling.tell(alloc, machine, count, events, out)?;
     match out.flush() {
         Ok(()) => Ok(()),
         Err(_) => Err(InspectFault::Write),
+    }
+}
+
+/// Reads what a disk has recorded, for a stretch that ends there. Where that is given, events may lie behind it, and they're made before
+/// anything is told; else those who tell of it make them to the last, and none is made twice.
+fn read_to<D: Disk>(
+    alloc: Global,
+    disk: &mut D,
+    to: Option<u64>,
+) -> Result<Recording, RecoverFault>
+    ensures read { IsOnlyRead D.Disk disk.old disk.new (reads.is_device result) }
+    ensures exact { IsReadAs D.Disk disk.old disk.new recorded_of result (RecordsTo to) }
+{
+    match to {
+        Some(_) => read_recording(alloc, disk),
+        None => read_unreplayed(alloc, disk),
     }
 }
 
@@ -142,7 +181,7 @@ pub fn tell_stretch<D: Disk, T: Telling, W: Write>(
         → TellsStretch (T.Tells telling.now) stretch (D.content disk.old)
         (W.contents out.old) (W.contents out.new) result }
 {
-    let recording = read_recording(alloc, disk)?;
+    let recording = read_to(alloc, disk, stretch.to)?;
     let mut machine = recording.machine;
     let events = recording.events;
     let (from, told) = go_to_stretch(&mut machine, recording.first, events.as_slice(), stretch)?;

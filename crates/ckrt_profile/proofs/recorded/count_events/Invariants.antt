@@ -1,5 +1,5 @@
 use Rattle.std.proofs.Common.{◌≡◌, drop}
-use Rattle.ckrt_recording.proofs.WayLemmas.{IsOnWay}
+use Rattle.ckrt_recording.proofs.WayLemmas.{HasComeTo}
 use Rattle.ckrt_counts.specs.Counts.{behind_all}
 use Rattle.ckrt_profile.specs.Steps.{of_events}
 use Rattle.ckrt_profile.proofs.recorded.count_events.Given as goal
@@ -7,6 +7,6 @@ use Rattle.ckrt_profile.proofs.recorded.count_events.Given as goal
 -- with the events ahead, all are made
 abbrev pub invariant-loop-event : goal.invariant-loop-event
 invariant-loop-event l = record {
-  way : IsOnWay (drop l.event-index l.events) l.events l.fn.machine.state l.machine.state;
+  come : HasComeTo (drop l.event-index l.events) l.events l.fn.machine.state l.machine.state;
   counted : behind_all (of_events (drop l.event-index l.events) l.machine.state) l.counts ≡ behind_all (of_events l.events l.fn.machine.state) l.fn.counts;
 }

@@ -1,5 +1,5 @@
 use Rattle.std.proofs.Common.{◌≡◌, ◌+◌, drop}
-use Rattle.ckrt_recording.proofs.WayLemmas.{IsOnWay}
+use Rattle.ckrt_recording.proofs.WayLemmas.{HasComeTo}
 use Rattle.ckrt_order.specs.Detection.{behind_all}
 use Rattle.ckrt_races.specs.Steps.{of_events}
 use Rattle.ckrt_races.proofs.recorded.watch_events.Given as goal
@@ -8,6 +8,6 @@ use Rattle.ckrt_races.proofs.recorded.watch_events.Given as goal
 abbrev pub invariant-loop-event : goal.invariant-loop-event
 invariant-loop-event l = record {
   done : l.done ≡ l.count + l.event-index;
-  way : IsOnWay (drop l.event-index l.events) l.events l.fn.machine.state l.machine.state;
+  come : HasComeTo (drop l.event-index l.events) l.events l.fn.machine.state l.machine.state;
   watched : behind_all (of_events l.done (drop l.event-index l.events) l.machine.state) l.detector ≡ behind_all (of_events l.count l.events l.fn.machine.state) l.fn.detector;
 }

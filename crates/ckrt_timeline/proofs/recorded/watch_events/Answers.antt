@@ -1,6 +1,8 @@
-use Rattle.std.proofs.Common.{◌≡◌, ◌∙◌, ◌<◌, ◌+◌, ◌∷◌, drop, length, slice_get, Some, refl, subst, arith}
+use Rattle.std.proofs.Common.{◌≡◌, ◌∙◌, ◌<◌, ◌+◌, ◌∷◌, drop, length, slice_get, Some, None, refl, subst, arith, rules}
 use Rattle.std.proofs.lemmas.Option.{slice_get_read}
-use Rattle.ckrt_recording.proofs.WayLemmas.{IsOnWay, next_ahead, way_next}
+use Rattle.ckrt_events.specs.Bytes.{IsInRange}
+use Rattle.ckrt_machine.specs.Refusals.{refusal_of}
+use Rattle.ckrt_recording.proofs.WayLemmas.{HasComeTo, come_next, next_ahead}
 use Rattle.ckrt_timeline.proofs.EventLemmas.{begins_next, tracks_next}
 use Rattle.ckrt_timeline.proofs.recorded.watch_events.Goals as goal
 
@@ -14,8 +16,10 @@ loop-event-preserved c =
     let less : i < length es = c.loop-event-test.true in
     let is : slice_get es i ≡ Some e = slice_get_read es (length es) i e refl less c.event-item.is in
     let ahead : drop i es ≡ e ∷ drop (i + 1) es = next_ahead i es e is in
+    let in_range : IsInRange e = search rules in
+    let accepted : refusal_of 0 e m.state ≡ None = search rules in
     record {
-      way = way_next e (drop (i + 1) es) es s m.state new.state noted.state (subst (λ l. IsOnWay l es s m.state) ahead so_far.way);
+      come = come_next e (drop (i + 1) es) es s m.state new.state (record { in_range = in_range; accepted = accepted }) noted.state (subst (λ l. HasComeTo l es s m.state) ahead so_far.come);
       whole = noted.goes_on.whole;
       steps = omega (arith, noted.steps, so_far.steps);
       tracks = λ j small. tracks_next e (drop (i + 1) es) (drop i es) m.state new.state old behind ahead noted.state so_far.whole noted.goes_on j small ∙ so_far.tracks j small;

@@ -1,12 +1,12 @@
 use Rattle.std.proofs.Common.{◌≡◌, ◌≤◌, ◌<◌, ◌+◌, ◌*◌, ◌++◌, ℕ, drop}
-use Rattle.ckrt_recording.proofs.WayLemmas.{IsOnWay}
+use Rattle.ckrt_recording.proofs.WayLemmas.{HasComeTo}
 use Rattle.ckrt_timeline.specs.Tracks.{IsWhole, begins_of, in_events, track_in}
 use Rattle.ckrt_timeline.proofs.recorded.watch_events.Given as goal
 
 -- with the events ahead, all are made
 abbrev pub invariant-loop-event : goal.invariant-loop-event
 invariant-loop-event l = let ahead = drop l.event-index l.events in let s = l.machine.state in record {
-  way : IsOnWay ahead l.events l.fn.machine.state s;
+  come : HasComeTo ahead l.events l.fn.machine.state s;
   whole : IsWhole l.timeline;
   steps : l.timeline.steps ≤ 4294967295 * l.event-index;
   tracks : (i : ℕ) → i < 64 → track_in l.timeline i ++ in_events (i + 1) ahead s ≡ track_in l.fn.timeline i ++ in_events (i + 1) l.events l.fn.machine.state;
