@@ -1,5 +1,5 @@
 //! Operation by operation.
-ghost use Rattle.std.specs.Prelude.{◌≡◌, replicate, IfOk};
+ghost use Rattle.std.specs.Prelude.{◌≡◌, length, replicate, IfOk};
 ghost use Rattle.ckrt_order.specs.Detection.{compared, compared_all, found_in, no_accesses, no_clock};
 
 use crate::clock::{Clock, knows, no_clock, pass};
@@ -56,6 +56,20 @@ fn fresh_shadow(alloc: Global, words: usize) -> Result<Vec<Cell>, AllocError>
     Ok(shadow)
 }
 
+/// Holders have seen nothing any more.
+fn clear_clocks(clocks: &mut Vec<Clock>)
+    ensures { clocks.new.items ≡ replicate (length clocks.old.items) no_clock }
+{
+    clocks.as_mut_slice().fill(no_clock());
+}
+
+/// Nothing accessed words any more.
+fn clear_shadow(shadow: &mut Vec<Cell>)
+    ensures { shadow.new.items ≡ replicate (length shadow.old.items) no_accesses }
+{
+    shadow.as_mut_slice().fill(no_accesses());
+}
+
 /// An access is compared with one that was kept.
 fn compare(clocks: &[Clock], access: &Access, kept: &Option<Access>, found: &mut Findings)
     ensures { found_in found.new ≡ compared clocks.now access.now kept.now (found_in found.old) }
@@ -91,6 +105,15 @@ impl Detector {
             shadow: fresh_shadow(alloc, words)?,
             found: Findings::new(alloc)?,
         })
+    }
+
+    /// Nothing was done any more, as when it was new. It takes no memory.
+    pub fn clear(&mut self)
+        ensures { self.new ≡ fresh (length self.old.clocks) (length self.old.shadow) }
+    {
+        clear_clocks(&mut self.clocks);
+        clear_shadow(&mut self.shadow);
+        self.found.clear();
     }
 
     /// A thread loads or stores.

@@ -27,6 +27,14 @@ impl Findings {
         })
     }
 
+    /// Nothing any more.
+    pub(crate) fn clear(&mut self)
+        ensures { found_in self.new ≡ no_findings }
+    {
+        self.pairs.clear();
+        self.others = 0;
+    }
+
     /// Two accesses race.
     pub(crate) fn note(&mut self, first: &Access, second: &Access)
         ensures { found_in self.new ≡ noted first.now second.now (found_in self.old) }

@@ -148,11 +148,7 @@ fn tell_flushed<T: Telling, W: Write>(
 
 /// Reads what a disk has recorded, for a stretch that ends there. Where that is given, events may lie behind it, and they're made before
 /// anything is told; else those who tell of it make them to the last, and none is made twice.
-fn read_to<D: Disk>(
-    alloc: Global,
-    disk: &mut D,
-    to: Option<u64>,
-) -> Result<Recording, RecoverFault>
+fn read_to<D: Disk>(alloc: Global, disk: &mut D, to: Option<u64>) -> Result<Recording, RecoverFault>
     ensures read { IsOnlyRead D.Disk disk.old disk.new (reads.is_device result) }
     ensures exact { IsReadAs D.Disk disk.old disk.new recorded_of result (RecordsTo to) }
 {

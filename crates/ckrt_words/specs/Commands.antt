@@ -2,7 +2,7 @@
 -- `inspect DISK [--at K] [--code]`, `core DISK FILE [--at K]`, `calls DISK [--from K] [--to K]`, `debug DISK [--at K]`,
 -- `races DISK [--from K] [--to K]`, `timeline DISK [--from K] [--to K] [--width W] [--json]`,
 -- `profile DISK [--from K] [--to K] [--folded | --callgrind]`,
--- `hunt IMAGE [--seeds A-B | --seconds S] [--pages P] [--harts H] [--input FILE] [--steps N] [--keep DISK | FOLDER/] [--progress SECONDS]` and
+-- `hunt IMAGE [--seeds A-B | --seconds S] [--pages P] [--harts H] [--input FILE] [--steps N] [--races] [--keep DISK | FOLDER/] [--progress SECONDS]` and
 -- `drive DISK [--image IMAGE] [--pages P] [--harts H] [--journal J] [--input FILE] [--input-from OFFSET] [--output FILE] [--turn N] [--rounds-per-commit R] [--events N] [--seed S]
 -- [--progress SECONDS] [--status FILE] [--from OFFSET]`.
 use Rattle.std.specs.Prelude.{pos, codes, fold, Some, true, List, [], ◌∷◌}
@@ -107,7 +107,7 @@ profile_app =
 
 abbrev pub hunt_app : App
 hunt_app =
-    with_rule (with_rule (with_rule (with_rule (with_rule (with_rule (with_rule (with_rule (with_rule (new_app (codes "hunt"))
+    with_rule (with_rule (with_rule (with_rule (with_rule (with_rule (with_rule (with_rule (with_rule (with_rule (new_app (codes "hunt"))
     (needed_rule (codes "image")))
     (option_rule (codes "seeds")))
     (place_rule (codes "seconds")))
@@ -115,6 +115,7 @@ hunt_app =
     (number_rule (codes "harts") (codes "1")))
     (option_rule (codes "input")))
     (number_rule (codes "steps") (codes "10000000")))
+    (flag_rule (codes "races")))
     (option_rule (codes "keep")))
     (place_rule (codes "progress"))
 

@@ -65,7 +65,7 @@ pub record Profiling : Type 0 where
   pub form : ProfileForm
 
 -- what `hunt` runs: the image, the text of its range of seeds, or after how many seconds it takes no further seed, the sizes, the file of each
--- run's input, how many steps a run has at most, the new disk or the folder that runs are kept on, and at most each how many seconds it tells how far it is
+-- run's input, how many steps a run has at most, whether each is looked at for races, the new disk or the folder that runs are kept on, and at most each how many seconds it tells how far it is
 pub record Hunting : Type 0 where
   pub image : Text
   pub seeds : Option Text
@@ -74,6 +74,7 @@ pub record Hunting : Type 0 where
   pub harts : ℕ
   pub input : Option Text
   pub steps : ℕ
+  pub races : Bool
   pub keep : Option Text
   pub progress : Option ℕ
 
@@ -148,6 +149,7 @@ hunting_of h = record {
   harts = h.harts;
   input = option_map (λ path. path.now) h.input;
   steps = h.steps;
+  races = h.races;
   keep = option_map (λ path. path.now) h.keep;
   progress = h.progress;
 }
@@ -277,6 +279,7 @@ hunting_in rows = do
     harts = harts;
     input = first_of (codes "input") rows;
     steps = steps;
+    races = flag_in (codes "races") rows;
     keep = first_of (codes "keep") rows;
     progress = place_in (codes "progress") rows;
   })

@@ -365,7 +365,7 @@ fn profile_arguments<'a>(alloc: Global) -> Result<Vec<Arg<'a>>, AllocError>
     Ok(arguments)
 }
 
-/// `hunt IMAGE` with its options: which seeds, on what machine, with what input, how long a run is, where runs are kept, and how often it tells how far it is.
+/// `hunt IMAGE` with its options: which seeds, on what machine, with what input, how long a run is, whether it is looked at for races, where runs are kept, and how often it tells how far it is.
 fn hunt_command<'a>(alloc: Global) -> Result<Command<'a>, AllocError>
     ensures app { IfOk result (λ c. app_of c ≡ hunt_app) }
     ensures local { IfOk result (λ c. (out-Command c).has_globals ≡ false) }
@@ -421,6 +421,11 @@ fn hunt_arguments<'a>(alloc: Global) -> Result<Vec<Arg<'a>>, AllocError>
             "steps",
             "10000000",
             "Steps of a run, and its events, at most"
+        ),
+        flag(
+            alloc,
+            "races",
+            "Tell which accesses of two threads raced in some run, and in how many"
         ),
         option(
             alloc,

@@ -137,6 +137,8 @@ pub struct HuntJob<'a> {
     pub input: Option<&'a str>,
     /// Steps of a run, at most.
     pub steps: u32,
+    /// Whether each run is looked at for races too.
+    pub races: bool,
     /// The path of the disk that is made for the run of the first seed, or, with a `/` at its end, of the folder in which each outcome
     /// gets a disk; this isn't given where none is kept.
     pub keep: Option<&'a str>,

@@ -127,6 +127,7 @@ fn hunting<'a>(matches: &ArgMatches<'a>) -> Option<HuntJob<'a>>
         harts: number(matches, "harts")?,
         input,
         steps: number(matches, "steps")?,
+        races: flag(matches, "races"),
         keep,
         progress,
     })
