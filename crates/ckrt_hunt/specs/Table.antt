@@ -3,7 +3,7 @@
 --
 --     outcome 2: 3 of 200 runs, first by seed 17: deadlock, thread 2 waits for mutex 00002c58 (thread 3 has it)
 --         ckrt hunt race.bin --seeds 17-17 --pages 64 --harts 2 --steps 10000000 --keep seed-17.disk
-use Rattle.std.specs.Prelude.{ℕ, zero, suc, ◌+◌, ◌-◌, ◌==◌, if◌then◌else◌, List, [], ◌∷◌, ◌++◌, length, take, slice_get, codes, decimal, Option, Some, None, option_map}
+use Rattle.std.specs.Prelude.{ℕ, zero, suc, ◌+◌, ◌-◌, ◌==◌, Bool, if◌then◌else◌, List, [], ◌∷◌, ◌++◌, length, take, slice_get, codes, decimal, Option, Some, None, option_map}
 use Rattle.std.specs.List.{flat_map}
 use Rattle.hex.specs.Hex.{encode_lower}
 use Rattle.ckrt_rv32i.specs.Names.{cause_name}
@@ -87,9 +87,14 @@ input_path_text (Some path) = codes " --input " ++ path
 abbrev pub input_text : Asked → List ℕ
 input_text a = input_path_text (option_map (λ path. path.now) a.input)
 
+-- that runs are looked at for races, where they are
+abbrev pub races_word : Bool → List ℕ
+races_word races = if races then codes " --races" else []
+
 abbrev pub command_line : Asked → (seed : ℕ) → List ℕ
 command_line a seed =
     codes "    ckrt hunt " ++ a.image.now ++ seed_text seed ++ shape_text a.shape ++ input_text a
+    ++ races_word a.races
     ++ (codes " --keep seed-" ++ decimal seed)
     ++ codes ".disk\n"
 

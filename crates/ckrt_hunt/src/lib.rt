@@ -39,8 +39,12 @@ pub use row::Row;
 pub use runs::{Finished, Told, run};
 pub use seeds::Seeds;
 pub use shape::Shape;
-pub use shorten::{Found, MOST_TRIES, Tries, room_for};
-pub use table::{Asked, write_kept, write_table, write_unkept};
+pub use shorten::{Found, MOST_TRIES, Tries, as_drawn, room_for};
+pub use table::{
+    Asked, write_command_line, write_kept, write_runs, write_table, write_unkept,
+};
 pub use tally::{TALLY_ROWS, Tally};
 pub use telling::{HuntDone, HuntFault, hunt_and_tell};
+pub use texts::write_counted;
+pub use turn::{next, runner_of};
 pub use turns::{MOST_TURNS, Turns};

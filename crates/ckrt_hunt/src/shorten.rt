@@ -2,7 +2,7 @@
 ghost use Rattle.std.specs.Prelude.{◌≡◌, ◌≤◌, ◌<◌, ◌*◌, ◌-◌, ◌↔◌, length, IfOk, IfSome, IsErrOf, true};
 ghost use Rattle.ckrt_memory.specs.declared.MemoryError.TheVariants.{ImageTooLong};
 ghost use Rattle.ckrt_hunt.specs.Short.{IsFound};
-ghost use Rattle.ckrt_hunt.specs.Tallies.{hunted_of};
+ghost use Rattle.ckrt_hunt.specs.Tallies.{hunted_of, plan_in};
 
 use crate::hunt::Hunt;
 use crate::made::Made;
@@ -183,6 +183,21 @@ impl Tries {
                 switches: first.made.switches,
             }
         }
+    }
+}
+
+/// The plan of a seed, as it was drawn. It takes no memory, and the hunt is as it was.
+pub fn as_drawn<'i>(hunt: &mut Hunt<'i>, seed: u64) -> Found<'i>
+    ensures found { IsFound hunt.old seed result }
+    ensures drawn { result.plan ≡ plan_in hunt.old seed }
+    ensures same { hunt.new ≡ hunt.old }
+{
+    let plan = hunt.plan_of(seed);
+    let switches = hunt.run_by(&plan).made.switches;
+    Found {
+        plan,
+        drawn: switches,
+        switches,
     }
 }
 

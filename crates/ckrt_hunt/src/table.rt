@@ -1,7 +1,7 @@
 //! What a hunt came to, as a table.
 ghost use Rattle.std.specs.Prelude.{◌≡◌, ◌+◌, ◌≤◌, ◌++◌, ◌∷◌, [], codes, decimal, length, OnOk};
 ghost use Rattle.std.specs.Io.KnownBytes.{Appends};
-ghost use Rattle.ckrt_hunt.specs.Table.{command_line, drawn_text, head_text, input_text, kept_text, outcome_line, others_line, placed_text, row_text, rows_text, runs_text, seed_text, shape_text, table_text, unkept_text};
+ghost use Rattle.ckrt_hunt.specs.Table.{command_line, drawn_text, head_text, input_text, kept_text, outcome_line, others_line, placed_text, races_word, row_text, rows_text, runs_text, seed_text, shape_text, table_text, unkept_text};
 
 use crate::row::Row;
 use crate::seeds::Seeds;
@@ -22,11 +22,13 @@ pub struct Asked<'a> {
     pub may_end: bool,
     /// The path of the input, as it was given, where there is one.
     pub input: Option<&'a str>,
+    /// Whether each run is looked at for races too.
+    pub races: bool,
 }
 
-/// Of how many runs.
+/// Writes of how many runs. It takes no memory.
 #[tactic(auto, using(crate::proofs::AppendLemmas::appends_both))]
-fn write_runs<W: Write>(out: &mut W, asked: &Asked<'_>) -> Result<()>
+pub fn write_runs<W: Write>(out: &mut W, asked: &Asked<'_>) -> Result<()>
     ensures { OnOk result
         (Appends (W.contents out.old) (W.contents out.new) (runs_text asked.now)) }
 {
@@ -106,8 +108,21 @@ fn write_input<W: Write>(out: &mut W, asked: &Asked<'_>) -> Result<()>
     }
 }
 
-/// The command that runs a seed alone, and keeps it.
-fn write_command_line<W: Write>(out: &mut W, asked: &Asked<'_>, seed: u64) -> Result<()>
+/// That runs are looked at for races, where they are.
+#[tactic(auto, using(crate::proofs::AppendLemmas::appends_none))]
+fn write_races_word<W: Write>(out: &mut W, races: bool) -> Result<()>
+    ensures { OnOk result
+        (Appends (W.contents out.old) (W.contents out.new) (races_word races)) }
+{
+    if races {
+        out.write_all(b" --races")
+    } else {
+        Ok(())
+    }
+}
+
+/// Writes the command that runs a seed alone, and keeps it. It takes no memory.
+pub fn write_command_line<W: Write>(out: &mut W, asked: &Asked<'_>, seed: u64) -> Result<()>
     ensures { OnOk result
         (Appends (W.contents out.old) (W.contents out.new) (command_line asked.now seed)) }
 {
@@ -116,6 +131,7 @@ fn write_command_line<W: Write>(out: &mut W, asked: &Asked<'_>, seed: u64) -> Re
     write_seed(out, seed)?;
     write_shape(out, &asked.shape)?;
     write_input(out, asked)?;
+    write_races_word(out, asked.races)?;
     write_counted(out, b" --keep seed-", seed)?;
     out.write_all(b".disk\n")
 }

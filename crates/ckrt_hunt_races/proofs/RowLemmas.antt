@@ -1,12 +1,15 @@
 -- Rows of races, one by one.
-use Rattle.std.proofs.Common.{◌≡◌, ◌≤◌, ◌<◌, ℕ, zero, suc, ◌+◌, ◌||◌, Bool, true, false, if◌then◌else◌, List, [], ◌∷◌, ◌++◌, length, take, get_or, slice_get, slice_set, Some, refl, sym, ap, ◌∙◌, subst, add-one, drop}
+use Rattle.std.proofs.Common.{◌≡◌, ◌≤◌, ◌<◌, ℕ, zero, suc, ◌+◌, ◌||◌, Bool, true, false, if◌then◌else◌, List, [], ◌∷◌, ◌++◌, length, take, get_or, slice_get, slice_set, nat_lt, Some, refl, sym, ap, ◌∙◌, subst, add-one, arith}
+use Rattle.std.proofs.lemmas.Bool.Decides.{nat_tests}
 use Rattle.std.proofs.lemmas.List.{take_all}
+use Rattle.std.proofs.lemmas.List.Folds.{list_any_more}
 use Rattle.std.proofs.lemmas.Option.{slice_get-get_or}
 use Rattle.std.specs.List.{list_any}
 use Rattle.ckrt_order.specs.declared.pair.Pair.{Pair}
 use Rattle.ckrt_order.specs.Detection.{one_more}
 use Rattle.ckrt_hunt_races.specs.declared.row.RaceRow.{RaceRow}
-use Rattle.ckrt_hunt_races.specs.Races.{counted, has_places}
+use Rattle.ckrt_hunt_races.specs.Races.{counted, first_row, has_places, with_pair, with_row}
+use Rattle.ckrt_hunt_races.specs.declared.row.TheConstants.{RACE_ROWS}
 
 -- THE ROW THAT COUNTS ONE RUN MORE
 
@@ -88,3 +91,30 @@ counts_on a xs ps i n p q r same is_p is_q is_r lt none is is_n =
     ∙ ap (λ m. slice_set ps i (record r { count = m })) (is_n ∙ ap (λ (z : RaceRow). one_more z.count) q_p)
     ∙ ap (λ (z : RaceRow). slice_set ps i (record z { count = one_more p.count })) r_p
     ∙ counted_at a ps i p none there is
+
+-- A PAIR OF A RUN
+
+-- that gets a row
+pub pair_first : (seed : ℕ) (p : Pair) (rs now new : List RaceRow) → list_any (has_places p) rs ≡ false → now ≡ counted p rs → length now < RACE_ROWS → new ≡ now ++ first_row seed p ∷ [] → new ≡ with_pair seed p rs
+pair_first seed p rs now new none same less is =
+    let as_it_was : now ≡ rs = same ∙ counted_none p rs none in
+    let is_less : nat_lt (length rs) RACE_ROWS ≡ true = grind (arith, nat_tests, ap length as_it_was, less) in
+    is ∙ ap (λ l. l ++ first_row seed p ∷ []) as_it_was
+    ∙ sym (chosen (nat_lt (length rs) RACE_ROWS) (rs ++ first_row seed p ∷ []) rs is_less)
+    ∙ sym (passed_over (list_any (has_places p) rs) (counted p rs) (with_row seed p rs) none)
+
+-- and for which none is left
+pub pair_full : (seed : ℕ) (p : Pair) (rs now : List RaceRow) → list_any (has_places p) rs ≡ false → now ≡ counted p rs → RACE_ROWS ≤ length now → now ≡ with_pair seed p rs
+pair_full seed p rs now none same all =
+    let as_it_was : now ≡ rs = same ∙ counted_none p rs none in
+    let is_full : nat_lt (length rs) RACE_ROWS ≡ false = grind (arith, nat_tests, ap length as_it_was, all) in
+    as_it_was
+    ∙ sym (passed_over (nat_lt (length rs) RACE_ROWS) (rs ++ first_row seed p ∷ []) rs is_full)
+    ∙ sym (passed_over (list_any (has_places p) rs) (counted p rs) (with_row seed p rs) none)
+
+-- one element more, of which none has the property
+pub any_more : {X : Type 0} (t : X → Bool) (xs : List X) (i : ℕ) (d : X) → i < length xs → list_any t (take i xs) ≡ false → t (get_or xs i d) ≡ false → list_any t (take (i + 1) xs) ≡ false
+any_more t xs i d lt none is = list_any_more t xs i d lt ∙ either (list_any t (take i xs)) (t (get_or xs i d)) none ∙ is
+
+pub none_of : {X : Type 0} (t : X → Bool) (xs : List X) (i : ℕ) → length xs ≤ i → list_any t (take i xs) ≡ false → list_any t xs ≡ false
+none_of t xs i le none = ap (list_any t) (sym (take_all i xs le)) ∙ none

@@ -6,7 +6,7 @@ use Rattle.ckrt_order.specs.Detection.{Found, is_at, one_more}
 use Rattle.ckrt_order.specs.declared.pair.Pair.{Pair}
 use Rattle.ckrt_hunt_races.specs.declared.row.RaceRow.{RaceRow}
 use Rattle.ckrt_hunt_races.specs.declared.tally.RaceTally.{RaceTally}
-use Rattle.ckrt_hunt_races.specs.declared.tally.TheConstants.{RACE_ROWS}
+use Rattle.ckrt_hunt_races.specs.declared.row.TheConstants.{RACE_ROWS}
 
 -- the pairs that have a row, and how many runs had a race that no row tells
 pub record Raced : Type 0 where

@@ -8,5 +8,5 @@
 mod row;
 mod tally;
 
-pub use row::RaceRow;
-pub use tally::{RACE_ROWS, RaceTally};
+pub use row::{RACE_ROWS, RaceRow};
+pub use tally::RaceTally;

@@ -1,9 +1,13 @@
 //! The rows of a tally of races.
-ghost use Rattle.std.specs.Prelude.{◌≡◌, vec_capacity};
+ghost use Rattle.std.specs.Prelude.{◌≡◌, ◌≤◌, vec_capacity};
 ghost use Rattle.std.specs.List.{list_any};
-ghost use Rattle.ckrt_hunt_races.specs.Races.{counted, has_places, lacks_row};
+ghost use Rattle.ckrt_hunt_races.specs.Races.{counted, has_others, has_places, lacks_row, with_pair, with_pairs};
+ghost use Rattle.ckrt_hunt_races.specs.declared.row.TheConstants.{RACE_ROWS};
 
-use ckrt_order::Pair;
+use ckrt_order::{Detector, Pair};
+
+/// How many pairs of places a tally tells apart.
+pub const RACE_ROWS: usize = 64;
 
 /// A pair of places that raced: in how many runs, and by which seed first.
 #[derive(Clone, Copy, Debug, Drop)]
@@ -24,7 +28,7 @@ fn has_places(pair: &Pair, row: &RaceRow) -> bool
 }
 
 /// The row of the places counts one more run, if there is one.
-pub(crate) fn count_again(rows: &mut Vec<RaceRow>, pair: &Pair) -> bool
+fn count_again(rows: &mut Vec<RaceRow>, pair: &Pair) -> bool
     ensures again { result ≡ list_any (has_places pair.now) rows.old.items }
     ensures rows { rows.new.items ≡ counted pair.now rows.old.items }
     ensures room { vec_capacity rows.new ≡ vec_capacity rows.old }
@@ -38,9 +42,62 @@ pub(crate) fn count_again(rows: &mut Vec<RaceRow>, pair: &Pair) -> bool
     false
 }
 
-/// Whether no row has the places of a pair.
-pub(crate) fn lacks_row(rows: &[RaceRow], pair: &Pair) -> bool
-    ensures { result ≡ lacks_row rows.now pair.now }
+/// Whether some row has the places of a pair.
+fn has_row(rows: &[RaceRow], pair: &Pair) -> bool
+    ensures { result ≡ list_any (has_places pair.now) rows.now }
 {
-    !rows.iter().any(|row| has_places(pair, row))
+    for row in rows {
+        if has_places(pair, row) {
+            return true;
+        }
+    }
+    false
+}
+
+/// A pair raced in the run of a seed.
+fn note_pair(rows: &mut Vec<RaceRow>, seed: u64, pair: &Pair)
+    requires { RACE_ROWS ≤ vec_capacity rows.old }
+    ensures rows { rows.new.items ≡ with_pair seed pair.now rows.old.items }
+    ensures room { RACE_ROWS ≤ vec_capacity rows.new }
+{
+    if count_again(rows, pair) {
+        return;
+    }
+    if rows.len() < RACE_ROWS {
+        let _ = rows.push(RaceRow {
+            pair: *pair,
+            count: 1,
+            first: seed,
+        });
+    }
+}
+
+/// Pairs raced in the run of a seed.
+pub(crate) fn note_pairs(rows: &mut Vec<RaceRow>, seed: u64, pairs: &[Pair])
+    requires { RACE_ROWS ≤ vec_capacity rows.old }
+    ensures rows { rows.new.items ≡ with_pairs seed pairs.now rows.old.items }
+    ensures room { RACE_ROWS ≤ vec_capacity rows.new }
+{
+    for pair in pairs {
+        note_pair(rows, seed, pair);
+    }
+}
+
+/// Whether some pair has no row.
+fn lacks_some(rows: &[RaceRow], pairs: &[Pair]) -> bool
+    ensures { result ≡ list_any (lacks_row rows.now) pairs.now }
+{
+    for pair in pairs {
+        if !has_row(rows, pair) {
+            return true;
+        }
+    }
+    false
+}
+
+/// Whether a run had a race that no row tells.
+pub(crate) fn has_others(rows: &[RaceRow], detector: &Detector) -> bool
+    ensures { result ≡ has_others rows.now detector.now.found }
+{
+    0 < detector.others() || lacks_some(rows, detector.pairs())
 }

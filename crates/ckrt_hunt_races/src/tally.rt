@@ -1,15 +1,10 @@
 //! Races, counted.
 ghost use Rattle.std.specs.Prelude.{◌≡◌, ◌≤◌, nat_lt, length, vec_capacity, IfOk};
-ghost use Rattle.ckrt_order.specs.Detection.{Found};
-ghost use Rattle.ckrt_hunt_races.specs.Races.{has_others, no_races, raced_in, with_pair, with_pairs, with_run};
-ghost use Rattle.ckrt_hunt_races.specs.declared.tally.TheConstants.{RACE_ROWS};
+ghost use Rattle.ckrt_hunt_races.specs.declared.row.TheConstants.{RACE_ROWS};
 
-use crate::row::{RaceRow, count_again, lacks_row};
-use ckrt_order::{Detector, Pair};
+use crate::row::{RACE_ROWS, RaceRow, has_others, note_pairs};
+use ckrt_order::Detector;
 use std::alloc::{AllocError, Global};
-
-/// How many pairs of places a tally tells apart.
-pub const RACE_ROWS: usize = 64;
 
 /// Which pairs of places raced in the runs of seeds, each once, and how many runs had a race for whose places there was no row left.
 #[derive(Drop)]
@@ -19,43 +14,9 @@ pub struct RaceTally {
     ghost room: { RACE_ROWS ≤ vec_capacity rows },
 }
 
-/// A pair raced in the run of a seed.
-fn note_pair(rows: &mut Vec<RaceRow>, seed: u64, pair: &Pair)
-    requires { RACE_ROWS ≤ vec_capacity rows.old }
-    ensures rows { rows.new.items ≡ with_pair seed pair.now rows.old.items }
-    ensures room { RACE_ROWS ≤ vec_capacity rows.new }
-{
-    if count_again(rows, pair) {
-        return;
-    }
-    if rows.len() < RACE_ROWS {
-        let _ = rows.push(RaceRow {
-            pair: *pair,
-            count: 1,
-            first: seed,
-        });
-    }
-}
-
-/// Pairs raced in the run of a seed.
-fn note_pairs(rows: &mut Vec<RaceRow>, seed: u64, pairs: &[Pair])
-    requires { RACE_ROWS ≤ vec_capacity rows.old }
-    ensures rows { rows.new.items ≡ with_pairs seed pairs.now rows.old.items }
-    ensures room { RACE_ROWS ≤ vec_capacity rows.new }
-{
-    for pair in pairs {
-        note_pair(rows, seed, pair);
-    }
-}
-
-/// Whether a run had a race that no row tells.
-fn has_others(rows: &[RaceRow], detector: &Detector) -> bool
-    ensures { result ≡ has_others rows.now detector.now.found }
-{
-    0 < detector.others() || detector.pairs().iter().any(|pair| lacks_row(rows, pair))
-}
-
 impl RaceTally {
+    ghost use Rattle.ckrt_hunt_races.specs.Races.{no_races, raced_in, with_run};
+
     /// No race yet, and room for [`RACE_ROWS`] pairs of places.
     pub fn new(alloc: Global) -> Result<RaceTally, AllocError>
         ensures { IfOk result (λ races. raced_in races ≡ no_races) }

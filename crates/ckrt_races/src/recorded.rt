@@ -1,10 +1,11 @@
 //! The races of events.
-ghost use Rattle.std.specs.Prelude.{◌≡◌, ◌⊎◌, ◌<◌, ◌+◌, ◌^◌, IfErr, OnOk, length};
+ghost use Rattle.std.specs.Prelude.{◌≡◌, ◌⊎◌, ◌<◌, ◌+◌, ◌^◌, IfErr, IfOk, OnOk, length};
 ghost use Rattle.std.specs.Bool.{OnFalse, OnTrue};
 ghost use Rattle.std.specs.Io.KnownBytes.{Appends};
 ghost use Rattle.ckrt_machine.specs.Events.{AllAccepted};
 ghost use Rattle.ckrt_trace.specs.Stretches.{IsEventsFault};
-ghost use Rattle.ckrt_order.specs.Detection.{behind_all};
+ghost use Rattle.ckrt_order.specs.Detection.{behind_all, fresh};
+ghost use Rattle.ckrt_races.specs.Holders as holders;
 ghost use Rattle.ckrt_races.specs.Recorded.{races_text, words_of};
 ghost use Rattle.ckrt_races.specs.Steps.{of_events};
 ghost use Rattle.ckrt_races.specs.Texts.{found_text};
@@ -16,7 +17,7 @@ use ckrt_events::Event;
 use ckrt_inspect::InspectFault;
 use ckrt_machine::Machine;
 use ckrt_order::Detector;
-use std::alloc::Global;
+use std::alloc::{AllocError, Global};
 use std::io::Write;
 
 /// Makes events, if each is accepted at its turn, and gives a detector their operations. The first is behind `count` others.
@@ -48,6 +49,15 @@ fn words_of(machine: &Machine) -> usize
     ensures { result ≡ words_of machine.now.state }
 {
     1024 * machine.memory().pages() as usize
+}
+
+/// A detector for what a machine does from here on: what was done before is taken as ordered. It takes 14 MB, and 24 bytes for each of
+/// the guest's memory.
+pub fn detector_for(alloc: Global, machine: &Machine) -> Result<Detector, AllocError>
+    ensures { IfOk result (λ detector.
+        detector ≡ fresh holders.HOLDERS (words_of machine.now.state)) }
+{
+    Detector::new(alloc, HOLDERS, words_of(machine))
 }
 
 /// Writes what was found.
@@ -83,7 +93,7 @@ pub fn write_races<W: Write>(
     ensures accepted { OnOk result (AllAccepted events.now machine.old.state) }
     ensures fault { IfErr result (IsEventsFault events.now machine.old.state) }
 {
-    let Ok(mut detector) = Detector::new(alloc, HOLDERS, words_of(machine)) else {
+    let Ok(mut detector) = detector_for(alloc, machine) else {
         return Err(InspectFault::OutOfMemory);
     };
     if !watch_events(machine, count, events, &mut detector) {

@@ -65,9 +65,9 @@ fn write_times<W: Write>(out: &mut W, times: u64) -> Result<()>
     out.write_all(b" times")
 }
 
-/// Two accesses.
+/// Writes the two accesses of a pair. It takes no memory.
 #[tactic(auto, using(ckrt_trace::proofs::AppendLemmas::appends_both))]
-fn write_both<W: Write>(out: &mut W, pair: &Pair) -> Result<()>
+pub fn write_both<W: Write>(out: &mut W, pair: &Pair) -> Result<()>
     ensures { OnOk result
         (Appends (W.contents out.old) (W.contents out.new) (both_text pair.now)) }
 {

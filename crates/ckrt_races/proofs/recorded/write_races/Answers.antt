@@ -12,7 +12,7 @@ pub returns-clause-races : goal.returns-clause-races
 returns-clause-races g c =
     let s = c.args.machine.now.state in
     let os = of_events c.args.count c.args.events.now s in
-    let begun : c.in-Ok.detector ≡ fresh HOLDERS (words_of s) = c.in-Ok.ensures ∙ ap (λ n. fresh HOLDERS n) c.words_of.ensures in
+    let begun : c.in-Ok.detector ≡ fresh HOLDERS (words_of s) = c.in-Ok.ensures in
     let all : c.watch_events.new.detector ≡ behind_all os (fresh HOLDERS (words_of s)) = c.if-not-watch_events.ensures.watched ∙ ap (λ (w : Watched). behind_all os w) begun in
     let a = g.W.Write.contents c.args.out.now in let z = g.W.Write.contents c.write_detected.new.out in
     on_ok_weaker c.write_detected.result (λ written. subst (λ (w : Watched). Appends a z (found_text w.found)) all written) c.write_detected.ensures.found

@@ -1,7 +1,8 @@
-use Rattle.std.proofs.Common.{◌≡◌, ◌≤◌, drop, vec_capacity}
+use Rattle.std.proofs.Common.{◌≡◌, ◌≤◌, drop}
+use Rattle.std.specs.Prelude.{vec_capacity}
 use Rattle.ckrt_hunt_races.specs.Races.{with_pairs}
-use Rattle.ckrt_hunt_races.specs.declared.tally.TheConstants.{RACE_ROWS}
-use Rattle.ckrt_hunt_races.proofs.tally.note_pairs.Given as goal
+use Rattle.ckrt_hunt_races.specs.declared.row.TheConstants.{RACE_ROWS}
+use Rattle.ckrt_hunt_races.proofs.row.note_pairs.Given as goal
 
 -- with the pairs ahead, all are noted
 abbrev pub invariant-loop-pair : goal.invariant-loop-pair
