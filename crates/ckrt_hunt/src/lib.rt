@@ -44,7 +44,7 @@ pub use table::{
     Asked, write_command_line, write_kept, write_runs, write_table, write_unkept,
 };
 pub use tally::{TALLY_ROWS, Tally};
-pub use telling::{HuntDone, HuntFault, hunt_and_tell};
+pub use telling::{HuntDone, HuntFault, hunt_and_tell, hunt_fault_of};
 pub use texts::write_counted;
 pub use turn::{next, runner_of};
 pub use turns::{MOST_TURNS, Turns};

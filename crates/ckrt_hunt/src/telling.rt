@@ -58,7 +58,7 @@ fn hunt_seeds<O: HuntOnlooker>(
 }
 
 /// The fault that comes of a machine's.
-fn fault_of(fault: MemoryError) -> HuntFault
+pub fn hunt_fault_of(fault: MemoryError) -> HuntFault
     ensures too_long { (result ≡ HuntFault.ImageTooLong) ↔ (fault ≡ memory.ImageTooLong) }
     ensures never { result ≢ HuntFault.Write }
 {
@@ -93,7 +93,7 @@ pub fn hunt_and_tell<O: HuntOnlooker, W: Write>(
 {
     let done = match hunt_seeds(alloc, image, input, asked, onlooker) {
         Ok(done) => done,
-        Err(fault) => return Err(fault_of(fault)),
+        Err(fault) => return Err(hunt_fault_of(fault)),
     };
     let told = Asked {
         seeds: done.seeds,

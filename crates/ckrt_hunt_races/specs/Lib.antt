@@ -1,1 +1,4 @@
 pub mod Races
+pub mod RaceRuns
+pub mod RaceTable
+pub mod Hunts

@@ -5,8 +5,18 @@
 //! counted as in any other hunt.
 #![tactic(auto)]
 
+mod beginning;
+mod hunt;
+mod laws;
 mod row;
+mod table;
 mod tally;
+mod telling;
+mod walk;
 
+pub use hunt::RaceHunt;
+pub use laws::{only_races_are_told, races_are_of_the_run, races_repeat};
 pub use row::{RACE_ROWS, RaceRow};
+pub use table::write_races;
 pub use tally::RaceTally;
+pub use telling::{HuntTold, hunt_as_asked};

@@ -1,5 +1,5 @@
 -- The hunt of the image of a path: what is told, what is kept, and what it comes to.
-use Rattle.std.specs.Prelude.{◌≡◌, ◌≢◌, ◌⊎◌, ℕ, zero, suc, ◌+◌, ◌-◌, ◌==◌, nat_lt, Bool, true, false, if◌then◌else◌, List, ◌++◌, length, slice_get, codes, decimal, Option, Some, None, is_some, option_map, Result, Ok, Err, IfErr, IfOk}
+use Rattle.std.specs.Prelude.{◌≡◌, ◌≢◌, ◌⊎◌, ℕ, zero, suc, ◌+◌, ◌-◌, ◌==◌, Bool, true, false, if◌then◌else◌, List, ◌++◌, length, slice_get, codes, decimal, Option, Some, None, is_some, option_map, Result, Ok, Err, IfErr, IfOk}
 use Rattle.std.specs.Io.KnownBytes.{Appends}
 use Rattle.ckrt_disk.specs.declared.disk.Disk.{Ghosts}
 use Rattle.ckrt_checkpoint.specs.declared.config.Config.{Config}
@@ -11,18 +11,18 @@ use Rattle.ckrt_memory.specs.declared.MemoryError.{MemoryError}
 use Rattle.ckrt_memory.specs.declared.MemoryError.TheVariants as memory
 use Rattle.ckrt_hunt.specs.Seeds.{ends_of, seeds_of}
 use Rattle.ckrt_hunt.specs.Short.{IsFound}
-use Rattle.ckrt_hunt.specs.Table.{done_text, kept_text, unkept_text}
-use Rattle.ckrt_hunt.specs.Tallies.{Hunted, IsHunted, hunted_of, numbers_of, shape_of}
+use Rattle.ckrt_hunt.specs.Table.{kept_text, unkept_text}
+use Rattle.ckrt_hunt.specs.Tallies.{Hunted, hunted_of, numbers_of, plan_in, shape_of}
 use Rattle.ckrt_hunt.specs.Turns.{bytes_of}
 use Rattle.ckrt_hunt.specs.declared.plan.Input.{Input}
 use Rattle.ckrt_hunt.specs.declared.plan.Plan.{Plan}
 use Rattle.ckrt_hunt.specs.declared.row.Row.{Row}
 use Rattle.ckrt_hunt.specs.declared.shorten.Found.{Found}
 use Rattle.ckrt_hunt.specs.declared.table.Asked.{Asked}
-use Rattle.ckrt_hunt.specs.declared.tally.Tally.{Tally}
-use Rattle.ckrt_hunt.specs.declared.telling.HuntDone.{HuntDone}
 use Rattle.ckrt_hunt.specs.declared.telling.HuntFault.{HuntFault}
 use Rattle.ckrt_hunt.specs.declared.telling.HuntFault.TheVariants as hunt
+use Rattle.ckrt_hunt_races.specs.Hunts.{IsHuntedWith, has_several, told_text}
+use Rattle.ckrt_hunt_races.specs.declared.telling.HuntTold.{HuntTold}
 use Rattle.ckrt_words.specs.Jobs.{Hunting}
 use Rattle.ckrt_sources.specs.Openings.{Openings, opened, with_image}
 use Rattle.ckrt_outcomes.specs.Outside.{Outside}
@@ -63,29 +63,27 @@ fault_of hunt.ImageTooLong = job.Format format.ImageTooLong
 fault_of hunt.OutOfMemory = job.OutOfMemory
 fault_of hunt.Write = job.Serve serve.Write
 
--- the table was written of the seeds that were run; where it wasn't, nothing was, but where the writer failed
+-- the table was written of the seeds that were run, and their races where they were asked for; where it wasn't, nothing was, but where the writer failed
 pub record Tells (guest : List ℕ) (input : Input) (asked : Asked) (a b : Option (List ℕ))
-    (told : Result HuntDone HuntFault) : Type 0 where
-  pub hunted : IfOk told (IsHunted guest input asked)
-  pub written : IfOk told (λ done. Appends a b (done_text asked done))
+    (told : Result HuntTold HuntFault) : Type 0 where
+  pub hunted : IfOk told (IsHuntedWith asked.races guest input asked)
+  pub written : IfOk told (λ t. Appends a b (told_text asked t))
   pub unwritten : IfErr told (λ e. e ≢ hunt.Write → b ≡ a)
 
--- whether runs came to several outcomes
-abbrev pub has_several : Tally → Bool
-has_several tally = nat_lt 1 (length tally.rows.items)
-
--- What is sought of a seed of a hunt: a plan that comes to the same, and what is kept by it on the disk of a path.
+-- What is sought of a seed of a hunt: a plan that comes to the same, or the one that was drawn, and what is kept by it on the disk of a path.
 pub record Sought (D : Type 0) : Type 1 where
   pub hunted : Hunted
   pub seed : ℕ
+  pub as_drawn : Bool
   pub keeping : Plan → List ℕ → Keeping D
 
 -- by a hunt of this image, on disks of these sizes
-abbrev pub sought_by : {D : Type 0} → Hunted → (seed : ℕ) → Config → (guest : List ℕ)
+abbrev pub sought_by : {D : Type 0} → Hunted → (seed : ℕ) → (as_drawn : Bool) → Config → (guest : List ℕ)
     → (Fills : List ℕ → D → Type 0) → Sought D
-sought_by h seed config guest Fills = record {
+sought_by h seed as_drawn config guest Fills = record {
   hunted = h;
   seed = seed;
+  as_drawn = as_drawn;
   keeping = λ p path. record {
     program = formatted_program config guest;
     plan = p;
@@ -97,9 +95,9 @@ sought_by h seed config guest Fills = record {
 -- of a hunt that was told
 abbrev pub sought_in : {D : Type 0} → Hunted → ToldHunt → (Fills : List ℕ → ℕ → D → Type 0) → Sought D
 sought_in h told Fills =
-    sought_by h told.first told.config told.image.now (λ path. Fills path (size_needed told.config))
+    sought_by h told.first told.as_drawn told.config told.image.now (λ path. Fills path (size_needed told.config))
 
--- What is wanted of a hunt besides its table: disks at this path, if any, and which runs they have.
+-- What is wanted of a hunt besides what is told: disks at this path, if any, and which runs they have.
 pub record Wanted (D : Type 0) : Type 1 where
   pub path : Option (List ℕ)
   pub sought : Sought D
@@ -108,7 +106,7 @@ pub record Wanted (D : Type 0) : Type 1 where
 abbrev pub wanted_of : {D : Type 0} → Hunter D → (guest : List ℕ) → Input → Asked → Wanted D
 wanted_of it guest input asked = record {
   path = it.asked.keep;
-  sought = sought_by (hunted_of guest asked.shape input) asked.seeds.first (config_of it.asked) guest it.Fills;
+  sought = sought_by (hunted_of guest asked.shape input) asked.seeds.first asked.races (config_of it.asked) guest it.Fills;
 }
 
 -- what a hunt has reached: what its sources were asked for, and what its writer has, where that is known
@@ -138,11 +136,17 @@ TellsKept told a b (Ok done) result =
     ((result ≡ Ok tt) × Appends a b told) ⊎ (result ≡ Err (job.Serve serve.Write))
 TellsKept told a b (Err f) result = (result ≡ Err f) × (b ≡ a)
 
--- the run of the seed was kept, by the shortest schedule that was found, and that is told
+-- the plan is that of the seed, where its run is kept as it was drawn
+abbrev pub IsAsDrawn : Hunted → (seed : ℕ) → (as_drawn : Bool) → Found → Type 0
+IsAsDrawn h seed true found = found.plan ≡ plan_in h seed
+IsAsDrawn h seed false found = Unit {0}
+
+-- the run of the seed was kept, as it was drawn or by the shortest schedule that was found, and that is told
 pub record KeepsFound {D : Type 0} (d : Ghosts D) (sought : Sought D) (path : List ℕ)
     (old new : Reached D) (result : Result (Unit {0}) JobFault) : Type 0 where
   pub found : Found
   pub is_found : IsFound sought.hunted sought.seed found
+  pub drawn : IsAsDrawn sought.hunted sought.seed sought.as_drawn found
   pub kept : Result (Unit {0}) JobFault
   pub keeps : Keeps d (sought.keeping found.plan path) old.openings new.openings kept
   pub tells : TellsKept (kept_text sought.seed path found) old.written new.written kept result
@@ -264,15 +268,15 @@ answer_of (Err f) several = Err f
 
 -- a hunt that was told
 pub record EndsTold {D : Type 0} (d : Ghosts D) (wanted : Wanted D) (asked new : Reached D)
-    (tally : Tally) (result : Result Bool JobFault) : Type 0 where
+    (told : HuntTold) (result : Result Bool JobFault) : Type 0 where
   pub kept : Result (Unit {0}) JobFault
-  pub keeps : KeepsAt d wanted.sought asked new kept (place_of wanted.path tally.rows.items)
-  pub gives : result ≡ answer_of kept (has_several tally)
+  pub keeps : KeepsAt d wanted.sought asked new kept (place_of wanted.path told.done.tally.rows.items)
+  pub gives : result ≡ answer_of kept (has_several told)
 
 -- where it wasn't told nothing is kept
 abbrev pub EndsHunt : {D : Type 0} → Ghosts D → Wanted D → (asked new : Reached D)
-    → Result HuntDone HuntFault → Result Bool JobFault → Type 0
-EndsHunt d wanted asked new (Ok done) result = EndsTold d wanted asked new done.tally result
+    → Result HuntTold HuntFault → Result Bool JobFault → Type 0
+EndsHunt d wanted asked new (Ok told) result = EndsTold d wanted asked new told result
 EndsHunt d wanted asked new (Err f) result = (result ≡ Err (fault_of f)) × (new ≡ asked)
 
 -- WHAT BECOMES OF THE WORDS
@@ -320,8 +324,9 @@ pub record IsAsked (h : Hunting) (asked : Asked) : Type 0 where
   pub seeds : Some (ends_of asked.seeds) ≡ asked_seeds h
   pub may_end : asked.may_end ≡ is_some h.seconds
   pub input : option_map (λ path. path.now) asked.input ≡ h.input
+  pub races : asked.races ≡ h.races
 
--- the image and the input were read, and it was hunted: the table was written, and then what is told of a run that was kept
+-- the image and the input were read, and it was hunted: the table and the races were written, and then what is told of a run that was kept
 pub record HuntsImage {D : Type 0} (d : Ghosts D) (it : Hunter D) (old new : Outside D)
     (result : Result Bool JobFault) : Type 0 where
   pub guest : List ℕ
@@ -331,7 +336,7 @@ pub record HuntsImage {D : Type 0} (d : Ghosts D) (it : Hunter D) (old new : Out
   pub is_input : IsAskedInput it.known it.asked.input (bytes_of input)
   pub asked : Asked
   pub is_asked : IsAsked it.asked asked
-  pub told : Result HuntDone HuntFault
+  pub told : Result HuntTold HuntFault
   pub table : Option (List ℕ)
   pub tells : Tells guest input asked old.written table told
   pub ends : EndsHunt d (wanted_of it guest input asked)

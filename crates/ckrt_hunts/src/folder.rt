@@ -86,6 +86,7 @@ fn keep_row<'a, I: Read, D: Disk, S: Sources<'a, I, D>, W: Write>(
         path,
         config: at.told.config,
         image: at.told.image,
+        as_drawn: at.told.as_drawn,
     };
     match keep_run::<I, D, S, W>(alloc, seed, hunt, tries, &what, sources, writer) {
         Ok(()) => Ok(()),
@@ -113,7 +114,7 @@ fn keep_rows<'a, I: Read, D: Disk, S: Sources<'a, I, D>, W: Write>(
     Ok(())
 }
 
-/// Keeps the run of each outcome in a folder, by the shortest schedule that is found.
+/// Keeps the run of each outcome in a folder, by the plan that is found.
 pub(crate) fn keep_in_folder<'a, I: Read, D: Disk, S: Sources<'a, I, D>, W: Write>(
     alloc: Global,
     at: &KeptAt<'a, '_, '_>,

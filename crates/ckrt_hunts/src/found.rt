@@ -1,16 +1,17 @@
-//! The run of a seed on a disk of a path, by the shortest schedule that is found.
+//! The run of a seed on a disk of a path, by the shortest schedule that is found, or as it was drawn.
 ghost use Rattle.std.specs.Prelude.{◌≡◌, ◌⊎◌, Ok, Result, true};
 ghost use Rattle.ckrt_outcomes.specs.declared.fault.JobFault.{JobFault};
 ghost use Rattle.ckrt_checkpoint.specs.Layout.{is_valid, size_needed};
 ghost use Rattle.ckrt_stored.specs.Programs.{formatted_program};
+ghost use Rattle.ckrt_hunt.specs.Short.{IsFound};
 ghost use Rattle.ckrt_hunt.specs.Table.{kept_text};
 ghost use Rattle.ckrt_hunt.specs.Tallies.{hunted_of};
 ghost use Rattle.ckrt_hunts.specs.Keeping.{Keeps};
-ghost use Rattle.ckrt_hunts.specs.Hunting.{KeepsFound, LacksRoom, TellsKept, reached, room_fault_of, sought_by, sought_in};
+ghost use Rattle.ckrt_hunts.specs.Hunting.{IsAsDrawn, KeepsFound, LacksRoom, TellsKept, reached, room_fault_of, sought_by, sought_in};
 
 use crate::keeping::{Kept, keep};
 use ckrt_disk::Disk;
-use ckrt_hunt::{Found, Hunt, Input, Row, Shape, Tries, room_for, write_kept};
+use ckrt_hunt::{Found, Hunt, Input, Row, Shape, Tries, as_drawn, room_for, write_kept};
 use ckrt_main::ServeFault;
 use ckrt_memory::MemoryError;
 use ckrt_outcomes::JobFault;
@@ -19,7 +20,8 @@ use ckrt_sources::Sources;
 use std::alloc::Global;
 use std::io::{Read, Write};
 
-/// A hunt that was told: of which image, with which input, the sizes of disks for its runs, the first seed, and the outcomes.
+/// A hunt that was told: of which image, with which input, the sizes of disks for its runs, the first seed, the outcomes, and whether
+/// runs are kept as they were drawn.
 #[derive(Clone, Copy)]
 pub(crate) struct ToldHunt<'b, 'i> {
     pub(crate) config: Config,
@@ -28,6 +30,7 @@ pub(crate) struct ToldHunt<'b, 'i> {
     pub(crate) input: Input<'i>,
     pub(crate) first: u64,
     pub(crate) rows: &'b [Row],
+    pub(crate) as_drawn: bool,
 }
 
 /// A hunt that was told, and the path of the disk or of the folder where runs of it are kept.
@@ -67,6 +70,24 @@ fn tell_kept<W: Write>(
     }
 }
 
+/// The plan by which the run of a seed is kept: as it was drawn, or the shortest schedule that is found.
+fn plan_for<'a, 'i: 'a>(
+    hunt: &mut Hunt<'i>,
+    seed: u64,
+    tries: &'a mut Tries,
+    is_drawn: bool,
+) -> Found<'a>
+    ensures found { IsFound hunt.old seed result }
+    ensures drawn { IsAsDrawn hunt.old seed is_drawn result }
+    ensures same { hunt.new ≡ hunt.old }
+{
+    if is_drawn {
+        return as_drawn(hunt, seed);
+    }
+    tries.search(hunt, seed);
+    tries.found(hunt, seed)
+}
+
 /// Keeps the run of the plan that was found for a seed on a disk of a path, and says so.
 fn keep_found<'a, I: Read, D: Disk, S: Sources<'a, I, D>, W: Write>(
     alloc: Global,
@@ -94,7 +115,7 @@ fn keep_found<'a, I: Read, D: Disk, S: Sources<'a, I, D>, W: Write>(
     }
 }
 
-/// Keeps the run of a seed on a disk of a path, by the shortest schedule that is found, and says so.
+/// Keeps the run of a seed on a disk of a path, by the plan that is found, and says so.
 pub(crate) fn keep_run<'a, I: Read, D: Disk, S: Sources<'a, I, D>, W: Write>(
     alloc: Global,
     seed: u64,
@@ -106,18 +127,17 @@ pub(crate) fn keep_run<'a, I: Read, D: Disk, S: Sources<'a, I, D>, W: Write>(
 ) -> Result<(), JobFault>
     requires { is_valid what.now.config ≡ true }
     ensures kept { KeepsFound D.Disk
-        (sought_by hunt.old seed what.now.config what.now.image.now
+        (sought_by hunt.old seed what.now.as_drawn what.now.config what.now.image.now
         (λ path. S.fills sources.old path (size_needed what.now.config)))
         what.now.path.now (reached (S.openings sources.old) (W.contents writer.old))
         (reached (S.openings sources.new) (W.contents writer.new)) result }
     ensures same { hunt.new ≡ hunt.old }
 {
-    tries.search(hunt, seed);
-    let found = tries.found(hunt, seed);
+    let found = plan_for(hunt, seed, tries, what.as_drawn);
     keep_found::<I, D, S, W>(alloc, seed, &found, what, sources, writer)
 }
 
-/// Keeps the run of the first seed on the disk of a path, by the shortest schedule that is found.
+/// Keeps the run of the first seed on the disk of a path, by the plan that is found.
 pub(crate) fn keep_first<'a, I: Read, D: Disk, S: Sources<'a, I, D>, W: Write>(
     alloc: Global,
     at: &KeptAt<'a, '_, '_>,
@@ -145,6 +165,7 @@ pub(crate) fn keep_first<'a, I: Read, D: Disk, S: Sources<'a, I, D>, W: Write>(
         path: at.path,
         config: told.config,
         image: told.image,
+        as_drawn: told.as_drawn,
     };
     let (hunt, tries) = (&mut hunt, &mut tries);
     keep_run::<I, D, S, W>(alloc, told.first, hunt, tries, &what, sources, writer)

@@ -12,9 +12,8 @@ use crate::folder::{is_folder, keep_in_folder};
 use crate::found::{KeptAt, ToldHunt, keep_first};
 use crate::input::asked_input;
 use ckrt_disk::Disk;
-use ckrt_hunt::{
-    Asked, HuntDone, HuntFault, HuntOnlooker, HuntWatch, Input, Seeds, Shape, hunt_and_tell,
-};
+use ckrt_hunt::{Asked, HuntFault, HuntOnlooker, HuntWatch, Input, Seeds, Shape};
+use ckrt_hunt_races::{HuntTold, hunt_as_asked};
 use ckrt_jobs::fitting_image;
 use ckrt_main::ServeFault;
 use ckrt_outcomes::{JobFault, is_hunt_in_range};
@@ -97,14 +96,14 @@ fn tell<O: HuntOnlooker, W: Write>(
     hunted: &Hunted<'_, '_>,
     onlooker: &mut O,
     writer: &mut W,
-) -> Result<HuntDone, HuntFault>
+) -> Result<HuntTold, HuntFault>
     ensures { Tells hunted.now.image.now hunted.now.input hunted.now.asked
         (W.contents writer.old) (W.contents writer.new) result }
 {
     let asked = &hunted.asked;
-    let done = hunt_and_tell(alloc, hunted.image, hunted.input, asked, onlooker, writer)?;
+    let told = hunt_as_asked(alloc, hunted.image, hunted.input, asked, onlooker, writer)?;
     match writer.flush() {
-        Ok(()) => Ok(done),
+        Ok(()) => Ok(told),
         Err(_) => Err(HuntFault::Write),
     }
 }
@@ -146,7 +145,7 @@ fn hunt_image<'a, I: Read, D: Disk, S: Sources<'a, I, D>, W: Write, O: HuntOnloo
     onlooker: &mut O,
 ) -> Result<bool, JobFault>
     requires { is_valid (config_of (hunting_of job.now)) ≡ true }
-    ensures hunts { (told : Result HuntDone HuntFault) × (table : Option (List ℕ))
+    ensures hunts { (told : Result HuntTold HuntFault) × (table : Option (List ℕ))
         × Tells hunted.now.image.now hunted.now.input hunted.now.asked
         (W.contents writer.old) table told
         × EndsHunt D.Disk (wanted_of (record {
@@ -162,18 +161,19 @@ fn hunt_image<'a, I: Read, D: Disk, S: Sources<'a, I, D>, W: Write, O: HuntOnloo
         progress: job.progress,
     });
     match tell(alloc, hunted, onlooker, writer) {
-        Ok(done) => {
+        Ok(told) => {
             let input = hunted.input;
-            let told = ToldHunt {
+            let kept_of = ToldHunt {
                 config: config_of(job),
                 image: hunted.image,
                 shape: hunted.asked.shape,
                 input,
                 first: hunted.asked.seeds.first,
-                rows: done.tally.rows(),
+                rows: told.done.tally.rows(),
+                as_drawn: hunted.asked.races,
             };
-            let kept = keep_if_asked::<I, D, S, W>(alloc, job.keep, told, sources, writer);
-            answer_of(kept, done.tally.has_several())
+            let kept = keep_if_asked::<I, D, S, W>(alloc, job.keep, kept_of, sources, writer);
+            answer_of(kept, told.has_several())
         }
         Err(fault) => Err(fault_of(fault)),
     }
@@ -185,6 +185,9 @@ fn hunt_image<'a, I: Read, D: Disk, S: Sources<'a, I, D>, W: Write, O: HuntOnloo
 /// several outcomes. Where the words name a disk, the run of the first seed is kept there; where they name a folder, by a path that ends
 /// with `/`, the first run of each outcome is, on a disk of its own. Each is kept by the shortest schedule that is found, and written is
 /// its disk too, and how many switches it has. Of a folder the first run that isn't kept is named as well.
+///
+/// Where the words ask for races, each run is looked at for them, and those that some run had are written behind the table. Then a run is
+/// kept as it was drawn, since a shorter schedule may have other races, and the answer is also true where a run had a race.
 ///
 /// # Errors
 ///
@@ -231,6 +234,7 @@ pub fn hunt_path<'a, I: Read + Drop, D: Disk, S: Sources<'a, I, D>, W: Write, O:
         seeds,
         may_end: job.seconds.is_some(),
         input: job.input,
+        races: job.races,
     };
     let hunted = Hunted {
         image: &image,

@@ -13,12 +13,13 @@ use ckrt_sources::{JobFile, Sources};
 use std::alloc::Global;
 use std::io::Read;
 
-/// Which program's run is kept, and where.
+/// Which program's run is kept, where, and whether as it was drawn.
 #[derive(Clone, Copy)]
 pub(crate) struct Kept<'a, 'b> {
     pub(crate) path: &'a str,
     pub(crate) config: Config,
     pub(crate) image: &'b [u8],
+    pub(crate) as_drawn: bool,
 }
 
 /// What the job answers where events weren't kept.

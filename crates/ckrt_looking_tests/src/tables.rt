@@ -162,6 +162,7 @@ fn asked_for(first: u64, last: u64) -> Asked<'static>
         seeds: Seeds { first, last },
         may_end: false,
         input: None,
+        races: false,
     }
 }
 

@@ -23,7 +23,7 @@ returns-in-Ok-keep_run-clause-kept g c =
       row = row;
       is_row = there;
       keeps = subst (λ p. KeepsFound g.D.Disk (sought_of (sought_in c.args.hunt.now told fills) row) p old new (Ok tt)) c.in-Ok.ensures
-          (found_weaker g.D.Disk c.args.hunt.now row.first told.config told.image.now (λ p. fills p (size_needed told.config)) (λ p disk. Unit {0}) c.in-Ok.path.now old new (Ok tt) (λ p disk is. tt) c.in-Ok-keep_run.ensures.kept);
+          (found_weaker g.D.Disk c.args.hunt.now row.first told.as_drawn told.config told.image.now (λ p. fills p (size_needed told.config)) (λ p disk. Unit {0}) c.in-Ok.path.now old new (Ok tt) (λ p disk is. tt) c.in-Ok-keep_run.ensures.kept);
     }
 
 -- it wasn't, and that is told
@@ -46,7 +46,7 @@ returns-in-Err-keep_run-clause-stops g c =
           is_row = there;
           why = why;
           fails = subst (λ p. KeepsFound g.D.Disk (sought_of (sought_in c.args.hunt.now told fills) row) p old failed (Err why)) c.in-Ok.ensures
-              (found_weaker g.D.Disk c.args.hunt.now row.first told.config told.image.now (λ p. fills p (size_needed told.config)) (λ p disk. Unit {0}) c.in-Ok.path.now old failed (Err why) (λ p disk is. tt) c.in-Err-keep_run.ensures.kept);
+              (found_weaker g.D.Disk c.args.hunt.now row.first told.as_drawn told.config told.image.now (λ p. fills p (size_needed told.config)) (λ p disk. Unit {0}) c.in-Ok.path.now old failed (Err why) (λ p disk is. tt) c.in-Err-keep_run.ensures.kept);
         };
         result = Err c.tell_unkept.result;
         unasked = refl;

@@ -18,7 +18,7 @@ loop-place-preserved g c =
     let new = reached (g.S.Closes.openings c.keep_row.new.sources) (g.W.Write.contents c.keep_row.new.writer) in
     let kept = subst (λ (h : Hunted). KeptOneMore g.D.Disk (sought_in h told fills) (folder_at at) place (λ r. r ≡ mid) new) c.loop-place.invariant.same c.in_ok-keep_row.ensures.kept in
     record {
-      kept = kept_on g.D.Disk c.args.hunt.now told.first told.config told.image.now (λ p. fills p (size_needed told.config)) (λ p. first p (size_needed told.config)) (folder_at at) place (place + 1) old mid new (omega arith) c.loop-place.invariant.kept kept;
+      kept = kept_on g.D.Disk c.args.hunt.now told.first told.as_drawn told.config told.image.now (λ p. fills p (size_needed told.config)) (λ p. first p (size_needed told.config)) (folder_at at) place (place + 1) old mid new (omega arith) c.loop-place.invariant.kept kept;
       same = c.in_ok-keep_row.ensures.same ∙ c.loop-place.invariant.same;
     }
 
@@ -37,4 +37,4 @@ returns-in_err-keep_row g c =
     let is : c.from_residual.result ≡ Err why = search rules in
     let stops = subst (λ (h : Hunted). LacksPath mid new (Err why) ⊎ ((named : NamesRow g.D.Disk (sought_in h told fills) (folder_at at) place mid new) × (named.result ≡ Err why))) c.loop-place.invariant.same c.in_err-keep_row.ensures.stops in
     subst (λ r. KeepsEach g.D.Disk (sought_in c.args.hunt.now told first) (folder_at at) old new r) (sym is)
-    (inr (stopped g.D.Disk c.args.hunt.now told.first told.config told.image.now (λ p. fills p (size_needed told.config)) (λ p. first p (size_needed told.config)) (folder_at at) place old mid new (Err why) c.loop-place.invariant.kept stops))
+    (inr (stopped g.D.Disk c.args.hunt.now told.first told.as_drawn told.config told.image.now (λ p. fills p (size_needed told.config)) (λ p. first p (size_needed told.config)) (folder_at at) place old mid new (Err why) c.loop-place.invariant.kept stops))

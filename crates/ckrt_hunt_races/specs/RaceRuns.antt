@@ -1,0 +1,144 @@
+-- The races of a seed's run: those of the events that its schedule has, each accepted at its turn, from the beginning of the program.
+use Rattle.std.specs.Prelude.{◌≡◌, ◌≤◌, ℕ, zero, suc, ◌+◌, ◌-◌, List, length}
+use Rattle.std.specs.List.{AllByRecursion}
+use Rattle.ckrt_events.specs.declared.event.Event.{Event}
+use Rattle.ckrt_state.specs.WellFormed.{IsWellFormed}
+use Rattle.ckrt_machine.specs.Events.{AllAccepted, fold}
+use Rattle.ckrt_machine.specs.Steps.{State}
+use Rattle.ckrt_schedule.specs.declared.next.Next.TheVariants.{End}
+use Rattle.ckrt_schedule.specs.declared.next.ScheduleEnd.{ScheduleEnd}
+use Rattle.ckrt_order.specs.Detection.{Found, Watched, behind_all, fresh}
+use Rattle.ckrt_order.specs.Laws.{IsRaceOf}
+use Rattle.ckrt_races.specs.Holders.{HOLDERS}
+use Rattle.ckrt_races.specs.Laws.{history_of}
+use Rattle.ckrt_races.specs.Recorded.{found_by, words_of}
+use Rattle.ckrt_races.specs.Steps.{of_events}
+use Rattle.ckrt_hunt.specs.Runs.{AreScheduled, Point, beginning, behind, next_at}
+use Rattle.ckrt_hunt.specs.Seeds.{IsBeginning}
+use Rattle.ckrt_hunt.specs.Tallies.{Hunted, IsNoted, IsRoomFor, SeedComesTo, plan_in}
+use Rattle.ckrt_hunt.specs.declared.made.Made.{Made}
+use Rattle.ckrt_hunt.specs.declared.plan.Plan.{Plan}
+use Rattle.ckrt_hunt.specs.declared.runs.Told.{Told}
+use Rattle.ckrt_hunt.specs.declared.seeds.Seeds.{Seeds}
+use Rattle.ckrt_hunt.specs.declared.tally.Tally.{Tally}
+use Rattle.ckrt_hunt_races.specs.declared.beginning.Beginning.{Beginning}
+use Rattle.ckrt_hunt_races.specs.declared.tally.RaceTally.{RaceTally}
+use Rattle.ckrt_hunt_races.specs.Races.{Raced, no_races, raced_in, with_run}
+
+-- WHAT A RUN HAS
+
+-- A run by this plan has these races: its events are those of the schedule, up to the one that has none after it, and each is accepted at its
+-- turn; the races are those that are found by them.
+pub record HasRaces (p : Plan) (start : State) (found : Found) : Type 0 where
+  pub events : List Event
+  pub ending : ScheduleEnd
+  pub scheduled : AreScheduled p events (beginning start)
+  pub ended : next_at p (behind p events (beginning start)) ≡ End ending
+  pub accepted : AllAccepted events start
+  pub is_found : found ≡ found_by 0 events start
+
+-- those of a seed's run
+abbrev pub SeedHas : Hunted → (seed : ℕ) → Found → Type 0
+SeedHas h seed found = HasRaces (plan_in h seed) h.start found
+
+-- ONE SEED AFTER ANOTHER
+
+-- races that grew by those of a seed's run
+pub record IsLookedAt (h : Hunted) (seed : ℕ) (old new : Raced) : Type 0 where
+  pub found : Found
+  pub has : SeedHas h seed found
+  pub noted : new ≡ with_run seed found old
+
+-- the same out of races of which something was so
+pub record GrewBy (WasSo : Raced → Type 0) (h : Hunted) (seed : ℕ) (races : Raced) : Type 0 where
+  pub before : Raced
+  pub was_so : WasSo before
+  pub looked_at : IsLookedAt h seed before races
+
+-- n seeds were looked at, from one on: each in its turn
+abbrev pub AreLookedAt : Hunted → (first n : ℕ) → (old new : Raced) → Type 0
+AreLookedAt h first zero old new = new ≡ old
+AreLookedAt h first (suc n) old new = GrewBy (AreLookedAt h first n old) h (first + n) new
+
+-- the races of all seeds of a range
+abbrev pub IsRacesOf : Hunted → Seeds → RaceTally → Type 0
+IsRacesOf h seeds races =
+    AreLookedAt h seeds.first (seeds.last - seeds.first + 1) no_races (raced_in races)
+
+-- what a seed comes to was noted too
+pub record IsSeedNoted (h : Hunted) (seed : ℕ) (old new : Tally) : Type 0 where
+  pub told : Told
+  pub comes : SeedComesTo h seed told
+  pub noted : IsNoted seed told old new
+
+-- THE WALK of a run, by two machines side by side
+
+-- so far it has come, and the detector has noted the operations of its events
+pub record HasSeen (p : Plan) (start : State) (m : Made) (s : State) (w : Watched) : Type 0 where
+  pub events : List Event
+  pub scheduled : AreScheduled p events (beginning start)
+  pub accepted : AllAccepted events start
+  pub point : (let x : Point = record { made = m; state = s } in x) ≡ behind p events (beginning start)
+  pub folded : s ≡ (fold events start).state
+  pub count : m.events ≡ length events
+  pub watched : w ≡ behind_all (of_events 0 events start) (fresh HOLDERS (words_of start))
+
+-- it has come to its end
+pub record Sees (p : Plan) (start : State) (w : Watched) : Type 0 where
+  pub found : HasRaces p start w.found
+  pub holders : length w.clocks ≡ HOLDERS
+  pub words : length w.shadow ≡ words_of start
+
+-- both machines are in one state
+pub record AreAlike (m : Made) (whole stepped : State) : Type 0 where
+  pub same : stepped ≡ whole
+  pub turns : m.turns ≤ m.events
+  pub harts : 1 ≤ whole.tables.threads.hart_count
+
+pub record HasBegun (whole stepped : State) (w : Watched) : Type 0 where
+  pub same : stepped ≡ whole
+  pub harts : 1 ≤ whole.tables.threads.hart_count
+  pub watched : w ≡ fresh HOLDERS (words_of whole)
+
+pub record IsSameSize (old new : State) : Type 0 where
+  pub harts : new.tables.threads.hart_count ≡ old.tables.threads.hart_count
+  pub bytes : length new.bytes ≡ length old.bytes
+
+-- A MACHINE AT THE BEGINNING, and the room for that beginning
+pub record IsBegun (s : State) (b : Beginning) : Type 0 where
+  pub state : b.machine.state ≡ s
+  pub room : IsRoomFor s b.memory b.tables
+
+-- a state was put aside
+pub record IsPutAside (s : State) (b : Beginning) : Type 0 where
+  pub memory : b.memory.bytes ≡ s.bytes
+  pub tables : b.tables ≡ s.tables
+  pub well_formed : IsWellFormed b.tables
+  pub some : 1 ≤ s.tables.threads.hart_count
+
+-- all that looks at runs is ready for the next one
+pub record IsReady (h : Hunted) (whole stepped : Beginning) (w : Watched) : Type 0 where
+  pub whole : IsBegun h.start whole
+  pub stepped : IsBegun h.start stepped
+  pub holders : length w.clocks ≡ HOLDERS
+  pub words : length w.shadow ≡ words_of h.start
+
+-- LAWS
+
+-- each pair that is told of a seed is a race of its run, by the definition
+abbrev pub OnlyRacesAreTold : Type 0
+OnlyRacesAreTold =
+    (h : Hunted) (seed : ℕ) (found : Found) → (has : SeedHas h seed found)
+    → AllByRecursion (IsRaceOf (history_of 0 has.events h.start)) found.pairs
+
+-- a seed has the same races again
+abbrev pub RacesRepeat : Type 0
+RacesRepeat =
+    (h : Hunted) (seed : ℕ) (first second : Found) → SeedHas h seed first → SeedHas h seed second
+    → first ≡ second
+
+-- they are those of the run whose outcome is told
+abbrev pub RacesAreOfTheRun : Type 0
+RacesAreOfTheRun =
+    (h : Hunted) (seed : ℕ) (told : Told) (found : Found) → (comes : SeedComesTo h seed told)
+    → (has : SeedHas h seed found) → comes.events ≡ has.events

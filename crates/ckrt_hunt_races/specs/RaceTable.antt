@@ -1,0 +1,56 @@
+-- The races of a hunt (this project's own format), behind the lines of its outcomes: for each pair of places a line that says in how many runs it
+-- raced, by which seed first, and which accesses did in the run of that seed, and a line with the command that repeats it. A pair has the number of
+-- its row, from 1 on.
+--
+--     race 1: 12 of 200 runs, first by seed 3: 5+91 thread 3 stores 00006224 pc 00001038, 7+7 thread 2 stores 00006224 pc 000010c8
+--         ckrt hunt races.bin --seeds 3-3 --pages 64 --harts 1 --steps 10000000 --races --keep seed-3.disk
+use Rattle.std.specs.Prelude.{ℕ, zero, suc, ◌+◌, ◌-◌, ◌==◌, nat_lt, Bool, false, ◌||◌, if◌then◌else◌, List, [], ◌∷◌, ◌++◌, length, slice_get, codes, decimal, Option, Some, None}
+use Rattle.ckrt_hunt.specs.Table.{command_line, done_text, runs_text}
+use Rattle.ckrt_hunt.specs.declared.table.Asked.{Asked}
+use Rattle.ckrt_races.specs.Texts.{both_text}
+use Rattle.ckrt_hunt_races.specs.declared.row.RaceRow.{RaceRow}
+use Rattle.ckrt_hunt_races.specs.Races.{Raced}
+
+abbrev pub head_text : Asked → (number : ℕ) → RaceRow → List ℕ
+head_text a number r =
+    codes "race " ++ decimal number ++ (codes ": " ++ decimal r.count) ++ runs_text a
+    ++ (codes ", first by seed " ++ decimal r.first)
+    ++ codes ": "
+
+abbrev pub race_line : Asked → (number : ℕ) → RaceRow → List ℕ
+race_line a number r = head_text a number r ++ both_text r.pair ++ codes "\n"
+
+abbrev pub row_text : Asked → (number : ℕ) → RaceRow → List ℕ
+row_text a number r = race_line a number r ++ command_line a r.first
+
+abbrev pub row_text_at : Asked → (number : ℕ) → Option RaceRow → List ℕ
+row_text_at a number None = []
+row_text_at a number (Some r) = row_text a number r
+
+-- the first n rows
+unfoldable pub rows_text : Asked → List RaceRow → (n : ℕ) → List ℕ
+rows_text a rows zero = []
+rows_text a rows (suc n) = rows_text a rows n ++ row_text_at a (suc n) (slice_get rows n)
+
+-- the runs that had a race without a row, if there are any
+abbrev pub known_others_line : Asked → (others : ℕ) → List ℕ
+known_others_line a others =
+    codes "other races: in " ++ decimal others ++ runs_text a ++ codes "\n"
+
+abbrev pub others_line : Asked → (others : ℕ) → List ℕ
+others_line a others = if others == 0 then [] else known_others_line a others
+
+abbrev pub no_races_line : Asked → List ℕ
+no_races_line a =
+    codes "no races in " ++ decimal (a.seeds.last - a.seeds.first + 1)
+    ++ codes " runs; other schedules may have some\n"
+
+abbrev pub some_text : Asked → Raced → List ℕ
+some_text a t = rows_text a t.rows (length t.rows) ++ others_line a t.others
+
+abbrev pub text_of : Asked → List RaceRow → (others : ℕ) → List ℕ
+text_of a [] others = no_races_line a
+text_of a (r ∷ rs) others = some_text a (record { rows = r ∷ rs; others = others })
+
+abbrev pub races_text : Asked → Raced → List ℕ
+races_text a t = text_of a t.rows t.others

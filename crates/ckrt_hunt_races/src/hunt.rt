@@ -1,0 +1,128 @@
+//! One seed after another, each looked at for races.
+ghost use Rattle.std.specs.Prelude.{◌≡◌, ◌≤◌, ◌*◌, ◌+◌, ◌-◌, ◌<◌, ◌↔◌, length, IfOk, IsErrOf};
+ghost use Rattle.ckrt_memory.specs.declared.MemoryError.TheVariants.{ImageTooLong};
+
+use crate::beginning::Beginning;
+use crate::tally::RaceTally;
+use crate::walk::watch_run;
+use ckrt_hunt::{Hunt, HuntOnlooker, Input, Seeds, Shape, Tally};
+use ckrt_memory::MemoryError;
+use ckrt_order::Detector;
+use ckrt_races::detector_for;
+use std::alloc::Global;
+use std::marker::Model;
+
+/// A program that is hunted, each run of which is looked at for races. All room is taken by [`RaceHunt::new`].
+#[derive(Drop)]
+pub struct RaceHunt<'i> {
+    hunt: Hunt<'i>,
+    /// Makes the events of a run.
+    whole: Beginning,
+    /// Makes the same events step by step.
+    stepped: Beginning,
+    detector: Detector,
+}
+
+impl<'i> Model for RaceHunt<'i> {
+    ghost use Rattle.ckrt_hunt.specs.Tallies.{Hunted};
+    ghost use Rattle.ckrt_hunt_races.specs.RaceRuns.{IsReady};
+
+    ghost Value = { Hunted };
+
+    ghost view = { λ r. r.hunt };
+
+    ghost invariant = { λ r. IsReady r.hunt r.whole r.stepped r.detector };
+}
+
+impl<'i> RaceHunt<'i> {
+    ghost use Rattle.ckrt_hunt.specs.Seeds.{IsBeginning};
+    ghost use Rattle.ckrt_hunt.specs.Tallies.{AreNoted, hunted_of};
+    ghost use Rattle.ckrt_hunt_races.specs.RaceRuns.{AreLookedAt, IsLookedAt, IsSeedNoted};
+    ghost use Rattle.ckrt_hunt_races.specs.Races.{raced_in};
+
+    /// The hunt of a program that begins with this image, and is given this to read.
+    ///
+    /// `ImageTooLong` where the image has more bytes than the pages from page 1 on, and else `OutOfMemory` where the allocator
+    /// refuses the room.
+    pub fn new(
+        alloc: Global,
+        image: &[u8],
+        shape: Shape,
+        input: Input<'i>,
+    ) -> Result<RaceHunt<'i>, MemoryError>
+        ensures hunted { IfOk result (λ hunt. hunt ≡ hunted_of image.now shape input.entry) }
+        ensures too_long { IsErrOf result ImageTooLong
+            ↔ (4096 * (shape.pages - 1) < length image.now) }
+    {
+        let hunt = Hunt::new(alloc, image, shape, input)?;
+        let whole = Beginning::new(alloc, image, shape)?;
+        let stepped = Beginning::new(alloc, image, shape)?;
+        let detector = detector_for(alloc, &whole.machine)?;
+        Ok(RaceHunt {
+            hunt,
+            whole,
+            stepped,
+            detector,
+        })
+    }
+
+    /// Notes the races of a seed's run. It takes no memory, and the hunt is as it was.
+    fn look_at(&mut self, seed: u64, races: &mut RaceTally)
+        ensures looked_at { IsLookedAt self.old seed (raced_in races.old) (raced_in races.new) }
+        ensures same { self.new ≡ self.old }
+    {
+        self.detector.clear();
+        self.whole.put_aside();
+        self.stepped.put_aside();
+        watch_run(
+            &mut self.whole.machine,
+            &mut self.stepped.machine,
+            &self.hunt.plan_of(seed),
+            &mut self.detector,
+        );
+        self.whole.begin_again();
+        self.stepped.begin_again();
+        races.note(seed, &self.detector);
+    }
+
+    /// Notes what a seed comes to, and the races of its run. It takes no memory, and the hunt is as it was.
+    pub fn note_seed(&mut self, seed: u64, tally: &mut Tally, races: &mut RaceTally)
+        ensures noted { IsSeedNoted self.old seed tally.old tally.new }
+        ensures looked_at { IsLookedAt self.old seed (raced_in races.old) (raced_in races.new) }
+        ensures same { self.new ≡ self.old }
+    {
+        tally.note(seed, self.hunt.run_seed(seed));
+        self.look_at(seed, races);
+    }
+
+    /// Notes what the seeds of a range come to, in turn, and the races of their runs. An onlooker is told of each but the last one. Where
+    /// the hunt may end early, it ends behind the first seed after which the onlooker has no time. The answer is the range that was
+    /// noted. It takes no memory, and the hunt is as it was.
+    pub fn note_seeds<O: HuntOnlooker>(
+        &mut self,
+        tally: &mut Tally,
+        races: &mut RaceTally,
+        seeds: Seeds,
+        may_end: bool,
+        onlooker: &mut O,
+    ) -> Seeds
+        ensures begins { IsBeginning seeds may_end result }
+        ensures noted { AreNoted self.old seeds.first (result.last - seeds.first + 1)
+            tally.old tally.new }
+        ensures looked_at { AreLookedAt self.old seeds.first (result.last - seeds.first + 1)
+            (raced_in races.old) (raced_in races.new) }
+        ensures same { self.new ≡ self.old }
+    {
+        for seed in seeds.first..seeds.last {
+            self.note_seed(seed, tally, races);
+            if !onlooker.has_time(seed, tally) && may_end {
+                return Seeds {
+                    first: seeds.first,
+                    last: seed,
+                };
+            }
+        }
+        self.note_seed(seeds.last, tally, races);
+        seeds
+    }
+}

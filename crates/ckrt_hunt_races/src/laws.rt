@@ -1,0 +1,17 @@
+//! That what is told of a seed's run are its races, and no others. Each law is the contract of a function with an empty body.
+ghost use Rattle.ckrt_hunt_races.specs.RaceRuns.{OnlyRacesAreTold, RacesAreOfTheRun, RacesRepeat};
+
+/// Each pair that is told of a seed is of two accesses of its run that race.
+pub fn only_races_are_told()
+    ensures { OnlyRacesAreTold }
+{}
+
+/// A seed has the same races again.
+pub fn races_repeat()
+    ensures { RacesRepeat }
+{}
+
+/// The races that are told of a seed are those of the run whose outcome is told of it.
+pub fn races_are_of_the_run()
+    ensures { RacesAreOfTheRun }
+{}

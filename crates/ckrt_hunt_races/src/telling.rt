@@ -1,0 +1,166 @@
+//! A hunt from its image to its table, with the races of its runs where they are asked for.
+ghost use Rattle.std.specs.Prelude.{◌≡◌, ◌≢◌, ◌*◌, ◌-◌, ◌<◌, ◌↔◌, ◌++◌, length, true, IfErr, IfOk, IsErrOf, OnOk};
+ghost use Rattle.std.specs.Io.KnownBytes.{Appends};
+ghost use Rattle.ckrt_memory.specs.declared.MemoryError.TheVariants as memory;
+ghost use Rattle.ckrt_hunt.specs.declared.telling.HuntFault.TheVariants as hunt;
+ghost use Rattle.ckrt_hunt.specs.Table.{table_text};
+ghost use Rattle.ckrt_hunt_races.specs.Hunts.{IsHuntedWith, has_race, has_several, races_behind, told_text};
+
+use crate::hunt::RaceHunt;
+use crate::table::write_races;
+use crate::tally::RaceTally;
+use ckrt_hunt::{
+    Asked, HuntDone, HuntFault, HuntOnlooker, Input, Tally, hunt_and_tell, hunt_fault_of,
+    write_table,
+};
+use ckrt_memory::MemoryError;
+use std::alloc::Global;
+use std::io;
+use std::io::Write;
+
+/// What a hunt came to.
+#[derive(Drop)]
+pub struct HuntTold {
+    /// The seeds that were run, and what they came to.
+    pub done: HuntDone,
+    /// The races of their runs, where they were asked for.
+    pub races: Option<RaceTally>,
+}
+
+/// Whether some run had a race.
+fn has_race(races: &Option<RaceTally>) -> bool
+    ensures { result ≡ has_race races.now }
+{
+    match races {
+        Some(races) => races.has_some(),
+        None => false,
+    }
+}
+
+impl HuntTold {
+    /// Whether runs came to several outcomes, or one had a race.
+    pub fn has_several(&self) -> bool
+        ensures { result ≡ has_several self.now }
+    {
+        self.done.tally.has_several() || has_race(&self.races)
+    }
+}
+
+/// Runs the seeds, and looks at each run for races.
+fn hunt_for_races<O: HuntOnlooker>(
+    alloc: Global,
+    image: &[u8],
+    input: Input<'_>,
+    asked: &Asked<'_>,
+    onlooker: &mut O,
+) -> Result<HuntTold, MemoryError>
+    ensures hunted { IfOk result (IsHuntedWith true image.now input.entry asked.now) }
+    ensures too_long { IsErrOf result memory.ImageTooLong
+        ↔ (4096 * (asked.now.shape.pages - 1) < length image.now) }
+{
+    let mut hunt = RaceHunt::new(alloc, image, asked.shape, input)?;
+    let mut tally = Tally::new(alloc)?;
+    let mut races = RaceTally::new(alloc)?;
+    let seeds = hunt.note_seeds(
+        &mut tally,
+        &mut races,
+        asked.seeds,
+        asked.may_end,
+        onlooker,
+    );
+    Ok(HuntTold {
+        done: HuntDone { seeds, tally },
+        races: Some(races),
+    })
+}
+
+/// Writes the races of a hunt, where they were asked for.
+#[tactic(auto, using(ckrt_hunt::proofs::AppendLemmas::appends_none))]
+fn write_races_behind<W: Write>(
+    out: &mut W,
+    asked: &Asked<'_>,
+    races: &Option<RaceTally>,
+) -> io::Result<()>
+    ensures { OnOk result
+        (Appends (W.contents out.old) (W.contents out.new) (races_behind asked.now races.now)) }
+{
+    match races {
+        Some(races) => write_races(out, asked, races),
+        None => Ok(()),
+    }
+}
+
+/// Writes what a hunt came to: the table of its outcomes, and its races behind it.
+#[tactic(auto, using(ckrt_hunt::proofs::AppendLemmas::appends_both))]
+fn write_told<W: Write>(out: &mut W, asked: &Asked<'_>, told: &HuntTold) -> io::Result<()>
+    ensures { OnOk result
+        (Appends (W.contents out.old) (W.contents out.new)
+        (table_text asked.now told.now.done.tally ++ races_behind asked.now told.now.races)) }
+{
+    write_table(out, asked, &told.done.tally)?;
+    write_races_behind(out, asked, &told.races)
+}
+
+/// The same as [`hunt_as_asked`], where races are asked for.
+fn hunt_and_tell_races<O: HuntOnlooker, W: Write>(
+    alloc: Global,
+    image: &[u8],
+    input: Input<'_>,
+    asked: &Asked<'_>,
+    onlooker: &mut O,
+    out: &mut W,
+) -> Result<HuntTold, HuntFault>
+    ensures hunted { IfOk result (IsHuntedWith true image.now input.entry asked.now) }
+    ensures told { IfOk result (λ told.
+        Appends (W.contents out.old) (W.contents out.new) (told_text asked.now told)) }
+    ensures too_long { IsErrOf result hunt.ImageTooLong
+        ↔ (4096 * (asked.now.shape.pages - 1) < length image.now) }
+    ensures unwritten { IfErr result (λ e. e ≢ hunt.Write → out.new ≡ out.old) }
+{
+    let told = match hunt_for_races(alloc, image, input, asked, onlooker) {
+        Ok(told) => told,
+        Err(fault) => return Err(hunt_fault_of(fault)),
+    };
+    let run = Asked {
+        seeds: told.done.seeds,
+        ..*asked
+    };
+    match write_told(out, &run, &told) {
+        Ok(()) => Ok(told),
+        Err(_) => Err(HuntFault::Write),
+    }
+}
+
+/// Hunts a program that begins with this image, and is given this to read: runs each seed of the range in turn, and writes the table of
+/// what they came to. Where races are asked for, each run is looked at for them too, and they are written behind the table. Where the
+/// hunt may end early, an onlooker says behind which seed it does, and what is told is that of the seeds up to it. All room is taken
+/// before the first run.
+///
+/// # Errors
+///
+/// `ImageTooLong` where the image has more bytes than the pages from page 1 on, and `OutOfMemory` where the allocator
+/// refuses the room, before anything is written; `Write` where the writer failed.
+pub fn hunt_as_asked<O: HuntOnlooker, W: Write>(
+    alloc: Global,
+    image: &[u8],
+    input: Input<'_>,
+    asked: &Asked<'_>,
+    onlooker: &mut O,
+    out: &mut W,
+) -> Result<HuntTold, HuntFault>
+    ensures hunted { IfOk result
+        (IsHuntedWith asked.now.races image.now input.entry asked.now) }
+    ensures told { IfOk result (λ told.
+        Appends (W.contents out.old) (W.contents out.new) (told_text asked.now told)) }
+    ensures too_long { IsErrOf result hunt.ImageTooLong
+        ↔ (4096 * (asked.now.shape.pages - 1) < length image.now) }
+    ensures unwritten { IfErr result (λ e. e ≢ hunt.Write → out.new ≡ out.old) }
+{
+    if asked.races {
+        return hunt_and_tell_races(alloc, image, input, asked, onlooker, out);
+    }
+    match hunt_and_tell(alloc, image, input, asked, onlooker, out) {
+        Ok(done) => Ok(HuntTold { done, races: None }),
+        Err(fault) => Err(fault),
+    }
+}
