@@ -40,9 +40,7 @@ pub use runs::{Finished, Told, run};
 pub use seeds::Seeds;
 pub use shape::Shape;
 pub use shorten::{Found, MOST_TRIES, Tries, as_drawn, room_for};
-pub use table::{
-    Asked, write_command_line, write_kept, write_runs, write_table, write_unkept,
-};
+pub use table::{Asked, write_command_line, write_kept, write_runs, write_table, write_unkept};
 pub use tally::{TALLY_ROWS, Tally};
 pub use telling::{HuntDone, HuntFault, hunt_and_tell, hunt_fault_of};
 pub use texts::write_counted;

@@ -1,1 +1,6 @@
 mod RowLemmas
+mod SizeLemmas
+mod WalkLemmas
+mod NotedLemmas
+mod TableLemmas
+mod LawLemmas

@@ -61,13 +61,7 @@ fn hunt_for_races<O: HuntOnlooker>(
     let mut hunt = RaceHunt::new(alloc, image, asked.shape, input)?;
     let mut tally = Tally::new(alloc)?;
     let mut races = RaceTally::new(alloc)?;
-    let seeds = hunt.note_seeds(
-        &mut tally,
-        &mut races,
-        asked.seeds,
-        asked.may_end,
-        onlooker,
-    );
+    let seeds = hunt.note_seeds(&mut tally, &mut races, asked.seeds, asked.may_end, onlooker);
     Ok(HuntTold {
         done: HuntDone { seeds, tally },
         races: Some(races),

@@ -24,7 +24,7 @@ end_status (Some WaitsForInput) status = 3
 end_status (Some Deadlock) status = 4
 end_status (Some Enough) status = 5
 
--- the program's status for a job: 0 where it is done; of a drive, its end's; of a hunt with several outcomes 8
+-- the program's status for a job: 0 where it is done; of a drive, its end's; of a hunt with several outcomes, or a race, 8
 abbrev pub status_of : Result Done JobFault → ℕ
 status_of (Ok done.Whole) = 0
 status_of (Ok (done.Driven driven)) = end_status driven.ending driven.status

@@ -8,6 +8,6 @@ pub enum Done {
     Whole,
     /// A drive came to this.
     Driven(Driven),
-    /// The runs of a hunt came to several outcomes.
+    /// The runs of a hunt came to several outcomes, or one had a race.
     Several,
 }

@@ -245,7 +245,7 @@ fn perform<
 /// drive is looked on by the meter, and so is a hunt. The answer is the program's status: 0 where all was done, 1 for a fault, 2 for words that
 /// name no job. Of a drive it is 0 where the guest ended by `exit 0` alone, 3 where it waits for input, 4 for a deadlock, 5 where
 /// it made as many events as were asked for, 6 where a fault ended the guest, 7 where the guest ended by another status. Of a hunt
-/// it is 8 where its runs came to several outcomes.
+/// it is 8 where its runs came to several outcomes, or one had a race that was looked for.
 pub fn run_words_with<
     'a,
     I: Read + Drop,

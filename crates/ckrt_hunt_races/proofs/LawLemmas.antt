@@ -1,0 +1,35 @@
+-- The races of a seed's run are races, always the same, and of the run whose outcome is told.
+use Rattle.std.proofs.Common.{◌≡◌, ◌∙◌, ℕ, List, [], ◌∷◌, ap, sym, subst}
+use Rattle.std.specs.List.{AllByRecursion}
+use Rattle.ckrt_events.specs.Bytes.{IsInRange}
+use Rattle.ckrt_events.specs.declared.event.Event.{Event}
+use Rattle.ckrt_machine.specs.Events.{AllAccepted, step}
+use Rattle.ckrt_machine.specs.Steps.{State}
+use Rattle.ckrt_order.specs.Detection.{Found}
+use Rattle.ckrt_order.specs.Laws.{IsRaceOf}
+use Rattle.ckrt_races.specs.Laws.{history_of}
+use Rattle.ckrt_races.specs.Recorded.{found_by}
+use Rattle.ckrt_races.proofs.RiseLemmas.{only_races_told}
+use Rattle.ckrt_hunt.specs.Runs.{beginning}
+use Rattle.ckrt_hunt.specs.Tallies.{plan_in}
+use Rattle.ckrt_hunt.proofs.RunLemmas.{same_events}
+use Rattle.ckrt_hunt_races.specs.RaceRuns.{OnlyRacesAreTold, RacesAreOfTheRun, RacesRepeat}
+
+-- accepted events are in their ranges
+all_in_range : (es : List Event) (s : State) → AllAccepted es s → AllByRecursion IsInRange es
+all_in_range [] s a = tt
+all_in_range (e ∷ es) s a = (a.0.in_range, all_in_range es (step e s).state a.1)
+
+pub only_races : OnlyRacesAreTold
+only_races h seed found has =
+    subst (λ (f : Found). AllByRecursion (IsRaceOf (history_of 0 has.events h.start)) f.pairs) (sym has.is_found)
+    (only_races_told 0 has.events h.start (all_in_range has.events h.start has.accepted))
+
+pub repeat : RacesRepeat
+repeat h seed first second a b =
+    let same = same_events (plan_in h seed) a.events b.events (beginning h.start) a.ending b.ending a.scheduled a.ended b.scheduled b.ended in
+    a.is_found ∙ ap (λ (es : List Event). found_by 0 es h.start) same ∙ sym b.is_found
+
+pub of_the_run : RacesAreOfTheRun
+of_the_run h seed told found comes has =
+    same_events (plan_in h seed) comes.events has.events (beginning h.start) comes.ending has.ending comes.scheduled comes.ended has.scheduled has.ended

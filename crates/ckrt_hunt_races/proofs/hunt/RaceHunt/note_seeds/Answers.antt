@@ -1,0 +1,71 @@
+use Rattle.std.proofs.Common.{◌≡◌, ◌∙◌, ◌+◌, ◌-◌, subst, arith}
+use Rattle.ckrt_hunt.specs.Tallies.{AreNoted, Hunted}
+use Rattle.ckrt_hunt.proofs.TallyLemmas.{noted_on}
+use Rattle.ckrt_hunt_races.specs.Races.{raced_in}
+use Rattle.ckrt_hunt_races.specs.RaceRuns.{AreLookedAt, IsLookedAt, IsSeedNoted}
+use Rattle.ckrt_hunt_races.proofs.NotedLemmas.{looked_on}
+use Rattle.ckrt_hunt_races.proofs.hunt.RaceHunt.note_seeds.Goals as goal
+
+pub loop-seed-preserved : goal.loop-seed-preserved
+loop-seed-preserved g c =
+    let h = c.args.self.now in
+    let seed = c.loop-seed.seed in
+    let so_far = c.loop-seed.invariant in
+    let n = subst (λ (h : Hunted). IsSeedNoted h seed c.loop-seed.tally c.note_seed.new.tally) so_far.same c.note_seed.ensures.noted in
+    let l = subst (λ (h : Hunted). IsLookedAt h seed (raced_in c.loop-seed.races) (raced_in c.note_seed.new.races)) so_far.same c.note_seed.ensures.looked_at in
+    record {
+      noted = noted_on h c.args.seeds.first seed n.told c.args.tally.now c.loop-seed.tally c.note_seed.new.tally (omega arith) so_far.noted n.comes n.noted;
+      looked_at = looked_on h c.args.seeds.first seed (raced_in c.args.races.now) (raced_in c.loop-seed.races) (raced_in c.note_seed.new.races) (omega arith) so_far.looked_at l;
+      same = c.note_seed.ensures.same ∙ so_far.same;
+      few = omega arith;
+    }
+
+-- it ends behind this seed
+pub returns-then-may_end-clause-noted : goal.returns-then-may_end-clause-noted
+returns-then-may_end-clause-noted g c =
+    let h = c.args.self.now in
+    let first = c.args.seeds.first in
+    let seed = c.loop-seed.seed in
+    let more : seed + 1 - first ≡ seed - first + 1 = omega arith in
+    let n = subst (λ (h : Hunted). IsSeedNoted h seed c.loop-seed.tally c.note_seed.new.tally) c.loop-seed.invariant.same c.note_seed.ensures.noted in
+    subst (λ n. AreNoted h first n c.args.tally.now c.note_seed.new.tally) more
+    (noted_on h first seed n.told c.args.tally.now c.loop-seed.tally c.note_seed.new.tally (omega arith) c.loop-seed.invariant.noted n.comes n.noted)
+
+pub returns-then-may_end-clause-looked_at : goal.returns-then-may_end-clause-looked_at
+returns-then-may_end-clause-looked_at g c =
+    let h = c.args.self.now in
+    let first = c.args.seeds.first in
+    let seed = c.loop-seed.seed in
+    let more : seed + 1 - first ≡ seed - first + 1 = omega arith in
+    let l = subst (λ (h : Hunted). IsLookedAt h seed (raced_in c.loop-seed.races) (raced_in c.note_seed.new.races)) c.loop-seed.invariant.same c.note_seed.ensures.looked_at in
+    subst (λ n. AreLookedAt h first n (raced_in c.args.races.now) (raced_in c.note_seed.new.races)) more
+    (looked_on h first seed (raced_in c.args.races.now) (raced_in c.loop-seed.races) (raced_in c.note_seed.new.races) (omega arith) c.loop-seed.invariant.looked_at l)
+
+pub returns-then-may_end-clause-same : goal.returns-then-may_end-clause-same
+returns-then-may_end-clause-same g c = c.note_seed.ensures.same ∙ c.loop-seed.invariant.same
+
+-- the last seed comes behind all others
+pub returns-clause-noted : goal.returns-clause-noted
+returns-clause-noted g c =
+    let h = c.args.self.now in
+    let s = c.args.seeds in
+    let at : c.loop-seed.seed - s.first ≡ s.last - s.first = omega arith in
+    let more : s.last + 1 - s.first ≡ s.last - s.first + 1 = omega (arith, s.ordered) in
+    let before = subst (λ n. AreNoted h s.first n c.args.tally.now c.loop-seed.tally) at c.loop-seed.invariant.noted in
+    let n = subst (λ (h : Hunted). IsSeedNoted h s.last c.loop-seed.tally c.note_seed-2.new.tally) c.loop-seed.invariant.same c.note_seed-2.ensures.noted in
+    subst (λ n. AreNoted h s.first n c.args.tally.now c.note_seed-2.new.tally) more
+    (noted_on h s.first s.last n.told c.args.tally.now c.loop-seed.tally c.note_seed-2.new.tally s.ordered before n.comes n.noted)
+
+pub returns-clause-looked_at : goal.returns-clause-looked_at
+returns-clause-looked_at g c =
+    let h = c.args.self.now in
+    let s = c.args.seeds in
+    let at : c.loop-seed.seed - s.first ≡ s.last - s.first = omega arith in
+    let more : s.last + 1 - s.first ≡ s.last - s.first + 1 = omega (arith, s.ordered) in
+    let before = subst (λ n. AreLookedAt h s.first n (raced_in c.args.races.now) (raced_in c.loop-seed.races)) at c.loop-seed.invariant.looked_at in
+    let l = subst (λ (h : Hunted). IsLookedAt h s.last (raced_in c.loop-seed.races) (raced_in c.note_seed-2.new.races)) c.loop-seed.invariant.same c.note_seed-2.ensures.looked_at in
+    subst (λ n. AreLookedAt h s.first n (raced_in c.args.races.now) (raced_in c.note_seed-2.new.races)) more
+    (looked_on h s.first s.last (raced_in c.args.races.now) (raced_in c.loop-seed.races) (raced_in c.note_seed-2.new.races) s.ordered before l)
+
+pub returns-clause-same : goal.returns-clause-same
+returns-clause-same g c = c.note_seed-2.ensures.same ∙ c.loop-seed.invariant.same

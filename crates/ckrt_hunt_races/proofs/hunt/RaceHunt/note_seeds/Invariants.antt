@@ -1,0 +1,14 @@
+use Rattle.std.proofs.Common.{◌≡◌, ◌≤◌, ◌-◌}
+use Rattle.ckrt_hunt.specs.Tallies.{AreNoted}
+use Rattle.ckrt_hunt_races.specs.Races.{raced_in}
+use Rattle.ckrt_hunt_races.specs.RaceRuns.{AreLookedAt}
+use Rattle.ckrt_hunt_races.proofs.hunt.RaceHunt.note_seeds.Given as goal
+
+-- the seeds before it have been noted and looked at
+abbrev pub invariant-loop-seed : goal.invariant-loop-seed
+invariant-loop-seed g l = record {
+  noted : AreNoted l.fn.self l.seeds.first (l.seed - l.seeds.first) l.fn.tally l.tally;
+  looked_at : AreLookedAt l.fn.self l.seeds.first (l.seed - l.seeds.first) (raced_in l.fn.races) (raced_in l.races);
+  same : l.self ≡ l.fn.self;
+  few : l.seed - l.seeds.first ≤ l.seeds.last - l.seeds.first;
+}
