@@ -1,6 +1,7 @@
 mod RowLemmas
 mod SizeLemmas
 mod WalkLemmas
+mod ReadyLemmas
 mod NotedLemmas
 mod TableLemmas
 mod LawLemmas

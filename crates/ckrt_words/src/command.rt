@@ -431,7 +431,7 @@ fn hunt_arguments<'a>(alloc: Global) -> Result<Vec<Arg<'a>>, AllocError>
             alloc,
             "keep",
             "DISK",
-            "A new disk for the run of the first seed, by a schedule of few switches; FOLDER/ keeps each outcome in that folder"
+            "A new disk for the run of the first seed, by a schedule of few switches, but with --races as it was drawn; FOLDER/ keeps each outcome in that folder"
         ),
         place(
             alloc,

@@ -1,0 +1,12 @@
+use Rattle.std.proofs.lemmas.Result.{on_ok_weaker}
+use Rattle.ckrt_hunt.specs.Table.{table_text}
+use Rattle.ckrt_hunt.proofs.AppendLemmas.{appends_both}
+use Rattle.ckrt_hunt_races.specs.Hunts.{races_behind}
+use Rattle.ckrt_hunt_races.proofs.telling.write_told.Goals as goal
+
+-- the races behind the table
+pub returns : goal.returns
+returns g c =
+    let has = g.W.Write.contents in
+    on_ok_weaker c.write_races_behind.result (λ last.
+    appends_both (has c.args.out.now) (has c.write_table.new.out) (has c.write_races_behind.new.out) (table_text c.args.asked.now c.args.told.now.done.tally) (races_behind c.args.asked.now c.args.told.now.races) c.in_ok-write_table.ensures last) c.write_races_behind.ensures

@@ -1,0 +1,58 @@
+use Rattle.std.proofs.Common.{◌≡◌, ◌≤◌, ◌∙◌, ◌++◌, ℕ, List, None, ap, subst, sym, arith}
+use Rattle.ckrt_events.specs.declared.event.Event.{Event}
+use Rattle.ckrt_machine.specs.Events.{After, refusal_of, step}
+use Rattle.ckrt_machine.specs.Steps.{State}
+use Rattle.ckrt_machine.proofs.Fixed.{same_harts}
+use Rattle.ckrt_state.specs.declared.table.Tables.{Tables}
+use Rattle.ckrt_order.specs.Detection.{Watched, behind_all}
+use Rattle.ckrt_races.specs.Steps.{of_event}
+use Rattle.ckrt_hunt.specs.declared.made.Made.{Made}
+use Rattle.ckrt_hunt.specs.Plans.{made_with, steps_made}
+use Rattle.ckrt_hunt.specs.Turns.{runner_of}
+use Rattle.ckrt_hunt.proofs.TurnLemmas.{ran_within}
+use Rattle.ckrt_hunt_races.proofs.WalkLemmas.{seen_on, turns_within}
+use Rattle.ckrt_hunt_races.proofs.walk.watch_next.Goals as goal
+
+pub watch_event-requires : goal.watch_event-requires
+watch_event-requires c = record {
+  in_range = c.requires.fit.in_range;
+  accepted = subst (λ (s : State). refusal_of 0 c.args.event.now s ≡ None) (sym c.requires.alike.same) c.requires.fit.accepted;
+}
+
+pub with-requires : goal.with-requires
+with-requires c =
+    let fit = c.requires.fit in
+    let answers = ap (λ (a : After). steps_made a.answer) c.step-answer.ensures.step in
+    record {
+      turns = omega (arith, fit.limit, fit.events, c.requires.alike.turns);
+      events = omega (arith, fit.limit, fit.events);
+      steps = omega (arith, fit.limit, fit.steps, answers, ran_within c.args.event.now c.args.whole.now.state);
+    }
+
+pub returns-clause-seen : goal.returns-clause-seen
+returns-clause-seen c = λ start h.
+    let e = c.args.event.now in
+    let m = c.args.made.now in
+    let w = c.args.detector.now in
+    let noted = c.watch_event.ensures.watched
+    ∙ ap (λ k. behind_all (of_event k e c.args.stepped.now.state) w) c.from.ensures
+    ∙ ap (λ (s : State). behind_all (of_event m.events e s) w) c.requires.alike.same in
+    seen_on c.args.plan.now start m _ c.args.whole.now.state _ e c.runner_of-who.result c.step-answer.result _ w _ (c.runner_of-who.ensures ∙ ap (λ (t : Tables). runner_of e t) c.tables.ensures.tables) c.with.ensures c.step-answer.ensures.step c.requires.scheduled (record { in_range = c.requires.fit.in_range; accepted = c.requires.fit.accepted }) noted h
+
+pub returns-clause-alike : goal.returns-clause-alike
+returns-clause-alike c =
+    let e = c.args.event.now in
+    let s = c.args.whole.now.state in
+    let m = c.args.made.now in
+    let harts = ap (λ (a : After). a.state.tables.threads.hart_count) c.step-answer.ensures.step ∙ same_harts e s in
+    record {
+      same = c.watch_event.ensures.state ∙ ap (λ (t : State). (step e t).state) c.requires.alike.same ∙ sym (ap (λ (a : After). a.state) c.step-answer.ensures.step);
+      turns = subst (λ (n : Made). n.turns ≤ n.events) (sym c.with.ensures) (turns_within c.args.plan.now c.runner_of-who.result c.step-answer.result m c.requires.alike.turns);
+      harts = omega (arith, harts, c.requires.alike.harts);
+    }
+
+pub returns-clause-size : goal.returns-clause-size
+returns-clause-size c = record {
+  harts = ap (λ (a : After). a.state.tables.threads.hart_count) c.step-answer.ensures.step ∙ same_harts c.args.event.now c.args.whole.now.state;
+  bytes = c.step-answer.auto.self.bytes;
+}

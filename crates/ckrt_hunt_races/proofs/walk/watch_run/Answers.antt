@@ -1,0 +1,48 @@
+use Rattle.std.proofs.Common.{◌≡◌, ◌∙◌, arith, ap, length, sym, subst, refl}
+use Rattle.ckrt_machine.specs.Steps.{State}
+use Rattle.ckrt_hunt.specs.declared.made.Made.{Made}
+use Rattle.ckrt_hunt_races.specs.RaceRuns.{AreAlike, HasSeen}
+use Rattle.ckrt_hunt_races.proofs.WalkLemmas.{seen_first, sees}
+use Rattle.ckrt_hunt_races.proofs.walk.watch_run.Goals as goal
+
+pub events-init : goal.events-init
+events-init c = record {
+  seen = subst (λ (m : Made). HasSeen c.args.plan.now c.args.whole.now.state m c.args.whole.now.state c.args.detector.now) (sym c.nothing-made.ensures) (seen_first c.args.plan.now c.args.whole.now.state c.args.detector.now c.requires.watched);
+  alike = record { same = c.requires.same; turns = grind (arith, c.nothing-made.ensures); harts = c.requires.harts };
+  size = record { harts = refl; bytes = refl };
+}
+
+pub next-requires : goal.next-requires
+next-requires c = c.events.invariant.alike.harts
+
+pub watch_next-requires : goal.watch_next-requires
+watch_next-requires c = record {
+  scheduled = sym c.in-Submit.ensures.next;
+  fit = c.in-Submit.ensures.fit;
+  alike = c.events.invariant.alike;
+}
+
+pub events-preserved : goal.events-preserved
+events-preserved c = record {
+  seen = c.watch_next.ensures.seen c.args.whole.now.state c.events.invariant.seen;
+  alike = c.watch_next.ensures.alike;
+  size = record {
+    harts = c.watch_next.ensures.size.harts ∙ c.events.invariant.size.harts;
+    bytes = c.watch_next.ensures.size.bytes ∙ c.events.invariant.size.bytes;
+  };
+}
+
+pub events-smaller : goal.events-smaller
+events-smaller c = omega (arith, c.in-Submit.ensures.fit.events, c.watch_next.ensures.events)
+
+pub returns-in-End-clause-seen : goal.returns-in-End-clause-seen
+returns-in-End-clause-seen c = sees c.args.plan.now c.args.whole.now.state c.events.made c.events.whole.state c.events.detector _ c.events.invariant.seen (sym c.in-End.ensures.next)
+
+pub returns-in-End-clause-whole : goal.returns-in-End-clause-whole
+returns-in-End-clause-whole c = c.events.invariant.size
+
+pub returns-in-End-clause-stepped : goal.returns-in-End-clause-stepped
+returns-in-End-clause-stepped c = record {
+  harts = ap (λ (s : State). s.tables.threads.hart_count) c.events.invariant.alike.same ∙ c.events.invariant.size.harts;
+  bytes = ap (λ (s : State). length s.bytes) c.events.invariant.alike.same ∙ c.events.invariant.size.bytes;
+}
