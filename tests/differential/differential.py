@@ -28,6 +28,7 @@ from lived import LivedCase, difference_of_lived
 from mixed_cases import MixedCase, difference_of_mixed
 from moved import MovedCase, difference_of_moved
 from profiled import ProfilesCase, difference_of_profiles
+from raced import RacedCase, difference_of_raced
 from recovery import Unrecovered
 from streams import joined
 from switches import SWITCHES
@@ -241,6 +242,8 @@ def first_difference(ckrt, case, folder, tally, count_life):
             return difference_of_debugged(ckrt, case, path, tally)
         case TimedCase():
             return difference_of_timed(ckrt, case, folder, tally)
+        case RacedCase():
+            return difference_of_raced(ckrt, case, folder, tally)
         case HuntsCase():
             return difference_of_hunts(ckrt, case, folder, tally)
         case WordsCase():

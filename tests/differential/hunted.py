@@ -6,12 +6,11 @@ from dataclasses import dataclass
 from abi import Call
 from assembler import STOP, Jump, call_words, image_of
 from guests import RETURN
-from hunts import Options, fold, is_fed, line_of_kept, lines_of_table, text_of_outcome
+from hunts import Folded, Options, fold, is_fed, line_of_kept, lines_of_table, status_of, text_of_outcome
 from sharers import Sharer
 from stretches import Recording
 
 TIME_LIMIT = 60
-SEVERAL = 8  # the status where there are several outcomes
 LAST_SEED = 2 ** 64 - 2
 
 
@@ -61,25 +60,46 @@ def hunt(ckrt, folder, seeds, options, *more):
     return done.returncode, done.stdout.splitlines()
 
 
-def difference_of_kept(ckrt, case, folder, seed):
-    """The outcome by the kept disk, and None or where that and the lines differ."""
-    disk = folder / "kept"
+@dataclass
+class Kept:
+    """What a seed's hunt shows, and what the disk that it keeps has recorded, which comes to an outcome."""
+    status: int
+    lines: list
+    recording: Recording
+    folded: Folded
+    outcome: str
+
+
+def kept_run(ckrt, case, folder, seed):
+    """That of a seed, and None or what is wrong with its disk."""
+    disk, options = folder / "kept", case.options
     disk.unlink(missing_ok=True)
-    status, lines = hunt(ckrt, folder, [seed], case.options, "--keep", "kept")
+    status, lines = hunt(ckrt, folder, [seed], options, "--keep", "kept")
+    if not disk.exists():
+        return None, f"no disk: {status} {lines}"
     recording = Recording(bytearray(disk.read_bytes()))
     if recording.first or bytes(recording.machine.memory.bytes).rstrip(b"\0") != case.image.rstrip(b"\0"):
         return None, f"a disk of {recording.first} events at its begin, or of another image"
     if not is_fed(recording, case.input):
         return None, "an input that isn't given as a drive gives it"
     folded = fold(recording)
-    outcome, drawn = text_of_outcome(folded, case.options.steps), re.search(r"drawn with (\d+)$", lines[-1])
-    if drawn is None or int(drawn[1]) < folded.switches:
-        return outcome, f"{folded.switches} switches: {lines[-1]}"
-    expected = [*lines_of_table("image", {seed: outcome}, case.options), line_of_kept(seed, "kept", folded.switches, drawn[1])]
-    most = max(folded.steps, folded.events)
-    if most > case.options.steps or (outcome.startswith("no end") and most < case.options.steps):
-        return outcome, f"{outcome}: {folded.steps} steps and {folded.events} events"
-    return outcome, None if (status, lines) == (0, expected) else f"model {expected}, program {status} {lines}"
+    outcome, most = text_of_outcome(folded, options.steps), max(folded.steps, folded.events)
+    if most > options.steps or (outcome.startswith("no end") and most < options.steps):
+        return None, f"{outcome}: {folded.steps} steps and {folded.events} events"
+    return Kept(status, lines, recording, folded, outcome), None
+
+
+def difference_of_kept(ckrt, case, folder, seed):
+    """The outcome by the kept disk, and None or where that and the lines differ."""
+    kept, difference = kept_run(ckrt, case, folder, seed)
+    if difference:
+        return None, difference
+    switches, drawn = kept.folded.switches, re.search(r"drawn with (\d+)$", kept.lines[-1])
+    if drawn is None or int(drawn[1]) < switches:
+        return None, f"{switches} switches: {kept.lines[-1]}"
+    expected = [*lines_of_table("image", {seed: kept.outcome}, case.options), line_of_kept(seed, "kept", switches, drawn[1])]
+    shown = kept.status, kept.lines
+    return kept.outcome, None if shown == (0, expected) else f"model {expected}, program {shown}"
 
 
 def difference_of_hunts(ckrt, case, folder, tally):
@@ -93,6 +113,6 @@ def difference_of_hunts(ckrt, case, folder, tally):
         if difference:
             return f"seed {seed}: {difference}"
         tally["outcome of a hunt", outcomes[seed].split(",")[0].split()[0]] += 1
-    expected = SEVERAL if len(set(outcomes.values())) > 1 else 0, lines_of_table("image", outcomes, case.options)
+    expected = status_of(outcomes.values()), lines_of_table("image", outcomes, case.options)
     shown = hunt(ckrt, folder, case.seeds, case.options)
     return None if shown == expected else f"table: model {expected}, program {shown}"

@@ -1,4 +1,5 @@
-"""What `ckrt hunt` tells of runs: what the events of a kept disk come to, how many switches they have, and the table of several seeds."""
+"""What `ckrt hunt` tells of runs: what the events of a kept disk come to, how many switches they have, and the table of several seeds,
+with the races of their runs where these are asked for."""
 from collections import Counter
 from copy import deepcopy
 from dataclasses import dataclass, field
@@ -9,9 +10,11 @@ from feeding import next_input
 from listing import CAUSES, address_text
 from machine import Machine
 from processor import Cause
+from races import PAIRS, text_of_pair
 from threads import Status, WaitKind
 
 DIGITS = 8  # of a digest
+SEVERAL = 8  # the status where there are several outcomes, or a race
 AWAITED = {WaitKind.JOIN: "the end of thread {}", WaitKind.LOCK: "mutex {}", WaitKind.RETAKE: "mutex {}", WaitKind.CONDITION: "condition {}",
            WaitKind.BARRIER: "barrier {}", WaitKind.READ: "read lock {}", WaitKind.WRITE: "write lock {}"}
 MUTEX_WAITS = {WaitKind.LOCK, WaitKind.RETAKE}
@@ -90,10 +93,11 @@ class Options:
     harts: int
     steps: int
     input: str | None = None  # the path of the file that each run reads
+    is_raced: bool = False  # whether each run is looked at for races
 
     def words(self):
         fed = f" --input {self.input}" if self.input else ""
-        return f"--pages {self.pages} --harts {self.harts} --steps {self.steps}{fed}"
+        return f"--pages {self.pages} --harts {self.harts} --steps {self.steps}{fed}{' --races' if self.is_raced else ''}"
 
 
 def command_of(image, seed, options):
@@ -112,5 +116,28 @@ def lines_of_table(image, outcomes, options):
     return lines
 
 
+def lines_of_races(image, found, options):
+    """Of the races by seed, in the order of the seeds: each pair of places once, with how many runs have it, and the accesses of the
+    first one. Other runs are counted where they have a pair that has no line, or races beyond the pairs that are kept of a run."""
+    first, lines = {}, []
+    for seed, races in found.items():
+        for places, pair in races.pairs.items():
+            first.setdefault(places, (seed, pair))
+    told = dict(list(first.items())[:PAIRS])
+    for number, (places, (seed, pair)) in enumerate(told.items(), 1):
+        count = sum(places in races.pairs for races in found.values())
+        lines += [f"race {number}: {count} of {len(found)} runs, first by seed {seed}: {text_of_pair(pair)}",
+                  f"    {command_of(image, seed, options)}"]
+    left = sum(bool(races.others) or not races.pairs.keys() <= told.keys() for races in found.values())
+    lines += [f"other races: in {left} of {len(found)} runs"] if left else []
+    return lines or [f"no races in {len(found)} runs; other schedules may have some"]
+
+
+def status_of(outcomes, found=()):
+    """Of the outcomes of all runs, and of their races."""
+    return SEVERAL if len(set(outcomes)) > 1 or any(races.pairs for races in found) else 0
+
+
 def line_of_kept(seed, path, switches, drawn):
-    return f"kept: the run of seed {seed} on {path}, switches: {switches}, drawn with {drawn}"
+    """`drawn` is how many switches the drawn run has; None where that is the one that is kept."""
+    return f"kept: the run of seed {seed} on {path}, switches: {switches}, {'as it was drawn' if drawn is None else f'drawn with {drawn}'}"

@@ -50,12 +50,16 @@ class Races:
 
     def lines(self):
         """In the order in which the pairs were found."""
-        lines = [f"{text_of_access(pair.first)}, {text_of_access(pair.second)}, {times(pair.count)}" for pair in self.pairs.values()]
+        lines = [f"{text_of_pair(pair)}, {times(pair.count)}" for pair in self.pairs.values()]
         return lines + ([f"and {times(self.others)} at other places"] if self.others else []) or [NO_RACES]
 
 
 def times(count):
     return "once" if count == 1 else f"{count} times"
+
+
+def text_of_pair(pair):
+    return f"{text_of_access(pair.first)}, {text_of_access(pair.second)}"
 
 
 def text_of_access(access):

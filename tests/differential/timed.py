@@ -1,11 +1,14 @@
-"""Cases of hunts by time: the table is that of the seeds that were run, lines of progress fit it, and what is kept comes to its outcomes."""
+"""Cases of hunts by time: the table is that of the seeds that were run, lines of progress fit it, and what is kept comes to its outcomes, and
+has its races."""
 import re
 import subprocess
 import time
-from dataclasses import dataclass
+from dataclasses import dataclass, replace
 
-from hunted import SEVERAL, TIME_LIMIT, Hunted
-from hunts import Options, command_of, fold, line_of_kept, text_of_outcome
+from hunted import TIME_LIMIT, Hunted
+from hunts import SEVERAL, Options, command_of, fold, line_of_kept, text_of_outcome
+from race_rows import difference_of_rows, rows_of_races, split_table
+from races import Readings
 from stretches import Recording
 
 SECONDS = 1
@@ -40,7 +43,9 @@ class Outcome:
 
 def timed_case(chance, seed):
     options = Options(chance.choice([16, 17]), chance.choice([1, 2]), chance.choice([500, 3000]))
-    return TimedCase(Hunted(chance, False).image, options, chance.choice([None, "kept", "folder/", "folder/"]), chance.choice([0, 0, 500]), chance.choice(REFUSED))
+    case = TimedCase(Hunted(chance, False).image, options, chance.choice([None, "kept", "folder/", "folder/"]), chance.choice([0, 0, 500]), chance.choice(REFUSED))
+    case.options = replace(options, is_raced=chance.random() < 0.5)
+    return case
 
 
 def outcomes_of(lines, options):
@@ -60,6 +65,14 @@ def outcomes_of(lines, options):
     others = [int(last[1])] if last and int(last[2]) == total else []
     is_whole = len(lines) == 2 * len(found) <= 2 * MOST_OUTCOMES and sum([one.count for one in found] + others) == total
     return (found, total) if is_whole and sorted(set(firsts)) == firsts and len(set(texts)) == len(texts) else None
+
+
+def rows_of(table, options):
+    """The outcomes of a table, the number of all runs, and its races, where these are asked for; None where it is none."""
+    lines, races = split_table(table) if options.is_raced else (table, [])
+    read = outcomes_of(lines, options)
+    rows = rows_of_races(races, options, read[1]) if read and options.is_raced else []
+    return None if read is None or rows is None else (*read, rows)
 
 
 def difference_of_progress(lines, found, first, total, seconds):
@@ -101,20 +114,22 @@ def difference_of_timed(ckrt, case, folder, tally):
     words = ["--seconds", str(SECONDS), "--progress", "1", *(["--keep", case.keep] if case.keep else [])]
     status, lines, errors, took = run_hunt(ckrt, case, folder, *words)
     table = [line for line in lines if not line.startswith("kept: ")]
-    read = outcomes_of(table, case.options)
+    read = rows_of(table, case.options)
     if read is None:
         return f"no table: {table[:6]}"
-    found, total = read
+    found, total, races = read
     tally["hunt by time", "several" if len(found) > 1 else "one outcome"] += 1
     tally["hunt by time", "line of progress"] += len(errors)
-    if took < SECONDS or status != (SEVERAL if len(found) > 1 else 0):
-        return f"{took:.2f} seconds, status {status} with {len(found)} outcomes"
-    return (difference_of_refused(ckrt, case, folder) or difference_of_progress(errors, found, 1, total, took) or difference_of_disks(case, kept, found, lines[len(table):])
-            or difference_of_range(ckrt, case, folder, (status, table), total))
+    tally["hunt by time", "row of a race"] += len(races)
+    if took < SECONDS or status != (SEVERAL if len(found) > 1 or races else 0):
+        return f"{took:.2f} seconds, status {status} with {len(found)} outcomes and {len(races)} races"
+    return (difference_of_refused(ckrt, case, folder) or difference_of_progress(errors, found, 1, total, took)
+            or difference_of_disks(case, kept, found, races, lines[len(table):]) or difference_of_range(ckrt, case, folder, (status, table), total))
 
 
-def difference_of_disks(case, kept, found, told):
-    """What is kept: the run of the first seed, or one of each outcome. The disks are taken away."""
+def difference_of_disks(case, kept, found, races, told):
+    """What is kept: the run of the first seed, or one of each outcome, where races are asked for as it was drawn, with its races. The disks
+    are taken away."""
     if case.keep is None:
         return None if not told else f"nothing is kept: {told}"
     is_folder = case.keep.endswith("/")
@@ -123,8 +138,11 @@ def difference_of_disks(case, kept, found, told):
     if len(told) != len(wanted) or is_folder and len(list(kept.iterdir())) != len(wanted):
         return f"{len(wanted)} disks of the model, kept {told}"
     for (one, path), name, line in zip(wanted, names, told):
-        folded = fold(Recording(bytearray(path.read_bytes())))
-        drawn = line.rpartition(" ")[2]
+        recording = Recording(bytearray(path.read_bytes()))
+        folded, drawn = fold(recording), None if case.options.is_raced else line.rpartition(" ")[2]
+        difference = difference_of_rows(races, one.first, recording.show(Readings())) if case.options.is_raced else None
+        if difference:
+            return f"races on {path.name}: {difference}"
         if text_of_outcome(folded, case.options.steps) != one.text or line != line_of_kept(one.first, name, folded.switches, drawn):
             return f"{line}: model {text_of_outcome(folded, case.options.steps)}, {folded.switches} switches"
     empty(kept)
@@ -147,7 +165,7 @@ def difference_of_range(ckrt, case, folder, expected, total):
         return None
     first = 1 + case.shift
     _, table, errors, took = run_hunt(ckrt, case, folder, "--seeds", f"{first}-{first + total - 1}", "--progress", "1")
-    read = outcomes_of(table, case.options)
+    read = rows_of(table, case.options)
     return difference_of_progress(errors, read[0], first, total, took) if read and read[1] == total else f"no table: {table[:6]}"
 
 
