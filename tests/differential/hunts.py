@@ -1,5 +1,4 @@
-"""What `ckrt hunt` tells of runs: what the events of a kept disk come to, how many switches they have, and the table of several seeds,
-with the races of their runs where these are asked for."""
+"""What `ckrt hunt` tells of runs: what the events of a kept disk come to, how many switches they have, and the table of several seeds."""
 from collections import Counter
 from copy import deepcopy
 from dataclasses import dataclass, field
@@ -10,7 +9,6 @@ from feeding import next_input
 from listing import CAUSES, address_text
 from machine import Machine
 from processor import Cause
-from races import PAIRS, text_of_pair
 from threads import Status, WaitKind
 
 DIGITS = 8  # of a digest
@@ -114,23 +112,6 @@ def lines_of_table(image, outcomes, options):
         lines += [f"outcome {number}: {counts[outcome]} of {len(outcomes)} runs, first by seed {seed}: {outcome}",
                   f"    {command_of(image, seed, options)}"]
     return lines
-
-
-def lines_of_races(image, found, options):
-    """Of the races by seed, in the order of the seeds: each pair of places once, with how many runs have it, and the accesses of the
-    first one. Other runs are counted where they have a pair that has no line, or races beyond the pairs that are kept of a run."""
-    first, lines = {}, []
-    for seed, races in found.items():
-        for places, pair in races.pairs.items():
-            first.setdefault(places, (seed, pair))
-    told = dict(list(first.items())[:PAIRS])
-    for number, (places, (seed, pair)) in enumerate(told.items(), 1):
-        count = sum(places in races.pairs for races in found.values())
-        lines += [f"race {number}: {count} of {len(found)} runs, first by seed {seed}: {text_of_pair(pair)}",
-                  f"    {command_of(image, seed, options)}"]
-    left = sum(bool(races.others) or not races.pairs.keys() <= told.keys() for races in found.values())
-    lines += [f"other races: in {left} of {len(found)} runs"] if left else []
-    return lines or [f"no races in {len(found)} runs; other schedules may have some"]
 
 
 def status_of(outcomes, found=()):

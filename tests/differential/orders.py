@@ -48,12 +48,9 @@ class Orders:
         self.clocks, self.is_wide = clocks, is_wide
 
     def place(self, kind, address):
-        """Locks of one kind that count as one have one holder; those at other bytes of one word are other locks."""
+        """Locks of one kind that count as one have one holder; those at other bytes of one word are other locks. So have words of atomic
+        operations."""
         return kind, address % PLACES
-
-    def word(self, address):
-        """Words of atomic accesses are no locks, so no page says that some count as one. In the wide reading they do as locks do."""
-        return self.place("word", address) if self.is_wide else ("word", address)
 
     def hand_on(self, before, machine):
         """First what is given, then what is taken: a lock may go from hand to hand in one step."""

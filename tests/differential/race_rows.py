@@ -1,4 +1,4 @@
-"""The rows of races in a table of `ckrt hunt --races`, read back: what has to hold of them, whatever runs there were."""
+"""The rows of races in a table of `ckrt hunt --races`: those of some runs; and read back, what has to hold of them whatever runs there were."""
 import re
 from dataclasses import dataclass
 
@@ -9,6 +9,23 @@ ROW = re.compile(r"race (\d+): (\d+) of (\d+) runs, first by seed (\d+): (.+)")
 ACCESS = r"\d+\+\d+ thread \d+ (?:stores|loads) [0-9a-f]{8} pc ([0-9a-f]{8})"
 PAIR = re.compile(f"{ACCESS}, {ACCESS}")
 OTHERS = re.compile(r"other races: in (\d+) of (\d+) runs")
+
+
+def lines_of_races(image, found, options):
+    """Of the races by seed, in the order of the seeds: each pair of places once, with how many runs have it, and the accesses of the
+    first one. Other runs are counted where they have a pair that has no line, or races beyond the pairs that are kept of a run."""
+    first, lines = {}, []
+    for seed, races in found.items():
+        for places, pair in races.pairs.items():
+            first.setdefault(places, (seed, pair))
+    told = dict(list(first.items())[:PAIRS])
+    for number, (places, (seed, pair)) in enumerate(told.items(), 1):
+        count = sum(places in races.pairs for races in found.values())
+        lines += [f"race {number}: {count} of {len(found)} runs, first by seed {seed}: {text_of_pair(pair)}",
+                  f"    {command_of(image, seed, options)}"]
+    left = sum(bool(races.others) or not races.pairs.keys() <= told.keys() for races in found.values())
+    lines += [f"other races: in {left} of {len(found)} runs"] if left else []
+    return lines or [f"no races in {len(found)} runs; other schedules may have some"]
 
 
 @dataclass(frozen=True)

@@ -6,7 +6,8 @@ from abi import Call
 from assembler import Label, Program, call_words, image_of, immediate_form, load_number, store_form
 from glances import Glance, glance_of_program, kind_of_race
 from hunted import HuntsCase, hunt, hunts_case, kept_run
-from hunts import line_of_kept, lines_of_races, lines_of_table, status_of
+from hunts import line_of_kept, lines_of_table, status_of
+from race_rows import lines_of_races
 from races import Readings
 
 WORDS, MUTEX = 0x2800, 0x2000
@@ -136,7 +137,7 @@ def difference_of_raced(ckrt, case, folder, tally):
             return f"seed {seed}: {difference}"
     narrow, wide = tables_of(runs, case.options)
     tally["hunt for races", "shown" if narrow == wide else "left open"] += 1
-    tally.update(("line of a hunt for races", kind_of_race(line)) for line in narrow[1] if line.startswith(ROWS))
+    tally.update(("race of a hunt", kind_of_race(line)) for line in narrow[1] if line.startswith(ROWS))
     difference = difference_of_told(hunt(ckrt, folder, case.seeds, case.options), runs, case.options) or difference_of_folder(ckrt, case, folder, runs)
     if difference:
         return f"table: {difference}"

@@ -31,7 +31,7 @@ class Races:
         """An atomic store leads to each later atomic load of its word; neither is an access."""
         if access.is_atomic:
             hand = self.clocks.give if access.is_store else self.clocks.take
-            hand(access.thread, self.orders.word(access.word))
+            hand(access.thread, self.orders.place("word", access.word))
             return
         for kept, epoch in self.shadow.kept(access.word):
             if kept.conflicts(access) and not self.clocks.has_seen(access.thread, kept.thread, epoch):

@@ -298,6 +298,28 @@ class Unasked(Hunts):
         return status, lines if options.is_raced else [line.replace(" --races", "") for line in lines]
 
 
+class UnaskedStatus(Hunts):
+    """Who doesn't ask for races gets the status of one who does."""
+
+    def hunt(self, ckrt, folder, seeds, options, *more):
+        status, lines = super().hunt(ckrt, folder, seeds, options, *more)
+        asked = super().hunt(ckrt, folder, seeds, type(options)(options.pages, options.harts, options.steps, options.input, True))
+        return asked[0], lines
+
+
+class OfKeptRuns(Hunts):
+    """Looks for races only where something is kept."""
+
+    def hunt(self, ckrt, folder, seeds, options, *more):
+        status, lines = super().hunt(ckrt, folder, seeds, options, *more)
+        return status, lines if more else [line for line in lines if not line.startswith("race ")]
+
+
+class ShorterInFolders(Hunts):
+    def line_of_kept(self, seed, name, switches):
+        return line_of_kept(seed, name, switches, switches if "/" in name else None)
+
+
 class OtherEvents(Hunts):
     """The disk tells its races by other positions."""
 
@@ -313,4 +335,4 @@ def of_tally(wrong):
 TALLIES = [CountsRaces, LastSeed, LastAccesses, BothWays, MoreRoom, LessRoom, OthersByRaces, ForgetsOthers, OwnPairsAlone, ByAddress, RunsWithRaces,
            Silent]
 WRONG_HUNTS = [*map(of_tally, TALLIES), StatusOfOutcomes, FirstRuns, SameDetector, SameClocks, KeepsAnother, KeepsShorter, WithoutWord, RacesFirst,
-               RacesLast, Unasked, OtherEvents]
+               RacesLast, Unasked, UnaskedStatus, OfKeptRuns, ShorterInFolders, OtherEvents]

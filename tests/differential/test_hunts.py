@@ -4,7 +4,8 @@ from hashlib import sha256
 
 from abi import Call
 from events import Eof, Input
-from hunts import Options, fold, is_fed, lines_of_table, text_of_outcome
+from hunts import Options, fold, is_fed, line_of_kept, lines_of_table, status_of, text_of_outcome
+from races import Pair, Races
 from switches import switched
 from test_races import call, load, locked, recording_of
 
@@ -100,6 +101,24 @@ class Tables(unittest.TestCase):
             "    ckrt hunt a.bin --seeds 11-11 --pages 16 --harts 2 --steps 99 --keep seed-11.disk"])
         self.assertEqual(lines_of_table("a.bin", {8: "deadlock"}, Options(16, 2, 99, "b.txt"))[1],
                          "    ckrt hunt a.bin --seeds 8-8 --pages 16 --harts 2 --steps 99 --input b.txt --keep seed-8.disk")
+
+    def test_races_asked_for(self):
+        """Behind the input, and before what is kept."""
+        self.assertEqual(lines_of_table("a.bin", {8: "deadlock"}, Options(16, 2, 99, "b.txt", is_raced=True))[1],
+                         "    ckrt hunt a.bin --seeds 8-8 --pages 16 --harts 2 --steps 99 --input b.txt --races --keep seed-8.disk")
+        self.assertEqual(Options(16, 2, 99, is_raced=True).words(), "--pages 16 --harts 2 --steps 99 --races")
+
+    def test_status(self):
+        """Another one where there are several outcomes, or one of the runs raced."""
+        quiet, raced = Races(False), Races(False)
+        raced.pairs[frozenset([4, 8])] = Pair(None, None)
+        for outcomes, found, status in [(["a"], [], 0), (["a", "a"], [quiet, quiet], 0), (["a", "b"], [quiet, quiet], 8), (["a", "b"], [], 8),
+                                        (["a", "a"], [quiet, raced], 8), (["a"], [raced], 8), (["a", "b", "a"], [raced, raced, quiet], 8)]:
+            self.assertEqual(status_of(outcomes, found), status)
+
+    def test_kept(self):
+        self.assertEqual(line_of_kept(3, "seed-3.disk", 17, 19), "kept: the run of seed 3 on seed-3.disk, switches: 17, drawn with 19")
+        self.assertEqual(line_of_kept(3, "bugs/outcome-1.disk", 0, None), "kept: the run of seed 3 on bugs/outcome-1.disk, switches: 0, as it was drawn")
 
 
 if __name__ == "__main__":

@@ -9,9 +9,9 @@ from unittest.mock import patch
 
 from accesses import Access
 from cases import case_of
-from hunts import Options, fold, line_of_kept, lines_of_races, status_of, text_of_outcome
-from race_rows import RaceRow, difference_of_rows, rows_of_races, split_table
-from raced import difference_of_raced
+from hunts import Options, fold, line_of_kept, lines_of_table, text_of_outcome
+from race_rows import RaceRow, difference_of_rows, lines_of_races, rows_of_races, split_table
+from raced import Run, difference_of_raced, difference_of_told
 from races import Races, Readings
 from stand_in_hunts import WRONG_HUNTS, Hunts, disk_of
 from stretches import Recording
@@ -93,15 +93,6 @@ class Rows(unittest.TestCase):
         self.assertEqual(last({1: races_of(*many(0, 66)), 2: races_of()}), ["other races: in 1 of 2 runs"])
         self.assertEqual(last({1: races_of(*many(0, 33)), 2: races_of(*many(20, 45))}), ["other races: in 1 of 2 runs"])
 
-    def test_status(self):
-        for outcomes, found, status in [(["a"], [], 0), (["a", "a"], [races_of(), races_of()], 0), (["a", "b"], [races_of()] * 2, 8),
-                                        (["a", "a"], [races_of(), races_of(*LEFT)], 8), (["a", "b"], [], 8)]:
-            self.assertEqual(status_of(outcomes, found), status)
-
-    def test_words(self):
-        self.assertEqual(replace(OPTIONS, input="a.txt").words(), "--pages 16 --harts 2 --steps 99 --input a.txt --races")
-        self.assertEqual(line_of_kept(3, "seed-3.disk", 17, None), "kept: the run of seed 3 on seed-3.disk, switches: 17, as it was drawn")
-
 
 class ReadBack(unittest.TestCase):
     ROWS = [*row(1, 2, 9, 3, FIRST), *row(2, 1, 9, 3, SECOND)]
@@ -176,12 +167,26 @@ class Comparison(unittest.TestCase):
             self.assertIsNone(self.difference(Hunts(), seed), seed)
         self.assertEqual(self.tally["hunt for races", "shown"], len(RIGHT))
         for kind in ("stores, stores", "loads, stores", "stores, loads", "no", "other"):
-            self.assertGreater(self.tally["line of a hunt for races", kind], 0, kind)
+            self.assertGreater(self.tally["race of a hunt", kind], 0, kind)
 
     def test_wrong(self):
         for wrong in WRONG_HUNTS:
             with self.subTest(wrong=wrong.__name__):
                 self.assertTrue(any(self.difference(wrong(), seed) for seed in FINDING))
+
+    def test_left_open(self):
+        """Where two readings of what orders differ the outcomes are compared."""
+        readings = Readings()
+        readings.narrow, readings.wide = races_of(*LEFT), races_of()
+        runs = {3: Run("deadlock", 0, readings, b"")}
+        table = lines_of_table("image", {3: "deadlock"}, OPTIONS)
+        for lines in (lines_of_races("image", {3: races}, OPTIONS) for races in (readings.narrow, readings.wide)):
+            self.assertIsNone(difference_of_told((0, table + lines), runs, OPTIONS))
+            self.assertIsNotNone(difference_of_told((0, table[:1] + lines), runs, OPTIONS))
+        readings.wide = readings.narrow
+        self.assertIsNone(difference_of_told((8, table + row(1, 1, 1, 3, FIRST)), runs, OPTIONS))
+        self.assertIsNotNone(difference_of_told((0, table + row(1, 1, 1, 3, FIRST)), runs, OPTIONS))
+        self.assertIsNotNone(difference_of_told((8, table), runs, OPTIONS))
 
     def test_kept_by_time(self):
         """A disk that is kept has the rows of its seed, and its line says that it is as it was drawn."""
