@@ -27,6 +27,7 @@ from profiled import profiles_case
 from raced import raced_case
 from saved_disks import ChangedArea, asks, serve_and_save, stopped_disk, with_checkpoints
 from sharers import Sharer
+from stepped import stepped_case
 from streams import joined, last_lines, malformed_line, mangled, random_lines, with_long_runs
 from switches import SWITCHES
 from timed import timed_case
@@ -242,6 +243,7 @@ KINDS = {
     "fates": of_guest(fates_case), "parts": of_guest(parts_case), "listings": of_guest(listings_case), "cuts": cuts_case,
     "histories": of_guest(histories_case), "races": of_sharers(races_case, 0.9), "timelines": of_sharers(timelines_case, 0.4),
     "hunts": hunts_case, "debugged": of_sharers(debugged_case, 0.4), "moved": of_sharers(moved_case, 0.6),
+    "stepped": of_sharers(stepped_case, 0.6),
     "profiles": profiled_case, "dense": of_guests(Weaver, dense_case, 1),
     "lived": of_guests(Living, lived_case, 1), "timed": timed_case, "raced": raced_case,
     "words": words_case, "drives": of_guest(drives_case), "halts": of_guest(halts_case),

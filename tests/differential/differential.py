@@ -30,6 +30,7 @@ from moved import MovedCase, difference_of_moved
 from profiled import ProfilesCase, difference_of_profiles
 from raced import RacedCase, difference_of_raced
 from recovery import Unrecovered
+from stepped import SteppedCase, difference_of_stepped
 from streams import joined
 from switches import SWITCHES
 from timed import TimedCase, difference_of_timed
@@ -236,6 +237,8 @@ def first_difference(ckrt, case, folder, tally, count_life):
             return difference_of_format(ckrt, case, folder, tally)
         case MovedCase():
             return difference_of_moved(ckrt, case, path, tally)
+        case SteppedCase():
+            return difference_of_stepped(ckrt, case, path, tally)
         case LivedCase():
             return difference_of_lived(ckrt, case, path, tally)
         case DebuggedCase():

@@ -13,13 +13,16 @@ END, BEGIN = "T05replaylog:end;", "T05replaylog:begin;"
 
 @dataclass
 class Step:
-    """The position before it and the one behind it, whose it is and where, the bytes that it changes, and the fault that it ends with."""
+    """The position before it and the one behind it, whose it is and where, the bytes that it changes, and the fault that it ends with;
+    and which threads are there before it and behind it."""
     before: tuple
     thread: int
     place: int
     changed: frozenset
     fault: int = 0
     behind: tuple = ()
+    there: frozenset = frozenset()
+    left: frozenset = frozenset()
 
 
 class Steps:
@@ -46,11 +49,16 @@ class Steps:
         access = access_of(machine, thread, (self.event, step))
         span = range(access.address, access.address + access.length) if access and access.is_store else ()
         old = {address: machine.memory.load(address, 1) for address in span}
-        self.steps.append(Step((self.event, step), thread, machine.threads[thread].pc, frozenset()))
+        self.steps.append(Step((self.event, step), thread, machine.threads[thread].pc, frozenset(), there=those_there(machine)))
         made = make()
+        self.steps[-1].left = those_there(machine)
         self.steps[-1].changed = frozenset(address for address, byte in old.items() if machine.memory.load(address, 1) != byte)
         self.steps[-1].fault = machine.fault_cause if machine.status is Status.FAULTED else 0
         return made
+
+
+def those_there(machine):
+    return frozenset(number for number, thread in machine.threads.items() if not thread.has_ended)
 
 
 @dataclass
@@ -70,13 +78,46 @@ def signal_of(fault):
     return SIGNALS.get(Cause(fault), SEGMENT)
 
 
+def stops_before(stops, step, place):
+    """Why a motion onward from a place ends before a step; a breakpoint where it begins is none."""
+    answers = [f"T05watch:{address:x};thread:{step.thread:x};" for address in stops.changed_watches(step)]
+    return answers + [f"T05thread:{step.thread:x};"] * (step.before > place and step.place in stops.places)
+
+
+def stepped(steps, stops, place, last, thread):
+    """Behind the next step of a thread. What another one has a breakpoint or a watch at ends it before, a watch of its own, too. No page
+    tells which thread is named where its step is its last one."""
+    for step in steps:
+        if step.before < place:
+            continue
+        answers = stops_before(stops, step, place)
+        if step.thread == thread and not stops.changed_watches(step):
+            told = [step.thread] if thread in step.left else sorted(step.left) or [1]
+            return step.behind, [f"T{signal_of(step.fault) if step.fault else '05'}thread:{number:x};" for number in told]
+        if answers:
+            return step.before, answers
+        if step.fault:
+            return step.behind, [f"T{signal_of(step.fault)}thread:{step.thread:x};"]
+    return last, [END]
+
+
+def stepped_back(steps, stops, place, first, thread):
+    """Before the last step of a thread. What another one has a breakpoint or a watch at ends it on the way."""
+    for step in reversed([step for step in steps if step.behind <= place]):
+        if step.thread == thread:
+            return step.before, [f"T05thread:{thread:x};"]
+        if stops.changed_watches(step):
+            return step.behind, [f"T05watch:{address:x};thread:{step.thread:x};" for address in stops.changed_watches(step)]
+        if step.place in stops.places:
+            return step.before, [f"T05thread:{step.thread:x};"]
+    return first, [BEGIN]
+
+
 def onward(steps, stops, place, last):
     """The least position behind this one whose next step is at a breakpoint, or before a change, where it may stay; or behind the
     step of a fault."""
     for step in steps:
-        answers = [f"T05watch:{address:x};thread:{step.thread:x};" for address in stops.changed_watches(step)]
-        if step.before > place and step.place in stops.places:
-            answers.append(f"T05thread:{step.thread:x};")
+        answers = stops_before(stops, step, place)
         if step.before >= place and answers:
             return step.before, answers
         if step.before >= place and step.fault:
@@ -95,3 +136,17 @@ def backward(steps, stops, place, first):
                                                      for address in stops.changed_watches(step))
     reasons = {where: answers for where, answers in found.items() if answers}
     return (max(reasons), reasons[max(reasons)]) if reasons else (first, [BEGIN])
+
+
+def end_of_steps(counts, place, most, is_onward, ends, weight):
+    """Where a motion of so many steps ends: behind the event in which it makes the last of them, or at that one's begin going back; None
+    where there are no more. `counts` has of each event with steps how many; the weight is what another one counts for."""
+    event, step = place
+    made = -step if is_onward else step
+    if not is_onward and made >= most:
+        return event, 0
+    for number in range(event, ends[1]) if is_onward else reversed(range(ends[0], event)):
+        made += counts.get(number, weight)
+        if made >= most:
+            return number + is_onward, 0
+    return None
