@@ -102,13 +102,11 @@ def stepped(steps, stops, place, last, thread):
 
 
 def stepped_back(steps, stops, place, first, thread):
-    """Before the last step of a thread. What another one has a breakpoint or a watch at ends it on the way."""
+    """Before the last step of a thread. What another one has a breakpoint or a watch at ends it on the way, a watch of its own, too."""
     for step in reversed([step for step in steps if step.behind <= place]):
-        if step.thread == thread:
-            return step.before, [f"T05thread:{thread:x};"]
         if stops.changed_watches(step):
             return step.behind, [f"T05watch:{address:x};thread:{step.thread:x};" for address in stops.changed_watches(step)]
-        if step.place in stops.places:
+        if step.thread == thread or step.place in stops.places:
             return step.before, [f"T05thread:{step.thread:x};"]
     return first, [BEGIN]
 

@@ -61,22 +61,27 @@ class Way:
         """No page tells of steps of a thread that isn't there."""
         thread = self.chance.choice(self.threads() or [0])
         kind = self.chance.choice(["vCont;c", "bc", *["step", "step", "range", "bs", "bs"] * (thread > 0)])
-        ends = (self.first, 0), (self.whole, 0)
-        if kind in ("vCont;c", "bc"):
-            packet, (came, answers) = kind, (onward if kind == "vCont;c" else backward)(self.steps, self.stops, self.place, ends[kind == "vCont;c"])
-        elif kind == "bs":
-            self.asked.append((f"Hc{thread:x}", ["OK"], None))
-            packet, (came, answers) = kind, stepped_back(self.steps, self.stops, self.place, ends[0], thread)
-        else:
-            packet = f"vCont;s:{thread:x}" if kind == "step" else f"vCont;r1000,2000:{thread:x}"
-            came, answers = stepped(self.steps, self.stops, self.place, ends[1], thread)
-        own = next((step.before for step in self.steps if step.before >= self.place and step.thread == thread), None) if packet > "vCont;d" else None
-        came, answers = self.bounded(came, answers, not packet.startswith("b"), own)
+        packet = {"step": f"vCont;s:{thread:x}", "range": f"vCont;r1000,2000:{thread:x}"}.get(kind, kind)
+        came, answers = self.motion(kind, thread)
         if came is None:
             return
         self.place = came
+        self.asked += [(f"Hc{thread:x}", ["OK"], None)] * (kind == "bs")
         self.asked.append((packet, answers, ""))
         self.asked.append((monitor("events"), ["OK"], f"event {position_text(came)}, from {self.first} to {self.whole}\n"))
+
+    def motion(self, kind, thread):
+        """Where it comes to, and what may be told of it; None where no page tells that. A range is stepped as one step is."""
+        arguments, first, last = (self.steps, self.stops, self.place), (self.first, 0), (self.whole, 0)
+        match kind:
+            case "vCont;c":
+                return self.bounded(*onward(*arguments, last), True)
+            case "bc":
+                return self.bounded(*backward(*arguments, first), False)
+            case "bs":
+                return self.bounded(*stepped_back(*arguments, first, thread), False)
+        own = next((step.before for step in self.steps if step.before >= self.place and step.thread == thread), None)
+        return self.bounded(*stepped(*arguments, last, thread), True, own)
 
     def bounded(self, came, answers, is_onward, own=None):
         """Where a motion ends at the latest; of several reasons to end there it may tell any. No page tells whether an event that is no run

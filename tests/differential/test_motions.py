@@ -98,8 +98,9 @@ class Motions(unittest.TestCase):
         for place, thread in [((2, 0), 1), (changing.before, 1), (changing.before, 2)]:
             self.assertEqual(stepped(steps, watch, place, last, thread), (changing.before, told))
         self.assertEqual(stepped_back(steps, watch, (5, 0), FIRST, 1), (changing.behind, told))
-        self.assertEqual(stepped_back(steps, watch, changing.behind, FIRST, 1), (changing.behind, told))
-        self.assertEqual(stepped_back(steps, watch, changing.behind, FIRST, 2), (changing.before, ["T05thread:2;"]))
+        for thread in (1, 2):
+            self.assertEqual(stepped_back(steps, watch, changing.behind, FIRST, thread), (changing.behind, told))
+        self.assertEqual(stepped_back(steps, watch, changing.before, FIRST, 2), ((3, 0), ["T05thread:2;"]))
 
     def test_last_steps(self):
         """Of a fault its signal is told; a thread that isn't there behind its step may not be named."""
@@ -140,7 +141,10 @@ class Motions(unittest.TestCase):
         way.limit, way.until, way.place = 17, None, (3, 0)
         self.assertEqual(way.bounded((9, 0), ["x"], True), (None, None))
         self.assertEqual(way.bounded((6, 0), ["x"], True), ((6, 0), ["x"]))
-        way.limit = 8
+        way.counts, way.limit = {3: 4, 5: 4}, 5
+        self.assertEqual(way.bounded((9, 0), ["x"], True), (None, None))
+        self.assertEqual(way.bounded((4, 0), ["x"], True), ((4, 0), ["x"]))
+        way.counts, way.limit = {3: 4, 4: 4, 5: 4, 6: 4}, 8
         for own, expected in [(None, ((5, 0), ["T02thread:"])), ((5, 0), (None, None)), ((5, 1), ((5, 0), ["T02thread:"]))]:
             self.assertEqual(way.bounded((9, 0), ["x"], True, own), expected)
 
