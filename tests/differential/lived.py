@@ -12,7 +12,7 @@ from listing import lines_of_state
 from motions import Stops, backward, onward
 from moved import is_as_expected
 from sharers import Sharer
-from stories import STANDS_STILL, WANTS_INPUT, Story, TooLong
+from stories import Story, TooLong
 from streams import malformed_line
 from stubs import answers_in, answers_of_thread, frame, live_threads, memory_text, monitor, position_text
 
@@ -171,13 +171,7 @@ def is_answered(expected, got):
         return True
     if expected[0] == NOWHERE:
         told = told[:len(NOWHERE)]
-    return payload == expected[1] and (expected[0] in (None, told) or is_untold_end(expected[0], told))
-
-
-def is_untold_end(expected, told):
-    """Where as many events were made as were asked for, and there are no more, `ckrt debug` doesn't say so."""
-    *_, end, place = expected.split("\n")[:-1] if expected.startswith("events made") else ["", ""]
-    return end in (STANDS_STILL, WANTS_INPUT) and told == expected.replace(end + "\n", "")
+    return payload == expected[1] and expected[0] in (None, told)
 
 
 def difference_of_lived(ckrt, case, path, tally):

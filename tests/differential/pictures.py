@@ -6,8 +6,6 @@ from timelines import title_of
 
 SVG = "{http://www.w3.org/2000/svg}"
 ROUNDING = 1  # pixel
-PIECES = 2000  # more of them are drawn by columns
-LEGEND = ("running", "mutex", "condition", "barrier", "rwlock", "join", "input", "sleep", "ready", "ended")
 
 
 def read_row(row):
@@ -23,40 +21,12 @@ def drawn_row(number, pieces):
             for piece in pieces]
 
 
-def read_columns(row):
-    """The columns of a dense row: its title, and the bars by category, place, width, top and height."""
-    return [(column.find(f"{SVG}title").text, [tuple(bar.get(field) for field in ("class", "x", "width", "y", "height"))
-                                               for bar in column.findall(f"{SVG}rect")]) for column in row.findall(f"{SVG}g")]
-
-
-def drawn_column(number, start, length, pieces):
-    """A column of so many steps; None where its thread is never there."""
-    shares = {category: sum(max(0, min(piece.start + piece.steps, start + length) - max(piece.start, start))
-                            for piece in pieces if piece.activity.category == category) for category in LEGEND}
-    title, bars, above = f"thread {number}: {length} steps from step {start}", [], 0
-    for category, share in shares.items():
-        if share:
-            title += f", {category} {share}"
-            top, above = above * 1600 // length, above + share
-            bars.append((category, str(start), str(length), str(top), str(above * 1600 // length - top)))
-    return (title, bars) if bars else None
-
-
-def drawn_columns(number, pieces, span, steps):
-    columns = (drawn_column(number, start, min(span, steps - start), pieces) for start in range(0, steps, span))
-    return [column for column in columns if column]
-
-
 def difference_of_rows(rows, timeline):
     """None, or where rows or pieces differ. A row is as long as all steps."""
-    pieces_of, read = sorted(timeline.pieces.items()), read_row
-    wanted = [drawn_row(number, pieces) for number, pieces in pieces_of]
-    if sum(len(pieces) for _, pieces in pieces_of) > PIECES:
-        span, read = timeline.steps // (PIECES // len(pieces_of)) + 1, read_columns
-        wanted = [drawn_columns(number, pieces, span, timeline.steps) for number, pieces in pieces_of]
+    wanted = [drawn_row(number, pieces) for number, pieces in sorted(timeline.pieces.items())]
     for pieces, row in zip(wanted, rows):
-        if read(row) != pieces:
-            unlike = next((pair for pair in zip(pieces, read(row)) if pair[0] != pair[1]), (len(pieces), len(read(row))))
+        if read_row(row) != pieces:
+            unlike = next((pair for pair in zip(pieces, read_row(row)) if pair[0] != pair[1]), (len(pieces), len(read_row(row))))
             return "model {}, program {}".format(*unlike)
         if row.get("viewBox").split()[::2] != ["0", str(timeline.steps)]:
             return f"a row from and to {row.get('viewBox')}, model {timeline.steps} steps"

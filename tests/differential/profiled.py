@@ -54,17 +54,13 @@ def sections_of(lines):
     return [[first.split()], *[[line.split() for line in section.splitlines()] for section in sections]]
 
 
-def steps_of(row):
-    return int(row[1])
-
-
 def unlike_tables(wanted, there):
-    """None, or where they differ. Which of two rows of as many steps stands first is compared where it is a thread that has them: of
-    functions and waits no page says when they are met. So of those at which a section was cut off any may be there."""
+    """None, or where they differ. Of rows with as many steps the thread with the lower number stands first, or what was met first. No page
+    tells where `elsewhere` stands."""
     if len(wanted) != len(there) or wanted[0] != there[0]:
         return f"model {len(wanted)} sections, {wanted[0]}, program {len(there)}, {there[0]}"
     for mine, its in zip(wanted[1:], there[1:]):
-        if mine[0][-1] != "thread":
+        if any(row[-1] == "elsewhere" for row in [*mine, *its]):
             mine, its = without_order(mine), without_order(its)
         if mine != its:
             return unlike(mine, its)
@@ -77,6 +73,10 @@ def without_order(section):
     least = min(map(steps_of, rows[:-1]), default=0) if rows and rows[-1][-1] == "others" else 0
     named = [row if steps_of(row) > least or row[-1] == "others" else row[:2] for row in rows]
     return [head, *sorted(named, key=lambda row: (row[-1] == "others", -steps_of(row), row))]
+
+
+def steps_of(row):
+    return int(row[1])
 
 
 def difference_of_profiles(ckrt, case, path, tally):

@@ -46,7 +46,7 @@ class Frame:
 class Profile:
     """Looks on. A thread's stack is kept with the thread that it is of, and how often the runtime had sent that on.
 
-    Functions and waits have their steps in the order in which they were met. `entered` has by thread the function that it called
+    Functions and waits have their steps in the order in which they were met: with their first step. `entered` has by thread the function that it called
     with its last step. No page tells what a gate counts for that the runtime itself sends a thread to: `is_left_open` then.
     """
 

@@ -144,20 +144,20 @@ class Story:
         return self.place_text()
 
     def live(self, most):
-        """The events that a drive without options has next. Behind the last one it is told too that there are no more: where nothing is
-        told the program goes on."""
+        """The events that a drive without options has next. Where as many were made as were asked for, no more is told than that the
+        program has ended."""
         made, reason = 0, self.reason_against(None)
-        while reason is None:
+        while reason is None and made < most and self.end.is_running:
             event = self.next_event()
-            reason = event if isinstance(event, str) else self.reason_against(event) if made < most else ""
+            reason = event if isinstance(event, str) else self.reason_against(event)
             if reason is None:
                 self.append(event)
                 self.position, made = (self.last, 0), made + 1
+        if reason is None and not self.end.is_running:
+            reason = ENDED
         return "\n".join([f"events made: {made}", *[reason] * bool(reason), self.place_text()])
 
     def next_event(self):
         """Or why there is none."""
-        if not self.end.is_running:
-            return ENDED
         event = next_event(Options(), self.last, self.end)
         return ENDS[event] if isinstance(event, str) else event

@@ -8,7 +8,7 @@ from callers import returned
 from layout import Geometry, format_disk
 from lines import serve_disk
 from profiled import costs_in, sections_of, unlike_tables
-from profiles import Profile, calls, returns
+from profiles import Frame, Profile, calls, returns
 from stretches import Recording
 from switches import switched
 from test_races import call, load, recording_of
@@ -230,15 +230,29 @@ class Tables(WithKeys):
         profile.steps = profile.others = 3
         self.assertEqual([line.split() for line in profile.table()][3], ["100.00%", "3", "elsewhere"])
 
+    def test_order(self):
+        """The most steps first, and of as many what was met first."""
+        profile = Profile()
+        profile.frames = [Frame(function, 1, has_row=True, steps=steps) for function, steps in [(0x3000, 4), (0x1000, 4), (0x2000, 5), (0x3000, 0)]]
+        profile.waits.update({(2, "mutex 00002000"): 3, (1, "join 2"): 3, (3, "sleep"): 13})
+        profile.steps = 13
+        names = [line.split("  ")[-1] for line in profile.table() if "%" in line]
+        self.assertEqual(names, ["pc 00002000, calls 0", "pc 00003000, calls 0", "pc 00001000, calls 0", "thread 3 waits sleep",
+                                 "thread 2 waits mutex 00002000", "thread 1 waits join 2"])
+
     def test_unlike(self):
-        """Functions of as many steps in any order; other steps, names, heads and threads aren't alike."""
+        """Other steps, names, heads and threads aren't alike, nor is another order, or another row at which a section is cut off."""
         rows = "steps 9\n\n share steps function\n1% 4 pc {}\n1% 4 pc {}\n\n share steps thread\n1% {} thread {}\n1% 4 thread 2".format
         table = sections_of(rows(1, 2, 4, 1).splitlines())
-        for shown, is_like in [(rows(1, 2, 4, 1), True), (rows(2, 1, 4, 1), True), (rows(1, 3, 4, 1), False), (rows(1, 2, 5, 1), False),
+        for shown, is_like in [(rows(1, 2, 4, 1), True), (rows(2, 1, 4, 1), False), (rows(1, 3, 4, 1), False), (rows(1, 2, 5, 1), False),
                                (rows(1, 2, 4, 3), False), (rows(1, 2, 4, 2)[:-1] + "1", False), (rows(1, 2, 4, 1).replace("9", "8"), False)]:
             self.assertEqual(unlike_tables(table, sections_of(shown.splitlines())) is None, is_like, shown)
+        other = rows(1, "{}", 4, 1).format
+        for shown, is_like in [(other("2\n1% 7 elsewhere"), True), (other("2").replace("\n1%", "\n1% 7 elsewhere\n1%", 1), True),
+                               (other("2\n1% 8 elsewhere"), False), (other("3\n1% 7 elsewhere"), False), (other("2"), False)]:
+            self.assertEqual(unlike_tables(sections_of(other("2\n1% 7 elsewhere").splitlines()), sections_of(shown.splitlines())) is None, is_like, shown)
         cut = "steps 9\n\n share steps wait\n1% 4 a\n1% 2 {}\n1% 5 others".format
-        for shown, is_like in [(cut("c"), True), (cut("b").replace(" a", " d"), False), (cut("b").replace("5", "6"), False)]:
+        for shown, is_like in [(cut("b"), True), (cut("c"), False), (cut("b").replace(" a", " d"), False), (cut("b").replace("5", "6"), False)]:
             self.assertEqual(unlike_tables(sections_of(cut("b").splitlines()), sections_of(shown.splitlines())) is None, is_like, shown)
 
     def test_costs_in(self):
