@@ -591,6 +591,7 @@ MUTATIONS = [
     ("timed.py", "recording.show(Readings())) if case.options.is_raced else None", "recording.show(Readings())) if False else None"),
     ("timed.py", "recording.show(Readings())) if case.options.is_raced else None", "recording.show(Readings()))"),
     ("timed.py", "difference_of_rows(races, one.first,", "difference_of_rows(races, 0,"),
+    ("timed.py", "if len(found) > 1 or races else 0", "if len(found) > 1 else 0"),
     ("hunts.py", "{' --races' if self.is_raced else ''}", ""),
     ("hunts.py", "{fed}{' --races' if self.is_raced else ''}", "{' --races' if self.is_raced else ''}{fed}"),
     ("hunts.py", "{' --races' if self.is_raced else ''}", " --races"),

@@ -5,18 +5,20 @@ import unittest
 from collections import Counter
 from dataclasses import replace
 from pathlib import Path
+from random import Random
 from unittest.mock import patch
 
 from accesses import Access
 from cases import case_of
 from hunts import Options, fold, line_of_kept, lines_of_table, text_of_outcome
 from race_rows import RaceRow, difference_of_rows, lines_of_races, rows_of_races, split_table
-from raced import Run, difference_of_raced, difference_of_told
+from raced import Crossing, Run, difference_of_raced, difference_of_told
 from races import Races, Readings
-from stand_in_hunts import WRONG_HUNTS, Hunts, disk_of
+from stand_in_hunts import (WRONG_HUNTS, Hunts, KeepsAnother, KeepsShorter, LastAccesses, RacesFirst, StatusOfOutcomes, Unasked, WithoutWord, disk_of,
+                            of_tally)
 from stretches import Recording
 from switches import switched
-from timed import Outcome, TimedCase, difference_of_disks, rows_of
+from timed import Outcome, TimedCase, difference_of_disks, difference_of_timed, rows_of
 
 OPTIONS = Options(16, 2, 99, is_raced=True)
 RIGHT, FINDING = range(1, 27), [1, 4, 6, 2, 15, 16, 25, 20]  # seeds of cases
@@ -209,6 +211,28 @@ class Comparison(unittest.TestCase):
         timed.options = replace(case.options, is_raced=False)
         self.assertIsNone(difference([], folded.switches))
         self.assertIsNotNone(difference([]))
+
+    def differs_by_time(self, program, is_raced=True, keep="folder/"):
+        """Of a hunt that runs three seeds in its time."""
+        timed = TimedCase(Crossing(Random(1)).image, Options(16, 1, 3000, is_raced=is_raced), keep, 0, None)
+
+        def run_hunt(ckrt, case, folder, *words):
+            status, lines = program.hunt(ckrt, folder, range(1, 4), case.options, *words[words.index("--keep"):] if "--keep" in words else [])
+            return status, lines, [], 1.5
+
+        with patch("timed.run_hunt", run_hunt), patch("timed.difference_of_refused", lambda *ignored: None):
+            return difference_of_timed("ckrt", timed, self.folder, self.tally)
+
+    def test_by_time(self):
+        """Its status, its rows, and what it keeps."""
+        for keep in (None, "kept", "folder/"):
+            self.assertIsNone(self.differs_by_time(Hunts(), keep=keep))
+        self.assertEqual(self.tally["hunt by time", "one outcome"], 3)
+        self.assertGreater(self.tally["hunt by time", "row of a race"], 0)
+        for wrong in (StatusOfOutcomes, KeepsShorter, KeepsAnother, WithoutWord, RacesFirst, of_tally(LastAccesses)):
+            self.assertIsNotNone(self.differs_by_time(wrong()), wrong)
+        self.assertIsNone(self.differs_by_time(KeepsShorter(), False))
+        self.assertIsNotNone(self.differs_by_time(Unasked(), False, "kept"))
 
 
 if __name__ == "__main__":
