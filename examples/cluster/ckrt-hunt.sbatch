@@ -1,7 +1,7 @@
 #!/bin/sh
 # An array job of Slurm: `sbatch ckrt-hunt.sbatch guest.bin` in a folder that all nodes share. Each task hunts the guest by
 # 1,000 seeds of its own: task 1 by 1 to 1000, task 2 by 1001 to 2000, and so on. Its table is in TASK.hunt, whole or not there.
-# `join_hunts *.hunt`, once all have ended, makes one table of them, as `ckrt hunt --seeds 1-8000` would have written it.
+# `join_hunts *.hunt`, once all have ended, makes one table of them, which of at most 64 outcomes is that of `ckrt hunt --seeds 1-8000`.
 #SBATCH --job-name=ckrt-hunt
 #SBATCH --array=1-8
 #SBATCH --ntasks=1

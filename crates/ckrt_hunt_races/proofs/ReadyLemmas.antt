@@ -1,6 +1,7 @@
 -- All that looks at runs, ready for the next one.
 use Rattle.std.proofs.Common.{◌≡◌, ◌≤◌, ◌∙◌, ℕ, length, ap, sym, subst}
 use Rattle.std.proofs.lemmas.List.{length-replicate}
+use Rattle.ckrt_machine.specs.Events.{Machine}
 use Rattle.ckrt_machine.specs.Steps.{State}
 use Rattle.ckrt_order.specs.Detection.{Watched, fresh, no_accesses, no_clock}
 use Rattle.ckrt_races.specs.Holders.{HOLDERS}
@@ -48,3 +49,10 @@ ready_again h whole stepped p s w start a b sees = record {
   holders = sees.holders;
   words = sees.words ∙ ap (λ (t : State). words_of t) start;
 }
+
+-- a machine that ran from its beginning is given that again
+pub begun_again : (start : State) (was aside : Beginning) (ran : Machine) (new : Beginning) → was.machine.state ≡ start → IsPutAside was.machine.state aside → IsSameSize was.machine.state ran.state
+    → ((s : State) → IsPutAside s (record { machine = ran; memory = aside.memory; tables = aside.tables }) → IsSameSize s ran.state → IsBegun s new) → IsBegun start new
+begun_again start was aside ran new is put size again =
+    subst (λ (s : State). IsBegun s new) is
+    (again was.machine.state (record { memory = put.memory; tables = put.tables; well_formed = put.well_formed; some = put.some }) size)

@@ -1,5 +1,6 @@
 -- A writer that takes the lines of rows.
-use Rattle.std.proofs.Common.{◌≡◌, ℕ, suc, List, subst, Option, Some}
+use Rattle.std.proofs.Common.{◌≡◌, ◌<◌, ◌+◌, ℕ, suc, List, length, get_or, subst, Option, Some, arith}
+use Rattle.std.proofs.lemmas.Option.{slice_get-get_or}
 use Rattle.std.specs.Prelude.{slice_get}
 use Rattle.std.specs.Io.KnownBytes.{Appends}
 use Rattle.ckrt_hunt.proofs.AppendLemmas.{appends_both, appends_none}
@@ -18,3 +19,7 @@ unfolding rows_text
 rows_more asked rows n m r a b c e is p q =
     let more : Appends b c (row_text asked (suc n) r) = subst (λ k. Appends b c (row_text asked k r)) e q in
     rw (e, is) (appends_both a b c (rows_text asked rows n) (row_text asked (suc n) r) p more)
+
+-- the same of the row at a place
+pub rows_on : (asked : Asked) (rows : List RaceRow) (n : ℕ) (d : RaceRow) (a b c : Option (List ℕ)) → n < length rows → Appends a b (rows_text asked rows n) → Appends b c (row_text asked (n + 1) (get_or rows n d)) → Appends a c (rows_text asked rows (n + 1))
+rows_on asked rows n d a b c lt p q = rows_more asked rows n (n + 1) (get_or rows n d) a b c (omega arith) (slice_get-get_or rows n d lt) p q

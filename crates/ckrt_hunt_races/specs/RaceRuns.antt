@@ -117,9 +117,9 @@ pub record IsPutAside (s : State) (b : Beginning) : Type 0 where
   pub some : 1 ≤ s.tables.threads.hart_count
 
 -- all that looks at runs is ready for the next one
-pub record IsReady (h : Hunted) (whole stepped : Beginning) (w : Watched) : Type 0 where
-  pub whole : IsBegun h.start whole
-  pub stepped : IsBegun h.start stepped
+pub record IsReady (h : Hunted) (first second : Beginning) (w : Watched) : Type 0 where
+  pub whole : IsBegun h.start first
+  pub stepped : IsBegun h.start second
   pub holders : length w.clocks ≡ HOLDERS
   pub words : length w.shadow ≡ words_of h.start
 

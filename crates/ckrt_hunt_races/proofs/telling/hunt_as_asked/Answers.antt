@@ -8,16 +8,16 @@ use Rattle.ckrt_hunt_races.specs.Hunts.{AreAskedRaces, IsHuntedWith}
 use Rattle.ckrt_hunt_races.proofs.telling.hunt_as_asked.Goals as goal
 
 -- races were asked for
-pub returns-then-asked-races-clause-hunted : goal.returns-then-asked-races-clause-hunted
-returns-then-asked-races-clause-hunted g c =
+pub returns-then-asked-clause-hunted : goal.returns-then-asked-clause-hunted
+returns-then-asked-clause-hunted g c =
     IfOk-weaker c.hunt_and_tell_races.result _ _ (λ told hunted.
-    subst (λ b. IsHuntedWith b c.args.image.now c.args.input c.args.asked.now told) (sym c.if-asked-races.true) hunted) c.hunt_and_tell_races.ensures.hunted
+    subst (λ b. IsHuntedWith b c.args.image.now c.args.input c.args.asked.now told) (sym c.if-asked.true) hunted) c.hunt_and_tell_races.ensures.hunted
 
 -- they weren't
 pub returns-in-Ok-clause-hunted : goal.returns-in-Ok-clause-hunted
 returns-in-Ok-clause-hunted g c = record {
   hunted = c.in-Ok.ensures.hunted;
-  looked = subst (λ b. AreAskedRaces (hunted_of c.args.image.now c.args.asked.now.shape c.args.input) c.in-Ok.done.seeds b None) (sym c.if-asked-races.false) tt;
+  looked = subst (λ b. AreAskedRaces (hunted_of c.args.image.now c.args.asked.now.shape c.args.input) c.in-Ok.done.seeds b None) (sym c.if-asked.false) tt;
 }
 
 pub returns-in-Ok-clause-told : goal.returns-in-Ok-clause-told

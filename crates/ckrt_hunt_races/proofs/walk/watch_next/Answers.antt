@@ -54,5 +54,5 @@ returns-clause-alike c =
 pub returns-clause-size : goal.returns-clause-size
 returns-clause-size c = record {
   harts = ap (λ (a : After). a.state.tables.threads.hart_count) c.step-answer.ensures.step ∙ same_harts c.args.event.now c.args.whole.now.state;
-  bytes = c.step-answer.auto.self.bytes;
+  bytes = c.step-answer.ensures.follows.size;
 }

@@ -13,7 +13,7 @@ events-init c = record {
 }
 
 pub next-requires : goal.next-requires
-next-requires c = c.events.invariant.alike.harts
+next-requires c = record { harts = c.events.invariant.alike.harts }
 
 pub watch_next-requires : goal.watch_next-requires
 watch_next-requires c = record {

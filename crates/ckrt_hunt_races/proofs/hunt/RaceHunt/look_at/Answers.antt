@@ -1,0 +1,50 @@
+use Rattle.std.proofs.Common.{◌≡◌, ◌∙◌, ap, length, subst, sym}
+use Rattle.ckrt_machine.specs.Events.{Machine}
+use Rattle.ckrt_machine.specs.Steps.{State}
+use Rattle.ckrt_hunt.specs.Tallies.{Hunted}
+use Rattle.ckrt_hunt_races.specs.Races.{raced_in}
+use Rattle.ckrt_hunt_races.specs.RaceRuns.{IsBegun, IsLookedAt, IsSameSize}
+use Rattle.ckrt_hunt_races.proofs.ReadyLemmas.{begun_again, has_begun, looked, ready_again, room_at}
+use Rattle.ckrt_hunt_races.proofs.hunt.RaceHunt.look_at.Goals as goal
+
+pub put_aside-requires : goal.put_aside-requires
+put_aside-requires c = room_at c.self.inside.hunt.start c.self.inside.whole c.self.invariant.whole
+
+pub put_aside-requires-2 : goal.put_aside-requires-2
+put_aside-requires-2 c = room_at c.self.inside.hunt.start c.self.inside.stepped c.self.invariant.stepped
+
+pub watch_run-requires : goal.watch_run-requires
+watch_run-requires c =
+    let i = c.self.invariant in
+    let whole = ap (λ (m : Machine). m.state) c.put_aside.ensures.machine ∙ i.whole.state in
+    let stepped = ap (λ (m : Machine). m.state) c.put_aside-2.ensures.machine ∙ i.stepped.state in
+    has_begun c.self.inside.hunt.start _ _ c.self.inside.detector c.clear.new.self whole stepped i.whole.room.some i.holders i.words c.clear.ensures
+
+pub begin_again-requires : goal.begin_again-requires
+begin_again-requires c = c.put_aside.ensures.aside.well_formed
+
+pub begin_again-requires-2 : goal.begin_again-requires-2
+begin_again-requires-2 c = c.put_aside-2.ensures.aside.well_formed
+
+-- the races of the seed's run were noted
+pub returns-clause-looked_at : goal.returns-clause-looked_at
+returns-clause-looked_at c =
+    let start = ap (λ (m : Machine). m.state) c.put_aside.ensures.machine ∙ c.self.invariant.whole.state in
+    subst (λ (h : Hunted). IsLookedAt h c.args.seed (raced_in c.args.races.now) (raced_in c.note.new.self)) c.self.view_is
+    (looked c.self.inside.hunt c.args.seed c.plan_of.result _ c.watch_run.new.detector _ _ c.plan_of.ensures start c.watch_run.ensures.seen c.note.ensures)
+
+pub returns-clause-same : goal.returns-clause-same
+returns-clause-same c = c.self.view_is
+
+-- and all is ready for the next one
+pub invariant_of-self : goal.invariant_of-self
+invariant_of-self c =
+    let h = c.self.inside.hunt in
+    let i = c.self.invariant in
+    let whole = ap (λ (m : Machine). m.state) c.put_aside.ensures.machine in
+    let stepped = ap (λ (m : Machine). m.state) c.put_aside-2.ensures.machine in
+    let first : IsBegun h.start c.begin_again.new.self = begun_again h.start c.self.inside.whole c.put_aside.new.self c.watch_run.new.whole c.begin_again.new.self i.whole.state c.put_aside.ensures.aside
+    (subst (λ (s : State). IsSameSize s c.watch_run.new.whole.state) whole c.watch_run.ensures.whole) c.begin_again.ensures in
+    let second : IsBegun h.start c.begin_again-2.new.self = begun_again h.start c.self.inside.stepped c.put_aside-2.new.self c.watch_run.new.stepped c.begin_again-2.new.self i.stepped.state c.put_aside-2.ensures.aside
+    (subst (λ (s : State). IsSameSize s c.watch_run.new.stepped.state) (whole ∙ i.whole.state ∙ sym i.stepped.state) c.watch_run.ensures.stepped) c.begin_again-2.ensures in
+    ready_again h c.begin_again.new.self c.begin_again-2.new.self c.plan_of.result _ c.watch_run.new.detector (whole ∙ i.whole.state) first second c.watch_run.ensures.seen
