@@ -1,7 +1,8 @@
 -- A hunt from its image to its table, with the races of its runs where they are asked for.
 use Rattle.std.specs.Prelude.{ℕ, nat_lt, Bool, true, false, ◌||◌, List, [], ◌++◌, length, Option, Some, None}
 use Rattle.ckrt_hunt.specs.Table.{done_text}
-use Rattle.ckrt_hunt.specs.Tallies.{Hunted, IsHunted, hunted_of}
+use Rattle.ckrt_hunt.specs.Seeds.{IsBeginning}
+use Rattle.ckrt_hunt.specs.Tallies.{Hunted, IsHunted, IsTallyOf, hunted_of}
 use Rattle.ckrt_hunt.specs.declared.plan.Input.{Input}
 use Rattle.ckrt_hunt.specs.declared.seeds.Seeds.{Seeds}
 use Rattle.ckrt_hunt.specs.declared.table.Asked.{Asked}
@@ -17,6 +18,12 @@ AreAskedRaces h seeds true (Some races) = IsRacesOf h seeds races
 AreAskedRaces h seeds true None = ⊥
 AreAskedRaces h seeds false (Some races) = ⊥
 AreAskedRaces h seeds false None = Unit {0}
+
+-- the seeds of a program that is hunted were run as it was asked for, and each run was looked at for races
+pub record IsCounted (h : Hunted) (asked : Asked) (told : HuntTold) : Type 0 where
+  pub begins : IsBeginning asked.seeds asked.may_end told.done.seeds
+  pub tally : IsTallyOf h told.done.seeds told.done.tally
+  pub looked : AreAskedRaces h told.done.seeds true told.races
 
 -- the program with this image and this input was hunted as it was asked for, with a look at races or without one
 pub record IsHuntedWith (races : Bool) (image : List ℕ) (input : Input) (asked : Asked)

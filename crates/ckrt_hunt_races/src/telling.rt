@@ -1,10 +1,11 @@
 //! A hunt from its image to its table, with the races of its runs where they are asked for.
-ghost use Rattle.std.specs.Prelude.{◌≡◌, ◌≢◌, ◌*◌, ◌-◌, ◌<◌, ◌↔◌, ◌++◌, length, true, IfErr, IfOk, IsErrOf, OnOk};
+ghost use Rattle.std.specs.Prelude.{◌≡◌, ◌≢◌, ◌*◌, ◌-◌, ◌<◌, ◌↔◌, ◌++◌, [], length, true, IfErr, IfOk, IsErrOf, OnOk};
 ghost use Rattle.std.specs.Io.KnownBytes.{Appends};
 ghost use Rattle.ckrt_memory.specs.declared.MemoryError.TheVariants as memory;
 ghost use Rattle.ckrt_hunt.specs.declared.telling.HuntFault.TheVariants as hunt;
 ghost use Rattle.ckrt_hunt.specs.Table.{table_text};
-ghost use Rattle.ckrt_hunt_races.specs.Hunts.{IsHuntedWith, has_race, has_several, races_behind, told_text};
+ghost use Rattle.ckrt_hunt_races.specs.Races.{no_races, raced_in};
+ghost use Rattle.ckrt_hunt_races.specs.Hunts.{IsCounted, IsHuntedWith, has_race, has_several, races_behind, told_text};
 
 use crate::hunt::RaceHunt;
 use crate::table::write_races;
@@ -14,7 +15,7 @@ use ckrt_hunt::{
     write_table,
 };
 use ckrt_memory::MemoryError;
-use std::alloc::Global;
+use std::alloc::{AllocError, Global};
 use std::io;
 use std::io::Write;
 
@@ -46,7 +47,59 @@ impl HuntTold {
     }
 }
 
-/// Runs the seeds, and looks at each run for races.
+/// What is counted of a hunt's runs, before the first of them.
+fn nothing_counted(alloc: Global) -> Result<(Tally, RaceTally), AllocError>
+    ensures rows { IfOk result (λ both. both.0.rows.items ≡ []) }
+    ensures others { IfOk result (λ both. both.0.others ≡ 0) }
+    ensures races { IfOk result (λ both. raced_in both.1 ≡ no_races) }
+{
+    let tally = Tally::new(alloc)?;
+    let races = RaceTally::new(alloc)?;
+    Ok((tally, races))
+}
+
+/// Runs the seeds of a program, and looks at each run for races.
+fn count_runs<O: HuntOnlooker>(
+    alloc: Global,
+    hunt: &mut RaceHunt<'_>,
+    asked: &Asked<'_>,
+    onlooker: &mut O,
+) -> Result<HuntTold, AllocError>
+    ensures { IfOk result (IsCounted hunt.old asked.now) }
+{
+    let (mut tally, mut races) = nothing_counted(alloc)?;
+    let seeds = hunt.note_seeds(&mut tally, &mut races, asked.seeds, asked.may_end, onlooker);
+    Ok(HuntTold {
+        done: HuntDone { seeds, tally },
+        races: Some(races),
+    })
+}
+
+/// Gives the room of a hunt back. It is done in one place, since the proof that it may be has to look at all of it.
+fn give_back(hunt: RaceHunt<'_>) {
+    let _given = hunt;
+}
+
+/// The same, and gives the room of the hunt back.
+fn count_all<O: HuntOnlooker>(
+    alloc: Global,
+    hunt: RaceHunt<'_>,
+    asked: &Asked<'_>,
+    onlooker: &mut O,
+) -> Result<HuntTold, MemoryError>
+    ensures counted { IfOk result (IsCounted hunt.entry asked.now) }
+    ensures fault { IfErr result (λ e. e ≡ memory.OutOfMemory) }
+{
+    let mut hunt = hunt;
+    let counted = count_runs(alloc, &mut hunt, asked, onlooker);
+    give_back(hunt);
+    match counted {
+        Ok(told) => Ok(told),
+        Err(_) => Err(MemoryError::OutOfMemory),
+    }
+}
+
+/// The same of a program that begins with this image, and is given this to read.
 fn hunt_for_races<O: HuntOnlooker>(
     alloc: Global,
     image: &[u8],
@@ -58,14 +111,10 @@ fn hunt_for_races<O: HuntOnlooker>(
     ensures too_long { IsErrOf result memory.ImageTooLong
         ↔ (4096 * (asked.now.shape.pages - 1) < length image.now) }
 {
-    let mut hunt = RaceHunt::new(alloc, image, asked.shape, input)?;
-    let mut tally = Tally::new(alloc)?;
-    let mut races = RaceTally::new(alloc)?;
-    let seeds = hunt.note_seeds(&mut tally, &mut races, asked.seeds, asked.may_end, onlooker);
-    Ok(HuntTold {
-        done: HuntDone { seeds, tally },
-        races: Some(races),
-    })
+    match RaceHunt::new(alloc, image, asked.shape, input) {
+        Ok(hunt) => count_all(alloc, hunt, asked, onlooker),
+        Err(fault) => Err(fault),
+    }
 }
 
 /// Writes the races of a hunt, where they were asked for.

@@ -3,7 +3,7 @@
 //! A disk has more than the state that it recovers to. Its area in use has an earlier one, and its journal the events that lead from
 //! there. The other area has the state before that, and its journal stays whole until the next checkpoint: where its events lead
 //! exactly to the area in use, a history begins there. Whoever looks back begins with these. [`read_recording`] reads them, and
-//! how many events came before.
+//! how many events came before. [`read_unreplayed`] does so for those who make all events anyway, and see then whether each is accepted.
 //!
 //! Proved of an honest disk: what is read is what its content has recorded ([`recordings_are_one`]), each event is accepted at its
 //! turn, and the plain fold of all of them leads to the state that the content recovers to ([`recordings_lead_on`]). Each fault is

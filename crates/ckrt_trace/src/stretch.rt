@@ -160,6 +160,9 @@ fn read_to<D: Disk>(alloc: Global, disk: &mut D, to: Option<u64>) -> Result<Reco
 
 /// Tells a stretch of what a disk has recorded. The disk is only read: it is neither written nor synced, at any moment.
 ///
+/// A stretch without an end of its own has each of its events made once. So where one of them isn't accepted, something may be written before
+/// `Damaged`, if the way of telling writes before it has made them all.
+///
 /// # Errors
 ///
 /// `NotFormatted`, `Version` and `Damaged` where the content recovers to no state, the first that applies; `Range` where the disk

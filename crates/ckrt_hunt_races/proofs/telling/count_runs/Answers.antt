@@ -1,0 +1,28 @@
+use Rattle.std.proofs.Common.{◌+◌, ◌-◌, subst, sym}
+use Rattle.ckrt_hunt.specs.Tallies.{AreNoted}
+use Rattle.ckrt_hunt_races.specs.Races.{Raced, no_races, raced_in}
+use Rattle.ckrt_hunt_races.specs.RaceRuns.{AreLookedAt}
+use Rattle.ckrt_hunt_races.proofs.telling.count_runs.Goals as goal
+
+-- as many as were run
+pub returns : goal.returns
+returns g c =
+    let h = c.args.hunt.now in
+    let all = c.args.asked.now.seeds in
+    let some = c.note_seeds-seeds.result in
+    let ensures = c.note_seeds-seeds.ensures in
+    let old = c.in_ok-tally.tally in
+    let new = c.note_seeds-seeds.new.tally in
+    let races = raced_in c.note_seeds-seeds.new.races in
+    let first = sym ensures.begins.first in
+    record {
+      begins = ensures.begins;
+      tally = record {
+        begun = old;
+        no_rows = c.in_ok-tally.ensures.rows;
+        no_others = c.in_ok-tally.ensures.others;
+        noted = subst (λ n. AreNoted h n (some.last - n + 1) old new) first ensures.noted;
+      };
+      looked = subst (λ n. AreLookedAt h n (some.last - n + 1) no_races races) first
+          (subst (λ (r : Raced). AreLookedAt h all.first (some.last - all.first + 1) r races) c.in_ok-tally.ensures.races ensures.looked_at);
+    }
