@@ -51,6 +51,18 @@ def make(ckrt, disk, image, **sizes):
     return disk
 
 
+def refusing_its_last(ckrt, disk, image):
+    """Makes a disk of an image, with three events of which the last is of a hart that it hasn't: so it is damaged. Gives its path."""
+    disk = make(ckrt, disk, image)
+    subprocess.run([ckrt, "run", disk], input=b"place 0 1\nrun 0 100\nrun 0 50\ncommit\n", check=True, capture_output=True)
+    content, last = bytearray(disk.read_bytes()), Layout().journal_at(0) + len(b"gLLPPPRRRR")
+    if content[last:last + 4] != b"\x02\x00\x32\x00":
+        raise ValueError(f"{disk}: the last event of its journal is another one")
+    content[last + 1] = 7
+    disk.write_bytes(content)
+    return disk
+
+
 def generation_of(disk, pages=PAGES):
     """The greater generation of the open areas of a disk: 1 behind its making, and one more behind each checkpoint."""
     found, layout = [], Layout(pages)

@@ -4,10 +4,12 @@ use Rattle.ckrt_disk.specs.Frame.{IsOnlyRead}
 use Rattle.ckrt_disk.specs.declared.disk.Disk.{Ghosts}
 use Rattle.ckrt_machine.specs.Events.{AllAccepted}
 use Rattle.ckrt_stored.specs.Reads.{IsReadAs, is_device}
+use Rattle.ckrt_stored.specs.Recovery.{Recovers}
 use Rattle.ckrt_stored.specs.declared.fault.RecoverFault.{RecoverFault}
 use Rattle.ckrt_stored.specs.declared.fault.RecoverFault.TheVariants as recover
 use Rattle.ckrt_inspect.specs.declared.fault.InspectFault.TheVariants as look
-use Rattle.ckrt_recording.specs.Recording.{HasRecording, Recorded, Records, recorded_of}
+use Rattle.ckrt_recording.specs.Reading.{HasUnreplayed, RecordsUnreplayed}
+use Rattle.ckrt_recording.specs.Recording.{HasRecording, Recorded, recorded_of}
 use Rattle.ckrt_recording.specs.declared.recording.Recording.{Recording}
 use Rattle.ckrt_debug.specs.Conversation.{BreaksOff, Serves}
 use Rattle.ckrt_debug.specs.Session.{BeginsAt, IsOutside}
@@ -31,8 +33,8 @@ abbrev pub recording_or_fault : Result Recording RecoverFault → Result Recordi
 recording_or_fault (Ok recording) = Ok recording
 recording_or_fault (Err f) = Err (job.Recover f)
 
--- A disk that was opened to be looked at was only read, and closed as it was then. What was read is what it has recorded, if it was honest to that
--- end.
+-- A disk that was opened to be looked at was only read, and closed as it was then. What was read is what it has recorded, as far as that is known
+-- before its events are made, if it was honest to that end.
 pub record ReadsOpened {D : Type 0} (d : Ghosts D) (Opens : D → Type 0) (asked new : Openings D)
     (result : Result Recording JobFault) : Type 0 where
   pub start : D
@@ -41,7 +43,7 @@ pub record ReadsOpened {D : Type 0} (d : Ghosts D) (Opens : D → Type 0) (asked
   pub answer : Result Recording RecoverFault
   pub gives : result ≡ recording_or_fault answer
   pub read : IsOnlyRead d start end (is_device answer)
-  pub records : IsReadAs d start end recorded_of answer Records
+  pub records : IsReadAs d start end recorded_of answer RecordsUnreplayed
   pub closes : new ≡ with_closed asked end
 
 -- the disk of this path was asked for and can't be opened
@@ -144,3 +146,8 @@ pub record DebugsPath {D : Type 0} (d : Ghosts D) (Opens : D → Type 0) (j : De
 abbrev pub RefusesNone : Type 0
 RefusesNone = (image : List ℕ) (r : Recorded) (k : ℕ) → HasRecording image r
     → IsBeginFault (Some k) r debug.Refused → ⊥
+
+-- where an event of what was read is refused, the image recovers to Damaged
+abbrev pub RefusesDamaged : Type 0
+RefusesDamaged = (image : List ℕ) (r : Recorded) (k : ℕ) → HasUnreplayed image r
+    → IsBeginFault (Some k) r debug.Refused → Recovers image (Err recover.Damaged)

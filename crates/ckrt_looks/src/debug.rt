@@ -10,14 +10,15 @@ use ckrt_disk::Disk;
 use ckrt_inspect::InspectFault;
 use ckrt_main::ServeFault;
 use ckrt_outcomes::JobFault;
-use ckrt_recording::{Recording, read_recording};
+use ckrt_recording::{Recording, read_unreplayed};
 use ckrt_sources::{JobFile, Sources};
 use ckrt_stored::RecoverFault;
 use ckrt_words::DebugJob;
 use std::alloc::Global;
 use std::io::{Read, Write};
 
-/// Reads what a disk that was opened has recorded, and closes it.
+/// Reads what a disk that was opened has recorded, and closes it. The events of its area in use are made only once the session moves: a
+/// debugger waits a few seconds only for its first answers.
 fn read_opened<'a, I: Read, D: Disk, S: Sources<'a, I, D>>(
     alloc: Global,
     disk: D,
@@ -27,7 +28,7 @@ fn read_opened<'a, I: Read, D: Disk, S: Sources<'a, I, D>>(
         (S.openings sources.old) (S.openings sources.new) result }
 {
     let mut disk = disk;
-    let answer = read_recording(alloc, &mut disk);
+    let answer = read_unreplayed(alloc, &mut disk);
     sources.close(disk);
     match answer {
         Ok(recording) => Ok(recording),
@@ -106,8 +107,8 @@ fn debug_recorded<R: Read, W: Write>(
 /// The first that applies: `File` of the disk; `Recover`, where nothing is recovered from it, where the disk failed a read or memory
 /// was refused; `OutOfMemory` where memory is refused to the session; `Inspect` of `Range` where it has recorded no position with so
 /// many events done; `Serve` of `Read` and of `Write` where the debugger's line fails, and `OutOfMemory` where memory is refused to
-/// what a `monitor` tells. Of a disk that lies between two reads the run may have an event that isn't accepted: that is `Recover`
-/// of `Damaged`.
+/// what a `monitor` tells. The events of the area in use are made when the session moves, or before it begins where so many are to
+/// be done: where one isn't accepted at its turn the content is damaged, which is `Recover` of `Damaged` then.
 pub fn debug_path<'a, I: Read, D: Disk, S: Sources<'a, I, D>, R: Read, W: Write>(
     alloc: Global,
     job: &DebugJob<'a>,
