@@ -24,12 +24,7 @@ fn number<'a>(alloc: Global, id: &'a str, default: &'a str, help: &'a str) -> Ar
     ensures rule { rule_of result ≡ number_rule id.entry.now default.entry.now }
     ensures local { result.global ≡ false }
 {
-    Arg::new(alloc, id)
-        .long(id)
-        .value_name("N")
-        .value_parser(value_parser!(u32))
-        .default_value(default)
-        .help(help)
+    size(alloc, id, help).default_value(default)
 }
 
 /// An option with a number of 32 bits, which may be left out.
