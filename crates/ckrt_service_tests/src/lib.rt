@@ -1,16 +1,30 @@
-//! Tests of the service over a disk. Nothing else stands here.
+//! Tests of the service over a disk, of guests from lines to replies, and of lives of one, one after another. Nothing else stands here.
 #![tactic(auto)]
 
 #[cfg(test)]
 mod broken_streams;
 #[cfg(test)]
+mod cancelled_guests;
+#[cfg(test)]
 mod checkpoints;
+#[cfg(test)]
+mod contention;
 #[cfg(test)]
 mod expect;
 #[cfg(test)]
+mod first_path;
+#[cfg(test)]
+mod image_service;
+#[cfg(test)]
+mod input;
+#[cfg(test)]
 mod inspected_failures;
 #[cfg(test)]
+mod keys;
+#[cfg(test)]
 mod largest;
+#[cfg(test)]
+mod lives;
 #[cfg(test)]
 mod long_runs;
 #[cfg(test)]
@@ -20,6 +34,8 @@ mod saved_disks;
 #[cfg(test)]
 mod saved_waits;
 #[cfg(test)]
+mod schedules;
+#[cfg(test)]
 mod service;
 #[cfg(test)]
 mod serving;
@@ -27,5 +43,11 @@ mod serving;
 mod sessions;
 #[cfg(test)]
 mod small_disk;
+#[cfg(test)]
+mod streams;
+#[cfg(test)]
+mod threads;
+#[cfg(test)]
+mod waiting;
 #[cfg(test)]
 mod worked_examples;

@@ -132,3 +132,25 @@ pub fn bytes_of<R: Abort + AllocGlobal>(rt: &R, pieces: &[Piece]) -> Vec<u8> {
     }
     bytes
 }
+
+/// The bytes from an offset on.
+pub fn expect_part<R: Abort>(rt: &R, bytes: &[u8], at: usize, part: &[u8]) {
+    let (_, rest) = bytes.split_at_checked(at).unwrap_or((&[], &[]));
+    expect_eq_at(rt, at, rest.starts_with(part), true);
+}
+
+/// Bytes in the place of others.
+pub fn lay<R: Abort>(rt: &R, image: &mut Vec<u8>, at: usize, bytes: &[u8]) {
+    let end = at.saturating_add(bytes.len());
+    assert!(rt; end <= image.len());
+    image.as_mut_slice()[at..end].copy_from_slice(bytes);
+}
+
+/// An image of these words, little-endian.
+pub fn image_of<R: Abort + AllocGlobal>(rt: &R, words: &[u32]) -> Vec<u8> {
+    let mut image = Vec::new(rt.alloc());
+    for word in words {
+        push(rt, &mut image, &word.to_le_bytes());
+    }
+    image
+}

@@ -1,7 +1,7 @@
 //! Long streams: a service answers every line, however many reads they take, and writes all output.
 
 use crate::expect::{expect_bytes, expect_eq, push};
-use crate::service::{expect_replies, push_reply};
+use crate::image_service::{expect_replies, push_reply};
 use crate::small_disk::SMALL;
 use ckrt_main::serve_image;
 use ckrt_test_data::IMAGE;

@@ -1,6 +1,6 @@
 //! Several guest threads.
 
-use crate::service::expect_replies;
+use crate::image_service::expect_replies;
 
 /// Creates a thread that puts a B, joins it and exits.
 const JOINS: [u32; 13] = [

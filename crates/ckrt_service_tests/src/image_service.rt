@@ -1,18 +1,9 @@
-//! A service from lines to replies, for the other tests.
+//! A service of an image, from lines to replies, for the other tests.
 
-use crate::expect::{expect_bytes, expect_eq, push};
+use crate::expect::{expect_bytes, expect_eq, image_of, push};
 use crate::small_disk::SMALL;
 use ckrt_main::{Config, serve_image};
 use std::process::Abort;
-
-/// An image of these words, little-endian.
-pub fn image_of<R: Abort + AllocGlobal>(rt: &R, words: &[u32]) -> Vec<u8> {
-    let mut image = Vec::new(rt.alloc());
-    for word in words {
-        push(rt, &mut image, &word.to_le_bytes());
-    }
-    image
-}
 
 /// What a service of the image writes for these lines.
 pub fn replies<R: Abort + AllocGlobal>(

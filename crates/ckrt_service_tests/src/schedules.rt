@@ -1,7 +1,7 @@
 //! A guest under several schedules, from lines to what it puts to the console.
 
 use crate::expect::{expect_eq_at, push, put_by};
-use crate::service::replies;
+use crate::image_service::replies;
 use ckrt_main::Config;
 use std::process::Abort;
 

@@ -2,8 +2,8 @@
 ghost use Rattle.ckrt_events.specs.Bytes.{IsInRange};
 
 use crate::expect::{expect_eq, image_of};
+use crate::image_service::expect_replies;
 use crate::schedules::{NOTHING_ELSE, Schedule, expect_console};
-use crate::service::expect_replies;
 use ckrt_events::Event;
 use ckrt_machine::{Answer, Machine, RunEnd};
 use ckrt_state::Status;

@@ -1,7 +1,7 @@
 //! One guest thread, from lines to replies.
 
 use crate::expect::{copied, expect_eq, expect_eq_at, filled, image_of, push};
-use crate::service::{expect_replies, push_reply};
+use crate::image_service::{expect_replies, push_reply};
 use crate::small_disk::SMALL;
 use ckrt_main::{Config, ServeFault, serve_image};
 use ckrt_memory::{Memory, MemoryError};

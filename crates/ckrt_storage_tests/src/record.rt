@@ -1,19 +1,14 @@
 //! The record on a disk: the bytes of a slot, what is read of it, and what a stop leaves.
 
+use crate::expect::{filled, memory_disk};
+use crate::small_disk::{SMALL, recovered};
 use arrayvec::ArrayVec;
 use ckrt_disk::{Disk, MemoryDisk, StoppingDisk};
 use ckrt_events::Event;
 use ckrt_record::{OffsetFault, RECORD_BYTES, checkpoint, read_offset};
-use ckrt_recovery::{CommitFault, Config, Session, format, recover};
+use ckrt_recovery::{CommitFault, Session, format};
 use ckrt_test_data::{FILLS, IMAGE, SIZE};
 use std::process::Abort;
-
-/// 16 pages, 1 hart, and a journal of 4,096 bytes.
-const SMALL: Config = Config {
-    pages: 16,
-    harts: 1,
-    journal: 4_096,
-};
 
 /// The slot of area 1 after the first checkpoint, of two events that took five bytes: the name, version 1, generation 2, two
 /// events, five bytes.
@@ -29,30 +24,12 @@ const SLOT_AT: usize = SIZE + 2_048;
 /// those of each checkpoint around its gates.
 const CALLS: [u64; 8] = [2, 3, 24, 25, 26, 28, 34, 35];
 
-/// That many bytes of one value.
-fn filled<R: Abort + AllocGlobal>(rt: &R, byte: u8, size: usize) -> Vec<u8> {
-    vec![in rt.alloc(); byte; size].expect(rt, "memory for bytes")
-}
-
-/// A disk in memory with these bytes.
-fn memory_disk<R: Abort + AllocGlobal>(rt: &R, bytes: Vec<u8>) -> MemoryDisk {
-    MemoryDisk::new(rt.alloc(), bytes).expect(rt, "memory for a disk")
-}
-
 /// A formatted disk of that many bytes more than it needs.
 fn formatted<R: Abort + AllocGlobal>(rt: &R, more: usize) -> Vec<u8> {
     let mut disk = memory_disk(rt, filled(rt, 0xff, SIZE.saturating_add(more)));
     let outcome = format(rt.alloc(), &mut disk, SMALL, &IMAGE);
     assert!(rt; outcome.is_ok());
     disk.into_image()
-}
-
-/// The session that is recovered from a disk.
-fn recovered<R: Abort + AllocGlobal, D: Disk>(rt: &R, disk: D) -> Session<D> {
-    match recover(rt.alloc(), disk) {
-        Ok(session) => session,
-        Err(unrecovered) => panic!(rt; "{}", unrecovered.fault),
-    }
 }
 
 /// Submits an Input of these bytes.

@@ -1,6 +1,6 @@
 //! Thread-specific data: guests whose destructors run when a thread ends.
 
-use crate::service::expect_replies;
+use crate::image_service::expect_replies;
 use ckrt_test_data::PUTS_ITS_VALUE;
 
 /// That guest with a destructor that sets the value again.

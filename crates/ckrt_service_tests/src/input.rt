@@ -1,7 +1,7 @@
 //! Lines with faults, and console input.
 
 use crate::expect::push;
-use crate::service::{expect_replies, push_reply};
+use crate::image_service::{expect_replies, push_reply};
 use std::process::Abort;
 
 #[test]
