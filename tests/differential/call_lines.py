@@ -10,7 +10,7 @@ from listing import OutOfRange, address_text, reason_of_wait, text_of_fault, tex
 from machine import OUTPUT_OF_RUN
 from processor import ECALL
 from recorded import recorded_areas
-from recovery import events_of_journal, recover
+from recovery import Unrecovered, events_of_journal, recover, unmade
 from threads import Status, WaitKind
 
 # How the arguments of a call are told: `a` is a word that may be an address, `n` a number, `m` a moment, of two words.
@@ -149,9 +149,17 @@ def event_text(event):
 
 
 def told_of_journal(disk, found):
-    """The lines of each event in the journal of an area, from what that saves on."""
-    teller = Teller(found.machine, found.events)
-    return [teller.lines_of_event(event) for event in events_of_journal(disk, found)[0]]
+    """The lines of each event in the journal of an area, from what that saves on, up to one that isn't accepted at its turn."""
+    teller, told = Teller(found.machine, found.events), []
+    for event in events_of_journal(disk, found)[0]:
+        if teller.machine.refusal_of(event, 0) is not None:
+            break
+        told.append(teller.lines_of_event(event))
+    return told
+
+
+def told_of_areas(disk, areas):
+    return [lines for found in areas for lines in told_of_journal(disk, found)]
 
 
 class History:
@@ -162,7 +170,7 @@ class History:
         self.whole = recover(disk).events
         areas = recorded_areas(disk)
         self.first = areas[0].events
-        self.told = [lines for found in areas for lines in told_of_journal(disk, found)]
+        self.told = told_of_areas(disk, areas)
 
     def lines(self, first=None, last=None):
         """Of the events behind the first so many, and up to the last: all, if nothing else is said."""
@@ -170,6 +178,19 @@ class History:
         if not self.first <= first <= last <= self.whole:
             raise OutOfRange
         return [line for lines in self.told[first - self.first:last - self.first] for line in lines]
+
+
+def lines_before_refused(contents, first=None):
+    """Of a disk that doesn't recover, behind the first so many events: the lines up to the event that isn't accepted at its turn. None are
+    known of one that is damaged otherwise."""
+    disk = MemoryDisk(contents)
+    try:
+        unmade(disk)
+        areas = recorded_areas(disk)
+    except Unrecovered:
+        return []
+    begin = areas[0].events
+    return [line for lines in told_of_areas(disk, areas)[max(0, (first or 0) - begin):] for line in lines]
 
 
 def kind_of_line(line):

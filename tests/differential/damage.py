@@ -1,12 +1,14 @@
-"""Disks with damage: bytes changed in every part, batches that are no batches, full journals, wrong lengths."""
+"""Disks with damage: bytes changed in every part, batches that are no batches, full journals, wrong lengths, refused events."""
 import struct
+from copy import deepcopy
 
 from abi import ALL_ONES
 from devices import MemoryDisk
 from events import Eof, Input, Place, Run, RunLong, Tick
 from guests import Guest
-from layout import CLOSED, OPEN, TABLES_AT, Geometry, format_disk, fresh_tables
+from layout import CLOSED, COUNTERS, HEADER_AT, OPEN, TABLES_AT, Geometry, Header, format_disk, fresh_tables, header_of
 from lines import serve_disk
+from recovery import Unrecovered, unmade
 from session import Session
 from streams import random_lines
 from switches import SWITCHES
@@ -147,3 +149,64 @@ class Damage:
         first, behind = self.areas[0], TABLES_AT + self.tables_length
         for at in (1, 7, 32, 4095, first + 1, first + 7, first + 40, first + behind, first + TABLES_AT + 4000):
             self.disk[at] = self.chance.randrange(256)
+
+
+OFFERED = [Place(0, 1), Place(0, 64), Place(7, 1), Run(0, 5), Run(1, 70), Run(7, 1), Input(bytes(64)), Eof(), RunLong(0, 9),
+           RunLong(3, 70000)]
+# Counts of events, or where output begins: well below and above half of the limit, and nearly at it.
+HIGH_COUNTS = [COUNTERS // 2 - 20_000, COUNTERS // 2 + 20_000, COUNTERS - 2, COUNTERS - 1_500]
+
+
+class RefusedEvent:
+    """Of a disk whose journal in use is whole: an event there that isn't accepted at its turn, with others before it and behind it."""
+
+    def __init__(self, chance, disk):
+        self.chance, self.device = chance, MemoryDisk(disk)
+        self.found, self.events = unmade(self.device)
+
+    def put(self):
+        """At times more is wrong: the chain behind it, or how high the counts are."""
+        chance = self.chance
+        used = self.write(self.with_refused())
+        if chance.random() < 0.15:
+            self.device.write(used, chance.choice([b"\xa5\0\0", b"\xa5\x01\0\x09", b"\xa5\xff\xff"]))
+        if chance.random() < 0.2:
+            names = chance.choice([["events"], ["offset"], ["events", "offset"]])
+            self.write_header(**{name: chance.choice(HIGH_COUNTS) for name in names})
+
+    def with_refused(self):
+        """The events with it among them, at any place; without it, where the machine takes all that are offered."""
+        at = self.chance.randrange(len(self.events) + 1)
+        machine = deepcopy(self.found.machine)
+        for event in self.events[:at]:
+            machine.step(event)
+        refused = [event for event in OFFERED if machine.refusal_of(event, 0) is not None and self.is_known(event)]
+        return [*self.events[:at], *self.chance.sample(refused, min(1, len(refused))), *self.events[at:]]
+
+    def is_known(self, event):
+        """Whether a journal of this version has it."""
+        return not isinstance(event, RunLong) or self.found.version > 1
+
+    def write(self, events):
+        """As many as there is room for, in batches of some; answers where the last gate is."""
+        geometry, size = self.found.geometry, self.chance.choice([1, 3, 30])
+        data = bytes([CLOSED])
+        for at in range(0, len(events), size):
+            more = batch(b"".join(event.encoding() for event in events[at:at + size]))
+            if len(data) - 1 + len(more) <= geometry.journal:
+                data = data[:-1] + more
+        at = geometry.journal_at(self.found.area)
+        self.device.write(at, data)
+        return at + len(data) - 1
+
+    def write_header(self, **fields):
+        header = Header(**{**vars(header_of(self.device, self.found.geometry, self.found.area)), **fields})
+        self.device.write(self.found.geometry.area_at(self.found.area) + HEADER_AT, header.encoding())
+
+
+def refuse_event(chance, disk):
+    """A disk that is damaged otherwise stays as it is."""
+    try:
+        RefusedEvent(chance, disk).put()
+    except Unrecovered:
+        pass

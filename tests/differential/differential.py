@@ -11,7 +11,7 @@ from pathlib import Path
 from random import Random
 
 from abi import KEY_CALLS, Call
-from call_lines import History, kind_of_line
+from call_lines import History, kind_of_line, lines_before_refused
 from cases import KINDS, case_of
 from debugged import DebuggedCase, difference_of_debugged
 from drive_cases import DrivesCase, difference_of_drives
@@ -107,8 +107,20 @@ def calls_of_program(ckrt, path, stretch):
     return shown_by(ckrt, ["calls", path, *[word for pair in ends for word in pair]])
 
 
+def with_told_before(expected, shown, disk, first):
+    """What is expected, with those lines before a fault that may come and are shown: whole ones, up to the event that is refused."""
+    lines = [line.encode() + b"\n" for line in lines_before_refused(disk, first)]
+    told = b"".join(lines[:shown.replies.count(b"\n")])
+    return Life(expected.status, told if shown.replies == told else expected.replies, expected.errors)
+
+
+def kind_of_calls(life):
+    fault = life.errors.decode().strip().removeprefix("ckrt: ")
+    return fault + (" behind lines" if life.replies else "") if fault else "shown"
+
+
 def difference_of_histories(ckrt, case, path, tally):
-    """None, or where the two differ on a stretch; the disk's file keeps its bytes."""
+    """None, or where the two differ on a stretch; the disk's file keeps its bytes. Without an end lines may come before a fault."""
     disk = case.disk()
     path.write_bytes(disk)
     try:
@@ -118,7 +130,9 @@ def difference_of_histories(ckrt, case, path, tally):
     for stretch in case.stretches:
         expected = (TURNED if is_turned(*stretch) else fault) or calls_of_model(history, stretch)
         shown = calls_of_program(ckrt, path, stretch)
-        tally["calls", expected.errors.decode().strip().removeprefix("ckrt: ") or "shown"] += 1
+        if expected is fault and stretch[1] is None:
+            expected = with_told_before(fault, shown, disk, stretch[0])
+        tally["calls", kind_of_calls(expected)] += 1
         tally.update(("line of calls", kind_of_line(line)) for line in expected.replies.decode().splitlines())
         if shown != expected:
             return f"calls (from, to {stretch}): {place_of_difference(expected, shown)}"

@@ -4,7 +4,7 @@ import subprocess
 from dataclasses import dataclass
 
 from columns import is_dense
-from histories import drawn_stretches, is_turned, recorded_disk
+from histories import disk_with_stretches, is_turned
 from listing import OutOfRange
 from pictures import difference_of_picture
 from races import Readings
@@ -33,13 +33,12 @@ class TimelinesCase(RacesCase):
 
 
 def races_case(chance, case):
-    disk = recorded_disk(chance, case)
-    return RacesCase(bytes(disk), drawn_stretches(chance, disk))
+    return RacesCase(*disk_with_stretches(chance, case))
 
 
 def timelines_case(chance, case):
-    disk, width = recorded_disk(chance, case), chance.choice([None, None, 400, 4000, chance.choice(WIDTHS), 399, 4001, 0])
-    return TimelinesCase(bytes(disk), drawn_stretches(chance, disk), width)
+    width = chance.choice([None, None, 400, 4000, chance.choice(WIDTHS), 399, 4001, 0])
+    return TimelinesCase(*disk_with_stretches(chance, case), width)
 
 
 @dataclass(frozen=True)

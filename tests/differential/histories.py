@@ -1,6 +1,7 @@
 """Cases of `ckrt calls`: disks with events in their journals, and stretches of these."""
 from dataclasses import dataclass
 
+from damage import refuse_event
 from lines import serve_disk
 from older_areas import OlderArea
 from recorded import ends_of_history
@@ -61,6 +62,14 @@ def is_turned(first, last):
     return first is not None and last is not None and last < first
 
 
-def histories_case(chance, case):
+def disk_with_stretches(chance, case):
+    """A recorded disk, and stretches of its events. At times an event in use is then refused at its turn."""
     disk = recorded_disk(chance, case)
-    return HistoriesCase(bytes(disk), drawn_stretches(chance, disk))
+    stretches = drawn_stretches(chance, disk)
+    if chance.random() < 0.15:
+        refuse_event(chance, disk)
+    return bytes(disk), stretches
+
+
+def histories_case(chance, case):
+    return HistoriesCase(*disk_with_stretches(chance, case))

@@ -12,6 +12,7 @@ from processor import Cause
 from threads import Status, WaitKind
 
 DIGITS = 8  # of a digest
+MOST_OUTCOMES = 64  # that have lines of their own
 SEVERAL = 8  # the status where there are several outcomes, or a race
 AWAITED = {WaitKind.JOIN: "the end of thread {}", WaitKind.LOCK: "mutex {}", WaitKind.RETAKE: "mutex {}", WaitKind.CONDITION: "condition {}",
            WaitKind.BARRIER: "barrier {}", WaitKind.READ: "read lock {}", WaitKind.WRITE: "write lock {}"}
@@ -104,14 +105,17 @@ def command_of(image, seed, options):
 
 
 def lines_of_table(image, outcomes, options):
-    """Of the outcomes by seed, in the order of the seeds: each outcome once, with how often it came and by which seed first."""
+    """Of the outcomes by seed, in the order of the seeds: each outcome once, with how often it came and by which seed first; then how many
+    runs all others have."""
     first = {outcome: seed for seed, outcome in reversed(outcomes.items())}
     counts, lines = Counter(outcomes.values()), []
-    for number, outcome in enumerate(sorted(first, key=first.get), 1):
+    told = sorted(first, key=first.get)[:MOST_OUTCOMES]
+    for number, outcome in enumerate(told, 1):
         seed = first[outcome]
         lines += [f"outcome {number}: {counts[outcome]} of {len(outcomes)} runs, first by seed {seed}: {outcome}",
                   f"    {command_of(image, seed, options)}"]
-    return lines
+    left = len(outcomes) - sum(counts[outcome] for outcome in told)
+    return lines + [f"other outcomes: {left} of {len(outcomes)} runs"] * (left > 0)
 
 
 def status_of(outcomes, found=()):

@@ -9,12 +9,12 @@ from guests import RETURN
 from histories import recorded_disk
 from hunted import Hunted
 from listing import lines_of_state
-from motions import Stops, backward, onward
-from moved import is_as_expected
+from motions import Stops, backward, onward, text_of_stop, thread_of_stop
+from moved import is_any, told_at
 from sharers import Sharer
 from stories import Story, TooLong
 from streams import malformed_line
-from stubs import answers_in, answers_of_thread, frame, live_threads, memory_text, monitor, position_text
+from stubs import answers_in, answers_of_thread, frame, is_answered, live_threads, memory_text, monitor, position_text, told_threads
 
 TIME_LIMIT = 60
 MOTIONS = {"vCont;c": onward, "bc": backward}
@@ -67,14 +67,21 @@ class Script:
         return event, self.chance.choice([0, self.chance.randrange(story.positions[event - story.first])])
 
     def goto(self):
-        place = self.place()
+        self.go(self.place())
+
+    def go(self, place):
+        """Where it goes is told, and the stop behind it is a plain one."""
         self.story.goto(place)
-        self.ask(monitor(f"goto {position_text(place)}"), (None, "OK"))
+        self.tell(f"goto {position_text(place)}", self.story.place_text())
+        self.why()
+
+    def why(self):
+        self.ask("?", ("", text_of_stop("T05", self.story.named)))
 
     def goto_nowhere(self):
         story = self.story
         places = [(story.last + 1, 0), (story.last, 1), *[(story.last - 1, steps) for steps in story.positions[-1:]]]
-        self.ask(monitor(f"goto {position_text(self.chance.choice(places))}"), (NOWHERE, "OK"))
+        self.tell(f"goto {position_text(self.chance.choice(places))}", NOWHERE + story.place_text())
 
     def events(self):
         self.tell("events", self.story.place_text())
@@ -83,12 +90,14 @@ class Script:
         self.tell("fork", self.story.fork())
 
     def goto_end(self):
-        self.story.goto((self.story.last, 0))
-        self.ask(monitor(f"goto {self.story.last}"), (None, "OK"))
+        self.go((self.story.last, 0))
 
     def event(self):
-        line = self.line()
+        """What an event leads to is a plain stop, too."""
+        line, before = self.line(), self.story.last
         self.tell(f"event {line}", self.story.add(line))
+        if self.story.last > before:
+            self.why()
 
     def line(self):
         chance, hart = self.chance, self.chance.randrange(3)
@@ -100,8 +109,10 @@ class Script:
                               "".join(letter for letter in malformed_line(chance).decode("latin-1") if " " <= letter < "\x7f")[:200]])
 
     def live(self):
-        most = self.chance.choice([1, 1, 2, 3, 5, 20, 100])
+        most, before = self.chance.choice([1, 1, 2, 3, 5, 20, 100]), self.story.last
         self.tell(f"live {most}", self.story.live(most))
+        if self.story.last > before:
+            self.why()
 
     def inspect(self):
         story = self.story
@@ -111,9 +122,10 @@ class Script:
     def look(self):
         """At threads and memory."""
         machine = self.story.machine_at(self.story.position)
-        self.ask("qfThreadInfo", ("", "m" + ",".join(f"{number:x}" for number in live_threads(machine) or [1])))
+        self.ask("qfThreadInfo", ("", "m" + ",".join(f"{number:x}" for number in told_threads(machine))))
         for number in live_threads(machine)[:4]:
-            for packet, answer in zip((f"T{number:x}", f"qThreadExtraInfo,{number:x}", f"Hg{number:x}", "g"), answers_of_thread(machine, number)):
+            packets = f"T{number:x}", f"qThreadExtraInfo,{number:x}", f"Hg{number:x}", "g"
+            for packet, answer in zip(packets, answers_of_thread(machine, number, number)):
                 self.ask(packet, answer)
         address = self.chance.choice([0x2000, 0x1000, 0xF000])
         self.ask(f"m{address:x},800", ("", memory_text(machine.memory, address, 0x800)))
@@ -126,7 +138,9 @@ class Script:
         steps, motion = story.steps(), self.chance.choice(list(MOTIONS))
         ends = (story.first, 0), (story.last, 0)
         story.position, answers = MOTIONS[motion](steps, self.stops, story.position, ends[motion == "vCont;c"])
-        self.ask(motion, answers)
+        answers = told_at(answers, story.named_at(story.position))
+        story.named = thread_of_stop(answers[0])
+        self.ask(motion, [("", answer) for answer in answers])
         self.events()
 
     def stop_at(self):
@@ -163,33 +177,32 @@ def lived_case(chance, case):
     return LivedCase(bytes(disk), [] if at is None else ["--at", str(at)], script.asked)
 
 
-def is_answered(expected, got):
-    told, payload = got
-    if isinstance(expected, list):
-        return is_as_expected(expected, got)
-    if expected is None:
-        return True
-    if expected[0] == NOWHERE:
-        told = told[:len(NOWHERE)]
-    return payload == expected[1] and expected[0] in (None, told)
+def packets_of(case):
+    return ["QStartNoAckMode", *[packet for packet, _ in case.asked], "D"]
+
+
+def difference_of_answers(case, got, tally):
+    """None, or the first packet whose answer isn't as expected."""
+    packets, expected = packets_of(case), [("", "OK"), *[answer for _, answer in case.asked], ("", "OK")]
+    for number, (packet, wanted, there) in enumerate(zip(packets, expected, got)):
+        if isinstance(wanted, tuple) and wanted[0]:
+            lines = [] if packet.startswith(monitor("inspect")) else wanted[0].splitlines()
+            tally.update(("told by monitor", kind_of_line(line)) for line in lines)
+        if not (is_any if isinstance(wanted, list) else is_answered)(wanted, there):
+            asked = bytes.fromhex(packet[6:]).decode() if packet.startswith("qRcmd,") else packet
+            return f"packet {number}, {asked}: model {wanted}, program {there}"
+    return None if len(got) == len(expected) else f"{len(expected)} answers of the model, {len(got)} of the program"
 
 
 def difference_of_lived(ckrt, case, path, tally):
-    """None, or the first packet whose answer isn't as expected. Disks that don't recover have their own kind."""
+    """None, or where they differ. Disks that don't recover have their own kind."""
+    if not case.asked:
+        return None
     path.write_bytes(case.contents)
-    packets = ["QStartNoAckMode", *[packet for packet, _ in case.asked], "D"]
-    expected = [("", "OK"), *[answer for _, answer in case.asked], ("", "OK")]
-    done = subprocess.run([ckrt, "debug", path, *case.words], input=b"".join(map(frame, packets)), capture_output=True, timeout=TIME_LIMIT)
-    got = answers_in(done.stdout) if case.asked else []
-    for number, (packet, wanted, there) in enumerate(zip(packets, expected, got)):
-        if isinstance(wanted, tuple) and wanted[0]:
-            tally.update(("told by monitor", kind_of_line(line)) for line in wanted[0].splitlines() if not packet.startswith(monitor("inspect")))
-        if not is_answered(wanted, there):
-            asked = bytes.fromhex(packet[6:]).decode() if packet.startswith("qRcmd,") else packet
-            return f"packet {number}, {asked}: model {wanted}, program {there}"
-    if case.asked and len(got) != len(expected):
-        return f"{len(expected)} answers of the model, {len(got)} of the program"
-    return None if path.read_bytes() == case.contents else "debug changed the disk's bytes"
+    sent = b"".join(map(frame, packets_of(case)))
+    done = subprocess.run([ckrt, "debug", path, *case.words], input=sent, capture_output=True, timeout=TIME_LIMIT)
+    difference = difference_of_answers(case, answers_in(done.stdout), tally)
+    return difference or (None if path.read_bytes() == case.contents else "debug changed the disk's bytes")
 
 
 def kind_of_line(line):

@@ -61,6 +61,41 @@ def those_there(machine):
     return frozenset(number for number, thread in machine.threads.items() if not thread.has_ended)
 
 
+def next_step(steps, place):
+    """The one that is next at a position; None where nobody's is."""
+    return next((step for step in steps if step.before == place), None)
+
+
+def threads_at(steps, place):
+    """Those that are there: nothing but a step changes that."""
+    behind = next((step for step in steps if step.before >= place), None)
+    return behind.there if behind else steps[-1].left
+
+
+def named(running, there, before):
+    """Whom a stop names, of those that are there: the thread whose step is next; where nobody's is the one that was to step, or that of the
+    stop before. None where no page tells it: before its first stop a session has none."""
+    if running:
+        return running
+    return None if before is None and len(there) > 1 else named_instead(there, before)
+
+
+def named_instead(there, thread):
+    """In place of one that has ended stands the first."""
+    return thread if thread in there else min(there, default=1)
+
+
+def text_of_stop(why, thread):
+    """With any thread, where that isn't known."""
+    return f"{why}thread:" + ("" if thread is None else f"{thread:x};")
+
+
+def thread_of_stop(payload):
+    """Whom it names, if it is known."""
+    number = payload.rpartition("thread:")[2]
+    return int(number[:-1], 16) if number else None
+
+
 @dataclass
 class Stops:
     """Breakpoints, and watches: each an address and a length."""
@@ -85,20 +120,24 @@ def stops_before(stops, step, place):
 
 
 def stepped(steps, stops, place, last, thread):
-    """Behind the next step of a thread. What another one has a breakpoint or a watch at ends it before, a watch of its own, too. No page
-    tells which thread is named where its step is its last one."""
+    """Behind the next step of a thread. What another one has a breakpoint or a watch at ends it before, a watch of its own, too."""
     for step in steps:
         if step.before < place:
             continue
         answers = stops_before(stops, step, place)
         if step.thread == thread and not stops.changed_watches(step):
-            told = [step.thread] if thread in step.left else sorted(step.left) or [1]
-            return step.behind, [f"T{signal_of(step.fault) if step.fault else '05'}thread:{number:x};" for number in told]
+            return step.behind, [text_of_stop(f"T{signal_of(step.fault) if step.fault else '05'}", named_instead(step.left, thread))]
         if answers:
             return step.before, answers
         if step.fault:
             return step.behind, [f"T{signal_of(step.fault)}thread:{step.thread:x};"]
     return last, [END]
+
+
+def steps_of_thread(steps, place, thread):
+    """Its last step before a position, and its next one; None where there is none."""
+    before = next((step for step in reversed(steps) if step.thread == thread and step.behind <= place), None)
+    return before, next((step for step in steps if step.thread == thread and step.before >= place), None)
 
 
 def stepped_back(steps, stops, place, first, thread):
@@ -136,15 +175,15 @@ def backward(steps, stops, place, first):
     return (max(reasons), reasons[max(reasons)]) if reasons else (first, [BEGIN])
 
 
-def end_of_steps(counts, place, most, is_onward, ends, weight):
+def end_of_steps(counts, place, most, is_onward, ends):
     """Where a motion of so many steps ends: behind the event in which it makes the last of them, or at that one's begin going back; None
-    where there are no more. `counts` has of each event with steps how many; the weight is what another one counts for."""
+    where there are no more. `counts` has of each event with steps how many; another one counts as one."""
     event, step = place
     made = -step if is_onward else step
     if not is_onward and made >= most:
         return event, 0
     for number in range(event, ends[1]) if is_onward else reversed(range(ends[0], event)):
-        made += counts.get(number, weight)
+        made += counts.get(number, 1)
         if made >= most:
             return number + is_onward, 0
     return None

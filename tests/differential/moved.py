@@ -5,8 +5,8 @@ from dataclasses import dataclass
 from debugged import TIME_LIMIT
 from glances import recording_of
 from histories import recorded_disk
-from motions import BEGIN, END, Steps, Stops, backward, onward
-from stubs import answers_in, frame, monitor, position_text
+from motions import BEGIN, END, Steps, Stops, backward, named, next_step, onward, text_of_stop, thread_of_stop, threads_at
+from stubs import answers_in, frame, is_answered, line_of_events, monitor, position_text
 
 MOTIONS = {"vCont;c": onward, "bc": backward}
 
@@ -52,27 +52,36 @@ def packets_of(case):
     return ["QStartNoAckMode", *case.stops.packets(), *asked, "D"]
 
 
+def named_at(steps, place, before):
+    """Whom a stop at a place names, where the one before it named a thread."""
+    step = next_step(steps, place)
+    return named(step and step.thread, threads_at(steps, place), before)
+
+
+def told_at(answers, thread):
+    """At an end of the history the thread is named that a stop there names."""
+    return [text_of_stop(answer, thread) if answer in (BEGIN, END) else answer for answer in answers]
+
+
 def expected_motions(case, recording):
-    """Of each motion the text that tells where it comes to, and the answers that may come; None for all else that is asked."""
-    steps, ends = steps_of(recording), ((recording.first, 0), (recording.whole, 0))
-    expected = [None] * (1 + len(case.stops.packets()))
+    """Of each packet the answers that may come, with what the console is told."""
+    steps, ends, before = steps_of(recording), ((recording.first, 0), (recording.whole, 0)), None
+    expected = [[("", "OK")]] * (1 + len(case.stops.packets()))
     for place, motions in case.ways:
-        expected.append(None)
+        before = named_at(steps, place, before)
+        expected.append([(line_of_events(place, (recording.first, recording.whole)), "OK")])
         for motion in motions:
             place, answers = MOTIONS[motion](steps, case.stops, place, ends[motion == "vCont;c"])
-            expected += [answers, f"event {position_text(place)}, from {recording.first} to {recording.whole}\n"]
-    return expected + [None]
+            answers = told_at(answers, named_at(steps, place, before))
+            before = thread_of_stop(answers[0])
+            expected.append([("", answer) for answer in answers])
+            expected.append([(line_of_events(place, (recording.first, recording.whole)), "OK")])
+    return [*expected, [("", "OK")]]
 
 
-def is_as_expected(expected, got):
-    """At the ends of the history no page tells which thread is named."""
-    told, payload = got
-    match expected:
-        case None:
-            return payload == "OK"
-        case str():
-            return (told, payload) == (expected, "OK")
-    return payload in expected or (expected[0] in (BEGIN, END) and payload.startswith(expected[0]))
+def is_any(expected, got):
+    """Whether one of these is answered."""
+    return any(is_answered(one, got) for one in expected)
 
 
 def difference_of_moved(ckrt, case, path, tally):
@@ -85,8 +94,8 @@ def difference_of_moved(ckrt, case, path, tally):
     done = subprocess.run([ckrt, "debug", path], input=b"".join(map(frame, packets)), capture_output=True, timeout=TIME_LIMIT)
     got = answers_in(done.stdout)
     for number, (packet, wanted, there) in enumerate(zip(packets, expected, got)):
-        if isinstance(wanted, list):
+        if packet in MOTIONS:
             tally["motion", f"{packet} {there[1].partition(':')[0].partition('thread')[0]}"] += 1
-        if not is_as_expected(wanted, there):
+        if not is_any(wanted, there):
             return f"packet {number}, {packet}: model {wanted}, program {there}"
     return None if len(got) == len(expected) else f"{len(expected)} answers of the model, {len(got)} of the program"

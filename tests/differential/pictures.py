@@ -1,11 +1,12 @@
-"""A picture of `ckrt timeline`, read back: its width, the pieces of each row, and the numbers of events below."""
+"""A picture of `ckrt timeline`, read back: its width and heading, the pieces of each row, and the numbers of events below."""
 from xml.etree import ElementTree
 
-from columns import difference_of_columns, is_dense
+from columns import difference_of_columns, is_dense, steps_of_columns
 from timelines import title_of
 
 SVG = "{http://www.w3.org/2000/svg}"
 ROUNDING = 1  # pixel
+NUMBERED = 20  # events, from which on not each has its number
 
 
 def read_row(row):
@@ -33,13 +34,22 @@ def difference_of_rows(rows, timeline):
     return None if len(rows) == len(wanted) else f"{len(wanted)} rows of the model, {len(rows)} of the program"
 
 
+def heading_of(timeline):
+    """The stretch, its steps, and how many a column has."""
+    first, last = timeline.ends
+    columns = f", {steps_of_columns(timeline)} in each column" if is_dense(timeline) else ""
+    return f"events {first} to {last}: {timeline.steps} steps{columns}"
+
+
 def difference_of_ticks(picture, rows, timeline):
-    """Events have their numbers where they begin, to a pixel; of many some, by their order."""
+    """Of many events every so-manyth has its number, from the first one on: where it begins, to a pixel; without rows all at one place."""
     ticks = [(int(tick.text), float(tick.get("x"))) for tick in picture.findall(f"{SVG}text") if tick.get("text-anchor") == "middle"]
-    steps, numbers = dict(timeline.events), [number for number, _ in ticks]
-    if not set(numbers) <= set(steps) or sorted(set(numbers)) != numbers or bool(numbers) != bool(steps):
-        return f"numbers {numbers}, model {list(steps)}"
-    for number, at in ticks if rows else ():
+    steps = dict(timeline.events[::1 + len(timeline.events) // NUMBERED])
+    if [number for number, _ in ticks] != list(steps):
+        return f"numbers {[number for number, _ in ticks]}, model {list(steps)}"
+    if not rows:
+        return None if len({at for _, at in ticks}) <= 1 else f"numbers at {ticks}, where nothing has a length"
+    for number, at in ticks:
         length = float(rows[0].get("width")) / timeline.steps
         place = float(rows[0].get("x")) + steps[number] * length
         if abs(at - place) > ROUNDING:
@@ -51,6 +61,9 @@ def difference_of_picture(text, width, timeline):
     picture = ElementTree.fromstring(text)
     if picture.get("width") != str(width):
         return f"a picture of width {picture.get('width')}"
+    heading = picture.find(f"{SVG}text").text
+    if heading != heading_of(timeline):
+        return f"heading {heading!r}, model {heading_of(timeline)!r}"
     rows = picture.findall(f"{SVG}svg")
     difference = difference_of_columns(picture, rows, timeline) if is_dense(timeline) else difference_of_rows(rows, timeline)
     return difference or difference_of_ticks(picture, rows, timeline)

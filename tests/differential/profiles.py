@@ -2,7 +2,6 @@
 from collections import Counter
 from dataclasses import dataclass, field
 
-from abi import RETURN_GATE, UNWIND_GATE
 from listing import address_text, reason_of_wait
 from stretches import Recording, next_word
 from threads import WaitKind
@@ -46,26 +45,27 @@ class Frame:
 class Profile:
     """Looks on. A thread's stack is kept with the thread that it is of, and how often the runtime had sent that on.
 
-    Functions and waits have their steps in the order in which they were met: with their first step. `entered` has by thread the function that it called
-    with its last step. No page tells what a gate counts for that the runtime itself sends a thread to: `is_left_open` then.
+    Functions and waits have their steps in the order in which they were met, functions with their first step and waits where they begin.
+    `entered` has by thread the function that it called with its last step. A stack that begins at a gate has that as its function.
     """
 
     def __init__(self):
         self.steps = 0
         self.bottoms, self.frames, self.others = {}, [], 0
-        self.stacks, self.has_begun = {}, False
+        self.stacks = {}
         self.calls, self.threads, self.waits = Counter(), Counter(), Counter()
-        self.other_waits, self.entered, self.is_left_open = 0, {}, False
+        self.other_waits, self.entered = 0, {}
         self.called_at = {}
 
     def begin_event(self, number):
         """Nothing is counted by events."""
 
     def look(self, machine, hart, step, make):
-        self.begin(machine)
-        if hart is None:
-            return make()
-        number = machine.harts[hart]
+        made = make() if hart is None else self.look_at_step(machine, machine.harts[hart], make)
+        self.meet_waits(machine)
+        return made
+
+    def look_at_step(self, machine, number, make):
         thread = machine.threads[number]
         for wait in machine.waits:
             self.count_wait(wait)
@@ -77,18 +77,23 @@ class Profile:
             self.move(number, thread, word)
         return made
 
-    def begin(self, machine):
+    def begin(self, machine, ends):
         """Threads that are under way where the stretch begins begin their stacks there."""
-        if not self.has_begun:
-            self.has_begun = True
-            for number, thread in sorted(machine.threads.items()):
-                if not thread.has_ended:
-                    self.top(number, thread)
+        for number, thread in sorted(machine.threads.items()):
+            if not thread.has_ended:
+                self.top(number, thread)
+        self.meet_waits(machine)
+
+    def meet_waits(self, machine):
+        """Each where it begins."""
+        for wait in machine.waits:
+            if len(self.waits) < WAITS:
+                self.waits[wait.thread, awaited(wait)] += 0
 
     def count_wait(self, wait):
         """Of each thread by what it waits for; who waits for its mutex behind a condition waits for the mutex."""
         key = wait.thread, awaited(wait)
-        if key in self.waits or len(self.waits) < WAITS:
+        if key in self.waits:
             self.waits[key] += 1
         else:
             self.other_waits += 1
@@ -100,7 +105,6 @@ class Profile:
             known, sendings = thread, thread.sendings
             self.stacks[number] = known, sendings, frame
         if known is not thread or sendings != thread.sendings:
-            self.is_left_open |= thread.pc in (RETURN_GATE, UNWIND_GATE)
             frame = self.enter(self.bottoms, (number, thread.pc), thread.pc, number, None)
             self.entered.pop(number, None)
             self.count_call(frame)
@@ -152,36 +156,39 @@ class Profile:
         threads = [(steps, f"thread {number}") for number, steps in sorted(self.threads.items())]
         waits = [(steps, f"thread {number} waits {what}") for (number, what), steps in self.waits.items()]
         lines = [f"steps {self.steps}"]
-        for head, rows, others in [("function", [*functions, (self.others, "elsewhere")], 0), ("thread", threads, 0),
-                                   ("wait", waits, self.other_waits)]:
-            lines += ["", line_of("share", "steps", head), *self.section(rows, others)]
+        for head, rows, others, last in [("function", functions, 0, [(self.others, "elsewhere")]), ("thread", threads, 0, []),
+                                         ("wait", waits, self.other_waits, [])]:
+            lines += ["", line_of("share", "steps", head), *self.section(rows, others), *self.lines_of(last)]
         return lines
 
     def section(self, rows, others):
         """The rows with the most steps; of the same number that which comes first."""
-        rows = sorted((row for row in rows if row[0]), key=lambda row: -row[0])
+        rows = sorted(rows, key=lambda row: -row[0])
         rest = others + sum(steps for steps, _ in rows[LINES:])
-        return [line_of(share_of(steps, self.steps), steps, name) for steps, name in [*rows[:LINES], *[(rest, "others")] * (rest > 0)]]
+        return self.lines_of([*rows[:LINES], (rest, "others")])
+
+    def lines_of(self, rows):
+        """Those with steps."""
+        return [line_of(share_of(steps, self.steps), steps, name) for steps, name in rows if steps]
 
     def folded(self):
         """A line for each stack with steps of its own, in the order in which they were met."""
         lines = [";".join([f"thread {frame.thread}", *map(address_text, frame.path())]) + f" {frame.steps}" for frame in self.frames if frame.steps]
         return lines + [f"others {self.others}"] * (self.others > 0)
 
-
     def costs(self):
-        """The own steps of each function, and those on stacks without a row; of each function and what it called, which is a thread for
-        those that stacks begin with, how often it called it, and the steps on all stacks with the one on the other."""
-        below, edges = Counter(), {}
+        """Of each stack with a row, as they were met, the function on top and its own steps; and what called it, which is a thread for one
+        that a stack begins with, the function, how often, and the steps on all stacks that begin with this one. Then those on stacks
+        without a row."""
+        below, entries = Counter(), []
         for frame in reversed(self.frames):
             below[id(frame)] += frame.steps
             if frame.parent:
                 below[id(frame.parent)] += below[id(frame)]
-            key = address_text(frame.parent.function) if frame.parent else f"thread {frame.thread}", address_text(frame.function)
-            count, steps = edges.get(key, (0, 0))
-            edges[key] = count + frame.calls, steps + below[id(frame)]
-        own = {**{address_text(function): steps for function, steps in self.functions().items()}, "others": self.others}
-        return {name: steps for name, steps in own.items() if steps}, {pair: edge for pair, edge in edges.items() if edge[1]}
+        for frame in self.frames:
+            name, caller = address_text(frame.function), address_text(frame.parent.function) if frame.parent else f"thread {frame.thread}"
+            entries += [(name, frame.steps), (caller, name, frame.calls, below[id(frame)])]
+        return entries + [("others", self.others)] * (self.others > 0)
 
 
 def awaited(wait):

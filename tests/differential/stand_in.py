@@ -11,6 +11,7 @@ from itertools import groupby
 from call_lines import History
 from devices import DeviceFault, MemoryDisk
 from feeding import Undriven
+from histories import is_turned
 from layout import CLOSED, Geometry, format_onto, write_gate
 from lines import reply_lines
 from listing import OutOfRange, listing
@@ -172,8 +173,11 @@ def without_older(contents):
 def calls(path, *options, told=lambda lines: lines, seen=lambda contents: contents):
     """`told` says which lines are printed, `seen` what is read."""
     ends = dict(zip(options[::2], map(int, options[1::2])))
+    stretch = ends.get("--from"), ends.get("--to")
+    if is_turned(*stretch):
+        raise OutOfRange
     with open(path, "rb") as file:
-        Printer().show(told(History(seen(bytearray(file.read()))).lines(ends.get("--from"), ends.get("--to"))))
+        Printer().show(told(History(seen(bytearray(file.read()))).lines(*stretch)))
 
 
 def make(path, image, *options, disk=FileDisk):

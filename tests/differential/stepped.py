@@ -6,17 +6,21 @@ from dataclasses import dataclass
 from debugged import TIME_LIMIT
 from glances import recording_of
 from histories import recorded_disk
-from motions import Stops, backward, end_of_steps, onward, stepped, stepped_back
-from moved import steps_of
-from stubs import answers_in, frame, monitor, position_text
+from motions import (Stops, backward, end_of_steps, named, next_step, onward, stepped, stepped_back, steps_of_thread, text_of_stop,
+                     thread_of_stop, threads_at)
+from moved import is_any, steps_of, told_at
+from stubs import answers_in, frame, line_of_events, monitor, position_text
 
 LIMITS = [1, 1, 3, 20, 100, 4_294_967_295]
-UNTIL, LIMIT = "T00thread:", "T02thread:"
+UNTIL, LIMIT, PLAIN = "T00", "T02", "T05"
+ANY, ALL = 0, -1
+STEPPING = {"step": ["vCont;s:{}", "vCont;s:{};c", "vCont;c;s:{}", "vCont;S05:{};c:-1"], "range": ["vCont;r1000,2000:{}"],
+            "bs": ["bs"], "bc": ["bc"], "vCont;c": ["vCont;c", "vCont;C05", "vCont;c:-1"]}
 
 
 @dataclass
 class SteppedCase:
-    """Packets, and of each with what the answer begins, and what the console is told, or None where no page tells it."""
+    """Packets, and of each the answers that may come, with what the console is told."""
     contents: bytes
     asked: list
 
@@ -25,77 +29,113 @@ class SteppedCase:
 
 
 class Way:
-    """Draws what is asked, and follows where the session stands."""
+    """Draws what is asked, and follows where the session stands, and which thread its last stop named: None where no page tells that."""
 
     def __init__(self, chance, recording, steps, stops):
         self.chance, self.steps, self.stops = chance, steps, stops
         self.first, self.whole = recording.first, recording.whole
-        self.asked = [(packet, ["OK"], None) for packet in stops.packets()]
-        self.place, self.until, self.limit = (self.first, 0), None, None
+        self.asked = [(packet, [("", "OK")]) for packet in stops.packets()]
+        self.place, self.named, self.until, self.limit = (self.first, 0), None, None, None
         self.counts = Counter(step.before[0] for step in steps)
 
-    def tell(self, command):
-        self.asked.append((monitor(command), ["OK"], None))
+    def tell(self, command, text):
+        self.asked.append((monitor(command), [(text + "\n", "OK")]))
+
+    def place_text(self):
+        return line_of_events(self.place, (self.first, self.whole)).strip()
 
     def drawn_place(self):
         return self.chance.choice([*[step.before for step in self.chance.choices(self.steps, k=6)], (self.first, 0), (self.whole, 0)])
 
     def goto(self):
+        """It ends with a plain stop."""
         self.place = self.drawn_place()
-        self.tell(f"goto {position_text(self.place)}")
+        self.tell(f"goto {position_text(self.place)}", self.place_text())
+        self.named = self.named_at(self.place, self.named)
+        self.asked.append(("?", [("", text_of_stop(PLAIN, self.named))]))
 
     def set_until(self):
-        self.until = self.drawn_place()
-        self.tell(f"until {position_text(self.until)}")
+        """Where there is no such position nothing changes."""
+        place = self.chance.choice([self.drawn_place(), self.drawn_place(), self.drawn_place(), (self.whole, 1), (self.whole + 1, 0)])
+        if place > (self.whole, 0):
+            return self.tell(f"until {position_text(place)}", "no such position")
+        self.until = place
+        ways = "here" if place == self.place else "continue goes there" if place > self.place else "reverse-continue goes there"
+        return self.tell(f"until {position_text(place)}", ways)
 
     def set_limit(self):
         self.limit = self.chance.choice(LIMITS)
-        self.tell(f"limit {self.limit}")
+        self.tell(f"limit {self.limit}", f"limit {self.limit}")
 
-    def threads(self):
-        """Those that are there."""
-        there = next((step.there for step in self.steps if step.before >= self.place), self.steps[-1].left)
-        return sorted(there)
+    def named_at(self, place, before):
+        """Whom a stop there names; where nobody's step is next perhaps the one that was to step, or that of the stop before."""
+        step = next_step(self.steps, place)
+        return named(step and step.thread, threads_at(self.steps, place), before)
+
+    def drawn_thread(self):
+        """One that is there, and at times one that isn't; any or all are that of the last stop, which has to be known then."""
+        there = sorted(threads_at(self.steps, self.place))
+        absent = [ANY, ALL, *[number for number in (1, 2, 3, 63) if number not in there]]
+        return self.chance.choice([*there * 2, *(absent if self.named else [])] or [1])
+
+    def meant(self, thread):
+        return thread if thread in threads_at(self.steps, self.place) else self.named
 
     def move(self):
-        """No page tells of steps of a thread that isn't there."""
-        thread = self.chance.choice(self.threads() or [0])
-        kind = self.chance.choice(["vCont;c", "bc", *["step", "step", "range", "bs", "bs"] * (thread > 0)])
-        packet = {"step": f"vCont;s:{thread:x}", "range": f"vCont;r1000,2000:{thread:x}"}.get(kind, kind)
-        came, answers = self.motion(kind, thread)
-        if came is None:
-            return
-        self.place = came
-        self.asked += [(f"Hc{thread:x}", ["OK"], None)] * (kind == "bs")
-        self.asked.append((packet, answers, ""))
-        self.asked.append((monitor("events"), ["OK"], f"event {position_text(came)}, from {self.first} to {self.whole}\n"))
+        """Behind a motion it is asked where the session stands, and why."""
+        thread = self.drawn_thread()
+        kind = self.chance.choice(["vCont;c", "bc", *["step", "step", "range", "bs", "bs"] * (self.meant(thread) is not None)])
+        packet = self.chance.choice(STEPPING[kind]).format("-1" if thread == ALL else f"{thread:x}")
+        self.place, answers = self.motion(kind, self.meant(thread))
+        self.asked += [(f"Hc{'-1' if thread == ALL else f'{thread:x}'}", [("", "OK")])] * (kind == "bs")
+        self.asked.append((packet, [("", answer) for answer in answers]))
+        self.asked.append((monitor("events"), [(self.place_text() + "\n", "OK")]))
+        threads = set(map(thread_of_stop, answers))
+        self.named = threads.pop() if len(threads) == 1 else None
+        if len(answers) == 1:
+            self.asked.append(("?", [("", answers[0])]))
 
     def motion(self, kind, thread):
-        """Where it comes to, and what may be told of it; None where no page tells that. A range is stepped as one step is."""
+        """Where it comes to, and what may be told of it. A range is stepped as one step is."""
         arguments, first, last = (self.steps, self.stops, self.place), (self.first, 0), (self.whole, 0)
+        last_own, own = steps_of_thread(self.steps, self.place, thread)
         match kind:
             case "vCont;c":
-                return self.bounded(*onward(*arguments, last), True)
+                return self.ended(*onward(*arguments, last), True, self.named)
             case "bc":
-                return self.bounded(*backward(*arguments, first), False)
+                return self.ended(*backward(*arguments, first), False, self.named)
             case "bs":
-                return self.bounded(*stepped_back(*arguments, first, thread), False)
-        own = next((step.before for step in self.steps if step.before >= self.place and step.thread == thread), None)
-        return self.bounded(*stepped(*arguments, last, thread), True, own)
+                came, answers = stepped_back(*arguments, first, thread)
+                is_own = last_own is not None and came == last_own.before and last_own.place not in self.stops.places
+                return self.ended(came, answers, False, thread, is_own)
+        came, answers = stepped(*arguments, last, thread)
+        is_own = own is not None and came == own.behind
+        return self.ended(came, answers, True, thread, is_own, own.before if is_own else None)
 
-    def bounded(self, came, answers, is_onward, own=None):
-        """Where a motion ends at the latest; of several reasons to end there it may tell any. No page tells whether an event that is no run
-        counts as a step, nor whether the limit ends a motion just before the thread's own step: nothing is told where that matters."""
-        bounds = [(self.until, UNTIL)] if self.until else []
-        if self.limit:
-            ends = [end_of_steps(self.counts, self.place, self.limit, is_onward, (self.first, self.whole), weight) for weight in (0, 1)]
-            if (ends[0] != ends[1] or ends[0] == own) and any(end and self.is_between(end, came) for end in ends):
-                return None, None
-            bounds += [(ends[0], LIMIT)]
-        for place, answer in bounds:
-            if place and self.is_between(place, came):
-                came, answers = place, [*answers, answer] if place == came else [answer]
-        return came, answers
+    def ended(self, came, answers, is_onward, before, is_own=False, passed=None):
+        """With the thread that the stop names: where nobody's step is next the one before, which was to step, or that of the last stop."""
+        came, answers = self.bounded(came, answers, is_onward, is_own, passed)
+        thread = self.named_at(came, before)
+        return came, [text_of_stop(answer, thread) if answer in (UNTIL, LIMIT) else answer for answer in told_at(answers, thread)]
+
+    def bounds(self, is_onward):
+        """Where a motion ends at the latest, and why."""
+        end = end_of_steps(self.counts, self.place, self.limit, is_onward, (self.first, self.whole)) if self.limit else None
+        return [(place, why) for place, why in [(self.until, UNTIL), (end, LIMIT)] if place]
+
+    def bounded(self, came, answers, is_onward, is_own, passed):
+        """Where a motion ends, and why. A place that is passed is that of the own step which is next there: it is made too. Where a limit
+        ends a motion that ends there anyway no page says which of the reasons is told, nor where `until` does behind an own step, or
+        that of a fault."""
+        reached = [(place, why) for place, why in self.bounds(is_onward) if self.is_between(place, came) and place != passed]
+        if not reached:
+            return came, answers
+        end = (min if is_onward else max)(place for place, _ in reached)
+        reasons = [why for place, why in reached if place == end]
+        if end != came:
+            return end, reasons
+        is_open = is_own or not answers[0].startswith(PLAIN)
+        return came, [*answers, *[why for why in reasons if why == LIMIT or is_open]]
 
     def is_between(self, place, came):
         """Whether a motion comes by this place."""
@@ -115,16 +155,11 @@ def stepped_case(chance, case):
     way = Way(chance, recording, steps, Stops(places, watches))
     for _ in range(6):
         for change in (way.goto, way.set_until, way.set_limit):
-            if change == way.goto or chance.random() < 0.2:
+            if change == way.goto or chance.random() < 0.3:
                 change()
         for _ in range(chance.choice([1, 3, 5])):
             way.move()
     return SteppedCase(bytes(disk), way.asked)
-
-
-def is_as_asked(answers, text, got):
-    told, payload = got
-    return payload.startswith(tuple(answers)) and text in (None, told)
 
 
 def difference_of_stepped(ckrt, case, path, tally):
@@ -132,14 +167,14 @@ def difference_of_stepped(ckrt, case, path, tally):
     if not case.asked:
         return None
     path.write_bytes(case.contents)
-    packets = ["QStartNoAckMode", *[packet for packet, _, _ in case.asked], "D"]
-    expected = [(["OK"], None), *[wanted for _, *wanted in case.asked], (["OK"], None)]
+    packets = ["QStartNoAckMode", *[packet for packet, _ in case.asked], "D"]
+    expected = [[("", "OK")], *[answers for _, answers in case.asked], [("", "OK")]]
     done = subprocess.run([ckrt, "debug", path], input=b"".join(map(frame, packets)), capture_output=True, timeout=TIME_LIMIT)
     got = answers_in(done.stdout)
-    for number, (packet, (answers, text), there) in enumerate(zip(packets, expected, got)):
-        if text == "":
+    for number, (packet, answers, there) in enumerate(zip(packets, expected, got)):
+        if packet.startswith(("vCont", "b")):
             tally["motion of a thread", f"{packet.partition(':')[0]} {there[1].partition(':')[0].partition('thread')[0]}"] += 1
-        if not is_as_asked(answers, text, there):
+        if not is_any(answers, there):
             asked = bytes.fromhex(packet[6:]).decode() if packet.startswith("qRcmd,") else packet
-            return f"packet {number}, {asked}: model {answers} {text!r}, program {there}"
+            return f"packet {number}, {asked}: model {answers}, program {there}"
     return None if len(got) == len(expected) else f"{len(expected)} answers of the model, {len(got)} of the program"

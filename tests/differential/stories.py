@@ -4,10 +4,10 @@ from copy import deepcopy
 from events import Eof, Input, Place, Run, Tick
 from lines import LineFault, LineRefusal, parse
 from machine import OUTPUT_OF_RUN
-from motions import Steps
+from motions import Steps, named
 from plans import Options, next_event
-from stretches import show_event
-from stubs import position_text
+from stretches import next_thread, show_event
+from stubs import live_threads, position_text
 
 ROOM = 65_536  # events more than are recorded
 NOT_AT_END = "not at the end of the history: monitor fork ends it here"
@@ -58,7 +58,8 @@ def event_of(line):
 class Story:
     """The machine as it was before the first event, the events, where one stands, and how far the disk has them too.
 
-    `positions` has of each event how many there are before the next one.
+    `positions` has of each event how many there are before the next one; `named` is the thread of the last stop, None where no page
+    tells it.
     """
 
     def __init__(self, recording, at=None):
@@ -68,7 +69,7 @@ class Story:
         for event in recording.events:
             self.append(event)
         self.recorded = self.whole
-        self.position = (self.first if at is None else at), 0
+        self.position, self.named = ((self.first if at is None else at), 0), None
 
     @property
     def last(self):
@@ -108,9 +109,18 @@ class Story:
         told = f", recorded to {self.recorded}" if self.recorded < self.last else ""
         return f"event {position_text(self.position)}, from {self.first} to {self.last}{told}\n"
 
+    def named_at(self, position):
+        """Whom a stop there names."""
+        machine = self.machine_at(position)
+        return named(next_thread(machine, self.events[position[0] - self.first:]), live_threads(machine), self.named)
+
+    def stop(self):
+        self.named = self.named_at(self.position)
+
     def goto(self, position):
         if self.has(position):
             self.position = position
+            self.stop()
             return True
         return False
 
@@ -141,11 +151,12 @@ class Story:
             return reason + "\n"
         self.append(event)
         self.position = self.last, 0
+        self.stop()
         return self.place_text()
 
     def live(self, most):
-        """The events that a drive without options has next. Where as many were made as were asked for, no more is told than that the
-        program has ended."""
+        """The events that a drive without options has next; behind them all is one stop. Where as many were made as were asked for, no more
+        is told than that the program has ended."""
         made, reason = 0, self.reason_against(None)
         while reason is None and made < most and self.end.is_running:
             event = self.next_event()
@@ -153,6 +164,8 @@ class Story:
             if reason is None:
                 self.append(event)
                 self.position, made = (self.last, 0), made + 1
+        if made:
+            self.stop()
         if reason is None and not self.end.is_running:
             reason = ENDED
         return "\n".join([f"events made: {made}", *[reason] * bool(reason), self.place_text()])

@@ -1,12 +1,15 @@
 """What `ckrt debug` answers of the state at a position: to gdb's packets that neither move nor set anything, and to `monitor`."""
 import re
+from copy import deepcopy
 from dataclasses import dataclass
 
 from abi import PAGE
 from listing import lines_of_state
+from motions import named, text_of_stop
 from threads import WaitKind
 
 MOST_BYTES = 2048  # of memory, in an answer
+REGISTERS = 33  # with the pc
 OUTSIDE, NO_THREAD = "E14", "E01"
 
 
@@ -58,7 +61,9 @@ def live_threads(machine):
 
 
 def registers_text(machine, number):
-    """x0 to x31 and the pc, the lowest byte first."""
+    """x0 to x31 and the pc, the lowest byte first; zeros of one that has ended."""
+    if number not in live_threads(machine):
+        return bytes(4 * REGISTERS).hex()
     thread = machine.threads[number]
     return b"".join(word.to_bytes(4, "little") for word in [*thread.registers, thread.pc]).hex()
 
@@ -69,58 +74,91 @@ def memory_text(memory, address, length):
     return memory.bytes[place:place + min(length, MOST_BYTES)].hex() if memory.is_valid(address, 1) else OUTSIDE
 
 
+def line_of_events(position, ends):
+    return f"event {position_text(position)}, from {ends[0]} to {ends[1]}\n"
+
+
 @dataclass
 class Look:
-    """What is asked at a position: of threads, by their numbers, and of memory, by address and length."""
+    """What is asked at a position, of threads, by their numbers, and of memory, by address and length; and where nobody has moved yet."""
     position: tuple
     threads: list
     reads: list
 
     def packets(self):
-        asked = [monitor(f"goto {position_text(self.position)}"), monitor("events"), monitor("inspect"), "qfThreadInfo"]
+        """Behind a motion it is asked why the session stands, too."""
+        return [monitor(f"goto {position_text(self.position)}"), "?", *self.questions()]
+
+    def questions(self):
+        asked = [monitor("events"), monitor("inspect"), "qfThreadInfo"]
         for number in self.threads:
             asked += [f"T{number:x}", f"qThreadExtraInfo,{number:x}", f"Hg{number:x}", "g"]
         return asked + [f"m{address:x},{length:x}" for address, length in self.reads]
 
-    def answers(self, machine, ends):
-        """What the console is told, and the payload; of going there no text is compared. Of a thread that isn't there one answer is."""
+    def answers(self, machine, ends, named_there):
+        """What the console is told, and the payload. The stop names a thread, None where no page tells which."""
+        return [(line_of_events(self.position, ends), "OK"), ("", text_of_stop("T05", named_there)), *self.told(machine, ends, named_there)]
+
+    def told(self, machine, ends, examined):
+        """To the questions alone."""
         listing = "".join(line + "\n" for line in lines_of_state(self.position[0], machine, machine.hart_count))
-        answers = [(None, "OK"), (f"event {position_text(self.position)}, from {ends[0]} to {ends[1]}\n", "OK"), (listing, "OK"),
-                   ("", "m" + ",".join(f"{number:x}" for number in live_threads(machine) or [1]))]
+        answers = [(line_of_events(self.position, ends), "OK"), (listing, "OK"),
+                   ("", "m" + ",".join(f"{number:x}" for number in told_threads(machine)))]
         for number in self.threads:
-            answers += answers_of_thread(machine, number)
+            examined = number if number in live_threads(machine) else examined
+            answers += answers_of_thread(machine, number, examined)
         return answers + [("", memory_text(machine.memory, address, length)) for address, length in self.reads]
 
 
-def answers_of_thread(machine, number):
-    """Whether it is alive, what is to say of it, whether it may be examined, and its registers; None where no page tells it."""
+def told_threads(machine):
+    """Those that haven't ended; thread 1 where none is left."""
+    return live_threads(machine) or [1]
+
+
+def answers_of_thread(machine, number, examined):
+    """Whether it is alive, what is to say of it, whether it may be examined, and the registers of the one that is then: the same as before
+    where it isn't there. None where no page tells whose these are."""
+    is_alive = ("", "OK" if number in told_threads(machine) else NO_THREAD)
+    registers = None if examined is None else ("", registers_text(machine, examined))
     if number not in live_threads(machine):
-        return [None, None, ("", NO_THREAD), None]
-    text = text_of_thread(machine, number).encode().hex()
-    return [("", "OK"), ("", text), ("", "OK"), ("", registers_text(machine, number))]
+        return [is_alive, ("", NO_THREAD), ("", NO_THREAD), registers]
+    return [is_alive, ("", text_of_thread(machine, number).encode().hex()), ("", "OK"), registers]
 
 
 class Visits:
-    """Looks on, and answers each look at its position; `steps` has by event how many positions it has."""
+    """Looks on, and keeps the machine at each look's position, with the thread whose step is next there; `steps` has by event how many
+    positions it has."""
 
     def __init__(self, looks, ends):
         self.looks, self.ends = looks, ends
-        self.answers, self.steps, self.event = {}, {}, ends[0]
+        self.kept, self.steps, self.event = {}, {}, ends[0]
 
     def begin_event(self, number):
         self.event = number
 
     def look(self, machine, hart, step, make):
-        self.visit((self.event, step), machine)
+        self.visit((self.event, step), machine, None if hart is None else machine.harts[hart])
         self.steps[self.event] = step + 1
         return make()
 
-    def visit(self, position, machine):
-        for number, look in enumerate(self.looks):
-            if look.position == position:
-                self.answers[number] = look.answers(machine, self.ends)
+    def visit(self, position, machine, running):
+        if position in [look.position for look in self.looks]:
+            self.kept[position] = deepcopy(machine), running
+
+    def answers(self):
+        """Of each look, in the order in which they are asked: a stop may name the thread of the one before."""
+        answers, before = [], None
+        for look in self.looks:
+            machine, running = self.kept[look.position]
+            before = named(running, live_threads(machine), before)
+            answers.append(look.answers(machine, self.ends, before))
+        return answers
 
 
 def is_answered(expected, got):
-    """Whether an answer is as expected, where it is known at all."""
-    return expected is None or (expected[1] == got[1] and expected[0] in (None, got[0]))
+    """Whether an answer is as expected, where it is known at all. A stop of which no page tells the thread has any."""
+    if expected is None:
+        return True
+    told, payload = expected
+    is_open = payload.endswith("thread:")
+    return told in (None, got[0]) and (got[1].startswith(payload) if is_open else got[1] == payload)

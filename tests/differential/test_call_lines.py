@@ -1,12 +1,14 @@
 """The lines of `ckrt calls`: examples written down by hand, and what each history has to be."""
 import unittest
+from copy import deepcopy
 
 from abi import KEY_CALLS, RETURN_GATE, Call
-from call_lines import FORMS, SECOND_ANSWERS, History, kind_of_line
+from call_lines import FORMS, SECOND_ANSWERS, History, kind_of_line, lines_before_refused
 from calls import CALLS
 from cases import case_of
 from damage import batch
 from devices import MemoryDisk, StoppingDisk, filled
+from differential import Life, kind_of_calls, with_told_before
 from events import Eof, Input, Place, Run, Tick
 from layout import HEADER_AT, Geometry, Header, format_disk, header_of
 from lines import serve_disk
@@ -247,6 +249,32 @@ class HowFarBack(WithKeys):
         events = Place(0, 1).encoding() + Run(0, 6).encoding() + Run(0, 1).encoding()
         areas.header(1, events=3).put(SMALL.journal_at(0), batch(events))
         self.assertEqual((History(disk).first, History(disk).lines()), (3, []))
+
+    def test_refused_in_use(self):
+        """The lines of the calls before it may come before the fault; of a disk that is damaged otherwise none are known."""
+        events = Input(b"A").encoding() + Place(7, 1).encoding() + Tick(1).encoding()
+        areas = TwoAreas().put(SMALL.journal_at(1), batch(events))
+        lines = ["0+0 place 0 1", "1+1 thread 1 getc() waits input", "2+0 input 41", "2+0 thread 1 input is over = 65"]
+        for first, told in ((None, lines), (0, lines), (1, lines[1:]), (2, lines[2:]), (3, []), (9, [])):
+            self.assertEqual(lines_before_refused(areas.disk.bytes, first), told)
+        behind = deepcopy(areas).flip(SMALL.page_at(0, 1))
+        for first, told in ((None, lines[2:]), (2, lines[2:]), (3, [])):
+            self.assertEqual(lines_before_refused(behind.disk.bytes, first), told)
+        self.assertEqual(lines_before_refused(areas.put(SMALL.journal_at(1), batch(events, b"\xa5\0\0")).disk.bytes), [])
+
+    def test_told_before_a_fault(self):
+        """Whole lines, from the first one on, and the fault."""
+        disk = TwoAreas().put(SMALL.journal_at(1), batch(Input(b"A").encoding() + Place(7, 1).encoding())).disk.bytes
+        fault = Life(1, b"", b"ckrt: Damaged\n")
+        told = [line.encode() + b"\n" for line in lines_before_refused(disk)]
+        for count in range(len(told) + 1):
+            shown = Life(1, b"".join(told[:count]), b"ckrt: Damaged\n")
+            self.assertEqual(with_told_before(fault, shown, disk, None), shown)
+        for shown in [Life(1, b"".join(told[1:]), fault.errors), Life(1, told[0][:-1], fault.errors), Life(1, b"".join([*told, told[0]]), fault.errors),
+                      Life(0, told[0], fault.errors), Life(1, told[0], b"ckrt: Refused\n")]:
+            self.assertNotEqual(with_told_before(fault, shown, disk, None), shown)
+        self.assertEqual([kind_of_calls(life) for life in (fault, Life(1, told[0], fault.errors), Life(0, b"x", b""))],
+                         ["Damaged", "Damaged behind lines", "shown"])
 
     def test_half_overwritten(self):
         """A stop at each call of a further checkpoint. Only while its gate is written may the older area still be open, and whole."""

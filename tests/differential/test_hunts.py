@@ -102,6 +102,14 @@ class Tables(unittest.TestCase):
         self.assertEqual(lines_of_table("a.bin", {8: "deadlock"}, Options(16, 2, 99, "b.txt"))[1],
                          "    ckrt hunt a.bin --seeds 8-8 --pages 16 --harts 2 --steps 99 --input b.txt --keep seed-8.disk")
 
+    def test_others(self):
+        """64 have lines of their own."""
+        for count in (64, 65):
+            outcomes = {seed: f"exit {seed % count}, output 1" for seed in range(1, 131)}
+            lines = lines_of_table("a.bin", outcomes, Options(16, 2, 99))
+            others = [] if count == 64 else ["other outcomes: 2 of 130 runs"]
+            self.assertEqual((lines[128:], lines[126][:12]), (others, "outcome 64: "), count)
+
     def test_races_asked_for(self):
         """Behind the input, and before what is kept."""
         self.assertEqual(lines_of_table("a.bin", {8: "deadlock"}, Options(16, 2, 99, "b.txt", is_raced=True))[1],

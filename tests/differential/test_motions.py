@@ -1,13 +1,16 @@
 """Motions of a debugging session over small runs by hand."""
 import unittest
+from random import Random
 
 from abi import Call
 from layout import format_disk
 from lines import serve_disk
-from motions import BEGIN, END, Stops, backward, end_of_steps, onward, stepped, stepped_back
-from moved import is_as_expected, steps_of
-from stepped import Way, is_as_asked
+from motions import (BEGIN, END, Stops, backward, end_of_steps, named, named_instead, next_step, onward, stepped, stepped_back, steps_of_thread,
+                     text_of_stop, thread_of_stop, threads_at)
+from moved import MovedCase, expected_motions, is_any, packets_of, steps_of, told_at
+from stepped import Way
 from stretches import Recording
+from stubs import monitor
 from switches import switched
 from test_races import call, load, recording_of, store
 from test_rows import SMALL, STORES_ZERO
@@ -113,54 +116,197 @@ class Motions(unittest.TestCase):
         self.assertEqual(stepped(ended, none, last.before, LAST, 2), (last.behind, ["T05thread:1;"]))
 
     def test_limits(self):
-        """Of events with 3, 0, 2 and 5 steps from event 1 on, where an event without steps counts for one or for nothing."""
+        """Of events with 3, 0, 2 and 5 steps from event 1 on; one without steps counts for one."""
         counts, ends = {1: 3, 3: 2, 4: 5}, (1, 6)
-        for place, most, weight, onward_to, back_to in [((1, 0), 3, 0, (2, 0), None), ((1, 1), 3, 0, (4, 0), None), ((1, 1), 3, 1, (3, 0), None),
-                                                        ((1, 2), 2, 1, (3, 0), (1, 0)), ((1, 2), 2, 0, (4, 0), (1, 0)), ((4, 4), 4, 0, None, (4, 0)),
-                                                        ((4, 4), 5, 0, None, (3, 0)), ((5, 0), 5, 0, None, (4, 0)), ((5, 0), 6, 0, None, (3, 0)),
-                                                        ((5, 0), 8, 0, None, (1, 0)), ((5, 0), 8, 1, None, (2, 0)), ((5, 0), 99, 1, None, None),
-                                                        ((5, 0), 1, 1, (6, 0), (4, 0)), ((5, 0), 1, 0, None, (4, 0))]:
-            self.assertEqual(end_of_steps(counts, place, most, True, ends, weight), onward_to, (place, most, weight))
-            self.assertEqual(end_of_steps(counts, place, most, False, ends, weight), back_to, (place, most, weight))
-
-    def test_bounds(self):
-        """The nearest of the places at which a motion ends; where two are one, any reason may be told."""
-        way = Way.__new__(Way)
-        way.place, way.first, way.whole, way.counts, way.limit, way.until = (3, 0), 1, 9, {3: 4, 4: 4, 5: 4, 6: 4}, None, (4, 2)
-        for came, is_onward, expected in [((6, 0), True, ((4, 2), ["T00thread:"])), ((4, 2), True, ((4, 2), ["x", "T00thread:"])),
-                                          ((4, 1), True, ((4, 1), ["x"])), ((1, 0), False, ((1, 0), ["x"]))]:
-            self.assertEqual(way.bounded(came, ["x"], is_onward), expected)
-        way.place = 6, 0
-        self.assertEqual(way.bounded((1, 0), ["x"], False), ((4, 2), ["T00thread:"]))
-        way.until, way.place = (6, 0), (6, 0)
-        self.assertEqual(way.bounded((1, 0), ["x"], False), ((1, 0), ["x"]))
-        way.limit, way.place = 5, (3, 0)
-        self.assertEqual(way.bounded((9, 0), ["x"], True), ((5, 0), ["T02thread:"]))
-        way.limit, way.until = 10, (4, 3)
-        self.assertEqual(way.bounded((9, 0), ["x"], True), ((4, 3), ["T00thread:"]))
-        way.limit, way.until, way.place = 17, None, (3, 0)
-        self.assertEqual(way.bounded((9, 0), ["x"], True), (None, None))
-        self.assertEqual(way.bounded((6, 0), ["x"], True), ((6, 0), ["x"]))
-        way.counts, way.limit = {3: 4, 5: 4}, 5
-        self.assertEqual(way.bounded((9, 0), ["x"], True), (None, None))
-        self.assertEqual(way.bounded((4, 0), ["x"], True), ((4, 0), ["x"]))
-        way.counts, way.limit = {3: 4, 4: 4, 5: 4, 6: 4}, 8
-        for own, expected in [(None, ((5, 0), ["T02thread:"])), ((5, 0), (None, None)), ((5, 1), ((5, 0), ["T02thread:"]))]:
-            self.assertEqual(way.bounded((9, 0), ["x"], True, own), expected)
-
-    def test_answers_of_steps(self):
-        for answers, text, got, is_right in [(["T05thread:1;"], "", ("", "T05thread:1;"), True), (["T05thread:1;"], "", ("", "T05thread:12;"), False),
-                                             (["T00thread:", "T05thread:1;"], "", ("", "T00thread:7;"), True), ([END], "", ("", END + "thread:1;"), True),
-                                             ([END], "", ("told", END + "thread:1;"), False), (["OK"], None, ("told", "OK"), True),
-                                             (["OK"], "event 7\n", ("event 7\n", "OK"), True), (["OK"], "event 7\n", ("event 8\n", "OK"), False)]:
-            self.assertEqual(is_as_asked(answers, text, got), is_right, (answers, got))
+        for place, most, onward_to, back_to in [((1, 0), 3, (2, 0), None), ((1, 1), 3, (3, 0), None), ((1, 1), 4, (4, 0), None), ((1, 2), 2, (3, 0), (1, 0)),
+                                                ((4, 4), 4, None, (4, 0)), ((4, 4), 5, None, (3, 0)), ((4, 2), 3, (5, 0), (3, 0)), ((5, 0), 5, None, (4, 0)),
+                                                ((5, 0), 6, None, (3, 0)), ((5, 0), 8, None, (2, 0)), ((5, 0), 9, None, (1, 0)), ((5, 0), 99, None, None),
+                                                ((5, 0), 1, (6, 0), (4, 0)), ((2, 0), 1, (3, 0), (1, 0))]:
+            self.assertEqual(end_of_steps(counts, place, most, True, ends), onward_to, (place, most))
+            self.assertEqual(end_of_steps(counts, place, most, False, ends), back_to, (place, most))
 
     def test_answers(self):
-        self.assertTrue(is_as_expected([END], ("", END + "thread:9;")))
-        self.assertFalse(is_as_expected([END], ("", BEGIN + "thread:9;")))
-        self.assertFalse(is_as_expected(["T05thread:1;"], ("", "T05thread:2;")))
-        self.assertTrue(is_as_expected("event 7\n", ("event 7\n", "OK")))
-        self.assertFalse(is_as_expected("event 7\n", ("event 8\n", "OK")))
+        self.assertTrue(is_any([("", END + "thread:")], ("", END + "thread:9;")))
+        self.assertFalse(is_any([("", END + "thread:1;")], ("", END + "thread:9;")))
+        self.assertFalse(is_any([("", END + "thread:")], ("", BEGIN + "thread:9;")))
+        self.assertTrue(is_any([("", "T05thread:1;"), ("", "T02thread:2;")], ("", "T02thread:2;")))
+        self.assertFalse(is_any([("", "T05thread:1;"), ("", "T02thread:2;")], ("", "T02thread:1;")))
+        self.assertFalse(is_any([("event 7\n", "OK")], ("event 8\n", "OK")))
+
+
+class TwoThreads(unittest.TestCase):
+    """Thread 1 creates thread 2 in event 1, which makes three steps in event 3; then thread 1 goes on in event 5, and thread 2 ends in event 7."""
+
+    def setUp(self):
+        switch = switched(keys=True, long_runs=True)
+        switch.__enter__()
+        self.addCleanup(switch.__exit__, None, None, None)
+        self.recording = recording_of([(2, store()), (1, call(Call.SELF)), (2, call(Call.THREAD_EXIT, 0)), (1, call(Call.SELF))], threads=1)
+        self.steps = steps_of(self.recording)
+
+
+class Named(TwoThreads):
+    def test_whom(self):
+        for running, there, before, expected in [(2, {1, 2}, 1, 2), (None, {1, 2}, 2, 2), (None, {1, 3}, 2, 1), (None, {3, 4}, 2, 3), (None, set(), 2, 1),
+                                                 (None, {1, 2}, None, None), (None, {2}, None, 2), (None, set(), None, 1), (2, {1, 2}, None, 2)]:
+            self.assertEqual(named(running, there, before), expected)
+        self.assertEqual([named_instead({2, 3}, number) for number in (1, 2, 3)], [2, 2, 3])
+
+    def test_places(self):
+        self.assertEqual([(next_step(self.steps, place) or self.steps[0]).before for place in [(3, 1), (4, 0), (5, 0)]], [(3, 1), (1, 0), (5, 0)])
+        self.assertIsNone(next_step(self.steps, (2, 0)))
+        self.assertEqual([sorted(threads_at(self.steps, place)) for place in [(0, 0), (1, 6), (2, 0), (7, 0), (8, 0), (10, 0)]],
+                         [[1], [1], [1, 2], [1, 2], [1], [1]])
+        ended = steps_of(recording_of([(2, call(Call.THREAD_EXIT, 0))], threads=1))
+        self.assertEqual(sorted(threads_at(ended, (4, 0))), [1])
+
+    def test_texts(self):
+        self.assertEqual([text_of_stop("T05", thread) for thread in (10, None)], ["T05thread:a;", "T05thread:"])
+        self.assertEqual([thread_of_stop(text) for text in ("T05watch:2000;thread:1f;", "T02thread:")], [31, None])
+        self.assertEqual(told_at([BEGIN, "T05thread:2;"], 1), [BEGIN + "thread:1;", "T05thread:2;"])
+        self.assertEqual(told_at([END], None), [END + "thread:"])
+
+    def test_steps_of_thread(self):
+        before, behind = steps_of_thread(self.steps, (5, 0), 2)
+        self.assertEqual((before.before, behind.before), ((3, 2), (7, 0)))
+        before, behind = steps_of_thread(self.steps, (3, 1), 2)
+        self.assertEqual((before.before, behind.before), ((3, 0), (3, 1)))
+        self.assertEqual(steps_of_thread(self.steps, (3, 0), 9), (None, None))
+
+    def test_moved(self):
+        """An end names the thread of the stop before, if nobody's step is next, and one that is there."""
+        ways = [((3, 1), ["vCont;c", "bc"]), ((5, 0), ["vCont;c"]), ((7, 1), ["vCont;c"])]
+        case = MovedCase(b"", Stops([], []), ways)
+        expected = expected_motions(case, self.recording)
+        self.assertEqual(len(expected), len(packets_of(case)))
+        self.assertEqual([expected[place] for place in (2, 4, 7, 10)], [[("", END + "thread:1;")], [("", BEGIN + "thread:1;")],
+                                                                       [("", END + "thread:1;")], [("", END + "thread:1;")]])
+        self.assertEqual(expected[1], [("event 3+1, from 0 to 10\n", "OK")])
+        recording = recording_of([(2, store()), (1, call(Call.SELF))], threads=1)
+        expected = expected_motions(MovedCase(b"", Stops([], []), [((3, 1), ["vCont;c"]), ((4, 0), ["vCont;c"])]), recording)
+        self.assertEqual([expected[place] for place in (2, 5)], [[("", END + "thread:2;")]] * 2)
+        expected = expected_motions(MovedCase(b"", Stops([], []), [((4, 0), ["vCont;c"])]), recording)
+        self.assertEqual(expected[2], [("", END + "thread:")])
+        expected = expected_motions(MovedCase(b"", Stops([0x1000], []), [((3, 1), ["bc", "vCont;c"])]), recording)
+        self.assertEqual(expected[3:6:2], [[("", "T05thread:1;")], [("", END + "thread:1;")]])
+
+
+class Ways(TwoThreads):
+    """What is drawn, and what is expected of it."""
+
+    def setUp(self):
+        super().setUp()
+        self.way = Way(Random(1), self.recording, self.steps, Stops([], []))
+
+    def stand(self, place, named_before=1, until=None, limit=None):
+        self.way.place, self.way.named, self.way.until, self.way.limit = place, named_before, until, limit
+
+    def test_bounds(self):
+        """The nearest of the places at which a motion ends. Where it ends there anyway the reason to do so is told, or the limit."""
+        self.stand((3, 0), until=(4, 0))
+        for came, is_onward, expected in [((6, 0), True, ((4, 0), ["T00"])), ((4, 0), True, ((4, 0), ["T05x"])), ((3, 2), True, ((3, 2), ["T05x"])),
+                                          ((1, 0), False, ((1, 0), ["T05x"]))]:
+            self.assertEqual(self.way.bounded(came, ["T05x"], is_onward, False, None), expected)
+        self.assertEqual(self.way.bounded((4, 0), ["T0bx"], True, False, None), ((4, 0), ["T0bx", "T00"]))
+        self.assertEqual(self.way.bounded((4, 0), ["T05x"], True, True, None), ((4, 0), ["T05x", "T00"]))
+        self.stand((6, 0), until=(4, 0))
+        self.assertEqual(self.way.bounded((1, 0), ["T05x"], False, False, None), ((4, 0), ["T00"]))
+        self.stand((6, 0), until=(6, 0))
+        self.assertEqual(self.way.bounded((1, 0), ["T05x"], False, False, None), ((1, 0), ["T05x"]))
+        self.stand((3, 0), limit=3)
+        self.assertEqual(self.way.bounded((9, 0), ["T05x"], True, False, None), ((4, 0), ["T02"]))
+        self.assertEqual(self.way.bounded((4, 0), ["T05x"], True, False, None), ((4, 0), ["T05x", "T02"]))
+        self.stand((3, 0), until=(4, 0), limit=3)
+        self.assertEqual(self.way.bounded((9, 0), ["T05x"], True, False, None), ((4, 0), ["T00", "T02"]))
+        self.stand((3, 0), until=(3, 2), limit=4)
+        self.assertEqual(self.way.bounded((9, 0), ["T05x"], True, False, None), ((3, 2), ["T00"]))
+        self.stand((6, 0), until=(3, 1), limit=1)
+        self.assertEqual(self.way.bounded((1, 0), ["T05x"], False, False, None), ((5, 0), ["T02"]))
+        self.stand((3, 0), limit=4)
+        self.assertEqual(self.way.bounded((9, 0), ["T05x"], True, False, None), ((5, 0), ["T02"]))
+
+    def test_own_steps(self):
+        """The step of a thread that is next where a motion would end is made too, but for one that changes what is watched."""
+        for bound in ({"until": (5, 0)}, {"limit": 4}):
+            self.stand((3, 0), **bound)
+            self.assertEqual(self.way.motion("step", 1), ((5, 1), ["T05thread:1;"]))
+            self.assertEqual(self.way.motion("range", 1), ((5, 1), ["T05thread:1;"]))
+            self.assertEqual(self.way.motion("vCont;c", 1)[0], (5, 0))
+        self.stand((3, 0), until=(4, 0))
+        self.assertEqual(self.way.motion("step", 1), ((4, 0), ["T00thread:1;"]))
+        self.stand((3, 0), until=(3, 1))
+        self.assertEqual(self.way.motion("step", 2), ((3, 1), ["T05thread:2;", "T00thread:2;"]))
+        next(step for step in self.steps if step.before == (5, 0)).changed = frozenset([0x2801])
+        self.way.stops = Stops([], [(0x2800, 4)])
+        self.stand((3, 0), until=(5, 0))
+        self.assertEqual(self.way.motion("step", 1), ((5, 0), ["T05watch:2800;thread:1;"]))
+        self.stand((3, 0), limit=4)
+        self.assertEqual(self.way.motion("step", 1), ((5, 0), ["T05watch:2800;thread:1;", "T02thread:1;"]))
+
+    def test_own_steps_back(self):
+        self.stand((5, 0), until=(3, 2))
+        self.assertEqual(self.way.motion("bs", 2), ((3, 2), ["T05thread:2;", "T00thread:2;"]))
+        self.way.stops = Stops([next_step(self.steps, (3, 2)).place], [])
+        self.assertEqual(self.way.motion("bs", 2), ((3, 2), ["T05thread:2;"]))
+
+    def test_ends(self):
+        """Where nobody's step is next the thread is named that was to step; a motion of all names that of the stop before."""
+        self.stand((4, 0), named_before=1)
+        self.assertEqual(self.way.motion("bs", 1), ((1, 6), ["T05thread:1;"]))
+        self.stand((8, 0), named_before=1)
+        self.assertEqual(self.way.motion("vCont;c", 1), ((10, 0), [END + "thread:1;"]))
+        self.stand((3, 1), named_before=2, until=(4, 0))
+        self.assertEqual(self.way.motion("step", 1), ((4, 0), ["T00thread:1;"]))
+        self.assertEqual(self.way.motion("vCont;c", 1), ((4, 0), ["T00thread:2;"]))
+        self.stand((3, 1), named_before=None, until=(4, 0))
+        self.assertEqual(self.way.motion("vCont;c", 1), ((4, 0), ["T00thread:"]))
+        self.stand((4, 0), named_before=1)
+        self.assertEqual(self.way.motion("step", 9), ((10, 0), [END + "thread:1;"]))
+
+    def test_threads_that_are_not_there(self):
+        """In place of any, of all, and of one that isn't there, that of the last stop."""
+        self.stand((4, 0), named_before=2)
+        self.assertEqual([self.way.meant(thread) for thread in (0, -1, 63, 1, 2)], [2, 2, 2, 1, 2])
+        self.stand((8, 0), named_before=1)
+        self.assertEqual(self.way.meant(2), 1)
+        drawn = {self.way.drawn_thread() for _ in range(60)}
+        self.assertEqual(drawn, {1, 0, -1, 2, 3, 63})
+        self.stand((8, 0), named_before=None)
+        self.assertEqual({self.way.drawn_thread() for _ in range(60)}, {1})
+
+    def test_commands(self):
+        """What they tell; a place that isn't there leaves the one that is."""
+        told = {}
+        for _ in range(60):
+            self.stand((3, 1), until=(3, 0))
+            self.way.set_until()
+            told[self.way.asked[-1][0]] = self.way.asked[-1][1][0][0], self.way.until
+        place = self.way.place
+        for (packet, (text, until)) in told.items():
+            asked = tuple(int(word) for word in (bytes.fromhex(packet[6:]).decode().split()[1] + "+0").split("+")[:2])
+            way = "here" if asked == place else "continue goes there" if asked > place else "reverse-continue goes there"
+            expected = "no such position" if asked > (10, 0) else way
+            self.assertEqual((text, until), (expected + "\n", (3, 0) if expected[0] == "n" else asked))
+        for text in ("no such position\n", "continue goes there\n", "reverse-continue goes there\n"):
+            self.assertIn(text, [shown for shown, _ in told.values()])
+        self.way.set_limit()
+        self.assertEqual(self.way.asked[-1], (monitor(f"limit {self.way.limit}"), [(f"limit {self.way.limit}\n", "OK")]))
+
+    def test_moves(self):
+        """Behind going somewhere, and behind a motion of which one thing may be told, it is asked why the session stands."""
+        self.way.drawn_place = lambda: (3, 1)
+        self.way.goto()
+        self.assertEqual(self.way.asked, [(monitor("goto 3+1"), [("event 3+1, from 0 to 10\n", "OK")]), ("?", [("", "T05thread:2;")])])
+        for _ in range(30):
+            before = len(self.way.asked)
+            self.way.move()
+            *_, (_, answers), (_, place), (packet, why) = self.way.asked[before:]
+            self.assertEqual((packet, why), ("?", answers))
+            self.assertEqual(place, [(self.way.place_text() + "\n", "OK")])
+            self.assertEqual(self.way.named, thread_of_stop(answers[0][1]))
+        self.way.motion = lambda kind, thread: ((3, 1), ["T05thread:1;", "T02thread:2;"])
+        self.way.move()
+        self.assertEqual((self.way.named, self.way.asked[-1][0]), (None, monitor("events")))
 
 
 if __name__ == "__main__":

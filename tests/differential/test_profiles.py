@@ -7,12 +7,12 @@ from assembler import STOP, Label, Program, add_immediate, image_of, immediate_f
 from callers import returned
 from layout import Geometry, format_disk
 from lines import serve_disk
-from profiled import costs_in, sections_of, unlike_tables
+from profiled import costs_in, difference_of_costs, sections_of, unlike_tables
 from profiles import Frame, Profile, calls, returns
 from stretches import Recording
 from switches import switched
 from test_races import call, load, recording_of
-from threads import Wait, WaitKind
+from threads import State, Wait, WaitKind
 
 NOP, RETURN = add_immediate(0, 0, 0), jump_register(0, 1, 0)
 WORDS = [  # whether each calls, and whether it returns
@@ -79,8 +79,7 @@ class Stacks(WithKeys):
         profile = profile_of_words(jump_form(1, 12), STOP, NOP, NOP, RETURN, steps=5)
         self.stacks(profile, "thread 1;00001000 3", "thread 1;00001000;0000100c 2")
         self.assertEqual((profile.steps, profile.calls), (5, {0x1000: 1, 0x100C: 1}))
-        self.assertEqual(profile.costs(), ({"00001000": 3, "0000100c": 2},
-                                           {("thread 1", "00001000"): (1, 5), ("00001000", "0000100c"): (1, 2)}))
+        self.assertEqual(profile.costs(), [("00001000", 3), ("thread 1", "00001000", 1, 5), ("0000100c", 2), ("00001000", "0000100c", 1, 2)])
 
     def test_jumps_at_an_end(self):
         """What is jumped to is no function of its own."""
@@ -100,8 +99,8 @@ class Stacks(WithKeys):
         profile = profile_of_words(jump_form(1, 4), jump_form(1, 0), steps=4)
         self.stacks(profile, "thread 1;00001000 1", "thread 1;00001000;00001004 1", "thread 1;00001000;00001004;00001004 1",
                     "thread 1;00001000;00001004;00001004;00001004 1")
-        self.assertEqual(profile.costs()[1], {("thread 1", "00001000"): (1, 4), ("00001000", "00001004"): (1, 3),
-                                              ("00001004", "00001004"): (2, 3)})
+        self.assertEqual(profile.costs()[1::2], [("thread 1", "00001000", 1, 4), ("00001000", "00001004", 1, 3), ("00001004", "00001004", 1, 2),
+                                                 ("00001004", "00001004", 1, 1)])
 
     def test_fault(self):
         """A call to no word calls nothing."""
@@ -158,10 +157,26 @@ class Stacks(WithKeys):
         self.assertEqual([int(number) for number in steps.values()], [len(wait) + 1, 1])
 
     def test_gates(self):
-        """What no page tells."""
+        """A function that returns to the runtime has the step at its gate. A stack that begins at a gate has a function under its address."""
+        self.stacks(profile_of_words(RETURN, steps=1), "thread 1;00001000 1")
         for gate in (0xFFFFFFF0, 0xFFFFFFF4):
-            self.assertTrue(recording_of([(1, [*call(Call.CREATE, gate, 0, 0, 0)]), (2, 1)], threads=0).show(Profile()).is_left_open)
-        self.assertFalse(profile_of_words(RETURN, steps=1).is_left_open)
+            recording = recording_of([(1, [*call(Call.CREATE, gate, 0, 0, 0)]), (2, 1)], threads=0)
+            self.stacks(recording.show(Profile()), "thread 1;00001000 6", f"thread 2;{gate:08x} 1")
+        disk = format_disk(Geometry(16, 1, 4096), image_of([RETURN]))
+        serve_disk(disk, b"place 0 1\nrun 0 1\nrun 0 1\ncommit\n")
+        self.stacks(Recording(disk).show(Profile()), "thread 1;00001000 2")
+        self.stacks(Recording(disk).show(Profile(), 2), "thread 1;fffffff0 1")
+
+    def test_order_of_stacks(self):
+        """Those that are under way by their numbers, and then as each is met; one without steps has no line, but its entries."""
+        recording = recording_of([(2, load()), (1, load()), (2, load())], threads=2)
+        profile = recording.show(Profile(), 4, 6)
+        self.assertEqual([line.split(";")[0] for line in profile.folded()], ["thread 1"])
+        self.assertEqual([entry[0] for entry in profile.costs()[1::2]], ["thread 1", "thread 2", "thread 3"])
+        self.assertEqual([entry[2:] for entry in profile.costs()[1::2]], [(1, 3), (1, 0), (1, 0)])
+        self.assertEqual([entry[0] for entry in recording.show(Profile(), 8, 8).costs()[1::2]], ["thread 1", "thread 2", "thread 3"])
+        order = [line.split(";")[0] for line in recording.show(Profile()).folded()]
+        self.assertEqual(order, ["thread 1", "thread 2"])
 
     def test_under_way(self):
         """Stacks begin where the stretch does; a return leaves them."""
@@ -178,8 +193,9 @@ class Stacks(WithKeys):
         profile = profile_of_words(*words, steps=1 + 1100 * 3 + 1 + 1100 * 5 + 3)
         self.assertEqual((len(profile.frames), profile.others), (1024, 231 + 3 + 76 * 5))
         self.assertEqual(profile.folded()[-1], f"others {profile.others}")
-        self.assertEqual(profile.costs()[0]["others"], profile.others)
-        self.assertEqual(sum(steps for steps in profile.costs()[0].values()), profile.steps)
+        self.assertEqual((profile.costs()[-1], len(profile.costs())), (("others", profile.others), 2 * 1024 + 1))
+        self.assertEqual(sum(entry[1] for entry in profile.costs() if len(entry) == 2), profile.steps)
+        self.assertEqual(profile.table()[-6].split()[1:], [str(profile.others), "elsewhere"])
         self.assertEqual((profile.calls[0x1008], profile.frames[0].steps), (1023, 7))
 
 
@@ -201,11 +217,27 @@ class Waits(WithKeys):
         self.assertEqual(waits[2, "mutex 00002000"], 3)
 
     def test_rows(self):
-        profile = Profile()
-        for number in range(258):
-            profile.count_wait(Wait(2, WaitKind.JOIN, number))
-        profile.count_wait(Wait(2, WaitKind.JOIN, 0))
-        self.assertEqual((len(profile.waits), profile.waits[2, "join 0"], profile.other_waits), (256, 2, 2))
+        """256 of them, those that were met first, with steps or without one."""
+        profile, machine = Profile(), State()
+        machine.waits = [Wait(2, WaitKind.JOIN, number) for number in range(258)]
+        profile.meet_waits(machine)
+        for wait in [*machine.waits[1:], machine.waits[1]]:
+            profile.count_wait(wait)
+        self.assertEqual((len(profile.waits), profile.waits[2, "join 0"], profile.waits[2, "join 1"], profile.other_waits), (256, 0, 2, 2))
+        profile.steps = 1
+        self.assertEqual(len([line for line in profile.table() if "waits" in line]), 20)
+
+    def test_met(self):
+        """Where they begin: also one that an event ends before anybody makes a step, and those that are there where the stretch begins."""
+        turns = [(2, call(Call.SLEEP_UNTIL, 9, 0)), (3, [*call(Call.GETC), *call(Call.GETC)]), (1, load())]
+        waits = recording_of(turns).show(Profile(), 7).waits
+        self.assertEqual(list(waits.items()), [((2, "sleep"), 3), ((3, "input"), 3)])
+        program = Program()
+        program.add([*call(Call.SLEEP_UNTIL, 9, 0), STOP])
+        disk = format_disk(Geometry(16, 1, 4096), image_of(program.words()))
+        serve_disk(disk, b"place 0 1\nrun 0 9\ntick 9\ncommit\n")
+        self.assertEqual(Recording(disk).show(Profile()).waits, {(1, "sleep"): 0})
+        self.assertEqual(list(Recording(disk).show(Profile()).waits), [(1, "sleep")])
 
 
 class Tables(WithKeys):
@@ -230,6 +262,16 @@ class Tables(WithKeys):
         profile.steps = profile.others = 3
         self.assertEqual([line.split() for line in profile.table()][3], ["100.00%", "3", "elsewhere"])
 
+    def test_elsewhere_is_last(self):
+        """However many steps it has, behind 20 others and the rest."""
+        profile = Profile()
+        profile.steps, profile.others = 100, 50
+        profile.frames = [Frame(0x1000 + 4 * number, 1, has_row=True, steps=2) for number in range(25)]
+        rows = [line.split() for line in profile.table()][3:]
+        self.assertEqual([row[1:] for row in rows[19:22]], [["2", "pc", "0000104c,", "calls", "0"], ["10", "others"], ["50", "elsewhere"]])
+        profile.others = 0
+        self.assertNotIn("elsewhere", "".join(profile.table()))
+
     def test_order(self):
         """The most steps first, and of as many what was met first."""
         profile = Profile()
@@ -248,7 +290,7 @@ class Tables(WithKeys):
                                (rows(1, 2, 4, 3), False), (rows(1, 2, 4, 2)[:-1] + "1", False), (rows(1, 2, 4, 1).replace("9", "8"), False)]:
             self.assertEqual(unlike_tables(table, sections_of(shown.splitlines())) is None, is_like, shown)
         other = rows(1, "{}", 4, 1).format
-        for shown, is_like in [(other("2\n1% 7 elsewhere"), True), (other("2").replace("\n1%", "\n1% 7 elsewhere\n1%", 1), True),
+        for shown, is_like in [(other("2\n1% 7 elsewhere"), True), (other("2").replace("\n1%", "\n1% 7 elsewhere\n1%", 1), False),
                                (other("2\n1% 8 elsewhere"), False), (other("3\n1% 7 elsewhere"), False), (other("2"), False)]:
             self.assertEqual(unlike_tables(sections_of(other("2\n1% 7 elsewhere").splitlines()), sections_of(shown.splitlines())) is None, is_like, shown)
         cut = "steps 9\n\n share steps wait\n1% 4 a\n1% 2 {}\n1% 5 others".format
@@ -256,8 +298,16 @@ class Tables(WithKeys):
             self.assertEqual(unlike_tables(sections_of(cut("b").splitlines()), sections_of(shown.splitlines())) is None, is_like, shown)
 
     def test_costs_in(self):
-        self.assertEqual(costs_in(COSTS), ({"00001000": 7}, {("thread 1", "00001000"): (1, 6), ("00001000", "0000100c"): (5, 7)}))
+        entries = [("00001000", 4), ("thread 1", "00001000", 1, 6), ("00001000", "0000100c", 2, 2), ("00001000", 3), ("00001000", "0000100c", 3, 5)]
+        self.assertEqual(costs_in(COSTS), entries)
         self.assertIsNone(costs_in("fn=1\nsteps 4"))
+
+    def test_difference_of_costs(self):
+        """Each entry at its place, and also those without steps."""
+        entries = [("1", 4), ("thread 1", "1", 1, 4), ("2", 0), ("thread 2", "2", 1, 0)]
+        self.assertIsNone(difference_of_costs(entries, list(entries)))
+        for wrong in [entries[:2], [*entries[2:], *entries[:2]], [("1", 5), *entries[1:]], [*entries[:3], ("thread 2", "2", 2, 0)], None]:
+            self.assertIsNotNone(difference_of_costs(entries, wrong), wrong)
 
 
 if __name__ == "__main__":

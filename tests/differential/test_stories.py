@@ -1,6 +1,8 @@
 """Other ways on: what a cut leaves, events behind it and why there are none, and turns of a drive."""
 import unittest
+from collections import Counter
 from copy import deepcopy
+from random import Random
 
 from abi import Call
 from assembler import STOP, Branch, Program, call_words, image_of
@@ -8,11 +10,13 @@ from devices import MemoryDisk
 from events import Place, Run, RunLong, Tick
 from layout import Geometry, format_disk
 from lines import serve_disk
-from lived import is_answered
+from lived import LivedCase, Script, difference_of_answers
 from plans import Drive, Options
 from stories import MOST_STEPS, Story, TooLong, make
 from stretches import Recording
+from stubs import monitor
 from switches import switched
+from test_races import call, load, recording_of
 
 NOT_AT_END = "not at the end of the history: monitor fork ends it here"
 LOCKS = call_words(Call.MUTEX_LOCK, 0x2000)
@@ -181,13 +185,111 @@ class Steps(WithKeys):
             make(self.at_end(program.words(), "place 0 1").end, RunLong(0, MOST_STEPS + 1))
 
 
-class Answers(unittest.TestCase):
+class Named(WithKeys):
+    """Whom a stop names, in sessions of two threads."""
+
+    def setUp(self):
+        super().setUp()
+        recording = recording_of([(2, [*load(), *load()]), (1, load())], threads=1)
+        self.story = Story(recording)
+
+    def named(self, *places):
+        """Behind going to each of them in turn."""
+        for place in places:
+            self.assertTrue(self.story.goto(place))
+        return self.story.named
+
+    def test_next(self):
+        """The thread whose step is next, within a run too; else that of the stop before, which nobody is before the first one."""
+        self.assertIsNone(self.story.named)
+        self.assertIsNone(self.named((4, 0)))
+        self.assertEqual(self.named((3, 2)), 2)
+        self.assertEqual(self.named((4, 0)), 2)
+        self.assertEqual([self.named((5, 0)), self.named((4, 0)), self.named((6, 0))], [1, 1, 1])
+        self.assertFalse(self.story.goto((9, 0)))
+        self.assertEqual(self.story.named, 1)
+
+    def test_not_there(self):
+        """Before it is made, thread 2 isn't there: the first one is."""
+        self.assertEqual(self.named((3, 1), (0, 0)), 1)
+        self.assertEqual(story_of([STOP], "place 0 1").named_at((0, 0)), 1)
+
+    def test_behind_a_checkpoint(self):
+        """Which saved an event that no journal has: the history begins there."""
+        words = [*call(Call.CREATE, 0x1100, 0, 0, 0), STOP]
+        story = story_of(words, "place 0 1", f"run 0 {len(words) - 1}", "checkpoint", "tick 1", "place 0 2", "run 0 1")
+        story.named = 1
+        self.assertEqual((story.first, story.last, story.goto((4, 0)), story.named), (2, 5, True, 2))
+
+    def test_more_events(self):
+        """A cut is no stop. What an event leads to is one, and what a drive's turns do, too."""
+        self.named((3, 1))
+        self.story.fork()
+        self.assertEqual(self.story.named, 2)
+        self.story.add("place 0 1")
+        self.assertEqual(self.story.named, 2)
+        self.assertEqual(self.story.add("run 0 0"), "no 34 Range\n")
+        ended = story_of([*call(Call.CREATE, 0x1100, 0, 0, 0), *call(Call.THREAD_EXIT, 0)], "place 0 1", "run 0 7")
+        ended.named = 1
+        ended.goto((2, 0))
+        self.assertEqual(ended.named, 1)
+        self.assertEqual((ended.add("run 0 9"), ended.named), ("event 3, from 0 to 3, recorded to 2\n", 2))
+        again = story_of([*call(Call.CREATE, 0x1100, 0, 0, 0), *call(Call.THREAD_EXIT, 0)])
+        again.named = 1
+        self.assertEqual((again.live(2).splitlines()[0], again.named), ("events made: 2", 2))
+
+    def test_one_stop(self):
+        """Of all events that turns make the last one leads to the only stop; where none is made there is none."""
+        story, stops = self.at_end([STOP], "tick 1"), []
+        story.stop = lambda: stops.append(story.position)
+        story.live(5)
+        self.assertEqual(stops, [(6, 0)])
+        story.position = 0, 0
+        story.live(5)
+        self.assertEqual(stops, [(6, 0)])
+
+
+class Scripts(WithKeys):
+    """What is asked, and the answers that are expected, by which all that tells where a session stands is compared."""
+
+    def setUp(self):
+        super().setUp()
+        self.script = Script(Random(1), Story(recording_of([(2, load()), (1, load())], threads=1)))
+
+    def test_stops(self):
+        """Behind going somewhere, and behind an event or a turn, it is asked why the session stands."""
+        self.script.go((3, 1))
+        self.assertEqual(self.script.asked, [(monitor("goto 3+1"), ("event 3+1, from 0 to 6\n", "OK")), ("?", ("", "T05thread:2;"))])
+        self.script.line = lambda: "tick 1"
+        self.script.event()
+        self.assertEqual(self.script.asked[2:], [(monitor("event tick 1"), (NOT_AT_END + "\n", "OK"))])
+        self.script.goto_end()
+        self.script.event()
+        made = monitor("event tick 1"), ("event 7, from 0 to 7, recorded to 6\n", "OK")
+        self.assertEqual(self.script.asked[5:], [made, ("?", ("", "T05thread:2;"))])
+        self.script.live()
+        self.assertEqual(self.script.asked[-1], ("?", ("", "T05thread:2;")))
+
+    def test_nowhere(self):
+        self.script.go((3, 1))
+        self.script.goto_nowhere()
+        self.assertEqual(self.script.asked[-1][1], ("no such position\nevent 3+1, from 0 to 6\n", "OK"))
+
+    def test_motions(self):
+        """At an end of the history the thread of the stop before is named."""
+        self.script.go((3, 1))
+        while self.script.asked[-2][0] != "vCont;c":
+            self.script.motion()
+        self.assertEqual(self.script.asked[-2:], [("vCont;c", [("", "T05replaylog:end;thread:2;")]),
+                                                  (monitor("events"), ("event 6, from 0 to 6\n", "OK"))])
+
     def test_answers(self):
-        for expected, got, is_right in [(("a\n", "OK"), ("a\n", "OK"), True), (("a\n", "OK"), ("b\n", "OK"), False), (None, ("b", "E"), True),
-                                        ((None, "OK"), ("b", "OK"), True), ((None, "OK"), ("b", "E01"), False),
-                                        (("no such position\n", "OK"), ("no such position\nevent 3\n", "OK"), True),
-                                        (["T05thread:1;"], ("", "T05thread:1;"), True), (["T05thread:1;"], ("", "T05thread:2;"), False)]:
-            self.assertEqual(is_answered(expected, got), is_right, (expected, got))
+        case = LivedCase(b"", [], [("?", ("", "T05thread:2;")), ("bc", [("", "T05replaylog:begin;thread:")]), ("g", None)])
+        right = [("", "OK"), ("", "T05thread:2;"), ("", "T05replaylog:begin;thread:9;"), ("", "00"), ("", "OK")]
+        self.assertIsNone(difference_of_answers(case, right, Counter()))
+        for place, wrong in [(1, ("", "T05thread:1;")), (1, ("x", "T05thread:2;")), (2, ("", "T05thread:9;")), (0, ("", "E01")), (4, ("", "E01"))]:
+            self.assertIsNotNone(difference_of_answers(case, [*right[:place], wrong, *right[place + 1:]], Counter()), place)
+        self.assertIsNotNone(difference_of_answers(case, right[:-1], Counter()))
 
 
 if __name__ == "__main__":

@@ -4,7 +4,8 @@ from copy import deepcopy
 
 from abi import Call
 from debugged import NOWHERE, unlike
-from stubs import Look, Visits, answers_in, frame, memory_text, monitor, position_text, registers_text, text_of_thread
+from stubs import (Look, Visits, answers_in, answers_of_thread, frame, is_answered, memory_text, monitor, position_text, registers_text,
+                   text_of_thread)
 from switches import switched
 from test_races import call, load, recording_of
 
@@ -55,6 +56,13 @@ class Texts(WithKeys):
         words = registers_text(machine, 2)
         self.assertEqual((len(words), words[8 * 10:8 * 11], words[-8:]), (8 * 33, "02000000", "28100000"))
 
+    def test_none_left(self):
+        """Where all have ended thread 1 is told, with registers of zeros; nothing else is there."""
+        machine = self.machine_behind((1, [*call(Call.DETACH, 1), *call(Call.THREAD_EXIT, 0)]), threads=0)
+        self.assertEqual(answers_of_thread(machine, 1, 1), [("", "OK"), ("", "E01"), ("", "E01"), ("", "00" * 132)])
+        self.assertEqual(answers_of_thread(machine, 2, 1)[0], ("", "E01"))
+        self.assertIn(("", "m1"), Look((0, 0), [], []).told(machine, (0, 0), 1))
+
     def test_memory(self):
         memory = self.machine_behind().memory
         memory.store(0xFFFC, 4, 0x04030201)
@@ -68,41 +76,67 @@ class Sessions(WithKeys):
 
     def setUp(self):
         super().setUp()
-        looks = [Look((3, 1), [1, 2, 9], [(0x1000, 8)]), Look((4, 0), [], [])]
+        looks = [Look((4, 0), [9], []), Look((3, 1), [1, 2, 9], [(0x1000, 8)]), Look((2, 0), [9, 2], []), Look((4, 0), [9], [])]
         visits = Visits(looks, (0, 4))
-        visits.visit((4, 0), recording_of([(2, load())], threads=1).made_up_to(visits))
-        self.answers = [*visits.answers[0], *visits.answers[1]]
+        visits.visit((4, 0), recording_of([(2, load())], threads=1).made_up_to(visits), None)
+        self.first, self.within, self.between, self.last = visits.answers()
+        self.machines = [visits.kept[look.position][0] for look in looks]
 
     def test_by_hand(self):
-        self.assertEqual(self.answers[1], ("event 3+1, from 0 to 4\n", "OK"))
-        self.assertEqual(self.answers[2][0].splitlines()[:4], ["events 3", "clock 0", "status running", "hart 0 2"])
-        self.assertEqual(self.answers[3], ("", "m1,2"))
-        self.assertEqual([answer and answer[1] for answer in self.answers[4:6]], ["OK", b"ready".hex()])
-        self.assertEqual(self.answers[12:16], [None, None, ("", "E01"), None])
-        self.assertEqual(self.answers[-3], ("event 4, from 0 to 4\n", "OK"))
+        self.assertEqual(self.within[:2], [("event 3+1, from 0 to 4\n", "OK"), ("", "T05thread:2;")])
+        self.assertEqual(self.within[2], ("event 3+1, from 0 to 4\n", "OK"))
+        self.assertEqual(self.within[3][0].splitlines()[:4], ["events 3", "clock 0", "status running", "hart 0 2"])
+        self.assertEqual(self.within[4], ("", "m1,2"))
+        self.assertEqual([answer[1] for answer in self.within[5:7]], ["OK", b"ready".hex()])
+        self.assertEqual(self.within[13:16], [("", "E01")] * 3)
+        self.assertEqual((len(self.within), self.last[2]), (18, ("event 4, from 0 to 4\n", "OK")))
+
+    def test_stops(self):
+        """Where nobody's step is next the thread of the stop before is named; at first no page tells which, if there are several."""
+        self.assertEqual([answers[1][1] for answers in (self.first, self.between, self.last)], ["T05thread:", "T05thread:2;", "T05thread:2;"])
+        self.assertEqual(Look((0, 0), [], []).answers(self.machines[0], (0, 4), 10)[1], ("", "T05thread:a;"))
+
+    def test_examined(self):
+        """Whom the stop names, and then whom gdb has named, if that one is there."""
+        registers = [("", registers_text(self.machines[1], number)) for number in (1, 2)]
+        self.assertEqual(self.within[8:17:4], [registers[0], registers[1], registers[1]])
+        self.assertEqual((self.first[8], self.between[8], self.last[8]), (None, ("", registers_text(self.machines[2], 2)),
+                                                                         ("", registers_text(self.machines[0], 2))))
 
     def test_each_change(self):
-        got = [answer or ("", "E01") for answer in self.answers]
-        got = [("told of going", payload) if told is None else (told, payload) for told, payload in got]
+        answers = [*self.first, *self.within, *self.last]
+        got = [answer or ("", "E01") for answer in answers]
+        got = [(told, payload + "1;" if payload.endswith("thread:") else payload) for told, payload in got]
         packets = [str(number) for number in range(len(got))]
-        self.assertIsNone(unlike(packets, self.answers, got))
-        for number, answer in enumerate(self.answers):
-            changed = deepcopy(got)
-            changed[number] = "", "E02"
-            self.assertEqual(unlike(packets, self.answers, changed) is None, answer is None, number)
+        self.assertIsNone(unlike(packets, answers, got))
+        for number, answer in enumerate(answers):
+            for told in [("", "E02"), ("told", got[number][1])]:
+                changed = deepcopy(got)
+                changed[number] = told
+                self.assertEqual(unlike(packets, answers, changed) is None, answer is None, number)
+
+    def test_answered(self):
+        for expected, got, is_right in [(None, ("a", "b"), True), ((None, "OK"), ("a", "OK"), True), (("", "OK"), ("a", "OK"), False),
+                                        ((None, "OK"), ("a", "E01"), False), (("", "OK"), ("", "OKAY"), False), (("", ""), ("", "OK"), False),
+                                        (("", "T05thread:"), ("", "T05thread:7;"), True), (("", "T05thread:"), ("", "T05watch:7;thread:7;"), False),
+                                        (("", "T05thread:1;"), ("", "T05thread:12;"), False), (("", "T05thread:"), ("a", "T05thread:7;"), False)]:
+            self.assertEqual(is_answered(expected, got), is_right, (expected, got))
 
     def test_places(self):
         """Before each step, and before an event that is no run."""
         visits = recording_of([(2, load())], threads=1).show(Visits([Look((3, 2), [2], []), Look((2, 0), [], [])], (0, 4)))
-        self.assertEqual([visits.answers[number][1][0].split(",")[0] for number in (0, 1)], ["event 3+2", "event 2"])
-        self.assertEqual(visits.answers[0][-1][1][8 * 3:8 * 4], "00280000")
-        self.assertEqual(visits.answers[0][-1][1][-8:], "28100000")
+        within, before = visits.answers()
+        self.assertEqual([answers[2][0].split(",")[0] for answers in (within, before)], ["event 3+2", "event 2"])
+        self.assertEqual((within[-1][1][8 * 3:8 * 4], within[-1][1][-8:]), ("00280000", "28100000"))
+        self.assertEqual([visits.kept[place][1] for place in [(3, 2), (2, 0)]], [2, None])
         self.assertEqual(visits.steps, {0: 1, 1: 7, 2: 1, 3: 3})
 
     def test_nowhere(self):
-        self.assertIsNotNone(unlike(["goto"], [(NOWHERE, "OK")], [(NOWHERE, "OK")] * 2))
-        self.assertIsNone(unlike(["goto"], [(NOWHERE, "OK")], [(NOWHERE + "event 7, from 0 to 9\n", "OK")]))
-        self.assertIsNotNone(unlike(["goto"], [(NOWHERE, "OK")], [("event 7, from 0 to 9\n", "OK")]))
+        """It is told, and where the session stands."""
+        told = NOWHERE + "event 7, from 0 to 9\n", "OK"
+        self.assertIsNone(unlike(["goto"], [told], [told]))
+        for wrong in ([told] * 2, [(NOWHERE, "OK")], [("event 7, from 0 to 9\n", "OK")], []):
+            self.assertIsNotNone(unlike(["goto"], [told], wrong))
 
 
 if __name__ == "__main__":

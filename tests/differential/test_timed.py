@@ -28,11 +28,10 @@ class Tables(unittest.TestCase):
             self.assertIsNone(outcomes_of(wrong, OPTIONS), wrong)
         self.assertIsNone(outcomes_of(table(*rows, total=9), Options(17, 1, 99)))
 
-
     def test_others(self):
         """Behind 64 outcomes, and only there."""
         rows = [(1, seed, f"exit {seed}, output 1") for seed in range(1, 67)]
-        for count, last, is_right in [(64, [], True), (64, ["other outcomes: 3 of 67 runs"], True), (64, ["other outcomes: 3 of 68 runs"], False),
+        for count, last, is_right in [(64, [], True), (64, ["other outcomes: 3 of 67 runs"], True), (64, ["others: 3 of 67 runs"], False), (64, ["other outcomes: 3 of 68 runs"], False),
                                       (64, ["other outcomes: 2 of 67 runs"], False), (63, ["other outcomes: 3 of 66 runs"], False),
                                       (65, [], False), (64, ["other outcomes: 3 of 67 runs"] * 2, False)]:
             told = [*table(*rows[:count], total=count + 3 * bool(last)), *last]

@@ -9,7 +9,7 @@ from histories import is_turned
 from layout import Geometry, format_disk
 from lines import serve_disk
 from listing import OutOfRange
-from pictures import difference_of_picture
+from pictures import difference_of_picture, heading_of
 from stretches import Recording
 from switches import switched
 from test_races import call, load, locked, recording_of as recording_of_turns
@@ -17,7 +17,7 @@ from timelines import Timeline, title_of, trace_events
 
 JOINS_AND_LOCKS = [(2, call(Call.MUTEX_LOCK, 0x2000)), (3, call(Call.MUTEX_LOCK, 0x2000)), (1, call(Call.JOIN, 3)),
                    (2, call(Call.MUTEX_UNLOCK, 0x2000)), (3, call(Call.THREAD_EXIT, 0))]
-PICTURE = ('<svg xmlns="http://www.w3.org/2000/svg" width="500"><text text-anchor="middle" x="80">4</text>{}'
+PICTURE = ('<svg xmlns="http://www.w3.org/2000/svg" width="500"><text>{}</text>{}'
            '<svg x="80" width="400" height="16" viewBox="0 0 {} 16">{}</svg></svg>')
 
 
@@ -126,19 +126,23 @@ class Pictures(unittest.TestCase):
 
     def setUp(self):
         self.timeline = recording_of_turns([(1, locked(load(), 0x2000)), (1, 31)], threads=0).show(Timeline())
-        self.timeline.events = [(4, 0), (5, 20)]
+        self.timeline.events, self.timeline.ends = [(4, 0), (5, 20)], (4, 6)
         self.piece = self.timeline.pieces[1][0]
 
-    def differs(self, tick='<text text-anchor="middle" x="280">5</text>', steps=40, width=500, title=None, **changed):
+    def tick(self, number, at):
+        return f'<text text-anchor="middle" x="{at}">{number}</text>'
+
+    def differs(self, ticks=((4, 80), (5, 280)), steps=40, width=500, title=None, heading="events 4 to 6: 40 steps", **changed):
         piece = {"class": "running", "x": 0, "width": 40, "y": 0, "height": 16, **changed}
         drawn = " ".join(f'{name}="{value}"' for name, value in piece.items())
-        text = PICTURE.format(tick, steps, f"<rect {drawn}><title>{title or title_of(1, self.piece)}</title></rect>")
+        told = "".join(self.tick(*tick) for tick in ticks)
+        text = PICTURE.format(heading, told, steps, f"<rect {drawn}><title>{title or title_of(1, self.piece)}</title></rect>")
         return difference_of_picture(text, width, self.timeline) is not None
 
     def test_right(self):
         self.assertEqual((self.timeline.steps, self.piece.steps), (40, 40))
         self.assertFalse(self.differs())
-        self.assertFalse(self.differs(tick=""))
+        self.assertFalse(self.differs(ticks=((4, 80), (5, 281))))
 
     def test_wrong(self):
         self.assertTrue(self.differs(x=1))
@@ -147,9 +151,33 @@ class Pictures(unittest.TestCase):
         self.assertTrue(self.differs(height=2))
         self.assertTrue(self.differs(title="thread 1 runs on hart 1: 40 steps from step 0"))
         self.assertTrue(self.differs(**{"class": "ready"}))
-        for tick in ('<text text-anchor="middle" x="300">5</text>', '<text text-anchor="middle" x="280">6</text>',
-                     '<text text-anchor="middle" x="80">4</text>'):
-            self.assertTrue(self.differs(tick=tick), tick)
+        for ticks in (((4, 80), (5, 300)), ((4, 80), (6, 280)), ((4, 80), (4, 80)), ((4, 80),), ((5, 280),), (), ((5, 280), (4, 80)),
+                      ((4, 80), (5, 280), (6, 480))):
+            self.assertTrue(self.differs(ticks=ticks), ticks)
+
+    def test_heading(self):
+        for heading in ("events 4 to 5: 40 steps", "events 0 to 6: 40 steps", "events 4 to 6: 41 steps", "events 4 to 6: 40 steps, 1 in each column", ""):
+            self.assertTrue(self.differs(heading=heading), heading)
+        recording = recording_of_turns(JOINS_AND_LOCKS)
+        self.assertEqual([heading_of(recording.show(Timeline(), *ends)) for ends in [(None, None), (4, 8), (5, 5)]],
+                         ["events 0 to 12: 29 steps", "events 4 to 8: 6 steps", "events 5 to 5: 0 steps"])
+
+    def test_many_events(self):
+        """Up to 19 each has its number, from 20 on every second, from 40 on every third."""
+        for count, every in [(19, 1), (20, 2), (21, 2), (39, 2), (40, 3), (60, 4)]:
+            self.timeline.events = [(number, 0) for number in range(count)]
+            for shown in (1, 2, 3, 4):
+                ticks = [(number, 80) for number in range(0, count, shown)]
+                self.assertEqual(self.differs(ticks=ticks), shown != every, (count, shown))
+            self.assertTrue(self.differs(ticks=[(number, 80) for number in range(every - 1, count, every)]) or every == 1)
+
+    def test_without_steps(self):
+        """There are no rows, and all numbers stand at one place."""
+        self.timeline.pieces, self.timeline.steps, self.timeline.events = {}, 0, [(4, 0), (5, 0)]
+        picture = '<svg xmlns="http://www.w3.org/2000/svg" width="500"><text>events 4 to 6: 0 steps</text>{}</svg>'
+        for ticks, is_right in [(((4, 80), (5, 80)), True), (((4, 80), (5, 81)), False), (((4, 80),), False), ((), False)]:
+            drawn = picture.format("".join(self.tick(*tick) for tick in ticks))
+            self.assertEqual(difference_of_picture(drawn, 500, self.timeline) is None, is_right, ticks)
 
     def test_width(self):
         self.assertTrue(difference_of_picture('<svg xmlns="http://www.w3.org/2000/svg" width="499"/>', 500, self.timeline))

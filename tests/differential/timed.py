@@ -6,7 +6,7 @@ import time
 from dataclasses import dataclass, replace
 
 from hunted import TIME_LIMIT, Hunted
-from hunts import SEVERAL, Options, command_of, fold, line_of_kept, text_of_outcome
+from hunts import MOST_OUTCOMES, SEVERAL, Options, command_of, fold, line_of_kept, text_of_outcome
 from race_rows import difference_of_rows, rows_of_races, split_table
 from races import Readings
 from stretches import Recording
@@ -15,8 +15,7 @@ SECONDS = 1
 LONGEST = 31_536_000
 REFUSED = [("1-2", 1, None), (None, 0, None), (None, LONGEST + 1, None), (None, None, 0), (None, 1, 0), ("3-2", None, None), ("3-2", None, 1)]
 OUTCOME = re.compile(r"outcome (\d+): (\d+) of (\d+) runs, first by seed (\d+): (.+)")
-OTHERS = re.compile(r"[^:\d]+: (\d+) of (\d+) runs")  # no page has its words
-MOST_OUTCOMES = 64  # that have lines of their own
+OTHERS = re.compile(r"other outcomes: (\d+) of (\d+) runs")
 PROGRESS = re.compile(r"progress: (\d+) runs, seed (\d+), (\d+) runs a second, outcomes: (\d+)")
 
 

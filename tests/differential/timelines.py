@@ -41,11 +41,15 @@ def activities(machine, hart):
 
 
 class Timeline:
-    """Looks on. `pieces` has those of each thread in their order, `events` at which step each event begins."""
+    """Looks on. `pieces` has those of each thread in their order, `events` at which step each event begins, `ends` how many events came
+    before the stretch and up to its end."""
 
     def __init__(self):
-        self.pieces, self.events, self.steps = {}, [], 0
+        self.pieces, self.events, self.steps, self.ends = {}, [], 0, (0, 0)
         self.now = None
+
+    def begin(self, machine, ends):
+        self.ends = ends
 
     def begin_event(self, number):
         self.events.append((number, self.steps))
