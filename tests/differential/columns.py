@@ -12,9 +12,9 @@ def is_dense(timeline):
 
 
 def steps_of_columns(timeline):
-    """The fewest with which there are no more columns than may be, in all rows together."""
+    """One more than the steps divided by the columns that a row may have."""
     columns = MOST_COLUMNS // len(timeline.pieces)
-    return -(-timeline.steps // columns)
+    return timeline.steps // columns + 1
 
 
 @dataclass

@@ -105,7 +105,7 @@ class Look:
         answers = [(line_of_events(self.position, ends), "OK"), (listing, "OK"),
                    ("", "m" + ",".join(f"{number:x}" for number in told_threads(machine)))]
         for number in self.threads:
-            examined = number if number in live_threads(machine) else examined
+            examined = number if number in told_threads(machine) else examined
             answers += answers_of_thread(machine, number, examined)
         return answers + [("", memory_text(machine.memory, address, length)) for address, length in self.reads]
 
@@ -120,9 +120,10 @@ def answers_of_thread(machine, number, examined):
     where it isn't there. None where no page tells whose these are."""
     is_alive = ("", "OK" if number in told_threads(machine) else NO_THREAD)
     registers = None if examined is None else ("", registers_text(machine, examined))
-    if number not in live_threads(machine):
+    if number not in told_threads(machine):
         return [is_alive, ("", NO_THREAD), ("", NO_THREAD), registers]
-    return [is_alive, ("", text_of_thread(machine, number).encode().hex()), ("", "OK"), registers]
+    text = text_of_thread(machine, number) if number in live_threads(machine) else "ready"
+    return [is_alive, ("", text.encode().hex()), ("", "OK"), registers]
 
 
 class Visits:

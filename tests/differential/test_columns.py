@@ -32,10 +32,10 @@ class Columns(unittest.TestCase):
         self.assertTrue(is_dense(timeline))
 
     def test_steps(self):
-        """There are 2,000 columns in all rows at most, and as many as can be."""
+        """There are 2,000 columns in all rows at most; one step more than the steps divided by those that a row may have."""
         timeline = alternating(2001)
-        for rows, steps, expected in [(1, 2001, 2), (1, 4000, 2), (1, 4001, 3), (3, 666, 1), (3, 667, 2), (6, 29685, 90), (64, 3100, 100),
-                                      (64, 3101, 101)]:
+        for rows, steps, expected in [(1, 2001, 2), (1, 3999, 2), (1, 4000, 3), (3, 665, 1), (3, 666, 2), (6, 29685, 90), (64, 3099, 100),
+                                      (64, 3100, 101)]:
             timeline.pieces, timeline.steps = dict.fromkeys(range(rows), []), steps
             self.assertEqual(steps_of_columns(timeline), expected)
             self.assertLessEqual(rows * -(-steps // expected), 2000)

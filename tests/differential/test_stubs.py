@@ -57,9 +57,9 @@ class Texts(WithKeys):
         self.assertEqual((len(words), words[8 * 10:8 * 11], words[-8:]), (8 * 33, "02000000", "28100000"))
 
     def test_none_left(self):
-        """Where all have ended thread 1 is told, with registers of zeros; nothing else is there."""
+        """Where all have ended thread 1 is told, as ready, with registers of zeros; nothing else is there."""
         machine = self.machine_behind((1, [*call(Call.DETACH, 1), *call(Call.THREAD_EXIT, 0)]), threads=0)
-        self.assertEqual(answers_of_thread(machine, 1, 1), [("", "OK"), ("", "E01"), ("", "E01"), ("", "00" * 132)])
+        self.assertEqual(answers_of_thread(machine, 1, 1), [("", "OK"), ("", b"ready".hex()), ("", "OK"), ("", "00" * 132)])
         self.assertEqual(answers_of_thread(machine, 2, 1)[0], ("", "E01"))
         self.assertIn(("", "m1"), Look((0, 0), [], []).told(machine, (0, 0), 1))
 
