@@ -12,7 +12,6 @@
 //! - `ckrt_probe unchanged FILE COUNT` makes checkpoints with no changed page.
 //! - `ckrt_probe recorded FILE COUNT` and `recorded-changed FILE COUNT` make checkpoints as a drive with an input does: each after a
 //!   commit, and with its record; of all pages of `stores-4`, and as `changed` does.
-//! - `ckrt_probe hunt SEEDS IMAGE` hunts a guest, and says which kinds of outcomes its seeds came to.
 //! - `ckrt_probe grow` formats a disk and recovers it, and says which growth of memory was refused, if one was.
 //! - `ckrt_probe tables` decodes saved tables, and says whether a growth of memory was refused.
 //! - `ckrt_probe lives` runs lives of one program, and says whether a growth of memory was refused.
@@ -20,7 +19,6 @@
 
 mod disk;
 mod growth;
-mod hunted;
 mod journal;
 mod lives;
 mod run;
@@ -31,7 +29,6 @@ use crate::disk::{
     time_recovery, time_unchanged,
 };
 use crate::growth::{report, report_tables};
-use crate::hunted::print_kinds;
 use crate::journal::{time_appends, time_decoding};
 use crate::lives::report_lives;
 use crate::run::{shape_of, time_fed, time_run};
@@ -40,7 +37,7 @@ use anyhow::{Context, Result, bail};
 use std::env;
 
 const USAGE: &str =
-    "usage: ckrt_probe (run IMAGE PAGES HARTS STEPS | feed IMAGE PAGES HARTS STEPS INPUT | append FILE BYTES COUNT | decode COUNT | save FILE HARTS COUNT | recover FILE | checkpoint FILE COUNT | changed FILE COUNT | unchanged FILE COUNT | recorded FILE COUNT | recorded-changed FILE COUNT | hunt SEEDS IMAGE | grow | tables | lives)...";
+    "usage: ckrt_probe (run IMAGE PAGES HARTS STEPS | feed IMAGE PAGES HARTS STEPS INPUT | append FILE BYTES COUNT | decode COUNT | save FILE HARTS COUNT | recover FILE | checkpoint FILE COUNT | changed FILE COUNT | unchanged FILE COUNT | recorded FILE COUNT | recorded-changed FILE COUNT | grow | tables | lives)...";
 
 fn number(word: &str) -> Result<u32> {
     word.parse::<u32>().context(USAGE)
@@ -123,14 +120,6 @@ fn keep<'a>(rt: &HostRuntime, words: &'a [String]) -> Rest<'a> {
     Ok(rest)
 }
 
-fn hunt<'a>(rt: &HostRuntime, words: &'a [String]) -> Rest<'a> {
-    let [seeds, image, rest @ ..] = words else {
-        bail!(USAGE);
-    };
-    print_kinds(rt, number(seeds)?, image)?;
-    Ok(rest)
-}
-
 fn save_recorded<'a>(rt: &HostRuntime, words: &'a [String]) -> Rest<'a> {
     let [path, count, rest @ ..] = words else {
         bail!(USAGE);
@@ -179,7 +168,6 @@ fn probe<'a>(rt: &HostRuntime, words: &'a [String]) -> Rest<'a> {
         "unchanged" => keep(rt, rest),
         "recorded" => save_recorded(rt, rest),
         "recorded-changed" => change_recorded(rt, rest),
-        "hunt" => hunt(rt, rest),
         "grow" => grow(rt, rest),
         "tables" => tables(rt, rest),
         "lives" => live(rt, rest),
