@@ -1,5 +1,5 @@
 -- What gdb's user commands by `monitor` (this project's choice): a name and, behind a space, what it is about.
-use Rattle.std.specs.Prelude.{ℕ, ◌^◌, ◌==◌, ◌&&◌, nat_lt, Bool, if◌then◌else◌, List, length, codes, Option, Some, None, option_and_then, option_map, unwrap_or, Result, Ok, Err}
+use Rattle.std.specs.Prelude.{ℕ, ◌^◌, ◌==◌, ◌&&◌, nat_lt, Bool, if◌then◌else◌, List, [], length, codes, Option, Some, None, is_some, option_and_then, option_map, ok_or, unwrap_or, Result, Ok, Err}
 use Rattle.std.specs.Char.{digit_value}
 use Rattle.std.specs.List.{after_first, before_first, list_all, position_or_len}
 use Rattle.std.specs.Str.{bytes_eq, is_utf8}
@@ -13,6 +13,8 @@ use Rattle.ckrt_events.specs.declared.command.LineFault.TheVariants.{Unknown}
 use Rattle.ckrt_events.specs.declared.event.Event.{Event}
 use Rattle.ckrt_debug.specs.declared.command.Command.{Command}
 use Rattle.ckrt_debug.specs.declared.command.Command.TheVariants.{Append, Events, Extend, Fork, GoTo, Help, Inspect, Limit, Until}
+use Rattle.ckrt_debug.specs.declared.command.Misread.{Misread}
+use Rattle.ckrt_debug.specs.declared.command.Misread.TheVariants.{Name, Number, Position, Superfluous}
 use Rattle.ckrt_debug.specs.declared.command.Place.{Place}
 
 -- NUMBERS in decimal
@@ -32,6 +34,13 @@ word_in n = if nat_lt n (2 ^ 32) then Some n else None
 
 abbrev pub word_of : List ℕ → Option ℕ
 word_of t = option_and_then word_in (number_of t)
+
+-- one of 32 bits from 1 on
+abbrev pub positive_in : ℕ → Option ℕ
+positive_in n = if nat_lt 0 n then Some n else None
+
+abbrev pub positive_of : List ℕ → Option ℕ
+positive_of t = option_and_then positive_in (word_of t)
 
 -- PLACES: `K` or `K+S`
 
@@ -66,32 +75,48 @@ event_of t = event_in (line.command_of t)
 abbrev pub is_space : ℕ → Bool
 is_space b = b == 32
 
--- of steps, 1 or more
-abbrev pub limit_in : ℕ → Option Command
-limit_in n = if nat_lt 0 n then Some (Limit n) else None
+-- one byte or more of a text is a space
+abbrev pub has_space : List ℕ → Bool
+has_space t = nat_lt (position_or_len is_space t) (length t)
 
--- of events, 1 or more
-abbrev pub extend_in : ℕ → Option Command
-extend_in n = if nat_lt 0 n then Some (Extend n) else None
-
-abbrev pub named : List ℕ → List ℕ → Option Command
-named name word =
-    if bytes_eq name (codes "goto") then option_map GoTo (place_of word)
-    else if bytes_eq name (codes "until") then option_map Until (place_of word)
-    else if bytes_eq name (codes "limit") then option_and_then limit_in (word_of word)
-    else if bytes_eq name (codes "events") then Some Events
+-- one that stands alone, by its name
+abbrev pub alone : List ℕ → Option Command
+alone name =
+    if bytes_eq name (codes "events") then Some Events
     else if bytes_eq name (codes "inspect") then Some Inspect
     else if bytes_eq name (codes "fork") then Some Fork
-    else if bytes_eq name (codes "event") then Some (Append (event_of word))
-    else if bytes_eq name (codes "live") then option_and_then extend_in (word_of word)
+    else if bytes_eq name (codes "help") then Some Help
     else None
 
-abbrev pub command_in : List ℕ → Option Command
-command_in text = named (before_first is_space text) (after_first is_space text)
+-- one that is about a word
+abbrev pub about : (name word : List ℕ) → Result Command Misread
+about name word =
+    if bytes_eq name (codes "goto") then ok_or (option_map GoTo (place_of word)) Position
+    else if bytes_eq name (codes "until") then ok_or (option_map Until (place_of word)) Position
+    else if bytes_eq name (codes "limit") then ok_or (option_map Limit (positive_of word)) Number
+    else if bytes_eq name (codes "live") then ok_or (option_map Extend (positive_of word)) Number
+    else if bytes_eq name (codes "event") then Ok (Append (event_of word))
+    else Err Name
 
--- the command of a text; help where it is none
-abbrev pub command_of : List ℕ → Command
-command_of text = if is_utf8 text then unwrap_or (command_in text) Help else Help
+-- nothing goes behind one that stands alone
+abbrev pub with_word : (name word : List ℕ) → Result Command Misread
+with_word name word = if is_some (alone name) then Err Superfluous else about name word
+
+-- any other one is about an empty word where none is behind it
+abbrev pub without_word : (name : List ℕ) → Result Command Misread
+without_word name = unwrap_or (option_map Ok (alone name)) (about name [])
+
+abbrev pub command_in : List ℕ → Result Command Misread
+command_in text =
+    if has_space text then with_word (before_first is_space text) (after_first is_space text)
+    else without_word text
+
+-- the command of a text, or why it is none; an empty one asks for help
+abbrev pub command_of : List ℕ → Result Command Misread
+command_of text =
+    if length text == 0 then Ok Help
+    else if is_utf8 text then command_in text
+    else Err Name
 
 -- the fields of its event are in their ranges, where it has one
 abbrev pub IsInRangeEvent : Result Event LineFault → Type 0

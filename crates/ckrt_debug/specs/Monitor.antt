@@ -12,6 +12,8 @@ use Rattle.ckrt_history.specs.Forks.{append_fault}
 use Rattle.ckrt_inspect.specs.Listing.{listing_by}
 use Rattle.ckrt_debug.specs.declared.command.Command.{Command}
 use Rattle.ckrt_debug.specs.declared.command.Command.TheVariants.{Append, Events, Extend, Fork, GoTo, Help, Inspect, Limit, Until}
+use Rattle.ckrt_debug.specs.declared.command.Misread.{Misread}
+use Rattle.ckrt_debug.specs.declared.command.Misread.TheVariants as misread
 use Rattle.ckrt_debug.specs.declared.monitor.TheConstants.{HELP}
 use Rattle.ckrt_debug.specs.declared.stub.Stub.{Stub}
 use Rattle.ckrt_debug.specs.Commands.{command_of}
@@ -113,6 +115,15 @@ abbrev pub made_between : (old new : Stub) → ℕ
 made_between old new =
     length (history_of new.playback).events - length (history_of old.playback).events
 
+-- why a text is no command
+abbrev pub misread_text : Misread → List ℕ
+misread_text misread.Position =
+    codes "no position: it is K or K+S in decimal, as in monitor goto 767+2\n"
+misread_text misread.Number =
+    codes "no number from 1 to 4294967295, as in monitor limit 1000000\n"
+misread_text misread.Superfluous = codes "nothing goes behind this command\n"
+misread_text misread.Name = codes "no such command\n"
+
 -- WHAT IT DOES
 
 -- it makes an event behind the last, if a line has one, and the machine takes it
@@ -139,6 +150,11 @@ Does (Extend most) old new console =
     HasGoneOn most old new × (console ≡ gone_on_text (made_between old new) (gone_on most old).end new)
 Does Help old new console = IsSame old new × (console ≡ HELP.now)
 
+-- a text that is no command changes nothing: it is told why, and which commands there are
+abbrev pub ObeysBy : Result Command Misread → (old new : Stub) → (console : List ℕ) → Type 0
+ObeysBy (Ok command) old new console = Does command old new console
+ObeysBy (Err why) old new console = IsSame old new × (console ≡ misread_text why ++ HELP.now)
+
 -- from old to new it does what a text commands, and tells this
 abbrev pub Obeys : (text : List ℕ) → (old new : Stub) → (console : List ℕ) → Type 0
-Obeys text old new console = Does (command_of text) old new console
+Obeys text old new console = ObeysBy (command_of text) old new console

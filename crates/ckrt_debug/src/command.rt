@@ -1,7 +1,8 @@
 //! What gdb's user commands by `monitor`.
-ghost use Rattle.std.specs.Prelude.{◌≡◌, IfSome};
+ghost use Rattle.std.specs.Prelude.{◌≡◌, IfOk, IfSome, ok_or};
 ghost use Rattle.std.specs.List.{before_first};
-ghost use Rattle.ckrt_debug.specs.Commands.{IsInRangeCommand, IsInRangeEvent, command_in, command_of, event_of, extend_in, is_plus, limit_in, named, number_of, place_of, steps_of, word_in, word_of};
+ghost use Rattle.ckrt_debug.specs.Commands.{IsInRangeCommand, IsInRangeEvent, about, alone, command_in, command_of, event_of, is_plus, number_of, place_of, positive_in, positive_of, steps_of, with_word, without_word, word_in, word_of};
+ghost use Rattle.ckrt_debug.specs.declared.command.Misread.TheVariants.{Number, Position};
 
 use ckrt_events::{Command as LineCommand, Event, LineFault, parse_command};
 
@@ -31,7 +32,21 @@ pub enum Command {
     Append(Result<Event, LineFault>),
     /// To make so many at most behind the last, 1 or more, each the one that is next by turns.
     Extend(u32),
+    /// To tell which commands there are.
     Help,
+}
+
+/// Why a text is no command.
+#[derive(Clone, Copy, Drop)]
+pub enum Misread {
+    /// What it is about is no place.
+    Position,
+    /// What it is about is no number from 1 to 4,294,967,295.
+    Number,
+    /// Something is behind the name of a command that stands alone.
+    Superfluous,
+    /// There is no command of that name.
+    Name,
 }
 
 /// The number of 64 bits that a text is.
@@ -85,26 +100,18 @@ fn place_of(text: &str) -> Option<Place>
     Some(Place { events, steps })
 }
 
-/// A limit of steps, 1 or more.
-fn limit_in(number: u32) -> Option<Command>
-    ensures { result ≡ limit_in number }
+/// A number, if it is 1 or more.
+fn positive_in(number: u32) -> Option<u32>
+    ensures { result ≡ positive_in number }
 {
-    if number > 0 {
-        Some(Command::Limit(number))
-    } else {
-        None
-    }
+    if number > 0 { Some(number) } else { None }
 }
 
-/// A number of events, 1 or more.
-fn extend_in(number: u32) -> Option<Command>
-    ensures { result ≡ extend_in number }
+/// The number from 1 to 4,294,967,295 that a text is.
+fn positive_of(text: &str) -> Option<u32>
+    ensures { result ≡ positive_of text.now }
 {
-    if number > 0 {
-        Some(Command::Extend(number))
-    } else {
-        None
-    }
+    positive_in(word_of(text)?)
 }
 
 /// The event of a line, as a session of `ckrt run` takes it.
@@ -118,50 +125,101 @@ fn event_of(line: &str) -> Result<Event, LineFault>
     }
 }
 
-/// A command by its name and the text behind it.
-fn named(name: &str, word: &str) -> Option<Command>
-    ensures command { result ≡ named name.now word.now }
+/// The place that a command is about.
+fn place_in(word: &str) -> Result<Place, Misread>
+    ensures { result ≡ ok_or (place_of word.now) Position }
+{
+    place_of(word).ok_or(Misread::Position)
+}
+
+/// The number that a command is about.
+fn count_in(word: &str) -> Result<u32, Misread>
+    ensures { result ≡ ok_or (positive_of word.now) Number }
+{
+    positive_of(word).ok_or(Misread::Number)
+}
+
+/// A command that stands alone, by its name.
+fn alone(name: &str) -> Option<Command>
+    ensures command { result ≡ alone name.now }
     ensures in_range { IfSome result IsInRangeCommand }
 {
-    if name == "goto" {
-        Some(Command::GoTo(place_of(word)?))
-    } else if name == "until" {
-        Some(Command::Until(place_of(word)?))
-    } else if name == "limit" {
-        limit_in(word_of(word)?)
-    } else if name == "events" {
+    if name == "events" {
         Some(Command::Events)
     } else if name == "inspect" {
         Some(Command::Inspect)
     } else if name == "fork" {
         Some(Command::Fork)
-    } else if name == "event" {
-        Some(Command::Append(event_of(word)))
-    } else if name == "live" {
-        extend_in(word_of(word)?)
+    } else if name == "help" {
+        Some(Command::Help)
     } else {
         None
     }
 }
 
-/// The command of a text, if it is one.
-fn command_in(text: &str) -> Option<Command>
-    ensures command { result ≡ command_in text.now }
-    ensures in_range { IfSome result IsInRangeCommand }
+/// A command that is about a word, by its name.
+fn about(name: &str, word: &str) -> Result<Command, Misread>
+    ensures command { result ≡ about name.now word.now }
+    ensures in_range { IfOk result IsInRangeCommand }
 {
-    match text.split_once(' ') {
-        Some((name, word)) => named(name, word),
-        None => named(text, ""),
+    if name == "goto" {
+        Ok(Command::GoTo(place_in(word)?))
+    } else if name == "until" {
+        Ok(Command::Until(place_in(word)?))
+    } else if name == "limit" {
+        Ok(Command::Limit(count_in(word)?))
+    } else if name == "live" {
+        Ok(Command::Extend(count_in(word)?))
+    } else if name == "event" {
+        Ok(Command::Append(event_of(word)))
+    } else {
+        Err(Misread::Name)
     }
 }
 
-/// The command of a text; help where it is none.
-pub fn command_of(text: &[u8]) -> Command
-    ensures command { result ≡ command_of text.now }
-    ensures in_range { IsInRangeCommand result }
+/// A command with a word behind its name.
+fn with_word(name: &str, word: &str) -> Result<Command, Misread>
+    ensures command { result ≡ with_word name.now word.now }
+    ensures in_range { IfOk result IsInRangeCommand }
 {
+    match alone(name) {
+        Some(_) => Err(Misread::Superfluous),
+        None => about(name, word),
+    }
+}
+
+/// A command without a word.
+fn without_word(name: &str) -> Result<Command, Misread>
+    ensures command { result ≡ without_word name.now }
+    ensures in_range { IfOk result IsInRangeCommand }
+{
+    match alone(name) {
+        Some(command) => Ok(command),
+        None => about(name, ""),
+    }
+}
+
+/// The command of a text that is UTF-8, or why it is none.
+fn command_in(text: &str) -> Result<Command, Misread>
+    ensures command { result ≡ command_in text.now }
+    ensures in_range { IfOk result IsInRangeCommand }
+{
+    match text.split_once(' ') {
+        Some((name, word)) => with_word(name, word),
+        None => without_word(text),
+    }
+}
+
+/// The command of a text, or why it is none.
+pub fn command_of(text: &[u8]) -> Result<Command, Misread>
+    ensures command { result ≡ command_of text.now }
+    ensures in_range { IfOk result IsInRangeCommand }
+{
+    if text.is_empty() {
+        return Ok(Command::Help);
+    }
     match std::str::from_utf8(text) {
-        Ok(text) => command_in(text).unwrap_or(Command::Help),
-        Err(_) => Command::Help,
+        Ok(text) => command_in(text),
+        Err(_) => Err(Misread::Name),
     }
 }

@@ -7,10 +7,10 @@ ghost use Rattle.ckrt_events.specs.Bytes.{IsInRange};
 ghost use Rattle.ckrt_events.specs.declared.command.LineFault.{LineFault};
 ghost use Rattle.ckrt_events.specs.declared.event.Event.{Event};
 ghost use Rattle.ckrt_debug.specs.Commands.{IsInRangeCommand, IsInRangeEvent};
-ghost use Rattle.ckrt_debug.specs.Monitor.{Does, DoesAppend, Obeys, count_of, count_text, end_text, event_text, gone_on_text, gone_text, limit_text, listing_text, made_text, named_text, range_text, recorded_text, standing_line, steps_text, until_text, why_text};
+ghost use Rattle.ckrt_debug.specs.Monitor.{Does, DoesAppend, Obeys, ObeysBy, count_of, count_text, end_text, event_text, gone_on_text, gone_text, limit_text, listing_text, made_text, misread_text, named_text, range_text, recorded_text, standing_line, steps_text, until_text, why_text};
 ghost use Rattle.ckrt_playback.specs.Playback.{history_of};
 
-use crate::command::{Command, Place, command_of};
+use crate::command::{Command, Misread, Place, command_of};
 use crate::fault::DebugFault;
 use crate::refusals::{push_append_fault, push_line_fault};
 use crate::stub::Stub;
@@ -157,11 +157,35 @@ fn push_count(out: &mut Vec<u8>, made: usize) -> Result<(), AllocError>
     out.extend_from_slice(b"\n")
 }
 
+/// Why a text is no command, and what to do.
+fn misread_text(why: Misread) -> &'static [u8]
+    ensures { result.now ≡ misread_text why }
+{
+    match why {
+        Misread::Position => {
+            b"no position: it is K or K+S in decimal, as in monitor goto 767+2\n".as_slice()
+        }
+        Misread::Number => {
+            b"no number from 1 to 4294967295, as in monitor limit 1000000\n".as_slice()
+        }
+        Misread::Superfluous => b"nothing goes behind this command\n".as_slice(),
+        Misread::Name => b"no such command\n".as_slice(),
+    }
+}
+
 /// The commands that there are.
 fn push_help(out: &mut Vec<u8>) -> Result<(), AllocError>
     ensures { OnOk result (out.new.items ≡ out.old.items ++ HELP.now) }
 {
     out.extend_from_slice(HELP)
+}
+
+/// Why a text is no command, and the commands that there are.
+fn push_misread(out: &mut Vec<u8>, why: Misread) -> Result<(), AllocError>
+    ensures { OnOk result (out.new.items ≡ out.old.items ++ (misread_text why ++ HELP.now)) }
+{
+    out.extend_from_slice(misread_text(why))?;
+    push_help(out)
 }
 
 impl Stub {
@@ -366,6 +390,17 @@ impl Stub {
         Ok(self)
     }
 
+    /// Tells why a text is no command, and the commands that there are.
+    fn tell_misread(self, why: Misread, out: &mut Vec<u8>) -> Result<Stub, DebugFault>
+        ensures does { IfOk result (λ stub. (console : List ℕ)
+            × ObeysBy (Err why) self stub console
+            × (out.new.items ≡ out.old.items ++ console)) }
+        ensures fault { IfErr result (λ e. e ≡ OutOfMemory) }
+    {
+        push_misread(out, why)?;
+        Ok(self)
+    }
+
     /// Does a command. What is told goes behind what is in `out`.
     fn perform(self, command: Command, out: &mut Vec<u8>) -> Result<Stub, DebugFault>
         requires { IsInRangeCommand command }
@@ -400,6 +435,9 @@ impl Stub {
             → AllAccepted (history_of self.playback).events (history_of self.playback).start → ⊥ }
         ensures fault { IfErr result (λ e. (e ≡ Refused) ⊎ (e ≡ OutOfMemory)) }
     {
-        self.perform(command_of(text), out)
+        match command_of(text) {
+            Ok(command) => self.perform(command, out),
+            Err(why) => self.tell_misread(why, out),
+        }
     }
 }

@@ -23,11 +23,21 @@ use std::alloc::Global;
 ///
 /// The run is replayed once somebody moves, since a debugger waits a few seconds only for its first answers. All memory is taken by
 /// [`Stub::new`], but that of the texts that a `monitor` gets.
-#[derive(Drop)]
 pub struct Stub {
     pub(crate) alloc: Global,
     pub(crate) playback: Playback,
     pub(crate) desk: Desk,
+}
+
+/// Written out, so that whoever lets a session go needs no proof about each of its parts.
+impl Drop for Stub {
+    fn drop(self) {
+        let Stub {
+            alloc: _,
+            playback: _,
+            desk: _,
+        } = self;
+    }
 }
 
 impl Stub {
