@@ -8,6 +8,7 @@ from begun import Begun
 from damage import refuse_event
 from glances import recording_of
 from histories import recorded_disk
+from mistyped import HELP, LIST, drawn_mistake, kinds_of_mistakes, text_of_packet, with_lists
 from motions import named
 from recovery import Unrecovered
 from stubs import Look, Visits, answers_in, frame, is_answered, line_of_events, live_threads, monitor
@@ -36,10 +37,11 @@ class DebuggedCase:
         return bytearray(self.contents)
 
 
-def drawn_look(chance, position, pages):
+def drawn_look(chance, position, pages, is_event=True):
     reads = [(chance.choice([0, 4095, 4096, 0x2000, 0xF000, 4096 * pages - chance.choice([0, 1, 8]), chance.randrange(1 << 32)]),
               chance.choice([1, 4, 16, 64, 2048, 4000])) for _ in range(2)]
-    return Look(position, [*range(1, 7), chance.randrange(7, 65)], reads)
+    mistyped = [drawn_mistake(chance, is_event) for _ in range(chance.choice([0, 1, 2, 4]))]
+    return Look(position, [*range(1, 7), chance.randrange(7, 65)], reads, mistyped)
 
 
 def debugged_case(chance, case):
@@ -62,7 +64,7 @@ def visiting_case(chance, case, disk, recording):
         event = chance.choice(list(steps))
         places.append((event, chance.randrange(steps[event])))
     nowhere = [(event, steps[event] + chance.choice([0, 1])) for event in chance.sample(list(steps), min(2, len(steps)))]
-    nowhere += [(whole, 1), (whole + 1, 0), *([(first - 1, 0)] if first else [])]
+    nowhere += [(whole, 1), (whole + 1, 0), (whole, 2 ** 32 - 1), (2 ** 64 - 1, 2 ** 32 - 1), *([(first - 1, 0)] if first else [])]
     chance.shuffle(places)
     return DebuggedCase(bytes(disk), [drawn_look(chance, place, case.geometry.pages) for place in places], nowhere)
 
@@ -74,7 +76,7 @@ def refused_case(chance, case, disk):
         first, whole = begun.first, begun.whole
     except Unrecovered:
         first = whole = 0
-    looks = [drawn_look(chance, (first, 0), case.geometry.pages) for _ in range(chance.choice([1, 1, 2]))]
+    looks = [drawn_look(chance, (first, 0), case.geometry.pages, is_event=False) for _ in range(chance.choice([1, 1, 2]))]
     motions = chance.sample(MOTIONS, chance.choice([0, 1, 1, 2]))
     at = chance.choice([None] * 7 + [first, whole, whole + 1])
     settings = chance.sample(SETTINGS, chance.randrange(5))
@@ -86,7 +88,7 @@ def packets_of(case):
     packets = [packet for look in case.looks for packet in look.packets()]
     packets += [monitor(f"goto {event}+{step}") for event, step in case.nowhere]
     packets += [packet for look in case.first_looks for packet in look.questions()]
-    packets += [packet for packet, _, _ in case.settings] + case.motions
+    packets += [packet for packet, _, _ in case.settings] + [HELP] + case.motions
     return [*([] if case.is_acknowledged else ["QStartNoAckMode"]), *packets, "D"]
 
 
@@ -96,7 +98,7 @@ def expected_visits(case, recording):
     visits = Visits(case.looks, ends)
     visits.visit((recording.whole, 0), recording.made_up_to(visits), None)
     stays = NOWHERE + line_of_events(case.looks[-1].position, ends)
-    return [*[answer for answers in visits.answers() for answer in answers], *[(stays, "OK")] * len(case.nowhere)]
+    return [*[answer for answers in visits.answers() for answer in answers], *[(stays, "OK")] * len(case.nowhere), (LIST, "OK")]
 
 
 def expected_looks(case, begun):
@@ -105,14 +107,14 @@ def expected_looks(case, begun):
     for look in case.first_looks:
         answers += look.told(machine, (begun.first, begun.whole), examined)
         examined = next((number for number in reversed(look.threads) if number in live_threads(machine)), examined)
-    return answers + [(told, payload) for _, told, payload in case.settings]
+    return answers + [(told, payload) for _, told, payload in case.settings] + [(LIST, "OK")]
 
 
 def unlike(packets, expected, got):
     """None, or the first packet whose answer isn't as expected."""
     for packet, wanted, there in zip(packets, expected, got):
         if not is_answered(wanted, there):
-            return f"packet {packet}: model {wanted}, program {there}"
+            return f"packet {text_of_packet(packet)}: model {wanted}, program {there}"
     if len(got) != len(expected):
         return f"{len(expected)} answers of the model, {len(got)} of the program"
     return None
@@ -159,7 +161,7 @@ def difference_of_outcomes(packets, expected, got):
     """None, or where two sessions differ."""
     if (got.status, got.fault, got.signs) != (expected.status, expected.fault, expected.signs):
         return f"model {expected.status, expected.fault, expected.signs}, program {got.status, got.fault, got.signs}"
-    return unlike(packets, expected.answers, got.answers)
+    return unlike(packets, with_lists(packets, expected.answers, got.answers), got.answers)
 
 
 def kind_of_outcome(case, outcome):
@@ -173,5 +175,6 @@ def difference_of_debugged(ckrt, case, path, tally):
     path.write_bytes(case.contents)
     expected, got = outcome_of_model(case), outcome_of_program(ckrt, case, path)
     tally["debug", kind_of_outcome(case, expected)] += 1
+    tally.update(kinds_of_mistakes(expected.answers))
     difference = difference_of_outcomes(packets_of(case), expected, got)
     return difference or (None if path.read_bytes() == case.contents else "debug changed the disk's bytes")

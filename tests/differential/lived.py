@@ -9,6 +9,7 @@ from guests import RETURN
 from histories import recorded_disk
 from hunted import Hunted
 from listing import lines_of_state
+from mistyped import HELP, LIST, drawn_mistake, kinds_of_mistakes, spelled, text_of_packet, with_lists
 from motions import Stops, backward, onward, text_of_stop, thread_of_stop
 from moved import is_any, told_at
 from sharers import Sharer
@@ -59,6 +60,14 @@ class Script:
     def tell(self, command, text):
         self.ask(monitor(command), (text, "OK"))
 
+    def written(self, command):
+        return spelled(self.chance, command)
+
+    def mistype(self):
+        """The history stays, and where it stands."""
+        self.ask(*drawn_mistake(self.chance))
+        self.events()
+
     def place(self):
         story = self.story
         event = self.chance.choice([story.first, story.last, story.recorded, self.chance.randint(story.first, story.last)])
@@ -72,7 +81,7 @@ class Script:
     def go(self, place):
         """Where it goes is told, and the stop behind it is a plain one."""
         self.story.goto(place)
-        self.tell(f"goto {position_text(place)}", self.story.place_text())
+        self.tell(self.written(f"goto {position_text(place)}"), self.story.place_text())
         self.why()
 
     def why(self):
@@ -110,7 +119,7 @@ class Script:
 
     def live(self):
         most, before = self.chance.choice([1, 1, 2, 3, 5, 20, 100]), self.story.last
-        self.tell(f"live {most}", self.story.live(most))
+        self.tell(self.written(f"live {most}"), self.story.live(most))
         if self.story.last > before:
             self.why()
 
@@ -151,7 +160,7 @@ class Script:
             self.ask(self.stops.packets()[-1], ("", "OK"))
 
     def play(self, count):
-        kinds = {self.goto: 4, self.goto_nowhere: 1, self.events: 1, self.fork: 4, self.goto_end: 4, self.event: 8, self.live: 8,
+        kinds = {self.goto: 4, self.goto_nowhere: 1, self.events: 1, self.fork: 4, self.goto_end: 4, self.event: 8, self.live: 8, self.mistype: 6,
                  self.inspect: 3, self.look: 2, self.motion: 4, self.stop_at: 2}
         try:
             for kind in self.chance.choices(list(kinds), kinds.values(), k=count):
@@ -178,19 +187,19 @@ def lived_case(chance, case):
 
 
 def packets_of(case):
-    return ["QStartNoAckMode", *[packet for packet, _ in case.asked], "D"]
+    return ["QStartNoAckMode", *[packet for packet, _ in case.asked], HELP, "D"]
 
 
 def difference_of_answers(case, got, tally):
     """None, or the first packet whose answer isn't as expected."""
-    packets, expected = packets_of(case), [("", "OK"), *[answer for _, answer in case.asked], ("", "OK")]
-    for number, (packet, wanted, there) in enumerate(zip(packets, expected, got)):
-        if isinstance(wanted, tuple) and wanted[0]:
+    packets, expected = packets_of(case), [("", "OK"), *[answer for _, answer in case.asked], (LIST, "OK"), ("", "OK")]
+    tally.update(kinds_of_mistakes(expected))
+    for number, (packet, wanted, there) in enumerate(zip(packets, with_lists(packets, expected, got), got)):
+        if isinstance(wanted, tuple) and wanted[0] and LIST not in expected[number][0]:
             lines = [] if packet.startswith(monitor("inspect")) else wanted[0].splitlines()
             tally.update(("told by monitor", kind_of_line(line)) for line in lines)
         if not (is_any if isinstance(wanted, list) else is_answered)(wanted, there):
-            asked = bytes.fromhex(packet[6:]).decode() if packet.startswith("qRcmd,") else packet
-            return f"packet {number}, {asked}: model {wanted}, program {there}"
+            return f"packet {number}, {text_of_packet(packet)}: model {wanted}, program {there}"
     return None if len(got) == len(expected) else f"{len(expected)} answers of the model, {len(got)} of the program"
 
 

@@ -5,6 +5,7 @@ from dataclasses import dataclass
 from debugged import TIME_LIMIT
 from glances import recording_of
 from histories import recorded_disk
+from mistyped import HELP, LIST, answer_to, drawn_mistake, kinds_of_mistakes, text_of_packet, with_lists
 from motions import BEGIN, END, Steps, Stops, backward, named, next_step, onward, text_of_stop, thread_of_stop, threads_at
 from stubs import answers_in, frame, is_answered, line_of_events, monitor, position_text
 
@@ -13,7 +14,7 @@ MOTIONS = {"vCont;c": onward, "bc": backward}
 
 @dataclass
 class MovedCase:
-    """The ways are lists of motions, each from a position."""
+    """The ways are lists of motions, each from a position, and of what is mistyped between them."""
     contents: bytes
     stops: Stops
     ways: list
@@ -39,7 +40,12 @@ def moved_case(chance, case):
     watches = [(chance.choice(changed) - chance.choice([0, 0, 1]), chance.choice([1, 1, 2, 4])) for _ in range(chance.choice([0, 1, 1, 2]))]
     ways = [(chance.choice(steps).before, chance.choices(list(MOTIONS), k=chance.choice([1, 2, 4]))) for _ in range(3)]
     ways += [((recording.first, 0), ["vCont;c"] * 3), ((recording.whole, 0), ["bc"] * 2)]
-    return MovedCase(bytes(disk), Stops(places, watches), ways)
+    return MovedCase(bytes(disk), Stops(places, watches), [(place, with_mistakes(chance, motions)) for place, motions in ways])
+
+
+def with_mistakes(chance, motions):
+    """Before some of the motions something is mistyped."""
+    return [packet for motion in motions for packet in [*[drawn_mistake(chance)[0] for _ in range(chance.choice([0, 0, 1, 2]))], motion]]
 
 
 def packets_of(case):
@@ -49,7 +55,7 @@ def packets_of(case):
         asked.append(monitor(f"goto {position_text(place)}"))
         for motion in motions:
             asked += [motion, monitor("events")]
-    return ["QStartNoAckMode", *case.stops.packets(), *asked, "D"]
+    return ["QStartNoAckMode", *case.stops.packets(), *asked, HELP, "D"]
 
 
 def named_at(steps, place, before):
@@ -71,12 +77,15 @@ def expected_motions(case, recording):
         before = named_at(steps, place, before)
         expected.append([(line_of_events(place, (recording.first, recording.whole)), "OK")])
         for motion in motions:
-            place, answers = MOTIONS[motion](steps, case.stops, place, ends[motion == "vCont;c"])
-            answers = told_at(answers, named_at(steps, place, before))
-            before = thread_of_stop(answers[0])
-            expected.append([("", answer) for answer in answers])
+            if motion in MOTIONS:
+                place, answers = MOTIONS[motion](steps, case.stops, place, ends[motion == "vCont;c"])
+                answers = told_at(answers, named_at(steps, place, before))
+                before = thread_of_stop(answers[0])
+                expected.append([("", answer) for answer in answers])
+            else:
+                expected.append([answer_to(bytes.fromhex(motion.partition(",")[2]))])
             expected.append([(line_of_events(place, (recording.first, recording.whole)), "OK")])
-    return [*expected, [("", "OK")]]
+    return [*expected, [(LIST, "OK")], [("", "OK")]]
 
 
 def is_any(expected, got):
@@ -93,9 +102,10 @@ def difference_of_moved(ckrt, case, path, tally):
     packets, expected = packets_of(case), expected_motions(case, recording)
     done = subprocess.run([ckrt, "debug", path], input=b"".join(map(frame, packets)), capture_output=True, timeout=TIME_LIMIT)
     got = answers_in(done.stdout)
-    for number, (packet, wanted, there) in enumerate(zip(packets, expected, got)):
+    tally.update(kinds_of_mistakes(expected))
+    for number, (packet, wanted, there) in enumerate(zip(packets, with_lists(packets, expected, got), got)):
         if packet in MOTIONS:
             tally["motion", f"{packet} {there[1].partition(':')[0].partition('thread')[0]}"] += 1
         if not is_any(wanted, there):
-            return f"packet {number}, {packet}: model {wanted}, program {there}"
+            return f"packet {number}, {text_of_packet(packet)}: model {wanted}, program {there}"
     return None if len(got) == len(expected) else f"{len(expected)} answers of the model, {len(got)} of the program"

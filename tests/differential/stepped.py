@@ -6,6 +6,7 @@ from dataclasses import dataclass
 from debugged import TIME_LIMIT
 from glances import recording_of
 from histories import recorded_disk
+from mistyped import HELP, LIST, drawn_mistake, kinds_of_mistakes, spelled, text_of_packet, with_lists
 from motions import (Stops, backward, end_of_steps, named, next_step, onward, stepped, stepped_back, steps_of_thread, text_of_stop,
                      thread_of_stop, threads_at)
 from moved import is_any, steps_of, told_at
@@ -39,7 +40,15 @@ class Way:
         self.counts = Counter(step.before[0] for step in steps)
 
     def tell(self, command, text):
-        self.asked.append((monitor(command), [(text + "\n", "OK")]))
+        self.asked.append((monitor(self.written(command)), [(text + "\n", "OK")]))
+
+    def written(self, command):
+        return spelled(self.chance, command)
+
+    def mistype(self):
+        """Nothing comes of it, and that is seen in what the next motions do."""
+        packet, answer = drawn_mistake(self.chance)
+        self.asked.append((packet, [answer]))
 
     def place_text(self):
         return line_of_events(self.place, (self.first, self.whole)).strip()
@@ -157,6 +166,8 @@ def stepped_case(chance, case):
         for change in (way.goto, way.set_until, way.set_limit):
             if change == way.goto or chance.random() < 0.3:
                 change()
+            if chance.random() < 0.3:
+                way.mistype()
         for _ in range(chance.choice([1, 3, 5])):
             way.move()
     return SteppedCase(bytes(disk), way.asked)
@@ -167,14 +178,14 @@ def difference_of_stepped(ckrt, case, path, tally):
     if not case.asked:
         return None
     path.write_bytes(case.contents)
-    packets = ["QStartNoAckMode", *[packet for packet, _ in case.asked], "D"]
-    expected = [[("", "OK")], *[answers for _, answers in case.asked], [("", "OK")]]
+    packets = ["QStartNoAckMode", *[packet for packet, _ in case.asked], HELP, "D"]
+    expected = [[("", "OK")], *[answers for _, answers in case.asked], [(LIST, "OK")], [("", "OK")]]
     done = subprocess.run([ckrt, "debug", path], input=b"".join(map(frame, packets)), capture_output=True, timeout=TIME_LIMIT)
     got = answers_in(done.stdout)
-    for number, (packet, answers, there) in enumerate(zip(packets, expected, got)):
+    tally.update(kinds_of_mistakes(expected))
+    for number, (packet, answers, there) in enumerate(zip(packets, with_lists(packets, expected, got), got)):
         if packet.startswith(("vCont", "b")):
             tally["motion of a thread", f"{packet.partition(':')[0]} {there[1].partition(':')[0].partition('thread')[0]}"] += 1
         if not is_any(answers, there):
-            asked = bytes.fromhex(packet[6:]).decode() if packet.startswith("qRcmd,") else packet
-            return f"packet {number}, {asked}: model {answers}, program {there}"
+            return f"packet {number}, {text_of_packet(packet)}: model {answers}, program {there}"
     return None if len(got) == len(expected) else f"{len(expected)} answers of the model, {len(got)} of the program"

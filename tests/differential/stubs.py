@@ -1,7 +1,7 @@
 """What `ckrt debug` answers of the state at a position: to gdb's packets that neither move nor set anything, and to `monitor`."""
 import re
 from copy import deepcopy
-from dataclasses import dataclass
+from dataclasses import dataclass, field
 
 from abi import PAGE
 from listing import lines_of_state
@@ -18,7 +18,7 @@ def frame(payload):
 
 
 def monitor(text):
-    return "qRcmd," + text.encode().hex()
+    return "qRcmd," + (text if isinstance(text, bytes) else text.encode()).hex()
 
 
 def answers_in(output):
@@ -80,17 +80,19 @@ def line_of_events(position, ends):
 
 @dataclass
 class Look:
-    """What is asked at a position, of threads, by their numbers, and of memory, by address and length; and where nobody has moved yet."""
+    """What is asked at a position, of threads, by their numbers, and of memory, by address and length; and where nobody has moved yet.
+    Before all that something is mistyped at times: packets of which nothing comes, and their answers."""
     position: tuple
     threads: list
     reads: list
+    mistyped: list = field(default_factory=list)
 
     def packets(self):
         """Behind a motion it is asked why the session stands, too."""
         return [monitor(f"goto {position_text(self.position)}"), "?", *self.questions()]
 
     def questions(self):
-        asked = [monitor("events"), monitor("inspect"), "qfThreadInfo"]
+        asked = [*[packet for packet, _ in self.mistyped], monitor("events"), monitor("inspect"), "qfThreadInfo"]
         for number in self.threads:
             asked += [f"T{number:x}", f"qThreadExtraInfo,{number:x}", f"Hg{number:x}", "g"]
         return asked + [f"m{address:x},{length:x}" for address, length in self.reads]
@@ -102,7 +104,7 @@ class Look:
     def told(self, machine, ends, examined):
         """To the questions alone."""
         listing = "".join(line + "\n" for line in lines_of_state(self.position[0], machine, machine.hart_count))
-        answers = [(line_of_events(self.position, ends), "OK"), (listing, "OK"),
+        answers = [*[answer for _, answer in self.mistyped], (line_of_events(self.position, ends), "OK"), (listing, "OK"),
                    ("", "m" + ",".join(f"{number:x}" for number in told_threads(machine)))]
         for number in self.threads:
             examined = number if number in told_threads(machine) else examined

@@ -117,21 +117,21 @@ class Sessions(WithKeys):
         self.assertEqual(answers[3:7], [("", "m1"), ("", "E01"), ("", "E01"), ("", "E01")])
         self.assertEqual(answers[8:11], [("", "OK"), ("", b"ready".hex()), ("", "OK")])
         self.assertEqual({answers[place] for place in (7, 11, 15)}, {answers[7]})
-        self.assertEqual((len(answers), answers[7][1][-8:], answers[16][1]), (17, "00100000", image_of(call(Call.SELF))[:4].hex()))
+        self.assertEqual((len(answers), answers[7][1][-8:], answers[16][1]), (18, "00100000", image_of(call(Call.SELF))[:4].hex()))
 
     def test_examined(self):
         """One look behind another begins with whom gdb has named last of those that are there."""
         self.looks = [Look((0, 0), [1, 9], []), Look((0, 0), [9], [])]
         answers = outcome_of_model(self.case("bc")).answers
-        self.assertEqual((len(answers), answers[-1], answers[7][1][-8:]), (19, answers[7], "00100000"))
+        self.assertEqual((len(answers), answers[-2], answers[7][1][-8:]), (20, answers[7], "00100000"))
 
     def test_ends(self):
         """By a motion, whose sign is the last that is told; else as gdb leaves."""
         for motions, status, fault, more in [((), 0, "", 1), (("bs",), 1, "ckrt: Damaged", 0), (("bc", "vCont;c"), 1, "ckrt: Damaged", 0)]:
             outcome = outcome_of_model(self.case(*motions))
-            self.assertEqual((outcome.status, outcome.fault, outcome.signs, len(outcome.answers)), (status, fault, "+", 17 + more))
+            self.assertEqual((outcome.status, outcome.fault, outcome.signs, len(outcome.answers)), (status, fault, "+", 18 + more))
             outcome = outcome_of_model(self.case(*motions, is_acknowledged=True))
-            self.assertEqual((outcome.status, outcome.fault, outcome.signs, len(outcome.answers)), (status, fault, "+" * 17, 16 + more))
+            self.assertEqual((outcome.status, outcome.fault, outcome.signs, len(outcome.answers)), (status, fault, "+" * 18, 17 + more))
 
     def test_none(self):
         """With a position to begin at, and of a disk that is damaged otherwise."""
@@ -143,13 +143,13 @@ class Sessions(WithKeys):
     def test_settings(self):
         case = self.case("bc")
         case.settings = [("Hc1", "", "OK"), (monitor("limit 7"), "limit 7\n", "OK")]
-        self.assertEqual(packets_of(case)[-4:], ["Hc1", monitor("limit 7"), "bc", "D"])
-        self.assertEqual(outcome_of_model(case).answers[-2:], [("", "OK"), ("limit 7\n", "OK")])
+        self.assertEqual(packets_of(case)[-5:], ["Hc1", monitor("limit 7"), monitor("help"), "bc", "D"])
+        self.assertEqual(outcome_of_model(case).answers[-3:-1], [("", "OK"), ("limit 7\n", "OK")])
 
     def test_recovered(self):
         case = DebuggedCase(bytes(disk_with(PLACE)), [Look((1, 0), [], []), Look((0, 0), [], [])], [(1, 1)])
         outcome = outcome_of_model(case)
-        self.assertEqual((outcome.status, outcome.fault, len(outcome.answers), len(packets_of(case))), (0, "", 13, 13))
+        self.assertEqual((outcome.status, outcome.fault, len(outcome.answers), len(packets_of(case))), (0, "", 14, 14))
         self.assertEqual(outcome.answers[1:3], [("event 1, from 0 to 1\n", "OK"), ("", "T05thread:1;")])
         self.assertEqual(outcome.answers[11], ("no such position\nevent 0, from 0 to 1\n", "OK"))
 

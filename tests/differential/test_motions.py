@@ -197,6 +197,7 @@ class Ways(TwoThreads):
     def setUp(self):
         super().setUp()
         self.way = Way(Random(1), self.recording, self.steps, Stops([], []))
+        self.way.written = lambda command: command
 
     def stand(self, place, named_before=1, until=None, limit=None):
         self.way.place, self.way.named, self.way.until, self.way.limit = place, named_before, until, limit

@@ -16,6 +16,7 @@ from stories import MOST_STEPS, Story, TooLong, make
 from stretches import Recording
 from stubs import monitor
 from switches import switched
+from test_mistyped import LISTED
 from test_races import call, load, recording_of
 
 NOT_AT_END = "not at the end of the history: monitor fork ends it here"
@@ -255,6 +256,7 @@ class Scripts(WithKeys):
     def setUp(self):
         super().setUp()
         self.script = Script(Random(1), Story(recording_of([(2, load()), (1, load())], threads=1)))
+        self.script.written = lambda command: command
 
     def test_stops(self):
         """Behind going somewhere, and behind an event or a turn, it is asked why the session stands."""
@@ -285,9 +287,10 @@ class Scripts(WithKeys):
 
     def test_answers(self):
         case = LivedCase(b"", [], [("?", ("", "T05thread:2;")), ("bc", [("", "T05replaylog:begin;thread:")]), ("g", None)])
-        right = [("", "OK"), ("", "T05thread:2;"), ("", "T05replaylog:begin;thread:9;"), ("", "00"), ("", "OK")]
+        right = [("", "OK"), ("", "T05thread:2;"), ("", "T05replaylog:begin;thread:9;"), ("", "00"), (LISTED, "OK"), ("", "OK")]
         self.assertIsNone(difference_of_answers(case, right, Counter()))
-        for place, wrong in [(1, ("", "T05thread:1;")), (1, ("x", "T05thread:2;")), (2, ("", "T05thread:9;")), (0, ("", "E01")), (4, ("", "E01"))]:
+        for place, wrong in [(1, ("", "T05thread:1;")), (1, ("x", "T05thread:2;")), (2, ("", "T05thread:9;")), (0, ("", "E01")), (4, ("", "E01")), (4, ("", "OK")),
+                             (5, ("", "E01"))]:
             self.assertIsNotNone(difference_of_answers(case, [*right[:place], wrong, *right[place + 1:]], Counter()), place)
         self.assertIsNotNone(difference_of_answers(case, right[:-1], Counter()))
 
