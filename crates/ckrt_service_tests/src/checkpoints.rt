@@ -1,13 +1,27 @@
-//! Checkpoints by lines.
+//! Whole checkpoints of a session: what they save and empty, what each stop of one leaves, and how the next life goes on.
 
-use crate::expect::{expect_eq, memory_disk, stopping_disk};
-use crate::service::expect_replies;
-use crate::sessions::expect_checkpoint;
+use crate::expect::{copied, expect_eq, expect_eq_at, stopping_disk};
+use crate::power_loss::{confirm, fill_batch};
+use crate::sessions::{
+    expect_answer, expect_checkpoint, expect_commit, expect_output, expect_refusal,
+};
 use crate::small_disk::{formatted, recovered, recovered_in_memory};
-use ckrt_disk::Disk;
-use ckrt_recovery::{CommitFault, Session};
-use ckrt_test_data::IMAGE;
+use crate::two_areas::save_once;
+use ckrt_disk::{Disk, MemoryDisk, StoppingDisk};
+use ckrt_events::Event;
+use ckrt_machine::{Answer, RunEnd};
+use ckrt_recovery::{CommitFault, Session, SubmitFault};
+use ckrt_test_data::{FILLS, IMAGE};
 use std::process::Abort;
+
+/// The calls of the disk up to the second checkpoint: a sync of recovery, 4 of a commit, 21 of a checkpoint, 4 of a commit.
+const CALLS_BEFORE: u64 = 30;
+
+/// Those of the second checkpoint before the gate is opened: 2 that close it, and 4, since no page has changed; then the gate
+/// and its sync.
+const CALLS_BEFORE_GATE: u64 = 36;
+
+const CALLS: u64 = 38;
 
 /// The generation in use, and how many bytes the journal has left for batches.
 fn expect_journal<R: Abort, D: Disk>(rt: &R, session: &Session<D>, generation: u64, room: usize) {
@@ -16,42 +30,123 @@ fn expect_journal<R: Abort, D: Disk>(rt: &R, session: &Session<D>, generation: u
 }
 
 #[test]
-fn a_line_checkpoint_is_acknowledged(rt: HostRuntime) {
+fn a_checkpoint_empties_the_journal(rt: HostRuntime) {
     let mut session = recovered_in_memory(&rt, formatted(&rt, &IMAGE));
-    expect_replies(
-        &rt,
-        &mut session,
-        b"place 0 1\nrun 0 6\ncheckpoint\ncheckpoint\n",
-        b"ok 1 placed\nok 2 ran 6 end\nack 2\nout 0 41\nack 2\n",
-    );
-    expect_journal(&rt, &session, 3, 4_095);
-    let mut session = recovered(&rt, session.into_disk());
-    expect_replies(&rt, &mut session, b"run 0 1\n", b"no 1 Ended\n");
+    let tick = Event::Tick(1);
+    fill_batch(&rt, &mut session);
+    expect_refusal(&rt, &mut session, &tick, SubmitFault::BatchFull);
+    expect_refusal(&rt, &mut session, &Event::Eof, SubmitFault::JournalFull);
+    expect_commit(&rt, &mut session, Ok(62));
+    expect_journal(&rt, &session, 1, 0);
+    expect_refusal(&rt, &mut session, &tick, SubmitFault::JournalFull);
+    expect_checkpoint(&rt, &mut session, Ok(62));
+    expect_journal(&rt, &session, 2, 4_095);
+    expect_answer(&rt, &mut session, &tick, 63, Answer::Ticked(0));
+}
+
+/// The session of the next life.
+fn next_life<R: Abort + AllocGlobal>(rt: &R, session: Session<MemoryDisk>) -> Session<MemoryDisk> {
+    recovered(rt, session.into_disk())
+}
+
+/// The program is placed and runs to its end.
+fn run_to_the_end<R: Abort, D: Disk>(rt: &R, session: &mut Session<D>) {
+    expect_answer(rt, session, &Event::Place(0, 1), 1, Answer::Placed);
+    let ended = Answer::Ran(6, RunEnd::End);
+    expect_answer(rt, session, &Event::Run(0, 6), 2, ended);
 }
 
 #[test]
-fn a_line_checkpoint_is_refused(rt: HostRuntime) {
-    let disk = stopping_disk(&rt, formatted(&rt, &IMAGE), 2, &[]);
+fn output_is_held_over_a_checkpoint(rt: HostRuntime) {
+    let mut session = recovered_in_memory(&rt, formatted(&rt, &IMAGE));
+    run_to_the_end(&rt, &mut session);
+    expect_checkpoint(&rt, &mut session, Ok(2));
+    let mut session = next_life(&rt, session);
+    expect_output(&rt, &mut session, 0, &[0x41]);
+    confirm(&rt, &mut session, 1);
+    expect_output(&rt, &mut session, 1, &[]);
+    let mut session = next_life(&rt, session);
+    expect_output(&rt, &mut session, 0, &[0x41]);
+}
+
+/// That many writes and syncs were made.
+fn expect_calls<R: Abort>(rt: &R, session: &Session<StoppingDisk>, calls: u64) {
+    expect_eq(rt, session.disk().calls(), calls);
+}
+
+/// A commit and a checkpoint, and how many calls were made then.
+fn expect_committed<R: Abort>(
+    rt: &R,
+    session: &mut Session<StoppingDisk>,
+    count: u64,
+    committed: u64,
+    saved: u64,
+) {
+    expect_commit(rt, session, Ok(count));
+    expect_calls(rt, session, committed);
+    expect_checkpoint(rt, session, Ok(count));
+    expect_calls(rt, session, saved);
+}
+
+#[test]
+fn a_checkpoint_makes_its_calls(rt: HostRuntime) {
+    let disk = stopping_disk(&rt, formatted(&rt, &IMAGE), 0, &[]);
     let mut session = recovered(&rt, disk);
-    let lines = b"checkpoint\ncheckpoint\n";
-    expect_replies(&rt, &mut session, lines, b"no 25 Device\nno 21 Failed\n");
+    expect_calls(&rt, &session, 1);
+    expect_answer(&rt, &mut session, &Event::Place(0, 1), 1, Answer::Placed);
+    expect_committed(&rt, &mut session, 1, 5, 26);
+    let ran = Answer::Ran(2, RunEnd::On);
+    expect_answer(&rt, &mut session, &Event::Run(0, 2), 2, ran);
+    // The gate of area 0 is open: 2 calls more.
+    expect_committed(&rt, &mut session, 2, CALLS_BEFORE, CALLS);
+    expect_journal(&rt, &session, 3, 4_095);
 }
 
-/// The image of a disk whose area in use has the last generation.
-fn last_generation<R: Abort + AllocGlobal>(rt: &R) -> Vec<u8> {
-    let mut image = formatted(rt, &IMAGE);
-    assert!(rt; image.len() >= 4_112);
-    image.as_mut_slice()[4_104..4_112].copy_from_slice(&[0xff; 8]);
-    image
+/// What a stop at a call of the second checkpoint leaves.
+fn stopped<R: Abort + AllocGlobal>(rt: &R, image: &[u8], at_call: u64, fill: &[u8]) -> Vec<u8> {
+    let mut session = recovered(rt, stopping_disk(rt, copied(rt, image), at_call, fill));
+    save_once(rt, &mut session);
+    expect_checkpoint(rt, &mut session, Err(CommitFault::Device));
+    expect_refusal(rt, &mut session, &Event::Run(0, 1), SubmitFault::Failed);
+    expect_checkpoint(rt, &mut session, Err(CommitFault::Failed));
+    session.into_disk().into_image()
+}
+
+/// It recovers to the two events, of this generation, and goes on from them.
+fn expect_left<R: Abort + AllocGlobal>(
+    rt: &R,
+    image: &[u8],
+    at_call: u64,
+    fill: &[u8],
+    generation: u64,
+) {
+    let mut session = recovered_in_memory(rt, stopped(rt, image, at_call, fill));
+    expect_eq_at(rt, at_call, session.acknowledged(), 2);
+    expect_eq_at(rt, at_call, session.generation(), generation);
+    let ended = Answer::Ran(4, RunEnd::End);
+    expect_answer(rt, &mut session, &Event::Run(0, 9), 3, ended);
+    expect_commit(rt, &mut session, Ok(3));
+    expect_output(rt, &mut session, 0, &[0x41]);
+}
+
+/// Each stop of the second checkpoint. The new area is in use where its gate was left open.
+fn expect_stops<R: Abort + AllocGlobal>(rt: &R, image: &[u8], fill: &[u8]) {
+    for call in CALLS_BEFORE..CALLS_BEFORE_GATE {
+        expect_left(rt, image, call.saturating_add(1), fill, 2);
+    }
+    let generation = match fill.first() {
+        Some(byte) if *byte != 0xa5 => 2,
+        _ => 3,
+    };
+    for call in CALLS_BEFORE_GATE..CALLS {
+        expect_left(rt, image, call.saturating_add(1), fill, generation);
+    }
 }
 
 #[test]
-fn the_last_generation_is_the_last(rt: HostRuntime) {
-    let mut session = recovered(&rt, memory_disk(&rt, last_generation(&rt)));
-    expect_journal(&rt, &session, u64::MAX, 4_095);
-    expect_checkpoint(&rt, &mut session, Err(CommitFault::GenerationsUsed));
-    let lines = b"checkpoint\nplace 0 1\ncommit\n";
-    let want = b"no 26 GenerationsUsed\nok 1 placed\nack 1\n";
-    expect_replies(&rt, &mut session, lines, want);
-    expect_journal(&rt, &session, u64::MAX, 4_089);
+fn every_call_of_a_second_checkpoint_is_stopped(rt: HostRuntime) {
+    let image = formatted(&rt, &IMAGE);
+    for fill in FILLS {
+        expect_stops(&rt, image.as_slice(), fill);
+    }
 }

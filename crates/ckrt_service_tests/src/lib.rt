@@ -1,4 +1,5 @@
-//! Tests of the service over a disk, of guests from lines to replies, and of lives of one, one after another. Nothing else stands here.
+//! Tests of sessions over a disk, of the record of an input, of the service over a session, of guests from lines to replies, and of lives of
+//! one, one after another. Nothing else stands here.
 #![tactic(auto)]
 
 #[cfg(test)]
@@ -6,13 +7,23 @@ mod broken_streams;
 #[cfg(test)]
 mod cancelled_guests;
 #[cfg(test)]
+mod changed_pages;
+#[cfg(test)]
+mod changes;
+#[cfg(test)]
 mod checkpoints;
 #[cfg(test)]
 mod contention;
 #[cfg(test)]
+mod every_call;
+#[cfg(test)]
+mod every_change;
+#[cfg(test)]
 mod expect;
 #[cfg(test)]
 mod first_path;
+#[cfg(test)]
+mod giving;
 #[cfg(test)]
 mod image_service;
 #[cfg(test)]
@@ -30,11 +41,19 @@ mod long_runs;
 #[cfg(test)]
 mod old_disks;
 #[cfg(test)]
+mod power_loss;
+#[cfg(test)]
+mod record;
+#[cfg(test)]
+mod recovery;
+#[cfg(test)]
 mod saved_disks;
 #[cfg(test)]
 mod saved_waits;
 #[cfg(test)]
 mod schedules;
+#[cfg(test)]
+mod served_checkpoints;
 #[cfg(test)]
 mod service;
 #[cfg(test)]
@@ -47,6 +66,8 @@ mod small_disk;
 mod streams;
 #[cfg(test)]
 mod threads;
+#[cfg(test)]
+mod two_areas;
 #[cfg(test)]
 mod waiting;
 #[cfg(test)]

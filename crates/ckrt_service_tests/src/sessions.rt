@@ -3,7 +3,7 @@
 use crate::expect::{expect_bytes, expect_eq};
 use ckrt_disk::Disk;
 use ckrt_events::Event;
-use ckrt_machine::Answer;
+use ckrt_machine::{Answer, Machine};
 use ckrt_recovery::{CommitFault, Session, SubmitFault};
 use std::process::Abort;
 
@@ -82,4 +82,29 @@ pub fn expect_output<R: Abort, D: Disk>(
     let (at, output) = session.take_output();
     expect_eq(rt, at, offset);
     expect_bytes(rt, output, bytes);
+}
+
+/// The event's answer by a machine that never had a disk.
+pub fn step_if_accepted<R: Abort>(rt: &R, machine: &mut Machine, event: &Event) -> Option<Answer> {
+    assert!(rt; event.in_range());
+    match machine.accept(0, event) {
+        Ok(()) => Some(machine.step(event)),
+        Err(_) => None,
+    }
+}
+
+/// One more event gets the same answer and puts the same bytes, by a session and by a machine.
+pub fn expect_same_step<R: Abort, D: Disk>(
+    rt: &R,
+    session: &mut Session<D>,
+    machine: &mut Machine,
+    event: &Event,
+) {
+    let answer = step_if_accepted(rt, machine, event);
+    let submitted = match submitted(rt, session, event) {
+        Ok((_, answer)) => Some(answer),
+        Err(_) => None,
+    };
+    expect_eq(rt, submitted, answer);
+    expect_bytes(rt, session.machine().last_output(), machine.last_output());
 }

@@ -1,8 +1,8 @@
-//! The small disk of the other tests, and what recovers from it.
+//! The small disk of these tests.
 
 use crate::expect::{expect_eq, filled, memory_disk};
-use ckrt_disk::{Disk, MemoryDisk};
-use ckrt_recovery::{Config, FormatFault, Session, Unrecovered, format, recover};
+use ckrt_disk::Disk;
+use ckrt_stored::{Config, FormatFault, format};
 use ckrt_test_data::SIZE;
 use std::process::Abort;
 
@@ -36,27 +36,6 @@ pub fn expect_format<R: Abort + AllocGlobal, D: Disk>(
 /// A disk of zeros with an image formatted onto it.
 pub fn formatted<R: Abort + AllocGlobal>(rt: &R, image: &[u8]) -> Vec<u8> {
     let mut disk = memory_disk(rt, filled(rt, 0, SIZE));
-    expect_eq(rt, format_outcome(rt, &mut disk, SMALL, image), Ok(()));
+    expect_format(rt, &mut disk, image, Ok(()));
     disk.into_image()
-}
-
-/// Recovers a disk. It ensures nothing, so tests that call it are cheap to prove.
-pub fn recovery_outcome<R: AllocGlobal, D: Disk>(
-    rt: &R,
-    disk: D,
-) -> Result<Session<D>, Unrecovered<D>> {
-    recover(rt.alloc(), disk)
-}
-
-/// The session that is recovered from a disk.
-pub fn recovered<R: Abort + AllocGlobal, D: Disk>(rt: &R, disk: D) -> Session<D> {
-    match recovery_outcome(rt, disk) {
-        Ok(session) => session,
-        Err(unrecovered) => panic!(rt; "{}", unrecovered.fault),
-    }
-}
-
-/// The session that is recovered from these bytes in memory.
-pub fn recovered_in_memory<R: Abort + AllocGlobal>(rt: &R, bytes: Vec<u8>) -> Session<MemoryDisk> {
-    recovered(rt, memory_disk(rt, bytes))
 }
