@@ -32,11 +32,7 @@ fn size<'a>(alloc: Global, id: &'a str, help: &'a str) -> Arg<'a>
     ensures rule { rule_of result ≡ size_rule id.entry.now }
     ensures local { result.global ≡ false }
 {
-    Arg::new(alloc, id)
-        .long(id)
-        .value_name("N")
-        .value_parser(value_parser!(u32))
-        .help(help)
+    option(alloc, id, "N", help).value_parser(value_parser!(u32))
 }
 
 /// An option with a number of 64 bits, which may be left out.
@@ -44,11 +40,7 @@ fn place<'a>(alloc: Global, id: &'a str, name: &'a str, help: &'a str) -> Arg<'a
     ensures rule { rule_of result ≡ place_rule id.entry.now }
     ensures local { result.global ≡ false }
 {
-    Arg::new(alloc, id)
-        .long(id)
-        .value_name(name)
-        .value_parser(value_parser!(u64))
-        .help(help)
+    option(alloc, id, name, help).value_parser(value_parser!(u64))
 }
 
 /// An option with a text, which may be left out.
