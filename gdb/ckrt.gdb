@@ -6,7 +6,7 @@ set pagination off
 set confirm off
 # A guest is no GNU/Linux program: no libraries are looked for.
 set osabi none
-# A motion over a long run takes a while, and so does the first answer where an older journal is replayed: in seconds.
+# A motion over a long run takes a while, and so does the first answer of a session with --at: in seconds.
 set remotetimeout 600
 # A step is one of the thread that is chosen, onward and back. gdb takes this setting once it has a target.
 define target hookpost-remote

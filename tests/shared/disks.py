@@ -63,6 +63,19 @@ def refusing_its_last(ckrt, disk, image):
     return disk
 
 
+def with_an_older_part(ckrt, disk, image, is_changed=False):
+    """Makes a disk of an image, with an event behind its last checkpoint and two before. With `is_changed` these don't lead there: a byte
+    of the memory that they begin with, which they don't write, is another one. Gives its path."""
+    disk = make(ckrt, disk, image)
+    lines = b"place 0 1\nrun 0 100\ncommit\ncheckpoint\nrun 0 50\ncommit\n"
+    subprocess.run([ckrt, "run", disk], input=lines, check=True, capture_output=True)
+    if is_changed:
+        content = bytearray(disk.read_bytes())
+        content[Layout().area(1) - 20 * BLOCK - 1] ^= 1
+        disk.write_bytes(content)
+    return disk
+
+
 def generation_of(disk, pages=PAGES):
     """The greater generation of the open areas of a disk: 1 behind its making, and one more behind each checkpoint."""
     found, layout = [], Layout(pages)

@@ -8,13 +8,12 @@ use Rattle.std.specs.Io.KnownBytes.{Appends, Consumes, Keeps}
 use Rattle.ckrt_commands.specs.Writing.{AppendsPart}
 use Rattle.ckrt_commands.proofs.WriteLemmas.{Appends-append, Appends-nothing}
 use Rattle.ckrt_packets.specs.Framing.{frame_of, line_after}
-use Rattle.ckrt_machine.specs.Events.{AllAccepted}
 use Rattle.ckrt_packets.specs.declared.request.Request.{Request}
 use Rattle.ckrt_debug.specs.declared.fault.DebugFault.{DebugFault}
 use Rattle.ckrt_debug.specs.declared.fault.DebugFault.TheVariants.{OutOfMemory, Range, Read, Refused, Write}
 use Rattle.ckrt_debug.specs.declared.line.Line.{Line}
 use Rattle.ckrt_debug.specs.Monitor.{Obeys}
-use Rattle.ckrt_playback.specs.Playback.{history_of}
+use Rattle.ckrt_playback.specs.Playback.{IsPlayable}
 use Rattle.ckrt_debug.specs.Conversation.{Advances, Breaks, BreaksAfter, BreaksByte, BreaksOff, BreaksRequest, Goes, HasHeard, Hears, HearsAll, IsReply, Replies, RepliesBy, RepliesToUser, RespondsTo, TakesMemory, Talk, Writes, asked_by, begun, console_frames, console_in, console_text, hearing, monitored, sign_in, talk_of}
 use Rattle.ckrt_debug.specs.declared.stub.Stub.{Stub}
 
@@ -154,7 +153,7 @@ writer_broke Is old new a b frames sent e is reply part = subst (λ f. Breaks f 
 
 -- there was none
 pub replay_broke : (Is : IsReply) (old : Stub) (a : Option (List ℕ)) (e : DebugFault) → (e ≡ Refused) ⊎ (e ≡ OutOfMemory)
-    → (IsErrOf {T = Stub} (Err e) Refused → AllAccepted (history_of old.playback).events (history_of old.playback).start → ⊥) → Breaks e Is old a a
+    → (IsErrOf {T = Stub} (Err e) Refused → IsPlayable old.playback → ⊥) → Breaks e Is old a a
 replay_broke Is old a e (inl is) why = subst (λ f. Breaks f Is old a a) (sym is) (Appends-nothing a, why (ap Err is))
 replay_broke Is old a e (inr is) why = subst (λ f. Breaks f Is old a a) (sym is) (Appends-nothing a)
 

@@ -1,5 +1,5 @@
 -- What a session answers, by what is asked.
-use Rattle.std.proofs.Common.{◌≡◌, ◌⊎◌, inr, ℕ, Bool, true, false, Option, Some, None, List, refl, sym, subst}
+use Rattle.std.proofs.Common.{◌≡◌, ◌⊎◌, inr, ℕ, Bool, true, false, Option, Some, None, List, refl, sym, ap, subst}
 use Rattle.std.proofs.lemmas.Bool.{false≢true}
 use Rattle.std.specs.Prelude.{IfErr, IfOk, IfSome, IsErrOf, Result, Ok, Err, is_some}
 use Rattle.ckrt_packets.specs.declared.request.Request.{Request}
@@ -44,7 +44,7 @@ pub answered_run : (look : Option (List ℕ)) (way : Option Way) (request : Requ
 answered_run (Some text) way request old new out h = is_run (history_of new.playback) (history_of old.playback) h.0.history
 answered_run None (Some way) request old new out h =
     moved_run old.desk.bounds way old.desk.stops (history_of old.playback) (history_of new.playback) h.0.found h.0.moved
-answered_run None None request old new out h = is_run (history_of new.playback) (history_of old.playback) h.0.history
+answered_run None None request old new out h = is_run (history_of new.playback) (history_of old.playback) (ap history_of h.0.playback)
 
 -- of what takes memory alone
 pub never_refused : {P : Type 0} (r : Result Stub DebugFault) → IfErr r (λ e. e ≡ OutOfMemory) → IsErrOf r Refused → P

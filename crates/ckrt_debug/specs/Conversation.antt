@@ -2,7 +2,6 @@
 use Rattle.std.specs.Prelude.{◌≡◌, ◌⊎◌, ℕ, zero, suc, Bool, true, false, if◌then◌else◌, List, [], ◌∷◌, ◌++◌, length, take, drop, codes, Option, Some, None, is_some}
 use Rattle.std.specs.Io.KnownBytes.{Appends, Consumes, IsAtEnd, Keeps}
 use Rattle.ckrt_commands.specs.Writing.{AppendsPart}
-use Rattle.ckrt_machine.specs.Events.{AllAccepted}
 use Rattle.ckrt_packets.specs.Framing.{Line as Heard, arrival_of, frame_of, line_after}
 use Rattle.ckrt_packets.specs.Numbers.{hex_text}
 use Rattle.ckrt_packets.specs.Requests.{request_of}
@@ -17,7 +16,7 @@ use Rattle.ckrt_debug.specs.declared.line.Line.{Line}
 use Rattle.ckrt_debug.specs.declared.stub.Stub.{Stub}
 use Rattle.ckrt_playback.specs.Look.{fitting}
 use Rattle.ckrt_debug.specs.Monitor.{Obeys}
-use Rattle.ckrt_playback.specs.Playback.{history_of}
+use Rattle.ckrt_playback.specs.Playback.{IsPlayable}
 use Rattle.ckrt_debug.specs.Session.{Answers}
 
 -- A session and its line: what was heard of the frame under way, the frame that was sent last, and whether packets are acknowledged.
@@ -210,7 +209,7 @@ abbrev pub Breaks : DebugFault → IsReply → (old : Stub) → (a b : Option (L
 Breaks fault.Write Is old a b =
     (new : Stub) × (frames : List ℕ) × (sent : List ℕ) × Is new frames sent × AppendsPart a b frames
 Breaks fault.Refused Is old a b =
-    Appends a b [] × (AllAccepted (history_of old.playback).events (history_of old.playback).start → ⊥)
+    Appends a b [] × (IsPlayable old.playback → ⊥)
 Breaks fault.OutOfMemory Is old a b = Appends a b []
 Breaks _ Is old a b = ⊥
 

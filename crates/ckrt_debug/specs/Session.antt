@@ -16,7 +16,10 @@ use Rattle.ckrt_playback.specs.Limits.{unbounded}
 use Rattle.ckrt_playback.specs.Look.{fitting}
 use Rattle.ckrt_playback.specs.Marks.{IsWithoutStops}
 use Rattle.ckrt_playback.specs.Motions.{Moved, at}
-use Rattle.ckrt_playback.specs.Playback.{HasPlace, history_of, position_of, state_of}
+use Rattle.ckrt_playback.specs.Playback.{HasPlace, IsPlayable, IsPlayed, history_of, position_of, state_of}
+use Rattle.ckrt_playback.specs.Recorded.{IsSound, Run, run_of}
+use Rattle.ckrt_playback.specs.declared.playback.Playback.{Playback}
+use Rattle.ckrt_playback.specs.declared.playback.Playback.TheVariants.{Unplayed}
 use Rattle.ckrt_playback.specs.Requests.{last_text, look_of, way_of}
 use Rattle.ckrt_playback.specs.Settings.{HasSetStops, set_text, view_after}
 use Rattle.ckrt_playback.specs.Told.{first_view, next_or, shown, standing_in, told}
@@ -32,27 +35,31 @@ abbrev pub IsOutside : Option ℕ → (first : ℕ) → History → Type 0
 IsOutside None first h = ⊥
 IsOutside (Some k) first h = HasPlace first k 0 h → ⊥
 
--- at the first event of the run, or where so many events of all are done, and no step of the next
-abbrev pub IsBeginning : Option ℕ → (first : ℕ) → Position → Type 0
-IsBeginning None first p = p ≡ at_event 0
-IsBeginning (Some k) first p = (first + p.events ≡ k) × (p.steps ≡ 0)
+-- the run, which isn't replayed; or, once it is, where so many events of all are done and no step of the next
+abbrev pub IsBegun : Option ℕ → (first : ℕ) → Run → Playback → Type 0
+IsBegun None first r p = p ≡ Unplayed r
+IsBegun (Some k) first r p =
+    IsSound r × IsPlayed p × (history_of p ≡ at (position_of first k 0) (run_of r))
 
--- whom it shows, of a run h that it shows at z: thread 1, or whose step is next where it went there
-abbrev pub shown_at : Option ℕ → (h z : History) → ℕ
-shown_at None h z = shown 1 h.start.tables.threads
-shown_at (Some k) h z = next_or (shown 1 h.start.tables.threads) z
+-- whom it shows, of a run that it shows at z: thread 1, or whose step is next where it went there
+abbrev pub shown_at : Option ℕ → Run → (z : History) → ℕ
+shown_at None r z = shown 1 r.start.tables.threads
+shown_at (Some k) r z = next_or (shown 1 r.start.tables.threads) z
 
--- a session of a run that begins once so many events are done, or with the first of the run; before that there were `first`
-pub record BeginsAt (begin : Option ℕ) (first : ℕ) (h : History) (s : Stub) : Type 0 where
-  pub run : history_of s.playback ≡ at (history_of s.playback).position h
-  pub place : IsBeginning begin first (history_of s.playback).position
-  pub view : s.desk.view ≡ first_view (shown_at begin h (history_of s.playback))
+-- A session of a run that begins with its first event, or once so many events of all are done; before the run there were `first`.
+pub record BeginsAt (begin : Option ℕ) (first : ℕ) (r : Run) (s : Stub) : Type 0 where
+  pub begun : IsBegun begin first r s.playback
+  pub view : s.desk.view ≡ first_view (shown_at begin r (history_of s.playback))
   pub stops : IsWithoutStops s.desk.stops
   pub bounds : s.desk.bounds ≡ unbounded
   pub first_is : s.desk.first ≡ first
-  pub recorded : s.desk.recorded ≡ length h.events
+  pub recorded : s.desk.recorded ≡ length r.events
 
 -- THE ANSWER TO A REQUEST
+
+-- from old to new the run was replayed, if it wasn't yet
+abbrev pub IsReplayed : (old new : Stub) → Type 0
+IsReplayed old new = IsPlayable old.playback × IsPlayed new.playback
 
 -- nothing has changed but what bounds a motion
 pub record HasBounds (bounds : Bounds) (old new : Stub) : Type 0 where
@@ -69,6 +76,7 @@ IsSame old new = HasBounds old.desk.bounds old new
 
 -- a session goes a way, and notes the stop that it tells; nothing else changes
 pub record HasMoved (way : Way) (old new : Stub) : Type 0 where
+  pub replayed : IsReplayed old new
   pub found : Found
   pub moved : Moved old.desk.bounds way old.desk.stops (history_of old.playback) (history_of new.playback) found
   pub last : new.desk.view.last ≡ told old.desk.bounds way found old.desk.view.last.thread (history_of old.playback) (history_of new.playback)
@@ -81,6 +89,7 @@ pub record HasMoved (way : Way) (old new : Stub) : Type 0 where
 
 -- a session has gone to a position, and shows whose step is next; nothing else changes
 pub record HasGone (p : Position) (old new : Stub) : Type 0 where
+  pub replayed : IsReplayed old new
   pub history : history_of new.playback ≡ at p (history_of old.playback)
   pub view : new.desk.view
       ≡ standing_in old.desk.view (next_or old.desk.view.last.thread (history_of new.playback))
@@ -95,19 +104,22 @@ Reaches events steps old true new =
     HasPlace old.desk.first events steps (history_of old.playback)
     × HasGone (position_of old.desk.first events steps) old new
 Reaches events steps old false new =
-    (HasPlace old.desk.first events steps (history_of old.playback) → ⊥) × IsSame old new
+    (HasPlace old.desk.first events steps (history_of old.playback) → ⊥)
+    × IsReplayed old new × IsSame old new
 
 -- motions end from now on at the position with so many events of all done, and so many steps of the next; or there is none
 abbrev pub Names : (events steps : ℕ) → (old : Stub) → (there : Option Position) → (new : Stub) → Type 0
 Names events steps old (Some p) new =
     HasPlace old.desk.first events steps (history_of old.playback)
     × (p ≡ position_of old.desk.first events steps)
-    × HasBounds (record old.desk.bounds { until = Some p }) old new
+    × IsReplayed old new × HasBounds (record old.desk.bounds { until = Some p }) old new
 Names events steps old None new =
-    (HasPlace old.desk.first events steps (history_of old.playback) → ⊥) × IsSame old new
+    (HasPlace old.desk.first events steps (history_of old.playback) → ⊥)
+    × IsReplayed old new × IsSame old new
 
 -- the history ends where it stands from now on, and a run that is cut isn't recorded; nothing else changes
 pub record HasForked (old new : Stub) : Type 0 where
+  pub replayed : IsReplayed old new
   pub history : history_of new.playback ≡ forked (history_of old.playback)
   pub view : new.desk.view ≡ old.desk.view
   pub stops : new.desk.stops ≡ old.desk.stops
@@ -118,6 +130,7 @@ pub record HasForked (old new : Stub) : Type 0 where
 
 -- one more event was made behind the last, and it shows who was there; nothing else changes
 pub record HasMade (e : Event) (old new : Stub) : Type 0 where
+  pub replayed : IsReplayed old new
   pub history : history_of new.playback ≡ with_event e (history_of old.playback)
   pub view : new.desk.view
       ≡ standing_in old.desk.view (next_or old.desk.view.last.thread (history_of new.playback))
@@ -129,7 +142,7 @@ pub record HasMade (e : Event) (old new : Stub) : Type 0 where
 -- or it wasn't, and nothing changes
 abbrev pub Makes : Event → Option AppendFault → (old new : Stub) → Type 0
 Makes e None old new = HasMade e old new
-Makes e (Some fault) old new = IsSame old new
+Makes e (Some fault) old new = IsReplayed old new × IsSame old new
 
 -- its history with so many events more at most
 abbrev pub gone_on : (most : ℕ) → Stub → Extended
@@ -137,6 +150,7 @@ gone_on most s = going_on most s.desk.first (history_of s.playback)
 
 -- by turns so many events at most were made behind the last, and it shows whose step is next then; nothing else changes
 pub record HasGoneOn (most : ℕ) (old new : Stub) : Type 0 where
+  pub replayed : IsReplayed old new
   pub history : history_of new.playback ≡ (gone_on most old).history
   pub view : new.desk.view ≡ view_behind (gone_on most old).end old.desk.view (history_of new.playback)
   pub stops : new.desk.stops ≡ old.desk.stops
@@ -146,7 +160,7 @@ pub record HasGoneOn (most : ℕ) (old new : Stub) : Type 0 where
 
 -- a request that neither looks nor moves has set what it sets, and nothing else
 pub record HasSet (request : Request) (old new : Stub) : Type 0 where
-  pub history : history_of new.playback ≡ history_of old.playback
+  pub playback : new.playback ≡ old.playback
   pub view : new.desk.view ≡ view_after request old.desk.view (state_of old.playback).tables.threads
   pub stops : HasSetStops request old.desk.stops new.desk.stops
   pub bounds : new.desk.bounds ≡ old.desk.bounds

@@ -15,8 +15,8 @@ pub enum DebugFault {
     /// The writer failed.
     #[error("Write")]
     Write,
-    /// An event isn't accepted at its turn.
-    #[error("Refused: an event of the run isn't accepted at its turn")]
+    /// An event isn't accepted at its turn, or they don't come through the run's stage.
+    #[error("Refused: an event of the run isn't accepted at its turn, or they lead elsewhere")]
     Refused,
     /// There is no position with so many events done.
     #[error("Range: the run has no position with so many events done")]

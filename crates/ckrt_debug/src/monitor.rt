@@ -1,6 +1,5 @@
 //! What the stub makes of a command of gdb's user, and what it tells.
 ghost use Rattle.std.specs.Prelude.{◌≡◌, ◌⊎◌, ◌++◌, ℕ, List, IfErr, IfOk, IsErrOf, OnOk, decimal};
-ghost use Rattle.ckrt_machine.specs.Events.{AllAccepted};
 ghost use Rattle.ckrt_debug.specs.declared.fault.DebugFault.TheVariants.{OutOfMemory, Refused};
 ghost use Rattle.ckrt_debug.specs.declared.monitor.TheConstants.{HELP};
 ghost use Rattle.ckrt_events.specs.Bytes.{IsInRange};
@@ -8,7 +7,7 @@ ghost use Rattle.ckrt_events.specs.declared.command.LineFault.{LineFault};
 ghost use Rattle.ckrt_events.specs.declared.event.Event.{Event};
 ghost use Rattle.ckrt_debug.specs.Commands.{IsInRangeCommand, IsInRangeEvent};
 ghost use Rattle.ckrt_debug.specs.Monitor.{Does, DoesAppend, Obeys, ObeysBy, count_of, count_text, end_text, event_text, gone_on_text, gone_text, limit_text, listing_text, made_text, misread_text, named_text, range_text, recorded_text, standing_line, steps_text, until_text, why_text};
-ghost use Rattle.ckrt_playback.specs.Playback.{history_of};
+ghost use Rattle.ckrt_playback.specs.Playback.{IsPlayable};
 
 use crate::command::{Command, Misread, Place, command_of};
 use crate::fault::DebugFault;
@@ -224,8 +223,7 @@ impl Stub {
         ensures does { IfOk result (λ stub. (console : List ℕ)
             × Does (Command.GoTo place) self stub console
             × (out.new.items ≡ out.old.items ++ console)) }
-        ensures refused { IsErrOf result Refused
-            → AllAccepted (history_of self.playback).events (history_of self.playback).start → ⊥ }
+        ensures refused { IsErrOf result Refused → IsPlayable self.playback → ⊥ }
         ensures fault { IfErr result (λ e. (e ≡ Refused) ⊎ (e ≡ OutOfMemory)) }
     {
         let (stub, is_there) = self.reach(place.events, place.steps)?;
@@ -238,8 +236,7 @@ impl Stub {
         ensures does { IfOk result (λ stub. (console : List ℕ)
             × Does (Command.Until place) self stub console
             × (out.new.items ≡ out.old.items ++ console)) }
-        ensures refused { IsErrOf result Refused
-            → AllAccepted (history_of self.playback).events (history_of self.playback).start → ⊥ }
+        ensures refused { IsErrOf result Refused → IsPlayable self.playback → ⊥ }
         ensures fault { IfErr result (λ e. (e ≡ Refused) ⊎ (e ≡ OutOfMemory)) }
     {
         let (stub, there) = self.name(place.events, place.steps)?;
@@ -262,8 +259,7 @@ impl Stub {
         ensures does { IfOk result (λ stub. (console : List ℕ)
             × Does Command.Fork self stub console
             × (out.new.items ≡ out.old.items ++ console)) }
-        ensures refused { IsErrOf result Refused
-            → AllAccepted (history_of self.playback).events (history_of self.playback).start → ⊥ }
+        ensures refused { IsErrOf result Refused → IsPlayable self.playback → ⊥ }
         ensures fault { IfErr result (λ e. (e ≡ Refused) ⊎ (e ≡ OutOfMemory)) }
     {
         let stub = self.fork()?;
@@ -277,8 +273,7 @@ impl Stub {
         ensures does { IfOk result (λ stub. (console : List ℕ)
             × DoesAppend (Ok event) self stub console
             × (out.new.items ≡ out.old.items ++ console)) }
-        ensures refused { IsErrOf result Refused
-            → AllAccepted (history_of self.playback).events (history_of self.playback).start → ⊥ }
+        ensures refused { IsErrOf result Refused → IsPlayable self.playback → ⊥ }
         ensures fault { IfErr result (λ e. (e ≡ Refused) ⊎ (e ≡ OutOfMemory)) }
     {
         let (stub, fault) = self.append(event)?;
@@ -303,8 +298,7 @@ impl Stub {
         ensures does { IfOk result (λ stub. (console : List ℕ)
             × DoesAppend event self stub console
             × (out.new.items ≡ out.old.items ++ console)) }
-        ensures refused { IsErrOf result Refused
-            → AllAccepted (history_of self.playback).events (history_of self.playback).start → ⊥ }
+        ensures refused { IsErrOf result Refused → IsPlayable self.playback → ⊥ }
         ensures fault { IfErr result (λ e. (e ≡ Refused) ⊎ (e ≡ OutOfMemory)) }
     {
         match event {
@@ -333,8 +327,7 @@ impl Stub {
         ensures does { IfOk result (λ stub. (console : List ℕ)
             × Does (Command.Extend most) self stub console
             × (out.new.items ≡ out.old.items ++ console)) }
-        ensures refused { IsErrOf result Refused
-            → AllAccepted (history_of self.playback).events (history_of self.playback).start → ⊥ }
+        ensures refused { IsErrOf result Refused → IsPlayable self.playback → ⊥ }
         ensures fault { IfErr result (λ e. (e ≡ Refused) ⊎ (e ≡ OutOfMemory)) }
     {
         let before = self.playback.event_count();
@@ -406,8 +399,7 @@ impl Stub {
         requires { IsInRangeCommand command }
         ensures does { IfOk result (λ stub. (console : List ℕ)
             × Does command self stub console × (out.new.items ≡ out.old.items ++ console)) }
-        ensures refused { IsErrOf result Refused
-            → AllAccepted (history_of self.playback).events (history_of self.playback).start → ⊥ }
+        ensures refused { IsErrOf result Refused → IsPlayable self.playback → ⊥ }
         ensures fault { IfErr result (λ e. (e ≡ Refused) ⊎ (e ≡ OutOfMemory)) }
     {
         match command {
@@ -427,12 +419,11 @@ impl Stub {
     ///
     /// # Errors
     ///
-    /// `Refused` only where an event isn't accepted at its turn, and `OutOfMemory`.
+    /// `Refused` only where an event isn't accepted at its turn, or they don't come through the run's stage; `OutOfMemory`.
     pub(crate) fn obey(self, text: &[u8], out: &mut Vec<u8>) -> Result<Stub, DebugFault>
         ensures obeyed { IfOk result (λ stub. (console : List ℕ)
             × Obeys text.now self stub console × (out.new.items ≡ out.old.items ++ console)) }
-        ensures refused { IsErrOf result Refused
-            → AllAccepted (history_of self.playback).events (history_of self.playback).start → ⊥ }
+        ensures refused { IsErrOf result Refused → IsPlayable self.playback → ⊥ }
         ensures fault { IfErr result (λ e. (e ≡ Refused) ⊎ (e ≡ OutOfMemory)) }
     {
         match command_of(text) {

@@ -193,7 +193,8 @@ impl Stub {
     /// # Errors
     ///
     /// `Read` and `Write` where the line failed: what was written is then all that the bytes read get, or a beginning of it. `Refused`
-    /// only where an event isn't accepted at its turn, and `OutOfMemory` only of what gdb's user is told. The session is over then.
+    /// only where an event isn't accepted at its turn, or they don't come through the run's stage, and `OutOfMemory` only of what
+    /// gdb's user is told. The session is over then.
     pub fn serve<R: Read, W: Write>(self, reader: &mut R, writer: &mut W) -> Result<(), DebugFault>
         ensures whole { OnOk result (Serves self
             (R.remaining reader.old) (R.remaining reader.new)

@@ -1,9 +1,8 @@
 //! A session with gdb over a recorded run.
 ghost use Rattle.std.specs.Prelude.{◌≡◌, ◌⊎◌, IfErr, IfOk, IfSome, IsErrOf, IsOk, is_some, None};
-ghost use Rattle.ckrt_machine.specs.Events.{AllAccepted};
-ghost use Rattle.ckrt_debug.specs.declared.fault.DebugFault.TheVariants.{OutOfMemory, Range, Refused};
-ghost use Rattle.ckrt_playback.specs.Playback.{history_of};
-ghost use Rattle.ckrt_playback.specs.Recorded.{run_of};
+ghost use Rattle.ckrt_debug.specs.declared.fault.DebugFault.TheVariants.{Range, Refused};
+ghost use Rattle.ckrt_playback.specs.Playback.{IsPlayable, history_of};
+ghost use Rattle.ckrt_playback.specs.Recorded.{IsSound, run_of};
 ghost use Rattle.ckrt_playback.specs.Look.{fitting};
 ghost use Rattle.ckrt_playback.specs.Requests.{last_text};
 ghost use Rattle.ckrt_events.specs.Bytes.{IsInRange};
@@ -13,16 +12,15 @@ ghost use Rattle.ckrt_debug.specs.Session.{Answers, BeginsAt, HasForked, HasGone
 use crate::fault::DebugFault;
 use ckrt_events::Event;
 use ckrt_history::{AppendFault, HistoryFault, Position};
-use ckrt_machine::Machine;
 use ckrt_packets::{Payload, Request};
-use ckrt_playback::{Desk, Playback, Way, tell_state, way_of};
+use ckrt_playback::{Desk, Playback, Recorded, Way, tell_state, way_of};
 use ckrt_schedule::ScheduleEnd;
 use std::alloc::Global;
 
 /// What gdb asks is answered by this, from a recorded run: a state of the machine and the events from there on.
 ///
-/// The run is replayed once somebody moves, since a debugger waits a few seconds only for its first answers. All memory is taken by
-/// [`Stub::new`], but that of the texts that a `monitor` gets.
+/// The run is replayed once somebody moves, since a debugger waits a few seconds only for its first answers. All memory was taken for
+/// what is [`Recorded`], but that of the texts that a `monitor` gets.
 pub struct Stub {
     pub(crate) alloc: Global,
     pub(crate) playback: Playback,
@@ -41,34 +39,33 @@ impl Drop for Stub {
 }
 
 impl Stub {
-    /// A session that begins with the machine's state, before which `first` events were done, or once `at` events are done. The room of
-    /// the run's history is taken.
+    /// A session that begins with the run's first event, before which `first` were done, or once `at` events are done.
     ///
     /// # Errors
     ///
-    /// `OutOfMemory`; where `at` is given, for which the run is replayed, `Range` exactly where the run has no such position, and
-    /// `Refused` only where an event isn't accepted at its turn.
+    /// Where `at` is given, for which the run is replayed: `Range` exactly where it has no such position, and `Refused` only where an
+    /// event isn't accepted at its turn, or they don't come through the run's stage.
     pub fn new(
         alloc: Global,
         first: u64,
-        machine: Machine,
-        events: Vec<Event>,
+        recorded: Recorded,
         at: Option<u64>,
     ) -> Result<Stub, DebugFault>
-        ensures begun { IfOk result (BeginsAt at first (run_of machine.state events.items)) }
-        ensures within { IfOk result
-            (λ _. IsOutside at first (run_of machine.state events.items) → ⊥) }
-        ensures range { IsErrOf result Range
-            → IsOutside at first (run_of machine.state events.items) }
-        ensures refused { IsErrOf result Refused → AllAccepted events.items machine.state → ⊥ }
-        ensures fault { IfErr result (λ e. (e ≡ Refused) ⊎ (e ≡ OutOfMemory) ⊎ (e ≡ Range)) }
-        ensures sure { at ≡ None → IfErr result (λ e. e ≡ OutOfMemory) }
+        ensures begun { IfOk result (BeginsAt at first recorded) }
+        ensures within { IfOk result (λ _. IsOutside at first (run_of recorded) → ⊥) }
+        ensures range { IsErrOf result Range → IsOutside at first (run_of recorded) }
+        ensures refused { IsErrOf result Refused → IsSound recorded → ⊥ }
+        ensures fault { IfErr result (λ e. (e ≡ Refused) ⊎ (e ≡ Range)) }
+        ensures sure { at ≡ None → IsOk result }
     {
-        let desk = Desk::new(first, events.len(), &machine.tables().threads);
-        let playback = Playback::new(alloc, machine, events)?;
+        let desk = Desk::new(
+            first,
+            recorded.event_count(),
+            &recorded.machine().tables().threads,
+        );
         let stub = Stub {
             alloc,
-            playback,
+            playback: Playback::Unplayed(recorded),
             desk,
         };
         let Some(events) = at else {
@@ -86,8 +83,7 @@ impl Stub {
     /// run has no such position, and then nothing changes.
     pub(crate) fn reach(self, events: u64, steps: u32) -> Result<(Stub, bool), HistoryFault>
         ensures reached { IfOk result (λ r. Reaches events steps self r.1 r.0) }
-        ensures refused { IfErr result (λ _.
-            AllAccepted (history_of self.playback).events (history_of self.playback).start → ⊥) }
+        ensures refused { IfErr result (λ _. IsPlayable self.playback → ⊥) }
     {
         let Stub {
             alloc,
@@ -115,8 +111,7 @@ impl Stub {
         steps: u32,
     ) -> Result<(Stub, Option<Position>), HistoryFault>
         ensures named { IfOk result (λ r. Names events steps self r.1 r.0) }
-        ensures refused { IfErr result (λ _.
-            AllAccepted (history_of self.playback).events (history_of self.playback).start → ⊥) }
+        ensures refused { IfErr result (λ _. IsPlayable self.playback → ⊥) }
     {
         let Stub {
             alloc,
@@ -139,8 +134,7 @@ impl Stub {
     /// The run's history ends where it stands.
     pub(crate) fn fork(self) -> Result<Stub, HistoryFault>
         ensures forked { IfOk result (HasForked self) }
-        ensures refused { IfErr result (λ _.
-            AllAccepted (history_of self.playback).events (history_of self.playback).start → ⊥) }
+        ensures refused { IfErr result (λ _. IsPlayable self.playback → ⊥) }
     {
         let Stub {
             alloc,
@@ -162,8 +156,7 @@ impl Stub {
         requires { IsInRange event }
         ensures fault { IfOk result (λ r. r.1 ≡ append_fault event (history_of self.playback)) }
         ensures made { IfOk result (λ r. Makes event r.1 self r.0) }
-        ensures refused { IfErr result (λ _.
-            AllAccepted (history_of self.playback).events (history_of self.playback).start → ⊥) }
+        ensures refused { IfErr result (λ _. IsPlayable self.playback → ⊥) }
     {
         let Stub {
             alloc,
@@ -191,8 +184,7 @@ impl Stub {
     ) -> Result<(Stub, Result<ScheduleEnd, AppendFault>), HistoryFault>
         ensures end { IfOk result (λ r. r.1 ≡ (gone_on most self).end) }
         ensures made { IfOk result (λ r. HasGoneOn most self r.0) }
-        ensures refused { IfErr result (λ _.
-            AllAccepted (history_of self.playback).events (history_of self.playback).start → ⊥) }
+        ensures refused { IfErr result (λ _. IsPlayable self.playback → ⊥) }
     {
         let Stub {
             alloc,
@@ -216,8 +208,7 @@ impl Stub {
     fn walk(self, way: Way, out: &mut Payload) -> Result<Stub, HistoryFault>
         ensures moved { IfOk result (λ stub. HasMoved way self stub
             × (out.new.items ≡ fitting (last_text stub.desk.view))) }
-        ensures refused { IfErr result (λ _.
-            AllAccepted (history_of self.playback).events (history_of self.playback).start → ⊥) }
+        ensures refused { IfErr result (λ _. IsPlayable self.playback → ⊥) }
     {
         let Stub {
             alloc,
@@ -276,13 +267,13 @@ impl Stub {
     ///
     /// # Errors
     ///
-    /// `Refused` of a motion alone, for which the run is replayed once, and only where an event isn't accepted at its turn.
+    /// `Refused` of a motion alone, for which the run is replayed once, and only where an event isn't accepted at its turn, or they
+    /// don't come through the run's stage.
     pub fn answer(self, request: &Request, out: &mut Payload) -> Result<Stub, HistoryFault>
         ensures answered { IfOk result (λ stub. Answers request.now self stub out.new.items) }
         ensures run { IfOk result (IsOfRun self) }
         ensures moving { IfErr result (λ _. IsMotion request.now self) }
-        ensures refused { IfErr result (λ _.
-            AllAccepted (history_of self.playback).events (history_of self.playback).start → ⊥) }
+        ensures refused { IfErr result (λ _. IsPlayable self.playback → ⊥) }
     {
         if self.look(request, out) {
             return Ok(self);

@@ -13,8 +13,9 @@
 //! Proved of [`profile_path`]: the same of where the steps went, in each form.
 //!
 //! Proved of [`debug_path`]: the disk is only read, and closed as it was then; the session begins with what its content has recorded,
-//! where the words ask; what was written is what the session says of what was read, or a beginning of it where it broke off. That the
-//! disk is closed before anything is read of the debugger is so by the types: a session has no disk.
+//! or where the words ask; it moves only where each event is accepted, and the older part leads to the last checkpoint;
+//! what was written is what the session says of what was read, or a beginning of it where it broke off. That the disk is closed before
+//! anything is read of the debugger is so by the types: a session has no disk.
 #![tactic(auto)]
 
 mod calls;
@@ -27,7 +28,10 @@ mod timeline;
 
 pub use calls::calls_path;
 pub use debug::debug_path;
-pub use laws::recorded_events_are_accepted;
+pub use laws::{
+    recorded_events_are_accepted, refused_events_are_damage, runs_that_lead_on_are_sound,
+    sound_runs_are_recorded,
+};
 pub use profile::profile_path;
 pub use races::races_path;
 pub use timeline::timeline_path;

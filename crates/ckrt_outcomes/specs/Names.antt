@@ -70,5 +70,6 @@ name_of (job.InputTooShort l) = codes "InputTooShort"
 name_of (job.OutputFailed why) = codes "Output"
 name_of (job.Drive f) = name_of_drive f
 name_of job.Unrecorded = codes "Range"
+name_of job.OlderDiffers = codes "OlderDiffers"
 name_of job.RunTooLong = codes "RunTooLong"
 name_of job.InputTooLong = codes "InputTooLong"

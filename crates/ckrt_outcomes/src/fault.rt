@@ -43,6 +43,8 @@ pub enum JobFault {
     Drive(DriveFault),
     /// The disk hasn't recorded all of a stretch of events, or no longer has it.
     Unrecorded,
+    /// The disk's older journal doesn't lead to its last checkpoint, or an event isn't accepted at its turn.
+    OlderDiffers,
     /// The disk that is made for a run of a hunt can't take all of its events.
     RunTooLong,
     /// The file of the input of a hunt has more bytes than a hunt gives.
@@ -189,6 +191,10 @@ const SHORT_ADVICE: &str = "give the file that it had before, whole";
 const STRETCH_ADVICE: &str =
     "it hasn't recorded all events of --from and --to, no longer or not yet; without these it tells all that it has";
 
+/// What is said of a disk whose older journal doesn't lead to its last checkpoint, or of whose events one isn't accepted.
+const OLDER_ADVICE: &str =
+    "its older journal doesn't lead to its last checkpoint, or it is damaged; `ckrt inspect` tells: where it prints `events K`, give --at K";
+
 /// What is said of a disk that can't take a whole run.
 const RUN_ADVICE: &str =
     "it can't take the whole run, mostly since that has more events than a journal; give fewer --steps";
@@ -256,6 +262,7 @@ impl JobFault {
             JobFault::OutputFailed(_) => "Output",
             JobFault::Drive(fault) => drive_name(fault),
             JobFault::Unrecorded => "Range",
+            JobFault::OlderDiffers => "OlderDiffers",
             JobFault::RunTooLong => "RunTooLong",
             JobFault::InputTooLong => "InputTooLong",
         }
@@ -281,6 +288,7 @@ impl JobFault {
             JobFault::OutputFailed(why) => why.text(),
             JobFault::Drive(fault) => drive_advice(fault),
             JobFault::Unrecorded => STRETCH_ADVICE,
+            JobFault::OlderDiffers => OLDER_ADVICE,
             JobFault::RunTooLong => RUN_ADVICE,
             JobFault::InputTooLong => LONG_ADVICE,
         }
@@ -312,7 +320,8 @@ impl JobFault {
             JobFault::SizesDiffer(_)
             | JobFault::NotRecorded
             | JobFault::OffsetDiffers(_)
-            | JobFault::Unrecorded => Some(JobFile::Disk),
+            | JobFault::Unrecorded
+            | JobFault::OlderDiffers => Some(JobFile::Disk),
             JobFault::OutputDiffers(_) | JobFault::OutputFailed(_) => Some(JobFile::Output),
             JobFault::InputTooShort(_) | JobFault::InputTooLong => Some(JobFile::Input),
             JobFault::Drive(fault) => Some(drive_file(fault)),

@@ -1,4 +1,5 @@
 pub mod Recorded
+pub mod Stages
 pub mod Playback
 pub mod Limits
 pub mod Look

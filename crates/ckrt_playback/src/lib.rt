@@ -27,5 +27,6 @@ pub use going::Way;
 pub use limits::Bounds;
 pub use look::{put_reply, tell_state};
 pub use playback::Playback;
+pub use recorded::Recorded;
 pub use told::is_same;
 pub use view::{Stopped, View};

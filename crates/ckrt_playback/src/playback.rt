@@ -1,16 +1,12 @@
 //! A recorded run that is replayed once somebody moves.
 ghost use Rattle.std.specs.Prelude.{◌≡◌, IfErr, IfOk, length};
-ghost use Rattle.ckrt_machine.specs.Events.{AllAccepted};
-ghost use Rattle.ckrt_playback.specs.Playback.{history_of, state_of};
-ghost use Rattle.ckrt_playback.specs.Recorded.{run_of};
+ghost use Rattle.ckrt_playback.specs.Playback.{IsPlayable, history_of, state_of};
 
 use crate::recorded::Recorded;
-use ckrt_events::Event;
 use ckrt_history::{History, HistoryFault, Position};
 use ckrt_machine::Machine;
-use std::alloc::{AllocError, Global};
 
-/// A recorded run. It takes no memory behind [`Playback::new`].
+/// A recorded run. All its memory was taken with what was [`Recorded`].
 #[derive(Drop)]
 pub enum Playback {
     Unplayed(Recorded),
@@ -18,15 +14,6 @@ pub enum Playback {
 }
 
 impl Playback {
-    /// The run from the machine's state on, at its beginning. The room of its history is taken.
-    pub fn new(alloc: Global, machine: Machine, events: Vec<Event>) -> Result<Playback, AllocError>
-        ensures { IfOk result
-            (λ playback. history_of playback ≡ run_of machine.state events.items) }
-    {
-        let recorded = Recorded::new(alloc, machine, events)?;
-        Ok(Playback::Unplayed(recorded))
-    }
-
     /// The machine at the position.
     pub fn machine(&self) -> &Machine
         ensures { result.now.state ≡ state_of self.now }
@@ -61,11 +48,11 @@ impl Playback {
     ///
     /// # Errors
     ///
-    /// `Refused` exactly where an event isn't accepted at its turn.
+    /// `Refused` exactly where an event isn't accepted at its turn, or the events don't come through the run's stage.
     pub fn played(self) -> Result<History, HistoryFault>
         ensures played { IfOk result (λ h. h ≡ history_of self) }
-        ensures refused { IfErr result (λ _.
-            AllAccepted (history_of self).events (history_of self).start → ⊥) }
+        ensures playable { IfOk result (λ _. IsPlayable self) }
+        ensures refused { IfErr result (λ _. IsPlayable self → ⊥) }
     {
         match self {
             Playback::Unplayed(recorded) => recorded.play(),

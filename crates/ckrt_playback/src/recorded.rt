@@ -1,44 +1,100 @@
 //! A run that nobody has replayed.
-ghost use Rattle.std.specs.Prelude.{◌≡◌, IfErr, IfOk, length};
-ghost use Rattle.ckrt_machine.specs.Events.{AllAccepted};
-ghost use Rattle.ckrt_playback.specs.Recorded.{run_of};
+ghost use Rattle.std.specs.Prelude.{◌≡◌, ◌≤◌, ◌++◌, ◌↔◌, IfErr, IfOk, IsTrue, length, None, Some};
+ghost use Rattle.ckrt_playback.specs.Recorded.{ComesThrough, IsSound, run_of};
+ghost use Rattle.ckrt_playback.specs.Stages.{IsWithin, stage_of};
 
 use crate::limits::begin_of;
 use ckrt_events::Event;
 use ckrt_history::{History, HistoryFault, Room};
 use ckrt_machine::Machine;
+use ckrt_recording::{Comparison, append};
 use std::alloc::{AllocError, Global};
 use std::marker::Model;
 
 /// How many states a history keeps on the way through the events, where its room has place for so many.
 const STATES: u32 = 1_000;
 
-/// A run that nobody has replayed: the machine as it was at the beginning, the events from there on, and the room of their history.
+/// The machine as it was saved behind so many events, and what another one is compared with it by.
 #[derive(Drop)]
+struct Checkpoint {
+    events: usize,
+    machine: Machine,
+    comparison: Comparison,
+}
+
+/// A run that nobody has replayed: the machine as it was at the beginning, the events from there on, the room of their history, and the
+/// checkpoint that they come through.
 pub struct Recorded {
     machine: Machine,
     events: Vec<Event>,
     room: Room,
+    checkpoint: Option<Checkpoint>,
+}
+
+/// Written out, so that whoever lets a run go needs no proof about each of its parts.
+impl Drop for Recorded {
+    fn drop(self) {
+        let Recorded {
+            machine: _,
+            events: _,
+            room: _,
+            checkpoint: _,
+        } = self;
+    }
 }
 
 impl Model for Recorded {
     ghost use Rattle.std.specs.Prelude.{length, vec_capacity};
     ghost use Rattle.ckrt_history.specs.Engine.{IsRoomFor};
     ghost use Rattle.ckrt_playback.specs.Recorded.{Run};
+    ghost use Rattle.ckrt_playback.specs.Stages.{IsWithin, stage_of};
 
     ghost Value = { Run };
 
-    ghost view = { λ r. record { start = r.machine.state; events = r.events.items } };
+    ghost view = { λ r. record {
+      start = r.machine.state;
+      events = r.events.items;
+      stage = stage_of r.checkpoint;
+    } };
 
     ghost invariant = { λ r.
-        IsRoomFor (length r.events.items) (vec_capacity r.events) r.machine.state r.room };
+        IsRoomFor (length r.events.items) (vec_capacity r.events) r.machine.state r.room
+        × IsWithin r.checkpoint (length r.events.items) };
+}
+
+/// Goes to the checkpoint of a history, and says whether the machine is there as it was saved.
+fn is_as_saved(history: &mut History, saved: &Checkpoint) -> bool
+    requires { saved.now.events ≤ length history.old.events }
+    ensures history { history.new ≡ record history.old { position = history.new.position } }
+    ensures through { IsTrue result
+        ↔ ComesThrough (stage_of (Some saved.now)) history.old.events history.old.start }
+{
+    let there = begin_of(history, saved.events);
+    history.go_to(there);
+    saved.comparison.are_same(history.machine(), &saved.machine)
+}
+
+/// Whether a history comes through its checkpoint, if it has one.
+fn comes_through(history: &mut History, checkpoint: &Option<Checkpoint>) -> bool
+    requires { IsWithin checkpoint.now (length history.old.events) }
+    ensures history { history.new ≡ record history.old { position = history.new.position } }
+    ensures through { IsTrue result
+        ↔ ComesThrough (stage_of checkpoint.now) history.old.events history.old.start }
+{
+    match checkpoint {
+        Some(saved) => is_as_saved(history, saved),
+        None => true,
+    }
 }
 
 impl Recorded {
     /// The run from the machine's state on. The room of its history is taken.
     pub fn new(alloc: Global, machine: Machine, events: Vec<Event>) -> Result<Recorded, AllocError>
-        ensures { IfOk result
-            (λ run. run ≡ record { start = machine.state; events = events.items }) }
+        ensures { IfOk result (λ run. run ≡ record {
+          start = machine.state;
+          events = events.items;
+          stage = None;
+        }) }
     {
         let mut events = events;
         let room = Room::new(alloc, &machine, &mut events, STATES)?;
@@ -46,6 +102,38 @@ impl Recorded {
             machine,
             events,
             room,
+            checkpoint: None,
+        })
+    }
+
+    /// The run from the machine's state on, through the state in which another machine was saved behind its events, and on from there
+    /// through `later` ones. The room of its history is taken.
+    pub fn through(
+        alloc: Global,
+        machine: Machine,
+        events: Vec<Event>,
+        saved: Machine,
+        later: Vec<Event>,
+    ) -> Result<Recorded, AllocError>
+        ensures { IfOk result (λ run. run ≡ record {
+          start = machine.state;
+          events = events.items ++ later.items;
+          stage = Some (record { events = length events.items; state = saved.state });
+        }) }
+    {
+        let checkpoint = Checkpoint {
+            events: events.len(),
+            machine: saved,
+            comparison: Comparison::new(alloc)?,
+        };
+        let mut all = events;
+        append(&mut all, later)?;
+        let room = Room::new(alloc, &machine, &mut all, STATES)?;
+        Ok(Recorded {
+            machine,
+            events: all,
+            room,
+            checkpoint: Some(checkpoint),
         })
     }
 
@@ -67,12 +155,22 @@ impl Recorded {
     ///
     /// # Errors
     ///
-    /// `Refused` exactly where an event isn't accepted at its turn.
+    /// `Refused` exactly where an event isn't accepted at its turn, or the events don't come through the run's stage.
     pub fn play(self) -> Result<History, HistoryFault>
-        ensures played { IfOk result (λ h. h ≡ run_of self.start self.events) }
-        ensures refused { IfErr result (λ _. AllAccepted self.events self.start → ⊥) }
+        ensures played { IfOk result (λ h. h ≡ run_of self) }
+        ensures sound { IfOk result (λ _. IsSound self) }
+        ensures refused { IfErr result (λ _. IsSound self → ⊥) }
     {
-        let mut history = History::new(self.room, self.machine, self.events)?;
+        let Recorded {
+            machine,
+            events,
+            room,
+            checkpoint,
+        } = self;
+        let mut history = History::new(room, machine, events)?;
+        if !comes_through(&mut history, &checkpoint) {
+            return Err(HistoryFault::Refused);
+        }
         let begin = begin_of(&history, 0);
         history.go_to(begin);
         Ok(history)

@@ -1,5 +1,5 @@
 //! Whether two states are the same.
-ghost use Rattle.std.specs.Prelude.{◌≡◌, ◌↔◌, IfOk, IsTrue};
+ghost use Rattle.std.specs.Prelude.{◌≡◌, ◌↔◌, IsTrue, []};
 ghost use Rattle.ckrt_state.specs.WellFormed.{IsWellFormed};
 
 use ckrt_machine::Machine;
@@ -24,29 +24,42 @@ fn are_same_memories(one: &Memory, other: &Memory) -> bool
     true
 }
 
-/// Whether tables are the same: no two have one encoding.
-fn are_same_tables(alloc: Global, one: &Tables, other: &Tables) -> Result<bool, AllocError>
-    requires one { IsWellFormed one.now }
-    requires other { IsWellFormed other.now }
-    ensures { IfOk result (λ same. IsTrue same ↔ (one.now ≡ other.now)) }
-{
-    if one.threads.hart_count() != other.threads.hart_count() {
-        return Ok(false);
-    }
-    let none = Held::with_capacity(alloc, 0)?;
-    let mut bytes = vec![in alloc; 0; TABLES_ROOM]?;
-    let mut others = vec![in alloc; 0; TABLES_ROOM]?;
-    let end = encode_tables(one, &none, &mut bytes);
-    let others_end = encode_tables(other, &none, &mut others);
-    Ok(bytes[..end] == others[..others_end])
+/// What two states are compared with: whoever has it takes no memory to compare them.
+#[derive(Drop)]
+pub struct Comparison {
+    /// No output is held: tables are encoded with it.
+    none: Held,
+    ghost empty: { none.items ≡ [] },
 }
 
-/// Whether two machines have the same state: memory and tables.
-pub fn are_same(alloc: Global, one: &Machine, other: &Machine) -> Result<bool, AllocError>
-    ensures { IfOk result (λ same. IsTrue same ↔ (one.now.state ≡ other.now.state)) }
-{
-    if !are_same_memories(one.memory(), other.memory()) {
-        return Ok(false);
+impl Comparison {
+    /// Takes what memory it needs.
+    pub fn new(alloc: Global) -> Result<Comparison, AllocError> {
+        let none = Held::with_capacity(alloc, 0)?;
+        Ok(Comparison { none })
     }
-    are_same_tables(alloc, one.tables(), other.tables())
+
+    /// Whether tables are the same: no two have one encoding.
+    fn are_same_tables(&self, one: &Tables, other: &Tables) -> bool
+        requires one { IsWellFormed one.now }
+        requires other { IsWellFormed other.now }
+        ensures { IsTrue result ↔ (one.now ≡ other.now) }
+    {
+        if one.threads.hart_count() != other.threads.hart_count() {
+            return false;
+        }
+        let mut bytes = [0; TABLES_ROOM];
+        let mut others = [0; TABLES_ROOM];
+        let end = encode_tables(one, &self.none, &mut bytes);
+        let others_end = encode_tables(other, &self.none, &mut others);
+        bytes[..end] == others[..others_end]
+    }
+
+    /// Whether two machines have the same state: memory and tables.
+    pub fn are_same(&self, one: &Machine, other: &Machine) -> bool
+        ensures { IsTrue result ↔ (one.now.state ≡ other.now.state) }
+    {
+        are_same_memories(one.memory(), other.memory())
+            && self.are_same_tables(one.tables(), other.tables())
+    }
 }
