@@ -1,22 +1,34 @@
-"""What a session of `ckrt debug` begins with: no event of the area in use is made before somebody moves, so that one of them may turn out
-to be refused at its turn."""
+"""What a session of `ckrt debug` begins with: the first area of its history, and what becomes of it once the events of that are made.
+
+No event is made before somebody asks for one. So only then it turns out that one is refused at its turn, or that those of an older area
+that fits lead elsewhere than to the checkpoint.
+"""
+from copy import deepcopy
+
 from devices import MemoryDisk
-from recorded import recorded_areas
+from mistyped import answer_to
+from recorded import fitting_older, leads_to
 from recovery import Unrecovered, recover, unmade
 
 LOW = 1 << 61  # from counts below it no journal leads to one that is too high; where one isn't, all events are made before
+DAMAGED, DIFFERS = "Damaged", "OlderDiffers"
+LINES = {DIFFERS: "its older journal doesn't lead to its last checkpoint, or it is damaged; `ckrt inspect` tells: where it prints `events K`, give --at K"}
+BACK = ["bs", "bc"]
+TELLING = [b"events", b"inspect", b"limit"]  # the commands of `monitor`, beside its list, that make no events
 
 
 class Begun:
-    """The machine before the first event, how many events led to it and to the end of the journal, and whether one of these is refused:
-    the first motion ends the session then. Raises Unrecovered where none begins."""
+    """The machine of the older area, where one fits, or of the checkpoint; how many events led to it, to the checkpoint and to the end; whether
+    one in use is refused, and the fault that ends the session once they are made, if any. Raises Unrecovered where none begins."""
 
     def __init__(self, contents):
         disk = MemoryDisk(bytearray(contents))
         newer, events = unmade(disk)
         self.is_refused = has_refused(disk, newer)
-        begin = recorded_areas(disk)[0]
-        self.machine, self.first, self.whole = begin.machine, begin.events, newer.events + len(events)
+        older = fitting_older(disk, newer)
+        self.machine, self.checkpoint, self.whole = deepcopy((older or newer).machine), newer.events, newer.events + len(events)
+        self.first = older.events if older else self.checkpoint
+        self.fault = fault_of_events(self.is_refused or older is not None and not leads_to(disk, older, newer), older is not None)
 
 
 def has_refused(disk, newer):
@@ -28,3 +40,17 @@ def has_refused(disk, newer):
             raise
         return True
     return False
+
+
+def fault_of_events(is_wrong, has_older):
+    """Where there is an older area that fits, nobody looks which of the two journals it is."""
+    return (DIFFERS if has_older else DAMAGED) if is_wrong else None
+
+
+def makes_events(packet):
+    """Whether a packet makes them: a motion does, and a command of `monitor` that isn't mistyped, but for some. Whether one does that has a
+    line of no event no page tells."""
+    if packet.startswith("qRcmd,"):
+        text = bytes.fromhex(packet.partition(",")[2])
+        return answer_to(text) is None and text.partition(b" ")[0] not in TELLING
+    return packet.startswith("vCont;") or packet in BACK

@@ -162,6 +162,7 @@ class Script:
     def play(self, count):
         kinds = {self.goto: 4, self.goto_nowhere: 1, self.events: 1, self.fork: 4, self.goto_end: 4, self.event: 8, self.live: 8, self.mistype: 6,
                  self.inspect: 3, self.look: 2, self.motion: 4, self.stop_at: 2}
+        self.why()
         try:
             for kind in self.chance.choices(list(kinds), kinds.values(), k=count):
                 kind()
@@ -178,6 +179,7 @@ def lived_case(chance, case):
     if fault:
         return LivedCase(bytes(disk), [], [])
     at = chance.choice([None, None, recording.first, recording.whole, chance.randint(recording.first, recording.whole)])
+    at = recording.checkpoint if recording.is_misled and at is None else at
     try:
         script = Script(chance, Story(recording, at))
     except TooLong:

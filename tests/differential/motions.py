@@ -141,13 +141,19 @@ def steps_of_thread(steps, place, thread):
 
 
 def stepped_back(steps, stops, place, first, thread):
-    """Before the last step of a thread. What another one has a breakpoint or a watch at ends it on the way, a watch of its own, too."""
+    """Before the last step of a thread. What another one has a breakpoint or a watch at ends it on the way, a watch of its own, too.
+    Where the step that led there changed what is watched, that is told."""
     for step in reversed([step for step in steps if step.behind <= place]):
         if stops.changed_watches(step):
-            return step.behind, [f"T05watch:{address:x};thread:{step.thread:x};" for address in stops.changed_watches(step)]
+            return step.behind, changes_told(stops, [step])
         if step.thread == thread or step.place in stops.places:
-            return step.before, [f"T05thread:{step.thread:x};"]
+            return step.before, changes_told(stops, [led for led in steps if led.behind == step.before]) or [f"T05thread:{step.thread:x};"]
     return first, [BEGIN]
+
+
+def changes_told(stops, steps):
+    """The stops behind steps that changed what is watched."""
+    return [f"T05watch:{address:x};thread:{step.thread:x};" for step in steps for address in stops.changed_watches(step)]
 
 
 def onward(steps, stops, place, last):

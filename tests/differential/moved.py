@@ -7,20 +7,30 @@ from glances import recording_of
 from histories import recorded_disk
 from mistyped import HELP, LIST, answer_to, drawn_mistake, kinds_of_mistakes, text_of_packet, with_lists
 from motions import BEGIN, END, Steps, Stops, backward, named, next_step, onward, text_of_stop, thread_of_stop, threads_at
-from stubs import answers_in, frame, is_answered, line_of_events, monitor, position_text
+from stubs import answers_in, frame, is_answered, line_of_events, monitor, position_text, shown_at_first
 
 MOTIONS = {"vCont;c": onward, "bc": backward}
 
 
 @dataclass
 class MovedCase:
-    """The ways are lists of motions, each from a position, and of what is mistyped between them."""
+    """The ways are lists of motions, each from a position, None where the session begins, and of what is mistyped between them."""
     contents: bytes
     stops: Stops
     ways: list
 
     def disk(self):
         return bytearray(self.contents)
+
+
+def place_at_first(recording):
+    """Where the session begins, and whom its stop names: None where no page tells it. Where an older area leads elsewhere than to the last
+    checkpoint, the session is asked to begin at that, as it says itself."""
+    return (recording.first, 0), None if recording.is_misled else shown_at_first(recording.machine)
+
+
+def words_at_first(recording):
+    return ["--at", str(recording.checkpoint)] if recording.is_misled else []
 
 
 def steps_of(recording):
@@ -40,6 +50,8 @@ def moved_case(chance, case):
     watches = [(chance.choice(changed) - chance.choice([0, 0, 1]), chance.choice([1, 1, 2, 4])) for _ in range(chance.choice([0, 1, 1, 2]))]
     ways = [(chance.choice(steps).before, chance.choices(list(MOTIONS), k=chance.choice([1, 2, 4]))) for _ in range(3)]
     ways += [((recording.first, 0), ["vCont;c"] * 3), ((recording.whole, 0), ["bc"] * 2)]
+    if chance.random() < 0.6:
+        ways.insert(0, (None, chance.choices(list(MOTIONS), k=chance.choice([1, 2]))))
     return MovedCase(bytes(disk), Stops(places, watches), [(place, with_mistakes(chance, motions)) for place, motions in ways])
 
 
@@ -52,7 +64,7 @@ def packets_of(case):
     """Behind each motion it is asked where the session stands."""
     asked = []
     for place, motions in case.ways:
-        asked.append(monitor(f"goto {position_text(place)}"))
+        asked += [] if place is None else [monitor(f"goto {position_text(place)}")]
         for motion in motions:
             asked += [motion, monitor("events")]
     return ["QStartNoAckMode", *case.stops.packets(), *asked, HELP, "D"]
@@ -71,11 +83,13 @@ def told_at(answers, thread):
 
 def expected_motions(case, recording):
     """Of each packet the answers that may come, with what the console is told."""
-    steps, ends, before = steps_of(recording), ((recording.first, 0), (recording.whole, 0)), None
+    steps, ends = steps_of(recording), ((recording.first, 0), (recording.whole, 0))
+    place, before = place_at_first(recording)
     expected = [[("", "OK")]] * (1 + len(case.stops.packets()))
-    for place, motions in case.ways:
-        before = named_at(steps, place, before)
-        expected.append([(line_of_events(place, (recording.first, recording.whole)), "OK")])
+    for begin, motions in case.ways:
+        if begin is not None:
+            place, before = begin, named_at(steps, begin, before)
+            expected.append([(line_of_events(place, (recording.first, recording.whole)), "OK")])
         for motion in motions:
             if motion in MOTIONS:
                 place, answers = MOTIONS[motion](steps, case.stops, place, ends[motion == "vCont;c"])
@@ -100,7 +114,7 @@ def difference_of_moved(ckrt, case, path, tally):
     if fault:
         return None
     packets, expected = packets_of(case), expected_motions(case, recording)
-    done = subprocess.run([ckrt, "debug", path], input=b"".join(map(frame, packets)), capture_output=True, timeout=TIME_LIMIT)
+    done = subprocess.run([ckrt, "debug", path, *words_at_first(recording)], input=b"".join(map(frame, packets)), capture_output=True, timeout=TIME_LIMIT)
     got = answers_in(done.stdout)
     tally.update(kinds_of_mistakes(expected))
     for number, (packet, wanted, there) in enumerate(zip(packets, with_lists(packets, expected, got), got)):

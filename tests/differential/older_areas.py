@@ -1,13 +1,15 @@
-"""Changes of the area that isn't in use and of its journal, or of the newer one that it leads to: about a third leave that so."""
+"""Changes of the area that isn't in use and of its journal, or of the newer one that it leads to: about a third leave that so. And changes
+behind which the older area fits as before, and mostly leads elsewhere."""
 import struct
 
 from abi import PAGE
 from changes import Saved, change
-from damage import batch
+from damage import HIGH_COUNTS, OFFERED, batch
 from devices import MemoryDisk, StoppingDisk, filled
-from events import Eof, Input, Place, RunLong, Tick
+from events import Eof, Input, Place, Run, RunLong, Tick
 from layout import CLOSED, COUNTERS, HEADER, HEADER_AT, LAST_GENERATION, OPEN, PAGES_AT, TABLES_LIMIT, Header, header_of, write_gate
-from recovery import Unrecovered, pick_area, read_journal, read_superblock, saved_in
+from recorded import fitting_older
+from recovery import Unrecovered, pick_area, read_area, read_journal, read_superblock, saved_in
 from saved_disks import FILLS, run_lines, torn
 from session import Session
 from tables import encode_tables
@@ -165,3 +167,66 @@ class OlderArea:
         except Unrecovered:
             return
         self.device.bytes[:] = stopping.bytes
+
+
+class MisleadingArea(OlderArea):
+    """Of an older area that fits."""
+
+    def mislead(self):
+        """At times the counts of both areas are high, too."""
+        chance = self.chance
+        kinds = [self.change_page, self.change_register, self.replace_event, self.replace_event, self.refuse_event, self.refuse_event]
+        chance.choice(kinds if self.batches()[0] else kinds[:2])()
+        if chance.random() < 0.1:
+            more = chance.choice(HIGH_COUNTS[:2])
+            for area in (0, 1):
+                self.write_header(area, events=self.header(area).events + more)
+
+    def change_page(self):
+        """A byte of the memory of either area."""
+        at = self.geometry.page_at(self.chance.choice([self.area, self.area, self.newer]), self.chance.randrange(1, self.geometry.pages))
+        at += self.chance.randrange(PAGE)
+        self.device.write(at, bytes([self.device.read(at, 1)[0] ^ self.chance.choice([1, 128])]))
+
+    def change_register(self):
+        """Of a thread of either area, if any is left."""
+        def alter(saved):
+            for thread in self.chance.sample([one for one in saved.state.threads.values() if not one.has_ended][:3], 1):
+                thread.registers[self.chance.randrange(1, 32)] ^= self.chance.choice([1, 1 << 31])
+        if any(not one.has_ended for one in saved_in(self.device, self.geometry, self.area).machine.threads.values()):
+            self.changed_saved(self.area, alter)
+
+    def replace_event(self):
+        """By one that is accepted there, mostly; those behind it may be refused then."""
+        self.put_in_place([Tick(1), Tick(7), Input(b"b"), Place(0, 1), Run(0, 1), Run(0, 9), RunLong(0, 3)], lambda refusal: refusal is None)
+
+    def refuse_event(self):
+        """By one that is refused there."""
+        self.put_in_place(OFFERED, lambda refusal: refusal is not None)
+
+    def put_in_place(self, offered, is_right):
+        """One of what is offered in the place of an event, as the machine answers there; nothing where none is right."""
+        found, events = saved_in(self.device, self.geometry, self.area), [event for one in self.batches()[0] for event in one]
+        at = self.chance.randrange(len(events))
+        for event in events[:at]:
+            if found.machine.refusal_of(event, 0) is None:
+                found.machine.step(event)
+        right = [event for event in offered if is_right(found.machine.refusal_of(event, 0)) and event != events[at]]
+        if right:
+            events[at] = self.chance.choice([event for event in right if not isinstance(event, RunLong) or found.version > 1] or [events[at]])
+            self.write_batches([events[at:at + 50] for at in range(0, len(events), 50)])
+
+
+def fits_older(disk):
+    """Whether a disk has an older area that fits."""
+    try:
+        device = MemoryDisk(disk)
+        return fitting_older(device, read_area(device, read_superblock(device))) is not None
+    except Unrecovered:
+        return False
+
+
+def mislead(chance, disk):
+    """A disk without an older area that fits stays as it is."""
+    if fits_older(disk):
+        MisleadingArea(chance, disk).mislead()

@@ -1,7 +1,7 @@
 """Cases of motions in `ckrt debug` that step one thread, on or back, and of motions that a position or a number of steps ends."""
 import subprocess
 from collections import Counter
-from dataclasses import dataclass
+from dataclasses import dataclass, field
 
 from debugged import TIME_LIMIT
 from glances import recording_of
@@ -9,7 +9,7 @@ from histories import recorded_disk
 from mistyped import HELP, LIST, drawn_mistake, kinds_of_mistakes, spelled, text_of_packet, with_lists
 from motions import (Stops, backward, end_of_steps, named, next_step, onward, stepped, stepped_back, steps_of_thread, text_of_stop,
                      thread_of_stop, threads_at)
-from moved import is_any, steps_of, told_at
+from moved import is_any, place_at_first, steps_of, told_at, words_at_first
 from stubs import answers_in, frame, line_of_events, monitor, position_text
 
 LIMITS = [1, 1, 3, 20, 100, 4_294_967_295]
@@ -21,9 +21,10 @@ STEPPING = {"step": ["vCont;s:{}", "vCont;s:{};c", "vCont;c;s:{}", "vCont;S05:{}
 
 @dataclass
 class SteppedCase:
-    """Packets, and of each the answers that may come, with what the console is told."""
+    """Packets, and of each the answers that may come, with what the console is told; the words begin the session elsewhere."""
     contents: bytes
     asked: list
+    words: list = field(default_factory=list)
 
     def disk(self):
         return bytearray(self.contents)
@@ -36,7 +37,7 @@ class Way:
         self.chance, self.steps, self.stops = chance, steps, stops
         self.first, self.whole = recording.first, recording.whole
         self.asked = [(packet, [("", "OK")]) for packet in stops.packets()]
-        self.place, self.named, self.until, self.limit = (self.first, 0), None, None, None
+        (self.place, self.named), self.until, self.limit = place_at_first(recording), None, None
         self.counts = Counter(step.before[0] for step in steps)
 
     def tell(self, command, text):
@@ -56,12 +57,15 @@ class Way:
     def drawn_place(self):
         return self.chance.choice([*[step.before for step in self.chance.choices(self.steps, k=6)], (self.first, 0), (self.whole, 0)])
 
+    def why(self):
+        """A session begins with a plain stop, and a goto ends with one."""
+        self.asked.append(("?", [("", text_of_stop(PLAIN, self.named))]))
+
     def goto(self):
-        """It ends with a plain stop."""
         self.place = self.drawn_place()
         self.tell(f"goto {position_text(self.place)}", self.place_text())
         self.named = self.named_at(self.place, self.named)
-        self.asked.append(("?", [("", text_of_stop(PLAIN, self.named))]))
+        self.why()
 
     def set_until(self):
         """Where there is no such position nothing changes."""
@@ -162,15 +166,16 @@ def stepped_case(chance, case):
     places = chance.sample(aligned, min(len(aligned), chance.choice([0, 1, 1, 2])))
     watches = [(chance.choice(changed), chance.choice([1, 2, 4])) for _ in range(chance.choice([0, 0, 1, 2]))]
     way = Way(chance, recording, steps, Stops(places, watches))
-    for _ in range(6):
-        for change in (way.goto, way.set_until, way.set_limit):
-            if change == way.goto or chance.random() < 0.3:
+    way.why()
+    for number in range(6):
+        for change, share in ((way.goto, 1 if number else 0.4), (way.set_until, 0.3), (way.set_limit, 0.3)):
+            if chance.random() < share:
                 change()
             if chance.random() < 0.3:
                 way.mistype()
         for _ in range(chance.choice([1, 3, 5])):
             way.move()
-    return SteppedCase(bytes(disk), way.asked)
+    return SteppedCase(bytes(disk), way.asked, words_at_first(recording))
 
 
 def difference_of_stepped(ckrt, case, path, tally):
@@ -180,7 +185,7 @@ def difference_of_stepped(ckrt, case, path, tally):
     path.write_bytes(case.contents)
     packets = ["QStartNoAckMode", *[packet for packet, _ in case.asked], HELP, "D"]
     expected = [[("", "OK")], *[answers for _, answers in case.asked], [(LIST, "OK")], [("", "OK")]]
-    done = subprocess.run([ckrt, "debug", path], input=b"".join(map(frame, packets)), capture_output=True, timeout=TIME_LIMIT)
+    done = subprocess.run([ckrt, "debug", path, *case.words], input=b"".join(map(frame, packets)), capture_output=True, timeout=TIME_LIMIT)
     got = answers_in(done.stdout)
     tally.update(kinds_of_mistakes(expected))
     for number, (packet, answers, there) in enumerate(zip(packets, with_lists(packets, expected, got), got)):

@@ -7,7 +7,7 @@ from machine import OUTPUT_OF_RUN
 from motions import Steps, named
 from plans import Options, next_event
 from stretches import next_thread, show_event
-from stubs import live_threads, position_text
+from stubs import live_threads, position_text, shown_at_first
 
 ROOM = 65_536  # events more than are recorded
 NOT_AT_END = "not at the end of the history: monitor fork ends it here"
@@ -58,8 +58,8 @@ def event_of(line):
 class Story:
     """The machine as it was before the first event, the events, where one stands, and how far the disk has them too.
 
-    `positions` has of each event how many there are before the next one; `named` is the thread of the last stop, None where no page
-    tells it.
+    `positions` has of each event how many there are before the next one; `named`
+    is the thread of the last stop, None where no page tells it.
     """
 
     def __init__(self, recording, at=None):
@@ -69,7 +69,8 @@ class Story:
         for event in recording.events:
             self.append(event)
         self.recorded = self.whole
-        self.position, self.named = ((self.first if at is None else at), 0), None
+        self.position = (self.first if at is None else at), 0
+        self.named = shown_at_first(self.begin) if at is None else None
 
     @property
     def last(self):

@@ -5,7 +5,7 @@ from dataclasses import dataclass, field
 
 from abi import PAGE
 from listing import lines_of_state
-from motions import named, text_of_stop
+from motions import named, named_instead, text_of_stop
 from threads import WaitKind
 
 MOST_BYTES = 2048  # of memory, in an answer
@@ -60,6 +60,11 @@ def live_threads(machine):
     return [number for number, thread in sorted(machine.threads.items()) if not thread.has_ended]
 
 
+def shown_at_first(machine):
+    """The thread that `?` names before anybody has moved, and whose registers are shown: thread 1, if it is there."""
+    return named_instead(live_threads(machine), 1)
+
+
 def registers_text(machine, number):
     """x0 to x31 and the pc, the lowest byte first; zeros of one that has ended."""
     if number not in live_threads(machine):
@@ -88,8 +93,11 @@ class Look:
     mistyped: list = field(default_factory=list)
 
     def packets(self):
-        """Behind a motion it is asked why the session stands, too."""
+        """It is asked why the session stands, too."""
         return [monitor(f"goto {position_text(self.position)}"), "?", *self.questions()]
+
+    def first_packets(self):
+        return ["?", "g", *self.questions()]
 
     def questions(self):
         asked = [*[packet for packet, _ in self.mistyped], monitor("events"), monitor("inspect"), "qfThreadInfo"]
@@ -99,7 +107,12 @@ class Look:
 
     def answers(self, machine, ends, named_there):
         """What the console is told, and the payload. The stop names a thread, None where no page tells which."""
-        return [(line_of_events(self.position, ends), "OK"), ("", text_of_stop("T05", named_there)), *self.told(machine, ends, named_there)]
+        place, stop = (line_of_events(self.position, ends), "OK"), ("", text_of_stop("T05", named_there))
+        return [place, stop, *self.told(machine, ends, named_there)]
+
+    def first_answers(self, machine, ends, named_there, examined):
+        """A session begins with a plain stop."""
+        return [("", text_of_stop("T05", named_there)), registers_of(machine, examined), *self.told(machine, ends, examined)]
 
     def told(self, machine, ends, examined):
         """To the questions alone."""
@@ -117,11 +130,15 @@ def told_threads(machine):
     return live_threads(machine) or [1]
 
 
+def registers_of(machine, examined):
+    """Of the examined thread; None where no page tells which that is."""
+    return None if examined is None else ("", registers_text(machine, examined))
+
+
 def answers_of_thread(machine, number, examined):
     """Whether it is alive, what is to say of it, whether it may be examined, and the registers of the one that is then: the same as before
     where it isn't there. None where no page tells whose these are."""
-    is_alive = ("", "OK" if number in told_threads(machine) else NO_THREAD)
-    registers = None if examined is None else ("", registers_text(machine, examined))
+    is_alive, registers = ("", "OK" if number in told_threads(machine) else NO_THREAD), registers_of(machine, examined)
     if number not in told_threads(machine):
         return [is_alive, ("", NO_THREAD), ("", NO_THREAD), registers]
     text = text_of_thread(machine, number) if number in live_threads(machine) else "ready"
@@ -148,9 +165,9 @@ class Visits:
         if position in [look.position for look in self.looks]:
             self.kept[position] = deepcopy(machine), running
 
-    def answers(self):
-        """Of each look, in the order in which they are asked: a stop may name the thread of the one before."""
-        answers, before = [], None
+    def answers(self, before=None):
+        """Of each look, in the order in which they are asked: a stop may name the thread of the one before, where that is known."""
+        answers = []
         for look in self.looks:
             machine, running = self.kept[look.position]
             before = named(running, live_threads(machine), before)

@@ -157,20 +157,20 @@ class Sessions(WithKeys):
         """The list is that of the session: a line in front of another list is a difference."""
         case = DebuggedCase(bytes(disk_with(PLACE)), [Look((0, 0), [], [], self.mistakes[:1])])
         expected, packets = outcome_of_model(case), packets_of(case)
-        self.assertEqual((len(packets), packets[-2:]), (len(expected.answers), [monitor("help"), "D"]))
+        self.assertEqual((len(packets), packets[1], packets[4]), (len(expected.answers), monitor("help"), self.mistakes[0][0]))
         got = Outcome(with_list(expected.answers, LISTED), "+")
         self.assertIsNone(difference_of_outcomes(packets, expected, got))
-        for place, wrong in [(3, (BEHIND + "\n", "OK")), (3, (LISTED, "OK")), (3, (COMMAND + "\n" + LISTED, "OK")), (3, ("", "E01")), (-2, ("", "OK"))]:
+        for place, wrong in [(4, (BEHIND + "\n", "OK")), (4, (LISTED, "OK")), (4, (COMMAND + "\n" + LISTED, "OK")), (4, ("", "E01")), (1, ("", "OK"))]:
             answers = [*got.answers]
             answers[place] = wrong
             self.assertIsNotNone(difference_of_outcomes(packets, expected, Outcome(answers, "+")), wrong)
 
     def test_refused(self):
         """What is mistyped is no first motion: the list is told, and the motion behind that ends the session."""
-        case = DebuggedCase(bytes(disk_with(b"\x02\x00\x01\x00")), first_looks=[Look((0, 0), [], [], self.mistakes)], motions=["bc"])
+        case = DebuggedCase(bytes(disk_with(b"\x02\x00\x01\x00")), first_looks=[Look((0, 0), [], [], self.mistakes)], makers=["bc"])
         outcome = outcome_of_model(case)
-        self.assertEqual((packets_of(case)[1:5], packets_of(case)[-3:]), ([packet for packet, _ in self.mistakes], [monitor("help"), "bc", "D"]))
-        self.assertEqual((outcome.answers[1:5], outcome.answers[-1], outcome.status), ([answer for _, answer in self.mistakes], (LIST, "OK"), 1))
+        self.assertEqual((packets_of(case)[3:7], packets_of(case)[-3:]), ([packet for packet, _ in self.mistakes], [monitor("help"), "bc", "D"]))
+        self.assertEqual((outcome.answers[3:7], outcome.answers[-1], outcome.status), ([answer for _, answer in self.mistakes], (LIST, "OK"), 1))
 
     def test_moved(self):
         """No motion: the place stays, and so does the thread that the last stop named."""

@@ -1,17 +1,21 @@
 """Motions of a debugging session over small runs by hand."""
 import unittest
 from random import Random
+from unittest.mock import patch
 
 from abi import Call
+from assembler import image_of
 from layout import format_disk
 from lines import serve_disk
 from motions import (BEGIN, END, Stops, backward, end_of_steps, named, named_instead, next_step, onward, stepped, stepped_back, steps_of_thread,
                      text_of_stop, thread_of_stop, threads_at)
-from moved import MovedCase, expected_motions, is_any, packets_of, steps_of, told_at
-from stepped import Way
+from moved import MovedCase, expected_motions, is_any, moved_case, packets_of, place_at_first, steps_of, told_at, words_at_first
+from stepped import Way, stepped_case
 from stretches import Recording
 from stubs import monitor
 from switches import switched
+from test_begun import of_two_areas
+from test_call_lines import LED, TwoAreas
 from test_races import call, load, recording_of, store
 from test_rows import SMALL, STORES_ZERO
 
@@ -100,7 +104,8 @@ class Motions(unittest.TestCase):
         watch, told = Stops([], [(0x2800, 4)]), ["T05watch:2800;thread:2;"]
         for place, thread in [((2, 0), 1), (changing.before, 1), (changing.before, 2)]:
             self.assertEqual(stepped(steps, watch, place, last, thread), (changing.before, told))
-        self.assertEqual(stepped_back(steps, watch, (5, 0), FIRST, 1), (changing.behind, told))
+        for thread in (1, 2):
+            self.assertEqual(stepped_back(steps, watch, (5, 0), FIRST, thread), (changing.behind, told))
         for thread in (1, 2):
             self.assertEqual(stepped_back(steps, watch, changing.behind, FIRST, thread), (changing.behind, told))
         self.assertEqual(stepped_back(steps, watch, changing.before, FIRST, 2), ((3, 0), ["T05thread:2;"]))
@@ -186,9 +191,64 @@ class Named(TwoThreads):
         expected = expected_motions(MovedCase(b"", Stops([], []), [((3, 1), ["vCont;c"]), ((4, 0), ["vCont;c"])]), recording)
         self.assertEqual([expected[place] for place in (2, 5)], [[("", END + "thread:2;")]] * 2)
         expected = expected_motions(MovedCase(b"", Stops([], []), [((4, 0), ["vCont;c"])]), recording)
-        self.assertEqual(expected[2], [("", END + "thread:")])
+        self.assertEqual(expected[2], [("", END + "thread:1;")])
         expected = expected_motions(MovedCase(b"", Stops([0x1000], []), [((3, 1), ["bc", "vCont;c"])]), recording)
         self.assertEqual(expected[3:6:2], [[("", "T05thread:1;")], [("", END + "thread:1;")]])
+
+
+class Beginnings(unittest.TestCase):
+    """Sessions begin with the older area, where one fits; where that leads elsewhere they are asked to begin at the last checkpoint."""
+
+    def setUp(self):
+        switch = switched(keys=True, long_runs=True)
+        switch.__enter__()
+        self.addCleanup(switch.__exit__, None, None, None)
+        words = image_of([*call(Call.CREATE, 0x1100, 7, 0, 0), *call(Call.THREAD_EXIT, 0)]).ljust(256, b"\0") + 4 * bytes.fromhex("13000000")
+        led = [*LED, "place 0 1", "run 0 2", "commit"]
+        self.good = bytes(TwoAreas(*led).disk.bytes)
+        self.misled = bytes(TwoAreas(*led).flip(SMALL.page_at(0, 16) - 1).disk.bytes)
+        self.ended = of_two_areas(words, "place 0 1", "run 0 99", "commit", "checkpoint", "tick 1", behind=["place 0 2", "run 0 1", "tick 1"])
+        self.recordings = [Recording(bytearray(disk)) for disk in (self.good, self.misled, self.ended)]
+
+    def test_places(self):
+        self.assertEqual([place_at_first(recording) for recording in self.recordings], [((0, 0), 1), ((2, 0), None), ((2, 0), 2)])
+        self.assertEqual([words_at_first(recording) for recording in self.recordings], [[], ["--at", "2"], []])
+        self.assertEqual([(recording.first, recording.is_misled) for recording in self.recordings], [(0, False), (2, True), (2, False)])
+        behind_refused = Recording(TwoAreas().put(SMALL.area_at(0), [0]).disk.bytes)
+        self.assertEqual((behind_refused.first, behind_refused.is_misled, place_at_first(behind_refused)), (2, False, ((2, 0), 1)))
+
+    def test_moved(self):
+        """From there, without going anywhere before; at the ends those are named that are there, and that the first stop named."""
+        case = MovedCase(b"", Stops([], []), [(None, ["bc"])])
+        self.assertEqual(packets_of(case)[:3], ["QStartNoAckMode", "bc", monitor("events")])
+        for recording, begin, thread in zip(self.recordings, (0, 2, 2), (1, 1, 2)):
+            told = [("", BEGIN + f"thread:{thread};")], [(f"event {begin}, from {begin} to {recording.whole}\n", "OK")]
+            self.assertEqual(expected_motions(case, recording)[1:3], [*told])
+        case.ways[0][1][0] = "vCont;c"
+        for recording, thread in zip(self.recordings, (1, 1, 2)):
+            told = [("", END + f"thread:{thread};")], [(f"event {recording.whole}, from {recording.first} to {recording.whole}\n", "OK")]
+            self.assertEqual(expected_motions(case, recording)[1:3], [*told])
+
+    def test_stepped(self):
+        for recording in self.recordings:
+            way = Way(Random(1), recording, steps_of(recording), Stops([], []))
+            self.assertEqual((way.place, way.named), place_at_first(recording))
+            way.why()
+            self.assertEqual(way.asked, [("?", [("", text_of_stop("T05", way.named))])])
+
+    def test_drawn(self):
+        """Some ways begin there, and some go elsewhere first; a session on a disk that misleads is asked to begin there."""
+        gone = []
+        for kind, name in ((moved_case, "moved"), (stepped_case, "stepped")):
+            for seed in range(12):
+                with patch(f"{name}.recorded_disk", lambda chance, case: bytearray(self.misled if seed == 11 else self.good)):
+                    case = kind(Random(seed), None)
+                packets = packets_of(case)[1 + len(case.stops.packets()):] if kind is moved_case else [packet for packet, _ in case.asked if packet[0] != "Z"]
+                self.assertEqual(kind is stepped_case and packets.pop(0), kind is stepped_case and "?")
+                gone.append(packets[0].startswith(monitor("goto 0")[:14]))
+                if kind is stepped_case:
+                    self.assertEqual(case.words, ["--at", "2"] if seed == 11 else [])
+        self.assertTrue(3 < sum(gone[:12]) < 10 and 3 < sum(gone[12:]) < 10, gone)
 
 
 class Ways(TwoThreads):

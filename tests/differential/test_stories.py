@@ -3,6 +3,7 @@ import unittest
 from collections import Counter
 from copy import deepcopy
 from random import Random
+from unittest.mock import patch
 
 from abi import Call
 from assembler import STOP, Branch, Program, call_words, image_of
@@ -10,12 +11,14 @@ from devices import MemoryDisk
 from events import Place, Run, RunLong, Tick
 from layout import Geometry, format_disk
 from lines import serve_disk
-from lived import LivedCase, Script, difference_of_answers
+from lived import LivedCase, Script, difference_of_answers, lived_case
 from plans import Drive, Options
 from stories import MOST_STEPS, Story, TooLong, make
 from stretches import Recording
 from stubs import monitor
 from switches import switched
+from test_begun import of_two_areas
+from test_call_lines import TwoAreas
 from test_mistyped import LISTED
 from test_races import call, load, recording_of
 
@@ -81,6 +84,39 @@ class Cuts(WithKeys):
     def test_end(self):
         self.story.goto((4, 0))
         self.assertEqual(self.story.fork(), "event 4, from 0 to 4\n")
+
+
+class Beginnings(WithKeys):
+    """A session stands before its first event, which the older area may have."""
+
+    def setUp(self):
+        super().setUp()
+        self.misled = bytes(TwoAreas().flip(SMALL.page_at(0, 16) - 1).disk.bytes)
+
+    def test_places(self):
+        story = Story(Recording(TwoAreas().disk.bytes))
+        self.assertEqual((story.position, story.named, story.place_text()), ((0, 0), 1, "event 0, from 0 to 3\n"))
+        self.assertEqual((story.goto((2, 0)), story.fork(), story.goto((1, 1)), story.events), (True, "event 2, from 0 to 2\n", True, [Place(0, 1), Run(0, 9)]))
+        for at in (0, 2, 3):
+            story = Story(Recording(TwoAreas().disk.bytes), at)
+            self.assertEqual((story.position, story.named), ((at, 0), None))
+
+    def test_shown(self):
+        """Thread 1, where it hasn't ended by then; else the first one."""
+        words = [*call(Call.CREATE, 0x1100, 7, 0, 0), *call(Call.THREAD_EXIT, 0)]
+        story = Story(Recording(bytearray(of_two_areas(image_of(words), "place 0 1", "run 0 99", "commit", "checkpoint", "tick 1", behind=["tick 1"]))))
+        self.assertEqual((story.position, story.named, story.recorded), ((2, 0), 2, 4))
+
+    def test_drawn(self):
+        """Why it stands there is asked first of all. On a disk that misleads a session is asked to begin there, or behind it."""
+        for disk, ats in ((bytes(TwoAreas().disk.bytes), {(), ("0",), ("1",), ("2",), ("3",)}), (self.misled, {("2",), ("3",)})):
+            drawn = []
+            for seed in range(40):
+                with patch("lived.recorded_disk", lambda chance, case: bytearray(disk)):
+                    case = lived_case(Random(seed), None)
+                drawn.append(tuple(case.words[1:]))
+                self.assertEqual(case.asked[0], ("?", ("", "T05thread:" + ("" if case.words else "1;"))))
+            self.assertEqual(set(drawn), ats)
 
 
 class Events(WithKeys):
@@ -201,9 +237,9 @@ class Named(WithKeys):
         return self.story.named
 
     def test_next(self):
-        """The thread whose step is next, within a run too; else that of the stop before, which nobody is before the first one."""
-        self.assertIsNone(self.story.named)
-        self.assertIsNone(self.named((4, 0)))
+        """The thread whose step is next, within a run too; else that of the stop before, which is the first one's before a session has any."""
+        self.assertEqual(self.story.named, 1)
+        self.assertEqual(self.named((4, 0)), 1)
         self.assertEqual(self.named((3, 2)), 2)
         self.assertEqual(self.named((4, 0)), 2)
         self.assertEqual([self.named((5, 0)), self.named((4, 0)), self.named((6, 0))], [1, 1, 1])
