@@ -22,9 +22,8 @@ use Rattle.ckrt_counts.specs.declared.counts.Note.TheVariants as note
 use Rattle.ckrt_counts.specs.declared.turn.Turn.{Turn}
 use Rattle.ckrt_counts.specs.declared.turn.Turn.TheVariants as turn
 use Rattle.ckrt_trace.specs.Events.{state_behind}
-use Rattle.ckrt_trace.specs.Lines.{is_ecall_at, is_plain_of, is_quiet}
-use Rattle.ckrt_trace.specs.Quiet.{GoesQuietlyTo, IsMetAtCalls, calls_next, is_at_gate, is_quiet_after}
-use Rattle.ckrt_trace.proofs.QuietLemmas.{IsCalm, calm_behind, meets_is, no_gate}
+use Rattle.ckrt_quiet.specs.Quiet.{GoesQuietlyTo, IsCalm, IsMetAtCalls, calls_next, is_at_gate, is_ecall_at, is_plain_of, is_quiet, is_quiet_after}
+use Rattle.ckrt_quiet.proofs.QuietLemmas.{calm_behind, meets_is, no_gate}
 use Rattle.ckrt_trace.proofs.RowLemmas.{quiet_state}
 use Rattle.ckrt_profile.specs.Steps.{looks_at, of_rest, of_step, step_by, step_with, word_turn}
 use Rattle.ckrt_profile.specs.Leaving.{addresses, is_onward, leaves, leaves_at, leaves_next}

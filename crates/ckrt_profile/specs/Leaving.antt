@@ -8,7 +8,7 @@ use Rattle.ckrt_counts.specs.declared.turn.Turn.TheVariants as turn
 use Rattle.ckrt_counts.specs.Turns.{turn_of}
 use Rattle.ckrt_machine.specs.Runs.{with_byte}
 use Rattle.ckrt_machine.specs.Steps.{State, hart_of, hart_step}
-use Rattle.ckrt_trace.specs.Quiet.{is_at_gate}
+use Rattle.ckrt_quiet.specs.Quiet.{is_at_gate}
 use Rattle.ckrt_profile.specs.Steps.{step_by}
 
 abbrev pub is_onward : Turn → Bool

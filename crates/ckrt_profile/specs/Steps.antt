@@ -13,7 +13,7 @@ use Rattle.ckrt_machine.specs.Events as machine
 use Rattle.ckrt_machine.specs.declared.event.RunEnd.{RunEnd}
 use Rattle.ckrt_machine.specs.Runs.{stop_of, with_byte}
 use Rattle.ckrt_machine.specs.Steps.{State, Stepped, hart_of, hart_step}
-use Rattle.ckrt_trace.specs.Lines.{is_quiet}
+use Rattle.ckrt_quiet.specs.Quiet.{is_quiet}
 use Rattle.ckrt_counts.specs.declared.counts.Note.{Note}
 use Rattle.ckrt_counts.specs.declared.counts.Note.TheVariants as note
 use Rattle.ckrt_counts.specs.declared.counts.Step.{Step}

@@ -15,10 +15,11 @@ use ckrt_counts::{Awaited, Counts, Note, Step, Turn, turn_of};
 use ckrt_events::Event;
 use ckrt_machine::Machine;
 use ckrt_memory::Memory;
+use ckrt_quiet::{go_quietly_to, is_quiet};
 use ckrt_rv32i::{Bus, Size};
 use ckrt_state::Tables;
 use ckrt_thread::{Reason, Wait};
-use ckrt_trace::{advance, go_quietly_to, is_quiet, is_stopped};
+use ckrt_trace::{advance, is_stopped};
 
 /// What is waited for.
 fn awaited_of(reason: Reason) -> Awaited

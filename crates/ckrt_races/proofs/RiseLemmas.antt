@@ -15,7 +15,7 @@ use Rattle.ckrt_machine.specs.Events as machine
 use Rattle.ckrt_machine.specs.declared.event.RunEnd.{RunEnd}
 use Rattle.ckrt_machine.specs.Runs.{stop_of, with_byte}
 use Rattle.ckrt_machine.specs.Steps.{State, hart_of, hart_step}
-use Rattle.ckrt_trace.specs.Lines.{is_quiet}
+use Rattle.ckrt_quiet.specs.Quiet.{is_quiet}
 use Rattle.ckrt_order.specs.declared.operation.Place.{Place}
 use Rattle.ckrt_order.specs.declared.operation.Operation.{Operation}
 use Rattle.ckrt_order.specs.declared.operation.Operation.TheVariants as operation

@@ -6,7 +6,8 @@ use Rattle.ckrt_machine.specs.Events as machine
 use Rattle.ckrt_machine.specs.declared.event.RunEnd.{RunEnd}
 use Rattle.ckrt_machine.specs.Runs.{stop_of, with_byte}
 use Rattle.ckrt_machine.specs.Steps.{State, Stepped, hart_of, hart_step}
-use Rattle.ckrt_trace.specs.Lines.{caller_of, is_quiet}
+use Rattle.ckrt_quiet.specs.Quiet.{is_quiet}
+use Rattle.ckrt_trace.specs.Lines.{caller_of}
 use Rattle.ckrt_order.specs.declared.operation.Place.{Place}
 use Rattle.ckrt_order.specs.declared.operation.Operation.{Operation}
 use Rattle.ckrt_races.specs.Accesses.{accesses}

@@ -18,8 +18,9 @@ use crate::orders::{watch_acting, watch_waits};
 use ckrt_events::Event;
 use ckrt_machine::Machine;
 use ckrt_order::{Detector, Place};
+use ckrt_quiet::is_quiet;
 use ckrt_state::Tables;
-use ckrt_trace::{advance, is_quiet, is_stopped};
+use ckrt_trace::{advance, is_stopped};
 
 /// A step that was made, and is no plain instruction.
 #[tactic(auto, using(crate::proofs::BehindLemmas::behind_both))]

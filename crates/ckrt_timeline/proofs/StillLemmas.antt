@@ -16,8 +16,8 @@ use Rattle.ckrt_machine.specs.Steps as steps
 use Rattle.ckrt_machine.specs.Steps.{State, Stepped, hart_of, hart_step, slot_step, step_of, thread_step}
 use Rattle.ckrt_machine.proofs.RegsLaws.{regs_read}
 use Rattle.ckrt_thread.proofs.SlotLemmas.{slot_elsewhere}
-use Rattle.ckrt_trace.specs.Lines.{is_ecall_at, is_plain, is_plain_of, is_quiet}
-use Rattle.ckrt_trace.proofs.QuietLemmas.{calls_there}
+use Rattle.ckrt_quiet.specs.Quiet.{is_ecall_at, is_plain, is_plain_of, is_quiet}
+use Rattle.ckrt_quiet.proofs.QuietLemmas.{calls_there}
 use Rattle.ckrt_timeline.specs.Still.{IsStill, standing}
 
 same_still : (s : threads.State) → IsStill s s

@@ -12,8 +12,9 @@ use crate::activity::activities;
 use crate::timeline::{Timeline, note};
 use ckrt_events::Event;
 use ckrt_machine::Machine;
+use ckrt_quiet::go_quietly;
 use ckrt_thread::Hart;
-use ckrt_trace::{advance, go_quietly, is_stopped};
+use ckrt_trace::{advance, is_stopped};
 use std::alloc::AllocError;
 
 /// Steps at which each thread does the same: quiet ones, or one that isn't. The answer is how many.

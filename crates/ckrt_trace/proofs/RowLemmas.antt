@@ -6,8 +6,8 @@ use Rattle.ckrt_machine.specs.Runs.{after_steps, stop_after, stop_of, with_byte}
 use Rattle.ckrt_machine.specs.Steps.{State, hart_of, hart_step}
 use Rattle.ckrt_trace.specs.declared.lines.Place.{Place}
 use Rattle.ckrt_trace.specs.Events.{at, lines_after, state_behind}
-use Rattle.ckrt_trace.specs.Lines.{caller_of, fault_line, is_quiet, lines_between, step_lines, waiting_of}
-use Rattle.ckrt_trace.specs.Quiet.{is_quiet_after}
+use Rattle.ckrt_trace.specs.Lines.{caller_of, fault_line, lines_between, step_lines, waiting_of}
+use Rattle.ckrt_quiet.specs.Quiet.{is_quiet, is_quiet_after}
 use Rattle.ckrt_trace.proofs.RunLemmas.{lines_next, state_next}
 
 abbrev pub GoOnQuietly : (made h : ℕ) → State → List ℕ → Type 0

@@ -3,4 +3,3 @@ pub mod Stretches
 pub mod Recorded
 pub mod Events
 pub mod Lines
-pub mod Quiet

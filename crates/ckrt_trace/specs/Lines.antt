@@ -3,9 +3,6 @@
 use Rattle.std.specs.Prelude.{◌≡◌, ◌≤◌, ℕ, ◌+◌, ◌%◌, ◌^◌, ◌==◌, ◌&&◌, not, Bool, true, false, if◌then◌else◌, List, [], ◌++◌, map, codes, decimal, Option, Some, None}
 use Rattle.std.specs.List.{find, flat_map}
 use Rattle.ckrt_registers.specs.Registers.{Registers, get}
-use Rattle.ckrt_rv32i.specs.Memory.{is_valid, loaded}
-use Rattle.ckrt_rv32i.specs.declared.memory_bus.Size.TheVariants as size
-use Rattle.ckrt_thread.specs.Abi.{RETURN_GATE, UNWIND_GATE}
 use Rattle.ckrt_thread.specs.Cancellation.{is_immediate}
 use Rattle.ckrt_thread.specs.State as threads
 use Rattle.ckrt_thread.specs.Waits.{is_of}
@@ -23,6 +20,7 @@ use Rattle.ckrt_events.specs.declared.event.Event.TheVariants.{Run}
 use Rattle.ckrt_machine.specs.Events.{Machine, refusal_of}
 use Rattle.ckrt_machine.specs.Runs.{is_running, stop_of}
 use Rattle.ckrt_machine.specs.Steps.{State, hart_of, hart_step}
+use Rattle.ckrt_quiet.specs.Quiet.{is_ecall_at, is_quiet}
 use Rattle.ckrt_inspect.specs.Texts.{reason_text, status_text}
 use Rattle.ckrt_inspect.specs.Listing.{until_text}
 use Rattle.ckrt_trace.specs.declared.lines.Caller.{Caller}
@@ -67,10 +65,6 @@ came_text t pc a s =
     else unknown_text
 
 -- CALLS: `K+S thread T NAME(ARGUMENTS) = ANSWER`
-
--- the ECALL instruction stands at an address
-abbrev pub is_ecall_at : List ℕ → ℕ → Bool
-is_ecall_at bytes pc = is_valid bytes pc size.Word && loaded bytes pc size.Word == 0x73
 
 -- the next step of the thread is a call: it acts on no request, and is at an ECALL
 abbrev pub is_calling : Live → List ℕ → Bool
@@ -144,22 +138,6 @@ over_lines p before after = flat_map (over_line p after) before
 
 abbrev pub lines_between : Place → Option Caller → List Waiting → Tables → List ℕ
 lines_between p who before after = call_line p who after ++ over_lines p before after
-
--- a step of a thread that is neither a call, nor a return to a gate, nor acts on a request: it changes no wait
-abbrev pub is_plain : Live → List ℕ → Bool
-is_plain l bytes =
-    not (l.regs.pc == RETURN_GATE) && (not (l.regs.pc == UNWIND_GATE)
-    && (not (is_immediate l.cancellation) && not (is_ecall_at bytes l.regs.pc)))
-
-abbrev pub is_plain_of : Option Thread → List ℕ → Bool
-is_plain_of None bytes = true
-is_plain_of (Some (thread.Ended v)) bytes = true
-is_plain_of (Some (thread.Live l)) bytes = is_plain l bytes
-
--- the same of who is on a hart
-abbrev pub is_quiet : Option ℕ → State → Bool
-is_quiet None s = true
-is_quiet (Some t) s = is_plain_of (threads.thread_of s.tables.threads t) s.bytes
 
 -- a call, and the waits that a step ended
 abbrev pub lines_of_step : Place → ℕ → State → List ℕ

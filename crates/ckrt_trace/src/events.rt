@@ -10,14 +10,12 @@ ghost use Rattle.ckrt_machine.specs.Steps.{hart_step};
 ghost use Rattle.ckrt_trace.specs.Events.{GoesOnTold, byte_text, event_lines, event_text, input_text, lines_after, other_lines, run_lines, state_behind};
 ghost use Rattle.ckrt_trace.specs.Lines.{MayStep, lines_of_step, put_before, step_lines};
 
-use crate::lines::{
-    Place, is_quiet, look, waits_now, write_between, write_fault, write_overs, write_place,
-};
-use crate::quiet::go_quietly;
+use crate::lines::{Place, look, waits_now, write_between, write_fault, write_overs, write_place};
 use crate::texts::{write_byte, write_counted};
 use arrayvec::ArrayVec;
 use ckrt_events::Event;
 use ckrt_machine::{Machine, RUN_OUTPUT};
+use ckrt_quiet::{go_quietly, is_quiet};
 use ckrt_state::Status;
 use std::io::{Result, Write};
 

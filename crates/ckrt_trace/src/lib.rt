@@ -7,15 +7,13 @@
 mod events;
 mod lines;
 mod names;
-mod quiet;
 mod recorded;
 mod stretch;
 mod texts;
 
 pub use events::{advance, is_stopped, trace_event};
-pub use lines::{Before, Caller, Place, Waiting, is_quiet, next_caller};
+pub use lines::{Before, Caller, Place, Waiting, next_caller};
 pub use names::{Answers, Arguments, answers_of, arguments_of, name_of};
-pub use quiet::{AtCalls, go_quietly, go_quietly_to};
 pub use recorded::Calls;
 pub use stretch::{Stretch, Telling, tell_stretch};
 pub use texts::{write_counted, write_hex, write_number};

@@ -6,7 +6,7 @@ ghost use Rattle.ckrt_state.specs.declared.table.Status.TheVariants.{Faulted};
 ghost use Rattle.ckrt_inspect.specs.Texts.{status_text};
 ghost use Rattle.std.specs.Io.KnownBytes.{Appends};
 ghost use Rattle.ckrt_thread.specs.State.{thread_of};
-ghost use Rattle.ckrt_trace.specs.Lines.{answer_text, answered_at, answers_after, call_line, caller_of, calling_of, came_of, came_text, ended_line, fault_line, is_calling, is_ecall_at, is_plain, is_quiet, is_retake, lines_between, over_line, over_lines, pc_of, place_text, still_waits, thread_text, unknown_text, waiting_of, waits_text};
+ghost use Rattle.ckrt_trace.specs.Lines.{answer_text, answered_at, answers_after, call_line, caller_of, calling_of, came_of, came_text, ended_line, fault_line, is_calling, is_retake, lines_between, over_line, over_lines, pc_of, place_text, still_waits, thread_text, unknown_text, waiting_of, waits_text};
 ghost use Rattle.ckrt_machine.specs.Steps.{hart_of};
 
 use crate::names::{Answers, answers_of};
@@ -17,12 +17,11 @@ use arrayvec::ArrayVec;
 use ckrt_calls::Call;
 use ckrt_machine::Machine;
 use ckrt_memory::Memory;
+use ckrt_quiet::is_ecall_at;
 use ckrt_registers::Regs;
-use ckrt_rv32i::{Bus, Cause, Size};
+use ckrt_rv32i::Cause;
 use ckrt_state::{Status, Tables};
-use ckrt_thread::{
-    Live, MAX_THREADS, RETURN_GATE, Reason, Thread, ThreadId, Threads, UNWIND_GATE, Wait,
-};
+use ckrt_thread::{Live, MAX_THREADS, Reason, Thread, ThreadId, Threads, Wait};
 use std::io::{Result, Write};
 
 /// So many events are done, and so many steps of the next one.
@@ -52,9 +51,6 @@ pub struct Before {
     pub caller: Option<Caller>,
     pub waiting: ArrayVec<Waiting, MAX_THREADS>,
 }
-
-/// The word of ECALL.
-pub(crate) const ECALL: u32 = 0x73;
 
 /// Where a line stands.
 #[tactic(auto, using(crate::proofs::AppendLemmas::appends_both))]
@@ -133,14 +129,6 @@ fn write_came<W: Write>(
         Some(wait) => write_waits(out, &wait),
         None => write_answered(out, pc, answers, after.threads.regs(thread)),
     }
-}
-
-/// Whether the word of ECALL stands at an address.
-fn is_ecall_at(memory: &Memory, pc: u32) -> bool
-    requires { pc % 4 ≡ 0 }
-    ensures { result ≡ is_ecall_at memory.now.bytes pc }
-{
-    memory.load(pc, Size::Word) == Some(ECALL)
 }
 
 /// Whether the thread's next step is a call.
@@ -296,33 +284,6 @@ fn write_over<W: Write>(out: &mut W, place: Place, after: &Tables, waiting: &Wai
         return Ok(());
     }
     write_ended(out, place, after, waiting)
-}
-
-/// Whether the thread's next step is neither a call, nor a return to a gate, nor acts on a request.
-fn is_plain(live: &Live, memory: &Memory) -> bool
-    requires { live.now.regs.pc % 4 ≡ 0 }
-    ensures { result ≡ is_plain live.now memory.now.bytes }
-{
-    let pc = live.regs.pc();
-    pc != RETURN_GATE
-        && pc != UNWIND_GATE
-        && !live.cancellation.is_immediate()
-        && !is_ecall_at(memory, pc)
-}
-
-/// Whether the next step of the hart changes no wait.
-pub fn is_quiet(machine: &Machine, hart: u8) -> bool
-    ensures { result ≡ is_quiet (hart_of machine.now.state.tables hart) machine.now.state }
-{
-    let threads = &machine.tables().threads;
-    threads.known();
-    let Some(thread) = threads.on_hart(usize::from(hart)) else {
-        return true;
-    };
-    match threads.thread(u32::from(thread)) {
-        Some(Thread::Live(live)) => is_plain(live, machine.memory()),
-        _ => true,
-    }
 }
 
 /// What is looked at before a step of the hart.

@@ -1,6 +1,6 @@
 use Rattle.std.proofs.Common.{◌∙◌, ◌-◌, sym}
-use Rattle.ckrt_trace.proofs.QuietLemmas.{calm_here, went}
-use Rattle.ckrt_trace.proofs.quiet.go_quietly_to.Goals as goal
+use Rattle.ckrt_quiet.proofs.QuietLemmas.{calm_here, went}
+use Rattle.ckrt_quiet.proofs.quiet.go_quietly_to.Goals as goal
 
 -- its thread acts on no request, and so on none as it goes on
 pub returns : goal.returns

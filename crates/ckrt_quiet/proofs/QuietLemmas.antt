@@ -32,8 +32,7 @@ use Rattle.std.specs.Prelude.{if◌then◌else◌, is_none, nat_le, length}
 use Rattle.ckrt_machine.specs.Runs.{RUN_OUTPUT, after_steps, is_running, stop_after, stop_of, with_byte}
 use Rattle.ckrt_machine.specs.RunsTo.{EndedBy, HasMadeTo, meets_after, meets_for, meets_on, meets_with}
 use Rattle.ckrt_machine.proofs.RegsLaws.{regs_read}
-use Rattle.ckrt_trace.specs.Lines.{is_ecall_at, is_plain, is_plain_of, is_quiet}
-use Rattle.ckrt_trace.specs.Quiet.{GoesQuietly, GoesQuietlyTo, IsLiveOn, IsMetAtCalls, acts_first, acts_next, calls_next, is_at_gate, is_quiet_after}
+use Rattle.ckrt_quiet.specs.Quiet.{GoesQuietly, GoesQuietlyTo, IsCalm, IsLiveOn, IsMetAtCalls, acts_first, acts_next, calls_next, is_at_gate, is_ecall_at, is_plain, is_plain_of, is_quiet, is_quiet_after, or_call}
 
 -- AN INSTRUCTION CALLS ONLY WHERE ECALL STANDS
 
@@ -111,6 +110,23 @@ calls_at_jumps r m i whole valid is none =
     let no_call : is_ecall_at m r.pc ≡ false = ap (λ b. b && (w == 0x73)) valid ∙ (other_opcode w i is none).no_call in
     ap (λ b. if b then true else is_at_gate r.pc) no_call ∙ no_gate r.pc (low_there m r.pc whole valid)
 
+-- a reason, or a call
+
+pub met_at_calls : (meets : Meets) → IsMetAtCalls (or_call meets)
+met_at_calls meets r m is = ap (λ b. if b then true else meets r m) is
+
+pub only_at_jumps : (meets : Meets) → IsOnlyAtJumps meets → IsOnlyAtJumps (or_call meets)
+only_at_jumps meets only r m i whole valid is none =
+    ap (λ b. if b then true else meets r m) (calls_at_jumps r m i whole valid is none) ∙ only r m i whole valid is none
+
+-- so the reason isn't met either
+pub neither : (meets : Meets) (r : Registers) (m : List ℕ) → or_call meets r m ≡ false → meets r m ≡ false
+neither meets r m unmet = go (calls_next r m) unmet
+  where
+    go : (b : Bool) → (if b then true else meets r m) ≡ false → meets r m ≡ false
+    go true e = absurd (true≢false e)
+    go false e = e
+
 -- A STEP MORE
 
 pub state_more : (k h : ℕ) (s : State) (out : List ℕ) → (after_steps (suc k) h s out).state ≡ (hart_step h (after_steps k h s out).state).state
@@ -122,13 +138,6 @@ output_more zero h s out = refl
 output_more (suc k) h s out = output_more k h (hart_step h s).state (with_byte (hart_step h s).put out)
 
 -- A THREAD ON A HART THAT ACTS ON NO REQUEST
-
--- it is thread t, which hasn't ended
-pub record IsCalm (h t : ℕ) (s : State) : Type 0 where
-  pub on : hart_of s.tables h ≡ Some t
-  pub live : Live
-  pub is : threads.thread_of s.tables.threads t ≡ Some (thread.Live live)
-  pub idle : is_immediate live.cancellation ≡ false
 
 -- what no call and no gate leaves of the choices of a step
 picked : (e a b i : Bool) → (if e then true else (if a then true else b)) ≡ false → i ≡ false → (not a && (not b && (not i && not e))) ≡ true
@@ -217,18 +226,15 @@ live_is None e = absurd (true≢false (sym e))
 live_is (Some (thread.Ended v)) e = absurd (true≢false (sym e))
 live_is (Some (thread.Live l)) e = (l, refl)
 
+pub calm_by : (h t : ℕ) (s : State) → hart_of s.tables h ≡ Some t → IsLiveOn h s → acts_next (hart_of s.tables h) s ≡ false → IsCalm h t s
+calm_by h t s on lives idle =
+    let slot = live_is (threads.thread_of s.tables.threads t) (lives t on) in
+    record { on = on; live = slot.0; is = slot.1; idle = ap acts_first (sym slot.1) ∙ ap (λ o. acts_next o s) (sym on) ∙ idle }
+
 pub calm_here : (h : ℕ) (s : State) (out : List ℕ) → stop_of h s.tables out ≡ None → IsLiveOn h s → acts_next (hart_of s.tables h) s ≡ false → (t : ℕ) × IsCalm h t s
 calm_here h s out going lives idle =
     let who = somebody h s out going in
-    let slot = live_is (threads.thread_of s.tables.threads who.0) (lives who.0 who.1) in (
-      who.0,
-      record {
-        on = who.1;
-        live = slot.0;
-        is = slot.1;
-        idle = ap acts_first (sym slot.1) ∙ ap (λ o. acts_next o s) (sym who.1) ∙ idle;
-      },
-    )
+    (who.0, calm_by h who.0 s who.1 lives idle)
 
 pub loud_acting_here : (h : ℕ) (s : State) → acts_next (hart_of s.tables h) s ≡ true → is_quiet (hart_of s.tables h) s ≡ false
 loud_acting_here h s acts = go (hart_of s.tables h) refl acts
@@ -263,7 +269,7 @@ module _ (meets : Meets) (calls : IsMetAtCalls meets) (h t : ℕ) (s : State) (o
   none_next : (z : State) (c : IsCalm h t z) → meets_on meets h z ≡ false → calls_next c.live.regs z.bytes ≡ false
   none_next z c unmet = not_true _ _ (calls c.live.regs z.bytes) (sym (meets_is h t z c.live c.on c.is meets) ∙ unmet)
 
-  calm_after : (m : ℕ) → ((k : ℕ) → k < m → meets_after meets k h s out ≡ false) → IsCalm h t (after_steps m h s out).state
+  pub calm_after : (m : ℕ) → ((k : ℕ) → k < m → meets_after meets k h s out ≡ false) → IsCalm h t (after_steps m h s out).state
   calm_after zero unmet = calm
   calm_after (suc m) unmet =
       let z = (after_steps m h s out).state in

@@ -1,17 +1,43 @@
--- Quiet steps in a row: they call nothing, and change no wait.
-use Rattle.std.specs.Prelude.{◌≡◌, ◌⊎◌, ◌≤◌, ◌<◌, ℕ, ◌==◌, Bool, true, false, if◌then◌else◌, Option, Some, None, is_some, List}
+-- Quiet steps, which call nothing and change no wait, and such steps in a row (this project's choice).
+use Rattle.std.specs.Prelude.{◌≡◌, ◌⊎◌, ◌≤◌, ◌<◌, ℕ, ◌==◌, ◌&&◌, not, Bool, true, false, if◌then◌else◌, Option, Some, None, is_some, List}
 use Rattle.ckrt_registers.specs.Registers.{Registers}
+use Rattle.ckrt_rv32i.specs.Memory.{is_valid, loaded}
+use Rattle.ckrt_rv32i.specs.declared.memory_bus.Size.TheVariants as size
 use Rattle.ckrt_memory.specs.Reasons.{Meets}
 use Rattle.ckrt_thread.specs.Abi.{RETURN_GATE, UNWIND_GATE}
 use Rattle.ckrt_thread.specs.Cancellation.{is_immediate}
 use Rattle.ckrt_thread.specs.State as threads
+use Rattle.ckrt_thread.specs.declared.records.Live.{Live}
 use Rattle.ckrt_thread.specs.declared.records.Thread.{Thread}
 use Rattle.ckrt_thread.specs.declared.records.Thread.TheVariants as thread
 use Rattle.ckrt_machine.specs.Events.{Machine}
 use Rattle.ckrt_machine.specs.Runs.{after_steps, stop_after}
 use Rattle.ckrt_machine.specs.RunsTo.{meets_after}
 use Rattle.ckrt_machine.specs.Steps.{State, hart_of}
-use Rattle.ckrt_trace.specs.Lines.{is_ecall_at, is_quiet}
+
+-- A QUIET STEP
+
+-- the ECALL instruction stands at an address
+abbrev pub is_ecall_at : List ℕ → ℕ → Bool
+is_ecall_at bytes pc = is_valid bytes pc size.Word && loaded bytes pc size.Word == 0x73
+
+-- a step of a thread that is neither a call, nor a return to a gate, nor acts on a request: it changes no wait
+abbrev pub is_plain : Live → List ℕ → Bool
+is_plain l bytes =
+    not (l.regs.pc == RETURN_GATE) && (not (l.regs.pc == UNWIND_GATE)
+    && (not (is_immediate l.cancellation) && not (is_ecall_at bytes l.regs.pc)))
+
+abbrev pub is_plain_of : Option Thread → List ℕ → Bool
+is_plain_of None bytes = true
+is_plain_of (Some (thread.Ended v)) bytes = true
+is_plain_of (Some (thread.Live l)) bytes = is_plain l bytes
+
+-- the same of who is on a hart
+abbrev pub is_quiet : Option ℕ → State → Bool
+is_quiet None s = true
+is_quiet (Some t) s = is_plain_of (threads.thread_of s.tables.threads t) s.bytes
+
+-- STEPS IN A ROW
 
 -- the next step is quiet behind k steps of the thread on hart h
 abbrev pub is_quiet_after : (k h : ℕ) → State → List ℕ → Bool
@@ -48,6 +74,17 @@ abbrev pub acts_next : Option ℕ → State → Bool
 acts_next None s = false
 acts_next (Some t) s = acts_first (threads.thread_of s.tables.threads t)
 
+-- who is on a hart, if it acts on no request by its next step
+abbrev pub calm_of : Option ℕ → State → Option ℕ
+calm_of o s = if acts_next o s then None else o
+
+-- thread t is on hart h, hasn't ended, and acts on no request
+pub record IsCalm (h t : ℕ) (s : State) : Type 0 where
+  pub on : hart_of s.tables h ≡ Some t
+  pub live : Live
+  pub is : threads.thread_of s.tables.threads t ≡ Some (thread.Live live)
+  pub idle : is_immediate live.cancellation ≡ false
+
 -- whoever is on a hart hasn't ended
 abbrev pub IsLiveOn : (h : ℕ) → State → Type 0
 IsLiveOn h s = (t : ℕ) → hart_of s.tables h ≡ Some t → threads.is_live s.tables.threads t ≡ true
@@ -57,6 +94,10 @@ IsLiveOn h s = (t : ℕ) → hart_of s.tables h ≡ Some t → threads.is_live s
 -- a reason that is met before each call and at each gate
 abbrev pub IsMetAtCalls : Meets → Type 0
 IsMetAtCalls meets = (r : Registers) (m : List ℕ) → calls_next r m ≡ true → meets r m ≡ true
+
+-- the same reason, and one before each call and at each gate
+abbrev pub or_call : Meets → Meets
+or_call meets r m = if calls_next r m then true else meets r m
 
 -- A machine made some quiet steps, before each of which the reason wasn't met, up to the first before which it is, or that isn't quiet, or to the
 -- end of the run.

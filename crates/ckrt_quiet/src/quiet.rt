@@ -1,14 +1,51 @@
-//! Quiet steps in a row.
-ghost use Rattle.std.specs.Prelude.{◌≡◌, None};
+//! Quiet steps, and such steps in a row.
+ghost use Rattle.std.specs.Prelude.{◌≡◌, ◌%◌, IfSome, None};
 ghost use Rattle.ckrt_machine.specs.Runs.{stop_of};
 ghost use Rattle.ckrt_machine.specs.Steps.{hart_of};
-ghost use Rattle.ckrt_trace.specs.Lines.{is_ecall_at};
-ghost use Rattle.ckrt_trace.specs.Quiet.{GoesQuietly, GoesQuietlyTo, IsLiveOn, IsMetAtCalls, acts_next, is_at_gate};
+ghost use Rattle.ckrt_quiet.specs.Quiet.{GoesQuietly, GoesQuietlyTo, IsCalm, IsLiveOn, IsMetAtCalls, acts_next, calm_of, is_at_gate, is_ecall_at, is_plain, is_quiet};
 
-use crate::lines::ECALL;
 use ckrt_machine::Machine;
-use ckrt_memory::StopReason;
-use ckrt_thread::{RETURN_GATE, UNWIND_GATE};
+use ckrt_memory::{Memory, StopReason};
+use ckrt_rv32i::{Bus, Size};
+use ckrt_thread::{Live, RETURN_GATE, Thread, ThreadId, UNWIND_GATE};
+
+/// The word of ECALL.
+const ECALL: u32 = 0x73;
+
+/// Whether the word of ECALL stands at an address.
+pub fn is_ecall_at(memory: &Memory, pc: u32) -> bool
+    requires { pc % 4 ≡ 0 }
+    ensures { result ≡ is_ecall_at memory.now.bytes pc }
+{
+    memory.load(pc, Size::Word) == Some(ECALL)
+}
+
+/// Whether the thread's next step is neither a call, nor a return to a gate, nor acts on a request.
+fn is_plain(live: &Live, memory: &Memory) -> bool
+    requires { live.now.regs.pc % 4 ≡ 0 }
+    ensures { result ≡ is_plain live.now memory.now.bytes }
+{
+    let pc = live.regs.pc();
+    pc != RETURN_GATE
+        && pc != UNWIND_GATE
+        && !live.cancellation.is_immediate()
+        && !is_ecall_at(memory, pc)
+}
+
+/// Whether the next step of the hart is quiet, and so changes no wait.
+pub fn is_quiet(machine: &Machine, hart: u8) -> bool
+    ensures { result ≡ is_quiet (hart_of machine.now.state.tables hart) machine.now.state }
+{
+    let threads = &machine.tables().threads;
+    threads.known();
+    let Some(thread) = threads.on_hart(usize::from(hart)) else {
+        return true;
+    };
+    match threads.thread(u32::from(thread)) {
+        Some(Thread::Live(live)) => is_plain(live, machine.memory()),
+        _ => true,
+    }
+}
 
 /// Whether the word of ECALL stands at an address, of these bytes from address 4,096 on.
 #[inline(always)]
@@ -35,7 +72,7 @@ fn is_at_gate(pc: u32) -> bool
 pub struct AtCalls;
 
 impl StopReason for AtCalls {
-    ghost use Rattle.ckrt_trace.specs.Quiet.{calls_next};
+    ghost use Rattle.ckrt_quiet.specs.Quiet.{calls_next};
 
     ghost meets = { λ at. calls_next };
 
@@ -66,6 +103,18 @@ fn acts_next(machine: &Machine, hart: u8) -> bool
         Some(thread) => threads.live(thread).cancellation.is_immediate(),
         None => false,
     }
+}
+
+/// The thread on a hart, if it acts on no request by its next step: it stays there as long as its steps are quiet.
+pub fn calm_on(machine: &Machine, hart: u8) -> Option<ThreadId>
+    ensures who { result ≡ calm_of (hart_of machine.now.state.tables hart) machine.now.state }
+    ensures calm { IfSome result (λ thread. IsCalm hart thread machine.now.state) }
+{
+    known(machine, hart);
+    if acts_next(machine, hart) {
+        return None;
+    }
+    machine.tables().threads.on_hart(usize::from(hart))
 }
 
 /// Makes steps of a run that goes on, of the thread on a hart, as long as they are quiet and the reason isn't met before them, and at
