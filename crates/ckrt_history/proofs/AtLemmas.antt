@@ -60,7 +60,7 @@ one_of p es s all within inside = by p.steps refl
     by (suc n) is = inside (omega (arith, is))
 
 module _ (p : Position) (es : List Event) (s : State) (m : Machine) (e : Event) (at : IsAt m p es s) (is : slice_get es p.events ≡ Some e) where
-  ahead : drop p.events es ≡ e ∷ drop (suc p.events) es
+  pub ahead : drop p.events es ≡ e ∷ drop (suc p.events) es
   ahead = next_ahead p.events es e is
 
   pub into_of : IsInto p.steps e (state_before p.events es s) m

@@ -8,6 +8,7 @@ pub mod SearchLemmas
 pub mod WatchLemmas
 pub mod SeenLemmas
 pub mod PassLemmas
+pub mod CalmLemmas
 pub mod SnapshotLemmas
 pub mod PageLemmas
 pub mod ForkLemmas

@@ -15,7 +15,7 @@ use Rattle.ckrt_history.specs.declared.reason.SeenByte.{SeenByte}
 use Rattle.ckrt_history.specs.declared.stop.Breakpoint.{Breakpoint}
 use Rattle.ckrt_history.specs.declared.stop.Stops.{Stops}
 use Rattle.ckrt_history.specs.Positions.{History, IsBefore, IsPosition, IsUpTo, PassesNone, next_position, previous_position, run_in, state_at}
-use Rattle.ckrt_history.specs.Stops.{IsStop, first_runner, is_any_hit, is_for, is_halt, is_hit, is_of, is_wanted, runner_in, runner_of, watched_at}
+use Rattle.ckrt_history.specs.Stops.{IsStop, first_runner, is_any_hit, is_for, is_halt, is_hit, is_next_of, is_of, is_wanted, runner_in, runner_of, watched_at}
 use Rattle.ckrt_history.specs.Search.{MayPass, are_there, first_meets, is_at, may_stop, meets_in, seen_at}
 use Rattle.ckrt_history.proofs.OrderLemmas.{before_is_up_to, before_or_there, before_up_to, next_is_behind, next_is_one, next_of_previous, next_up_to, none_between, previous_is_one, previous_of_next, up_to_itself}
 use Rattle.ckrt_history.proofs.SeenLemmas.{same_watched}
@@ -32,31 +32,34 @@ no_other false is = absurd (true≢false is)
 
 -- WHERE NO REASON IS MET
 
-module _ (stops : Stops) (threads : stops.thread ≡ None) (seen : List SeenByte) where
-  by_registers : (o : Option Registers) (t : ℕ) (bytes : List ℕ) → meets_with (may_stop stops.breakpoints.items seen) o bytes ≡ false
-      → (is_wanted stops (option_map (λ (r : Registers). (t, r.pc)) o) ≡ false) × (are_there bytes seen ≡ true)
-  by_registers None t bytes unmet = absurd (true≢false unmet)
-  by_registers (Some r) t bytes unmet =
+module _ (stops : Stops) (seen : List SeenByte) where
+  by_registers : (o : Option Registers) (t : ℕ) (bytes : List ℕ) → is_next_of stops.thread (option_map (λ (r : Registers). (t, r.pc)) o) ≡ false
+      → meets_with (may_stop stops.breakpoints.items seen) o bytes ≡ false → (is_wanted stops (option_map (λ (r : Registers). (t, r.pc)) o) ≡ false) × (are_there bytes seen ≡ true)
+  by_registers None t bytes others unmet = absurd (true≢false unmet)
+  by_registers (Some r) t bytes others unmet =
       let both = or_parts (is_at r.pc stops.breakpoints.items) (not (are_there bytes seen)) unmet in (
-        or_from (is_any_hit (Some (t, r.pc)) stops.breakpoints.items) (is_of stops.thread (t, r.pc)) (no_hit t r.pc stops.breakpoints.items both.0) (ap (λ o. is_of o (t, r.pc)) threads),
+        or_from (is_any_hit (Some (t, r.pc)) stops.breakpoints.items) (is_of stops.thread (t, r.pc)) (no_hit t r.pc stops.breakpoints.items both.0) others,
         no_other (are_there bytes seen) both.1,
       )
 
-  by_hart : (o : Option ℕ) (s : State) → meets_for (may_stop stops.breakpoints.items seen) o s ≡ false → (is_wanted stops (runner_of o s) ≡ false) × (are_there s.bytes seen ≡ true)
-  by_hart None s unmet = absurd (true≢false unmet)
-  by_hart (Some t) s unmet = by_registers (regs_of (thread_of s.tables.threads t)) t s.bytes unmet
+  by_hart : (o : Option ℕ) (s : State) → is_next_of stops.thread (runner_of o s) ≡ false → meets_for (may_stop stops.breakpoints.items seen) o s ≡ false
+      → (is_wanted stops (runner_of o s) ≡ false) × (are_there s.bytes seen ≡ true)
+  by_hart None s others unmet = absurd (true≢false unmet)
+  by_hart (Some t) s others unmet = by_registers (regs_of (thread_of s.tables.threads t)) t s.bytes others unmet
 
-  by_run : (o : Option (ℕ × ℕ)) (s : State) → meets_in (may_stop stops.breakpoints.items seen) o s ≡ false → (is_wanted stops (runner_in o s) ≡ false) × (are_there s.bytes seen ≡ true)
-  by_run None s unmet = absurd (true≢false unmet)
-  by_run (Some run) s unmet = by_hart (hart_of s.tables run.0) s unmet
+  by_run : (o : Option (ℕ × ℕ)) (s : State) → is_next_of stops.thread (runner_in o s) ≡ false → meets_in (may_stop stops.breakpoints.items seen) o s ≡ false
+      → (is_wanted stops (runner_in o s) ≡ false) × (are_there s.bytes seen ≡ true)
+  by_run None s others unmet = absurd (true≢false unmet)
+  by_run (Some run) s others unmet = by_hart (hart_of s.tables run.0) s others unmet
 
-  by_event : (es : List Event) (s : State) → first_meets (may_stop stops.breakpoints.items seen) es s ≡ false → (is_wanted stops (first_runner es s) ≡ false) × (are_there s.bytes seen ≡ true)
-  by_event [] s unmet = absurd (true≢false unmet)
-  by_event (e ∷ es) s unmet = by_run (run_in e) s unmet
+  by_event : (es : List Event) (s : State) → is_next_of stops.thread (first_runner es s) ≡ false → first_meets (may_stop stops.breakpoints.items seen) es s ≡ false
+      → (is_wanted stops (first_runner es s) ≡ false) × (are_there s.bytes seen ≡ true)
+  by_event [] s others unmet = absurd (true≢false unmet)
+  by_event (e ∷ es) s others unmet = by_run (run_in e) s others unmet
 
 module _ (stops : Stops) (seen : List SeenByte) (h : History) (p : Position) (may : MayPass stops seen h p) where
   both_at : (is_wanted stops (first_runner (drop p.events h.events) (state_at p h.events h.start).state) ≡ false) × (are_there (state_at p h.events h.start).state.bytes seen ≡ true)
-  both_at = by_event stops may.threads seen (drop p.events h.events) (state_at p h.events h.start).state may.unmet
+  both_at = by_event stops seen (drop p.events h.events) (state_at p h.events h.start).state may.others may.unmet
 
   no_halt : is_halt stops p h.events h.start ≡ true → ⊥
   no_halt halts =
@@ -117,4 +120,4 @@ module _ (stops : Stops) (seen : List SeenByte) (h : History) (p q : Position) (
 pub may_pass_there : (stops : Stops) (seen : List SeenByte) (h y : History) (p r : Position) → y ≡ record h { position = p } → MayPass stops seen y r → MayPass stops seen h r
 may_pass_there stops seen h y p r is may =
     let there : MayPass stops seen (record h { position = p }) r = subst (λ (x : History). MayPass stops seen x r) is may in
-    record { inside = there.inside; threads = there.threads; unmet = there.unmet }
+    record { inside = there.inside; others = there.others; unmet = there.unmet }

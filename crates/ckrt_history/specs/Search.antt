@@ -1,17 +1,19 @@
 -- How a search passes positions without a reason to stop (this project's choice).
-use Rattle.std.specs.Prelude.{◌≡◌, ◌<◌, ◌-◌, ◌==◌, ◌||◌, ℕ, zero, suc, nat_le, Bool, true, false, not, if◌then◌else◌, Option, Some, None, is_none, List, [], ◌∷◌, ◌++◌, drop, slice_get}
+use Rattle.std.specs.Prelude.{◌≡◌, ◌≢◌, ◌<◌, ◌-◌, ◌==◌, ◌||◌, ℕ, zero, suc, nat_le, Bool, true, false, not, if◌then◌else◌, Option, Some, None, is_none, List, [], ◌∷◌, ◌++◌, drop, slice_get}
 use Rattle.std.specs.List.{list_all, list_any}
 use Rattle.ckrt_memory.specs.Reasons.{Meets}
 use Rattle.ckrt_events.specs.declared.event.Event.{Event}
 use Rattle.ckrt_machine.specs.Steps.{State}
 use Rattle.ckrt_machine.specs.RunsTo.{meets_on}
+use Rattle.ckrt_quiet.specs.Quiet.{IsCalm}
 use Rattle.ckrt_history.specs.declared.position.Position.{Position}
 use Rattle.ckrt_history.specs.declared.reason.SeenByte.{SeenByte}
+use Rattle.ckrt_history.specs.declared.reason.Sought.{Sought}
 use Rattle.ckrt_history.specs.declared.stop.Breakpoint.{Breakpoint}
 use Rattle.ckrt_history.specs.declared.stop.Stops.{Stops}
 use Rattle.ckrt_history.specs.declared.stop.Watch.{Watch}
 use Rattle.ckrt_history.specs.Positions.{History, run_in, state_at}
-use Rattle.ckrt_history.specs.Stops.{width}
+use Rattle.ckrt_history.specs.Stops.{is_next_of, runner_at, width}
 
 -- BYTES THAT WERE SEEN
 
@@ -77,8 +79,18 @@ first_meets meets (e ∷ es) s = meets_in meets (run_in e) s
 abbrev pub meets_at : Meets → Position → List Event → State → Bool
 meets_at meets p es s = first_meets meets (drop p.events es) (state_at p es s).state
 
--- a position inside a run, where there is no reason that a search of all threads' steps looks for
+-- no such reason is met at a position of a run, and the next step isn't the thread's
+pub record IsPassed (sought : Sought) (thread : Option ℕ) (p : Position) (es : List Event) (s : State) : Type 0 where
+  pub others : is_next_of thread (runner_at p es s) ≡ false
+  pub unmet : meets_at (may_stop sought.breakpoints.now sought.seen.now) p es s ≡ false
+
+-- another thread than this one is on the run's hart, and acts on no request
+abbrev pub IsOtherIn : (thread other : ℕ) → Option (ℕ × ℕ) → State → Type 0
+IsOtherIn thread other None s = ⊥
+IsOtherIn thread other (Some run) s = (other ≢ thread) × IsCalm run.0 other s
+
+-- a position inside a run, where there is no reason that a search looks for: neither is the next step the wanted thread's
 pub record MayPass (stops : Stops) (seen : List SeenByte) (h : History) (p : Position) : Type 0 where
   pub inside : 0 < p.steps
-  pub threads : stops.thread ≡ None
+  pub others : is_next_of stops.thread (runner_at p h.events h.start) ≡ false
   pub unmet : meets_at (may_stop stops.breakpoints.items seen) p h.events h.start ≡ false

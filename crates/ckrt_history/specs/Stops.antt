@@ -61,6 +61,11 @@ abbrev pub is_of : Option ℕ → Runner → Bool
 is_of None r = false
 is_of (Some t) r = t == r.0
 
+-- the next step is of the thread whose steps are looked for
+abbrev pub is_next_of : Option ℕ → Option Runner → Bool
+is_next_of o None = false
+is_next_of o (Some r) = is_of o r
+
 -- the next step is at a breakpoint, or of the thread whose steps are looked for
 abbrev pub is_wanted : Stops → Option Runner → Bool
 is_wanted stops None = false

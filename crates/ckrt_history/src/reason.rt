@@ -1,11 +1,13 @@
 //! What a search looks for inside a run.
 ghost use Rattle.std.specs.Prelude.{◌≡◌, ◌≤◌, ◌<◌, ◌+◌, ◌++◌, ◌∷◌, [], length};
 ghost use Rattle.ckrt_history.specs.Stops.{width, widths};
+ghost use Rattle.ckrt_quiet.specs.Quiet.{or_call};
 ghost use Rattle.ckrt_history.specs.Search.{are_there, byte_if, is_at, is_there, may_stop, seen_byte, seen_in, seen_under};
 
 use crate::stop::{Breakpoint, Watch};
 use arrayvec::ArrayVec;
 use ckrt_memory::StopReason;
+use ckrt_quiet::AtCalls;
 
 /// The address of the first byte of a memory.
 const FIRST_ADDRESS: u32 = 4_096;
@@ -108,6 +110,26 @@ impl<'a> StopReason for Sought<'a> {
 
     #[inline]
     fn is_only_at_jumps(&self) -> bool {
-        false
+        self.breakpoints.is_empty() && self.seen.is_empty()
+    }
+}
+
+/// The same reason, and one before each call and at each gate: up to there a thread stays on its hart.
+#[derive(Clone, Copy, Debug)]
+pub struct SoughtOrCall<'a> {
+    pub sought: Sought<'a>,
+}
+
+impl<'a> StopReason for SoughtOrCall<'a> {
+    ghost meets = { λ s. or_call (may_stop s.sought.breakpoints.now s.sought.seen.now) };
+
+    #[inline]
+    fn is_met(&self, pc: u32, file: &[u32; 33], bytes: &[u8]) -> bool {
+        AtCalls.is_met(pc, file, bytes) || self.sought.is_met(pc, file, bytes)
+    }
+
+    #[inline]
+    fn is_only_at_jumps(&self) -> bool {
+        self.sought.is_only_at_jumps()
     }
 }

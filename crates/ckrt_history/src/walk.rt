@@ -1,16 +1,19 @@
 //! How a machine goes on from one position to another.
-ghost use Rattle.std.specs.Prelude.{◌≡◌, ◌≤◌, ◌<◌, ℕ, List, false, length};
+ghost use Rattle.std.specs.Prelude.{◌≡◌, ◌≤◌, ◌<◌, ℕ, List, IfSome, Some, false, length};
 ghost use Rattle.ckrt_machine.specs.Steps.{State};
 ghost use Rattle.ckrt_events.specs.declared.event.Event.{Event};
-ghost use Rattle.ckrt_history.specs.Positions.{IsBefore, IsPosition, IsUpTo, next_position, previous_position};
+ghost use Rattle.ckrt_history.specs.Positions.{IsBefore, IsPosition, IsUpTo, next_position, previous_position, run_in};
 ghost use Rattle.ckrt_history.specs.Engine.{IsAt, steps_through};
-ghost use Rattle.ckrt_history.specs.Search.{meets_at};
+ghost use Rattle.ckrt_history.specs.Search.{IsOtherIn, IsPassed, meets_at};
 
 use crate::position::Position;
-use crate::replay::{finish, go_into, go_into_until};
+use crate::reason::{Sought, SoughtOrCall};
+use crate::replay::{finish, go_into, go_into_until, run_in};
 use ckrt_events::Event;
 use ckrt_machine::Machine;
 use ckrt_memory::StopReason;
+use ckrt_quiet::calm_on;
+use ckrt_thread::ThreadId;
 
 /// The machine makes the rest of the event that it is in, and all further ones until so many are done. The result is where it is
 /// then: where it was, if none was to be made.
@@ -88,6 +91,77 @@ pub fn go_on_until<R: StopReason>(
     Position {
         events: from.events,
         steps,
+    }
+}
+
+/// Who is on the hart of a run, where that isn't this thread, and acts on no request by its next step.
+fn other_on(machine: &Machine, event: &Event, thread: ThreadId) -> Option<ThreadId>
+    ensures { IfSome result (λ other. IsOtherIn thread other (run_in event.now) machine.now.state) }
+{
+    let (hart, _) = run_in(event)?;
+    let other = calm_on(machine, hart)?;
+    if other == thread {
+        return None;
+    }
+    Some(other)
+}
+
+/// The machine, which is inside a run, goes on past steps that aren't this thread's, as `go_on_until` does, and no further than to a call.
+/// It stays where the next step may be the thread's.
+fn go_past_others(
+    machine: &mut Machine,
+    events: &[Event],
+    from: Position,
+    to: Position,
+    sought: &Sought<'_>,
+    thread: ThreadId,
+) -> Position
+    requires at { (s : State) × IsAt machine.old from events.now s
+        × IsPosition to events.now s }
+    requires event { from.events ≡ to.events }
+    requires steps { (0 < from.steps) × (from.steps ≤ to.steps) }
+    ensures within { (result.events ≡ from.events) × (from.steps ≤ result.steps)
+        × (result.steps ≤ to.steps) }
+    ensures at { (s : State) → IsAt machine.old from events.now s → IsPosition to events.now s
+        → IsAt machine.new result events.now s }
+    ensures unmet { (s : State) → IsAt machine.old from events.now s
+        → (r : Position) → IsUpTo from r → IsBefore r result
+        → IsPassed sought.now (Some thread) r events.now s }
+    ensures size { length machine.new.state.bytes ≡ length machine.old.state.bytes }
+{
+    let Some(_other) = other_on(machine, &events[from.events], thread) else {
+        return from;
+    };
+    let reason = SoughtOrCall { sought: *sought };
+    go_on_until(machine, events, from, to, &reason)
+}
+
+/// The machine, which is inside a run, goes on past positions at which the reason isn't met and the next step isn't this thread's, and to
+/// `to` at most. It may stay before one of them.
+pub fn go_past(
+    machine: &mut Machine,
+    events: &[Event],
+    from: Position,
+    to: Position,
+    sought: &Sought<'_>,
+    thread: Option<ThreadId>,
+) -> Position
+    requires at { (s : State) × IsAt machine.old from events.now s
+        × IsPosition to events.now s }
+    requires event { from.events ≡ to.events }
+    requires steps { (0 < from.steps) × (from.steps ≤ to.steps) }
+    ensures within { (result.events ≡ from.events) × (from.steps ≤ result.steps)
+        × (result.steps ≤ to.steps) }
+    ensures at { (s : State) → IsAt machine.old from events.now s → IsPosition to events.now s
+        → IsAt machine.new result events.now s }
+    ensures unmet { (s : State) → IsAt machine.old from events.now s
+        → (r : Position) → IsUpTo from r → IsBefore r result
+        → IsPassed sought.now thread r events.now s }
+    ensures size { length machine.new.state.bytes ≡ length machine.old.state.bytes }
+{
+    match thread {
+        Some(thread) => go_past_others(machine, events, from, to, sought, thread),
+        None => go_on_until(machine, events, from, to, sought),
     }
 }
 

@@ -15,6 +15,16 @@ struct Case {
     breakpoint: Option<Breakpoint>,
     watch: Option<Watch>,
     event_ends: bool,
+    thread: Option<u8>,
+}
+
+impl Case {
+    /// The same, and each step of a thread.
+    fn with_steps_of(self, thread: u8) -> Case {
+        let mut case = self;
+        case.thread = Some(thread);
+        case
+    }
 }
 
 /// The bytes under a watch, as one number.
@@ -42,6 +52,14 @@ fn is_hit(history: &History, breakpoint: Option<Breakpoint>) -> bool {
     pc == breakpoint.address && breakpoint.thread.is_none_or(|of| of == thread)
 }
 
+/// Whether the next step is the thread's.
+fn is_step_of(history: &History, thread: Option<u8>) -> bool {
+    match (thread, history.runner()) {
+        (Some(thread), Some((next, _))) => thread == next,
+        _ => false,
+    }
+}
+
 /// All positions, in order, and whether there is a reason to stop at each.
 fn look<R: Abort + AllocGlobal>(
     rt: &R,
@@ -56,6 +74,7 @@ fn look<R: Abort + AllocGlobal>(
         let bytes = bytes_under(history, case.watch);
         let stops = is_hit(history, case.breakpoint)
             || (case.event_ends && position.steps == 0)
+            || is_step_of(history, case.thread)
             || bytes != before;
         before = bytes;
         assert!(rt; all.push((position, stops)).is_ok(), "memory for positions");
@@ -138,6 +157,7 @@ fn stops_of<R: Abort>(rt: &R, case: &Case) -> Stops {
         assert!(rt; stops.watches.try_push(watch).is_ok());
     }
     stops.event_ends = case.event_ends;
+    stops.thread = case.thread;
     stops
 }
 
@@ -182,6 +202,7 @@ fn searches_find_what_a_look_at_each_finds(rt: HostRuntime) {
         breakpoint,
         watch,
         event_ends,
+        thread: None,
     };
     let worker = Breakpoint {
         address: 0x1070,
@@ -209,4 +230,10 @@ fn searches_find_what_a_look_at_each_finds(rt: HostRuntime) {
     compare(&rt, &case(&BOUNDED, 9, 50, None, None, true));
     compare(&rt, &case(&PAIR, 9, 1_000, None, Some(two_pages), false));
     compare(&rt, &case(&PAIR, 9, 5, None, Some(outside), false));
+    let plain = |words, steps, kept| case(words, steps, kept, None, None, false);
+    compare(&rt, &plain(&COUNTERS, 13, 1).with_steps_of(3));
+    compare(&rt, &plain(&COUNTERS, 50, 20).with_steps_of(1));
+    compare(&rt, &plain(&BOUNDED, 9, 50).with_steps_of(2));
+    let watched = case(&COUNTERS, 30, 7, Some(worker), Some(COUNTER), false);
+    compare(&rt, &watched.with_steps_of(4));
 }
