@@ -1,7 +1,7 @@
 -- A session with a debugger, between two packets.
-use Rattle.std.specs.Prelude.{◌≡◌, ◌+◌, ℕ, min, Bool, true, false, List, length, Option, Some, None, is_some}
+use Rattle.std.specs.Prelude.{◌≡◌, ℕ, min, Bool, true, false, List, length, Option, Some, None, is_some}
 use Rattle.ckrt_history.specs.declared.position.Position.{Position}
-use Rattle.ckrt_history.specs.Positions.{History, at_event}
+use Rattle.ckrt_history.specs.Positions.{History}
 use Rattle.ckrt_history.specs.Forks.{forked, with_event}
 use Rattle.ckrt_history.specs.Extended.{Extended}
 use Rattle.ckrt_history.specs.declared.forking.AppendFault.{AppendFault}

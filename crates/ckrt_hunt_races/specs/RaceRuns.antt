@@ -14,7 +14,6 @@ use Rattle.ckrt_races.specs.Laws.{history_of}
 use Rattle.ckrt_races.specs.Recorded.{found_by, words_of}
 use Rattle.ckrt_races.specs.Steps.{of_events}
 use Rattle.ckrt_hunt.specs.Runs.{AreScheduled, Point, beginning, behind, next_at}
-use Rattle.ckrt_hunt.specs.Seeds.{IsBeginning}
 use Rattle.ckrt_hunt.specs.Tallies.{Hunted, IsNoted, IsRoomFor, SeedComesTo, plan_in}
 use Rattle.ckrt_hunt.specs.declared.made.Made.{Made}
 use Rattle.ckrt_hunt.specs.declared.plan.Plan.{Plan}

@@ -1,6 +1,6 @@
 -- The races of the runs of seeds, counted (this project's choice): each pair of places in the program once, with how many runs had it, the first
 -- seed whose run had it, and the accesses that raced there first in that run. Whichever place came first, the pair is one.
-use Rattle.std.specs.Prelude.{ℕ, ◌+◌, nat_lt, min, Bool, ◌||◌, not, if◌then◌else◌, List, [], ◌∷◌, ◌++◌, length}
+use Rattle.std.specs.Prelude.{ℕ, nat_lt, Bool, ◌||◌, not, if◌then◌else◌, List, [], ◌∷◌, ◌++◌, length}
 use Rattle.std.specs.List.{list_any}
 use Rattle.ckrt_order.specs.Detection.{Found, is_at, one_more}
 use Rattle.ckrt_order.specs.declared.pair.Pair.{Pair}

@@ -1,11 +1,10 @@
 //! Serving what a disk has recorded to a debugger.
-ghost use Rattle.std.specs.Prelude.{◌≡◌, IfOk, option_map};
+ghost use Rattle.std.specs.Prelude.{◌≡◌, IfOk};
 ghost use Rattle.ckrt_words.specs.Jobs.{debugging_of};
 ghost use Rattle.ckrt_outcomes.specs.Outside.{outside};
 ghost use Rattle.ckrt_disk.specs.Frame.{IsOnlyRead};
 ghost use Rattle.ckrt_stored.specs.Reads.{IsReadAs, is_device};
-ghost use Rattle.ckrt_recording.specs.Reading.{RecordsParts, older_of};
-ghost use Rattle.ckrt_recording.specs.Recording.{Recorded};
+ghost use Rattle.ckrt_recording.specs.Reading.{RecordsParts};
 ghost use Rattle.ckrt_looks.specs.Debugging.{DebugsParts, DebugsPath, IsRead, ReadsOpened, ReadsPath, ServesStub, fault_of, first_in, line, run_in};
 
 use ckrt_debug::{DebugFault, Stub};
@@ -14,7 +13,7 @@ use ckrt_inspect::InspectFault;
 use ckrt_main::ServeFault;
 use ckrt_outcomes::JobFault;
 use ckrt_playback::Recorded;
-use ckrt_recording::{Parts, Recording, read_parts, read_unreplayed};
+use ckrt_recording::{Parts, read_parts, read_unreplayed};
 use ckrt_sources::{JobFile, Sources};
 use ckrt_stored::RecoverFault;
 use ckrt_words::DebugJob;

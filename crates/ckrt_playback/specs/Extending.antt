@@ -1,5 +1,5 @@
 -- A run that goes on by itself (this project's choice): by the schedule that a drive has without options.
-use Rattle.std.specs.Prelude.{ℕ, None, Result, Ok, Err}
+use Rattle.std.specs.Prelude.{ℕ, None, Result, Err}
 use Rattle.ckrt_schedule.specs.declared.next.ScheduleEnd.{ScheduleEnd}
 use Rattle.ckrt_schedule.specs.declared.schedule.Schedule.{Schedule}
 use Rattle.ckrt_history.specs.declared.forking.AppendFault.{AppendFault}

@@ -1,4 +1,4 @@
--- A recorded run that nobody has replayed: a state and the events from there on, and a checkpoint on the way.
+-- A recorded run that nobody has replayed: a state and the events from there on, and a stage on the way.
 use Rattle.std.specs.Prelude.{◌≡◌, ◌+◌, ℕ, List, length, Option, Some, None}
 use Rattle.ckrt_events.specs.declared.event.Event.{Event}
 use Rattle.ckrt_machine.specs.Events.{AllAccepted}

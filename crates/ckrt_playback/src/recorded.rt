@@ -14,21 +14,21 @@ use std::marker::Model;
 /// How many states a history keeps on the way through the events, where its room has place for so many.
 const STATES: u32 = 1_000;
 
-/// The machine as it was saved behind so many events, and what another one is compared with it by.
+/// A machine as it was saved behind so many events, and what another one is compared with it by.
 #[derive(Drop)]
-struct Checkpoint {
+struct SavedStage {
     events: usize,
     machine: Machine,
     comparison: Comparison,
 }
 
 /// A run that nobody has replayed: the machine as it was at the beginning, the events from there on, the room of their history, and the
-/// checkpoint that they come through.
+/// stage that they come through.
 pub struct Recorded {
     machine: Machine,
     events: Vec<Event>,
     room: Room,
-    checkpoint: Option<Checkpoint>,
+    stage: Option<SavedStage>,
 }
 
 /// Written out, so that whoever lets a run go needs no proof about each of its parts.
@@ -38,7 +38,7 @@ impl Drop for Recorded {
             machine: _,
             events: _,
             room: _,
-            checkpoint: _,
+            stage: _,
         } = self;
     }
 }
@@ -54,16 +54,16 @@ impl Model for Recorded {
     ghost view = { λ r. record {
       start = r.machine.state;
       events = r.events.items;
-      stage = stage_of r.checkpoint;
+      stage = stage_of r.stage;
     } };
 
     ghost invariant = { λ r.
         IsRoomFor (length r.events.items) (vec_capacity r.events) r.machine.state r.room
-        × IsWithin r.checkpoint (length r.events.items) };
+        × IsWithin r.stage (length r.events.items) };
 }
 
-/// Goes to the checkpoint of a history, and says whether the machine is there as it was saved.
-fn is_as_saved(history: &mut History, saved: &Checkpoint) -> bool
+/// Goes to a stage of a history, and says whether the machine is there as it was saved.
+fn is_as_saved(history: &mut History, saved: &SavedStage) -> bool
     requires { saved.now.events ≤ length history.old.events }
     ensures history { history.new ≡ record history.old { position = history.new.position } }
     ensures through { IsTrue result
@@ -74,14 +74,14 @@ fn is_as_saved(history: &mut History, saved: &Checkpoint) -> bool
     saved.comparison.are_same(history.machine(), &saved.machine)
 }
 
-/// Whether a history comes through its checkpoint, if it has one.
-fn comes_through(history: &mut History, checkpoint: &Option<Checkpoint>) -> bool
-    requires { IsWithin checkpoint.now (length history.old.events) }
+/// Whether a history comes through a stage, if there is one.
+fn comes_through(history: &mut History, stage: &Option<SavedStage>) -> bool
+    requires { IsWithin stage.now (length history.old.events) }
     ensures history { history.new ≡ record history.old { position = history.new.position } }
     ensures through { IsTrue result
-        ↔ ComesThrough (stage_of checkpoint.now) history.old.events history.old.start }
+        ↔ ComesThrough (stage_of stage.now) history.old.events history.old.start }
 {
-    match checkpoint {
+    match stage {
         Some(saved) => is_as_saved(history, saved),
         None => true,
     }
@@ -102,7 +102,7 @@ impl Recorded {
             machine,
             events,
             room,
-            checkpoint: None,
+            stage: None,
         })
     }
 
@@ -121,7 +121,7 @@ impl Recorded {
           stage = Some (record { events = length events.items; state = saved.state });
         }) }
     {
-        let checkpoint = Checkpoint {
+        let stage = SavedStage {
             events: events.len(),
             machine: saved,
             comparison: Comparison::new(alloc)?,
@@ -133,7 +133,7 @@ impl Recorded {
             machine,
             events: all,
             room,
-            checkpoint: Some(checkpoint),
+            stage: Some(stage),
         })
     }
 
@@ -165,10 +165,10 @@ impl Recorded {
             machine,
             events,
             room,
-            checkpoint,
+            stage,
         } = self;
         let mut history = History::new(room, machine, events)?;
-        if !comes_through(&mut history, &checkpoint) {
+        if !comes_through(&mut history, &stage) {
             return Err(HistoryFault::Refused);
         }
         let begin = begin_of(&history, 0);

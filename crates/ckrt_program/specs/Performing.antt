@@ -17,7 +17,7 @@ use Rattle.ckrt_jobs.specs.CoreFiles.{CoresPath}
 use Rattle.ckrt_jobs.specs.Driving.{DrivesPath, IsLent, IsUnwritten, Means, means_of}
 use Rattle.ckrt_jobs.specs.Making.{Makes}
 use Rattle.ckrt_outcomes.specs.Outside.{IsRefused, Outside, asked_for}
-use Rattle.ckrt_sources.specs.Openings.{Openings, opened, refused, with_closed, with_disk}
+use Rattle.ckrt_sources.specs.Openings.{opened, with_closed, with_disk}
 use Rattle.ckrt_jobs.specs.Running.{disk_of, RunsDisk}
 use Rattle.ckrt_outcomes.specs.Statuses.{status_of, status_of_words}
 use Rattle.ckrt_reports.specs.Lines.{Reports, ReportsOutcome, SaysLine, formatted_line, version_line}
@@ -34,8 +34,6 @@ use Rattle.ckrt_outcomes.specs.declared.done.Done.TheVariants as done
 use Rattle.ckrt_outcomes.specs.declared.driven.Driven.{Driven}
 use Rattle.ckrt_outcomes.specs.declared.fault.JobFault.{JobFault}
 use Rattle.ckrt_outcomes.specs.declared.fault.JobFault.TheVariants as job
-use Rattle.ckrt_sources.specs.declared.file.FileFault.{FileFault}
-use Rattle.ckrt_sources.specs.declared.file.JobFile.TheVariants as file
 use Rattle.ckrt_jobs.specs.declared.running.Unserved.{Unserved}
 
 -- what a disk is made with

@@ -1,4 +1,4 @@
-use Rattle.std.proofs.Common.{List, ℕ, Bool, None, subst, sym}
+use Rattle.std.proofs.Common.{None, subst, sym}
 use Rattle.std.proofs.lemmas.List.{append-nil}
 use Rattle.std.proofs.lemmas.Result.{IfOk-weaker}
 use Rattle.std.specs.Io.KnownBytes.{Appends}

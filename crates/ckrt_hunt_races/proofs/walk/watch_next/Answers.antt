@@ -1,13 +1,12 @@
-use Rattle.std.proofs.Common.{◌≡◌, ◌≤◌, ◌∙◌, ◌++◌, ℕ, List, None, ap, subst, sym, arith}
-use Rattle.ckrt_events.specs.declared.event.Event.{Event}
+use Rattle.std.proofs.Common.{◌≡◌, ◌≤◌, ◌∙◌, None, ap, subst, sym, arith}
 use Rattle.ckrt_machine.specs.Events.{After, refusal_of, step}
 use Rattle.ckrt_machine.specs.Steps.{State}
 use Rattle.ckrt_machine.proofs.Fixed.{same_harts}
 use Rattle.ckrt_state.specs.declared.table.Tables.{Tables}
-use Rattle.ckrt_order.specs.Detection.{Watched, behind_all}
+use Rattle.ckrt_order.specs.Detection.{behind_all}
 use Rattle.ckrt_races.specs.Steps.{of_event}
 use Rattle.ckrt_hunt.specs.declared.made.Made.{Made}
-use Rattle.ckrt_hunt.specs.Plans.{made_with, steps_made}
+use Rattle.ckrt_hunt.specs.Plans.{steps_made}
 use Rattle.ckrt_hunt.specs.Turns.{runner_of}
 use Rattle.ckrt_hunt.proofs.TurnLemmas.{ran_within}
 use Rattle.ckrt_hunt_races.proofs.WalkLemmas.{seen_on, turns_within}

@@ -1,4 +1,4 @@
-use Rattle.std.proofs.Common.{◌≡◌, ◌∙◌, subst, sym, true, false}
+use Rattle.std.proofs.Common.{subst, sym}
 use Rattle.ckrt_hunt.specs.Short.{IsFound}
 use Rattle.ckrt_hunt.specs.Tallies.{Hunted}
 use Rattle.ckrt_hunts.specs.Hunting.{IsAsDrawn}

@@ -1,4 +1,4 @@
-use Rattle.std.proofs.Common.{◌≡◌, ◌∙◌, ap, subst, List, Ok}
+use Rattle.std.proofs.Common.{◌∙◌, ap, subst, List, Ok}
 use Rattle.std.specs.Prelude.{option_map}
 use Rattle.ckrt_checkpoint.specs.declared.config.Config.{Config}
 use Rattle.ckrt_hunt.specs.declared.row.Row.{Row}

@@ -1,4 +1,4 @@
-use Rattle.std.proofs.Common.{◌≡◌, ◌∙◌, Bool, true, false, cond, ap, option_map, subst, sym, Some}
+use Rattle.std.proofs.Common.{◌≡◌, ◌∙◌, true, false, cond, ap, option_map, subst, sym, Some}
 use Rattle.ckrt_hunt.specs.Tallies.{hunted_of}
 use Rattle.ckrt_hunts.specs.Hunting.{KeepsAt, Place, in_folder, is_folder, on_disk, place_of, reached, sought_in}
 use Rattle.ckrt_hunts.proofs.hunting.keep_if_asked.Goals as goal

@@ -1,4 +1,4 @@
-use Rattle.std.proofs.Common.{◌≡◌, ◌∙◌, List, ℕ, ap, length}
+use Rattle.std.proofs.Common.{◌≡◌, ◌∙◌, ap, length}
 use Rattle.ckrt_memory.specs.Marks.{Memory}
 use Rattle.ckrt_machine.specs.Steps.{State}
 use Rattle.ckrt_state.specs.declared.table.Tables.{Tables}

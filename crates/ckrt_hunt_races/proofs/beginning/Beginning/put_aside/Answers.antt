@@ -1,4 +1,4 @@
-use Rattle.std.proofs.Common.{◌≡◌, ◌∙◌, ap, length, subst, sym}
+use Rattle.std.proofs.Common.{◌∙◌, ap, subst, sym}
 use Rattle.ckrt_memory.specs.Marks.{Memory}
 use Rattle.ckrt_state.specs.WellFormed.{IsWellFormed}
 use Rattle.ckrt_state.specs.declared.table.Tables.{Tables}

@@ -1,4 +1,4 @@
-use Rattle.std.proofs.Common.{◌≡◌, ◌∙◌, ap, length, subst, sym}
+use Rattle.std.proofs.Common.{◌∙◌, ap, subst, sym}
 use Rattle.ckrt_machine.specs.Events.{Machine}
 use Rattle.ckrt_machine.specs.Steps.{State}
 use Rattle.ckrt_hunt.specs.Tallies.{Hunted}
