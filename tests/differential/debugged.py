@@ -9,7 +9,6 @@ from damage import refuse_event
 from glances import recording_of
 from histories import recorded_disk
 from mistyped import HELP, LIST, drawn_mistake, kinds_of_mistakes, text_of_packet, with_lists
-from motions import named
 from older_areas import fits_older, mislead
 from recovery import Unrecovered
 from stubs import Look, Visits, answers_in, frame, is_answered, line_of_events, live_threads, monitor, shown_at_first
@@ -127,7 +126,7 @@ def packets_of(case):
 
 
 def expected_at_first(case, machine, ends, shown):
-    """Before anybody has moved. Whom the stop names, and whose registers are shown, is None where no page tells it."""
+    """Before anybody has moved. Whom the stop names is examined first, and then whom gdb has named last of those that are there."""
     answers, examined = [], shown
     for look in case.first_looks:
         answers += look.first_answers(machine, ends, shown, examined)
@@ -186,12 +185,12 @@ def outcome_of_model(case):
 
 
 def outcome_at(case):
-    """An older area that leads elsewhere is no part of the history then. Of several threads no page tells whom the first stop names."""
+    """An older area that leads elsewhere is no part of the history then. The first stop names whose step is next there, if anybody's is."""
     recording, fault = recording_of(case.contents)
     if fault or not recording.first <= case.at <= recording.whole:
         return none_begun(fault.fault if fault else "ckrt: Range")
     machine = recording.made_up_to(Visits([], (recording.first, case.at)), None, case.at)
-    shown = named(None, live_threads(machine), None)
+    shown = shown_at_first(machine, recording.events[case.at - recording.first:])
     answers = [*([] if case.is_acknowledged else [("", "OK")]), *expected_at_first(case, machine, (recording.first, recording.whole), shown)]
     return left(case, [*answers, *expected_visits(case, recording, (case.at, 0), shown)])
 

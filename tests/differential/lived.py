@@ -15,7 +15,7 @@ from moved import is_any, told_at
 from sharers import Sharer
 from stories import Story, TooLong
 from streams import malformed_line
-from stubs import answers_in, answers_of_thread, frame, is_answered, live_threads, memory_text, monitor, position_text, told_threads
+from stubs import answers_in, answers_of_thread, frame, is_answered, live_threads, memory_text, monitor, position_text, registers_text, told_threads
 
 TIME_LIMIT = 60
 MOTIONS = {"vCont;c": onward, "bc": backward}
@@ -52,7 +52,7 @@ class Script:
 
     def __init__(self, chance, story):
         self.chance, self.story, self.asked = chance, story, []
-        self.stops = Stops([], [])
+        self.stops, self.stopped = Stops([], []), None
 
     def ask(self, packet, expected):
         self.asked.append((packet, expected))
@@ -84,8 +84,13 @@ class Script:
         self.tell(self.written(f"goto {position_text(place)}"), self.story.place_text())
         self.why()
 
-    def why(self):
-        self.ask("?", ("", text_of_stop("T05", self.story.named)))
+    def why(self, is_stop=True):
+        """Whom a plain stop names is examined. Behind what was no stop the last one is told again, of a motion any that it may have had."""
+        if is_stop:
+            self.stopped = "", text_of_stop("T05", self.story.named)
+        self.ask("?", self.stopped)
+        if is_stop:
+            self.ask("g", ("", registers_text(self.story.machine_at(self.story.position), self.story.named)))
 
     def goto_nowhere(self):
         story = self.story
@@ -102,11 +107,10 @@ class Script:
         self.go((self.story.last, 0))
 
     def event(self):
-        """What an event leads to is a plain stop, too."""
+        """What an event leads to is a plain stop, too, and where none is made there is none."""
         line, before = self.line(), self.story.last
         self.tell(f"event {line}", self.story.add(line))
-        if self.story.last > before:
-            self.why()
+        self.why(self.story.last > before)
 
     def line(self):
         chance, hart = self.chance, self.chance.randrange(3)
@@ -118,10 +122,10 @@ class Script:
                               "".join(letter for letter in malformed_line(chance).decode("latin-1") if " " <= letter < "\x7f")[:200]])
 
     def live(self):
-        most, before = self.chance.choice([1, 1, 2, 3, 5, 20, 100]), self.story.last
+        """It is a plain stop at the end of the history, also where it makes nothing."""
+        most, is_stop = self.chance.choice([1, 1, 2, 3, 5, 20, 100]), self.story.position == (self.story.last, 0)
         self.tell(self.written(f"live {most}"), self.story.live(most))
-        if self.story.last > before:
-            self.why()
+        self.why(is_stop)
 
     def inspect(self):
         story = self.story
@@ -149,7 +153,8 @@ class Script:
         story.position, answers = MOTIONS[motion](steps, self.stops, story.position, ends[motion == "vCont;c"])
         answers = told_at(answers, story.named_at(story.position))
         story.named = thread_of_stop(answers[0])
-        self.ask(motion, [("", answer) for answer in answers])
+        self.stopped = [("", answer) for answer in answers]
+        self.ask(motion, self.stopped)
         self.events()
 
     def stop_at(self):

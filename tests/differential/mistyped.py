@@ -109,7 +109,7 @@ def with_list(answer, told):
     """An expected answer, or each of several that may come."""
     if isinstance(answer, list):
         return [with_list(one, told) for one in answer]
-    return answer if answer is None or answer[0] is None else (answer[0].replace(LIST, told), answer[1])
+    return answer if answer[0] is None else (answer[0].replace(LIST, told), answer[1])
 
 
 def with_lists(packets, expected, got):
@@ -120,7 +120,7 @@ def with_lists(packets, expected, got):
 
 def kinds_of_mistakes(expected):
     """The lines that tell what is wrong, for a table."""
-    answers = [one for answer in expected if answer for one in (answer if isinstance(answer, list) else [answer])]
+    answers = [one for answer in expected for one in (answer if isinstance(answer, list) else [answer])]
     return [("mistyped", told.partition("\n")[0]) for told, _ in answers if told and told.endswith("\n" + LIST)]
 
 

@@ -74,7 +74,7 @@ def threads_at(steps, place):
 
 def named(running, there, before):
     """Whom a stop names, of those that are there: the thread whose step is next; where nobody's is the one that was to step, or that of the
-    stop before. None where no page tells it: before its first stop a session has none."""
+    stop before. None where that isn't known, since the stop before may have named either of two."""
     if running:
         return running
     return None if before is None and len(there) > 1 else named_instead(there, before)

@@ -24,9 +24,9 @@ class MovedCase:
 
 
 def place_at_first(recording):
-    """Where the session begins, and whom its stop names: None where no page tells it. Where an older area leads elsewhere than to the last
-    checkpoint, the session is asked to begin at that, as it says itself."""
-    return (recording.first, 0), None if recording.is_misled else shown_at_first(recording.machine)
+    """Where the session begins, and whom its stop names. Where an older area leads elsewhere than to the last checkpoint, the session is asked to
+    begin at that, as it says itself, by `--at`."""
+    return (recording.first, 0), shown_at_first(recording.machine, recording.events if recording.is_misled else ())
 
 
 def words_at_first(recording):

@@ -31,7 +31,7 @@ class SteppedCase:
 
 
 class Way:
-    """Draws what is asked, and follows where the session stands, and which thread its last stop named: None where no page tells that."""
+    """Draws what is asked, and follows where the session stands, and which thread its last stop named: None where that may be either of two."""
 
     def __init__(self, chance, recording, steps, stops):
         self.chance, self.steps, self.stops = chance, steps, stops

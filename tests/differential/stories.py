@@ -59,7 +59,7 @@ class Story:
     """The machine as it was before the first event, the events, where one stands, and how far the disk has them too.
 
     `positions` has of each event how many there are before the next one; `named`
-    is the thread of the last stop, None where no page tells it.
+    is the thread of the last stop.
     """
 
     def __init__(self, recording, at=None):
@@ -70,7 +70,7 @@ class Story:
             self.append(event)
         self.recorded = self.whole
         self.position = (self.first if at is None else at), 0
-        self.named = shown_at_first(self.begin) if at is None else None
+        self.named = shown_at_first(self.begin) if at is None else shown_at_first(self.machine_at(self.position), self.events[at - self.first:])
 
     @property
     def last(self):
@@ -156,8 +156,8 @@ class Story:
         return self.place_text()
 
     def live(self, most):
-        """The events that a drive without options has next; behind them all is one stop. Where as many were made as were asked for, no more
-        is told than that the program has ended."""
+        """The events that a drive without options has next; behind them all is one stop, also where there are none, but not before the end of
+        the history. Where as many were made as were asked for, no more is told than that the program has ended."""
         made, reason = 0, self.reason_against(None)
         while reason is None and made < most and self.end.is_running:
             event = self.next_event()
@@ -165,7 +165,7 @@ class Story:
             if reason is None:
                 self.append(event)
                 self.position, made = (self.last, 0), made + 1
-        if made:
+        if reason != NOT_AT_END:
             self.stop()
         if reason is None and not self.end.is_running:
             reason = ENDED

@@ -5,7 +5,8 @@ from dataclasses import dataclass, field
 
 from abi import PAGE
 from listing import lines_of_state
-from motions import named, named_instead, text_of_stop
+from motions import named, text_of_stop
+from stretches import next_thread
 from threads import WaitKind
 
 MOST_BYTES = 2048  # of memory, in an answer
@@ -60,9 +61,10 @@ def live_threads(machine):
     return [number for number, thread in sorted(machine.threads.items()) if not thread.has_ended]
 
 
-def shown_at_first(machine):
-    """The thread that `?` names before anybody has moved, and whose registers are shown: thread 1, if it is there."""
-    return named_instead(live_threads(machine), 1)
+def shown_at_first(machine, events=()):
+    """The thread that `?` names before anybody has moved, and whose registers are shown: thread 1, if it is there. With `--at` it is the one
+    whose step is next before the events from there on, if any is."""
+    return named(next_thread(machine, events), live_threads(machine), 1)
 
 
 def registers_text(machine, number):
@@ -106,13 +108,13 @@ class Look:
         return asked + [f"m{address:x},{length:x}" for address, length in self.reads]
 
     def answers(self, machine, ends, named_there):
-        """What the console is told, and the payload. The stop names a thread, None where no page tells which."""
+        """What the console is told, and the payload. The stop names a thread, which is examined from then on."""
         place, stop = (line_of_events(self.position, ends), "OK"), ("", text_of_stop("T05", named_there))
         return [place, stop, *self.told(machine, ends, named_there)]
 
     def first_answers(self, machine, ends, named_there, examined):
         """A session begins with a plain stop."""
-        return [("", text_of_stop("T05", named_there)), registers_of(machine, examined), *self.told(machine, ends, examined)]
+        return [("", text_of_stop("T05", named_there)), ("", registers_text(machine, examined)), *self.told(machine, ends, examined)]
 
     def told(self, machine, ends, examined):
         """To the questions alone."""
@@ -130,15 +132,10 @@ def told_threads(machine):
     return live_threads(machine) or [1]
 
 
-def registers_of(machine, examined):
-    """Of the examined thread; None where no page tells which that is."""
-    return None if examined is None else ("", registers_text(machine, examined))
-
-
 def answers_of_thread(machine, number, examined):
     """Whether it is alive, what is to say of it, whether it may be examined, and the registers of the one that is then: the same as before
-    where it isn't there. None where no page tells whose these are."""
-    is_alive, registers = ("", "OK" if number in told_threads(machine) else NO_THREAD), registers_of(machine, examined)
+    where it isn't there."""
+    is_alive, registers = ("", "OK" if number in told_threads(machine) else NO_THREAD), ("", registers_text(machine, examined))
     if number not in told_threads(machine):
         return [is_alive, ("", NO_THREAD), ("", NO_THREAD), registers]
     text = text_of_thread(machine, number) if number in live_threads(machine) else "ready"
@@ -165,8 +162,8 @@ class Visits:
         if position in [look.position for look in self.looks]:
             self.kept[position] = deepcopy(machine), running
 
-    def answers(self, before=None):
-        """Of each look, in the order in which they are asked: a stop may name the thread of the one before, where that is known."""
+    def answers(self, before):
+        """Of each look, in the order in which they are asked: a stop may name the thread of the one before."""
         answers = []
         for look in self.looks:
             machine, running = self.kept[look.position]
@@ -176,9 +173,7 @@ class Visits:
 
 
 def is_answered(expected, got):
-    """Whether an answer is as expected, where it is known at all. A stop of which no page tells the thread has any."""
-    if expected is None:
-        return True
+    """Whether an answer is as expected. A stop whose thread isn't known may name any."""
     told, payload = expected
     is_open = payload.endswith("thread:")
     return told in (None, got[0]) and (got[1].startswith(payload) if is_open else got[1] == payload)

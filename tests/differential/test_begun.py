@@ -18,7 +18,7 @@ from lines import serve_disk
 from older_areas import MisleadingArea, fits_older, mislead
 from recovery import Unrecovered, recover, saved_in
 from stretches import Recording
-from stubs import Look, monitor, registers_text
+from stubs import Look, Visits, monitor, registers_text
 from switches import switched
 from tables import encode_tables
 from test_call_lines import GETS, LED, TwoAreas
@@ -349,10 +349,33 @@ class Recovered(WithKeys):
             self.assertEqual(outcome_of_model(DebuggedCase(disk, at=at)), Outcome([], "", 1, "ckrt: Range"))
 
     def test_shown_at(self):
-        """Of several threads no page tells whom the first stop names."""
-        disk = of_two_areas(JOINS, "place 0 1", "run 0 99", behind=["place 0 2", "run 0 9"])
-        for at, stop in ((0, "T05thread:1;"), (2, "T05thread:")):
-            self.assertEqual(outcome_of_model(DebuggedCase(disk, first_looks=[Look((at, 0), [], [])], at=at)).answers[1], ("", stop))
+        """Whose step is next, and thread 1 where nobody's is, whoever made the last step. That one is examined."""
+        for behind, named_there in ((["run 0 9"], [1, 1, 1, 2, 1]), (["run 0 2", "tick 1", "tick 1"], [1, 1, 1, 2, 1, 1, 1])):
+            disk = of_two_areas(JOINS, "place 0 1", "run 0 99", behind=["place 0 2", *behind])
+            for at, number in enumerate(named_there):
+                answers = outcome_of_model(DebuggedCase(disk, first_looks=[Look((at, 0), [9], [])], at=at)).answers
+                machine = Recording(bytearray(disk)).made_up_to(Visits([], (0, at)), last=at)
+                self.assertEqual(answers[1:3], [("", f"T05thread:{number};"), ("", registers_text(machine, number))])
+                self.assertEqual(answers[9], answers[2])
+
+    def test_shown_at_a_checkpoint(self):
+        """With `--at` the thread is named whose step is next at the history's begin, and thread 1 without. The next stop keeps to it, where
+        nobody's step is next."""
+        for behind, stops in ((["run 0 1", "tick 1"], {None: (1, 1), 3: (2, 2), 4: (1, 1), 5: (1, 1)}),
+                              (["tick 1", "run 0 1"], {None: (1, 1), 3: (1, 1), 4: (2, 2), 5: (1, 1)})):
+            disk = of_two_areas(JOINS, "place 0 1", "run 0 99", "place 0 2", "commit", "checkpoint", "checkpoint", behind=behind)
+            for at, numbers in stops.items():
+                case = DebuggedCase(disk, [Look((5, 0), [], [])], [], [Look((at or 3, 0), [], [])], at=at)
+                told = [payload for _, payload in outcome_of_model(case).answers if "thread" in payload]
+                self.assertEqual(told, [f"T05thread:{number};" for number in numbers], (behind, at))
+
+    def test_shown_at_without_thread_1(self):
+        """Which has ended: the first one stands for it, also where nobody's step is next."""
+        words = image_of([*call(Call.CREATE, 0x1100, 7, 0, 0), *call(Call.THREAD_EXIT, 0)]).ljust(256, b"\0") + 4 * bytes.fromhex("13000000")
+        disk = of_two_areas(words, "place 0 1", "run 0 99", "commit", "checkpoint", "tick 1", behind=["place 0 2", "run 0 1"])
+        for at in (2, 3, 4, 5):
+            answers = outcome_of_model(DebuggedCase(disk, first_looks=[Look((at, 0), [], [])], at=at)).answers
+            self.assertEqual((answers[1], answers[5]), (("", "T05thread:2;"), ("", "m2")))
 
 
 class WhatIsDrawn(WithKeys):

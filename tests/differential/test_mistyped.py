@@ -99,13 +99,13 @@ class Lists(WithKeys):
 
     def test_expected(self):
         answer, listed = (f"a\n{LIST}", "OK"), (f"a\n{LISTED}", "OK")
-        for expected, told in [(answer, listed), ([answer, ("b", "OK")], [listed, ("b", "OK")]), (None, None), ((None, "OK"), (None, "OK")),
+        for expected, told in [(answer, listed), ([answer, ("b", "OK")], [listed, ("b", "OK")]), ((None, "OK"), (None, "OK")),
                                (("", "E01"), ("", "E01"))]:
             self.assertEqual(with_list(expected, LISTED), told)
         self.assertEqual(with_lists([monitor("help"), "x"], [(LIST, "OK"), answer], [(LISTED, "OK")] * 2), [(LISTED, "OK"), listed])
 
     def test_kinds(self):
-        expected = [("", "OK"), None, (None, "OK"), answer_to(b"x"), [answer_to(b"goto")], answer_to(b"help"), answer_to(b"event")]
+        expected = [("", "OK"), (None, "OK"), answer_to(b"x"), [answer_to(b"goto")], answer_to(b"help"), answer_to(b"event")]
         self.assertEqual(kinds_of_mistakes(expected), [("mistyped", COMMAND), ("mistyped", POSITION)])
 
     def test_texts(self):

@@ -4,7 +4,8 @@ from random import Random
 from unittest.mock import patch
 
 from abi import Call
-from assembler import image_of
+from assembler import STOP, image_of
+from devices import MemoryDisk
 from layout import format_disk
 from lines import serve_disk
 from motions import (BEGIN, END, Stops, backward, end_of_steps, named, named_instead, next_step, onward, stepped, stepped_back, steps_of_thread,
@@ -20,6 +21,12 @@ from test_races import call, load, recording_of, store
 from test_rows import SMALL, STORES_ZERO
 
 FIRST, LAST = (0, 0), (9, 0)
+CREATES = call(Call.CREATE, 0x1100, 7, 0, 0)  # seven words
+
+
+def with_second(words):
+    """An image with the words of thread 1, and four of the thread that CREATES makes."""
+    return image_of(words).ljust(256, b"\0") + 4 * bytes.fromhex("13000000")
 
 
 def run_of(words, *lines):
@@ -203,7 +210,7 @@ class Beginnings(unittest.TestCase):
         switch = switched(keys=True, long_runs=True)
         switch.__enter__()
         self.addCleanup(switch.__exit__, None, None, None)
-        words = image_of([*call(Call.CREATE, 0x1100, 7, 0, 0), *call(Call.THREAD_EXIT, 0)]).ljust(256, b"\0") + 4 * bytes.fromhex("13000000")
+        words = with_second([*CREATES, *call(Call.THREAD_EXIT, 0)])
         led = [*LED, "place 0 1", "run 0 2", "commit"]
         self.good = bytes(TwoAreas(*led).disk.bytes)
         self.misled = bytes(TwoAreas(*led).flip(SMALL.page_at(0, 16) - 1).disk.bytes)
@@ -211,11 +218,24 @@ class Beginnings(unittest.TestCase):
         self.recordings = [Recording(bytearray(disk)) for disk in (self.good, self.misled, self.ended)]
 
     def test_places(self):
-        self.assertEqual([place_at_first(recording) for recording in self.recordings], [((0, 0), 1), ((2, 0), None), ((2, 0), 2)])
+        self.assertEqual([place_at_first(recording) for recording in self.recordings], [((0, 0), 1), ((2, 0), 1), ((2, 0), 2)])
         self.assertEqual([words_at_first(recording) for recording in self.recordings], [[], ["--at", "2"], []])
         self.assertEqual([(recording.first, recording.is_misled) for recording in self.recordings], [(0, False), (2, True), (2, False)])
         behind_refused = Recording(TwoAreas().put(SMALL.area_at(0), [0]).disk.bytes)
         self.assertEqual((behind_refused.first, behind_refused.is_misled, place_at_first(behind_refused)), (2, False, ((2, 0), 1)))
+
+    def test_next_at_first(self):
+        """Where a session is asked to begin at the checkpoint, the thread is named whose step is next there; else nobody looks for that."""
+        for behind, named_there in ((["run 0 1"], 2), (["tick 1", "run 0 1"], 1)):
+            disk = MemoryDisk(bytearray(of_two_areas(with_second([*CREATES, STOP]), "place 0 1", "run 0 7", "place 0 2", behind=behind)))
+            self.assertEqual(place_at_first(Recording(disk.bytes)), ((0, 0), 1))
+            disk.write(SMALL.page_at(0, 16) - 1, b"\1")
+            misled = Recording(disk.bytes)
+            self.assertEqual((misled.is_misled, place_at_first(misled)), (True, ((3, 0), named_there)))
+            expected = expected_motions(MovedCase(b"", Stops([], []), [(None, ["vCont;c"])]), misled)
+            self.assertEqual(expected[1], [("", END + f"thread:{named_there};")])
+            disk.write(SMALL.area_at(0), b"\0")
+            self.assertEqual(place_at_first(Recording(disk.bytes)), ((3, 0), 1))
 
     def test_moved(self):
         """From there, without going anywhere before; at the ends those are named that are there, and that the first stop named."""
@@ -317,12 +337,20 @@ class Ways(TwoThreads):
         self.stand((8, 0), named_before=1)
         self.assertEqual(self.way.motion("vCont;c", 1), ((10, 0), [END + "thread:1;"]))
         self.stand((3, 1), named_before=2, until=(4, 0))
-        self.assertEqual(self.way.motion("step", 1), ((4, 0), ["T00thread:1;"]))
-        self.assertEqual(self.way.motion("vCont;c", 1), ((4, 0), ["T00thread:2;"]))
+        for kind, number in (("step", 1), ("range", 1), ("vCont;c", 2)):
+            self.assertEqual(self.way.motion(kind, 1), ((4, 0), [f"T00thread:{number};"]))
         self.stand((3, 1), named_before=None, until=(4, 0))
         self.assertEqual(self.way.motion("vCont;c", 1), ((4, 0), ["T00thread:"]))
         self.stand((4, 0), named_before=1)
         self.assertEqual(self.way.motion("step", 9), ((10, 0), [END + "thread:1;"]))
+
+    def test_stops_before_they_are_made(self):
+        """In place of thread 2, which was to step or was named before, stands the first one where it isn't made yet."""
+        for kind in ("bs", "bc"):
+            self.stand((3, 0), named_before=2)
+            self.assertEqual(self.way.motion(kind, 2), ((0, 0), [BEGIN + "thread:1;"]))
+            self.stand((3, 1), named_before=2, until=(2, 0))
+            self.assertEqual(self.way.motion("bc", 2), ((2, 0), ["T00thread:2;"]))
 
     def test_threads_that_are_not_there(self):
         """In place of any, of all, and of one that isn't there, that of the last stop."""

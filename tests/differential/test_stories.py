@@ -99,13 +99,15 @@ class Beginnings(WithKeys):
         self.assertEqual((story.goto((2, 0)), story.fork(), story.goto((1, 1)), story.events), (True, "event 2, from 0 to 2\n", True, [Place(0, 1), Run(0, 9)]))
         for at in (0, 2, 3):
             story = Story(Recording(TwoAreas().disk.bytes), at)
-            self.assertEqual((story.position, story.named), ((at, 0), None))
+            self.assertEqual((story.position, story.named), ((at, 0), 1))
 
     def test_shown(self):
         """Thread 1, where it hasn't ended by then; else the first one."""
         words = [*call(Call.CREATE, 0x1100, 7, 0, 0), *call(Call.THREAD_EXIT, 0)]
-        story = Story(Recording(bytearray(of_two_areas(image_of(words), "place 0 1", "run 0 99", "commit", "checkpoint", "tick 1", behind=["tick 1"]))))
+        recording = Recording(bytearray(of_two_areas(image_of(words), "place 0 1", "run 0 99", "commit", "checkpoint", "tick 1", behind=["tick 1"])))
+        story = Story(recording)
         self.assertEqual((story.position, story.named, story.recorded), ((2, 0), 2, 4))
+        self.assertEqual([Story(recording, at).named for at in (2, 3, 4)], [2, 2, 2])
 
     def test_drawn(self):
         """Why it stands there is asked first of all. On a disk that misleads a session is asked to begin there, or behind it."""
@@ -115,7 +117,8 @@ class Beginnings(WithKeys):
                 with patch("lived.recorded_disk", lambda chance, case: bytearray(disk)):
                     case = lived_case(Random(seed), None)
                 drawn.append(tuple(case.words[1:]))
-                self.assertEqual(case.asked[0], ("?", ("", "T05thread:" + ("" if case.words else "1;"))))
+                self.assertEqual([packet for packet, _ in case.asked[:2]], ["?", "g"])
+                self.assertEqual(case.asked[0][1], ("", "T05thread:1;"))
             self.assertEqual(set(drawn), ats)
 
 
@@ -227,8 +230,8 @@ class Named(WithKeys):
 
     def setUp(self):
         super().setUp()
-        recording = recording_of([(2, [*load(), *load()]), (1, load())], threads=1)
-        self.story = Story(recording)
+        self.recording = recording_of([(2, [*load(), *load()]), (1, load())], threads=1)
+        self.story = Story(self.recording)
 
     def named(self, *places):
         """Behind going to each of them in turn."""
@@ -245,6 +248,18 @@ class Named(WithKeys):
         self.assertEqual([self.named((5, 0)), self.named((4, 0)), self.named((6, 0))], [1, 1, 1])
         self.assertFalse(self.story.goto((9, 0)))
         self.assertEqual(self.story.named, 1)
+
+    def test_at(self):
+        """Where a session begins elsewhere the thread is named whose step is next there, and else thread 1; the stop behind it keeps to that."""
+        stories = [Story(self.recording, at) for at in range(7)]
+        self.assertEqual([story.named for story in stories], [1, 1, 1, 2, 1, 1, 1])
+        self.assertEqual([(story.goto((4, 0)), story.named) for story in stories], [(True, number) for number in (1, 1, 1, 2, 1, 1, 1)])
+
+    def test_next_at_first(self):
+        """Where the history begins with a step of thread 2, that is named with `--at`, and thread 1 without."""
+        words = [*call(Call.CREATE, 0x1100, 0, 0, 0), STOP]
+        lines = ["place 0 1", f"run 0 {len(words) - 1}", "place 0 2", "checkpoint", "run 0 1", "tick 1"]
+        self.assertEqual([story_of(words, *lines, at=at).named for at in (None, 3, 4, 5)], [1, 2, 1, 1])
 
     def test_not_there(self):
         """Before it is made, thread 2 isn't there: the first one is."""
@@ -276,7 +291,7 @@ class Named(WithKeys):
         self.assertEqual((again.live(2).splitlines()[0], again.named), ("events made: 2", 2))
 
     def test_one_stop(self):
-        """Of all events that turns make the last one leads to the only stop; where none is made there is none."""
+        """Of all events that turns make the last one leads to the only stop; before the end of the history there is none."""
         story, stops = self.at_end([STOP], "tick 1"), []
         story.stop = lambda: stops.append(story.position)
         story.live(5)
@@ -284,6 +299,16 @@ class Named(WithKeys):
         story.position = 0, 0
         story.live(5)
         self.assertEqual(stops, [(6, 0)])
+
+    def test_stop_without_events(self):
+        """At the end a stop is made whatever keeps the next event from being made."""
+        for words, clock, reason in [(call_words(Call.EXIT, 0), 0, "the program has ended"), (LOCKS * 2, 0, "no thread can go on"),
+                                     (call_words(Call.GETC), 0, "the program waits for input: monitor event in HEX gives it some"),
+                                     (call_words(Call.SLEEP_UNTIL, 0xFFFFFFFF, 0x7FFFFFFF), 2 ** 63 - 1, "no 8 ClockEnd")]:
+            story, stops = self.at_end(words, "place 0 1", "run 0 9"), []
+            story.end.clock = clock or story.end.clock
+            story.stop = lambda: stops.append(story.position)
+            self.assertEqual((story.live(5).splitlines()[:2], stops), (["events made: 0", reason], [(2, 0)]))
 
 
 class Scripts(WithKeys):
@@ -294,19 +319,53 @@ class Scripts(WithKeys):
         self.script = Script(Random(1), Story(recording_of([(2, load()), (1, load())], threads=1)))
         self.script.written = lambda command: command
 
+    def moves(self, motion):
+        """Behind such a motion."""
+        while self.script.asked[-2][0] != motion:
+            self.script.motion()
+
     def test_stops(self):
-        """Behind going somewhere, and behind an event or a turn, it is asked why the session stands."""
+        """Behind going somewhere, and behind an event or a turn, it is asked why the session stands, and for registers of the thread that is named."""
         self.script.go((3, 1))
-        self.assertEqual(self.script.asked, [(monitor("goto 3+1"), ("event 3+1, from 0 to 6\n", "OK")), ("?", ("", "T05thread:2;"))])
+        *asked, (packet, (told, registers)) = self.script.asked
+        self.assertEqual(asked, [(monitor("goto 3+1"), ("event 3+1, from 0 to 6\n", "OK")), ("?", ("", "T05thread:2;"))])
+        self.assertEqual((packet, told, len(registers), registers[-8:]), ("g", "", 8 * 33, "30100000"))
         self.script.line = lambda: "tick 1"
         self.script.event()
-        self.assertEqual(self.script.asked[2:], [(monitor("event tick 1"), (NOT_AT_END + "\n", "OK"))])
+        self.assertEqual(self.script.asked[3:], [(monitor("event tick 1"), (NOT_AT_END + "\n", "OK")), ("?", ("", "T05thread:2;"))])
         self.script.goto_end()
         self.script.event()
         made = monitor("event tick 1"), ("event 7, from 0 to 7, recorded to 6\n", "OK")
-        self.assertEqual(self.script.asked[5:], [made, ("?", ("", "T05thread:2;"))])
+        self.assertEqual(self.script.asked[8:10], [made, ("?", ("", "T05thread:2;"))])
+        self.assertEqual((len(self.script.asked), self.script.asked[10][1][1][-8:]), (11, "38100000"))
         self.script.live()
-        self.assertEqual(self.script.asked[-1], ("?", ("", "T05thread:2;")))
+        self.assertEqual(self.script.asked[-2], ("?", ("", "T05thread:2;")))
+
+    def test_stops_that_stay(self):
+        """What makes nothing before the end of the history is no stop, and the last one is told as it was, also behind a cut."""
+        self.script.line = lambda: "run 0 0"
+        self.script.go((3, 1))
+        self.moves("bc")
+        began = [("", "T05replaylog:begin;thread:1;")]
+        for ask, told in ((self.script.live, f"events made: 0\n{NOT_AT_END}\nevent 0, from 0 to 6\n"), (self.script.event, "no 34 Range\n")):
+            ask()
+            self.assertEqual([answer for _, answer in self.script.asked[-2:]], [(told, "OK"), began])
+        self.script.fork()
+        self.script.event()
+        self.assertEqual(self.script.asked[-1], ("?", began))
+
+    def test_stop_without_events(self):
+        """At the end `live` makes a plain stop of one that told the end, where it makes nothing; an event that isn't made makes none."""
+        self.script = Script(Random(1), story_of(call_words(Call.EXIT, 0), "place 0 1", "run 0 9"))
+        self.script.line = lambda: "tick 1"
+        self.script.go((1, 1))
+        self.moves("vCont;c")
+        self.script.event()
+        self.assertEqual([answer for _, answer in self.script.asked[-2:]], [("no 1 Ended\n", "OK"), [("", "T05replaylog:end;thread:1;")]])
+        self.script.live()
+        made = "events made: 0\nthe program has ended\nevent 2, from 0 to 2\n", "OK"
+        self.assertEqual([answer for _, answer in self.script.asked[-3:-1]], [made, ("", "T05thread:1;")])
+        self.assertEqual((self.script.asked[-1][0], self.script.asked[-1][1][1][-8:]), ("g", "0c100000"))
 
     def test_nowhere(self):
         self.script.go((3, 1))
@@ -316,17 +375,16 @@ class Scripts(WithKeys):
     def test_motions(self):
         """At an end of the history the thread of the stop before is named."""
         self.script.go((3, 1))
-        while self.script.asked[-2][0] != "vCont;c":
-            self.script.motion()
+        self.moves("vCont;c")
         self.assertEqual(self.script.asked[-2:], [("vCont;c", [("", "T05replaylog:end;thread:2;")]),
                                                   (monitor("events"), ("event 6, from 0 to 6\n", "OK"))])
 
     def test_answers(self):
-        case = LivedCase(b"", [], [("?", ("", "T05thread:2;")), ("bc", [("", "T05replaylog:begin;thread:")]), ("g", None)])
+        case = LivedCase(b"", [], [("?", ("", "T05thread:2;")), ("bc", [("", "T05replaylog:begin;thread:9;")]), ("g", ("", "00"))])
         right = [("", "OK"), ("", "T05thread:2;"), ("", "T05replaylog:begin;thread:9;"), ("", "00"), (LISTED, "OK"), ("", "OK")]
         self.assertIsNone(difference_of_answers(case, right, Counter()))
-        for place, wrong in [(1, ("", "T05thread:1;")), (1, ("x", "T05thread:2;")), (2, ("", "T05thread:9;")), (0, ("", "E01")), (4, ("", "E01")), (4, ("", "OK")),
-                             (5, ("", "E01"))]:
+        for place, wrong in [(1, ("", "T05thread:1;")), (1, ("x", "T05thread:2;")), (2, ("", "T05thread:9;")), (2, ("", "T05replaylog:begin;thread:2;")),
+                             (3, ("", "01")), (0, ("", "E01")), (4, ("", "E01")), (4, ("", "OK")), (5, ("", "E01"))]:
             self.assertIsNotNone(difference_of_answers(case, [*right[:place], wrong, *right[place + 1:]], Counter()), place)
         self.assertIsNotNone(difference_of_answers(case, right[:-1], Counter()))
 

@@ -4,8 +4,9 @@ from copy import deepcopy
 
 from abi import Call
 from debugged import NOWHERE, unlike
+from events import Run, Tick
 from stubs import (Look, Visits, answers_in, answers_of_thread, frame, is_answered, memory_text, monitor, position_text, registers_text,
-                   text_of_thread)
+                   shown_at_first, text_of_thread)
 from switches import switched
 from test_races import call, load, recording_of
 
@@ -71,6 +72,24 @@ class Texts(WithKeys):
         self.assertEqual(len(memory_text(memory, 0x2000, 4000)), 2 * 2048)
 
 
+class AtFirst(WithKeys):
+    """Whom the stop names with which a session begins."""
+
+    def test_thread_1(self):
+        """The first one of those that are there, where it isn't; and where none is left."""
+        exits = call(Call.THREAD_EXIT, 0)
+        for turns, threads, named_there in [([(2, load())], 1, 1), ([(1, exits)], 2, 2), ([(1, exits), (2, exits)], 2, 3),
+                                            ([(1, [*call(Call.DETACH, 1), *exits])], 0, 1)]:
+            machine = self.machine_behind(*turns, threads=threads)
+            for events in ((), [Tick(1), Run(0, 1)], [Run(1, 1)]):
+                self.assertEqual(shown_at_first(machine, events), named_there)
+
+    def test_next(self):
+        """Thread 3, or 2, whose step is next, whether thread 1 is there or not."""
+        for turns, named_there in [([(3, load())], 3), ([(3, load()), (2, load())], 2), ([(1, call(Call.THREAD_EXIT, 0)), (3, load())], 3), ([(1, load())], 1)]:
+            self.assertEqual(shown_at_first(self.machine_behind(*turns, threads=2), [Run(0, 1), Tick(1)]), named_there)
+
+
 class Sessions(WithKeys):
     """Answers that are compared with themselves, and with one of them changed."""
 
@@ -79,7 +98,7 @@ class Sessions(WithKeys):
         looks = [Look((4, 0), [9], []), Look((3, 1), [1, 2, 9], [(0x1000, 8)]), Look((2, 0), [9, 2], []), Look((4, 0), [9], [])]
         visits = Visits(looks, (0, 4))
         visits.visit((4, 0), recording_of([(2, load())], threads=1).made_up_to(visits), None)
-        self.first, self.within, self.between, self.last = visits.answers()
+        self.first, self.within, self.between, self.last = visits.answers(1)
         self.machines = [visits.kept[look.position][0] for look in looks]
 
     def test_by_hand(self):
@@ -92,31 +111,29 @@ class Sessions(WithKeys):
         self.assertEqual((len(self.within), self.last[2]), (18, ("event 4, from 0 to 4\n", "OK")))
 
     def test_stops(self):
-        """Where nobody's step is next the thread of the stop before is named; at first no page tells which, if there are several."""
-        self.assertEqual([answers[1][1] for answers in (self.first, self.between, self.last)], ["T05thread:", "T05thread:2;", "T05thread:2;"])
+        """Where nobody's step is next the thread of the stop before is named; of the first of them it is that of the session's begin."""
+        self.assertEqual([answers[1][1] for answers in (self.first, self.between, self.last)], ["T05thread:1;", "T05thread:2;", "T05thread:2;"])
         self.assertEqual(Look((0, 0), [], []).answers(self.machines[0], (0, 4), 10)[1], ("", "T05thread:a;"))
 
     def test_examined(self):
         """Whom the stop names, and then whom gdb has named, if that one is there."""
         registers = [("", registers_text(self.machines[1], number)) for number in (1, 2)]
         self.assertEqual(self.within[8:17:4], [registers[0], registers[1], registers[1]])
-        self.assertEqual((self.first[8], self.between[8], self.last[8]), (None, ("", registers_text(self.machines[2], 2)),
-                                                                         ("", registers_text(self.machines[0], 2))))
+        self.assertEqual((self.first[8], self.between[8], self.last[8]), tuple(("", registers_text(self.machines[place], number))
+                                                                              for place, number in [(0, 1), (2, 2), (3, 2)]))
 
     def test_each_change(self):
         answers = [*self.first, *self.within, *self.last]
-        got = [answer or ("", "E01") for answer in answers]
-        got = [(told, payload + "1;" if payload.endswith("thread:") else payload) for told, payload in got]
-        packets = [str(number) for number in range(len(got))]
-        self.assertIsNone(unlike(packets, answers, got))
-        for number, answer in enumerate(answers):
-            for told in [("", "E02"), ("told", got[number][1])]:
-                changed = deepcopy(got)
+        packets = [str(number) for number in range(len(answers))]
+        self.assertIsNone(unlike(packets, answers, deepcopy(answers)))
+        for number, (_, payload) in enumerate(answers):
+            for told in [("", "E02"), ("told", payload)]:
+                changed = deepcopy(answers)
                 changed[number] = told
-                self.assertEqual(unlike(packets, answers, changed) is None, answer is None, number)
+                self.assertIsNotNone(unlike(packets, answers, changed), number)
 
     def test_answered(self):
-        for expected, got, is_right in [(None, ("a", "b"), True), ((None, "OK"), ("a", "OK"), True), (("", "OK"), ("a", "OK"), False),
+        for expected, got, is_right in [((None, "OK"), ("a", "OK"), True), (("", "OK"), ("a", "OK"), False),
                                         ((None, "OK"), ("a", "E01"), False), (("", "OK"), ("", "OKAY"), False), (("", ""), ("", "OK"), False),
                                         (("", "T05thread:"), ("", "T05thread:7;"), True), (("", "T05thread:"), ("", "T05watch:7;thread:7;"), False),
                                         (("", "T05thread:1;"), ("", "T05thread:12;"), False), (("", "T05thread:"), ("a", "T05thread:7;"), False)]:
@@ -125,7 +142,7 @@ class Sessions(WithKeys):
     def test_places(self):
         """Before each step, and before an event that is no run."""
         visits = recording_of([(2, load())], threads=1).show(Visits([Look((3, 2), [2], []), Look((2, 0), [], [])], (0, 4)))
-        within, before = visits.answers()
+        within, before = visits.answers(1)
         self.assertEqual([answers[2][0].split(",")[0] for answers in (within, before)], ["event 3+2", "event 2"])
         self.assertEqual((within[-1][1][8 * 3:8 * 4], within[-1][1][-8:]), ("00280000", "28100000"))
         self.assertEqual([visits.kept[place][1] for place in [(3, 2), (2, 0)]], [2, None])
