@@ -20,7 +20,7 @@ pub use fault::AreaFault;
 pub use fields::{header_fields, number_32, number_64, put};
 pub use header::Header;
 pub use layout::{COUNT_LIMIT, FIELDS_AT, SUPERBLOCK_VERSION};
-pub use picking::pick_area;
+pub use picking::{checked_area, pick_area, read_header};
 pub use reading::read_area;
 pub use save_point::SavePoint;
 pub use writing::write_area;

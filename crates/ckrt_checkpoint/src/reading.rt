@@ -88,8 +88,7 @@ pub fn read_area<D: Disk>(
     ensures pages { GivesPagesThatStand D.Disk config.now disk.old disk.new (λ r. r.0) result }
     ensures clean { IfOk result (λ r. IsAllClean area.now.index r.0) }
     ensures held { IfOk result (λ r. r.2.capacity ≡ HELD_LIMIT) }
-    ensures no_generations { result ≢ Err GenerationsUsed }
-    ensures no_version { result ≢ Err Version }
+    ensures no_other { (result ≢ Err GenerationsUsed) × (result ≢ Err Version) }
 {
     let bytes = read_table_bytes(alloc, disk, config, area)?;
     // tables are large: `?` would move them three times more, and the value of the match once more

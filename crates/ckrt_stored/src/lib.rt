@@ -20,4 +20,4 @@ pub use laws::{
 };
 pub use past::read_past;
 pub use progress::Progress;
-pub use reading::{read_in_use, read_progress};
+pub use reading::{ends_in_range, read_in_use, read_progress};
