@@ -1,5 +1,5 @@
 -- Input, and who waits for it.
-use Rattle.std.proofs.Common.{◌≡◌, ℕ, ◌+◌, ◌≤◌, ◌<◌, Bool, true, false, not, List, [], ◌∷◌, ◌++◌, length, drop, slice_get, Option, Some, None, ◌⊎◌, inl, inr, refl, sym, ap, ◌∙◌, arith, length-append}
+use Rattle.std.proofs.Common.{◌≡◌, ℕ, ◌+◌, ◌≤◌, Bool, true, false, not, List, [], ◌∷◌, ◌++◌, length, drop, slice_get, Option, Some, None, ◌⊎◌, inl, inr, refl, sym, ap, ◌∙◌, arith, length-append}
 use Rattle.std.specs.Prelude.{option_map}
 use Rattle.std.specs.List.{list_all, find}
 use Rattle.std.proofs.lemmas.Bool.Decides.{nat_tests}
@@ -10,7 +10,7 @@ use Rattle.ckrt_thread.specs.Abi.{A0}
 use Rattle.ckrt_thread.specs.Waits.{is_for}
 use Rattle.ckrt_thread.specs.Granting.{queue_of}
 use Rattle.ckrt_thread.specs.State as threads
-use Rattle.ckrt_thread.specs.State.{State, first_waiter, first_unwaited, of_wait, of_waiter, set_word, woken, all_woken, is_waiting, is_live, is_live_thread, is_any_live, with_word}
+use Rattle.ckrt_thread.specs.State.{State, first_waiter, first_unwaited, of_wait, of_waiter, set_word, woken, all_woken, is_live, is_live_thread, is_any_live, with_word}
 use Rattle.ckrt_thread.proofs.Grants.{first_of_queue}
 use Rattle.ckrt_thread.proofs.Waking.{kept_all_woken, waiter_is, taken_woken, none_unwaited}
 use Rattle.ckrt_thread.proofs.Waking as waking

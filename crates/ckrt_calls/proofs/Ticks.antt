@@ -22,7 +22,7 @@ use Rattle.ckrt_state.specs.declared.table.Tables.{Tables}
 use Rattle.ckrt_state.specs.WellFormed.{IsWellFormed, lies_ahead, lacks_input}
 use Rattle.ckrt_calls.specs.Table.{timed_out, all_timed_out, ticked}
 use Rattle.ckrt_calls.proofs.ThreadRows as rows
-use Rattle.ckrt_calls.proofs.ThreadRows.{AllWaits, all_blocked, any_live_woken, any_live_change}
+use Rattle.ckrt_calls.proofs.ThreadRows.{any_live_woken}
 use Rattle.ckrt_calls.proofs.MutexRows as mutex
 use Rattle.ckrt_calls.proofs.MutexRows.{wait_rule}
 use Rattle.ckrt_calls.proofs.Queues.{SameQueues, barriers_same, locks_same, timed_ended, timed_resumed}

@@ -3,8 +3,8 @@ use Rattle.std.proofs.Common.{◌≡◌, ℕ, ◌%◌, ◌==◌, not, Bool, true
 use Rattle.std.proofs.lemmas.Bool.Decides.{nat_tests}
 use Rattle.ckrt_thread.specs.Abi.{A1}
 use Rattle.ckrt_thread.specs.Keys.{is_key, free_key, setting}
-use Rattle.ckrt_thread.specs.ThreadKeys.{value_of, with_value_of, with_key_of, without_key_of}
-use Rattle.ckrt_thread.specs.State.{State, IsWellFormed, is_live, is_live_thread, thread_of, change_live, with_word}
+use Rattle.ckrt_thread.specs.ThreadKeys.{value_of, with_key_of}
+use Rattle.ckrt_thread.specs.State.{State, IsWellFormed, is_live, is_live_thread, thread_of, with_word}
 use Rattle.ckrt_thread.specs.Rows.{After}
 use Rattle.ckrt_thread.proofs.SlotLemmas.{live_change}
 use Rattle.ckrt_thread.proofs.Changes.{well_formed_word}

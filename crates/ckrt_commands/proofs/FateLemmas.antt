@@ -1,5 +1,5 @@
 -- The events that lines get accepted where a device fails are a beginning of those where none does.
-use Rattle.std.proofs.Common.{◌≡◌, ◌⊎◌, ⊎_elim, inl, inr, ℕ, zero, suc, nat_eq, if◌then◌else◌, Bool, true, false, Option, Some, None, List, [], ◌∷◌, ◌++◌, length, Ok, Err, Result, refl, sym, ◌∙◌, ap, subst, append-nil}
+use Rattle.std.proofs.Common.{◌≡◌, ◌⊎◌, ⊎_elim, inl, inr, ℕ, zero, suc, nat_eq, if◌then◌else◌, Bool, true, false, Option, Some, None, List, [], ◌∷◌, ◌++◌, length, Ok, Err, Result, refl, sym, ◌∙◌, ap, subst}
 use Rattle.std.specs.Prelude.{◌==◌, ◌^◌, ◌-◌}
 use Rattle.std.specs.Str.Lines.{lines}
 use Rattle.ckrt_events.specs.declared.event.Event.{Event}
@@ -16,7 +16,7 @@ use Rattle.ckrt_recovery.specs.declared.fault.SubmitFault.TheVariants as submit_
 use Rattle.ckrt_recovery.specs.Calls.{checkpoint_refusal}
 use Rattle.ckrt_recovery.specs.Lists.{IsBeginningOf}
 use Rattle.ckrt_recovery.specs.View.{View, refusal_of, refusal_when_running, committed, checkpointed}
-use Rattle.ckrt_commands.specs.Transcript.{Fate, Transcript, preceded_by, unless_quit, followed_by, submitted, submit, unless_refused, run_planned, output, commit_by, commit, by_fate, saved, checkpoint, respond, respond_all, transcript}
+use Rattle.ckrt_commands.specs.Transcript.{Fate, Transcript, unless_quit, followed_by, submitted, submit, unless_refused, run_planned, output, commit_by, by_fate, saved, respond, respond_all, transcript}
 use Rattle.ckrt_recovery.proofs.ListLemmas.{begins_behind, begins_itself, nothing_begins}
 
 -- AFTER A FAILURE

@@ -1,12 +1,11 @@
 -- What replies say, one after another.
-use Rattle.std.proofs.Common.{◌≡◌, ℕ, zero, suc, ◌+◌, ◌*◌, ◌-◌, ◌/◌, ◌<◌, ◌≤◌, List, [], ◌∷◌, ◌++◌, length, take, drop, refl, sym, ◌∙◌, ap, subst, arith, append_assoc, length-append, length-drop, length-take-le, take_all, inl, inr, min}
+use Rattle.std.proofs.Common.{◌≡◌, ℕ, zero, suc, ◌+◌, ◌*◌, ◌-◌, ◌/◌, ◌<◌, ◌≤◌, List, [], ◌∷◌, ◌++◌, length, take, drop, refl, sym, ◌∙◌, ap, subst, arith, append_assoc, length-append, length-drop, take_all, inl, inr, min}
 use Rattle.std.specs.List.{AllByRecursion}
 use Rattle.std.proofs.lemmas.Bool.Decides.{leb_tells}
 use Rattle.std.proofs.lemmas.List.{drop_all, take-append-drop}
-use Rattle.ckrt_machine.specs.declared.event.Answer.{Answer}
 use Rattle.ckrt_recovery.specs.Between.{StandsIn}
 use Rattle.ckrt_recovery.specs.Lists.{IsBeginningOf}
-use Rattle.ckrt_commands.specs.Replies.{Reply, Accepted, Acknowledged, NotAccepted, NotSaved, NotUnderstood, Output, line_of, told_of, text_of, outputs_by, outputs, oks_of, acks_of, outs_of, output_in, shown_in, shown_up_to}
+use Rattle.ckrt_commands.specs.Replies.{Reply, Accepted, Acknowledged, NotAccepted, NotSaved, NotUnderstood, Output, line_of, told_of, text_of, outputs_by, outputs, oks_of, acks_of, outs_of, shown_in, shown_up_to}
 
 -- WHAT HOLDS OF EACH
 

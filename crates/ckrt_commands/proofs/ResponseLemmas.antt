@@ -1,5 +1,5 @@
 -- What the calls of a session get told, piece by piece.
-use Rattle.std.proofs.Common.{◌≡◌, ℕ, suc, zero, ◌+◌, ◌≤◌, ◌-◌, nat_eq, if◌then◌else◌, Bool, true, false, Option, Some, None, List, [], ◌∷◌, ◌++◌, length, take, drop, Ok, Err, Result, refl, sym, ◌∙◌, ap, subst, arith, append-nil, length-take-le, inl, inr, ⊎_elim, ◌⊎◌}
+use Rattle.std.proofs.Common.{◌≡◌, ℕ, suc, zero, ◌+◌, ◌≤◌, ◌-◌, if◌then◌else◌, Bool, true, false, Option, Some, None, List, [], ◌∷◌, ◌++◌, length, take, drop, Ok, Err, Result, refl, sym, ◌∙◌, ap, subst, arith, append-nil, length-take-le, ⊎_elim, ◌⊎◌}
 use Rattle.std.specs.Prelude.{◌==◌, IfErr, IfOk, IsOk, OnErr, OnOk, MatchOption, is_none}
 use Rattle.std.specs.List.{AllByRecursion}
 use Rattle.std.proofs.lemmas.Bool.{eqb-true}
@@ -15,12 +15,11 @@ use Rattle.ckrt_recovery.specs.declared.fault.SubmitFault.TheVariants as submit_
 use Rattle.ckrt_recovery.specs.declared.session.Session.{Session}
 use Rattle.ckrt_recovery.specs.Calls.{Commits, Checkpoints, checkpoint_refusal}
 use Rattle.ckrt_recovery.specs.Between.{StandsIn}
-use Rattle.ckrt_recovery.specs.Lists.{IsBeginningOf}
 use Rattle.ckrt_commands.specs.Replies.{Reply, Accepted, Acknowledged, NotAccepted, NotSaved, outputs, oks_of, acks_of, outs_of, shown_in, shown_up_to}
 use Rattle.ckrt_recovery.specs.Represents.{Represents, acknowledged_of}
 use Rattle.ckrt_recovery.specs.View.{View, view_of, refusal_of, refusal_when_running, after_event, committed, checkpointed, released_output, confirmed_to}
-use Rattle.ckrt_commands.specs.Transcript.{Fate, Transcript, preceded_by, unless_quit, followed_by, submitted, submit, unless_refused, output, commit_by, commit, saved, checkpoint, by_fate, refused_commit}
-use Rattle.ckrt_commands.specs.Pieces.{Tells, TellsPart, Answers, BreaksOff, HasTaken, Piece, Responds, Interrupted, Suits, ends}
+use Rattle.ckrt_commands.specs.Transcript.{Fate, Transcript, preceded_by, followed_by, submitted, submit, unless_refused, output, commit_by, commit, saved, checkpoint, by_fate, refused_commit}
+use Rattle.ckrt_commands.specs.Pieces.{Tells, TellsPart, Answers, BreaksOff, HasTaken, Responds, Interrupted, Suits, ends}
 use Rattle.ckrt_commands.specs.Accepts.{Accepts, AreOutput}
 use Rattle.ckrt_commands.proofs.AcceptLemmas.{accepts_kept, accepts_more, accepts_still, refused_failed}
 use Rattle.ckrt_commands.proofs.EventLemmas.{accepted_before, refused_alone}

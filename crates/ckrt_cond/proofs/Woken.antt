@@ -14,7 +14,7 @@ use Rattle.ckrt_thread.proofs.Grants.{first_of_queue}
 use Rattle.ckrt_thread.proofs.Waking.{waiter_is, no_first, none_unwaited}
 use Rattle.ckrt_objects.specs.declared.address_map.Entry.{Entry}
 use Rattle.ckrt_mutex.specs.declared.records.Mutex.{Mutex}
-use Rattle.ckrt_mutex.specs.Rows.{After, unchanged}
+use Rattle.ckrt_mutex.specs.Rows.{unchanged}
 use Rattle.ckrt_cond.specs.Rows.{waiters, has_waiters, resume_row, woken_from, all_woken, signal_row, broadcast_row}
 use Rattle.ckrt_cond.specs.WellFormed.{may_resume}
 use Rattle.ckrt_cond.proofs.Waits.{no_waiters}

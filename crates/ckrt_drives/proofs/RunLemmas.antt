@@ -1,5 +1,5 @@
 -- Runs of the program.
-use Rattle.std.proofs.Common.{◌≡◌, inl, inr, ℕ, ◌-◌, ◌^◌, Bool, true, false, List, length, if◌then◌else◌, Option, Some, None, Result, Ok, Err, refl, sym, ◌∙◌, ap, subst}
+use Rattle.std.proofs.Common.{◌≡◌, inl, inr, ℕ, ◌-◌, ◌^◌, Bool, true, false, List, length, if◌then◌else◌, Option, Some, None, Result, Ok, Err, sym, ◌∙◌, ap, subst}
 use Rattle.std.specs.Prelude.{IfOk, IfSome, nat_le}
 use Rattle.ckrt_disk.specs.declared.disk.Disk.{Ghosts}
 use Rattle.ckrt_drive.specs.Runs.{IsAtEnd, IsWhyNoMore, Stand, stand_of}
@@ -8,7 +8,7 @@ use Rattle.ckrt_drive.specs.declared.fault.DriveFault.{DriveFault}
 use Rattle.ckrt_drive.specs.declared.options.Options.{Options}
 use Rattle.ckrt_schedule.specs.declared.next.ScheduleEnd.{ScheduleEnd}
 use Rattle.ckrt_stored.specs.declared.fault.RecoverFault.{RecoverFault}
-use Rattle.ckrt_jobs.specs.Driving.{IsRecovered, Way, way_of}
+use Rattle.ckrt_jobs.specs.Driving.{IsRecovered, way_of}
 use Rattle.ckrt_jobs.specs.Feeding.{EndsWithRoom, LooksUp, MakesRoom, SuppliesFrom, SuppliesOpened, SuppliesRoomy, SuppliesTaken, taken_by_words}
 use Rattle.ckrt_sources.specs.Openings.{Openings}
 use Rattle.ckrt_sources.specs.Sources.{Gives}

@@ -11,9 +11,7 @@ use Rattle.ckrt_jobs.specs.Feeding.{SuppliesFrom}
 use Rattle.ckrt_sources.specs.Openings.{Openings}
 use Rattle.ckrt_sources.specs.Sources.{Gives}
 use Rattle.ckrt_outcomes.specs.declared.driven.Driven.{Driven}
-use Rattle.ckrt_outcomes.specs.declared.fault.JobFault.{JobFault}
 use Rattle.ckrt_jobs.specs.declared.feeding.Intake.{Intake}
-use Rattle.ckrt_jobs.specs.declared.feeding.Supplied.{Supplied}
 use Rattle.ckrt_record.specs.Offset.{offset_from}
 use Rattle.ckrt_recovery.specs.View.{view_of}
 use Rattle.ckrt_recovery.specs.declared.session.Session.{Session}

@@ -1,6 +1,6 @@
 -- The theorem on one page (docs/THEOREM.md): what is promised when the power fails. `is_honest` is the one premise on the devices, and no proof
 -- can give it of a real one: each has kept the disk model up to now. Of drives it is part of `IsDrive`.
-use Rattle.std.specs.Prelude.{◌≡◌, ℕ, List, [], ◌∷◌}
+use Rattle.std.specs.Prelude.{ℕ, List, [], ◌∷◌}
 use Rattle.ckrt_disk.specs.declared.disk.Disk.{Ghosts}
 use Rattle.ckrt_disk.specs.Disk.{LeavesOnly}
 use Rattle.ckrt_disk.specs.Frame.{MayBeLeft}

@@ -3,11 +3,11 @@ use Rattle.std.proofs.Common.{◌≡◌, ◌⊎◌, inl, inr, ℕ, zero, suc, mi
 use Rattle.std.proofs.lemmas.Bool.{cases_lt}
 use Rattle.std.proofs.lemmas.Bool.Decides.{nat_tests}
 use Rattle.std.proofs.lemmas.List.{get_or_past}
-use Rattle.ckrt_disk.specs.Disk.{IsImage, IsOverwritten, IsWithin, LeavesOnly}
+use Rattle.ckrt_disk.specs.Disk.{IsOverwritten, IsWithin, LeavesOnly}
 use Rattle.ckrt_disk.specs.Frame.{AtAnyMoment, WritesWithin}
 use Rattle.ckrt_disk.specs.declared.disk.Disk.{Ghosts}
 use Rattle.ckrt_disk.proofs.FrameLemmas.{byte_left, failed_within, wider, writes_on_within}
-use Rattle.ckrt_disk.proofs.Images.{get_part, wider_image, written_there}
+use Rattle.ckrt_disk.proofs.Images.{get_part, written_there}
 use Rattle.ckrt_disk.proofs.Moments.{goes_on, weaker}
 use Rattle.ckrt_checkpoint.specs.Layout.{is_open}
 use Rattle.ckrt_filling.specs.Filling.{IsBegun, block}

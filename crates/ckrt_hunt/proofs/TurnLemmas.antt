@@ -1,5 +1,5 @@
 -- The search for the thread whose turn it is, and for its hart.
-use Rattle.std.proofs.Common.{◌≡◌, ◌==◌, [], ◌∷◌, ◌++◌, ℕ, zero, suc, ◌+◌, ◌-◌, ◌<◌, ◌≤◌, min, drop, length, Bool, true, false, Option, Some, None, List, ap, sym, arith, cond, nat_le, refl}
+use Rattle.std.proofs.Common.{◌≡◌, ◌==◌, [], ◌++◌, ℕ, suc, ◌+◌, ◌-◌, ◌<◌, ◌≤◌, length, Bool, true, false, Option, Some, None, List, ap, sym, arith, cond, nat_le, refl}
 use Rattle.std.specs.Prelude.{IfSome}
 use Rattle.std.specs.List.{find}
 use Rattle.ckrt_thread.specs.State as threads

@@ -1,6 +1,6 @@
 -- Sessions with the same state and count answer the same lines alike.
-use Rattle.std.proofs.Common.{◌≡◌, ◌⊎◌, ⊎_elim, inl, inr, ℕ, zero, suc, nat_eq, if◌then◌else◌, Bool, true, false, Option, Some, None, List, [], ◌∷◌, ◌++◌, length, take, drop, ◌+◌, ◌/◌, Ok, Err, Result, refl, sym, ◌∙◌, ap, subst, cond}
-use Rattle.std.specs.Prelude.{◌==◌, ◌^◌, ◌-◌, nat_lt, nat_le, is_none, not, IfSome, ⊤}
+use Rattle.std.proofs.Common.{◌≡◌, ◌⊎◌, ⊎_elim, inl, inr, ℕ, zero, suc, if◌then◌else◌, Bool, true, false, Option, Some, None, List, [], ◌∷◌, ◌++◌, length, take, drop, ◌+◌, ◌/◌, Ok, Err, Result, refl, sym, ◌∙◌, ap, subst}
+use Rattle.std.specs.Prelude.{◌==◌, ◌-◌, nat_lt, nat_le, is_none, ⊤}
 use Rattle.std.specs.List.{AllByRecursion}
 use Rattle.std.specs.Str.Lines.{lines}
 use Rattle.ckrt_state.specs.declared.table.Tables.{Tables}
@@ -24,7 +24,7 @@ use Rattle.ckrt_recovery.specs.declared.fault.SubmitFault.TheVariants as submit_
 use Rattle.ckrt_recovery.specs.Calls.{checkpoint_refusal}
 use Rattle.ckrt_commands.specs.Replies.{Reply, Accepted, Acknowledged, NotAccepted, NotSaved, NotUnderstood, Output, outputs, outputs_by}
 use Rattle.ckrt_stored.specs.Recovery.{room_of, are_counters_used}
-use Rattle.ckrt_recovery.specs.View.{View, output_end, refusal_of, refusal_when_known, refusal_when_running, version_of, first_refusal, shortage_of, after_event, committed, checkpointed, confirmed_to, released_output}
+use Rattle.ckrt_recovery.specs.View.{View, output_end, refusal_of, refusal_when_known, refusal_when_running, version_of, first_refusal, shortage_of, after_event, committed, checkpointed, released_output}
 use Rattle.ckrt_commands.specs.Transcript.{Fate, Transcript, preceded_by, unless_quit, followed_by, written, submitted, submit, unless_refused, run_planned, output, acknowledged, commit_by, by_fate, saved, respond, respond_all, transcript}
 use Rattle.ckrt_main.specs.Alike.{IsAlike, is_output_full, is_own, is_local, NoneIsLocal, answers_of, AnswerAlike}
 use Rattle.ckrt_commands.proofs.ReplyLemmas.{all_front}

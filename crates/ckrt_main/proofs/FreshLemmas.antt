@@ -1,5 +1,5 @@
 -- What recovery finds on a disk that was just formatted.
-use Rattle.std.proofs.Common.{⊎_elim, ◌⊎◌, Bool, true, false, None, refl, ◌≡◌, ◌-◌, ◌+◌, ◌∙◌, ℕ, List, [], length, Ok, Err, Result, Option, sym, ap, subst, arith}
+use Rattle.std.proofs.Common.{⊎_elim, ◌⊎◌, Bool, true, false, None, refl, ◌≡◌, ◌-◌, ◌∙◌, ℕ, List, [], Ok, Err, Result, Option, sym, ap, subst, arith}
 use Rattle.std.specs.Prelude.{OnOk}
 use Rattle.ckrt_disk.specs.Disk.{HasFailed}
 use Rattle.ckrt_disk.specs.declared.disk.Disk.{Ghosts}

@@ -1,5 +1,5 @@
 -- Lines as they come, byte by byte.
-use Rattle.std.proofs.Common.{◌≡◌, ℕ, suc, ◌-◌, ◌<◌, ◌≤◌, ◌&&◌, Bool, true, false, not, cond, ◌≢◌, subst, List, [], ◌∷◌, ◌++◌, length, take, get_or, refl, sym, ◌∙◌, ap, arith, append_assoc, append-nil, length-append, length-take-le, Err}
+use Rattle.std.proofs.Common.{◌≡◌, ℕ, suc, ◌-◌, ◌<◌, ◌≤◌, ◌&&◌, Bool, true, false, not, cond, ◌≢◌, List, [], ◌∷◌, ◌++◌, length, take, get_or, refl, sym, ◌∙◌, ap, arith, append_assoc, append-nil, length-append, length-take-le, Err}
 use Rattle.std.specs.Prelude.{◌==◌, nat_lt}
 use Rattle.std.specs.List.{slice_split, onto_first}
 use Rattle.std.specs.Str.Lines.{lines, lines_of_parts, strip_carriage_return}
@@ -10,7 +10,7 @@ use Rattle.ckrt_events.specs.Line.{command_of}
 use Rattle.ckrt_events.specs.declared.command.LineFault.TheVariants.{TooLong}
 use Rattle.ckrt_recovery.specs.View.{View}
 use Rattle.ckrt_commands.specs.Replies.{Reply, NotUnderstood}
-use Rattle.ckrt_commands.specs.Transcript.{Fate, Transcript, preceded_by, unless_quit, followed_by, respond, respond_all}
+use Rattle.ckrt_commands.specs.Transcript.{Fate, preceded_by, unless_quit, followed_by, respond, respond_all}
 use Rattle.ckrt_main.specs.Service.{is_open}
 
 -- the reply to a line that is too long

@@ -1,7 +1,6 @@
 -- What the lines of a service tell a reader is true.
-use Rattle.std.proofs.Common.{◌≡◌, ◌<◌, ◌≤◌, ◌+◌, ℕ, Option, List, ◌++◌, length, take, get_or, refl, sym, ◌∙◌, ap, arith, append_assoc}
+use Rattle.std.proofs.Common.{◌≡◌, ◌<◌, ◌≤◌, ◌+◌, ℕ, List, ◌++◌, length, take, get_or, sym, ◌∙◌, ap, arith, append_assoc}
 use Rattle.std.proofs.lemmas.List.{get_or_append_left, get_or-append-add}
-use Rattle.std.specs.List.{AllByRecursion}
 use Rattle.ckrt_disk.specs.Disk.{IsImage}
 use Rattle.ckrt_disk.specs.declared.disk.Disk.{Ghosts}
 use Rattle.ckrt_events.specs.declared.event.Event.{Event}
@@ -11,8 +10,6 @@ use Rattle.ckrt_recovery.specs.Between.{RecoversBetween, StandsIn}
 use Rattle.ckrt_commands.specs.Replies.{acks_of}
 use Rattle.ckrt_recovery.specs.Represents.{Represents, acknowledged_of}
 use Rattle.ckrt_recovery.specs.View.{view_of}
-use Rattle.ckrt_main.specs.Service.{Processes}
-use Rattle.ckrt_commands.specs.Accepts.{Accepts}
 use Rattle.ckrt_main.specs.Told.{AcksAreDurable, LinesAgree}
 use Rattle.ckrt_main.specs.Alike.{IsAlike}
 use Rattle.ckrt_commands.proofs.AcceptLemmas.{between_more, since_start}

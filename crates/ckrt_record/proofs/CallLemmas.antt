@@ -2,27 +2,26 @@
 use Rattle.std.proofs.Common.{◌≡◌, ◌⊎◌, inl, inr, ⊎_elim, ℕ, ◌+◌, ◌-◌, ◌≤◌, ◌<◌, Bool, true, false, List, [], ◌∷◌, ◌++◌, length, take, Option, Some, None, Result, Ok, Err, refl, sym, ◌∙◌, ap, subst, arith}
 use Rattle.std.specs.Prelude.{MatchOption, IfErr, unwrap_or}
 use Rattle.std.proofs.lemmas.List.{take_all, append-nil}
-use Rattle.ckrt_disk.specs.Disk.{IsWithin, LeavesOnly}
-use Rattle.ckrt_disk.specs.Frame.{IsSameOutside, MayBeLeft, WritesWithin}
+use Rattle.ckrt_disk.specs.Disk.{LeavesOnly}
+use Rattle.ckrt_disk.specs.Frame.{IsSameOutside, MayBeLeft}
 use Rattle.ckrt_disk.specs.declared.disk.Disk.{Ghosts}
-use Rattle.ckrt_disk.proofs.Images.{wider_image}
 use Rattle.ckrt_disk.proofs.Moments.{started, weaker}
 use Rattle.ckrt_events.specs.declared.event.Event.{Event}
 use Rattle.ckrt_events.specs.Bytes.{events_in}
 use Rattle.ckrt_events.proofs.EventLemmas.{events_of-encodings}
 use Rattle.ckrt_stored.specs.Programs.{Program}
 use Rattle.ckrt_recovery.specs.Calls.{Checkpoints, Saves, WritesOtherArea, WritesSpare, checkpoint_refusal}
-use Rattle.ckrt_recovery.specs.Represents.{RecoversAtAnyMoment, RecoversToEither, Represents, RepresentsSame, acknowledged_of}
+use Rattle.ckrt_recovery.specs.Represents.{RecoversToEither, Represents, RepresentsSame, acknowledged_of}
 use Rattle.ckrt_recovery.specs.View.{View, view_of}
 use Rattle.ckrt_recovery.specs.declared.fault.CommitFault.{CommitFault}
 use Rattle.ckrt_recovery.specs.declared.fault.CommitFault.TheVariants.{Failed, Device, GenerationsUsed}
 use Rattle.ckrt_recovery.specs.declared.session.Session.{Session}
-use Rattle.ckrt_recovery.proofs.CommitLemmas.{behind_now, now_like}
+use Rattle.ckrt_recovery.proofs.CommitLemmas.{behind_now}
 use Rattle.ckrt_recovery.proofs.SpareLemmas.{AtRisk}
 use Rattle.ckrt_record.specs.Fed.{IsFed}
 use Rattle.ckrt_record.specs.Keeping.{IsCommit, KeepsInput, RecoversFedEither}
 use Rattle.ckrt_record.specs.Slot.{slot_of, slot_offset}
-use Rattle.ckrt_record.proofs.KeepLemmas.{Written, both, checkpointed_fed, checkpointing_fed, committed_fed, committing_fed, either_fed, fed_now, front_back, keeps_content, keeps_images, kept_input, next_slot, since_call, spared_fed}
+use Rattle.ckrt_record.proofs.KeepLemmas.{both, checkpointed_fed, checkpointing_fed, committed_fed, committing_fed, either_fed, fed_now, front_back, keeps_content, keeps_images, kept_input, next_slot, since_call, spared_fed}
 
 -- what a session keeps of each image
 abbrev pub Either : {D : Type 0} {g : Ghosts D} → List Event → Session D g → List ℕ → Type 0

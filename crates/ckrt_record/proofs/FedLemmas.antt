@@ -1,7 +1,7 @@
 -- What an image keeps of the input, where its bytes change.
-use Rattle.std.proofs.Common.{◌≡◌, ◌⊎◌, inl, inr, ⊎_elim, ℕ, ◌+◌, ◌*◌, ◌-◌, ◌≤◌, ◌&&◌, Bool, true, false, nat_eq, if◌then◌else◌, List, [], ◌∷◌, ◌++◌, length, take, drop, Option, Some, Result, Ok, refl, sym, ◌∙◌, ap, subst, arith, append_assoc, length-append}
+use Rattle.std.proofs.Common.{◌≡◌, ◌⊎◌, inl, inr, ⊎_elim, ℕ, ◌+◌, ◌-◌, ◌&&◌, Bool, true, false, nat_eq, if◌then◌else◌, List, [], ◌∷◌, ◌++◌, length, take, drop, Option, Some, Result, Ok, refl, sym, ◌∙◌, ap, subst, arith, append_assoc, length-append}
 use Rattle.std.proofs.lemmas.Bool.Decides.{nat_tests}
-use Rattle.std.proofs.lemmas.List.{append-nil, nil_from_length}
+use Rattle.std.proofs.lemmas.List.{append-nil}
 use Rattle.std.proofs.lemmas.Grind.{flat_map-append}
 use Rattle.ckrt_disk.specs.Disk.{IsWithin}
 use Rattle.ckrt_disk.specs.Frame.{IsSameOutside}
@@ -15,9 +15,9 @@ use Rattle.ckrt_journal.specs.declared.journal.Journal.{Journal}
 use Rattle.ckrt_checkpoint.specs.declared.area.Area.{Area}
 use Rattle.ckrt_checkpoint.specs.declared.config.Config.{Config}
 use Rattle.ckrt_checkpoint.specs.declared.header.Header.{Header}
-use Rattle.ckrt_checkpoint.specs.Layout.{area_at, area_size, header_in, header_of, journal_at, journal_of, size_needed}
+use Rattle.ckrt_checkpoint.specs.Layout.{area_at, header_in, header_of, journal_at, journal_of}
 use Rattle.ckrt_stored.specs.declared.fault.RecoverFault.{RecoverFault}
-use Rattle.ckrt_stored.specs.Programs.{Program, RecoversTo, formatted}
+use Rattle.ckrt_stored.specs.Programs.{formatted}
 use Rattle.ckrt_stored.specs.Recovery.{◌>>=◌, Recovered, Recovers, events_of_batches, in_use}
 use Rattle.ckrt_stored.proofs.AreaLemmas.{IsInUse, is_in_use}
 use Rattle.ckrt_stored.proofs.RecoverLemmas.{IsKnown, found, known, same_found}
@@ -25,7 +25,7 @@ use Rattle.ckrt_stored.proofs.GrowthLemmas.{had_chain, kept_area, uses}
 use Rattle.ckrt_input.specs.Taken.{bytes_of, input_of, taken_by}
 use Rattle.ckrt_record.specs.declared.slot.Slot.{Slot}
 use Rattle.ckrt_record.specs.Slot.{slot_at, slot_of}
-use Rattle.ckrt_record.specs.Offset.{is_first, journaled, offset_of, recorded_in, saved_offset, taken_in, with_saved}
+use Rattle.ckrt_record.specs.Offset.{is_first, journaled, recorded_in, saved_offset, taken_in, with_saved}
 use Rattle.ckrt_record.specs.Fed.{BeginsFed, FedAsRecovered, IsFed, IsFedIn, TellsOffset}
 use Rattle.ckrt_record.proofs.SlotLemmas.{slot_stays}
 

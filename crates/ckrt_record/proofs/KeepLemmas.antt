@@ -1,37 +1,34 @@
 -- What a session keeps of the input, over its calls.
-use Rattle.std.proofs.Common.{◌≡◌, ◌⊎◌, inl, inr, ⊎_elim, ℕ, ◌+◌, ◌*◌, ◌-◌, ◌≤◌, ◌<◌, true, false, List, [], ◌∷◌, ◌++◌, length, take, drop, min, Some, Ok, refl, sym, ◌∙◌, ap, subst, arith}
+use Rattle.std.proofs.Common.{◌≡◌, ◌⊎◌, inl, inr, ⊎_elim, ℕ, ◌+◌, ◌-◌, ◌≤◌, true, false, List, ◌++◌, length, take, Some, Ok, refl, sym, ◌∙◌, ap, subst, arith}
 use Rattle.std.proofs.lemmas.Bool.Decides.{nat_tests}
 use Rattle.std.proofs.lemmas.Bool.{cases_lt}
 use Rattle.std.proofs.lemmas.List.{take-append-drop, take-append-le, take_all, length-take-le}
 use Rattle.std.proofs.lemmas.Grind.{same_number_lists}
-use Rattle.ckrt_disk.specs.Disk.{IsImage, IsWithin, LeavesOnly}
-use Rattle.ckrt_disk.specs.Frame.{IsSameOutside, MayBeLeft, WritesWithin}
+use Rattle.ckrt_disk.specs.Disk.{IsWithin, LeavesOnly}
+use Rattle.ckrt_disk.specs.Frame.{IsSameOutside, MayBeLeft}
 use Rattle.ckrt_disk.specs.declared.disk.Disk.{Ghosts}
-use Rattle.ckrt_disk.proofs.Moments.{weaker}
 use Rattle.ckrt_events.specs.declared.event.Event.{Event}
 use Rattle.ckrt_events.specs.Bytes.{events_in}
 use Rattle.ckrt_journal.specs.Append.{HasAppended, IsAppending, MayHaveAppended}
 use Rattle.ckrt_journal.specs.declared.journal.Journal.{Journal}
 use Rattle.ckrt_checkpoint.specs.declared.config.Config.{Config}
-use Rattle.ckrt_checkpoint.specs.Layout.{area_at, area_size, is_valid, journal_at, size_needed}
+use Rattle.ckrt_checkpoint.specs.Layout.{area_at, area_size, journal_at, size_needed}
 use Rattle.ckrt_checkpoint.specs.Write.{WritesAt}
 use Rattle.ckrt_checkpoint.proofs.PickLemmas.{area_end}
 use Rattle.ckrt_stored.specs.declared.progress.Progress.{Progress}
-use Rattle.ckrt_stored.specs.Frame.{BelongsTo, IsSpare, in_other_area}
-use Rattle.ckrt_stored.specs.Programs.{Program, RecoversTo}
+use Rattle.ckrt_stored.specs.Frame.{BelongsTo, in_other_area}
+use Rattle.ckrt_stored.specs.Programs.{Program}
 use Rattle.ckrt_stored.specs.Progress.{RecoversToOldOrNew, recovered_of}
 use Rattle.ckrt_stored.specs.Recovery.{Recovered, Recovers}
 use Rattle.ckrt_stored.proofs.GrowthLemmas.{area_0_or_1, journal_spared}
-use Rattle.ckrt_recovery.specs.Calls.{spare_at}
-use Rattle.ckrt_recovery.specs.Represents.{RecoversLike, RecoversToEither, Represents, acknowledged_of}
-use Rattle.ckrt_recovery.specs.View.{View, view_of}
+use Rattle.ckrt_recovery.specs.Represents.{RecoversToEither, Represents, acknowledged_of}
 use Rattle.ckrt_recovery.specs.declared.session.Session.{Session}
 use Rattle.ckrt_recovery.proofs.CommitLemmas.{decoded, now_like}
 use Rattle.ckrt_recovery.proofs.SpareLemmas.{AtRisk, recovers_spared}
 use Rattle.ckrt_input.specs.Taken.{taken_by}
 use Rattle.ckrt_record.specs.declared.slot.Slot.{Slot}
 use Rattle.ckrt_record.specs.Slot.{slot_at, slot_of, slot_offset}
-use Rattle.ckrt_record.specs.Fed.{IsFed, RecoversFed}
+use Rattle.ckrt_record.specs.Fed.{IsFed}
 use Rattle.ckrt_record.specs.Keeping.{KeepsInput, RecoversFedEither}
 use Rattle.ckrt_record.proofs.FedLemmas.{appended_fed, appending_fed, as_recovered, one_of_two, slot_fed, stays_fed}
 use Rattle.ckrt_record.proofs.SlotLemmas.{slot_stays}

@@ -1,9 +1,9 @@
 -- A write of the other area's slot, and a checkpoint behind it, as one call.
-use Rattle.std.proofs.Common.{◌≡◌, ◌⊎◌, inl, inr, ⊎_elim, ℕ, ◌+◌, ◌*◌, ◌-◌, ◌≤◌, ◌<◌, ◌^◌, Bool, true, false, if◌then◌else◌, nat_eq, List, length, take, Option, Some, None, Result, Ok, Err, refl, sym, ◌∙◌, ap, subst, arith}
+use Rattle.std.proofs.Common.{◌≡◌, ◌⊎◌, inl, inr, ⊎_elim, ℕ, ◌+◌, ◌-◌, ◌≤◌, ◌<◌, ◌^◌, Bool, true, false, if◌then◌else◌, nat_eq, List, length, take, Option, Some, None, Result, Ok, Err, refl, sym, ◌∙◌, ap, subst, arith}
 use Rattle.std.specs.Prelude.{MatchOption, is_some}
 use Rattle.std.proofs.lemmas.Bool.Decides.{nat_tests}
 use Rattle.ckrt_disk.specs.Disk.{IsOverwritten, IsWithin, LeavesOnly}
-use Rattle.ckrt_disk.specs.Frame.{MayBeLeft, WritesWithin}
+use Rattle.ckrt_disk.specs.Frame.{WritesWithin}
 use Rattle.ckrt_disk.specs.declared.disk.Disk.{Ghosts}
 use Rattle.ckrt_disk.proofs.FrameLemmas.{failed_within, wider, writes_on}
 use Rattle.ckrt_disk.proofs.Moments.{goes_on, weaker}
@@ -12,11 +12,9 @@ use Rattle.ckrt_checkpoint.specs.Write.{WritesAt, dirty_pages}
 use Rattle.ckrt_events.specs.declared.event.Event.{Event}
 use Rattle.ckrt_machine.specs.Events.{Machine, memory_in}
 use Rattle.ckrt_stored.specs.Programs.{Program}
-use Rattle.ckrt_stored.specs.Recovery.{Recovered}
-use Rattle.ckrt_recovery.specs.Calls.{Checkpoints, Saves, WritesOtherArea, WritesSpare, checkpoint_calls, checkpoint_refusal, dirty_of, is_device}
-use Rattle.ckrt_recovery.specs.Represents.{RecoversToEither, Represents, RepresentsSame}
-use Rattle.ckrt_memory.specs.Marks.{IsCleaned}
-use Rattle.ckrt_recovery.specs.View.{View, checkpointed, view_of}
+use Rattle.ckrt_recovery.specs.Calls.{Checkpoints, WritesOtherArea, WritesSpare, checkpoint_calls, checkpoint_refusal, dirty_of, is_device}
+use Rattle.ckrt_recovery.specs.Represents.{RecoversToEither, Represents}
+use Rattle.ckrt_recovery.specs.View.{View, view_of}
 use Rattle.ckrt_recovery.specs.declared.fault.CommitFault.{CommitFault}
 use Rattle.ckrt_recovery.specs.declared.fault.CommitFault.TheVariants.{Failed, Device, GenerationsUsed}
 use Rattle.ckrt_recovery.specs.declared.session.Session.{Session}
@@ -24,10 +22,9 @@ use Rattle.ckrt_recovery.proofs.SessionLemmas.{recovers_either}
 use Rattle.ckrt_input.specs.Taken.{taken_by}
 use Rattle.ckrt_record.specs.declared.slot.Slot.{Slot}
 use Rattle.ckrt_record.specs.Fed.{RecoversFed}
-use Rattle.ckrt_record.specs.Keeping.{KeepsInput, RecordsAt, RecoversFedEither, RepresentsFed, WritesRecord}
+use Rattle.ckrt_record.specs.Keeping.{KeepsInput, RecordsAt, RecoversFedEither, WritesRecord}
 use Rattle.ckrt_record.specs.SlotLaws.{IsInRange}
 use Rattle.ckrt_record.specs.Slot.{TAKEN_LIMIT, slot_at, slot_bytes, slot_of, slot_offset}
-use Rattle.ckrt_record.proofs.CallLemmas.{save_fed, save_keeps, slot_keeps, slot_moment, together}
 use Rattle.ckrt_record.proofs.KeepLemmas.{next_slot}
 use Rattle.ckrt_record.proofs.SlotLemmas.{written_slot}
 

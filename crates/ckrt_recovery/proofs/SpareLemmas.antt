@@ -1,6 +1,6 @@
 -- A write behind the bytes of the format leaves what a session represents.
-use Rattle.std.proofs.Common.{◌≡◌, ◌⊎◌, inl, inr, ⊎_elim, ℕ, ◌+◌, ◌≤◌, true, false, List, length, take, drop, Ok, refl, sym, ◌∙◌, ap, subst, arith}
-use Rattle.ckrt_disk.specs.Disk.{IsImage, IsWithin, LeavesOnly}
+use Rattle.std.proofs.Common.{◌≡◌, ◌⊎◌, inl, inr, ⊎_elim, ℕ, ◌≤◌, true, false, List, length, take, drop, Ok, refl, sym, ◌∙◌, ap, subst, arith}
+use Rattle.ckrt_disk.specs.Disk.{IsWithin, LeavesOnly}
 use Rattle.ckrt_disk.specs.Frame.{IsSameOutside, WritesWithin}
 use Rattle.ckrt_disk.specs.declared.disk.Disk.{Ghosts}
 use Rattle.ckrt_disk.proofs.Images.{wider_image}
@@ -19,7 +19,7 @@ use Rattle.ckrt_stored.specs.Recovery.{Recovers, is_replayable}
 use Rattle.ckrt_stored.proofs.GrowthLemmas.{spare_free}
 use Rattle.ckrt_recovery.specs.declared.session.Session.{Session}
 use Rattle.ckrt_recovery.specs.Calls.{spare_at}
-use Rattle.ckrt_recovery.specs.Represents.{RecoversLike, RecoversToEither, Represents, acknowledged_of}
+use Rattle.ckrt_recovery.specs.Represents.{RecoversLike, RecoversToEither, Represents}
 use Rattle.ckrt_recovery.specs.View.{View, view_of}
 use Rattle.ckrt_recovery.proofs.CommitLemmas.{now_like}
 use Rattle.ckrt_recovery.proofs.SessionLemmas.{recovers_like}

@@ -1,5 +1,5 @@
 -- A table of threads that loses all that it has.
-use Rattle.std.proofs.Common.{◌≡◌, ℕ, zero, suc, ◌==◌, ◌+◌, ◌<◌, ◌≤◌, Bool, true, false, List, [], ◌∷◌, length, replicate, Option, Some, None, is_some, not, slice_get, slice_set, refl, sym, ap, ◌∙◌, arith, if◌then◌else◌}
+use Rattle.std.proofs.Common.{◌≡◌, ℕ, zero, suc, ◌==◌, ◌+◌, ◌<◌, Bool, true, false, List, [], ◌∷◌, length, replicate, Option, Some, None, is_some, not, slice_get, slice_set, refl, sym, ap, ◌∙◌, arith, if◌then◌else◌}
 use Rattle.std.specs.Option.{option_flatten}
 use Rattle.std.proofs.lemmas.Bool.Decides.{nat_tests}
 use Rattle.ckrt_registers.specs.Registers.{Registers}
@@ -8,7 +8,7 @@ use Rattle.ckrt_thread.specs.declared.records.Thread.{Thread}
 use Rattle.ckrt_thread.specs.declared.records.Thread.TheVariants as thread
 use Rattle.std.specs.List.{find}
 use Rattle.ckrt_thread.specs.declared.records.Object.TheVariants as object
-use Rattle.ckrt_thread.specs.Waits.{is_for, is_of, without}
+use Rattle.ckrt_thread.specs.Waits.{is_for, without}
 use Rattle.ckrt_thread.specs.State.{State, IsWellFormed, thread_of, is_live, is_live_thread, is_detached, regs_of, holds, count_of, with_slot, off_hart}
 use Rattle.ckrt_thread.specs.Contents.{empty}
 use Rattle.ckrt_tables.proofs.Filled.{none_among}

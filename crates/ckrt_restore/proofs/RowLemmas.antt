@@ -1,5 +1,5 @@
 -- Rows that go onto a table one behind another.
-use Rattle.std.proofs.Common.{◌≡◌, ℕ, zero, suc, ◌+◌, ◌-◌, ◌*◌, ◌<◌, ◌≤◌, ◌==◌, Bool, true, ◌&&◌, List, [], ◌∷◌, ◌++◌, length, take, drop, replicate, Option, Some, None, slice_get, refl, sym, ap, subst, ◌∙◌, arith, take-add}
+use Rattle.std.proofs.Common.{◌≡◌, ℕ, zero, suc, ◌+◌, ◌-◌, ◌<◌, ◌≤◌, ◌==◌, Bool, true, ◌&&◌, List, [], ◌∷◌, ◌++◌, length, take, drop, replicate, Some, None, slice_get, refl, sym, ap, subst, ◌∙◌, arith, take-add}
 use Rattle.std.specs.List.{list_all}
 use Rattle.std.proofs.lemmas.List.{take-append-le, take_all, length-append, length-drop, length-take-le}
 use Rattle.ckrt_objects.specs.declared.address_map.Entry.{Entry}
@@ -8,7 +8,7 @@ use Rattle.ckrt_objects.proofs.InUse.{drop_at}
 use Rattle.std.proofs.lemmas.Bool.Decides.{nat_tests}
 use Rattle.ckrt_thread.specs.Keys.{KeyTable, are_proper_keys, is_aligned_key}
 use Rattle.ckrt_thread.proofs.KeyLemmas.{both, no_value, of_keys}
-use Rattle.ckrt_thread.specs.Contents.{ThreadRow, has_values_of}
+use Rattle.ckrt_thread.specs.Contents.{has_values_of}
 use Rattle.ckrt_tables.specs.Objects.{LeadsToTable}
 use Rattle.ckrt_tables.proofs.Entries.{goes_on}
 

@@ -1,5 +1,5 @@
 -- The words by key are known by those that there are, and what a thread has under keys by them.
-use Rattle.std.proofs.Common.{◌≡◌, ℕ, zero, suc, ◌+◌, ◌*◌, ◌^◌, ◌≤◌, ◌<◌, ◌==◌, Bool, true, false, cond, not, if◌then◌else◌, List, [], ◌∷◌, ◌++◌, length, length-append, map, get_or, replicate, Option, Some, None, is_some, is_none, unwrap_or, refl, sym, ap, ◌∙◌, append_assoc, arith}
+use Rattle.std.proofs.Common.{◌≡◌, ℕ, zero, suc, ◌+◌, ◌≤◌, ◌<◌, ◌==◌, Bool, true, false, cond, if◌then◌else◌, List, [], ◌∷◌, ◌++◌, length, length-append, map, get_or, replicate, Option, Some, None, is_none, refl, sym, ap, ◌∙◌, append_assoc, arith}
 use Rattle.std.proofs.lemmas.Bool.Decides.{nat_tests}
 use Rattle.std.proofs.lemmas.List.{length-map}
 use Rattle.std.proofs.Math.Seq.{set-append_seam}
@@ -8,7 +8,6 @@ use Rattle.std.specs.List.{list_all, flat_map}
 use Rattle.ckrt_thread.specs.declared.keys.SpecificData.{SpecificData}
 use Rattle.ckrt_thread.specs.Keys.{KeyTable, keys_off, keys_if_proper, are_proper_keys, no_data}
 use Rattle.ckrt_thread.proofs.KeyLemmas.{both}
-use Rattle.ckrt_tables.specs.declared.reading_keys.KeyEntry.{KeyEntry}
 use Rattle.ckrt_tables.specs.Records.{word_at, words_from, key_entry_bytes, if_not_0, word_or_0, value_words, data_bytes, keys_bytes, flag, counted, one_byte}
 use Rattle.ckrt_tables.specs.Savable.{if_there, is_byte, is_word, fits_data, is_without_data}
 use Rattle.ckrt_tables.specs.DecodingThreads.{fits_key_entry, with_words, AreWords, fits_data_in}

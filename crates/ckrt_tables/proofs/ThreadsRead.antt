@@ -22,7 +22,7 @@ use Rattle.ckrt_thread.specs.Contents.{ThreadRow, GoesOnWithThread, GoesOnWithWa
 use Rattle.ckrt_thread.proofs.ThreadRows.{thread_behind, known_by_rows}
 use Rattle.ckrt_thread.proofs.Beginnings.{next_thread, next_wait, next_on_hart}
 use Rattle.ckrt_tables.specs.Records.{flag, flags_of, value_of, registers_of, handlers_of, specific_of, kind_of, result_of, first_name, second_name, reason_from}
-use Rattle.ckrt_tables.specs.Savable.{is_byte, is_word, is_long, fits_reason, fits_wait, fit_registers, fits_handler, fits_slot, fits_thread, fits_data, is_without_data, is_slot_without_data, if_there}
+use Rattle.ckrt_tables.specs.Savable.{is_byte, is_word, is_long, fits_reason, fits_wait, fit_registers, fits_handler, fits_slot, fits_thread, is_without_data, is_slot_without_data, if_there}
 use Rattle.ckrt_tables.specs.DecodingThreads.{AreThreadBytes, fits_row, fits_data_in, ThreadsLeadTo, WaitsLeadTo, HartsLeadTo}
 use Rattle.ckrt_tables.proofs.Distinct.{flag_times, live_below_64, in_version, thread_fits, names_fit, moment_fits, reason_is}
 use Rattle.ckrt_tables.proofs.Rows.{at_place}

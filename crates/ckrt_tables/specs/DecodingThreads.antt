@@ -1,5 +1,5 @@
 -- What the readers of harts, threads, waits and keys do.
-use Rattle.std.specs.Prelude.{◌≡◌, ◌≤◌, ℕ, ◌-◌, ◌==◌, Bool, true, false, ◌&&◌, if◌then◌else◌, Option, Some, None, List, [], ◌∷◌, ◌++◌, length, take, replicate, slice_set}
+use Rattle.std.specs.Prelude.{◌≡◌, ℕ, ◌-◌, ◌==◌, Bool, true, false, ◌&&◌, if◌then◌else◌, Option, Some, None, List, [], ◌∷◌, ◌++◌, length, take, replicate, slice_set}
 use Rattle.std.specs.List.{list_all, flat_map}
 use Rattle.ckrt_registers.specs.Registers.{Registers}
 use Rattle.ckrt_thread.specs.declared.records.Handler.{Handler}

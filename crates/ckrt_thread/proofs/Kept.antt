@@ -1,5 +1,5 @@
 -- The list of waits, by the table that keeps it.
-use Rattle.std.proofs.Common.{◌≡◌, ◌≢◌, ℕ, zero, suc, ◌+◌, ◌≤◌, ◌<◌, Bool, true, false, cond, eqb, eqb-true, nat_eq, not, List, [], ◌∷◌, ◌++◌, length, map, replicate, Option, Some, None, refl, sym, ap, subst, ◌∙◌, arith, slice_index, slice_index_or, slice_set, slice_get, take, drop, get_or-set_other, get_or-set_same}
+use Rattle.std.proofs.Common.{◌≡◌, ◌≢◌, ℕ, zero, suc, ◌+◌, ◌≤◌, ◌<◌, Bool, true, false, cond, eqb, eqb-true, nat_eq, List, [], ◌∷◌, ◌++◌, length, map, replicate, Some, None, refl, sym, ap, subst, ◌∙◌, arith, slice_index, slice_index_or, slice_set, take, drop, get_or-set_other, get_or-set_same}
 use Rattle.std.specs.List.{find, filter, list_any}
 use Rattle.std.proofs.lemmas.Bool.Decides.{nat_tests}
 use Rattle.std.proofs.lemmas.List.{length-set, length-map}
@@ -12,9 +12,9 @@ use Rattle.ckrt_thread.specs.Waits.{is_for, is_of, without}
 use Rattle.ckrt_thread.specs.State.{count_of}
 use Rattle.ckrt_thread.specs.Links.{row, dropped, first_of, IsPath, IsChain}
 use Rattle.ckrt_thread.specs.Queues.{ids, queued, ends_of, WaitOnce, AreQueues, MayJoin, MayLeave}
-use Rattle.ckrt_thread.specs.WaitList.{entry_at, nobody, AreEntries, AreMarked, waits_along, AreKept, without_wait, without_first}
+use Rattle.ckrt_thread.specs.WaitList.{entry_at, nobody, AreEntries, AreMarked, waits_along, AreKept}
 use Rattle.ckrt_thread.proofs.Counting.{count_of_none}
-use Rattle.ckrt_thread.proofs.Paths.{row_is, path_in, path_first, chain_short, path_short}
+use Rattle.ckrt_thread.proofs.Paths.{row_is, path_in, path_first}
 use Rattle.ckrt_thread.proofs.QueueLemmas.{ids_any, ids_append}
 use Rattle.ckrt_thread.proofs.Marks.{marks_none, marks_more, marks_without}
 

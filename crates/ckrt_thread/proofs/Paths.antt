@@ -1,14 +1,13 @@
 -- Links from entry to entry, and the row that they keep.
-use Rattle.std.proofs.Common.{◌≡◌, ◌≢◌, eqb-true, ℕ, zero, suc, ◌+◌, ◌-◌, ◌≤◌, ◌<◌, ◌==◌, nat_eq, Bool, true, false, cond, eqb, ◌||◌, List, [], ◌∷◌, ◌++◌, length, map, Option, Some, None, refl, sym, ap, subst, ◌∙◌, arith, rules, set, get_or, slice_index, slice_set, get_or-set_other, get_or-set_same}
+use Rattle.std.proofs.Common.{◌≡◌, ◌≢◌, eqb-true, ℕ, zero, suc, ◌+◌, ◌-◌, ◌≤◌, ◌<◌, nat_eq, Bool, true, false, cond, eqb, List, [], ◌∷◌, ◌++◌, length, refl, sym, ap, subst, ◌∙◌, arith, slice_index, slice_set, get_or-set_other, get_or-set_same}
 use Rattle.std.specs.List.{list_any, IsDistinct, AllByRecursion}
 use Rattle.std.proofs.lemmas.Bool.Decides.{nat_tests}
-use Rattle.std.proofs.lemmas.Grind.{common_steps}
 use Rattle.std.proofs.lemmas.List.{length-set, length-append}
 use Rattle.std.proofs.lemmas.List.Folds.{list_any-append}
 use Rattle.std.proofs.lemmas.Map.Steps.{length-le_from_distinct_below}
 use Rattle.ckrt_thread.specs.declared.links.Links.{Links}
 use Rattle.ckrt_thread.specs.declared.links.Ends.{Ends}
-use Rattle.ckrt_thread.specs.Links.{walk, row, dropped, first_of, IsPath, IsBack, IsChain, AreApart, KeepsOthers}
+use Rattle.ckrt_thread.specs.Links.{walk, row, dropped, first_of, IsPath, IsBack, IsChain, KeepsOthers}
 
 read_other : (l : List ℕ) (i v x : ℕ) → nat_eq i x ≡ false → slice_index (slice_set l i v) x ≡ slice_index l x
 read_other l i v x h = let ne : x ≢ i = (λ e. grind (arith, nat_tests)) in get_or-set_other l i x v 0 ne

@@ -1,8 +1,7 @@
 -- The list of waits: a wait found, and a wait taken out.
-use Rattle.std.proofs.Common.{◌≡◌, ℕ, zero, suc, ◌+◌, ◌≤◌, ◌<◌, Bool, true, false, cond, eqb, List, [], ◌∷◌, length, map, Some, None, refl, ap, arith, ◌||◌}
-use Rattle.std.specs.List.{position, remove, list_any, list_all, find, filter, IsDistinct, AllByRecursion}
+use Rattle.std.proofs.Common.{◌≡◌, ℕ, ◌+◌, ◌≤◌, Bool, true, false, eqb, List, [], ◌∷◌, length, Some, None, refl, arith}
+use Rattle.std.specs.List.{list_any, list_all, find, filter, IsDistinct, AllByRecursion}
 use Rattle.std.proofs.lemmas.Bool.Decides.{nat_tests}
-use Rattle.std.proofs.lemmas.List.Recursion.{is_position_or_len}
 use Rattle.ckrt_thread.specs.declared.records.Wait.{Wait}
 use Rattle.ckrt_thread.specs.Waits.{is_of, without, is_unwind_of}
 use Rattle.ckrt_thread.specs.State.{count_of}

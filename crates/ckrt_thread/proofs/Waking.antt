@@ -1,12 +1,11 @@
 -- Who waits for an object is woken: the first, or all, one after another.
-use Rattle.std.proofs.Common.{◌≡◌, ℕ, ◌<◌, true, false, List, [], ◌∷◌, length, Option, Some, None, refl, ap, sym, subst, ◌∙◌, arith}
+use Rattle.std.proofs.Common.{◌≡◌, ℕ, ◌<◌, true, false, List, [], ◌∷◌, length, Option, Some, None, refl, ap, sym, ◌∙◌, arith}
 use Rattle.std.specs.Prelude.{option_map}
-use Rattle.std.specs.List.{find}
 use Rattle.ckrt_thread.specs.declared.records.Wait.{Wait}
 use Rattle.ckrt_thread.specs.declared.records.Waiter.{Waiter}
 use Rattle.ckrt_thread.specs.declared.records.Object.{Object}
 use Rattle.ckrt_thread.specs.Abi.{A0}
-use Rattle.ckrt_thread.specs.Waits.{is_for, without}
+use Rattle.ckrt_thread.specs.Waits.{is_for}
 use Rattle.ckrt_thread.specs.WaitList.{without_wait, without_first}
 use Rattle.ckrt_thread.specs.State.{State, IsWellFormed, first_waiter, first_unwaited, unwaited, unwaited_first, of_wait, of_waiter, is_live, is_waiting, set_word, woken, all_woken}
 use Rattle.ckrt_thread.specs.Granting.{queue_of, answered, obtained, wait_result}

@@ -1,5 +1,5 @@
 -- Lists of numbers from 1 to 64 that are kept by links from entry to entry.
-use Rattle.std.specs.Prelude.{◌≡◌, ℕ, zero, suc, ◌==◌, nat_eq, ◌<◌, ◌≤◌, Bool, true, false, if◌then◌else◌, List, [], ◌∷◌, length, slice_index}
+use Rattle.std.specs.Prelude.{◌≡◌, ℕ, zero, suc, ◌==◌, nat_eq, ◌<◌, ◌≤◌, true, false, if◌then◌else◌, List, [], ◌∷◌, length, slice_index}
 use Rattle.std.specs.List.{list_any}
 use Rattle.ckrt_thread.specs.declared.links.Links.{Links}
 use Rattle.ckrt_thread.specs.declared.links.Ends.{Ends}

@@ -1,4 +1,4 @@
-use Rattle.std.proofs.Common.{◌≡◌, ◌≤◌, ◌+◌, ◌∙◌, [], length, ap, sym, subst, arith}
+use Rattle.std.proofs.Common.{◌≤◌, ◌+◌, ◌∙◌, [], length, ap, sym, subst, arith}
 use Rattle.ckrt_recovery.specs.View.{View, view_of, confirmed_to}
 use Rattle.ckrt_commands.specs.Pieces.{Tells, TellsPart}
 use Rattle.ckrt_commands.specs.Replies.{outputs}

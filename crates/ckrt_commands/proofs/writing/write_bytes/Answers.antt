@@ -1,4 +1,4 @@
-use Rattle.std.proofs.Common.{◌≡◌, ℕ, List, drop, rules}
+use Rattle.std.proofs.Common.{◌≡◌, drop, rules}
 use Rattle.ckrt_commands.proofs.WriteLemmas.{bytes_kept, bytes_more}
 use Rattle.ckrt_commands.proofs.writing.write_bytes.Goals as goal
 use Rattle.ckrt_commands.proofs.writing.write_bytes.Goals.{in-Ok, in-Err+else-ne}

@@ -1,4 +1,4 @@
-use Rattle.std.proofs.Common.{◌≡◌, ◌≤◌, ◌-◌, ◌∙◌, ℕ, true, false, inl, is_err, ap, arith}
+use Rattle.std.proofs.Common.{◌≤◌, ◌-◌, ◌∙◌, true, inl, is_err, ap}
 use Rattle.ckrt_disk.specs.Frame.{MayBeLeft, Nowhere}
 use Rattle.ckrt_disk.proofs.FrameLemmas.{failed_within, wider}
 use Rattle.ckrt_disk.proofs.Moments.{weaker}

@@ -1,4 +1,4 @@
-use Rattle.std.proofs.Common.{◌<◌, ◌≤◌, ◌-◌, ℕ, inl, inr, is_err, rules}
+use Rattle.std.proofs.Common.{◌<◌, ◌≤◌, ◌-◌, inl, inr, is_err, rules}
 use Rattle.std.specs.Prelude.{⊤}
 use Rattle.ckrt_disk.proofs.FrameLemmas.{wider}
 use Rattle.ckrt_filling.specs.Filling.{FillsAt, smallest_disk}

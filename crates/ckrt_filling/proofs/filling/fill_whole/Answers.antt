@@ -1,4 +1,4 @@
-use Rattle.std.proofs.Common.{◌≡◌, ◌<◌, ◌-◌, ℕ, true, false, nat_eq, is_err, ap, arith}
+use Rattle.std.proofs.Common.{◌<◌, ◌-◌, true, false, nat_eq, is_err, ap, arith}
 use Rattle.std.specs.Prelude.{⊤}
 use Rattle.ckrt_disk.proofs.FrameLemmas.{failed_within, wider}
 use Rattle.ckrt_filling.specs.Filling.{block}

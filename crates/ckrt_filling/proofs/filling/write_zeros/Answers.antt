@@ -1,4 +1,4 @@
-use Rattle.std.proofs.Common.{◌≡◌, ◌≤◌, ◌+◌, ◌∙◌, ℕ, length, replicate, sym, take, arith}
+use Rattle.std.proofs.Common.{◌≤◌, ◌+◌, ◌∙◌, length, replicate, sym, take, arith}
 use Rattle.std.proofs.lemmas.Result.{on_ok_weaker}
 use Rattle.ckrt_filling.proofs.FillLemmas.{front_length, written_zeros, zeros_front}
 use Rattle.ckrt_filling.proofs.filling.write_zeros.Goals as goal

@@ -1,4 +1,4 @@
-use Rattle.std.proofs.Common.{◌≡◌, ◌+◌, ◌-◌, subst, sym}
+use Rattle.std.proofs.Common.{◌+◌, ◌-◌, subst, sym}
 use Rattle.ckrt_hunt.specs.Tallies.{AreNoted, Hunted}
 use Rattle.ckrt_hunt.proofs.telling.hunt_seeds.Goals as goal
 

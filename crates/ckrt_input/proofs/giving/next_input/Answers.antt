@@ -1,5 +1,5 @@
 use Rattle.std.proofs.Common.{rules, ◌≡◌, length, min, true, false, List, ℕ, if◌then◌else◌, Some, None, Bool, sym, ◌∙◌, ap, take}
-use Rattle.ckrt_input.specs.Next.{given_by, has_room, next_bytes, next_input}
+use Rattle.ckrt_input.specs.Next.{given_by, has_room, next_bytes}
 use Rattle.ckrt_input.proofs.NextLemmas.{next_slice}
 use Rattle.ckrt_input.proofs.giving.next_input.Goals as goal
 

@@ -4,7 +4,6 @@ use Rattle.ckrt_commands.specs.Pieces.{Answers, BreaksOff, ends}
 use Rattle.ckrt_commands.specs.Replies.{NotUnderstood, line_of}
 use Rattle.ckrt_commands.specs.Transcript.{respond}
 use Rattle.ckrt_commands.specs.Writing.{AppendsPart}
-use Rattle.ckrt_recovery.specs.View.{view_of}
 use Rattle.ckrt_commands.proofs.ResponseLemmas.{half_said, said, says_still}
 use Rattle.ckrt_commands.proofs.TellLemmas.{tells_half, tells_one}
 use Rattle.ckrt_commands.proofs.WriteLemmas.{on_err}

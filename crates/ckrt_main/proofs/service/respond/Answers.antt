@@ -1,4 +1,4 @@
-use Rattle.std.proofs.Common.{◌≡◌, subst}
+use Rattle.std.proofs.Common.{subst}
 use Rattle.std.specs.Prelude.{IfOk, OnErr}
 use Rattle.ckrt_commands.specs.Transcript.{respond}
 use Rattle.ckrt_main.specs.Service.{Writes}

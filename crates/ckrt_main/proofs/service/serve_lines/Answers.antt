@@ -1,8 +1,7 @@
-use Rattle.std.proofs.Common.{◌≡◌, ◌<◌, ℕ, List, [], true, false, length, take, arith, subst, refl, inl, inr, append-nil, ◌++◌}
+use Rattle.std.proofs.Common.{◌≡◌, ◌<◌, ℕ, List, [], true, false, length, take, arith, subst, refl, inl, inr, ◌++◌}
 use Rattle.std.specs.Io.KnownBytes.{Consumes}
 use Rattle.std.specs.Str.Lines.{lines}
-use Rattle.ckrt_commands.specs.Transcript.{output, respond_all}
-use Rattle.ckrt_recovery.specs.View.{view_of}
+use Rattle.ckrt_commands.specs.Transcript.{respond_all}
 use Rattle.ckrt_main.specs.Service.{Writes}
 use Rattle.ckrt_commands.specs.Pieces.{Answers, BreaksOff}
 use Rattle.ckrt_main.proofs.OutputLemmas.{Consumes-append}

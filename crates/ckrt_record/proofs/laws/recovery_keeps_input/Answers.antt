@@ -1,4 +1,4 @@
-use Rattle.std.proofs.Common.{◌≡◌, List, ℕ, take, sym, ◌∙◌, ap, subst, arith, false}
+use Rattle.std.proofs.Common.{◌≡◌, List, ℕ, take, sym, ap, subst, arith, false}
 use Rattle.std.proofs.lemmas.List.{take_all}
 use Rattle.ckrt_events.specs.declared.event.Event.{Event}
 use Rattle.ckrt_recovery.specs.View.{View}

@@ -1,8 +1,7 @@
-use Rattle.std.proofs.Common.{◌≡◌, ◌+◌, ◌-◌, ◌*◌, ◌^◌, ◌<◌, ◌≤◌, ℕ, length, List, Result, Ok, Err, sym, ◌∙◌, ap, subst, rules, arith}
+use Rattle.std.proofs.Common.{◌≡◌, ◌+◌, ◌-◌, ◌^◌, ◌<◌, ◌≤◌, ℕ, length, List, Ok, Err, sym, ◌∙◌, ap, subst, rules, arith}
 use Rattle.ckrt_disk.specs.Frame.{MayBeLeft}
 use Rattle.ckrt_disk.proofs.Moments.{started}
 use Rattle.ckrt_recovery.specs.Calls.{WritesSpare}
-use Rattle.ckrt_recovery.specs.declared.fault.CommitFault.{CommitFault}
 use Rattle.ckrt_record.specs.Keeping.{IsSaved, RecoversFedEither, WritesRecord}
 use Rattle.ckrt_record.specs.Slot.{slot_at, slot_bytes, slot_offset}
 use Rattle.ckrt_record.proofs.CallLemmas.{save_fed, save_keeps, slot_keeps, slot_moment, together}

@@ -1,6 +1,6 @@
 use Rattle.std.proofs.Common.{◌≡◌, ◌<◌, length, is_some, true, false, ap, ◌∙◌, arith}
 use Rattle.ckrt_thread.specs.State.{thread_of, regs_of}
-use Rattle.ckrt_thread.specs.Rows.{detach_row, finished}
+use Rattle.ckrt_thread.specs.Rows.{detach_row}
 use Rattle.ckrt_restore.proofs.EmptyingLemmas.{lost, lost_alive, is_dead}
 use Rattle.ckrt_restore.proofs.emptying.end_thread.Goals as goal
 

@@ -1,5 +1,5 @@
 use Rattle.std.proofs.Common.{◌≡◌, ◌∙◌, ◌≤◌, ◌+◌, ◌-◌, ◌*◌, ◌++◌, length, take, drop, ap, sym, subst, arith}
-use Rattle.ckrt_memory.specs.Pages.{with_page, page_of}
+use Rattle.ckrt_memory.specs.Pages.{with_page}
 use Rattle.ckrt_restore.proofs.RowLemmas.{page_more, page_size}
 use Rattle.ckrt_restore.proofs.memory.restore_memory.Goals as goal
 

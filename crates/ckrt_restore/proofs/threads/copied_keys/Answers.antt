@@ -1,4 +1,4 @@
-use Rattle.std.proofs.Common.{◌≡◌, ◌∙◌, None, get_or, length, ap, slice_set, sym, arith}
+use Rattle.std.proofs.Common.{◌≡◌, ◌∙◌, None, get_or, length, ap, slice_set, arith}
 use Rattle.ckrt_tables.proofs.Rows.{at_place}
 use Rattle.ckrt_tables.proofs.Filled.{filled, filled_next}
 use Rattle.ckrt_restore.proofs.RowLemmas.{keys_size}

@@ -1,5 +1,4 @@
-use Rattle.std.proofs.Common.{◌≡◌, ◌≤◌, length, ap, arith}
-use Rattle.ckrt_tables.specs.Encoding.{encoding_of}
+use Rattle.std.proofs.Common.{arith}
 use Rattle.ckrt_tables.proofs.Bounds.{encoding_size}
 use Rattle.ckrt_tables.proofs.encoding.most_bytes.Goals as goal
 

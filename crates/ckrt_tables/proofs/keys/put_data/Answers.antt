@@ -1,6 +1,6 @@
-use Rattle.std.proofs.Common.{◌≡◌, ◌∷◌, [], ◌++◌, length, map, sym, ap, subst, ◌∙◌}
+use Rattle.std.proofs.Common.{◌≡◌, ◌∷◌, [], length, map, sym, ap, subst, ◌∙◌}
 use Rattle.std.specs.List.{flat_map}
-use Rattle.ckrt_tables.specs.Records.{data_bytes, key_entry_bytes, words_from, value_words, if_not_0}
+use Rattle.ckrt_tables.specs.Records.{key_entry_bytes, words_from, value_words, if_not_0}
 use Rattle.ckrt_tables.specs.Writing.{IsPut}
 use Rattle.ckrt_tables.proofs.Puts.{put_next}
 use Rattle.ckrt_tables.proofs.KeyEntries.{data_not_1}

@@ -1,10 +1,9 @@
-use Rattle.std.proofs.Common.{◌≡◌, ◌∷◌, ◌++◌, true, length, map, refl, sym, ap, ◌∙◌, arith}
+use Rattle.std.proofs.Common.{◌≡◌, ◌∷◌, ◌++◌, true, length, map, refl, sym, ap, ◌∙◌}
 use Rattle.std.specs.List.{flat_map}
-use Rattle.std.proofs.lemmas.Bool.Decides.{nat_tests}
 use Rattle.ckrt_thread.proofs.KeyLemmas.{both}
 use Rattle.ckrt_tables.specs.Records.{key_entry_bytes, if_not_0, word_or_0, value_words}
-use Rattle.ckrt_tables.specs.Savable.{is_byte, is_without_data, fits_data}
-use Rattle.ckrt_tables.proofs.KeyEntries.{data_fits, words_of_data, words_fewer, is_no_data, values_again, same_data, data_in_1, bytes_in_1, bytes_in_2, few_values}
+use Rattle.ckrt_tables.specs.Savable.{fits_data}
+use Rattle.ckrt_tables.proofs.KeyEntries.{data_fits, words_of_data, is_no_data, values_again, same_data, data_in_1, bytes_in_1, bytes_in_2, few_values}
 use Rattle.ckrt_tables.proofs.reading_keys.read_data.Goals as goal
 
 pub returns-then-version-eq1 : goal.returns-then-version-eq1

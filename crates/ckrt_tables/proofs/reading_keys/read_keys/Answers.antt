@@ -1,11 +1,7 @@
-use Rattle.std.proofs.Common.{◌≡◌, ◌∷◌, ◌++◌, Some, None, true, length, refl, sym, ap, ◌∙◌, arith}
+use Rattle.std.proofs.Common.{◌≡◌, ◌∷◌, ◌++◌, Some, true, length, refl, sym, ◌∙◌}
 use Rattle.std.specs.List.{flat_map}
-use Rattle.ckrt_thread.specs.declared.keys.Keys.{Keys}
-use Rattle.ckrt_tables.specs.Records.{flag, key_entry_bytes, words_from}
+use Rattle.ckrt_tables.specs.Records.{key_entry_bytes, words_from}
 use Rattle.ckrt_tables.proofs.KeyEntries.{off_keys, keys_in_1, keys_in_2, keys_made, few_keys}
-use Rattle.ckrt_thread.specs.Keys.{KeyTable, keys_if_proper}
-use Rattle.ckrt_thread.proofs.KeyLemmas.{both}
-use Rattle.ckrt_tables.specs.DecodingThreads.{AreKeys}
 use Rattle.ckrt_tables.proofs.Distinct.{words_in}
 use Rattle.ckrt_tables.proofs.reading_keys.read_keys.Goals as goal
 

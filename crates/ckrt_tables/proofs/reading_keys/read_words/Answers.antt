@@ -1,4 +1,4 @@
-use Rattle.std.proofs.Common.{◌≡◌, ◌∙◌, sym, length, arith}
+use Rattle.std.proofs.Common.{◌∙◌, sym, arith}
 use Rattle.ckrt_tables.specs.declared.reading_keys.KeyEntries.{KeyEntries}
 use Rattle.ckrt_tables.specs.Records.{words_from}
 use Rattle.ckrt_tables.proofs.KeyEntries.{words_fit, words_found}

@@ -1,4 +1,4 @@
-use Rattle.std.proofs.Common.{◌≡◌, None, map}
+use Rattle.std.proofs.Common.{◌≡◌, map}
 use Rattle.ckrt_tables.specs.Records.{word_or_0}
 use Rattle.ckrt_tables.proofs.Filled.{filled}
 use Rattle.ckrt_tables.proofs.reading_keys.values_of.Given as goal

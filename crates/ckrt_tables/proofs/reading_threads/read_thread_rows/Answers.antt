@@ -1,4 +1,4 @@
-use Rattle.std.proofs.Common.{◌≡◌, ℕ, ◌<◌, ⊎_elim, arith, sym, subst}
+use Rattle.std.proofs.Common.{◌≡◌, ℕ, ◌<◌, ⊎_elim, sym, subst}
 use Rattle.ckrt_tables.specs.Decoding.{Reaches}
 use Rattle.ckrt_tables.specs.DecodingThreads.{ThreadsLeadTo, fits_row}
 use Rattle.ckrt_tables.specs.Records.{counted, one_byte, thread_bytes}

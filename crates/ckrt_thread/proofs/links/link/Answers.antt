@@ -1,4 +1,4 @@
-use Rattle.std.proofs.Common.{◌≡◌, ◌<◌, arith}
+use Rattle.std.proofs.Common.{arith}
 use Rattle.ckrt_thread.proofs.Paths.{chain_short, last_fits, chain_one, chain_more, others_one, others_more}
 use Rattle.ckrt_thread.proofs.links.link.Goals as goal
 

@@ -1,4 +1,4 @@
-use Rattle.std.proofs.Common.{◌≡◌, ◌<◌, ◌≢◌, slice_index, slice_set}
+use Rattle.std.proofs.Common.{◌≡◌, ◌≢◌, slice_index, slice_set}
 use Rattle.ckrt_thread.proofs.Paths.{there_fits, after_fits, before_fits, forth_head, forth_mid, back_last_out, back_mid_out, set_size, after_there, ahead_there, others_next, others_previous, others_twice, fewer}
 use Rattle.ckrt_thread.proofs.links.unlink.Goals as goal
 

@@ -1,6 +1,6 @@
 use Rattle.std.proofs.Common.{◌≡◌, ◌+◌, sym, Some, None, subst}
 use Rattle.std.specs.List.{position}
-use Rattle.ckrt_thread.specs.Queues.{is_queue_of, ends_of, total, no_ends, IsDirectory, IsWithEnds}
+use Rattle.ckrt_thread.specs.Queues.{is_queue_of, ends_of, total, no_ends, IsWithEnds}
 use Rattle.ckrt_thread.proofs.Directory.{remove_removed, kept_removed, removed_directory, removed_ends, removed_total}
 use Rattle.ckrt_thread.proofs.queues.forget_ends.Goals as goal
 

@@ -1,6 +1,6 @@
-use Rattle.std.proofs.Common.{◌≡◌, ◌<◌, ◌≤◌, arith, length, sym, ◌∙◌, slice_set, subst, rules, Some, None}
-use Rattle.std.specs.List.{refill, position}
-use Rattle.ckrt_thread.specs.Queues.{ends_of, total, no_ends, is_queue_of, IsDirectory, IsWithEnds}
+use Rattle.std.proofs.Common.{◌≡◌, sym, rules, Some, None}
+use Rattle.std.specs.List.{position}
+use Rattle.ckrt_thread.specs.Queues.{is_queue_of}
 use Rattle.ckrt_thread.proofs.Directory.{set_through, push_stored, stored_directory, stored_ends, stored_total, no_place_ends}
 use Rattle.ckrt_thread.proofs.queues.store_ends.Goals as goal
 

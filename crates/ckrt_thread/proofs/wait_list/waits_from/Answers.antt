@@ -1,4 +1,4 @@
-use Rattle.std.proofs.Common.{◌≡◌, ◌<◌, ◌≤◌, ◌++◌, ◌∷◌, [], ◌∙◌, ap, sym, arith, length, take, rules}
+use Rattle.std.proofs.Common.{◌≡◌, ◌++◌, ◌∷◌, [], ◌∙◌, ap, sym, arith, length, take, rules}
 use Rattle.std.proofs.lemmas.List.{length-map}
 use Rattle.ckrt_thread.specs.Queues.{ids}
 use Rattle.ckrt_thread.specs.WaitList.{entry_at}

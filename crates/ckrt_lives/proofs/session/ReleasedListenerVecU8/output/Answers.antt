@@ -1,6 +1,6 @@
-use Rattle.std.proofs.Common.{◌≡◌, ◌++◌, ◌∙◌, [], ℕ, List, Bool, Some, Result, Ok, Err, if◌then◌else◌, arith, refl, sym, ap, subst}
+use Rattle.std.proofs.Common.{◌≡◌, ◌++◌, ◌∙◌, [], ℕ, List, Some, Result, Ok, Err, if◌then◌else◌, arith, sym, ap, subst}
 use Rattle.std.specs.Prelude.{OnErr, OnOk, is_ok}
-use Rattle.ckrt_commands.specs.Pieces.{Tells, TellsPart}
+use Rattle.ckrt_commands.specs.Pieces.{Tells}
 use Rattle.ckrt_commands.specs.Replies.{output_in, outputs}
 use Rattle.ckrt_commands.proofs.ReplyLemmas.{shown_in-outputs}
 use Rattle.ckrt_recovery.proofs.ListLemmas.{nothing_begins}

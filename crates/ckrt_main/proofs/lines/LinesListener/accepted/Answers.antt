@@ -1,5 +1,4 @@
 use Rattle.std.proofs.Common.{◌∙◌, subst}
-use Rattle.std.specs.Prelude.{OnErr, OnOk}
 use Rattle.std.specs.Io.KnownBytes.{Appends}
 use Rattle.ckrt_commands.specs.Replies.{Accepted, line_of}
 use Rattle.ckrt_commands.specs.Writing.{AppendsPart}

@@ -1,6 +1,6 @@
-use Rattle.std.proofs.Common.{◌≡◌, sym, ap}
+use Rattle.std.proofs.Common.{sym, ap}
 use Rattle.ckrt_mutex.specs.Mutex.{put}
-use Rattle.ckrt_mutex.proofs.Granting.{grants_nobody, grants_waiter}
+use Rattle.ckrt_mutex.proofs.Granting.{grants_waiter}
 use Rattle.ckrt_mutex.proofs.mutexes.Mutexes.hand_over.Goals as goal
 
 pub returns-clause-threads : goal.returns-clause-threads

@@ -1,8 +1,7 @@
-use Rattle.std.proofs.Common.{◌≡◌, ◌<◌, ◌≤◌, ◌++◌, ◌∷◌, [], nat_eq, false, Some, sym, ap, subst, ◌∙◌, List}
+use Rattle.std.proofs.Common.{◌≡◌, ◌++◌, ◌∷◌, [], nat_eq, false, sym, ap, subst, ◌∙◌}
 use Rattle.std.specs.List.{list_any}
-use Rattle.ckrt_thread.specs.declared.records.Wait.{Wait}
-use Rattle.ckrt_thread.specs.Links.{row, IsChain, KeepsOthers}
-use Rattle.ckrt_thread.specs.Queues.{ends_of, queued, MayJoin, AreQueues}
+use Rattle.ckrt_thread.specs.Links.{IsChain, KeepsOthers}
+use Rattle.ckrt_thread.specs.Queues.{ends_of, queued}
 use Rattle.ckrt_thread.proofs.Paths.{row_is}
 use Rattle.ckrt_thread.proofs.QueueLemmas.{pushed_none, pushed_queues, not_queued, directory_room}
 use Rattle.ckrt_thread.proofs.queues.Queues.push.Goals as goal

@@ -1,8 +1,7 @@
-use Rattle.std.proofs.Common.{◌≡◌, ◌<◌, ◌≤◌, nat_eq, true, Some, sym, ap, subst, ◌∙◌, List, arith}
+use Rattle.std.proofs.Common.{◌≡◌, nat_eq, true, sym, ap, subst, ◌∙◌, arith}
 use Rattle.std.specs.List.{list_any}
-use Rattle.ckrt_thread.specs.declared.records.Wait.{Wait}
-use Rattle.ckrt_thread.specs.Links.{row, dropped, IsChain, KeepsOthers}
-use Rattle.ckrt_thread.specs.Queues.{ends_of, queued, no_ends, IsWithEnds, MayLeave, AreQueues}
+use Rattle.ckrt_thread.specs.Links.{dropped, IsChain, KeepsOthers}
+use Rattle.ckrt_thread.specs.Queues.{ends_of, queued, no_ends}
 use Rattle.ckrt_thread.proofs.Paths.{row_is, chain_filled}
 use Rattle.ckrt_thread.proofs.QueueLemmas.{taken_none, taken_queues, queued_there, for_own, ends_none, forgotten_total}
 use Rattle.ckrt_thread.proofs.queues.Queues.take_out.Goals as goal

@@ -1,4 +1,4 @@
-use Rattle.std.proofs.Common.{◌≡◌, ◌<◌, ◌∙◌, sym, length}
+use Rattle.std.proofs.Common.{◌∙◌, sym}
 use Rattle.ckrt_thread.proofs.Waking.{fewer_left, first_woken}
 use Rattle.ckrt_thread.proofs.table.Threads.wake_all.Goals as goal
 
