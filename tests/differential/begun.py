@@ -48,8 +48,8 @@ def fault_of_events(is_wrong, has_older):
 
 
 def makes_events(packet):
-    """Whether a packet makes them: a motion does, and a command of `monitor` that isn't mistyped, but for some. Whether one does that has a
-    line of no event no page tells."""
+    """Whether a packet makes them: a motion does, and a command of `monitor` that isn't mistyped, but for some. No case asks it of an event
+    whose line is none."""
     if packet.startswith("qRcmd,"):
         text = bytes.fromhex(packet.partition(",")[2])
         return answer_to(text) is None and text.partition(b" ")[0] not in TELLING

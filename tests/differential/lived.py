@@ -11,7 +11,7 @@ from hunted import Hunted
 from listing import lines_of_state
 from mistyped import HELP, LIST, drawn_mistake, kinds_of_mistakes, spelled, text_of_packet, with_lists
 from motions import Stops, backward, onward, text_of_stop, thread_of_stop
-from moved import is_any, told_at
+from moved import told_at
 from sharers import Sharer
 from stories import Story, TooLong
 from streams import malformed_line
@@ -85,7 +85,7 @@ class Script:
         self.why()
 
     def why(self, is_stop=True):
-        """Whom a plain stop names is examined. Behind what was no stop the last one is told again, of a motion any that it may have had."""
+        """Whom a plain stop names is examined. Behind what was no stop the last one is told again, that of a motion, too."""
         if is_stop:
             self.stopped = "", text_of_stop("T05", self.story.named)
         self.ask("?", self.stopped)
@@ -150,10 +150,10 @@ class Script:
             return
         steps, motion = story.steps(), self.chance.choice(list(MOTIONS))
         ends = (story.first, 0), (story.last, 0)
-        story.position, answers = MOTIONS[motion](steps, self.stops, story.position, ends[motion == "vCont;c"])
-        answers = told_at(answers, story.named_at(story.position))
-        story.named = thread_of_stop(answers[0])
-        self.stopped = [("", answer) for answer in answers]
+        story.position, answer = MOTIONS[motion](steps, self.stops, story.position, ends[motion == "vCont;c"])
+        answer = told_at(answer, story.named_at(story.position))
+        story.named = thread_of_stop(answer)
+        self.stopped = "", answer
         self.ask(motion, self.stopped)
         self.events()
 
@@ -202,10 +202,10 @@ def difference_of_answers(case, got, tally):
     packets, expected = packets_of(case), [("", "OK"), *[answer for _, answer in case.asked], (LIST, "OK"), ("", "OK")]
     tally.update(kinds_of_mistakes(expected))
     for number, (packet, wanted, there) in enumerate(zip(packets, with_lists(packets, expected, got), got)):
-        if isinstance(wanted, tuple) and wanted[0] and LIST not in expected[number][0]:
+        if wanted[0] and LIST not in expected[number][0]:
             lines = [] if packet.startswith(monitor("inspect")) else wanted[0].splitlines()
             tally.update(("told by monitor", kind_of_line(line)) for line in lines)
-        if not (is_any if isinstance(wanted, list) else is_answered)(wanted, there):
+        if not is_answered(wanted, there):
             return f"packet {number}, {text_of_packet(packet)}: model {wanted}, program {there}"
     return None if len(got) == len(expected) else f"{len(expected)} answers of the model, {len(got)} of the program"
 

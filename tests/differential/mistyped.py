@@ -106,9 +106,7 @@ def list_of(packets, got):
 
 
 def with_list(answer, told):
-    """An expected answer, or each of several that may come."""
-    if isinstance(answer, list):
-        return [with_list(one, told) for one in answer]
+    """An expected answer, with the list of a session."""
     return answer if answer[0] is None else (answer[0].replace(LIST, told), answer[1])
 
 
@@ -120,8 +118,7 @@ def with_lists(packets, expected, got):
 
 def kinds_of_mistakes(expected):
     """The lines that tell what is wrong, for a table."""
-    answers = [one for answer in expected for one in (answer if isinstance(answer, list) else [answer])]
-    return [("mistyped", told.partition("\n")[0]) for told, _ in answers if told and told.endswith("\n" + LIST)]
+    return [("mistyped", told.partition("\n")[0]) for told, _ in expected if told and told.endswith("\n" + LIST)]
 
 
 def text_of_packet(packet):

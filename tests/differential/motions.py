@@ -8,7 +8,7 @@ from threads import Status
 SIGNALS = {Cause.ILLEGAL: "04", Cause.BREAKPOINT: "05", Cause.JUMP_MISALIGNED: "0a", Cause.LOAD_MISALIGNED: "0a",
            Cause.STORE_MISALIGNED: "0a"}
 SEGMENT = "0b"
-END, BEGIN = "T05replaylog:end;", "T05replaylog:begin;"
+END, BEGIN, CHANGE = "T05replaylog:end;", "T05replaylog:begin;", "T05watch:"
 
 
 @dataclass
@@ -74,10 +74,8 @@ def threads_at(steps, place):
 
 def named(running, there, before):
     """Whom a stop names, of those that are there: the thread whose step is next; where nobody's is the one that was to step, or that of the
-    stop before. None where that isn't known, since the stop before may have named either of two."""
-    if running:
-        return running
-    return None if before is None and len(there) > 1 else named_instead(there, before)
+    stop before."""
+    return running or named_instead(there, before)
 
 
 def named_instead(there, thread):
@@ -86,99 +84,101 @@ def named_instead(there, thread):
 
 
 def text_of_stop(why, thread):
-    """With any thread, where that isn't known."""
-    return f"{why}thread:" + ("" if thread is None else f"{thread:x};")
+    """With the thread that is named."""
+    return f"{why}thread:{thread:x};"
 
 
 def thread_of_stop(payload):
-    """Whom it names, if it is known."""
-    number = payload.rpartition("thread:")[2]
-    return int(number[:-1], 16) if number else None
+    """Whom it names."""
+    return int(payload.rpartition("thread:")[2][:-1], 16)
 
 
 @dataclass
 class Stops:
-    """Breakpoints, and watches: each an address and a length."""
+    """Breakpoints, and watches in the order in which they are inserted: each an address and a length."""
     places: list
     watches: list
 
     def packets(self):
         return [*[f"Z0,{place:x},4" for place in self.places], *[f"Z2,{address:x},{length:x}" for address, length in self.watches]]
 
-    def changed_watches(self, step):
-        return [address for address, length in self.watches if step.changed & set(range(address, address + length))]
+    def at_change(self, step):
+        """The stop at a step that changes what is watched: of several watches that which was inserted first. None where there is none."""
+        changed = [address for address, length in self.watches if step.changed & set(range(address, address + length))]
+        return f"{CHANGE}{changed[0]:x};thread:{step.thread:x};" if changed else None
+
+    def at_place(self, step):
+        """The stop before a step at a breakpoint; None where it is at none."""
+        return plain_stop(step) if step.place in self.places else None
+
+
+def plain_stop(step):
+    """It names the thread whose step is next."""
+    return f"T05thread:{step.thread:x};"
 
 
 def signal_of(fault):
     return SIGNALS.get(Cause(fault), SEGMENT)
 
 
-def stops_before(stops, step, place):
-    """Why a motion onward from a place ends before a step; a breakpoint where it begins is none."""
-    answers = [f"T05watch:{address:x};thread:{step.thread:x};" for address in stops.changed_watches(step)]
-    return answers + [f"T05thread:{step.thread:x};"] * (step.before > place and step.place in stops.places)
-
-
 def stepped(steps, stops, place, last, thread):
-    """Behind the next step of a thread. What another one has a breakpoint or a watch at ends it before, a watch of its own, too."""
+    """Behind the next step of a thread. What another one has a breakpoint or a watch at ends it before, a watch of its own, too.
+    A breakpoint is told first, and a change there when it is asked again, since where it begins no breakpoint counts."""
     for step in steps:
         if step.before < place:
             continue
-        answers = stops_before(stops, step, place)
-        if step.thread == thread and not stops.changed_watches(step):
-            return step.behind, [text_of_stop(f"T{signal_of(step.fault) if step.fault else '05'}", named_instead(step.left, thread))]
-        if answers:
-            return step.before, answers
+        is_own = step.thread == thread
+        told = (None if is_own or step.before == place else stops.at_place(step)) or stops.at_change(step)
+        if told:
+            return step.before, told
+        if is_own:
+            return step.behind, text_of_stop(f"T{signal_of(step.fault) if step.fault else '05'}", named_instead(step.left, thread))
         if step.fault:
-            return step.behind, [f"T{signal_of(step.fault)}thread:{step.thread:x};"]
-    return last, [END]
+            return step.behind, f"T{signal_of(step.fault)}thread:{step.thread:x};"
+    return last, END
 
 
-def steps_of_thread(steps, place, thread):
-    """Its last step before a position, and its next one; None where there is none."""
-    before = next((step for step in reversed(steps) if step.thread == thread and step.behind <= place), None)
-    return before, next((step for step in steps if step.thread == thread and step.before >= place), None)
+def own_step(steps, place, thread):
+    """The next one of a thread; None where there is none."""
+    return next((step for step in steps if step.thread == thread and step.before >= place), None)
 
 
 def stepped_back(steps, stops, place, first, thread):
     """Before the last step of a thread. What another one has a breakpoint or a watch at ends it on the way, a watch of its own, too.
     Where the step that led there changed what is watched, that is told."""
     for step in reversed([step for step in steps if step.behind <= place]):
-        if stops.changed_watches(step):
-            return step.behind, changes_told(stops, [step])
+        if stops.at_change(step):
+            return step.behind, stops.at_change(step)
         if step.thread == thread or step.place in stops.places:
-            return step.before, changes_told(stops, [led for led in steps if led.behind == step.before]) or [f"T05thread:{step.thread:x};"]
-    return first, [BEGIN]
+            return step.before, change_behind(steps, stops, step.before) or plain_stop(step)
+    return first, BEGIN
 
 
-def changes_told(stops, steps):
-    """The stops behind steps that changed what is watched."""
-    return [f"T05watch:{address:x};thread:{step.thread:x};" for step in steps for address in stops.changed_watches(step)]
+def change_behind(steps, stops, place):
+    """The stop behind the step that led to a position, if that changed what is watched."""
+    return next((stops.at_change(step) for step in steps if step.behind == place), None)
 
 
 def onward(steps, stops, place, last):
     """The least position behind this one whose next step is at a breakpoint, or before a change, where it may stay; or behind the
-    step of a fault."""
+    step of a fault. A breakpoint is told first, and a change there when it is asked again, since where it begins no breakpoint counts."""
     for step in steps:
-        answers = stops_before(stops, step, place)
-        if step.before >= place and answers:
-            return step.before, answers
-        if step.before >= place and step.fault:
-            return step.behind, [f"T{signal_of(step.fault)}thread:{step.thread:x};"]
-    return last, [END]
+        if step.before < place:
+            continue
+        told = (stops.at_place(step) if step.before > place else None) or stops.at_change(step)
+        if told:
+            return step.before, told
+        if step.fault:
+            return step.behind, f"T{signal_of(step.fault)}thread:{step.thread:x};"
+    return last, END
 
 
 def backward(steps, stops, place, first):
-    """The greatest position before this one whose next step is at a breakpoint, or behind a change, where it may stay."""
-    found = {}
-    for step in steps:
-        if step.place in stops.places and step.before < place:
-            found.setdefault(step.before, []).append(f"T05thread:{step.thread:x};")
-        if step.behind <= place:
-            found.setdefault(step.behind, []).extend(f"T05watch:{address:x};thread:{step.thread:x};"
-                                                     for address in stops.changed_watches(step))
-    reasons = {where: answers for where, answers in found.items() if answers}
-    return (max(reasons), reasons[max(reasons)]) if reasons else (first, [BEGIN])
+    """The greatest position before this one whose next step is at a breakpoint, or behind a change, where it may stay. Where it is both, the
+    change is told."""
+    found = {step.before: stops.at_place(step) for step in steps if step.before < place and stops.at_place(step)}
+    found |= {step.behind: stops.at_change(step) for step in steps if step.behind <= place and stops.at_change(step)}
+    return (max(found), found[max(found)]) if found else (first, BEGIN)
 
 
 def end_of_steps(counts, place, most, is_onward, ends):

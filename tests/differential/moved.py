@@ -76,35 +76,30 @@ def named_at(steps, place, before):
     return named(step and step.thread, threads_at(steps, place), before)
 
 
-def told_at(answers, thread):
+def told_at(answer, thread):
     """At an end of the history the thread is named that a stop there names."""
-    return [text_of_stop(answer, thread) if answer in (BEGIN, END) else answer for answer in answers]
+    return text_of_stop(answer, thread) if answer in (BEGIN, END) else answer
 
 
 def expected_motions(case, recording):
-    """Of each packet the answers that may come, with what the console is told."""
+    """Of each packet the answer, with what the console is told."""
     steps, ends = steps_of(recording), ((recording.first, 0), (recording.whole, 0))
     place, before = place_at_first(recording)
-    expected = [[("", "OK")]] * (1 + len(case.stops.packets()))
+    expected = [("", "OK")] * (1 + len(case.stops.packets()))
     for begin, motions in case.ways:
         if begin is not None:
             place, before = begin, named_at(steps, begin, before)
-            expected.append([(line_of_events(place, (recording.first, recording.whole)), "OK")])
+            expected.append((line_of_events(place, (recording.first, recording.whole)), "OK"))
         for motion in motions:
             if motion in MOTIONS:
-                place, answers = MOTIONS[motion](steps, case.stops, place, ends[motion == "vCont;c"])
-                answers = told_at(answers, named_at(steps, place, before))
-                before = thread_of_stop(answers[0])
-                expected.append([("", answer) for answer in answers])
+                place, answer = MOTIONS[motion](steps, case.stops, place, ends[motion == "vCont;c"])
+                answer = told_at(answer, named_at(steps, place, before))
+                before = thread_of_stop(answer)
+                expected.append(("", answer))
             else:
-                expected.append([answer_to(bytes.fromhex(motion.partition(",")[2]))])
-            expected.append([(line_of_events(place, (recording.first, recording.whole)), "OK")])
-    return [*expected, [(LIST, "OK")], [("", "OK")]]
-
-
-def is_any(expected, got):
-    """Whether one of these is answered."""
-    return any(is_answered(one, got) for one in expected)
+                expected.append(answer_to(bytes.fromhex(motion.partition(",")[2])))
+            expected.append((line_of_events(place, (recording.first, recording.whole)), "OK"))
+    return [*expected, (LIST, "OK"), ("", "OK")]
 
 
 def difference_of_moved(ckrt, case, path, tally):
@@ -120,6 +115,6 @@ def difference_of_moved(ckrt, case, path, tally):
     for number, (packet, wanted, there) in enumerate(zip(packets, with_lists(packets, expected, got), got)):
         if packet in MOTIONS:
             tally["motion", f"{packet} {there[1].partition(':')[0].partition('thread')[0]}"] += 1
-        if not is_any(wanted, there):
+        if not is_answered(wanted, there):
             return f"packet {number}, {text_of_packet(packet)}: model {wanted}, program {there}"
     return None if len(got) == len(expected) else f"{len(expected)} answers of the model, {len(got)} of the program"

@@ -7,10 +7,10 @@ from debugged import TIME_LIMIT
 from glances import recording_of
 from histories import recorded_disk
 from mistyped import HELP, LIST, drawn_mistake, kinds_of_mistakes, spelled, text_of_packet, with_lists
-from motions import (Stops, backward, end_of_steps, named, next_step, onward, stepped, stepped_back, steps_of_thread, text_of_stop,
+from motions import (CHANGE, Stops, backward, end_of_steps, named, next_step, onward, own_step, stepped, stepped_back, text_of_stop,
                      thread_of_stop, threads_at)
-from moved import is_any, place_at_first, steps_of, told_at, words_at_first
-from stubs import answers_in, frame, line_of_events, monitor, position_text
+from moved import place_at_first, steps_of, told_at, words_at_first
+from stubs import answers_in, frame, is_answered, line_of_events, monitor, position_text
 
 LIMITS = [1, 1, 3, 20, 100, 4_294_967_295]
 UNTIL, LIMIT, PLAIN = "T00", "T02", "T05"
@@ -21,7 +21,7 @@ STEPPING = {"step": ["vCont;s:{}", "vCont;s:{};c", "vCont;c;s:{}", "vCont;S05:{}
 
 @dataclass
 class SteppedCase:
-    """Packets, and of each the answers that may come, with what the console is told; the words begin the session elsewhere."""
+    """Packets, and of each the answer, with what the console is told; the words begin the session elsewhere."""
     contents: bytes
     asked: list
     words: list = field(default_factory=list)
@@ -31,25 +31,24 @@ class SteppedCase:
 
 
 class Way:
-    """Draws what is asked, and follows where the session stands, and which thread its last stop named: None where that may be either of two."""
+    """Draws what is asked, and follows where the session stands, and which thread its last stop named."""
 
     def __init__(self, chance, recording, steps, stops):
         self.chance, self.steps, self.stops = chance, steps, stops
         self.first, self.whole = recording.first, recording.whole
-        self.asked = [(packet, [("", "OK")]) for packet in stops.packets()]
+        self.asked = [(packet, ("", "OK")) for packet in stops.packets()]
         (self.place, self.named), self.until, self.limit = place_at_first(recording), None, None
         self.counts = Counter(step.before[0] for step in steps)
 
     def tell(self, command, text):
-        self.asked.append((monitor(self.written(command)), [(text + "\n", "OK")]))
+        self.asked.append((monitor(self.written(command)), (text + "\n", "OK")))
 
     def written(self, command):
         return spelled(self.chance, command)
 
     def mistype(self):
         """Nothing comes of it, and that is seen in what the next motions do."""
-        packet, answer = drawn_mistake(self.chance)
-        self.asked.append((packet, [answer]))
+        self.asked.append(drawn_mistake(self.chance))
 
     def place_text(self):
         return line_of_events(self.place, (self.first, self.whole)).strip()
@@ -59,7 +58,7 @@ class Way:
 
     def why(self):
         """A session begins with a plain stop, and a goto ends with one."""
-        self.asked.append(("?", [("", text_of_stop(PLAIN, self.named))]))
+        self.asked.append(("?", ("", text_of_stop(PLAIN, self.named))))
 
     def goto(self):
         self.place = self.drawn_place()
@@ -81,15 +80,15 @@ class Way:
         self.tell(f"limit {self.limit}", f"limit {self.limit}")
 
     def named_at(self, place, before):
-        """Whom a stop there names; where nobody's step is next perhaps the one that was to step, or that of the stop before."""
+        """Whom a stop there names; where nobody's step is next the one that was to step, or that of the stop before."""
         step = next_step(self.steps, place)
         return named(step and step.thread, threads_at(self.steps, place), before)
 
     def drawn_thread(self):
-        """One that is there, and at times one that isn't; any or all are that of the last stop, which has to be known then."""
+        """One that is there, and at times one that isn't; any or all are that of the last stop."""
         there = sorted(threads_at(self.steps, self.place))
         absent = [ANY, ALL, *[number for number in (1, 2, 3, 63) if number not in there]]
-        return self.chance.choice([*there * 2, *(absent if self.named else [])] or [1])
+        return self.chance.choice([*there * 2, *absent])
 
     def meant(self, thread):
         return thread if thread in threads_at(self.steps, self.place) else self.named
@@ -97,58 +96,51 @@ class Way:
     def move(self):
         """Behind a motion it is asked where the session stands, and why."""
         thread = self.drawn_thread()
-        kind = self.chance.choice(["vCont;c", "bc", *["step", "step", "range", "bs", "bs"] * (self.meant(thread) is not None)])
+        kind = self.chance.choice(["vCont;c", "bc", "step", "step", "range", "bs", "bs"])
         packet = self.chance.choice(STEPPING[kind]).format("-1" if thread == ALL else f"{thread:x}")
-        self.place, answers = self.motion(kind, self.meant(thread))
-        self.asked += [(f"Hc{'-1' if thread == ALL else f'{thread:x}'}", [("", "OK")])] * (kind == "bs")
-        self.asked.append((packet, [("", answer) for answer in answers]))
-        self.asked.append((monitor("events"), [(self.place_text() + "\n", "OK")]))
-        threads = set(map(thread_of_stop, answers))
-        self.named = threads.pop() if len(threads) == 1 else None
-        if len(answers) == 1:
-            self.asked.append(("?", [("", answers[0])]))
+        self.place, answer = self.motion(kind, self.meant(thread))
+        self.named = thread_of_stop(answer)
+        self.asked += [(f"Hc{'-1' if thread == ALL else f'{thread:x}'}", ("", "OK"))] * (kind == "bs")
+        self.asked += [(packet, ("", answer)), (monitor("events"), (self.place_text() + "\n", "OK")), ("?", ("", answer))]
 
     def motion(self, kind, thread):
-        """Where it comes to, and what may be told of it. A range is stepped as one step is."""
+        """Where it comes to, and what is told of it. A range is stepped as one step is."""
         arguments, first, last = (self.steps, self.stops, self.place), (self.first, 0), (self.whole, 0)
-        last_own, own = steps_of_thread(self.steps, self.place, thread)
         match kind:
             case "vCont;c":
                 return self.ended(*onward(*arguments, last), True, self.named)
             case "bc":
                 return self.ended(*backward(*arguments, first), False, self.named)
             case "bs":
-                came, answers = stepped_back(*arguments, first, thread)
-                is_own = last_own is not None and came == last_own.before and last_own.place not in self.stops.places
-                return self.ended(came, answers, False, thread, is_own)
-        came, answers = stepped(*arguments, last, thread)
-        is_own = own is not None and came == own.behind
-        return self.ended(came, answers, True, thread, is_own, own.before if is_own else None)
+                return self.ended(*stepped_back(*arguments, first, thread), False, thread)
+        own = own_step(self.steps, self.place, thread)
+        return self.ended(*stepped(*arguments, last, thread), True, thread, own and own.before)
 
-    def ended(self, came, answers, is_onward, before, is_own=False, passed=None):
+    def ended(self, came, answer, is_onward, before, passed=None):
         """With the thread that the stop names: where nobody's step is next the one before, which was to step, or that of the last stop."""
-        came, answers = self.bounded(came, answers, is_onward, is_own, passed)
+        came, answer = self.bounded(came, answer, is_onward, passed)
         thread = self.named_at(came, before)
-        return came, [text_of_stop(answer, thread) if answer in (UNTIL, LIMIT) else answer for answer in told_at(answers, thread)]
+        return came, text_of_stop(answer, thread) if answer in (UNTIL, LIMIT) else told_at(answer, thread)
 
     def bounds(self, is_onward):
-        """Where a motion ends at the latest, and why."""
+        """Where a motion ends at the latest, and why; first what is told where both end it."""
         end = end_of_steps(self.counts, self.place, self.limit, is_onward, (self.first, self.whole)) if self.limit else None
         return [(place, why) for place, why in [(self.until, UNTIL), (end, LIMIT)] if place]
 
-    def bounded(self, came, answers, is_onward, is_own, passed):
-        """Where a motion ends, and why. A place that is passed is that of the own step which is next there: it is made too. Where a limit
-        ends a motion that ends there anyway no page says which of the reasons is told, nor where `until` does behind an own step, or
-        that of a fault."""
+    def bounded(self, came, answer, is_onward, passed):
+        """Where a motion ends, and why. No bound ends it at the place that is passed, where the step that was asked for is next: that is
+        made too, or its change is told.
+
+        Where a motion ends anyway no bound is told. But onward a change ends it behind its step, so it goes on just before that,
+        and a bound there comes first.
+        """
         reached = [(place, why) for place, why in self.bounds(is_onward) if self.is_between(place, came) and place != passed]
         if not reached:
-            return came, answers
+            return came, answer
         end = (min if is_onward else max)(place for place, _ in reached)
-        reasons = [why for place, why in reached if place == end]
-        if end != came:
-            return end, reasons
-        is_open = is_own or not answers[0].startswith(PLAIN)
-        return came, [*answers, *[why for why in reasons if why == LIMIT or is_open]]
+        if end == came and not (is_onward and answer.startswith(CHANGE)):
+            return came, answer
+        return end, next(why for place, why in reached if place == end)
 
     def is_between(self, place, came):
         """Whether a motion comes by this place."""
@@ -184,13 +176,13 @@ def difference_of_stepped(ckrt, case, path, tally):
         return None
     path.write_bytes(case.contents)
     packets = ["QStartNoAckMode", *[packet for packet, _ in case.asked], HELP, "D"]
-    expected = [[("", "OK")], *[answers for _, answers in case.asked], [(LIST, "OK")], [("", "OK")]]
+    expected = [("", "OK"), *[answer for _, answer in case.asked], (LIST, "OK"), ("", "OK")]
     done = subprocess.run([ckrt, "debug", path, *case.words], input=b"".join(map(frame, packets)), capture_output=True, timeout=TIME_LIMIT)
     got = answers_in(done.stdout)
     tally.update(kinds_of_mistakes(expected))
-    for number, (packet, answers, there) in enumerate(zip(packets, with_lists(packets, expected, got), got)):
+    for number, (packet, wanted, there) in enumerate(zip(packets, with_lists(packets, expected, got), got)):
         if packet.startswith(("vCont", "b")):
             tally["motion of a thread", f"{packet.partition(':')[0]} {there[1].partition(':')[0].partition('thread')[0]}"] += 1
-        if not is_any(answers, there):
-            return f"packet {number}, {text_of_packet(packet)}: model {answers}, program {there}"
+        if not is_answered(wanted, there):
+            return f"packet {number}, {text_of_packet(packet)}: model {wanted}, program {there}"
     return None if len(got) == len(expected) else f"{len(expected)} answers of the model, {len(got)} of the program"

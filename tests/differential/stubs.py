@@ -173,7 +173,6 @@ class Visits:
 
 
 def is_answered(expected, got):
-    """Whether an answer is as expected. A stop whose thread isn't known may name any."""
+    """Whether an answer is as expected; None is any text on the console."""
     told, payload = expected
-    is_open = payload.endswith("thread:")
-    return told in (None, got[0]) and (got[1].startswith(payload) if is_open else got[1] == payload)
+    return told in (None, got[0]) and got[1] == payload

@@ -346,7 +346,7 @@ class Scripts(WithKeys):
         self.script.line = lambda: "run 0 0"
         self.script.go((3, 1))
         self.moves("bc")
-        began = [("", "T05replaylog:begin;thread:1;")]
+        began = "", "T05replaylog:begin;thread:1;"
         for ask, told in ((self.script.live, f"events made: 0\n{NOT_AT_END}\nevent 0, from 0 to 6\n"), (self.script.event, "no 34 Range\n")):
             ask()
             self.assertEqual([answer for _, answer in self.script.asked[-2:]], [(told, "OK"), began])
@@ -361,7 +361,7 @@ class Scripts(WithKeys):
         self.script.go((1, 1))
         self.moves("vCont;c")
         self.script.event()
-        self.assertEqual([answer for _, answer in self.script.asked[-2:]], [("no 1 Ended\n", "OK"), [("", "T05replaylog:end;thread:1;")]])
+        self.assertEqual([answer for _, answer in self.script.asked[-2:]], [("no 1 Ended\n", "OK"), ("", "T05replaylog:end;thread:1;")])
         self.script.live()
         made = "events made: 0\nthe program has ended\nevent 2, from 0 to 2\n", "OK"
         self.assertEqual([answer for _, answer in self.script.asked[-3:-1]], [made, ("", "T05thread:1;")])
@@ -376,11 +376,11 @@ class Scripts(WithKeys):
         """At an end of the history the thread of the stop before is named."""
         self.script.go((3, 1))
         self.moves("vCont;c")
-        self.assertEqual(self.script.asked[-2:], [("vCont;c", [("", "T05replaylog:end;thread:2;")]),
+        self.assertEqual(self.script.asked[-2:], [("vCont;c", ("", "T05replaylog:end;thread:2;")),
                                                   (monitor("events"), ("event 6, from 0 to 6\n", "OK"))])
 
     def test_answers(self):
-        case = LivedCase(b"", [], [("?", ("", "T05thread:2;")), ("bc", [("", "T05replaylog:begin;thread:9;")]), ("g", ("", "00"))])
+        case = LivedCase(b"", [], [("?", ("", "T05thread:2;")), ("bc", ("", "T05replaylog:begin;thread:9;")), ("g", ("", "00"))])
         right = [("", "OK"), ("", "T05thread:2;"), ("", "T05replaylog:begin;thread:9;"), ("", "00"), (LISTED, "OK"), ("", "OK")]
         self.assertIsNone(difference_of_answers(case, right, Counter()))
         for place, wrong in [(1, ("", "T05thread:1;")), (1, ("x", "T05thread:2;")), (2, ("", "T05thread:9;")), (2, ("", "T05replaylog:begin;thread:2;")),

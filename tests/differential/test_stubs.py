@@ -135,8 +135,8 @@ class Sessions(WithKeys):
     def test_answered(self):
         for expected, got, is_right in [((None, "OK"), ("a", "OK"), True), (("", "OK"), ("a", "OK"), False),
                                         ((None, "OK"), ("a", "E01"), False), (("", "OK"), ("", "OKAY"), False), (("", ""), ("", "OK"), False),
-                                        (("", "T05thread:"), ("", "T05thread:7;"), True), (("", "T05thread:"), ("", "T05watch:7;thread:7;"), False),
-                                        (("", "T05thread:1;"), ("", "T05thread:12;"), False), (("", "T05thread:"), ("a", "T05thread:7;"), False)]:
+                                        (("", "T05thread:"), ("", "T05thread:7;"), False), (("", "T05thread:1;"), ("", "T05thread:12;"), False),
+                                        (("", "T05thread:1;"), ("", "T05thread:1;"), True)]:
             self.assertEqual(is_answered(expected, got), is_right, (expected, got))
 
     def test_places(self):
