@@ -1,13 +1,13 @@
 """What a session of `ckrt debug` begins with: the first area of its history, and what becomes of it once the events of that are made.
 
 No event is made before somebody asks for one. So only then it turns out that one is refused at its turn, or that those of an older area
-that fits lead elsewhere than to the checkpoint.
+that fits lead elsewhere than to the checkpoint. But where the counts of the checkpoint are high all are made before a session begins.
 """
 from copy import deepcopy
 
 from devices import MemoryDisk
 from mistyped import answer_to
-from recorded import fitting_older, leads_to
+from recorded import fitting_older, has_older, leads_to
 from recovery import Unrecovered, recover, unmade
 
 LOW = 1 << 61  # from counts below it no journal leads to one that is too high; where one isn't, all events are made before
@@ -26,9 +26,17 @@ class Begun:
         newer, events = unmade(disk)
         self.is_refused = has_refused(disk, newer)
         older = fitting_older(disk, newer)
+        if is_high(newer) and not has_older(disk, newer):
+            older = None
         self.machine, self.checkpoint, self.whole = deepcopy((older or newer).machine), newer.events, newer.events + len(events)
         self.first = older.events if older else self.checkpoint
         self.fault = fault_of_events(self.is_refused or older is not None and not leads_to(disk, older, newer), older is not None)
+
+
+def is_high(newer):
+    """Whether the last checkpoint counts so many events, or bytes of output before those that it holds, that all events are made before a session
+    begins. Then an older area that doesn't lead to the newer one is no part of the history."""
+    return newer.events >= LOW or newer.output_length - len(newer.held) >= LOW
 
 
 def has_refused(disk, newer):
@@ -36,7 +44,7 @@ def has_refused(disk, newer):
     try:
         recover(disk)
     except Unrecovered:
-        if newer.events >= LOW or newer.output_length >= LOW:
+        if is_high(newer):
             raise
         return True
     return False

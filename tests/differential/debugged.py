@@ -47,7 +47,8 @@ def drawn_look(chance, position, pages, is_event=True):
 
 
 def debugged_case(chance, case):
-    """Of some disks an event in use is refused, most of them recover otherwise. Of some the older area leads elsewhere, and of a few both."""
+    """Of some disks an event in use is refused, most of them recover otherwise. Of some the older area leads elsewhere, and of a few both.
+    Where it leads elsewhere and the counts are high, the session goes on."""
     kind = chance.random()
     disk = disk_with_older(chance, case) if kind < 0.4 else recorded_disk(chance, case)
     if kind < 0.25:
@@ -57,7 +58,7 @@ def debugged_case(chance, case):
     recording, fault = recording_of(disk)
     ends = ends_of(disk) if fault or recording.is_misled else (recording.first, recording.checkpoint, recording.whole)
     asked = asked_at_first(chance, case, disk, ends)
-    if fault or recording.is_misled and asked.at is None:
+    if fault or asked.at is None and Begun(disk).fault:
         asked.makers = drawn_makers(chance, ends)
         return asked
     return visiting_case(chance, case, asked, recording)

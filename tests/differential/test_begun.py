@@ -159,16 +159,43 @@ class OlderAreas(WithKeys):
             self.assertEqual(begun.machine.threads[1].pc, 0x1008)
             self.begins(areas.put(NEWER, batch(IDLE)).disk.bytes, (saved, saved, saved + 1), "Damaged")
 
-    def test_high_counts(self):
-        """The events in use are made before, and so a refused one is Damaged before a session begins; the older ones are not."""
-        for more, is_high in ((LOW - 20_000, False), (LOW + 20_000, True)):
-            areas = TwoAreas().flip(SMALL.page_at(0, 1)).header(0, events=more).header(1, events=more + 2)
-            self.begins(areas.disk.bytes, (more, more + 2, more + 3), "OlderDiffers")
-            areas.put(NEWER, batch(IDLE))
+    def test_high_events(self):
+        """Those at the checkpoint count, and neither those of the older area nor those behind the checkpoint. Where they are high, all are made
+        before: an older area that leads elsewhere is no part of the history, and a refused event in use is Damaged."""
+        for saved in (2 ** 61 - 2, 2 ** 61 - 1, 2 ** 61, 2 ** 61 + 1, 2 ** 61 + 20_000):
+            self.begins_by_counts(saved >= 2 ** 61, saved, (0, {"events": saved - 2}), (1, {"events": saved}))
+
+    def test_high_output(self):
+        """That at the checkpoint, and not that of the older area. None is held."""
+        for output in (2 ** 61 - 1, 2 ** 61, 2 ** 61 + 20_000):
+            self.begins_by_counts(output >= 2 ** 61, 2, (1, {"offset": output}))
+            self.begins_by_counts(False, 2, (0, {"offset": output}))
+
+    def test_held_output(self):
+        """Held bytes don't count, and those before them do."""
+        for offset, is_high in ((2 ** 61 - 6, False), (2 ** 61 - 1, False), (2 ** 61, True)):
+            misled = TwoAreas().tables(1, b"123456").header(1, offset=offset).flip(SMALL.page_at(0, 1))
+            self.begins(misled.disk.bytes, *(((2, 2, 3), None) if is_high else ((0, 2, 3), "OlderDiffers")))
+
+    def begins_by_counts(self, is_high, saved, *headers):
+        """With so many events at the checkpoint. The older area has two less, and one is in use."""
+        def areas():
+            changed = TwoAreas()
+            for area, fields in headers:
+                changed.header(area, **fields)
+            return changed
+
+        older, newer = ((saved - 2, saved, saved + 1), "OlderDiffers"), ((saved, saved, saved + 1), None)
+        begun = self.begins(areas().disk.bytes, older[0], None)
+        self.assertEqual(begun.machine.threads[1].pc, 0x1000)
+        for misled in (areas().flip(SMALL.page_at(0, 1)), areas().put(OLDER, batch(PLACE + IDLE))):
+            begun = self.begins(misled.disk.bytes, *(newer if is_high else older))
+            self.assertEqual((begun.machine.threads[1].pc, begun.is_refused), (0x1008 if is_high else 0x1000, False))
+        for refused in (areas().put(NEWER, batch(IDLE)), areas().flip(SMALL.page_at(0, 1)).put(NEWER, batch(IDLE))):
             if is_high:
-                self.begins_nowhere(areas.disk.bytes)
+                self.begins_nowhere(refused.disk.bytes)
             else:
-                self.begins(areas.disk.bytes, (more, more + 2, more + 3), "OlderDiffers")
+                self.begins(refused.disk.bytes, *older)
 
 
 class Makers(WithKeys):
@@ -299,6 +326,18 @@ class Recovered(WithKeys):
         self.assertEqual(answers[-2], ("no such position\nevent 2, from 0 to 3\n", "OK"))
         stays = outcome_of_model(DebuggedCase(case.contents, [], [(3, 1)])).answers[-2]
         self.assertEqual(stays, ("no such position\nevent 0, from 0 to 3\n", "OK"))
+
+    def test_high_counts(self):
+        """The older area leads elsewhere. Just below it ends the session, and from there on a motion is made from the checkpoint."""
+        for offset, is_high in ((2 ** 61 - 1, False), (2 ** 61, True)):
+            contents = bytes(TwoAreas().flip(SMALL.page_at(0, 1)).header(1, offset=offset).disk.bytes)
+            outcome = outcome_of_model(DebuggedCase(contents, [Look((3, 0), [], [])], makers=[monitor("events")]))
+            self.assertEqual((outcome.status, outcome.fault), (0, "") if is_high else (1, DIFFERS))
+            self.assertEqual(outcome.answers[2:4], [("event 2, from 2 to 3\n", "OK"), ("event 3, from 2 to 3\n", "OK")] if is_high else [])
+            self.assertEqual(kind_of_history(contents), "from the checkpoint" if is_high else "OlderDiffers, the older journal")
+            # With `--at` it begins at the checkpoint for any counts.
+            at = outcome_of_model(DebuggedCase(contents, makers=[monitor("events")], at=2))
+            self.assertEqual((at.fault, at.answers[2]), ("", ("event 2, from 2 to 3\n", "OK")))
 
     def test_none_that_fits(self):
         for areas in (TwoAreas().put(SMALL.area_at(0), [0]), TwoAreas().put(OLDER, batch(PLACE))):
