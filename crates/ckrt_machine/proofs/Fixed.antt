@@ -78,16 +78,16 @@ abbrev fixed : threads.State → Fixed
 fixed s = (s.hart_count, s.keys.is_on)
 
 -- a test chooses between two that have the same
-split : {A N : Type 0} (of : A → N) (n : N) (b : Bool) (x y : A) → of x ≡ n → of y ≡ n → of (cond b x y) ≡ n
+pub split : {A N : Type 0} (of : A → N) (n : N) (b : Bool) (x y : A) → of x ≡ n → of y ≡ n → of (cond b x y) ≡ n
 split of n true x y p q = p
 split of n false x y p q = q
 
 -- two tests, one behind another, and three
-split_2 : {A N : Type 0} (of : A → N) (n : N) (b c : Bool) (x y z : A) → of x ≡ n → of y ≡ n → of z ≡ n → of (cond b x (cond c y z)) ≡ n
+pub split_2 : {A N : Type 0} (of : A → N) (n : N) (b c : Bool) (x y z : A) → of x ≡ n → of y ≡ n → of z ≡ n → of (cond b x (cond c y z)) ≡ n
 split_2 of n true c x y z p q r = p
 split_2 of n false c x y z p q r = split of n c y z q r
 
-split_3 : {A N : Type 0} (of : A → N) (n : N) (b c d : Bool) (w x y z : A) → of w ≡ n → of x ≡ n → of y ≡ n → of z ≡ n → of (cond b w (cond c x (cond d y z))) ≡ n
+pub split_3 : {A N : Type 0} (of : A → N) (n : N) (b c d : Bool) (w x y z : A) → of w ≡ n → of x ≡ n → of y ≡ n → of z ≡ n → of (cond b w (cond c x (cond d y z))) ≡ n
 split_3 of n true c d w x y z p q r t = p
 split_3 of n false c d w x y z p q r t = split_2 of n c d x y z q r t
 

@@ -12,3 +12,7 @@ pub mod StepsOfRuns
 pub mod StepsOfRunsTo
 pub mod Fixed
 pub mod RangeLemmas
+mod StayLists
+mod StayCalls
+pub mod StayEvents
+mod Clock

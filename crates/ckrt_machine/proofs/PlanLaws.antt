@@ -28,7 +28,7 @@ by_first : (b : Bool) (n t u : ℕ) (s : threads.State) → threads.is_ready s t
 by_first true n t u s r e more = (let same : u ≡ t = cc in rw same r)
 by_first false n t u s r e more = more e
 
-ready_found : (n t u : ℕ) (s : threads.State) → ready_from n t s ≡ Some u → threads.is_ready s u ≡ true
+pub ready_found : (n t u : ℕ) (s : threads.State) → ready_from n t s ≡ Some u → threads.is_ready s u ≡ true
 ready_found zero t u s e = absurd (cc)
 ready_found (suc n) t u s e = by_first (threads.is_ready s t) n t u s refl e (ready_found n (t + 1) u s)
 
@@ -36,7 +36,7 @@ either : (o p : Option ℕ) (t : ℕ) (s : threads.State) → (o ≡ Some t → 
 either None p t s f g e = g e
 either (Some u) p t s f g e = f e
 
-next_is_ready : (h t : ℕ) (s : Tables) → next_ready h s ≡ Some t → threads.is_ready s.threads t ≡ true
+pub next_is_ready : (h t : ℕ) (s : Tables) → next_ready h s ≡ Some t → threads.is_ready s.threads t ≡ true
 next_is_ready h t s e = either (least_ready (or_zero (hart_of s h) + 1) s.threads) (least_ready 1 s.threads) t s.threads (ready_found (65 - (or_zero (hart_of s h) + 1)) (or_zero (hart_of s h) + 1) t s.threads) (ready_found (65 - 1) 1 t s.threads) e
 
 -- WHO IS PLANNED is accepted

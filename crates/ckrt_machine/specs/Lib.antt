@@ -6,3 +6,4 @@ pub mod Plans
 pub mod Events
 pub mod Stores
 pub mod RunsTo
+pub mod Stays

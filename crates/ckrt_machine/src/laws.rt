@@ -17,6 +17,7 @@ ghost use Rattle.ckrt_machine.specs.Steps.{State, hart_of};
 ghost use Rattle.ckrt_machine.specs.Runs.{run_on, HasMade};
 ghost use Rattle.ckrt_machine.specs.Plans.{planned};
 ghost use Rattle.ckrt_machine.specs.Refusals.{refusal_of};
+ghost use Rattle.ckrt_machine.specs.Stays.{ClockGoesByTicks, StayOnHart, StayReady};
 ghost use Rattle.ckrt_machine.specs.Events.{AllAccepted, IsAccepted, fold, fresh, output_of, reached, step, with_keys_off};
 
 /// One more event is applied after the others: its effect is that of a step on what they left, its
@@ -36,6 +37,23 @@ pub fn events_keep_harts_and_keys()
         → (fold es s).state.tables.threads.hart_count ≡ s.tables.threads.hart_count }
     ensures keys { (es : List Event) (s : State)
         → (fold es s).state.tables.threads.keys.is_on ≡ s.tables.threads.keys.is_on }
+{}
+
+/// A thread that is ready stays so until an event puts it onto a hart: whatever other threads call, and whatever input or time does, no
+/// event ends it, makes it wait, or gives it a hart in another way. This holds of every state.
+pub fn ready_threads_stay_ready()
+    ensures stay { StayReady }
+{}
+
+/// A thread on a hart stays there, and on no other, until an event of that hart or one that puts this thread onto another: only its
+/// own run ends it or makes it wait, and only a thread that is put there takes it off. This holds of every state.
+pub fn threads_stay_on_their_harts()
+    ensures stay { StayOnHart }
+{}
+
+/// The clock goes on by the ticks of the events, and by nothing else: no run, no call and no input changes it.
+pub fn clock_goes_by_ticks()
+    ensures clock { ClockGoesByTicks }
 {}
 
 /// What well-formed tables imply, in plain words: nobody is left waiting at a free mutex, no read-write lock has a writer
