@@ -1,6 +1,5 @@
 -- The planner's ends mean what they say.
-use Rattle.std.proofs.Common.{◌≡◌, ℕ, zero, suc, ◌+◌, ◌-◌, ◌<◌, ◌≤◌, ◌==◌, ◌&&◌, nat_lt, Bool, true, false, if◌then◌else◌, Option, Some, None, is_some, find, All, List, [], ◌∷◌, refl, sym, ap, subst, arith}
-use Rattle.std.proofs.lemmas.Bool.Decides.{nat_tests}
+use Rattle.std.proofs.Common.{◌≡◌, ℕ, zero, suc, ◌+◌, ◌-◌, ◌<◌, ◌≤◌, ◌==◌, ◌&&◌, Bool, true, false, if◌then◌else◌, Option, Some, None, is_some, find, All, List, [], ◌∷◌, refl, sym, ap, subst, arith}
 use Rattle.std.proofs.lemmas.List.Elements.{All-nil, All-cons}
 use Rattle.ckrt_events.specs.declared.event.Event.{Event}
 use Rattle.ckrt_thread.specs.declared.records.Wait.{Wait}
@@ -8,7 +7,7 @@ use Rattle.ckrt_thread.specs.declared.records.Object.TheVariants.{Input}
 use Rattle.ckrt_thread.specs.State as threads
 use Rattle.ckrt_thread.specs.Waits.{is_for}
 use Rattle.ckrt_state.specs.declared.table.Tables.{Tables}
-use Rattle.ckrt_machine.specs.Plans.{ready_from, least_ready, next_ready, or_else, or_zero, planned}
+use Rattle.ckrt_machine.specs.Plans.{ready_from, least_ready}
 use Rattle.ckrt_machine.specs.Runs.{is_running}
 use Rattle.ckrt_machine.specs.Steps.{hart_of}
 use Rattle.ckrt_schedule.specs.declared.next.ScheduleEnd.{ScheduleEnd}
@@ -20,9 +19,9 @@ use Rattle.ckrt_schedule.specs.declared.schedule.Turn.{Turn}
 use Rattle.ckrt_drive.specs.declared.supply.Supply.{Supply}
 use Rattle.ckrt_drive.specs.Ends.{IsStuck, IsRead, IsUnread, IsEnd}
 use Rattle.ckrt_schedule.specs.declared.schedule.Schedule.{Schedule}
-use Rattle.ckrt_schedule.specs.Schedules.{is_sought, sought_among, next_sought, sooner, earliest_deadline, idle_until, next_by, next_event, or_scheduled, turn_at}
+use Rattle.ckrt_schedule.specs.Schedules.{is_any_ready, is_sought, sought_among, next_sought, sooner, earliest_deadline, idle_until, next_by, next_event, or_scheduled, turn_at}
 use Rattle.ckrt_drive.specs.Plan.{next}
-use Rattle.ckrt_drive.proofs.Choices.{neither, both, both_are, same_number}
+use Rattle.ckrt_drive.proofs.Choices.{neither, both_are, same_number}
 
 -- SEARCHES THAT FIND NOTHING
 
@@ -33,14 +32,6 @@ passed_by false x o e = (refl, e)
 nothing : {X : Type 0} (o : Option X) → is_some o ≡ false → o ≡ None
 nothing None e = refl
 nothing (Some x) e = absurd (cc)
-
-no_other : (o p : Option ℕ) → or_else o p ≡ None → p ≡ None
-no_other None p e = e
-no_other (Some t) p e = absurd (cc)
-
-not_planned : (b : Bool) (o : Option ℕ) → b ≡ true → (if b then o else None) ≡ None → o ≡ None
-not_planned true o is e = e
-not_planned false o is e = absurd (cc)
 
 none_busy : (n h j : ℕ) (s : Tables) → sought_among Busy n h s ≡ None → j < n → is_sought Busy s (h + j) ≡ false
 none_busy zero h j s e l = absurd (omega arith)
@@ -106,17 +97,15 @@ at_next None turn s ending e = (refl, e)
 
 -- STUCK
 
-idle_at : (s : Tables) (h : ℕ) → next_sought Busy 0 s ≡ None → h < s.threads.hart_count → (hart_of s h ≡ None) × (planned h s ≡ None)
+idle_at : (s : Tables) (h : ℕ) → next_sought Busy 0 s ≡ None → h < s.threads.hart_count → (hart_of s h ≡ None) × (least_ready 1 s.threads ≡ None)
 idle_at s h e l =
     let at : 0 + h ≡ h = omega arith in
     let not_busy = subst (λ k. is_sought Busy s k ≡ false) at (none_busy (s.threads.hart_count - 0) 0 h s e (omega (arith, l))) in
-    let parts = neither (is_some (hart_of s h)) (is_some (planned h s)) not_busy in
-    (nothing (hart_of s h) parts.0, nothing (planned h s) parts.1)
+    let parts = neither (is_some (hart_of s h)) (is_any_ready s.threads) not_busy in
+    (nothing (hart_of s h) parts.0, nothing (least_ready 1 s.threads) parts.1)
 
-unready_at : (s : Tables) (t : ℕ) → is_running s.status ≡ true → 0 < s.threads.hart_count → planned 0 s ≡ None → 1 ≤ t → t ≤ 64 → threads.is_ready s.threads t ≡ false
-unready_at s t running some none low high =
-    let may = both (is_running s.status) (nat_lt 0 s.threads.hart_count) running (grind (arith, nat_tests)) in
-    let nobody = no_other (least_ready (or_zero (hart_of s 0) + 1) s.threads) (least_ready 1 s.threads) (not_planned (is_running s.status && nat_lt 0 s.threads.hart_count) (next_ready 0 s) may none) in
+unready_at : (s : Tables) (t : ℕ) → least_ready 1 s.threads ≡ None → 1 ≤ t → t ≤ 64 → threads.is_ready s.threads t ≡ false
+unready_at s t nobody low high =
     let at : 1 + (t - 1) ≡ t = omega arith in
     subst (λ k. threads.is_ready s.threads k ≡ false) at (none_ready (65 - 1) 1 (t - 1) s.threads nobody (omega arith))
 
@@ -124,7 +113,7 @@ stuck : (s : Tables) → is_running s.status ≡ true → next_sought Busy 0 s �
 stuck s running idle none = record {
   running = running;
   idle = λ h l. (idle_at s h idle l).0;
-  unready = λ some t low high. unready_at s t running some (idle_at s 0 idle some).1 low high;
+  unready = λ some t low high. unready_at s t (idle_at s 0 idle some).1 low high;
   endless = endless s.threads.waits none;
 }
 

@@ -1,2 +1,5 @@
 pub mod LotLemmas
 mod SearchLemmas
+pub mod TurnLemmas
+pub mod ClockLemmas
+pub mod RunTurnLemmas

@@ -1,10 +1,11 @@
--- The search for a hart, and that for a deadline.
+-- The search for a hart, that for a deadline, and that for the greatest ready thread.
 use Rattle.std.proofs.Common.{◌≡◌, ℕ, zero, suc, ◌+◌, ◌-◌, ◌<◌, ◌≤◌, Bool, true, false, Option, Some, None, List, [], ◌∷◌, length, drop, get_or, ap, sym, arith, cond, refl}
 use Rattle.std.proofs.lemmas.Bool.Decides.{nat_tests}
 use Rattle.ckrt_thread.specs.declared.records.Wait.{Wait}
+use Rattle.ckrt_thread.specs.State as threads
 use Rattle.ckrt_state.specs.declared.table.Tables.{Tables}
 use Rattle.ckrt_schedule.specs.declared.schedule.Sought.{Sought}
-use Rattle.ckrt_schedule.specs.Schedules.{is_sought, sought_among, next_sought, sooner, earliest_deadline}
+use Rattle.ckrt_schedule.specs.Schedules.{greatest_ready, is_sought, sought_among, next_sought, sooner, earliest_deadline}
 
 -- HARTS
 
@@ -34,3 +35,17 @@ pub sooner_at : (ws : List Wait) (p : ℕ) (d : Wait) (o : Option ℕ) → 0 < p
 sooner_at ws p d o l m e =
     let next : p - 1 + 1 ≡ p = omega arith in
     rw e (sym (ap earliest_deadline (rw next at (drop_at ws (p - 1) d (omega arith)))))
+
+-- THE GREATEST READY THREAD
+
+greatest_of : (n : ℕ) (s : threads.State) (b : Bool) → 0 < n → threads.is_ready s n ≡ b → greatest_ready n s ≡ cond b (Some n) (greatest_ready (n - 1) s)
+greatest_of zero s b l e = absurd (omega arith)
+greatest_of (suc n) s b l e =
+    let below : suc n - 1 ≡ n = omega arith in
+    rw below (ap (λ x. cond x (Some (suc n)) (greatest_ready n s)) e)
+
+pub greatest_found : (n : ℕ) (s : threads.State) → 0 < n → threads.is_ready s n ≡ true → greatest_ready n s ≡ Some n
+greatest_found n s l e = greatest_of n s true l e
+
+pub greatest_passed : (n : ℕ) (s : threads.State) → 0 < n → threads.is_ready s n ≡ false → greatest_ready n s ≡ greatest_ready (n - 1) s
+greatest_passed n s l e = greatest_of n s false l e

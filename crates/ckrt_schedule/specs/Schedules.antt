@@ -3,14 +3,15 @@
 use Rattle.std.specs.Prelude.{ℕ, zero, suc, ◌+◌, ◌-◌, ◌*◌, ◌/◌, ◌%◌, ◌==◌, ◌||◌, nat_le, min, max, Bool, if◌then◌else◌, Option, Some, None, is_some, unwrap_or, List, [], ◌∷◌}
 use Rattle.ckrt_thread.specs.declared.records.Wait.{Wait}
 use Rattle.ckrt_thread.specs.declared.records.Object.TheVariants.{Input}
-use Rattle.ckrt_thread.specs.State.{first_waiter}
+use Rattle.ckrt_thread.specs.State as threads
+use Rattle.ckrt_thread.specs.State.{first_waiter, is_ready}
 use Rattle.ckrt_state.specs.declared.table.Tables.{Tables}
 use Rattle.ckrt_events.specs.Bytes.{IsInRange, RUN_LIMIT}
 use Rattle.ckrt_events.specs.declared.event.Event.{Event}
 use Rattle.ckrt_events.specs.declared.event.Event.TheVariants.{Place, Run, Tick, RunLong}
 use Rattle.ckrt_machine.specs.Steps.{hart_of}
 use Rattle.ckrt_machine.specs.Runs.{is_running}
-use Rattle.ckrt_machine.specs.Plans.{or_else, planned}
+use Rattle.ckrt_machine.specs.Plans.{least_ready, or_else, planned}
 use Rattle.ckrt_schedule.specs.Lots.{lot_of}
 use Rattle.ckrt_schedule.specs.declared.next.Next.{Next}
 use Rattle.ckrt_schedule.specs.declared.next.Next.TheVariants.{Submit, End}
@@ -22,10 +23,14 @@ use Rattle.ckrt_schedule.specs.declared.schedule.Turn.{Turn}
 
 -- THE PROGRAM
 
--- whether a hart is one that is sought: an occupied one has a thread on it; a busy one has, or a thread is ready to go there
+-- some thread is ready
+abbrev pub is_any_ready : threads.State → Bool
+is_any_ready s = is_some (least_ready 1 s)
+
+-- whether a hart is one that is sought: an occupied one has a thread on it; a busy one has, or some thread is ready to go there
 abbrev pub is_sought : Sought → Tables → ℕ → Bool
 is_sought Occupied s h = is_some (hart_of s h)
-is_sought Busy s h = is_some (hart_of s h) || is_some (planned h s)
+is_sought Busy s h = is_some (hart_of s h) || is_any_ready s.threads
 
 -- the first of n harts, h, h + 1, .., that is sought
 abbrev pub sought_among : Sought → (n h : ℕ) → Tables → Option ℕ
@@ -57,11 +62,29 @@ ticks_to deadline clock = max 1 (min (deadline - clock) 4294967295)
 abbrev pub places_of : Tables → ℕ
 places_of s = 2 * s.threads.hart_count + 1
 
--- a turn at the place after n events: the hart that is looked at first, and how many steps a run has
+-- Each round belongs to one of the 64 threads, by their ids in turn: whose it is after n events
+abbrev pub owner_of : (n harts : ℕ) → ℕ
+owner_of n harts = n / (2 * harts + 1) % 64 + 1
+
+-- a turn at the place after n events: whose round it is, the hart that is looked at first, the thread at which an empty hart begins to
+-- look, and how many steps a run has
 abbrev pub turn_by : (seed : Option ℕ) → (most place n harts : ℕ) → Turn
-turn_by None most place n harts = record { place = place; first = place / 2; steps = most }
+turn_by None most place n harts =
+    record {
+      place = place;
+      owner = owner_of n harts;
+      first = place / 2;
+      start = owner_of n harts;
+      steps = most;
+    }
 turn_by (Some seed) most place n harts =
-    record { place = place; first = lot_of seed n % harts; steps = lot_of seed n / 8 % most + 1 }
+    record {
+      place = place;
+      owner = owner_of n harts;
+      first = lot_of seed n % harts;
+      start = lot_of seed n / 8 % 64 + 1;
+      steps = lot_of seed n / 8 % most + 1;
+    }
 
 -- the turn after n events
 abbrev pub turn_at : Schedule → (n : ℕ) → Tables → Turn
@@ -77,19 +100,43 @@ run_by h n = if nat_le n RUN_LIMIT then Run h n else RunLong h n
 abbrev pub runner_at : Turn → Tables → Option ℕ
 runner_at turn s = if turn.place % 2 == 1 then or_else (next_sought Occupied turn.first s) (next_sought Occupied 0 s) else None
 
--- the thread that is planned for a hart goes onto it, and where nobody is, its thread runs
+-- WHO GOES ONTO A HART
+
+-- the greatest ready thread of 1 to n
+abbrev pub greatest_ready : (n : ℕ) → threads.State → Option ℕ
+greatest_ready zero s = None
+greatest_ready (suc n) s = if is_ready s (suc n) then Some (suc n) else greatest_ready n s
+
+-- The least ready thread from a start on, which is folded into the ids up to the greatest ready one. So there is one from there on.
+abbrev pub ready_from_folded : (greatest : Option ℕ) → (start : ℕ) → threads.State → Option ℕ
+ready_from_folded None start s = None
+ready_from_folded (Some g) start s = least_ready ((start - 1) % g + 1) s
+
+-- the thread that an empty hart gets
+abbrev pub first_ready : (start : ℕ) → threads.State → Option ℕ
+first_ready start s = ready_from_folded (greatest_ready 64 s) start s
+
+-- Who goes onto a hart at a turn: the thread whose round it is, where it is ready. Else onto an occupied hart the one that is planned, and
+-- onto an empty one the first ready thread from the turn's start on.
+abbrev pub chosen : Turn → (h : ℕ) → Tables → Option ℕ
+chosen turn h s =
+    if is_ready s.threads turn.owner then Some turn.owner
+    else if is_some (hart_of s h) then planned h s
+    else first_ready turn.start s.threads
+
+-- the thread that is chosen for a hart goes onto it, and where nobody is, its thread runs
 abbrev pub on_hart : (who : Option ℕ) → (h n : ℕ) → Event
 on_hart (Some t) h n = Place h t
 on_hart None h n = run_by h n
 
 -- the event of a busy hart
-abbrev pub of_busy : (h n : ℕ) → Tables → Event
-of_busy h n s = on_hart (planned h s) h n
+abbrev pub of_busy : Turn → (h : ℕ) → Tables → Event
+of_busy turn h s = on_hart (chosen turn h s) h turn.steps
 
 -- the thread of the hart that runs does so; where none does, it is for the first busy hart, from the turn's on and around
 abbrev pub of_runner : (runner : Option ℕ) → Turn → (least : ℕ) → Tables → Event
 of_runner (Some h) turn least s = run_by h turn.steps
-of_runner None turn least s = of_busy (unwrap_or (next_sought Busy turn.first s) least) turn.steps s
+of_runner None turn least s = of_busy turn (unwrap_or (next_sought Busy turn.first s) least) s
 
 -- the event of a turn, where `least` is the least busy hart
 abbrev pub event_at : Turn → (least : ℕ) → Tables → Event

@@ -3,17 +3,17 @@ ghost use Rattle.std.specs.Prelude.{◌≡◌, ◌≤◌, ◌<◌, ℕ, IfSome, 
 ghost use Rattle.ckrt_events.specs.Bytes.{IsInRange};
 ghost use Rattle.ckrt_events.specs.declared.event.TheConstants.{LONG_RUN_LIMIT};
 ghost use Rattle.ckrt_thread.specs.declared.records.Object.TheVariants.{Input};
-ghost use Rattle.ckrt_machine.specs.Plans.{planned};
+ghost use Rattle.ckrt_machine.specs.Plans.{least_ready, planned};
 ghost use Rattle.ckrt_machine.specs.Runs.{is_running};
 ghost use Rattle.ckrt_schedule.specs.declared.schedule.Sought.TheVariants.{Busy};
-ghost use Rattle.ckrt_schedule.specs.Schedules.{IsInRangeNext, earliest_deadline, event_at, idle_until, is_sought, next_by, next_event, next_sought, of_busy, run_by, runner_at, sooner, ticks_to, turn_at, turn_by};
+ghost use Rattle.ckrt_schedule.specs.Schedules.{IsInRangeNext, chosen, earliest_deadline, event_at, first_ready, greatest_ready, idle_until, is_any_ready, is_sought, next_by, next_event, next_sought, of_busy, run_by, runner_at, sooner, ticks_to, turn_at, turn_by};
 
 use crate::lot::lot_of;
 use crate::next::{Next, ScheduleEnd};
 use ckrt_events::{Event, LONG_RUN_LIMIT, RUN_LIMIT};
 use ckrt_machine::Machine;
 use ckrt_state::{Status, Tables};
-use ckrt_thread::{Hart, Object, Wait};
+use ckrt_thread::{Hart, MAX_THREADS, Object, ThreadId, Threads, Wait};
 
 /// By what events are chosen.
 #[derive(Clone, Copy, Debug, PartialEq, Eq)]
@@ -38,10 +38,21 @@ pub enum Sought {
 pub struct Turn {
     /// Its place in the round.
     pub place: u8,
+    /// The thread whose round it is.
+    pub owner: ThreadId,
     /// The hart that is looked at first.
     pub first: u8,
+    /// The thread at which an empty hart begins to look for one that is ready.
+    pub start: ThreadId,
     /// How many steps a run has.
     pub steps: u32,
+}
+
+/// Whether some thread is ready.
+fn is_any_ready(threads: &Threads) -> bool
+    ensures { result ≡ is_any_ready threads.now }
+{
+    ready_from(threads, 1).is_some()
 }
 
 /// Whether the hart is one that is sought.
@@ -55,7 +66,7 @@ fn is_sought(machine: &Machine, sought: Sought, hart: Hart) -> bool
         .is_some();
     match sought {
         Sought::Occupied => is_occupied,
-        Sought::Busy => is_occupied || machine.planned(hart).is_some(),
+        Sought::Busy => is_occupied || is_any_ready(&machine.tables().threads),
     }
 }
 
@@ -128,20 +139,27 @@ fn turn_by(seed: Option<u64>, most: u32, place: u8, behind: u64, harts: u32) -> 
     requires place { place ≤ 16 }
     requires harts { (1 ≤ harts) × (harts ≤ 8) }
     ensures turn { result ≡ turn_by seed most place behind harts }
+    ensures owner { (1 ≤ result.owner) × (result.owner ≤ 64) }
     ensures first { result.first ≤ 8 }
+    ensures start { (1 ≤ result.start) × (result.start ≤ 64) }
     ensures steps { (1 ≤ result.steps) × (result.steps ≤ most) }
 {
+    let owner = (behind / u64::from(2 * harts + 1) % 64 + 1) as ThreadId;
     match seed {
         None => Turn {
             place,
+            owner,
             first: place / 2,
+            start: owner,
             steps: most,
         },
         Some(seed) => {
             let lot = lot_of(seed, behind);
             Turn {
                 place,
+                owner,
                 first: (lot % harts) as u8,
+                start: (lot / 8 % 64 + 1) as ThreadId,
                 steps: lot / 8 % most + 1,
             }
         }
@@ -154,7 +172,9 @@ fn turn_at(machine: &Machine, schedule: Schedule, behind: u64) -> Turn
     requires few { schedule.turn ≤ LONG_RUN_LIMIT }
     requires harts { 1 ≤ machine.now.state.tables.threads.hart_count }
     ensures turn { result ≡ turn_at schedule behind machine.now.state.tables }
+    ensures owner { (1 ≤ result.owner) × (result.owner ≤ 64) }
     ensures first { result.first ≤ 8 }
+    ensures start { (1 ≤ result.start) × (result.start ≤ 64) }
     ensures steps { (1 ≤ result.steps) × (result.steps ≤ LONG_RUN_LIMIT) }
 {
     let harts = machine.tables().threads.hart_count() as u32;
@@ -192,23 +212,91 @@ fn runner_at(machine: &Machine, turn: Turn) -> Option<Hart>
     }
 }
 
-/// The event of a busy hart: the thread that is planned for it goes onto it, and where nobody is, its thread runs.
-fn of_busy(machine: &Machine, hart: Hart, steps: u32) -> Event
+/// The least ready thread from this id on.
+fn ready_from(threads: &Threads, from: ThreadId) -> Option<ThreadId>
+    requires { (1 ≤ from) × (from ≤ 64) }
+    ensures ready { result ≡ least_ready from threads.now }
+    ensures numbered { IfSome result (λ t. (1 ≤ t) × (t ≤ 64)) }
+{
+    for thread in from..MAX_THREADS as ThreadId + 1 {
+        if threads.is_ready(thread) {
+            return Some(thread);
+        }
+    }
+    None
+}
+
+/// The thread that is planned for a hart.
+fn planned_for(machine: &Machine, hart: Hart) -> Option<ThreadId>
+    ensures who { result ≡ planned hart machine.now.state.tables }
+    ensures numbered { IfSome result (λ t. (1 ≤ t) × (t ≤ 64)) }
+{
+    machine.planned(hart)
+}
+
+/// The greatest ready thread.
+fn greatest_ready(threads: &Threads) -> Option<ThreadId>
+    ensures greatest { result ≡ greatest_ready 64 threads.now }
+    ensures numbered { IfSome result (λ t. (1 ≤ t) × (t ≤ 64)) }
+{
+    for thread in (1..MAX_THREADS as ThreadId + 1).rev() {
+        if threads.is_ready(thread) {
+            return Some(thread);
+        }
+    }
+    None
+}
+
+/// The thread that an empty hart gets: the least ready one from a start on, which is folded into the ids up to the greatest ready one.
+fn first_ready(threads: &Threads, start: ThreadId) -> Option<ThreadId>
+    requires { (1 ≤ start) × (start ≤ 64) }
+    ensures first { result ≡ first_ready start threads.now }
+    ensures numbered { IfSome result (λ t. (1 ≤ t) × (t ≤ 64)) }
+{
+    match greatest_ready(threads) {
+        Some(greatest) => ready_from(threads, (start - 1) % greatest + 1),
+        None => None,
+    }
+}
+
+/// Who goes onto a hart at a turn: the thread whose round it is, where it is ready. Else onto an occupied hart the one that is planned,
+/// and onto an empty one the first ready thread from the turn's start on.
+fn chosen(machine: &Machine, turn: Turn, hart: Hart) -> Option<ThreadId>
+    requires owner { (1 ≤ turn.owner) × (turn.owner ≤ 64) }
+    requires start { (1 ≤ turn.start) × (turn.start ≤ 64) }
+    ensures who { result ≡ chosen turn hart machine.now.state.tables }
+    ensures numbered { IfSome result (λ t. (1 ≤ t) × (t ≤ 64)) }
+{
+    if machine.tables().threads.is_ready(turn.owner) {
+        return Some(turn.owner);
+    }
+    if is_sought(machine, Sought::Occupied, hart) {
+        return planned_for(machine, hart);
+    }
+    first_ready(&machine.tables().threads, turn.start)
+}
+
+/// The event of a busy hart: the thread that is chosen for it goes onto it, and where nobody is, its thread runs.
+fn of_busy(machine: &Machine, turn: Turn, hart: Hart) -> Event
+    requires owner { (1 ≤ turn.owner) × (turn.owner ≤ 64) }
+    requires start { (1 ≤ turn.start) × (turn.start ≤ 64) }
     requires hart { hart ≤ 7 }
-    requires some { 1 ≤ steps }
-    requires few { steps ≤ LONG_RUN_LIMIT }
-    ensures event { result ≡ of_busy hart steps machine.now.state.tables }
+    requires some { 1 ≤ turn.steps }
+    requires few { turn.steps ≤ LONG_RUN_LIMIT }
+    ensures event { result ≡ of_busy turn hart machine.now.state.tables }
     ensures in_range { IsInRange result }
 {
-    match machine.planned(hart) {
+    match chosen(machine, turn, hart) {
         Some(thread) => Event::Place(hart, thread),
-        None => run_by(hart, steps),
+        None => run_by(hart, turn.steps),
     }
 }
 
 /// The event of a turn, where `least` is the least busy hart.
 fn event_at(machine: &Machine, turn: Turn, least: u8) -> Event
+    requires owner { (1 ≤ turn.owner) × (turn.owner ≤ 64) }
     requires first { turn.first ≤ 8 }
+    requires start { (1 ≤ turn.start) × (turn.start ≤ 64) }
     requires some { 1 ≤ turn.steps }
     requires few { turn.steps ≤ LONG_RUN_LIMIT }
     requires least { least ≤ 7 }
@@ -222,8 +310,8 @@ fn event_at(machine: &Machine, turn: Turn, least: u8) -> Event
         return run_by(runner, turn.steps);
     }
     match next_sought(machine, Sought::Busy, turn.first) {
-        Some(hart) => of_busy(machine, hart, turn.steps),
-        None => of_busy(machine, least, turn.steps),
+        Some(hart) => of_busy(machine, turn, hart),
+        None => of_busy(machine, turn, least),
     }
 }
 
