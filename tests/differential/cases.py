@@ -25,6 +25,7 @@ from mixed_cases import mixed_case
 from moved import moved_case
 from profiled import profiles_case
 from raced import raced_case
+from rounds import rounds_case
 from saved_disks import ChangedArea, asks, serve_and_save, stopped_disk, with_checkpoints
 from sharers import Sharer
 from stepped import stepped_case
@@ -247,7 +248,7 @@ KINDS = {
     "profiles": profiled_case, "dense": of_guests(Weaver, dense_case, 1),
     "lived": of_guests(Living, lived_case, 1), "timed": timed_case, "raced": raced_case,
     "words": words_case, "drives": of_guest(drives_case), "halts": of_guest(halts_case),
-    "inputs": of_guest(inputs_case), "mixed": of_guest(mixed_case),
+    "inputs": of_guest(inputs_case), "mixed": of_guest(mixed_case), "rounds": rounds_case,
 }
 
 

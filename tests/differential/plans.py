@@ -5,12 +5,13 @@ from events import LONG_RUN, Place, Run, RunLong, Tick, VERSION_OF_LONG_RUNS
 from feeding import Supply, Undriven
 from layout import BATCH_LIMIT
 from session import Session
-from threads import Status
+from threads import THREAD_IDS, Status
 
 LONGEST_BATCH = BATCH_LIMIT + 3
 SHORTAGES = ("OutputFull", "BatchFull", "JournalFull")
 LONGEST_SHORT_RUN = 65_535
 LONGEST_TICK = 2 ** 32 - 1
+OWNERS = len(THREAD_IDS)
 WORD = 2 ** 64
 MULTIPLIER, INCREMENT = 6364136223846793005, 2 * 54 + 1  # of PCG32, and of its stream 54
 ENDS = {"enough": 5, "deadlock": 4, "waits for input": 3}
@@ -68,24 +69,46 @@ def tick_to_deadline(machine):
     return "waits for input" if machine.waits_for_input() else "deadlock"
 
 
+def owner_of(count, machine):
+    """The thread to which the round behind so many events belongs, whether there is one or not."""
+    return count // round_length(machine) % OWNERS + 1
+
+
+def bounds_of(options, count, machine):
+    """With which hart and which thread a search begins, and the most steps of a run."""
+    if options.seed is None:
+        return count % round_length(machine) // 2, owner_of(count, machine), options.turn
+    lot = draw(options.seed, count)
+    return lot % machine.hart_count, lot // 8 % OWNERS + 1, lot // 8 % options.turn + 1
+
+
+def thread_for(machine, hart, owner, start):
+    """Whom a busy hart gets: the owner of the round, where it is ready. Else an occupied hart gets the planned thread, or none where nobody
+    is ready, and an empty one the first that is ready, from a start on, which is folded into the numbers up to the greatest of these."""
+    ready = [number for number in machine.threads if machine.is_ready(number) and number not in machine.harts]
+    if owner in ready:
+        return owner
+    if machine.harts[hart] != 0:
+        return machine.planned(hart)
+    begin = (start - 1) % max(ready) + 1
+    return min(number for number in ready if number >= begin)
+
+
 def next_event(options, count, machine):
     """The event behind so many, or a word for why there is none."""
     place = count % round_length(machine)
     running = [machine.harts[hart] != 0 for hart in range(machine.hart_count)]
-    planned = [machine.planned(hart) for hart in range(machine.hart_count)]
-    busy = [is_running or thread is not None for is_running, thread in zip(running, planned)]
+    busy = [is_running or machine.planned(hart) is not None for hart, is_running in enumerate(running)]
     if not any(busy):
         return tick_to_deadline(machine)
     if place == 2 * machine.hart_count:
         return Tick(1)
-    begin, steps = place // 2, options.turn
-    if options.seed is not None:
-        number = draw(options.seed, count)
-        begin, steps = number % machine.hart_count, number // 8 % options.turn + 1
+    begin, start, steps = bounds_of(options, count, machine)
     if place % 2 == 1 and any(running):
         return run_of(first_of(running, begin), steps)
     hart = first_of(busy, begin)
-    return run_of(hart, steps) if planned[hart] is None else Place(hart, planned[hart])
+    thread = thread_for(machine, hart, owner_of(count, machine), start)
+    return run_of(hart, steps) if thread is None else Place(hart, thread)
 
 
 def require_fit(session, length):

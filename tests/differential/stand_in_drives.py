@@ -9,7 +9,7 @@ import plans
 from devices import MemoryDisk
 from feeding import COUNTERS, RECORD_LENGTH, Slot, Supply, Undriven
 from layout import Geometry, format_disk
-from plans import Drive, Options
+from plans import OWNERS, Drive, Options, bounds_of, draw, owner_of, round_length, thread_for
 
 OPTIONS = ("--turn", "--rounds-per-commit", "--seed", "--events")
 SIZES = ("--pages", "--harts", "--journal")
@@ -34,6 +34,8 @@ def drive(path, *options, **wrong):
     data = wrong.get("reads", bytes_of_plain_file)(words["--input"]) if "--input" in words else None
     contents, held = bytearray(disk.read_bytes()), bytearray(output.read_bytes() if output.exists() else b"")
     plans.Supply, plans.require_fit = wrong.get("supply", Supply), wrong.get("fit", plans.require_fit)
+    plans.owner_of, plans.thread_for = wrong.get("owner", owner_of), wrong.get("thread", thread_for)
+    plans.bounds_of = wrong.get("bounds", bounds_of)
     try:
         return Drive(MemoryDisk(contents), held, Options(*map(numbers.get, OPTIONS)), None, data, said).run()
     except Undriven as fault:
@@ -99,6 +101,56 @@ def fits_always(session, length):
     """Whatever length an output has."""
 
 
+def owner_of_event(count, machine):
+    """The owner changes with each event."""
+    return count % OWNERS + 1
+
+
+def owner_without_tick(count, machine):
+    """A round has no tick."""
+    return count // (round_length(machine) - 1) % OWNERS + 1
+
+
+def one_of_63(count, machine):
+    """Thread 64 has no round."""
+    return count // round_length(machine) % (OWNERS - 1) + 1
+
+
+def onto_empty(machine, hart, owner, start):
+    """The owner goes onto empty harts alone."""
+    return machine.planned(hart) if machine.harts[hart] else thread_for(machine, hart, owner, start)
+
+
+def even_if_it_waits(machine, hart, owner, start):
+    """The owner, wherever there is one."""
+    return owner if owner in machine.threads else thread_for(machine, hart, owner, start)
+
+
+def without_owners(machine, hart, owner, start):
+    return machine.planned(hart)
+
+
+def unfolded(machine, hart, owner, start):
+    """A start above all that are ready is that of thread 1."""
+    greatest = max((number for number in machine.threads if machine.is_ready(number) and number not in machine.harts), default=0)
+    return thread_for(machine, hart, owner, start if start <= greatest else 1)
+
+
+def undrawn(options, count, machine):
+    """A seed draws no start."""
+    begin, _, steps = bounds_of(options, count, machine)
+    return begin, owner_of(count, machine), steps
+
+
+def drawn_of_63(options, count, machine):
+    """No start is that of thread 64."""
+    begin, start, steps = bounds_of(options, count, machine)
+    return begin, start if options.seed is None else draw(options.seed, count) // 8 % (OWNERS - 1) + 1, steps
+
+
 WRONG_DRIVES = {"reads anything": {"reads": bytes_of_any}, "early": {"supply": Early}, "padding": {"supply": Padding},
                 "forgetful": {"supply": Forgetful}, "obedient": {"supply": Obedient}, "trusting": {"supply": Trusting},
-                "any output": {"fit": fits_always}, "silent": {"tells": False}}
+                "any output": {"fit": fits_always}, "silent": {"tells": False}, "owner of an event": {"owner": owner_of_event},
+                "without the tick": {"owner": owner_without_tick}, "63 owners": {"owner": one_of_63}, "empty harts alone": {"thread": onto_empty},
+                "even if it waits": {"thread": even_if_it_waits}, "without owners": {"thread": without_owners}, "unfolded": {"thread": unfolded},
+                "undrawn": {"bounds": undrawn}, "drawn of 63": {"bounds": drawn_of_63}}

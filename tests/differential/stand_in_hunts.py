@@ -1,12 +1,12 @@
 """A `ckrt hunt --races` made of the model, to try the comparison with; and wrong ones, which it has to find.
 
-What schedule a seed draws isn't compared, so here it is that of a drive by lots. The races of runs are told by a tally that takes one run
-after the other.
+What schedule a seed draws isn't compared, so here it is that of a drive by lots, but for whom a hart gets: the planned thread, since a hunt's
+turns have no owners. The races of runs are told by a tally that takes one run after the other.
 """
 from functools import lru_cache
 
 from devices import MemoryDisk
-from events import Run
+from events import Place, Run
 from feeding import next_input, taken_by
 from glances import Glance
 from hunts import command_of, fold, line_of_kept, lines_of_table, text_of_outcome
@@ -22,7 +22,8 @@ JOURNAL, LONGEST_TURN, EVENTS_OF_A_COMMIT = 1 << 16, 60, 50
 def next_of(seed, events, machine, data, taken):
     """The event that is due, or a word for why there is none."""
     given = None if data is None else next_input(data, taken, machine)
-    return given or next_event(Plan(turn=LONGEST_TURN, seed=seed), events, machine)
+    event = given or next_event(Plan(turn=LONGEST_TURN, seed=seed), events, machine)
+    return Place(event.hart, machine.planned(event.hart)) if isinstance(event, Place) else event
 
 
 @lru_cache(maxsize=None)

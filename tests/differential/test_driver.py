@@ -13,7 +13,7 @@ from switches import SWITCHES, switched
 
 HERE = Path(__file__).parent
 KINDS_WITH_KEYS = {"lists": 2, "fates": 2, "listings": 3, "lives": 2, "cuts": 2}
-KINDS_OF_DRIVES = {"drives": 2, "inputs": 2, "mixed": 3}
+KINDS_OF_DRIVES = {"drives": 2, "inputs": 2, "mixed": 3, "rounds": 2}
 KINDS = {"lists": 4, "fates": 4, "parts": 3, "listings": 3, "lives": 2, "cuts": 8}
 SHORT_HISTORIES = [2, 4, 7, 22, 23]
 CALLS_FOUND_BY = [("without ends", 2), ("backward", 2), ("short-sighted", 13)]
@@ -23,7 +23,9 @@ FOUND_BY = [("without a sync", "lists"), ("split", "lists"), ("late", "lists"), 
             ("hopeful", "fates"), ("without a sync", "cuts")]
 # With a seed that finds it, which is tried first.
 DRIVES_FOUND_BY = [("reads anything", "inputs", 2), ("padding", "inputs", 2), ("silent", "inputs", 2), ("silent", "mixed", 2), ("early", "mixed", 2),
-                   ("forgetful", "mixed", 1), ("obedient", "mixed", 14), ("trusting", "mixed", 3), ("any output", "mixed", 5)]
+                   ("forgetful", "mixed", 1), ("obedient", "mixed", 14), ("trusting", "mixed", 3), ("any output", "mixed", 5),
+                   *[(which, "rounds", 14) for which in ("owner of an event", "without the tick", "63 owners", "empty harts alone", "even if it waits",
+                                                         "without owners", "unfolded", "undrawn", "drawn of 63")]]
 
 
 def program(folder, which, **switches):

@@ -174,6 +174,13 @@ class Turns(WithKeys):
         self.assertEqual(story.events, [Tick(1), Place(0, 1), Tick(1), RunLong(0, 1_000_000), RunLong(0, 1_000_000), Tick(1)])
         self.assertEqual(story.position, (6, 0))
 
+    def test_numbered_as_on_the_disk(self):
+        """Behind a checkpoint with events that no journal has the history begins at event 2. Event 3 begins round 1, which is thread 2's."""
+        words = [*call(Call.CREATE, 0x1100, 0, 0, 0), STOP]
+        story = self.at_end(words, "place 0 1", f"run 0 {len(words) - 1}", "checkpoint", "tick 1")
+        story.live(1)
+        self.assertEqual((story.first, story.events), (2, [Tick(1), Place(0, 2)]))
+
     def test_last_moment(self):
         words = [*call_words(Call.SLEEP_UNTIL, 0xFFFFFFFF, 0x7FFFFFFF), STOP]
         story = story_of(words)
