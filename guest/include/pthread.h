@@ -208,8 +208,8 @@ int pthread_condattr_getpshared(const pthread_condattr_t *__restrict attributes,
 int pthread_cond_init(pthread_cond_t *__restrict condition, const pthread_condattr_t *__restrict attributes); /* EBUSY */
 int pthread_cond_destroy(pthread_cond_t *condition);         /* EBUSY: waited for */
 
-/* Cancellation points. There are no spurious wake-ups: only a signal, a broadcast or the deadline ends a wait. EPERM:
-   the mutex isn't the caller's. EINVAL: others wait with another mutex; no such deadline. ETIMEDOUT. */
+/* Cancellation points. Only a signal, a broadcast or the deadline ends a wait; by the option -spurious some end without.
+   EPERM: the mutex isn't the caller's. EINVAL: others wait with another mutex; no such deadline. ETIMEDOUT. */
 int pthread_cond_wait(pthread_cond_t *__restrict condition, pthread_mutex_t *__restrict mutex);
 int pthread_cond_timedwait(pthread_cond_t *__restrict condition, pthread_mutex_t *__restrict mutex,
                            const struct timespec *__restrict deadline);

@@ -1,5 +1,5 @@
 # The first instruction of a guest, at 0x1000: x2 is the end of memory, the other registers are 0.
-    .section .text.start, "ax", @progbits
+    .section .first, "ax", @progbits
     .globl  __guest_start
     .type   __guest_start, @function
 __guest_start:
