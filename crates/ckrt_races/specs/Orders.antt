@@ -73,9 +73,10 @@ taken_to_write p t a after =
     if is_writer t (lock_at a after.rwlocks) then acquired t (lock.Writers a) p ∷ acquired t (lock.Readers a) p ∷ []
     else []
 
--- a thread unwinds as a cancelled one, and acted on each request; or it has ended as such
+-- a thread that waited unwinds as a cancelled one, and acted on each request; or it has ended as such, or is gone: somebody joined it, or it was
+-- detached, and whoever waits ends by a request alone
 abbrev pub is_cancelled : Option Thread → Bool
-is_cancelled None = false
+is_cancelled None = true
 is_cancelled (Some (thread.Live l)) =
     not l.cancellation.is_requested && unwrap_or l.cancellation.unwinding 0 == CANCELED
 is_cancelled (Some (thread.Ended v)) = v == CANCELED

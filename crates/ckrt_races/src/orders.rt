@@ -67,7 +67,8 @@ pub(crate) fn take_to_write(
     }
 }
 
-/// Whether a thread unwinds as a cancelled one, and acted on each request; or it has ended as such.
+/// Whether a thread that waited unwinds as a cancelled one, and acted on each request; or it has ended as such, or is gone: somebody
+/// joined it, or it was detached, and whoever waits ends by a request alone.
 fn is_cancelled(threads: &Threads, thread: ThreadId) -> bool
     ensures { result ≡ is_cancelled (thread_of threads.now thread) }
 {
@@ -77,7 +78,7 @@ fn is_cancelled(threads: &Threads, thread: ThreadId) -> bool
             !cancellation.is_requested && cancellation.unwinding.unwrap_or(0) == CANCELED
         }
         Some(Thread::Ended(value)) => *value == CANCELED,
-        None => false,
+        None => true,
     }
 }
 
