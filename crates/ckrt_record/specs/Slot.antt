@@ -37,7 +37,8 @@ slot_in block =
     then Some (record { generation = number_at 8 16 block; count = number_at 8 24 block; taken = number_at 8 32 block })
     else None
 
--- Where the slot of an area lies after the bytes of the format: each has half of 4,096 bytes, so that no sector has bytes of both.
+-- Where the slot of an area lies after the bytes of the format: each has half of 4,096 bytes, so that no sector of up to 2,048 bytes has bytes
+-- of both.
 abbrev pub slot_offset : (area : ℕ) → ℕ
 slot_offset area = 2048 * area
 
