@@ -1,5 +1,6 @@
 -- How a filling goes on from part to part, and what a stop leaves of it.
-use Rattle.std.proofs.Common.{◌≡◌, ◌⊎◌, inl, inr, ℕ, zero, suc, min, ◌+◌, ◌-◌, ◌≤◌, ◌<◌, Bool, true, false, List, length, get_or, take, replicate, nat_eq, refl, sym, ◌∙◌, ap, subst, arith}
+use Rattle.std.specs.Prelude.{OnOk}
+use Rattle.std.proofs.Common.{◌≡◌, ◌⊎◌, inl, inr, ℕ, zero, suc, min, ◌+◌, ◌-◌, ◌≤◌, ◌<◌, Bool, true, false, List, [], ◌∷◌, ◌++◌, length, get_or, take, drop, replicate, nat_eq, Result, Ok, Err, is_err, refl, sym, ◌∙◌, ap, subst, arith}
 use Rattle.std.proofs.lemmas.Bool.{cases_lt}
 use Rattle.std.proofs.lemmas.Bool.Decides.{nat_tests}
 use Rattle.std.proofs.lemmas.List.{get_or_past}
@@ -10,7 +11,7 @@ use Rattle.ckrt_disk.proofs.FrameLemmas.{byte_left, failed_within, wider, writes
 use Rattle.ckrt_disk.proofs.Images.{get_part, written_there}
 use Rattle.ckrt_disk.proofs.Moments.{goes_on, weaker}
 use Rattle.ckrt_checkpoint.specs.Layout.{is_open}
-use Rattle.ckrt_filling.specs.Filling.{IsBegun, block}
+use Rattle.ckrt_filling.specs.Filling.{IsBegun, block, filled_byte, making_front}
 
 pub zeros_front : (count n k : ℕ) → get_or {A = ℕ} (take count (replicate n 0)) k 0 ≡ 0
 zeros_front zero n k = refl
@@ -18,26 +19,62 @@ zeros_front (suc count) zero k = refl
 zeros_front (suc count) (suc n) zero = refl
 zeros_front (suc count) (suc n) (suc k) = zeros_front count n k
 
-pub front_length : (count n : ℕ) → count ≤ n → length {A = ℕ} (take count (replicate n 0)) ≡ count
-front_length zero n le = refl
-front_length (suc count) zero le = absurd (omega arith)
-front_length (suc count) (suc n) le = ap (λ k. suc k) (front_length count n (omega arith))
+pub zeros_behind : (count n k : ℕ) → get_or {A = ℕ} (drop count (replicate n 0)) k 0 ≡ 0
+zeros_behind zero zero k = refl
+zeros_behind zero (suc n) zero = refl
+zeros_behind zero (suc n) (suc k) = zeros_behind zero n k
+zeros_behind (suc count) zero k = refl
+zeros_behind (suc count) (suc n) k = zeros_behind count n k
+
+-- zeros after some bytes are what any byte after the end of these reads as
+pub front_and_zeros : (front zeros : List ℕ) → ((k : ℕ) → get_or zeros k 0 ≡ 0) → (k : ℕ) → get_or (front ++ zeros) k 0 ≡ get_or front k 0
+front_and_zeros [] zeros are k = are k
+front_and_zeros (x ∷ xs) zeros are zero = refl
+front_and_zeros (x ∷ xs) zeros are (suc k) = front_and_zeros xs zeros are k
+
+pub front_length : (count : ℕ) (bytes : List ℕ) → count ≤ length bytes → length (take count bytes) ≡ count
+front_length zero bytes le = refl
+front_length (suc count) [] le = absurd (omega arith)
+front_length (suc count) (x ∷ xs) le = ap (λ k. suc k) (front_length count xs (omega arith))
+
+pub front_byte : (count : ℕ) (bytes : List ℕ) (k : ℕ) → k < count → get_or (take count bytes) k 0 ≡ get_or bytes k 0
+front_byte zero bytes k lt = absurd (omega arith)
+front_byte (suc count) [] k lt = refl
+front_byte (suc count) (x ∷ xs) zero lt = refl
+front_byte (suc count) (x ∷ xs) (suc k) lt = front_byte count xs k (omega arith)
 
 -- what was written reads so
-pub written_zeros : (old : List ℕ) (at count : ℕ) (bytes new : List ℕ) → IsOverwritten old at bytes new → length bytes ≡ count → at + count ≤ length old → length new ≡ length old → ((k : ℕ) → get_or bytes k 0 ≡ 0) → (i : ℕ) → IsWithin at count i → get_or new i 0 ≡ 0
-written_zeros old at count bytes new is long room size zeros i within =
+pub written_bytes : (f : ℕ → ℕ) (old : List ℕ) (at count : ℕ) (bytes new : List ℕ) → IsOverwritten old at bytes new → length bytes ≡ count → at + count ≤ length old → length new ≡ length old
+    → ((k : ℕ) → k < count → get_or bytes k 0 ≡ f (at + k)) → (i : ℕ) → IsWithin at count i → get_or new i 0 ≡ f i
+written_bytes f old at count bytes new is long room size are i within =
     let k = i - at in
     let there : at + k ≡ i = omega (arith, within.0) in
-    let below : k < length bytes = omega (arith, within.0, within.1, long) in
+    let fits : k < count = omega (arith, within.0, within.1) in
+    let below : k < length bytes = omega (arith, fits, long) in
     let inside : at + k < length new = omega (arith, below, long, room, size) in
-    ap (λ n. get_or new n 0) (sym there) ∙ sym (get_part (length bytes) at new k 0 below inside) ∙ ap (λ (l : List ℕ). get_or l k 0) (written_there old at bytes new is (omega (arith, long, room))) ∙ zeros k
+    ap (λ n. get_or new n 0) (sym there) ∙ sym (get_part (length bytes) at new k 0 below inside) ∙ ap (λ (l : List ℕ). get_or l k 0) (written_there old at bytes new is (omega (arith, long, room))) ∙ are k fits ∙ ap f there
+
+pub written_zeros : (old : List ℕ) (at count : ℕ) (bytes new : List ℕ) → IsOverwritten old at bytes new → length bytes ≡ count → at + count ≤ length old → length new ≡ length old → ((k : ℕ) → get_or bytes k 0 ≡ 0) → (i : ℕ) → IsWithin at count i → get_or new i 0 ≡ 0
+written_zeros old at count bytes new is long room size zeros = written_bytes (λ i. 0) old at count bytes new is long room size (λ k lt. zeros k)
 
 -- a first block, or all of a list that is shorter
-pub first_zeros : (n count : ℕ) (old bytes new : List ℕ) → IsOverwritten old 0 bytes new → length bytes ≡ count → length new ≡ length old → count ≡ min (length old) n → ((k : ℕ) → get_or bytes k 0 ≡ 0) → (i : ℕ) → i < n → get_or new i 0 ≡ 0
-first_zeros n count old bytes new is long size least zeros i lt = elim (cases_lt i count) [
-  | inl inside ↦ written_zeros old 0 count bytes new is long (grind (arith, nat_tests, least)) size zeros i (omega arith, omega (arith, inside))
-  | inr past ↦ get_or_past new i 0 (let short : count ≡ length old = grind (arith, nat_tests, least, past, lt) in omega (arith, size, short, past))
-]
+pub first_bytes : (f : ℕ → ℕ) (n count : ℕ) (old bytes new : List ℕ) → IsOverwritten old 0 bytes new → length bytes ≡ count → length new ≡ length old → count ≡ min (length old) n → ((k : ℕ) → k < count → get_or bytes k 0 ≡ f k) → (i : ℕ) → i < n → i < length new → get_or new i 0 ≡ f i
+first_bytes f n count old bytes new is long size least are i lt inside =
+    written_bytes f old 0 count bytes new is long (grind (arith, nat_tests, least)) size (λ k below. let same : k ≡ 0 + k = omega arith in are k below ∙ ap f same) i (omega arith, (grind (arith, nat_tests, least, size, lt, inside)))
+
+-- a clause of a call that went well
+pub on_well : {X E P Q : Type 0} (result : Result X E) → (is_err result ≡ false → P → Q) → OnOk result P → OnOk result Q
+on_well (Ok x) goes p = goes refl p
+on_well (Err e) goes p = tt
+
+-- behind its front a file that is filled has zeros
+pub filled_behind : (i : ℕ) → 16 ≤ i → filled_byte i ≡ 0
+filled_behind i le = get_or_past making_front i 0 le
+
+-- no gate is open where nothing is, or a zero
+pub closed_first : (bytes : List ℕ) → (0 < length bytes → get_or bytes 0 0 ≡ 0) → is_open bytes ≡ false
+closed_first [] zero_there = refl
+closed_first (x ∷ xs) zero_there = ap (λ byte. nat_eq byte 165) (zero_there (omega arith))
 
 module _ {D : Type 0} (d : Ghosts D) where
   -- one part more, behind an offset

@@ -1,5 +1,5 @@
 -- The filling of a file that is to be a disk. The disk has the bytes of the file and, after the file's end, what may lie there.
-use Rattle.std.specs.Prelude.{◌≡◌, ◌⊎◌, ◌<◌, ◌≤◌, ◌-◌, ℕ, false, List, slice_index, Result, is_err}
+use Rattle.std.specs.Prelude.{◌≡◌, ◌⊎◌, ◌<◌, ◌≤◌, ◌-◌, ◌++◌, ℕ, false, List, length, replicate, codes, slice_index, Result, is_err}
 use Rattle.ckrt_disk.specs.Frame.{IsSameOutside, MayBeLeft, WritesWithin}
 use Rattle.ckrt_disk.specs.declared.disk.Disk.{Ghosts}
 use Rattle.ckrt_checkpoint.specs.Layout.{is_open}
@@ -11,6 +11,18 @@ block = 4096
 -- the bytes of the smallest disk: a file of fewer was never formatted
 abbrev pub smallest_disk : ℕ
 smallest_disk = 348160
+
+-- The mark of a file that is in the making. It stands where the format puts the name of a disk, which is as long.
+abbrev pub making_mark : List ℕ
+making_mark = codes "CKRTMAKE"
+
+-- how such a file begins: its gate is closed, and the mark stands behind it
+abbrev pub making_front : List ℕ
+making_front = replicate 8 0 ++ making_mark
+
+-- the byte at an offset of a file that is filled from its start: zeros are behind its front
+abbrev pub filled_byte : ℕ → ℕ
+filled_byte i = slice_index making_front i
 
 -- Where a file of that many bytes is filled: wherever it is shorter than any disk, and else after its end.
 abbrev pub FillsAt : (length : ℕ) → ℕ → Type 0
@@ -26,9 +38,10 @@ WritesOnly d region old new result =
 abbrev pub IsZeroFrom : (from : ℕ) → List ℕ → Type 0
 IsZeroFrom from bytes = (i : ℕ) → from ≤ i → slice_index bytes i ≡ 0
 
--- and wherever a file of that many bytes is filled
-abbrev pub IsFilled : (length : ℕ) → List ℕ → Type 0
-IsFilled length bytes = (i : ℕ) → FillsAt length i → slice_index bytes i ≡ 0
+-- wherever a file of that many bytes is filled it has the bytes of a filled one
+abbrev pub IsFilled : (before : ℕ) → List ℕ → Type 0
+IsFilled before bytes =
+    (i : ℕ) → FillsAt before i → i < length bytes → slice_index bytes i ≡ filled_byte i
 
 -- What a stop leaves of a file that is shorter than any disk: all but its first block is as it was, so that it is too short still; or its gate is
 -- closed.

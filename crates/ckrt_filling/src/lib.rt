@@ -4,11 +4,13 @@
 //! another disk, too, whose first byte is an open gate. So the first block is filled, and synced, before the file grows any
 //! further; and a file that is shorter than any disk isn't taken for one, whatever its first byte is.
 //!
-//! Proved of [`fill_up`], over any disk: it writes only after the file's end, and in the first block of a file that is shorter
-//! than any disk; where it answers Ok there are zeros. A stop at any moment leaves a file that is still shorter than any disk, or
+//! That block begins with a mark, "CKRTMAKE" behind a closed gate: by it a file is known again whose making was cut.
+//!
+//! Proved of [`fill_up`], over any disk: it writes only after the file's end, and in all of a file that is shorter than any disk;
+//! where it answers Ok there are zeros, and the mark in the first block of such a file. A stop at any moment leaves a file that is still shorter than any disk, or
 //! whose gate is closed, unless it was long enough and its gate stood open before.
 #![tactic(auto)]
 
 mod filling;
 
-pub use filling::fill_up;
+pub use filling::{SMALLEST_DISK, fill_up};

@@ -75,7 +75,7 @@ advice_of_format format.Device = device_advice
 advice_of_format format.OutOfMemory = memory_advice
 
 abbrev pub advice_of_recover : RecoverFault → List ℕ
-advice_of_recover recover.NotFormatted = codes "`ckrt format` didn't make it, or was stopped meanwhile; format it (docs/OPERATING.md)"
+advice_of_recover recover.NotFormatted = codes "`ckrt format` didn't make it, or was stopped meanwhile: look at its path, or give that format again (docs/OPERATING.md)"
 advice_of_recover recover.Version = codes "another version of ckrt made it (docs/FILE_FORMAT.md)"
 advice_of_recover recover.Damaged = codes "it has bytes that ckrt doesn't leave; examples/read_disk.py shows them (docs/FILE_FORMAT.md)"
 advice_of_recover recover.Device = device_advice

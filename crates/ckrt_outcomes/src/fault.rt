@@ -85,7 +85,7 @@ fn recovery_advice(fault: RecoverFault) -> &'static str
 {
     match fault {
         RecoverFault::NotFormatted => {
-            "`ckrt format` didn't make it, or was stopped meanwhile; format it (docs/OPERATING.md)"
+            "`ckrt format` didn't make it, or was stopped meanwhile: look at its path, or give that format again (docs/OPERATING.md)"
         }
         RecoverFault::Version => "another version of ckrt made it (docs/FILE_FORMAT.md)",
         RecoverFault::Damaged => {

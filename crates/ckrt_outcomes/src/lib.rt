@@ -16,4 +16,4 @@ pub use driven::Driven;
 pub use fault::JobFault;
 pub use lengths::{InputLengths, OutputLengths};
 pub use ranges::{config_for, is_choice, is_hunt_in_range, is_in_range, is_target, is_time};
-pub use watch::{Meter, Watch};
+pub use watch::{DrivePaths, Meter, Watch};

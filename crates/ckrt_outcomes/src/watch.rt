@@ -2,6 +2,19 @@
 use ckrt_drive::{Nobody, Onlooker};
 use std::alloc::Global;
 
+/// The paths that the words of a drive give.
+#[derive(Clone, Copy, Debug, PartialEq, Eq)]
+pub struct DrivePaths<'a> {
+    /// That of the disk.
+    pub disk: &'a str,
+    /// That of the image, if there is one.
+    pub image: Option<&'a str>,
+    /// That of the input, if there is one.
+    pub input: Option<&'a str>,
+    /// That of the output, if there is one.
+    pub output: Option<&'a str>,
+}
+
 /// What is told of a drive while it runs.
 #[derive(Clone, Copy, Debug, PartialEq, Eq)]
 pub struct Watch<'a> {
@@ -9,6 +22,8 @@ pub struct Watch<'a> {
     pub progress: Option<u64>,
     /// The path of the file that is rewritten with how far the drive is, if there is one.
     pub status: Option<&'a str>,
+    /// The other paths of the drive, none of which that file may have.
+    pub paths: DrivePaths<'a>,
 }
 
 /// Tells how far a drive is, while it looks on.

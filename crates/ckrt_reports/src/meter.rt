@@ -226,7 +226,7 @@ impl<'a, R: Clock + Eprint + Files<File = File>> Meter for SystemMeter<'a, R> {
             last: self.moment(),
         };
         self.status = match watch.status {
-            Some(path) => StatusFile::new(alloc, path),
+            Some(path) => StatusFile::new(alloc, path, &watch.paths),
             None => None,
         };
     }

@@ -7,10 +7,11 @@ use Rattle.ckrt_sources.specs.declared.file.FileFault.TheVariants as fault
 use Rattle.ckrt_sources.specs.declared.file.JobFile.{JobFile}
 use Rattle.ckrt_sources.specs.declared.file.JobFile.TheVariants as file
 
--- what the system's error says of a file (POSIX.1-2017, open, read, write: ENOENT, EISDIR, EACCES and EPERM, ENOSPC, EROFS, ENOMEM; EWOULDBLOCK of
+-- what the system's error says of a file (POSIX.1-2017, open, read, write: ENOENT, EEXIST, EISDIR, EACCES and EPERM, ENOSPC, EROFS, ENOMEM; EWOULDBLOCK of
 -- a lock that is held)
 abbrev pub file_fault_of : ErrorKind → FileFault
 file_fault_of kind.NotFound = fault.NotFound
+file_fault_of kind.AlreadyExists = fault.IsThere
 file_fault_of kind.IsADirectory = fault.IsADirectory
 file_fault_of kind.PermissionDenied = fault.PermissionDenied
 file_fault_of kind.WouldBlock = fault.InUse
@@ -42,15 +43,19 @@ file_fault_text fault.IsImage = codes "the image has this path too"
 file_fault_text fault.IsElf = codes "it is an ELF file: guest/image, or objcopy -O binary, makes an image of it"
 file_fault_text fault.IsDisk = codes "the disk has this path too; give another"
 file_fault_text fault.IsInput = codes "the input has this path too; give another"
+file_fault_text fault.IsOutput = codes "the output has this path too; give another"
 file_fault_text fault.IsADirectory = codes "it is a directory"
 file_fault_text fault.NotAFile = codes "it isn't a plain file, and can't be written by offset; without --output the bytes are printed"
 file_fault_text fault.NotAnInput = codes "it isn't a plain file, and can't be read by offset; put its bytes into a file, and give that"
+file_fault_text fault.NoLength = codes "the system tells no length of it, and it has bytes; copy them into a plain file, and give that"
 file_fault_text fault.PermissionDenied = codes "permission denied"
 file_fault_text fault.InUse = codes "another program has it locked"
 file_fault_text fault.StorageFull = codes "no space is left for it"
 file_fault_text fault.ReadOnly = codes "its file system is read-only"
+file_fault_text fault.NotADisk = codes "it is no disk, and is unchanged; move it away, or give another path"
 file_fault_text fault.NotInMaking = codes "it is no disk in the making, and is unchanged; move it away, then give the command again"
 file_fault_text fault.NotAStatus = codes "it is no status of a drive, and is unchanged; move it away, or give another path"
+file_fault_text fault.NotANewStatus = codes "what has this path with .new behind it is no status, and is unchanged; move it away, or give another path"
 file_fault_text fault.NotACore = codes "it is no core, and is unchanged; move it away, or give another path"
 file_fault_text fault.NotInWriting = codes "what has this path with .making behind it is no core, and is unchanged; move it away, then give the command again"
 file_fault_text fault.Unwritten = codes "a write or sync of it failed; look after its device, then give the command again"

@@ -5,6 +5,7 @@ ghost use Rattle.ckrt_sources.specs.Streams.{IsBesideStreams};
 
 use crate::file::FileFault;
 use crate::files::{fill_file, keep, open_or_make, open_read, remove, sync_folder};
+use crate::leftover::is_marked;
 use std::fs::{File, Files};
 use std::os::unix::fs::FileExt;
 
@@ -57,7 +58,7 @@ fn none_or(fault: FileFault) -> Result<(), FileFault> {
     }
 }
 
-/// Whether a file is a core in the making, as one that was cut may have left it: empty, written, or with zero bytes still.
+/// Whether a file is a core in the making, as one that was cut may have left it: empty, written, or with the mark of its filling still.
 fn is_in_writing(file: &File) -> Result<bool, FileFault> {
     let told = file.metadata()?;
     if !told.is_file() {
@@ -67,7 +68,7 @@ fn is_in_writing(file: &File) -> Result<bool, FileFault> {
         return Ok(true);
     }
     match front_of(file) {
-        Some(front) => Ok(front == [0; FRONT] || begins_as_core(&front)),
+        Some(front) => Ok(is_marked(&front) || begins_as_core(&front)),
         None => Ok(false),
     }
 }

@@ -30,20 +30,24 @@ pub enum FileFault {
     NotFound,
     /// No folder is there for a file that was to be made.
     NoFolder,
-    /// The disk's path is the image's too.
+    /// The path of a disk, an output or a status is the image's too.
     IsImage,
     /// The image is an ELF file.
     IsElf,
-    /// The path of an input, an output or a core is the disk's too.
+    /// The path of an input, an output, a core or a status is the disk's too.
     IsDisk,
-    /// The path of an output is the input's too.
+    /// The path of an output or a status is the input's too.
     IsInput,
+    /// The path of a status is the output's too.
+    IsOutput,
     /// A directory has this path.
     IsADirectory,
     /// What has this path is no plain file: a terminal, say, or a pipe.
     NotAFile,
     /// What has the path of an input is no plain file: a pipe, say, or a terminal.
     NotAnInput,
+    /// The system tells no length of an input, and it has bytes.
+    NoLength,
     /// The user may not open it so.
     PermissionDenied,
     /// Another program holds its lock.
@@ -52,10 +56,14 @@ pub enum FileFault {
     StorageFull,
     /// Its file system may only be read.
     ReadOnly,
+    /// It holds something else than a disk, and isn't free to become one.
+    NotADisk,
     /// It holds something else than a disk in the making.
     NotInMaking,
     /// It holds something else than a status.
     NotAStatus,
+    /// Something else than a status has the path of one that is written.
+    NotANewStatus,
     /// Something else than a core has the path of one.
     NotACore,
     /// Something else than a core has the path of one in the making.
@@ -135,19 +143,26 @@ impl FileFault {
                 "it is an ELF file: guest/image, or objcopy -O binary, makes an image of it",
             FileFault::IsDisk => "the disk has this path too; give another",
             FileFault::IsInput => "the input has this path too; give another",
+            FileFault::IsOutput => "the output has this path too; give another",
             FileFault::IsADirectory => "it is a directory",
             FileFault::NotAFile =>
                 "it isn't a plain file, and can't be written by offset; without --output the bytes are printed",
             FileFault::NotAnInput =>
                 "it isn't a plain file, and can't be read by offset; put its bytes into a file, and give that",
+            FileFault::NoLength =>
+                "the system tells no length of it, and it has bytes; copy them into a plain file, and give that",
             FileFault::PermissionDenied => "permission denied",
             FileFault::InUse => "another program has it locked",
             FileFault::StorageFull => "no space is left for it",
             FileFault::ReadOnly => "its file system is read-only",
+            FileFault::NotADisk =>
+                "it is no disk, and is unchanged; move it away, or give another path",
             FileFault::NotInMaking =>
                 "it is no disk in the making, and is unchanged; move it away, then give the command again",
             FileFault::NotAStatus =>
                 "it is no status of a drive, and is unchanged; move it away, or give another path",
+            FileFault::NotANewStatus =>
+                "what has this path with .new behind it is no status, and is unchanged; move it away, or give another path",
             FileFault::NotACore =>
                 "it is no core, and is unchanged; move it away, or give another path",
             FileFault::NotInWriting =>
@@ -169,6 +184,7 @@ impl From<io::Error> for FileFault {
     fn from(error: io::Error) -> FileFault {
         match error.kind() {
             ErrorKind::NotFound => FileFault::NotFound,
+            ErrorKind::AlreadyExists => FileFault::IsThere,
             ErrorKind::IsADirectory => FileFault::IsADirectory,
             ErrorKind::PermissionDenied => FileFault::PermissionDenied,
             ErrorKind::WouldBlock => FileFault::InUse,

@@ -1,16 +1,18 @@
 //! How files of the system are opened, made, filled and named.
-ghost use Rattle.std.specs.Prelude.{◌≡◌, IfOk, IfErr};
+ghost use Rattle.std.specs.Prelude.{◌≡◌, ◌≤◌, IfOk, IfErr};
 ghost use Rattle.ckrt_sources.specs.Files.{folder_of};
+ghost use Rattle.ckrt_sources.specs.Real.{IsFresh};
 ghost use Rattle.ckrt_sources.specs.Streams.{IsBesideStreams};
 
 use crate::file::{FileFault, MAKING};
 use crate::growing::GrowingFile;
-use crate::leftover::look_at_leftover;
+use crate::leftover::{FileKind, kind_of, look_at_leftover};
 use crate::output::OpenedOutput;
 use crate::reason::OutputReason;
 use crate::told::{RealDisk, Teller, ToldFile};
-use ckrt_disk::{FileDisk, Holds, SystemFile};
-use ckrt_filling::fill_up;
+use ckrt_checkpoint::FIELDS_AT;
+use ckrt_disk::{Calls, Disk, FileDisk, FileUse, Holds, SystemFile};
+use ckrt_filling::{SMALLEST_DISK, fill_up};
 use ckrt_recovery::RecoverFault;
 use std::alloc::Global;
 use std::cell::Cell;
@@ -18,6 +20,7 @@ use std::fs::{File, Files, OpenOptions};
 use std::io;
 use std::marker::Brand;
 use std::os::fd::AsRawFd;
+use std::os::unix::fs::FileExt;
 use std::path::Path;
 
 /// The file, unless its descriptor is that of standard input, output or error: a stream that is closed when the program
@@ -42,14 +45,26 @@ pub(crate) fn open_read<R: Files<File = File>>(rt: &R, path: &str) -> Result<Fil
     beside_streams(file)
 }
 
+/// Which file an opening takes.
+#[derive(Clone, Copy)]
+enum Taken {
+    /// One that is there.
+    There,
+    /// One that is made for it, where nothing has the path.
+    Made,
+    /// One that is there, or is made for it: also where a link leads that leads to nothing.
+    Any,
+}
+
 /// Opens a file to read and write it, and locks it: a second program over the same disk is refused at once.
-fn open_locked<R: Files<File = File>>(rt: &R, path: &str, is_new: bool) -> Result<File, FileFault>
+fn open_locked<R: Files<File = File>>(rt: &R, path: &str, which: Taken) -> Result<File, FileFault>
     ensures { IfOk result IsBesideStreams }
 {
     let file = OpenOptions::new()
         .read(true)
         .write(true)
-        .create(is_new)
+        .create(matches!(which, Taken::Any))
+        .create_new(matches!(which, Taken::Made))
         .open(rt, path)?;
     let file = beside_streams(file)?;
     match file.try_lock() {
@@ -86,16 +101,6 @@ pub(crate) fn sync_folder<R: Files<File = File>>(rt: &R, path: &str) -> Result<(
     Ok(())
 }
 
-/// Makes a file, and opens it as [`open_locked`] does. Where it can't be found no folder is there for it.
-fn make_locked<R: Files<File = File>>(rt: &R, path: &str) -> Result<File, FileFault>
-    ensures { IfOk result IsBesideStreams }
-{
-    match open_locked(rt, path, true) {
-        Err(FileFault::NotFound) => Err(FileFault::NoFolder),
-        made => made,
-    }
-}
-
 /// A file that is open, and whether it was made for that.
 #[derive(Drop)]
 pub(crate) struct Claimed {
@@ -129,16 +134,29 @@ pub(crate) fn keep<R: Files>(
     }
 }
 
+/// The file of a path that has none yet. What came there meanwhile, or is behind a link, isn't taken for one that was made.
+/// Where it can't be found no folder is there for it.
+fn make_locked<R: Files<File = File>>(rt: &R, path: &str) -> Result<Claimed, FileFault>
+    ensures { IfOk result (λ it. IsBesideStreams it.file) }
+{
+    match open_locked(rt, path, Taken::Made) {
+        Ok(file) => Ok(Claimed { file, is_new: true }),
+        Err(FileFault::IsThere) => Ok(Claimed {
+            file: open_locked(rt, path, Taken::Any)?,
+            is_new: false,
+        }),
+        Err(FileFault::NotFound) => Err(FileFault::NoFolder),
+        Err(fault) => Err(fault),
+    }
+}
+
 /// The file of a path, which is made where there is none. Its name is durable then, also where the file was there: who made
 /// it may have been killed before that.
 pub(crate) fn open_or_make<R: Files<File = File>>(rt: &R, path: &str) -> Result<Claimed, FileFault>
     ensures { IfOk result (λ it. IsBesideStreams it.file) }
 {
-    let claimed = match open_locked(rt, path, false) {
-        Err(FileFault::NotFound) => Claimed {
-            file: make_locked(rt, path)?,
-            is_new: true,
-        },
+    let claimed = match open_locked(rt, path, Taken::There) {
+        Err(FileFault::NotFound) => make_locked(rt, path)?,
         opened => Claimed {
             file: opened?,
             is_new: false,
@@ -148,13 +166,20 @@ pub(crate) fn open_or_make<R: Files<File = File>>(rt: &R, path: &str) -> Result<
     keep(rt, path, claimed, named)
 }
 
-/// The disk of an open file, with as many bytes as the file. A directory, which may be opened to be read, is none.
-pub(crate) fn disk_of<'a, H: Holds>(file: File) -> Result<RealDisk<'a, H>, FileFault> {
+/// The disk of an open file, the last of those that were opened, with as many bytes as the file. A directory, which may be
+/// opened to be read, is none.
+pub(crate) fn disk_of<'a, H: Holds>(
+    file: File,
+    opened: Calls<FileUse>,
+) -> Result<RealDisk<'a, H>, FileFault>
+    ensures { IfOk result (IsFresh opened.made) }
+{
     let told = file.metadata()?;
     if told.is_dir() {
         return Err(FileFault::IsADirectory);
     }
-    Ok(FileDisk::new(ToldFile::untold(SystemFile::new(file)), told.len() as usize))
+    let file = ToldFile::untold(SystemFile::new(file, opened));
+    Ok(FileDisk::new(file, told.len() as usize))
 }
 
 /// Fills a file that is shorter than that many bytes up to them. What is no regular file isn't filled.
@@ -171,7 +196,44 @@ pub(crate) fn fill_file(file: &File, size: usize) -> Result<(), FileFault> {
     }
 }
 
-/// A file of at least that many bytes: one that is missing or shorter is filled with zero bytes.
+/// What a plain file of that many bytes is that is to become a disk of `size` bytes.
+fn kind_of_file(file: &File, length: usize, size: usize) -> Result<FileKind, FileFault> {
+    let again: SystemFile<Brand> = SystemFile::new(file.try_clone()?, Calls::new());
+    let file = ToldFile::untold(again);
+    match kind_of(&mut FileDisk::new(file, length), size) {
+        Ok(kind) => Ok(kind),
+        Err(_) => Err(FileFault::Other),
+    }
+}
+
+/// Marks a file as one that is in the making, durably, where it is so long that its filling doesn't: who finds it after a stop knows
+/// it by that.
+fn mark(file: &File, length: usize) -> Result<(), FileFault> {
+    if length < SMALLEST_DISK {
+        return Ok(());
+    }
+    file.write_all_at(b"CKRTMAKE", FIELDS_AT as u64)?;
+    file.sync_data()?;
+    Ok(())
+}
+
+/// Readies a file for the format of a disk of that many bytes: it has to be a disk already, or free to be written over. Somebody's
+/// bytes stay as they are. What is no plain file is left to the format.
+fn begin_format(file: &File, size: usize) -> Result<(), FileFault> {
+    let told = file.metadata()?;
+    let length = told.len() as usize;
+    if !told.is_file() {
+        return Ok(());
+    }
+    match kind_of_file(file, length, size)? {
+        FileKind::Disk => Ok(()),
+        FileKind::Free => mark(file, length),
+        FileKind::Foreign => Err(FileFault::NotADisk),
+    }
+}
+
+/// A file of at least that many bytes, which is a disk or free to become one: one that is missing or shorter is filled with zero
+/// bytes.
 pub(crate) fn open_filled_file<R: Files<File = File>>(
     rt: &R,
     path: &str,
@@ -180,6 +242,8 @@ pub(crate) fn open_filled_file<R: Files<File = File>>(
     ensures { IfOk result (λ it. IsBesideStreams it.file) }
 {
     let claimed = open_or_make(rt, path)?;
+    let begun = begin_format(&claimed.file, size);
+    let claimed = keep(rt, path, claimed, begun)?;
     let filled = fill_file(&claimed.file, size);
     keep(rt, path, claimed, filled)
 }
@@ -209,7 +273,7 @@ fn is_in_making(alloc: Global, file: &File) -> Result<bool, FileFault> {
     if !told.is_file() {
         return Ok(false);
     }
-    let again: SystemFile<Brand> = SystemFile::new(file.try_clone()?);
+    let again: SystemFile<Brand> = SystemFile::new(file.try_clone()?, Calls::new());
     match look_at_leftover(alloc, FileDisk::new(again, told.len() as usize)).is_in_making {
         Ok(found) => Ok(found),
         Err(RecoverFault::OutOfMemory) => Err(FileFault::OutOfMemory),
@@ -269,7 +333,7 @@ pub(crate) fn give_name<R: Files<File = File>>(
 pub(crate) fn open_disk_file<R: Files<File = File>>(rt: &R, path: &str) -> Result<File, FileFault>
     ensures { IfOk result IsBesideStreams }
 {
-    let file = open_locked(rt, path, false)?;
+    let file = open_locked(rt, path, Taken::There)?;
     sync_folder(rt, path)?;
     Ok(file)
 }
@@ -277,18 +341,21 @@ pub(crate) fn open_disk_file<R: Files<File = File>>(rt: &R, path: &str) -> Resul
 /// How many bytes an output has: more than any file. Those after the end of its file count as zeros until they are written.
 const OUTPUT_SIZE: usize = i64::MAX as usize;
 
-/// The output of an open file, which grows as it is written, and tells why it fails. What isn't a plain file, as a terminal, has no
-/// offsets.
+/// The output of an open file, the last of those that were opened, which grows as it is written, and tells why it fails. What isn't a
+/// plain file, as a terminal, has no offsets.
 fn output_of<'a, H: Holds>(
     file: File,
+    opened: Calls<FileUse>,
     why: &'a Cell<OutputReason>,
-) -> Result<OpenedOutput<RealDisk<'a, H>>, FileFault> {
+) -> Result<OpenedOutput<RealDisk<'a, H>>, FileFault>
+    ensures { IfOk result (λ it. IsFresh opened.made it.output) }
+{
     let told = file.metadata()?;
     if !told.is_file() {
         return Err(FileFault::NotAFile);
     }
     let teller = Teller::new(file.try_clone()?, why);
-    let file = ToldFile::told_by(SystemFile::new(file), teller);
+    let file = ToldFile::told_by(SystemFile::new(file, opened), teller);
     Ok(OpenedOutput {
         output: FileDisk::new(file, OUTPUT_SIZE),
         length: told.len(),
@@ -299,10 +366,13 @@ fn output_of<'a, H: Holds>(
 pub(crate) fn open_system_output<'a, R: Files<File = File>, H: Holds>(
     rt: &R,
     path: &str,
+    opened: Calls<FileUse>,
     why: &'a Cell<OutputReason>,
-) -> Result<OpenedOutput<RealDisk<'a, H>>, FileFault> {
-    let opened = open_or_make(rt, path)?;
-    output_of(opened.file, why)
+) -> Result<OpenedOutput<RealDisk<'a, H>>, FileFault>
+    ensures { IfOk result (λ it. IsFresh opened.made it.output) }
+{
+    let claimed = open_or_make(rt, path)?;
+    output_of(claimed.file, opened, why)
 }
 
 /// Whether a path is that of a plain file. Nothing is opened: a pipe that nobody writes to would keep its opener waiting.
@@ -317,33 +387,55 @@ fn is_plain_file<R: Files>(rt: &R, path: &str) -> Result<(), FileFault> {
     Ok(())
 }
 
-/// The input of a path: a plain file, which is only read.
-pub(crate) fn open_system_input<'a, R: Files<File = File>, H: Holds>(
-    rt: &R,
-    path: &str,
-) -> Result<RealDisk<'a, H>, FileFault> {
-    is_plain_file(rt, path)?;
-    let file = open_read(rt, path)?;
+/// Whether a file has a byte.
+fn has_bytes(file: &File) -> Result<bool, FileFault> {
+    let mut first = [0];
+    Ok(file.read_at(&mut first, 0)? > 0)
+}
+
+/// The length of an input that was opened: of a plain file, as the system tells it. Where it tells 0 one read decides, since of some
+/// files, as those of `/proc`, it tells no length.
+fn input_length(file: &File) -> Result<usize, FileFault> {
     let told = file.metadata()?;
     if !told.is_file() {
         return Err(FileFault::NotAnInput);
     }
-    Ok(FileDisk::new(ToldFile::untold(SystemFile::new(file)), told.len() as usize))
+    if told.len() == 0 && has_bytes(file)? {
+        return Err(FileFault::NoLength);
+    }
+    Ok(told.len() as usize)
+}
+
+/// The input of a path: a plain file, which is only read.
+pub(crate) fn open_system_input<'a, R: Files<File = File>, H: Holds>(
+    rt: &R,
+    path: &str,
+    opened: Calls<FileUse>,
+) -> Result<RealDisk<'a, H>, FileFault>
+    ensures { IfOk result (IsFresh opened.made) }
+{
+    is_plain_file(rt, path)?;
+    let file = open_read(rt, path)?;
+    let length = input_length(&file)?;
+    let file = ToldFile::untold(SystemFile::new(file, opened));
+    Ok(FileDisk::new(file, length))
 }
 
 /// The disk of an open file once zero bytes stand after its own, up to that many bytes.
 pub(crate) fn longer_disk<'a, H: Holds>(
     file: &File,
+    opened: Calls<FileUse>,
     size: usize,
-) -> Result<RealDisk<'a, H>, FileFault> {
+) -> Result<RealDisk<'a, H>, FileFault>
+    ensures fresh { IfOk result (IsFresh opened.made) }
+    ensures long { IfOk result (λ disk. size ≤ ⟦<RealDisk<'a, H> as Disk>⟧.size disk) }
+{
     fill_file(file, size)?;
     let longer = file.try_clone()?;
     let told = longer.metadata()?;
     if (told.len() as usize) < size {
         return Err(FileFault::Other);
     }
-    Ok(FileDisk::new(
-        ToldFile::untold(SystemFile::new(longer)),
-        told.len() as usize,
-    ))
+    let file = ToldFile::untold(SystemFile::new(longer, opened));
+    Ok(FileDisk::new(file, told.len() as usize))
 }

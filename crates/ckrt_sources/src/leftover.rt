@@ -1,12 +1,24 @@
-//! What a making that was cut leaves beside a disk's path.
-ghost use Rattle.std.specs.Prelude.{◌≡◌, ◌↔◌, false, is_err, IfOk, IsTrue};
+//! Whether a file that is there may become a disk: one that a making which was cut left, or one with no bytes of anybody's.
+ghost use Rattle.std.specs.Prelude.{◌≡◌, ◌↔◌, ◌≤◌, false, is_err, length, IfOk, IsTrue};
 ghost use Rattle.ckrt_disk.specs.Frame.{IsOnlyRead, IsSameDisk};
-ghost use Rattle.ckrt_sources.specs.Leftovers.{HasNotBegun, IsInMaking, IsOfContent, is_unformatted};
+ghost use Rattle.ckrt_sources.specs.Leftovers.{HasNotBegun, IsInMaking, IsOfContent, is_marked, is_unfinished, is_unnamed};
 
-use ckrt_checkpoint::number_64;
+use ckrt_checkpoint::{FIELDS_AT, OPEN, number_64};
 use ckrt_disk::{DeviceFault, Disk};
+use ckrt_filling::SMALLEST_DISK;
 use ckrt_recovery::{RecoverFault, Session, recover};
 use std::alloc::Global;
+
+/// What a file is that is to become a disk.
+#[derive(Clone, Copy)]
+pub(crate) enum FileKind {
+    /// A disk already, as its open gate tells: nothing of it is written over.
+    Disk,
+    /// Free to be written over: it has no bytes but zeros, or a making that was cut left it.
+    Free,
+    /// Somebody's bytes.
+    Foreign,
+}
 
 /// A file that was looked at, and whether it is a disk in the making.
 #[derive(Drop)]
@@ -15,21 +27,46 @@ pub(crate) struct Looked<D> {
     pub(crate) is_in_making: Result<bool, RecoverFault>,
 }
 
-/// How many bytes tell that a disk isn't formatted: its gate, and those after it that nothing writes.
-const FRONT: usize = 8;
+/// How many bytes tell that a file is in the making: its gate, those after it that nothing writes, and a name.
+const FRONT: usize = 16;
 
-/// Whether a file is empty, or begins as a disk that isn't formatted.
-fn is_unformatted<D: Disk>(disk: &mut D) -> Result<bool, DeviceFault>
+/// "CKRTMAKE", which a file has for a name while it is made.
+const MAKING: u64 = 0x454b_414d_5452_4b43;
+
+/// "CKRTDISK", the name of a disk.
+const NAME: u64 = 0x4b53_4944_5452_4b43;
+
+/// How many bytes are looked at together.
+const BLOCK: usize = 4_096;
+
+/// Whether a file with these first bytes is in the making.
+pub(crate) fn is_marked(front: &[u8]) -> bool
+    requires { 16 ≤ length front.now }
+    ensures { result ≡ is_marked front.now }
+{
+    number_64(front, 0) == 0 && number_64(front, FIELDS_AT) == MAKING
+}
+
+/// Whether a file with these first bytes has the name of a disk, and its gate is still closed.
+fn is_unnamed(front: &[u8]) -> bool
+    requires { 16 ≤ length front.now }
+    ensures { result ≡ is_unnamed front.now }
+{
+    number_64(front, 0) == 0 && number_64(front, FIELDS_AT) == NAME
+}
+
+/// Whether a file is empty, or begins as one that is in the making.
+fn is_unfinished<D: Disk>(disk: &mut D) -> Result<bool, DeviceFault>
     ensures read { IsOnlyRead D.Disk disk.old disk.new (is_err result) }
     ensures exact { IfOk result
-        (λ found. D.is_honest disk.new → found ≡ is_unformatted (D.content disk.old)) }
+        (λ found. D.is_honest disk.new → found ≡ is_unfinished (D.content disk.old)) }
 {
     if disk.size() < FRONT {
         return Ok(disk.size() == 0);
     }
     let mut front = [0; FRONT];
     disk.read(0, &mut front)?;
-    Ok(number_64(&front, 0) == 0)
+    Ok(is_marked(&front) || is_unnamed(&front))
 }
 
 /// Whether a session is that of a program that hasn't begun.
@@ -80,7 +117,7 @@ pub(crate) fn look_at_leftover<D: Disk>(alloc: Global, disk: D) -> Looked<D>
         (λ found. D.is_honest result.disk → (IsTrue found ↔ IsInMaking (D.content disk))) }
 {
     let mut disk = disk;
-    match is_unformatted(&mut disk) {
+    match is_unfinished(&mut disk) {
         Ok(true) => Looked {
             disk,
             is_in_making: Ok(true),
@@ -91,4 +128,53 @@ pub(crate) fn look_at_leftover<D: Disk>(alloc: Global, disk: D) -> Looked<D>
             is_in_making: Err(RecoverFault::Device),
         },
     }
+}
+
+/// Whether a block has nothing but zeros.
+fn is_zero(block: &[u8]) -> bool {
+    block.iter().all(|byte| *byte == 0)
+}
+
+/// Whether the first bytes of a file, that many at most, are nothing but zeros.
+fn is_blank<D: Disk>(disk: &mut D, size: usize) -> Result<bool, DeviceFault>
+    ensures { IsOnlyRead D.Disk disk.old disk.new (is_err result) }
+{
+    let end = disk.size().min(size);
+    let mut at = 0;
+    let mut block = [0; BLOCK];
+    while at < end {
+        let count = (end - at).min(BLOCK);
+        disk.read(at, &mut block[..count])?;
+        if !is_zero(&block[..count]) {
+            return Ok(false);
+        }
+        at += count;
+    }
+    Ok(true)
+}
+
+/// Whether a file that is long enough for a disk is one that formatting leaves as it is.
+fn has_disk<D: Disk>(disk: &mut D, size: usize) -> Result<bool, DeviceFault>
+    ensures { IsOnlyRead D.Disk disk.old disk.new (is_err result) }
+{
+    if disk.size() < SMALLEST_DISK {
+        return Ok(false);
+    }
+    let mut front = [0; FRONT];
+    disk.read(0, &mut front)?;
+    let is_named = disk.size() >= size || number_64(&front, FIELDS_AT) == NAME;
+    Ok(front[0] == OPEN && is_named)
+}
+
+/// What a file is that is to become a disk of that many bytes.
+pub(crate) fn kind_of<D: Disk>(disk: &mut D, size: usize) -> Result<FileKind, DeviceFault>
+    ensures { IsOnlyRead D.Disk disk.old disk.new (is_err result) }
+{
+    if has_disk(disk, size)? {
+        return Ok(FileKind::Disk);
+    }
+    if is_unfinished(disk)? || is_blank(disk, size)? {
+        return Ok(FileKind::Free);
+    }
+    Ok(FileKind::Foreign)
 }

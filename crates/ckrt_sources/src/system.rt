@@ -1,8 +1,8 @@
 //! Disks and images that are files of the system.
-ghost use Rattle.std.specs.Prelude.{◌≡◌, None};
-ghost use Rattle.ckrt_sources.specs.Files.{openings_of};
+ghost use Rattle.std.specs.Prelude.{◌≡◌, ◌≤◌, ◌∷◌, [], None, IfOk};
+ghost use Rattle.ckrt_sources.specs.Files.{openings_of, opened_by};
 ghost use Rattle.ckrt_sources.specs.Openings.{unopened};
-ghost use Rattle.ckrt_sources.specs.Sources.{anything};
+ghost use Rattle.ckrt_sources.specs.Real.{IsDiskOf, IsFilledOf, IsOpenedAs, real_gives};
 
 use crate::core_paths::{open_core_file, replace_core};
 use crate::file::{FileFault, FileOpening};
@@ -10,33 +10,15 @@ use crate::files::{
     beside, disk_of, give_name, longer_disk, open_disk_file, open_filled_file, open_making_file,
     open_read, open_shared, open_system_input, open_system_output, remove,
 };
+use crate::identity::{FileId, leads_to};
 use crate::output::OpenedOutput;
 use crate::reason::OutputReason;
 use crate::sources::{Closes, Sources, Unlengthened};
 use crate::told::RealDisk;
-use ckrt_disk::{History, Holds};
+use ckrt_disk::{Calls, Disk, FileUse, History, Holds};
 use std::alloc::Global;
 use std::cell::Cell;
-use std::fs::{File, Files, Metadata};
-use std::marker::Brand;
-use std::os::unix::fs::MetadataExt;
-
-/// Which file of the system it is: on which device, and its number there.
-#[derive(Clone, Copy, PartialEq, Eq)]
-struct FileId {
-    device: u64,
-    number: u64,
-}
-
-impl FileId {
-    /// That of a file with this metadata.
-    fn of(told: &Metadata) -> FileId {
-        FileId {
-            device: told.dev(),
-            number: told.ino(),
-        }
-    }
-}
+use std::fs::{File, Files};
 
 /// A file that was made, and goes where it isn't formatted.
 #[derive(Drop)]
@@ -57,16 +39,15 @@ impl<'a> MadeFile<'a> {
     }
 }
 
-/// A disk that is a file of the system.
-pub type SystemDisk<'a> = RealDisk<'a, Brand>;
-
-/// The files of the system, with the record of what they were asked for, which takes no memory. A disk or an output that is
+/// The files of the system, with the record of what they were asked for and of all files that were opened, here and in runs before.
+/// Neither takes memory. A disk or an output that is
 /// given back is closed.
 #[derive(Drop)]
 pub struct SystemSources<'a, R, D> {
     rt: &'a R,
     /// Where an output notes why it failed.
     why: &'a Cell<OutputReason>,
+    opened: Calls<FileUse>,
     image: History<FileOpening<'a>>,
     disk: History<FileOpening<'a>>,
     output: History<FileOpening<'a>>,
@@ -79,7 +60,9 @@ pub struct SystemSources<'a, R, D> {
     closed_input: History<D>,
     lengthened: History<D>,
     abandoned: History<D>,
-    /// Which file the disk is, where one is open.
+    /// Which file the image is, where one was opened.
+    image_id: Option<FileId>,
+    /// Which one the disk is.
     disk_id: Option<FileId>,
     /// And which one the input is.
     input_id: Option<FileId>,
@@ -90,13 +73,20 @@ pub struct SystemSources<'a, R, D> {
 }
 
 impl<'a, R, D> SystemSources<'a, R, D> {
-    /// The files of the system, of which none was asked for. An output of theirs notes there why it failed.
-    pub fn new(rt: &'a R, why: &'a Cell<OutputReason>) -> SystemSources<'a, R, D>
-        ensures { openings_of result ≡ unopened }
+    /// The files of the system, of which none was asked for, where these were opened in runs before. An output of theirs notes there
+    /// why it failed.
+    pub fn new(
+        rt: &'a R,
+        why: &'a Cell<OutputReason>,
+        before: Calls<FileUse>,
+    ) -> SystemSources<'a, R, D>
+        ensures openings { openings_of result ≡ unopened }
+        ensures opened { opened_by result ≡ before.made }
     {
         SystemSources {
             rt,
             why,
+            opened: before,
             image: History::new(),
             disk: History::new(),
             output: History::new(),
@@ -109,6 +99,7 @@ impl<'a, R, D> SystemSources<'a, R, D> {
             closed_input: History::new(),
             lengthened: History::new(),
             abandoned: History::new(),
+            image_id: None,
             disk_id: None,
             input_id: None,
             disk_file: None,
@@ -118,6 +109,17 @@ impl<'a, R, D> SystemSources<'a, R, D> {
 }
 
 impl<'a, R: Files<File = File>, D> SystemSources<'a, R, D> {
+    /// Notes that a file was opened as this, of this path: all openings up to it.
+    fn note(&mut self, what: FileUse, path: &str) -> Calls<FileUse>
+        ensures openings { openings_of self.new ≡ openings_of self.old }
+        ensures noted { result.made ≡ (what, path.now) ∷ opened_by self.old }
+        ensures opened { opened_by self.new ≡ (what, path.now) ∷ opened_by self.old }
+    {
+        let noted = self.opened.with(&what, path.as_bytes());
+        self.opened = self.opened.with(&what, path.as_bytes());
+        noted
+    }
+
     /// Remembers which file a disk is, and the file itself.
     fn remember(&mut self, file: &File)
         ensures { openings_of self.new ≡ openings_of self.old }
@@ -132,20 +134,35 @@ impl<'a, R: Files<File = File>, D> SystemSources<'a, R, D> {
         };
     }
 
-    /// Whether a path is that of the disk that is open.
+    /// Whether a path leads to the disk that is open.
     fn is_disk(&self, path: &str) -> bool {
-        match (self.rt.metadata(path), self.disk_id) {
-            (Ok(told), Some(disk)) => FileId::of(&told) == disk,
-            _ => false,
-        }
+        leads_to(self.rt, path, self.disk_id)
     }
 
-    /// Whether a path is that of the input that is open.
-    fn is_input(&self, path: &str) -> bool {
-        match (self.rt.metadata(path), self.input_id) {
-            (Ok(told), Some(input)) => FileId::of(&told) == input,
-            _ => false,
+    /// Why a path can't be an output: it leads to the image, the disk or the input.
+    fn taken_for(&self, path: &str) -> Result<(), FileFault> {
+        if leads_to(self.rt, path, self.disk_id) {
+            return Err(FileFault::IsDisk);
         }
+        if leads_to(self.rt, path, self.input_id) {
+            return Err(FileFault::IsInput);
+        }
+        if leads_to(self.rt, path, self.image_id) {
+            return Err(FileFault::IsImage);
+        }
+        Ok(())
+    }
+
+    /// The file of an image, which is remembered.
+    fn open_image_file(&mut self, path: &str) -> Result<File, FileFault>
+        ensures { openings_of self.new ≡ openings_of self.old }
+    {
+        let file = open_read(self.rt, path)?;
+        self.image_id = match file.metadata() {
+            Ok(told) => Some(FileId::of(&told)),
+            Err(_) => None,
+        };
+        Ok(file)
     }
 
     /// The file of a disk, which is remembered.
@@ -166,10 +183,13 @@ impl<'a, R: Files<File = File>, D> SystemSources<'a, R, D> {
         Ok(file)
     }
 
-    /// The file of a disk that is made where it is missing, and filled up to that many bytes.
+    /// The file of a disk that is made where it is missing, and filled up to that many bytes. The image is never taken for it.
     fn open_filled_file(&mut self, path: &'a str, size: usize) -> Result<File, FileFault>
         ensures { openings_of self.new ≡ openings_of self.old }
     {
+        if leads_to(self.rt, path, self.image_id) {
+            return Err(FileFault::IsImage);
+        }
         let claimed = open_filled_file(self.rt, path, size)?;
         if claimed.is_new {
             self.made = Some(MadeFile::Itself(path));
@@ -246,29 +266,56 @@ impl<'a, R: Files<File = File>, D> SystemSources<'a, R, D> {
 }
 
 impl<'a, R: Files<File = File>, H: Holds> SystemSources<'a, R, RealDisk<'a, H>> {
+    /// The disk of a file, where that was opened, as this and of this path.
+    fn disk_opened(
+        &mut self,
+        file: Result<File, FileFault>,
+        what: FileUse,
+        path: &str,
+    ) -> Result<RealDisk<'a, H>, FileFault>
+        ensures openings { openings_of self.new ≡ openings_of self.old }
+        ensures disk { IfOk result (IsOpenedAs what path.now) }
+    {
+        let file = file?;
+        let noted = self.note(what, path);
+        disk_of(file, noted)
+    }
+
     /// The disk that is open, of that many bytes.
     fn longer(&mut self, size: usize) -> Result<RealDisk<'a, H>, FileFault>
-        ensures { openings_of self.new ≡ openings_of self.old }
+        ensures openings { openings_of self.new ≡ openings_of self.old }
+        ensures longer { IfOk result (IsOpenedAs FileUse.Longer []) }
+        ensures long { IfOk result (λ disk. size ≤ ⟦<RealDisk<'a, H> as Disk>⟧.size disk) }
     {
+        let opened = self.note(FileUse::Longer, "");
         match &self.disk_file {
-            Some(file) => longer_disk(file, size),
+            Some(file) => longer_disk(file, opened, size),
             None => Err(FileFault::Other),
         }
     }
 
     /// The input of a path, which is remembered. The disk is never taken for it.
     fn open_input_file(&mut self, path: &str) -> Result<RealDisk<'a, H>, FileFault>
-        ensures { openings_of self.new ≡ openings_of self.old }
+        ensures openings { openings_of self.new ≡ openings_of self.old }
+        ensures input { IfOk result (IsOpenedAs FileUse.Input path.now) }
     {
         if self.is_disk(path) {
             return Err(FileFault::IsDisk);
         }
-        let input = open_system_input(self.rt, path)?;
-        self.input_id = match self.rt.metadata(path) {
-            Ok(told) => Some(FileId::of(&told)),
-            Err(_) => None,
-        };
+        let opened = self.note(FileUse::Input, path);
+        let input = open_system_input(self.rt, path, opened)?;
+        self.input_id = FileId::at(self.rt, path);
         Ok(input)
+    }
+
+    /// The output of a path. The image, the disk and the input are never taken for it.
+    fn open_output_file(&mut self, path: &str) -> Result<OpenedOutput<RealDisk<'a, H>>, FileFault>
+        ensures openings { openings_of self.new ≡ openings_of self.old }
+        ensures output { IfOk result (λ it. IsOpenedAs FileUse.Output path.now it.output) }
+    {
+        self.taken_for(path)?;
+        let opened = self.note(FileUse::Output, path);
+        open_system_output(self.rt, path, opened, self.why)
     }
 }
 
@@ -299,41 +346,35 @@ impl<'a, R: Files<File = File>, H: Holds> Sources<'a, File, RealDisk<'a, H>>
     for SystemSources<'a, R, RealDisk<'a, H>> {
     ghost image_bytes = { λ _ _. None };
 
-    ghost opens = { λ _ _ _. Unit {0} };
+    ghost opens = { λ _ path disk. IsDiskOf path disk };
 
-    ghost fills = { λ _ _ _ _. Unit {0} };
+    ghost fills = { λ _ path _ disk. IsFilledOf path disk };
 
-    ghost gives = { λ _. anything };
+    ghost gives = { λ _. real_gives };
 
     fn open_image(&mut self, path: &'a str) -> Result<File, FileFault> {
-        let opened = open_read(self.rt, path);
+        let opened = self.open_image_file(path);
         self.image = self.image.with(&FileOpening::of(path, &opened));
         opened
     }
 
     fn open_disk(&mut self, path: &'a str) -> Result<RealDisk<'a, H>, FileFault> {
-        let opened = match self.open_disk_file(path) {
-            Ok(file) => disk_of(file),
-            Err(fault) => Err(fault),
-        };
+        let file = self.open_disk_file(path);
+        let opened = self.disk_opened(file, FileUse::Disk, path);
         self.disk = self.disk.with(&FileOpening::of(path, &opened));
         opened
     }
 
     fn look_at_disk(&mut self, path: &'a str) -> Result<RealDisk<'a, H>, FileFault> {
-        let opened = match self.look_at_file(path) {
-            Ok(file) => disk_of(file),
-            Err(fault) => Err(fault),
-        };
+        let file = self.look_at_file(path);
+        let opened = self.disk_opened(file, FileUse::Disk, path);
         self.disk = self.disk.with(&FileOpening::of(path, &opened));
         opened
     }
 
     fn open_filled(&mut self, path: &'a str, size: usize) -> Result<RealDisk<'a, H>, FileFault> {
-        let opened = match self.open_filled_file(path, size) {
-            Ok(file) => disk_of(file),
-            Err(fault) => Err(fault),
-        };
+        let file = self.open_filled_file(path, size);
+        let opened = self.disk_opened(file, FileUse::Filled, path);
         self.disk = self.disk.with(&FileOpening::of(path, &opened));
         opened
     }
@@ -344,10 +385,8 @@ impl<'a, R: Files<File = File>, H: Holds> Sources<'a, File, RealDisk<'a, H>>
         path: &'a str,
         size: usize,
     ) -> Result<RealDisk<'a, H>, FileFault> {
-        let opened = match self.open_making_file(alloc, path, size) {
-            Ok(file) => disk_of(file),
-            Err(fault) => Err(fault),
-        };
+        let file = self.open_making_file(alloc, path, size);
+        let opened = self.disk_opened(file, FileUse::Filled, path);
         self.making = self.making.with(&FileOpening::of(path, &opened));
         opened
     }
@@ -365,10 +404,8 @@ impl<'a, R: Files<File = File>, H: Holds> Sources<'a, File, RealDisk<'a, H>>
         path: &'a str,
         size: usize,
     ) -> Result<RealDisk<'a, H>, FileFault> {
-        let opened = match self.open_core_file(alloc, path, size) {
-            Ok(file) => disk_of(file),
-            Err(fault) => Err(fault),
-        };
+        let file = self.open_core_file(alloc, path, size);
+        let opened = self.disk_opened(file, FileUse::Filled, path);
         self.making = self.making.with(&FileOpening::of(path, &opened));
         opened
     }
@@ -381,15 +418,7 @@ impl<'a, R: Files<File = File>, H: Holds> Sources<'a, File, RealDisk<'a, H>>
     }
 
     fn open_output(&mut self, path: &'a str) -> Result<OpenedOutput<RealDisk<'a, H>>, FileFault> {
-        let mut opened = open_system_output(self.rt, path, self.why);
-        if let Err(FileFault::InUse) = opened {
-            if self.is_disk(path) {
-                opened = Err(FileFault::IsDisk);
-            }
-        }
-        if self.is_input(path) {
-            opened = Err(FileFault::IsInput);
-        }
+        let opened = self.open_output_file(path);
         self.output = self.output.with(&FileOpening::of(path, &opened));
         opened
     }
