@@ -1,6 +1,7 @@
 //! Checkpoint and restart of pthread programs: does what its words ask for, on standard input, output and error.
 #![tactic(auto)]
 
+use ckrt_disk::Calls;
 use ckrt_program::run_words;
 use ckrt_reports::{SystemMeter, WrittenReport};
 use ckrt_sources::{OutputReason, SystemSources, ToldWriter};
@@ -14,7 +15,7 @@ fn run<'a>(rt: &'a HostRuntime, words: &'a [&'a str], why: &'a Cell<OutputReason
     run_words(
         rt.alloc(),
         words,
-        &mut SystemSources::new(rt, why),
+        &mut SystemSources::new(rt, why, Calls::new()),
         &mut rt.reader(),
         &mut ToldWriter::new(io::writer(rt), why),
         &mut WrittenReport::new(rt.stderr()),

@@ -64,16 +64,26 @@ fn defaults_have_their_size(rt: HostRuntime) {
     play(&rt, DEFAULTS);
 }
 
-/// A disk that is made over a file of 348,170 bytes: the last ten of them are 77 still.
+const SOMEBODYS: &str =
+    "the disk jobs_c.disk: it is no disk, and is unchanged; move it away, or give another path\nckrt: File\n";
+
+/// A file of 348,170 bytes is refused where they are somebody's, and is as it was. Where they are zeros it becomes a disk, and the last ten of
+/// them stay.
 const LONGER: &[Step] = &[
     Write("jobs_c.img", &IMAGE),
     Fill("jobs_c.disk", 0x77, 348_170),
+    Fails(
+        "format jobs_c.disk jobs_c.img --pages=16 --journal=4096",
+        SOMEBODYS,
+    ),
+    EndsWith("jobs_c.disk", 348_170, &[0x77; 10]),
+    Fill("jobs_c.disk", 0, 348_170),
     Prints(
         "format jobs_c.disk jobs_c.img --pages=16 --journal=4096",
         "",
         "formatted 348160\n",
     ),
-    EndsWith("jobs_c.disk", 348_170, &[0x77; 10]),
+    EndsWith("jobs_c.disk", 348_170, &[0; 10]),
     Remove("jobs_c.disk"),
     Remove("jobs_c.img"),
 ];
@@ -86,20 +96,21 @@ fn a_longer_file_keeps_what_stands_behind(rt: HostRuntime) {
 const OPEN_GATE: &str =
     "the disk jobs_j.disk: it holds a program already, and is unchanged; `ckrt drive` goes on with it\nckrt: AlreadyFormatted\n";
 
-/// Files whose first byte is an open gate: as a `format` may leave them that was stopped before it printed, shorter than any
-/// disk, or by a byte; and one that may be a disk.
+const NO_DISK: &str =
+    "the disk jobs_j.disk: it is no disk, and is unchanged; move it away, or give another path\nckrt: File\n";
+
+/// Files whose first byte is an open gate: shorter than any disk, or by a byte, they are somebody's; one that is as long may be a disk.
 const OPEN_GATES: &[Step] = &[
     Write("jobs_j.img", &IMAGE),
     Fill("jobs_j.disk", 0xa5, 102_400),
-    Prints(
+    Fails(
         "format jobs_j.disk jobs_j.img --pages 16 --journal 4096",
-        "",
-        "formatted 348160\n",
+        NO_DISK,
     ),
-    Prints("run jobs_j.disk", LINES, REPLIES),
+    EndsWith("jobs_j.disk", 102_400, &[0xa5; 10]),
     Fill("jobs_j.disk", 0xa5, 348_159),
-    Prints("format jobs_j.disk jobs_j.img", "", "formatted 864256\n"),
-    Prints("run jobs_j.disk", LINES, REPLIES),
+    Fails("format jobs_j.disk jobs_j.img", NO_DISK),
+    EndsWith("jobs_j.disk", 348_159, &[0xa5; 10]),
     Fill("jobs_j.disk", 0xa5, 348_160),
     Fails(
         "format jobs_j.disk jobs_j.img --pages 16 --journal 4096",
@@ -201,7 +212,7 @@ fn an_image_that_cant_be_read_is_refused(rt: HostRuntime) {
 const ABSENT_DISK: &str = "the disk jobs_none.disk: there is no such file\nckrt: File\n";
 
 const SHORT_DISK: &str =
-    "the disk jobs_e.disk: `ckrt format` didn't make it, or was stopped meanwhile; format it (docs/OPERATING.md)\nckrt: NotFormatted\n";
+    "the disk jobs_e.disk: `ckrt format` didn't make it, or was stopped meanwhile: look at its path, or give that format again (docs/OPERATING.md)\nckrt: NotFormatted\n";
 
 /// A folder that nobody locks: the one in which tests run may be locked.
 const ROOT_FOLDER: &str = "the disk /: it is a directory\nckrt: File\n";
@@ -231,7 +242,7 @@ fn lock<R: Abort>(rt: &R, file: &File) {
 const DISK_IN_USE: &str = "the disk jobs_f.disk: another program has it locked\nckrt: File\n";
 
 const EMPTY_DISK: &str =
-    "the disk jobs_f.disk: `ckrt format` didn't make it, or was stopped meanwhile; format it (docs/OPERATING.md)\nckrt: NotFormatted\n";
+    "the disk jobs_f.disk: `ckrt format` didn't make it, or was stopped meanwhile: look at its path, or give that format again (docs/OPERATING.md)\nckrt: NotFormatted\n";
 
 const IN_USE: &[Step] = &[
     Fails("run jobs_f.disk", DISK_IN_USE),

@@ -65,14 +65,14 @@ const NOT_IN_MAKING: &str =
     "the disk in the making making_b.disk.making: it is no disk in the making, and is unchanged; move it away, then give the command again\nckrt: File\n";
 
 /// What a making that was cut may leave is made anew: a file without a byte, one that is filled in part, and a disk that hasn't
-/// begun. Anything else stays, and is told.
+/// begun. Anything else stays, and is told: zeros without a mark, too.
 const LEFTOVERS: &[Step] = &[
     Write("making_b.img", &IMAGE),
     Write("making_b.disk.making", b""),
     Ends(MAKE_B, "", "enough\n", 5),
     Absent("making_b.disk.making"),
     Remove("making_b.disk"),
-    Fill("making_b.disk.making", 0, 900_000),
+    Write("making_b.disk.making", b"\0\0\0\0\0\0\0\0CKRTMAKE\0\0"),
     Ends(MAKE_B, "", "enough\n", 5),
     EndsWith("making_b.disk", 348_160, &[]),
     Absent("making_b.disk.making"),
@@ -90,6 +90,9 @@ const LEFTOVERS: &[Step] = &[
     Holds("making_b.disk.making", b"notes"),
     Fill("making_b.disk.making", 0x77, 20_000),
     Fails(MAKE_B_LATER, NOT_IN_MAKING),
+    Fill("making_b.disk.making", 0, 900_000),
+    Fails(MAKE_B_LATER, NOT_IN_MAKING),
+    EndsWith("making_b.disk.making", 900_000, &[]),
     Remove("making_b.disk.making"),
     Prints(
         "format making_b.disk.making making_b.img",

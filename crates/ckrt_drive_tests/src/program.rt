@@ -3,6 +3,7 @@
 use crate::expect::{
     expect_bytes, expect_eq, expect_eq_at, filled, image_of, remove_file, write_file,
 };
+use ckrt_disk::Calls;
 use ckrt_drive::Nobody;
 use ckrt_program::run_words;
 use ckrt_reports::WrittenReport;
@@ -115,7 +116,7 @@ fn ckrt<'a, R: Abort + Files<File = File> + AllocGlobal>(
     let status = run_words(
         rt.alloc(),
         words.as_slice(),
-        &mut SystemSources::new(rt, why),
+        &mut SystemSources::new(rt, why, Calls::new()),
         &mut reader,
         &mut output,
         &mut reporter,

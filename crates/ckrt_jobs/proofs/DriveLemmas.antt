@@ -32,7 +32,7 @@ module _ {D : Type 0} (d : Ghosts D) (before after : Gives D) (are : GivesNoMore
       → EndsWithRoom d after.Longer disk old new made size → EndsWithRoom d before.Longer disk old new made size
   room_weaker disk old new made (Err fault) ended = ended
   room_weaker disk old new made (Ok size) (inl has) = inl has
-  room_weaker disk old new made (Ok size) (inr (inl gets)) = inr (inl (record { short = gets.short; longer = gets.longer; is = gets.is; is_longer = are.longer disk size gets.longer gets.is_longer; asks = gets.asks }))
+  room_weaker disk old new made (Ok size) (inr (inl gets)) = inr (inl (record { short = gets.short; longer = gets.longer; is = gets.is; is_longer = are.longer disk size gets.longer gets.is_longer; long = gets.long; asks = gets.asks }))
   room_weaker disk old new made (Ok size) (inr (inr lacks)) = inr (inr lacks)
 
   makes_room_weaker : (disk : D) (old new : Openings D) (made : Result D (Unready D)) → MakesRoom d after.Longer disk old new made → MakesRoom d before.Longer disk old new made

@@ -12,7 +12,7 @@ use crate::sizes::other_sizes;
 use ckrt_disk::Disk;
 use ckrt_drive::{Drive, DriveFault, Feed, FromDisk, Nothing, Options, StreamOutput};
 use ckrt_machine::Machine;
-use ckrt_outcomes::{Driven, JobFault, Meter, OutputLengths, Watch, is_in_range};
+use ckrt_outcomes::{DrivePaths, Driven, JobFault, Meter, OutputLengths, Watch, is_in_range};
 use ckrt_recovery::{RecoverFault, Session, recover};
 use ckrt_schedule::ScheduleEnd;
 use ckrt_sources::{JobFile, OpenedOutput, OutputReason, Sources};
@@ -45,10 +45,22 @@ fn options_of(job: &DriveJob<'_>) -> Options
 fn watch_of<'a>(job: &DriveJob<'a>) -> Watch<'a>
     ensures progress { result.progress ≡ job.now.progress }
     ensures status { result.status ≡ job.now.status }
+    ensures paths { result.paths ≡ record {
+      disk = job.now.disk;
+      image = job.now.image;
+      input = job.now.input;
+      output = job.now.output;
+    } }
 {
     Watch {
         progress: job.progress,
         status: job.status,
+        paths: DrivePaths {
+            disk: job.disk,
+            image: job.image,
+            input: job.input,
+            output: job.output,
+        },
     }
 }
 

@@ -5,7 +5,7 @@ ghost use Rattle.clap.specs.Words.{takes};
 ghost use Rattle.ckrt_words.specs.Commands.{ckrt_app};
 ghost use Rattle.ckrt_words.specs.Jobs.{Formatting, asks_both_forms, Request, format, version, formatting_of, inspection_of, request_of, request_of_words};
 ghost use Rattle.ckrt_sources.specs.Files.{openings_of};
-ghost use Rattle.ckrt_program.specs.Performing.{made_line, MakesPath, Performs, RunsOpened, RunsPath, RunsWords, ServesStored, ShowsOpened, ShowsPath, any_files, outcome_of_hunt, outcome_with_end, outcome_without_end, size_of};
+ghost use Rattle.ckrt_program.specs.Performing.{made_line, MakesPath, Performs, RunsOpened, RunsPath, RunsWords, ServesStored, ShowsOpened, ShowsPath, outcome_of_hunt, outcome_with_end, outcome_without_end, real_files, size_of};
 ghost use Rattle.ckrt_outcomes.specs.Outside.{outside};
 ghost use Rattle.ckrt_reports.specs.Lines.{version_line};
 
@@ -20,11 +20,12 @@ use ckrt_main::serve_image;
 use ckrt_outcomes::{Done, Driven, JobFault, Meter};
 use ckrt_recovery::Config;
 use ckrt_reports::{Reporter, report, report_words, write_formatted, write_version};
-use ckrt_sources::{JobFile, Sources, SystemDisk, SystemSources};
+use ckrt_sources::{JobFile, RealDisk, Sources, SystemSources};
 use ckrt_words::{FormatJob, InspectJob, Job, read_words};
 use std::alloc::Global;
 use std::fs::{File, Files};
 use std::io::{Read, Write};
+use std::marker::Brand;
 
 /// Makes the disk of a job, and says how many bytes it needs.
 fn make<'a, I: Read + Drop, D: Disk, S: Sources<'a, I, D>, W: Write>(
@@ -304,8 +305,12 @@ pub fn run_words_with<
     }
 }
 
+/// A disk that is a file of the system.
+pub type SystemDisk<'a> = RealDisk<'a, Brand>;
+
 /// Does what the words after the program's name ask for, with images and disks that are files of the system, as
-/// [`run_words_with`] says.
+/// [`run_words_with`] says. Each file was opened as what it is used for, and of its path; of its bytes this says nothing, since
+/// [`SystemDisk`] names what they are.
 pub fn run_words<
     'a,
     F: Files<File = File>,
@@ -336,7 +341,7 @@ pub fn run_words<
         → takes ckrt_app (map (λ s. s.now) words.entry.now) ≢ true }
     ensures stored { result ≡ 2 → words.entry.now ≢ [] }
     ensures outcome { RunsWords {d = ⟦<SystemDisk<'a> as Disk>⟧}
-        (any_files ⟦<StreamOutput<'a, W> as Disk>⟧ W.contents) (map (λ s. s.now) words.entry.now)
+        (real_files ⟦<StreamOutput<'a, W> as Disk>⟧ W.contents) (map (λ s. s.now) words.entry.now)
         (outside (openings_of sources.old) (W.contents writer.old) (R.remaining reader.old))
         (outside (openings_of sources.new) (W.contents writer.new) (R.remaining reader.new))
         (record {
