@@ -50,7 +50,7 @@ module _ (u : Course) (p : Program) where
   are_more b [] ys h k = subst (λ (l : List Event). AreByPlan u p l ys) (append-nil b) k
   are_more b (x ∷ xs) ys h k = (h.0, are_more (b ++ x ∷ []) xs ys h.1 (subst (λ (l : List Event). AreByPlan u p l ys) (sym (append_assoc b (x ∷ []) xs)) k))
 
-  are_fewer : (b xs ys : List Event) → AreByPlan u p b (xs ++ ys) → AreByPlan u p b xs
+  pub are_fewer : (b xs ys : List Event) → AreByPlan u p b (xs ++ ys) → AreByPlan u p b xs
   are_fewer b [] ys h = tt
   are_fewer b (x ∷ xs) ys h = (h.0, are_fewer (b ++ x ∷ []) xs ys h.1)
 

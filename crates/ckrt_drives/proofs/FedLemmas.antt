@@ -57,7 +57,7 @@ said_beside n None = refl
 said_beside n (Some other) = refl
 
 -- an image that keeps what its events took tells that, whatever somebody says beside
-tells_from : (said : Option ℕ) (events : List Event) (image : List ℕ) → IsFed events image → offset_from said image ≡ Ok (Some (taken_by events))
+pub tells_from : (said : Option ℕ) (events : List Event) (image : List ℕ) → IsFed events image → offset_from said image ≡ Ok (Some (taken_by events))
 tells_from said events image is =
     let f = is.fed in
     ap (λ (u : Result (Config × Area) RecoverFault). u >>= λ used. taken_in (journaled used.0 used.1 image) >>= λ more. Ok (with_saved (or_said (saved_offset used.0 used.1 image) said) more)) is.used
