@@ -1,0 +1,4 @@
+mod WitnessLemmas
+mod TurnLemmas
+mod PowerLemmas
+mod ClosedLemmas

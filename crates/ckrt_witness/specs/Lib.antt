@@ -1,0 +1,4 @@
+pub mod Drives
+pub mod Held
+pub mod Power
+pub mod Turns
