@@ -2,9 +2,22 @@
 from dataclasses import dataclass
 
 from devices import MemoryDisk
-from layout import OPEN, Geometry, Unformatted, format_disk, format_onto, refusal_of_format
+from layout import MAGIC, OPEN, Geometry, Unformatted, format_disk, format_onto, refusal_of_format
 
 SMALLEST = Geometry(16, 1, 4096)
+GATE, NAME = slice(0, 8), slice(8, 16)  # of a file: its gate with the bytes behind it, and where a disk has its name
+MAKING = b"CKRTMAKE"  # the name of a file that is in the making
+
+
+def is_disk_already(before, size):
+    """A file that is as long as a disk, behind an open gate: one that gets longer needs a disk's name for that."""
+    return len(before) >= SMALLEST.size and before[0] == OPEN and (len(before) >= size or before[NAME] == MAGIC)
+
+
+def may_be_written(before, size):
+    """A file that nobody misses: it is empty, or has zeros as far as the disk goes, or a making or a format that was cut left it."""
+    is_left = len(before) >= 16 and not any(before[GATE]) and before[NAME] in (MAKING, MAGIC)
+    return not before or is_left or not any(before[:size])
 
 
 @dataclass
@@ -21,6 +34,8 @@ class FormatCase:
         if refusal is not None:
             return refusal, self.before
         before = self.before or b""
+        if not is_disk_already(before, self.geometry.size) and not may_be_written(before, self.geometry.size):
+            return "File", self.before
         kept = before if len(before) >= SMALLEST.size else b""
         contents = bytearray(kept.ljust(self.geometry.size, b"\0"))
         try:
@@ -44,9 +59,12 @@ def format_case(chance, seed):
     length = chance.choice([None, 0, 1, 4096, size - 1, size, size, size + 1, size + 4096])
     if length is None:
         return FormatCase(geometry, image, None)
-    before = bytearray(chance.randbytes(length))
-    if before:
-        before[0] = OPEN if chance.random() < 0.2 else chance.choice([0, 1, OPEN - 1, OPEN ^ 0x80, 255])
+    before = bytearray(chance.choice([chance.randbytes, bytes, bytes])(length))
+    if before and chance.random() < 0.5:
+        before[0] = OPEN if chance.random() < 0.3 else chance.choice([0, 0, 1, OPEN - 1, OPEN ^ 0x80, 255])
+    if length >= 16 and chance.random() < 0.4:
+        before[GATE] = bytes([OPEN if chance.random() < 0.3 else 0]) + bytes(7)
+        before[NAME] = chance.choice([MAKING, MAGIC, bytes(8)])
     if chance.random() < 0.1 and geometry.is_possible():
         before = format_disk(geometry, b"")
     return FormatCase(geometry, image, bytes(before))

@@ -11,6 +11,7 @@ from itertools import groupby
 from call_lines import History
 from devices import DeviceFault, MemoryDisk
 from feeding import Undriven
+from formats import MAKING, NAME
 from histories import is_turned
 from layout import CLOSED, Geometry, format_onto, write_gate
 from lines import reply_lines
@@ -181,10 +182,13 @@ def calls(path, *options, told=lambda lines: lines, seen=lambda contents: conten
 
 
 def make(path, image, *options, disk=FileDisk):
-    """All options are there."""
+    """All options are there. The file is marked first as one that is in the making."""
     values = dict(zip(options[::2], map(int, options[1::2])))
+    made = disk(path)
+    made.write(NAME.start, MAKING)
+    made.sync()
     with open(image, "rb") as file:
-        format_onto(disk(path), Geometry(values["--pages"], values["--harts"], values["--journal"]), file.read())
+        format_onto(made, Geometry(values["--pages"], values["--harts"], values["--journal"]), file.read())
 
 
 WRONG = {"without a sync": {"disk": Without}, "short": {"disk": Short}, "again": {"disk": Again}, "split": {"disk": Split},

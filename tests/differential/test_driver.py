@@ -97,7 +97,7 @@ class Driver(unittest.TestCase):
     def test_wrong(self):
         for which, kind in FOUND_BY:
             with self.subTest(which=which, kind=kind):
-                self.assertTrue(any(self.difference(which, kind, seed) for seed in range(1, 9)))
+                self.assertTrue(any(self.difference(which, kind, seed) for seed in range(1, 33)))
 
 
 if __name__ == "__main__":

@@ -5,7 +5,8 @@ from random import Random
 from damage import Damage
 from devices import MemoryDisk
 from foreseen import Course
-from layout import Geometry, format_disk
+from formats import MAKING
+from layout import MAGIC, Geometry, format_disk
 from life_lists import commands_of, life_list, random_fill, some_lines
 from recovery import Unrecovered, read_area, read_superblock, recover
 from saved_disks import ChangedArea, asks, serve_and_save, stopped_disk
@@ -137,10 +138,11 @@ def listings_case(chance, case):
 
 
 def cuts_case(chance, seed):
-    """`format` stopped at a call, on a file that holds zeros or other bytes; at times a longer one."""
+    """`format` stopped at a call, on a file that has zeros, or what a making or a format that was cut left; at times a longer one."""
     geometry = Geometry(chance.choice([16, 16, 17, 20]), chance.choice([1, 2, 8]), chance.choice([4096, 8192]))
     image = chance.randbytes(chance.choice([0, 24, 4096, 5000, geometry.image_limit]))
-    before = bytearray(chance.choice([bytes, chance.randbytes])(geometry.size + chance.choice([0, 0, 1, 4096])))
-    before[0] = chance.choice([0, 1, 0xA4, 255])
+    before = bytearray(geometry.size) + chance.randbytes(chance.choice([0, 0, 1, 4096]))
+    if chance.random() < 0.5:
+        before[:geometry.size] = bytes(8) + chance.choice([MAKING, MAGIC]) + chance.randbytes(geometry.size - 16)
     stop_at = chance.choice([0, *range(1, 16), chance.randrange(1, geometry.pages + 16)])
     return CutCase(geometry, image, bytes(before), stop_at, random_fill(chance))

@@ -1,6 +1,7 @@
 """The model's side of cases under trace, and where the program differs from it."""
 from devices import DeviceFault, FailingDisk, MemoryDisk, StoppingDisk, filled
 from foreseen import SYNC, Course, image_of_stop
+from formats import MAKING, NAME
 from layout import format_onto
 from life_lists import commands_of
 from lines import reply_lines, serve
@@ -108,7 +109,7 @@ def difference_of_traced(ckrt, case, path, tally, count_life):
 
 
 def bytes_at_sync(case, number):
-    """What the file holds when `format` makes its sync of that number."""
+    """What the file holds when `format` makes its sync of that number. The first one is that of the mark of a making."""
     class Counting(MemoryDisk):
         syncs = 0
 
@@ -118,6 +119,10 @@ def bytes_at_sync(case, number):
                 raise DeviceFault
 
     disk = Counting(bytearray(case.before))
+    disk.bytes[NAME] = MAKING
+    if number == 1:
+        return disk.bytes
+    number -= 1
     try:
         format_onto(disk, case.geometry, case.image)
     except DeviceFault:
@@ -150,10 +155,10 @@ def difference_of_cut(ckrt, case, path, tally):
         contents_wanted = bytes_at_sync(case, syncs) if at_sync else contents
         path.write_bytes(with_fill(bytearray(contents), traced.calls, case.fill))
     else:
-        contents_wanted = bytes_at_sync(case, 4)
+        contents_wanted = bytes_at_sync(case, 5)
     if contents != contents_wanted:
         return f"the disk's bytes at sync {syncs}"
-    if (traced.status, syncs) not in ((None, 0), (None, 1), (None, 2), (None, 3), (0, 3)):
+    if (traced.status, syncs) not in ((None, 0), (None, 1), (None, 2), (None, 3), (None, 4), (0, 4)):
         return f"status {traced.status} behind {syncs} syncs"
     return difference_of_first_recovery(path.read_bytes(), traced, tally)
 

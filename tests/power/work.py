@@ -204,6 +204,10 @@ def go_on(place, name, run, chance):
     if not run.formatted:
         words = place.format_words(name)
         done = said(words)
+        if done.returncode and b"it is no disk, and is unchanged" in done.stderr:
+            # the cut left other bytes than its first block, by which the file would be known
+            words[2].unlink()
+            done = said(words)
         if done.returncode and not done.stderr.endswith(b"ckrt: AlreadyFormatted\n"):
             raise Finding(shown(words, done))
     output = place.folder / f"{name}.out"

@@ -116,15 +116,12 @@ fn the_making_has_so_many_calls(rt: HostRuntime) {
     expect_eq_at(&rt, "calls", disk.calls(), CALLS);
 }
 
-/// How a file begins that is in the making, behind its gate and 7 zeros.
-const MARK: &[u8] = b"CKRTMAKE";
+/// How a file begins that is in the making: its gate, 7 zeros, and its mark.
+const FRONT: &[u8] = b"\0\0\0\0\0\0\0\0CKRTMAKE";
 
 /// Whether these are zeros, but for the mark of a file that is in the making.
 fn is_filled(bytes: &[u8]) -> bool {
-    let (front, rest) = bytes.split_at(16);
-    front.iter().take(8).all(|byte| *byte == 0)
-        && front.ends_with(MARK)
-        && rest.iter().all(|byte| *byte == 0)
+    bytes.starts_with(FRONT) && bytes.iter().skip(FRONT.len()).all(|byte| *byte == 0)
 }
 
 /// A disk stays as it is where a longer one is asked for, and gets zeros after its end; one byte less is no disk.
