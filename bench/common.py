@@ -66,7 +66,7 @@ def ratios_of(ours, base):
 
 
 def steps_told(said):
-    """The steps that a run of ckrt_probe tells."""
+    """The steps that a run of ckrt_bench_probe tells."""
     return int(re.search(r"steps (\d+)", said)[1])
 
 

@@ -49,7 +49,7 @@ MAPPED_LIMIT = 4_096 + 1_280
 class Bench:
     def __init__(self, folder):
         self.plain, self.folder = plain("disk"), Path(folder)
-        self.ckrt, self.probe = found("ckrt", "ckrt_probe")
+        self.ckrt, self.probe = found("ckrt", "ckrt_bench_probe")
         self.image, self.crowd, self.stores = guest(GUEST), guest(CROWD), guest(STORES)
 
     def format_disk(self, name, pages, journal=4_096, image=None):

@@ -39,7 +39,7 @@ INPUT, LESS_INPUT = 1_000_000, 200_000
 
 class Bench:
     def __init__(self, folder):
-        self.ckrt, self.probe = found("ckrt", "ckrt_probe")
+        self.ckrt, self.probe = found("ckrt", "ckrt_bench_probe")
         self.disk, self.output, self.image, self.input = (Path(folder) / f"drive.{it}" for it in ("disk", "output", "image", "input"))
 
     def remove(self):

@@ -62,7 +62,7 @@ def decoding(programs):
 
 
 def main():
-    folder, programs = Path(*sys.argv[1:2] or "."), [plain("journal"), *found("ckrt_probe")]
+    folder, programs = Path(*sys.argv[1:2] or "."), [plain("journal"), *found("ckrt_bench_probe")]
     for size in (7, 4096):
         (base, ours), (low, middle, high) = appends(programs, folder, size)
         note("journal", f"append of at most {size} bytes", "us", ours, base, (low, middle, high))

@@ -186,7 +186,7 @@ def resident_of(ckrt, path, image, pages):
 
 def main():
     folder, image = Path(*sys.argv[1:2] or "."), guest(GUEST)
-    ckrt, machine = found("ckrt", "ckrt_probe")
+    ckrt, machine = found("ckrt", "ckrt_bench_probe")
     batches = plain("batches")
     commits(plain("journal"), ckrt, image, folder)
     steps(ckrt, machine, image, folder)

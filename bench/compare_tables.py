@@ -43,7 +43,7 @@ def compare(programs, folder, state):
 
 
 def main():
-    programs, folder = [plain("tables"), *found("ckrt_probe")], MADE / "tables"
+    programs, folder = [plain("tables"), *found("ckrt_bench_probe")], MADE / "tables"
     make_tables.make(folder)
     for state in STATES:
         compare(programs, folder, state)

@@ -1,4 +1,4 @@
-//! Saved tables, in version 2, in plain safe Rust: what `ckrt_probe save` is measured against. The word's meaning, the tables and the work
+//! Saved tables, in version 2, in plain safe Rust: what `ckrt_bench_probe save` is measured against. The word's meaning, the tables and the work
 //! are the same: all room is taken first, each row is read and goes onto its table where that may go on so, the whole is
 //! tested, written again and compared. Tables are arrays, that of mutexes keeps those that became free until the room is
 //! needed, objects are found by halving, and whether a thread waits is looked up.

@@ -3,7 +3,8 @@
  *
  * Each call on stdin, stdout or stderr holds the stream's lock from its begin to its end, so that what one call prints
  * stands together. stdout and stderr are both the console, without buffers, and have one lock. A stream of another kind
- * (sprintf's, fmemopen's) has none. The writing calls are no cancellation points, the reading ones are.
+ * (sprintf's, fmemopen's) has none. The reading calls are cancellation points, and so are the
+ * writing ones before their first byte, where the thread holds no stream by flockfile.
  */
 #ifndef GUEST_STDIO_H
 #define GUEST_STDIO_H
@@ -30,7 +31,13 @@ void funlockfile(FILE *stream);
 ssize_t getline(char **__restrict line, size_t *__restrict room, FILE *__restrict stream);
 ssize_t getdelim(char **__restrict line, size_t *__restrict room, int end, FILE *__restrict stream);
 
-#define GUEST_HAS_NO_FILES __attribute__((error("a guest has no files, only stdin, stdout and stderr")))
+#ifdef GUEST_FILES
+#define FOPEN_MAX 61
+#define FILENAME_MAX 1024
+
+int renameat(int from_folder, const char *from, int to_folder, const char *to);
+#else
+#define GUEST_HAS_NO_FILES __attribute__((error("a guest has files by the option -files alone")))
 
 FILE *fopen(const char *, const char *) GUEST_HAS_NO_FILES;
 FILE *freopen(const char *, const char *, FILE *) GUEST_HAS_NO_FILES;
@@ -38,6 +45,7 @@ FILE *fdopen(int, const char *) GUEST_HAS_NO_FILES;
 FILE *tmpfile(void) GUEST_HAS_NO_FILES;
 int remove(const char *) GUEST_HAS_NO_FILES;
 int rename(const char *, const char *) GUEST_HAS_NO_FILES;
+#endif
 
 #ifdef __cplusplus
 }

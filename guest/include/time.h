@@ -9,7 +9,23 @@
 
 #pragma GCC system_header
 
+/* The C library's header asks which of these are defined, to declare more than a guest has. */
+#pragma push_macro("_POSIX_CLOCK_SELECTION")
+#undef _POSIX_CLOCK_SELECTION
+#pragma push_macro("_POSIX_CPUTIME")
+#undef _POSIX_CPUTIME
+#pragma push_macro("_POSIX_MONOTONIC_CLOCK")
+#undef _POSIX_MONOTONIC_CLOCK
+#pragma push_macro("_POSIX_THREAD_CPUTIME")
+#undef _POSIX_THREAD_CPUTIME
+#pragma push_macro("_POSIX_TIMERS")
+#undef _POSIX_TIMERS
 #include_next <time.h>
+#pragma pop_macro("_POSIX_CLOCK_SELECTION")
+#pragma pop_macro("_POSIX_CPUTIME")
+#pragma pop_macro("_POSIX_MONOTONIC_CLOCK")
+#pragma pop_macro("_POSIX_THREAD_CPUTIME")
+#pragma pop_macro("_POSIX_TIMERS")
 
 #ifndef CLOCK_MONOTONIC
 #define CLOCK_MONOTONIC ((clockid_t)4)
@@ -22,6 +38,9 @@
 #define CLOCK_THREAD_CPUTIME_ID ((clockid_t)3)
 #endif
 
+/* Of ISO C: this one clock too. */
+#define TIME_UTC 1
+
 /* As POSIX says; the C library counts milliseconds. */
 #undef CLOCKS_PER_SEC
 #define CLOCKS_PER_SEC ((clock_t)1000000)
@@ -32,6 +51,7 @@ extern "C" {
 
 int clock_gettime(clockid_t clock, struct timespec *now);
 int clock_getres(clockid_t clock, struct timespec *resolution);
+int timespec_get(struct timespec *now, int base);               /* the base, or 0 for another than TIME_UTC */
 
 /* Cancellation points. A sleep ends at its moment and at no other: no signal cuts it short. */
 int clock_nanosleep(clockid_t clock, int flags, const struct timespec *time, struct timespec *rest);

@@ -15,6 +15,10 @@ static void lock(void) { pthread_mutex_lock(&__guest_atomic_lock.mutex); }
 static void unlock(void) { pthread_mutex_unlock(&__guest_atomic_lock.mutex); }
 
 /* Where an atomic load or store is a single step it stands beside a fence: see fenced.h. */
+#define GET_1(place) load_byte(place)
+#define GET_2(place) load_half(place)
+#define GET_4(place) load_word(place)
+#define GET_8(place) (*(place))
 #define PUT_1(place, value) store_byte((place), (value))
 #define PUT_2(place, value) store_half((place), (value))
 #define PUT_4(place, value) store_word((place), (value))
@@ -29,7 +33,7 @@ static void unlock(void) { pthread_mutex_unlock(&__guest_atomic_lock.mutex); }
     type fetch_##name##bytes(volatile type *place, type by, int order) {                                              \
         (void)order;                                                                                                  \
         lock();                                                                                                       \
-        type old = *place;                                                                                            \
+        type old = GET_##bytes(place);                                                                                \
         PUT_##bytes(place, (type)(new_value));                                                                        \
         unlock();                                                                                                     \
         return old;                                                                                                   \
@@ -44,6 +48,8 @@ static void unlock(void) { pthread_mutex_unlock(&__guest_atomic_lock.mutex); }
     type sync_##name##_fetch##bytes(volatile type *place, type by) CALL(__sync_##name##_and_fetch_##bytes);           \
     type sync_##name##_fetch##bytes(volatile type *place, type by) { return name##_fetch##bytes(place, by, 0); }
 
+/* Of those that compare, `expected` is read before and written only where they differ: once the new value is stored, what it
+   points to may be another thread's. */
 #define OPERATIONS(bytes, type, load)                                                                                 \
     type load##bytes(const volatile type *place, int order) CALL(__atomic_load_##bytes);                              \
     type load##bytes(const volatile type *place, int order) {                                                         \
@@ -61,7 +67,7 @@ static void unlock(void) { pthread_mutex_unlock(&__guest_atomic_lock.mutex); }
     type exchange##bytes(volatile type *place, type value, int order) {                                               \
         (void)order;                                                                                                  \
         lock();                                                                                                       \
-        type old = *place;                                                                                            \
+        type old = GET_##bytes(place);                                                                                \
         PUT_##bytes(place, value);                                                                                    \
         unlock();                                                                                                     \
         return old;                                                                                                   \
@@ -72,7 +78,7 @@ static void unlock(void) { pthread_mutex_unlock(&__guest_atomic_lock.mutex); }
         CALL(__sync_val_compare_and_swap_##bytes);                                                                    \
     type sync_compare##bytes(volatile type *place, type expected, type value) {                                       \
         lock();                                                                                                       \
-        type old = *place;                                                                                            \
+        type old = GET_##bytes(place);                                                                                \
         if (old == expected) PUT_##bytes(place, value);                                                               \
         unlock();                                                                                                     \
         return old;                                                                                                   \
@@ -86,10 +92,10 @@ static void unlock(void) { pthread_mutex_unlock(&__guest_atomic_lock.mutex); }
         CALL(__atomic_compare_exchange_##bytes);                                                                      \
     bool compare##bytes(volatile type *place, type *expected, type value, bool is_weak, int order, int other) {       \
         (void)is_weak, (void)order, (void)other;                                                                      \
-        type old = sync_compare##bytes(place, *expected, value);                                                      \
-        bool is_equal = old == *expected;                                                                             \
-        *expected = old;                                                                                              \
-        return is_equal;                                                                                              \
+        type wanted = *expected;                                                                                      \
+        type old = sync_compare##bytes(place, wanted, value);                                                         \
+        if (old != wanted) *expected = old;                                                                           \
+        return old == wanted;                                                                                         \
     }                                                                                                                 \
     CHANGE(bytes, type, add, old + by)                                                                                \
     CHANGE(bytes, type, sub, old - by)                                                                                \

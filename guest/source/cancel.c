@@ -1,4 +1,5 @@
-/* Cancellation and clean-up handlers; taking a handler away is in thread_end.S. */
+/* Cancellation and clean-up handlers; taking a handler away is in thread_end.S. What tells of an error and ends the process disables
+   cancellation: a request that is pending mustn't hide it. */
 #include "calls.h"
 #include <pthread.h>
 #include <stdio.h>
@@ -20,6 +21,14 @@ void pthread_testcancel(void) { runtime(CALL_TESTCANCEL, 0, 0, 0, 0); }
 
 void __guest_cleanup_push(void (*routine)(void *), void *argument) {
     if (runtime(CALL_CLEANUP_PUSH, (uint32_t)routine, (uint32_t)argument, 0, 0).result == 0) return;
+    pthread_setcancelstate(PTHREAD_CANCEL_DISABLE, NULL);
     fputs("pthread_cleanup_push: no room for one more handler\n", stderr);
+    abort();
+}
+
+/* In place of the C library's. */
+void __assert_func(const char *file, int line, const char *function, const char *text) {
+    pthread_setcancelstate(PTHREAD_CANCEL_DISABLE, NULL);
+    fprintf(stderr, "assertion \"%s\" failed: file \"%s\", line %d, function: %s\n", text, file, line, function ? function : "?");
     abort();
 }

@@ -51,6 +51,12 @@ int clock_getres(clockid_t clock, struct timespec *resolution) {
     return 0;
 }
 
+int timespec_get(struct timespec *now, int base) {
+    if (base != TIME_UTC) return 0;
+    *now = time_of(__guest_now());
+    return base;
+}
+
 clock_t clock(void) { return (clock_t)(__guest_now() * (CLOCKS_PER_SEC / TICKS_A_SECOND)); }
 
 int gettimeofday(struct timeval *restrict now, void *restrict zone) {

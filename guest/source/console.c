@@ -2,9 +2,9 @@
  * stdin, stdout and stderr over the console.
  *
  * The C library's calls on streams know of no locks. So the linker sends each call that moves bytes here first (its
- * option --wrap, see `build`), and the call itself has the name __real_..: a writing call holds the output's lock, and
- * is no cancellation point, since it mustn't end in its middle; a reading call holds the input's lock, which a clean-up
- * handler gives up where the thread is cancelled as it waits for input. The library's other calls are made of these.
+ * option --wrap, see `build`), and the call itself has the name __real_..: a writing call is a cancellation point before its first
+ * byte, and then holds the output's lock, with cancellation disabled, since it mustn't end in its middle; a reading call holds the
+ * input's lock, which a clean-up handler gives up where the thread is cancelled as it waits for input. The library's other calls are made of these.
  */
 #include "calls.h"
 #include "locks.h"
@@ -14,6 +14,12 @@
 #include <stdlib.h>
 #include <string.h>
 
+#ifdef GUEST_FILES
+#include "../files/streams.h"
+
+static pthread_mutex_t *lock_of(FILE *stream) { return __guest_stream_lock(stream); }
+
+#else
 #define END_OF_INPUT 0xFFFFFFFF
 
 static int put(char byte, FILE *stream) {
@@ -40,19 +46,29 @@ static pthread_mutex_t *lock_of(FILE *stream) {
     return NULL;
 }
 
+static void __guest_begin_of_call(FILE *stream, int way) { (void)stream, (void)way; }
+static void __guest_end_of_call(FILE *stream) { (void)stream; }
+
+#endif
+
+/* How many times the thread holds locks of streams: then no writing call is a cancellation point. */
+static _Thread_local unsigned held;
+
 void flockfile(FILE *stream) {
     pthread_mutex_t *lock = lock_of(stream);
-    if (lock) pthread_mutex_lock(lock);
+    if (lock && pthread_mutex_lock(lock) == 0) held++;
 }
 
 int ftrylockfile(FILE *stream) {
     pthread_mutex_t *lock = lock_of(stream);
-    return lock ? pthread_mutex_trylock(lock) : 0;
+    int error = lock ? pthread_mutex_trylock(lock) : 0;
+    if (lock && !error) held++;
+    return error;
 }
 
 void funlockfile(FILE *stream) {
     pthread_mutex_t *lock = lock_of(stream);
-    if (lock) pthread_mutex_unlock(lock);
+    if (lock && pthread_mutex_unlock(lock) == 0) held--;
 }
 
 /* --- Writing ------------------------------------------------------------------------------------------------------ */
@@ -60,32 +76,17 @@ void funlockfile(FILE *stream) {
 /* Answers the state of cancellation, for `end_writing`. */
 static int begin_writing(FILE *stream) {
     int state;
+    if (!held && lock_of(stream)) pthread_testcancel();
     pthread_setcancelstate(PTHREAD_CANCEL_DISABLE, &state);
     flockfile(stream);
+    __guest_begin_of_call(stream, __SWR);
     return state;
 }
 
 static void end_writing(FILE *stream, int state) {
+    __guest_end_of_call(stream);
     funlockfile(stream);
     pthread_setcancelstate(state, NULL);
-}
-
-/* The library's formats have no long double. guest/cc refuses a program with such a text in it; of a format that is
-   made while the program runs this tells. */
-static void refuse_long_double(const char *format) {
-    for (const char *at = format; (at = strchr(at, '%')); at++) {
-        at += 1 + strspn(at + 1, "-+ #0123456789.*");
-        if (*at == 'L' && at[1] && strchr("aAeEfFgG", at[1])) {
-            __guest_say("a guest can't print or read a long double: convert it to double\n");
-            abort();
-        }
-        if (!*at) return;
-    }
-}
-
-static const char *checked(const char *format) {
-    if (strchr(format, 'L')) refuse_long_double(format);
-    return format;
 }
 
 /* A call __wrap_NAME that writes to `stream` by __real_NAME. */
@@ -103,11 +104,24 @@ WRITING(int, putc, to, (int byte, FILE *to), (byte, to))
 WRITING(int, fputs, to, (const char *text, FILE *to), (text, to))
 WRITING(int, puts, stdout, (const char *text), (text))
 WRITING(size_t, fwrite, to, (const void *from, size_t size, size_t count, FILE *to), (from, size, count, to))
-WRITING(int, vfprintf, to, (FILE *to, const char *format, va_list values), (to, checked(format), values))
+WRITING(int, vfprintf, to, (FILE *to, const char *format, va_list values), (to, format, values))
 
 /* --- Reading ------------------------------------------------------------------------------------------------------ */
 
 static void unlock(void *stream) { funlockfile(stream); }
+
+/* The library reads no long double: of such a format this tells. */
+static const char *checked(const char *format) {
+    for (const char *at = format; (at = strchr(at, '%')); at++) {
+        at += 1 + strspn(at + 1, "*0123456789");
+        if (*at == 'L' && at[1] && strchr("aAeEfFgG", at[1])) {
+            __guest_say("a guest can't read a long double by a format: read a double, or take strtold\n");
+            abort();
+        }
+        if (!*at) break;
+    }
+    return format;
+}
 
 /* A call __wrap_NAME that reads from `stream` by __real_NAME. */
 #define READING(type, name, stream, parameters, arguments) \
@@ -116,6 +130,7 @@ static void unlock(void *stream) { funlockfile(stream); }
         type result;                                       \
         flockfile(stream);                                 \
         pthread_cleanup_push(unlock, stream);              \
+        __guest_begin_of_call(stream, __SRD);              \
         result = __real_##name arguments;                  \
         pthread_cleanup_pop(1);                            \
         return result;                                     \

@@ -5,7 +5,7 @@
 #include <sys/lock.h>
 
 struct __lock __lock___libc_recursive_mutex, __guest_output_lock, __guest_input_lock, __guest_atomic_lock;
-struct __lock __guest_semaphore_lock;
+struct __lock __guest_queue_lock;
 
 static int make_lock(_LOCK_T lock, int type) {
     pthread_mutexattr_t attributes = {.type = type};
@@ -17,7 +17,7 @@ void __guest_make_locks(void) {
     make_lock(&__guest_output_lock, PTHREAD_MUTEX_RECURSIVE);
     make_lock(&__guest_input_lock, PTHREAD_MUTEX_RECURSIVE);
     make_lock(&__guest_atomic_lock, PTHREAD_MUTEX_RECURSIVE);
-    make_lock(&__guest_semaphore_lock, PTHREAD_MUTEX_RECURSIVE);
+    make_lock(&__guest_queue_lock, PTHREAD_MUTEX_RECURSIVE);
 }
 
 /* These two have no answer for want of memory or of mutexes. */

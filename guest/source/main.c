@@ -40,6 +40,15 @@ static void move_words(void) {
     for (volatile char *at = place; at < place + bytes && at < place + before_heap; at++) *at = 0;
 }
 
+#ifdef GUEST_FILES
+#include "../files/given.h"
+
+/* The heap begins behind files that lie in the image. */
+static size_t heap_behind(size_t place) { return __guest_given.end ? (size_t)__guest_given.end : place; }
+#else
+static size_t heap_behind(size_t place) { return place; }
+#endif
+
 /* The two lists of main's, behind the texts, and where the heap begins behind them. */
 struct lists {
     char **arguments, **variables, *end;
@@ -58,7 +67,7 @@ static char *fill(char **places, char *text, size_t count) {
 static struct lists make_lists(void) {
     size_t arguments = __guest_words.arguments, variables = __guest_words.variables;
     char **first = (char **)(((uintptr_t)__guest_heap + __guest_words.bytes + 15) & -(uintptr_t)16);
-    struct lists lists = {first, first + arguments + 2, (char *)(first + arguments + variables + 3)};
+    struct lists lists = {first, first + arguments + 2, (char *)heap_behind((size_t)(first + arguments + variables + 3))};
     first[0] = name;
     fill(lists.variables, fill(first + 1, __guest_heap, arguments), variables);
     return lists;
@@ -67,7 +76,7 @@ static struct lists make_lists(void) {
 /* Says so where the disk was formatted with fewer pages than the program needs. */
 static void check_memory(const char *memory_end) {
     size_t words = __guest_words.bytes + 4 * (__guest_words.arguments + __guest_words.variables + 4) + 16;
-    size_t pages = ((size_t)__guest_heap + words + LEAST_FIRST_STACK + PAGE_BYTES - 1) / PAGE_BYTES;
+    size_t pages = (heap_behind((size_t)__guest_heap + words) + LEAST_FIRST_STACK + PAGE_BYTES - 1) / PAGE_BYTES;
     if (pages < (size_t)__guest_pages_needed) pages = (size_t)__guest_pages_needed;
     if ((size_t)memory_end >= pages * PAGE_BYTES) return;
     __guest_say("this guest needs ");
@@ -105,5 +114,5 @@ void _exit(int status) {
     __guest_stop(status);
 }
 
-/* As a shell tells of a process that SIGABRT ended. */
-void abort(void) { _exit(134); }
+/* As a shell tells of a process that SIGABRT ended. Weak, since a program with signals has that of signal.c. */
+__attribute__((weak)) void abort(void) { _exit(134); }

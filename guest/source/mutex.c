@@ -1,4 +1,4 @@
-/* Mutexes, and pthread_once over them. */
+/* Mutexes, and pthread_once over them. The weak ones are those of typed.c where that is linked. */
 #include "calls.h"
 #include "clock.h"
 #include "fenced.h"
@@ -25,18 +25,19 @@ int pthread_mutexattr_gettype(const pthread_mutexattr_t *attributes, int *type) 
     return 0;
 }
 
-int pthread_mutex_init(pthread_mutex_t *restrict mutex, const pthread_mutexattr_t *restrict attributes) {
+__attribute__((weak)) int pthread_mutex_init(pthread_mutex_t *restrict mutex,
+                                             const pthread_mutexattr_t *restrict attributes) {
     int type = attributes ? attributes->type : PTHREAD_MUTEX_DEFAULT;
     return object_call(CALL_MUTEX_INIT, mutex, (uint32_t)type, 0, 0);
 }
 
 int pthread_mutex_destroy(pthread_mutex_t *mutex) { return object_call(CALL_MUTEX_DESTROY, mutex, 0, 0, 0); }
 
-int pthread_mutex_lock(pthread_mutex_t *mutex) { return object_call(CALL_MUTEX_LOCK, mutex, 0, 0, 0); }
+__attribute__((weak)) int pthread_mutex_lock(pthread_mutex_t *mutex) { return object_call(CALL_MUTEX_LOCK, mutex, 0, 0, 0); }
 
-int pthread_mutex_trylock(pthread_mutex_t *mutex) { return object_call(CALL_MUTEX_TRYLOCK, mutex, 0, 0, 0); }
+__attribute__((weak)) int pthread_mutex_trylock(pthread_mutex_t *mutex) { return object_call(CALL_MUTEX_TRYLOCK, mutex, 0, 0, 0); }
 
-int pthread_mutex_timedlock(pthread_mutex_t *restrict mutex, const struct timespec *restrict deadline) {
+__attribute__((weak)) int pthread_mutex_timedlock(pthread_mutex_t *restrict mutex, const struct timespec *restrict deadline) {
     uint64_t moment = __guest_moment(deadline);
     return object_call(CALL_MUTEX_TIMEDLOCK, mutex, low_word(moment), high_word(moment), 0);
 }
@@ -52,10 +53,10 @@ int pthread_mutex_unlock(pthread_mutex_t *mutex) { return object_call(CALL_MUTEX
 static void unlock(void *mutex) { pthread_mutex_unlock(mutex); }
 
 int pthread_once(pthread_once_t *once, void (*routine)(void)) {
-    volatile uint32_t *is_done = (volatile uint32_t *)&once->is_done;
+    volatile uint32_t *is_done = (volatile uint32_t *)once;
     if (load_word(is_done)) return 0;
     pthread_mutex_t *mutex = (pthread_mutex_t *)once;
-    int error = pthread_mutex_lock(mutex);
+    int error = object_call(CALL_MUTEX_LOCK, mutex, 0, 0, 0);
     if (error) return error;
     pthread_cleanup_push(unlock, mutex);
     if (!load_word(is_done)) {

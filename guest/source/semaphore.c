@@ -4,9 +4,12 @@
 #include "locks.h"
 #include <errno.h>
 
-static pthread_mutex_t *mutex(void) { return &__guest_semaphore_lock.mutex; }
+static pthread_mutex_t *mutex(void) { return &__guest_queue_lock.mutex; }
 
 static pthread_cond_t *condition(sem_t *semaphore) { return (pthread_cond_t *)semaphore; }
+
+/* Atomic, since who asks for the count holds no lock. */
+static void set_count(sem_t *semaphore, unsigned count) { store_word((volatile uint32_t *)&semaphore->count, count); }
 
 static void unlock(void *locked) { pthread_mutex_unlock(locked); }
 
@@ -29,7 +32,7 @@ int sem_post(sem_t *semaphore) {
     pthread_mutex_lock(mutex());
     int error = semaphore->count == SEM_VALUE_MAX ? EOVERFLOW : 0;
     if (!error) {
-        semaphore->count++;
+        set_count(semaphore, semaphore->count + 1);
         pthread_cond_signal(condition(semaphore));
     }
     pthread_mutex_unlock(mutex());
@@ -39,7 +42,7 @@ int sem_post(sem_t *semaphore) {
 int sem_trywait(sem_t *semaphore) {
     pthread_mutex_lock(mutex());
     int error = semaphore->count == 0 ? EAGAIN : 0;
-    if (!error) semaphore->count--;
+    if (!error) set_count(semaphore, semaphore->count - 1);
     pthread_mutex_unlock(mutex());
     return answer(error);
 }
@@ -60,7 +63,7 @@ static int wait(sem_t *semaphore, const struct timespec *deadline) {
                          : pthread_cond_wait(condition(semaphore), mutex());
     }
     if (semaphore->count > 0) {
-        semaphore->count--;
+        set_count(semaphore, semaphore->count - 1);
         error = 0;
     }
     pthread_cleanup_pop(1);

@@ -27,6 +27,8 @@ void __guest_check_stack(void) {
     }
 }
 
+#ifndef GUEST_FILES /* whose own are in files/frames.c */
+
 void __guest_say(const char *text) {
     for (; *text; text++) runtime(CALL_PUTC, (unsigned char)*text, 0, 0, 0);
 }
@@ -43,6 +45,8 @@ void __guest_stop(int status) {
     runtime(CALL_EXIT, (uint32_t)status, 0, 0, 0);
     __builtin_unreachable();
 }
+
+#endif
 
 void __guest_stack_overflowed(void) {
     runtime(CALL_SETCANCELSTATE, 1, 0, 0, 0);

@@ -53,6 +53,13 @@ int pthread_attr_getstacksize(const pthread_attr_t *attributes, size_t *bytes) {
     return 0;
 }
 
+int pthread_attr_setstack(pthread_attr_t *attributes, void *stack, size_t bytes) {
+    if (!stack || bytes < PTHREAD_STACK_MIN) return EINVAL;
+    attributes->stack = stack;
+    attributes->stack_size = bytes;
+    return 0;
+}
+
 int pthread_attr_getstack(const pthread_attr_t *attributes, void **stack, size_t *bytes) {
     *stack = attributes->stack;
     *bytes = attributes->stack_size;
@@ -78,21 +85,44 @@ int pthread_attr_setscope(pthread_attr_t *attributes, int scope) {
 /* The alignment is a power of two. */
 static uintptr_t round_down(uintptr_t address, uintptr_t alignment) { return address & -alignment; }
 
-/* The block's parts, from its end down: thread-local variables, the record, the stack, its guard. NULL: the heap has no
-   room. */
-static struct thread *new_thread(size_t stack_bytes) {
+/* Takes a block of so many bytes, and what a record and thread-local variables need besides. The record lies behind these
+   bytes. NULL: the heap has no room. */
+static struct thread *new_record(size_t before) {
     uintptr_t locals_bytes = (uintptr_t)__guest_locals_size, locals_align = (uintptr_t)__guest_locals_align;
-    size_t others = GUARD_BYTES + sizeof(struct thread) + STACK_ALIGNMENT + locals_bytes + locals_align;
-    if (stack_bytes > SIZE_MAX - others) return NULL;
-    char *memory = __guest_take(stack_bytes + others);
+    size_t others = sizeof(struct thread) + STACK_ALIGNMENT + locals_bytes + locals_align;
+    if (before > SIZE_MAX - others) return NULL;
+    char *memory = __guest_take(before + others);
     if (!memory) return NULL;
 
-    uintptr_t locals = round_down((uintptr_t)memory + stack_bytes + others - locals_bytes, locals_align);
+    uintptr_t locals = round_down((uintptr_t)memory + before + others - locals_bytes, locals_align);
     struct thread *thread = (struct thread *)round_down(locals - sizeof *thread, STACK_ALIGNMENT);
-    *thread = (struct thread){
-        .memory = memory, .guard = (uint32_t *)memory, .stack_size = stack_bytes, .locals = (void *)locals};
-    __guest_write_guard(thread->guard);
+    *thread = (struct thread){.memory = memory, .locals = (void *)locals};
     __guest_set_locals(thread->locals);
+    return thread;
+}
+
+static void set_stack(struct thread *thread, uint32_t *guard, void *stack, void *stack_end, size_t bytes) {
+    thread->guard = guard;
+    thread->stack = stack;
+    thread->stack_end = stack_end;
+    thread->stack_size = bytes;
+    __guest_write_guard(guard);
+}
+
+/* The block's parts, from its end down: thread-local variables, the record, the stack, its guard. */
+static struct thread *new_thread(size_t stack_bytes) {
+    if (stack_bytes > SIZE_MAX - GUARD_BYTES) return NULL;
+    struct thread *thread = new_record(GUARD_BYTES + stack_bytes);
+    if (thread) set_stack(thread, thread->memory, (char *)thread->memory + GUARD_BYTES, thread, stack_bytes);
+    return thread;
+}
+
+/* A thread on a stack of the program's own. */
+static struct thread *new_thread_on(char *stack, size_t stack_bytes) {
+    struct thread *thread = new_record(0);
+    uintptr_t guard = round_down((uintptr_t)stack + STACK_ALIGNMENT - 1, STACK_ALIGNMENT);
+    void *stack_end = (void *)round_down((uintptr_t)stack + stack_bytes, STACK_ALIGNMENT);
+    if (thread) set_stack(thread, (uint32_t *)guard, stack, stack_end, stack_bytes);
     return thread;
 }
 
@@ -119,7 +149,8 @@ static void make_spare_stack(void) {
 void __guest_enter_first_thread(uint32_t *guard, const char *stack_end) {
     make_spare_stack();
     first_thread.guard = guard;
-    first_thread.stack_size = (size_t)(stack_end - (char *)guard - GUARD_BYTES);
+    first_thread.stack = (char *)guard + GUARD_BYTES;
+    first_thread.stack_size = (size_t)(stack_end - (char *)first_thread.stack);
     /* Of this type a mutex is in use for good, so that no lock of it finds all 256 in use by others. */
     pthread_mutexattr_t attributes = {.type = PTHREAD_MUTEX_RECURSIVE};
     pthread_mutex_init(&__guest_threads_lock, &attributes);
@@ -143,15 +174,19 @@ static void begin(struct thread *thread) {
 int pthread_create(pthread_t *restrict id, const pthread_attr_t *restrict attributes, void *(*start)(void *),
                    void *restrict argument) {
     size_t bytes = attributes ? attributes->stack_size : USUAL_STACK;
-    struct thread *thread = bytes == USUAL_STACK ? new_usual_thread() : new_thread(bytes);
+    void *stack = attributes ? attributes->stack : NULL;
+    struct thread *thread = stack                ? new_thread_on(stack, bytes)
+                            : bytes == USUAL_STACK ? new_usual_thread()
+                                                   : new_thread(bytes);
     if (!thread) return EAGAIN;
     thread->start = start;
     thread->argument = argument;
     thread->is_detached = attributes && attributes->detach_state == PTHREAD_CREATE_DETACHED;
+    thread->blocked = __guest_self()->blocked;
 
     pthread_mutex_lock(&__guest_threads_lock);
     struct answer made =
-        runtime(CALL_CREATE, (uint32_t)begin, (uint32_t)thread, (uint32_t)thread, thread->is_detached);
+        runtime(CALL_CREATE, (uint32_t)begin, (uint32_t)thread, (uint32_t)thread->stack_end, thread->is_detached);
     if (made.result == 0) {
         threads[made.value] = thread;
         thread_count++;
@@ -165,6 +200,9 @@ int pthread_create(pthread_t *restrict id, const pthread_attr_t *restrict attrib
 
 /* The record of a thread, by its id, under the lock; of no meaning where the runtime doesn't know the id. */
 static struct thread *thread_of(pthread_t id) { return id <= PTHREAD_THREADS_MAX ? threads[id] : NULL; }
+
+/* Its own place in the table changes only once it has left. */
+struct thread *__guest_self(void) { return threads[pthread_self()]; }
 
 /* Does something with the record of a thread that the runtime knows and that hasn't left, under the lock. */
 static int with_record(pthread_t id, int (*act)(struct thread *thread, void *with), void *with) {
@@ -197,7 +235,7 @@ static int get_attributes(struct thread *thread, void *to) {
     pthread_attr_t *attributes = to;
     attributes->detach_state = thread->is_detached ? PTHREAD_CREATE_DETACHED : PTHREAD_CREATE_JOINABLE;
     attributes->stack_size = thread->stack_size;
-    attributes->stack = (char *)thread->guard + GUARD_BYTES;
+    attributes->stack = thread->stack;
     return 0;
 }
 
@@ -271,4 +309,13 @@ void __guest_set_locals(void *locals) {
     size_t initial = (size_t)__guest_locals_initial_size;
     memcpy(locals, __guest_locals_initial, initial);
     memset((char *)locals + initial, 0, (size_t)__guest_locals_size - initial);
+}
+
+/* One that has ended and wasn't joined yet is there still. */
+enum stage __guest_stage_of(pthread_t id) {
+    pthread_mutex_lock(&__guest_threads_lock);
+    const struct thread *thread = thread_of(id);
+    enum stage stage = !thread ? NO_THREAD : thread->has_left ? HAS_LEFT : thread->is_detached ? IS_DETACHED : GOES_ON;
+    pthread_mutex_unlock(&__guest_threads_lock);
+    return stage;
 }

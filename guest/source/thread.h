@@ -11,11 +11,15 @@
 #include <stdbool.h>
 #include <stdint.h>
 
-/* A new thread's memory is one block of the heap: a guard, its stack, this record, and its thread-local variables. */
+/* A new thread's memory is one block of the heap: a guard, its stack, this record, and its thread-local variables. Where the
+   program gave the stack, the guard lies at its begin and the block has the others. */
 struct thread {
     void *memory; /* the block; NULL for the first thread */
     uint32_t *guard; /* below the stack */
+    void *stack; /* its lowest byte, as attributes tell it */
+    void *stack_end;
     size_t stack_size;
+    uint32_t blocked; /* signals, see signal.c; a new thread has those of who made it */
     char name[THREAD_NAME_BYTES];
     void *(*start)(void *);
     void *argument;
@@ -32,6 +36,13 @@ extern char __guest_locals_size[], __guest_locals_align[];
 
 /* Makes one thread's copy of the thread-local variables. */
 void __guest_set_locals(void *locals);
+
+/* The record of the calling thread. */
+struct thread *__guest_self(void);
+
+/* How far a thread has come. One that has left has only to end: who joins it then waits for no other thing. */
+enum stage { NO_THREAD, GOES_ON, IS_DETACHED, HAS_LEFT };
+enum stage __guest_stage_of(pthread_t id);
 
 /* The clean-up handler of every thread that runs last. */
 void __guest_thread_end(void *thread);

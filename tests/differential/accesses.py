@@ -27,9 +27,9 @@ class Access:
         return self.address - self.address % 4
 
     def conflicts(self, other):
-        """Whether two threads access a common byte, one to store."""
+        """Whether two threads access a common byte, one to store, and not both by atomic operations."""
         meet = self.address < other.address + other.length and other.address < self.address + self.length
-        return meet and self.thread != other.thread and (self.is_store or other.is_store)
+        return meet and self.thread != other.thread and (self.is_store or other.is_store) and not (self.is_atomic and other.is_atomic)
 
 
 def is_fence(memory, place, fence):

@@ -1,5 +1,6 @@
 """Cases of `ckrt races` and `ckrt timeline`: disks with recorded events, and stretches of these; what both sides make of them."""
 import json
+import re
 import subprocess
 from dataclasses import dataclass
 
@@ -96,7 +97,7 @@ def difference_of_races(ckrt, case, path, tally):
 
 def kind_of_race(line):
     """Who stores and who loads, or the first word of another line."""
-    kinds = [word for word in line.split() if word in ("stores", "loads")]
+    kinds = re.findall(r"(?:stores|loads)(?: atomically)?", line)
     return ", ".join(kinds) or line.split()[0]
 
 

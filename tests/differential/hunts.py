@@ -71,6 +71,29 @@ def text_of_awaited(machine, wait):
         wait.subject if wait.kind is WaitKind.JOIN else address_text(wait.subject)) + text_of_owner(machine, wait)
 
 
+def blocker_of(machine, wait):
+    """The thread that a wait is for, 0 where it is for none, or ends by itself."""
+    if wait.deadline is not None:
+        return 0
+    if wait.kind is WaitKind.JOIN:
+        return wait.subject
+    return machine.mutexes[wait.subject].owner if wait.kind in MUTEX_WAITS and wait.subject in machine.mutexes else 0
+
+
+def circled(machine):
+    """The waits of threads that wait for themselves, by those that they wait for."""
+    blockers = {wait.thread: blocker_of(machine, wait) for wait in machine.waits}
+
+    def is_reached(thread):
+        at, passed = blockers[thread], set()
+        while at not in passed and at != thread:
+            passed.add(at)
+            at = blockers.get(at, 0)
+        return at == thread
+
+    return sorted((wait for wait in machine.waits if is_reached(wait.thread)), key=lambda wait: wait.thread)
+
+
 def text_of_outcome(folded, limit):
     """Of a run that was broken off at so many steps or events, if nothing else came first."""
     machine = folded.machine
@@ -79,7 +102,7 @@ def text_of_outcome(folded, limit):
     if machine.status is Status.FAULTED:
         return f"fault of thread {machine.fault_thread} at {address_text(machine.status_word)}, {CAUSES[Cause(machine.fault_cause)]}"
     if any(map(machine.is_ready, machine.threads)) or any(wait.deadline is not None for wait in machine.waits):
-        return f"no end within {limit} steps or events"
+        return ", ".join([f"no end within {limit} steps or events", *(text_of_awaited(machine, wait) for wait in circled(machine))])
     if machine.waits_for_input():
         return "waits for input"
     return "deadlock, " + ", ".join(text_of_awaited(machine, wait) for wait in sorted(machine.waits, key=lambda wait: wait.thread))

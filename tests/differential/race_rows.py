@@ -6,7 +6,7 @@ from hunts import command_of
 from races import PAIRS, text_of_pair
 
 ROW = re.compile(r"race (\d+): (\d+) of (\d+) runs, first by seed (\d+): (.+)")
-ACCESS = r"\d+\+\d+ thread \d+ (?:stores|loads) [0-9a-f]{8} pc ([0-9a-f]{8})"
+ACCESS = r"\d+\+\d+ thread \d+ (?:stores|loads)(?: atomically)? [0-9a-f]{8} pc ([0-9a-f]{8})"
 PAIR = re.compile(f"{ACCESS}, {ACCESS}")
 OTHERS = re.compile(r"other races: in (\d+) of (\d+) runs")
 

@@ -28,11 +28,16 @@ class Races:
         self.pairs, self.others = {}, 0
 
     def note(self, access):
-        """An atomic store leads to each later atomic load of its word; neither is an access."""
-        if access.is_atomic:
-            hand = self.clocks.give if access.is_store else self.clocks.take
-            hand(access.thread, self.orders.place("word", access.word))
-            return
+        """What a thread did up to an atomic store, that too, is before each later atomic load of the word."""
+        holder = self.orders.place("word", access.word)
+        if access.is_atomic and not access.is_store:
+            self.clocks.take(access.thread, holder)
+        self.compare(access)
+        if access.is_atomic and access.is_store:
+            self.clocks.give(access.thread, holder)
+
+    def compare(self, access):
+        """With those that are kept of its word; then it is kept itself."""
         for kept, epoch in self.shadow.kept(access.word):
             if kept.conflicts(access) and not self.clocks.has_seen(access.thread, kept.thread, epoch):
                 self.count(kept, access)
@@ -64,7 +69,7 @@ def text_of_pair(pair):
 
 def text_of_access(access):
     event, step = access.position
-    what = "stores" if access.is_store else "loads"
+    what = ("stores" if access.is_store else "loads") + (" atomically" if access.is_atomic else "")
     return f"{event}+{step} thread {access.thread} {what} {address_text(access.address)} pc {address_text(access.place)}"
 
 

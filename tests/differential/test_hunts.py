@@ -55,6 +55,18 @@ class Outcomes(WithKeys):
         self.comes_to("no end within 77 steps or events", (1, call(LOCK, 0x2000)), (2, call(Call.MUTEX_TIMEDLOCK, 0x2000, 9, 0)), joins)
         self.comes_to("waits for input", (2, call(Call.GETC)), joins)
 
+    def test_circles(self):
+        """Who waits for whom in a circle is told, though others go on; a wait with a deadline is in none, and who only waits for one of them isn't told."""
+        text = "no end within 77 steps or events"
+        two = ", thread 2 waits for mutex 00002004 (thread 3 has it), thread 3 waits for mutex 00002000 (thread 2 has it)"
+        first = [(2, call(LOCK, 0x2000)), (3, call(LOCK, 0x2004)), (2, call(LOCK, 0x2004))]
+        self.comes_to(text + two, *first, (3, call(LOCK, 0x2000)), threads=3)
+        self.comes_to(text, *first, (3, call(Call.MUTEX_TIMEDLOCK, 0x2000, 9, 0)), threads=3)
+        self.comes_to(text + two, *first, (3, call(LOCK, 0x2000)), (4, call(LOCK, 0x2004)), threads=4)
+        joined = ", thread 2 waits for the end of thread 3, thread 3 waits for mutex 00002000 (thread 2 has it)"
+        self.comes_to(text + joined, (2, call(LOCK, 0x2000)), (3, call(LOCK, 0x2000)), (2, call(Call.JOIN, 3)), threads=3)
+        self.comes_to(text, (2, call(LOCK, 0x2000)), (3, call(LOCK, 0x2000)), threads=3)
+
     def test_ended_threads(self):
         """They wait for nothing, and get their mutexes back as they wait for others."""
         wait = [*call(LOCK, 0x2000), *call(Call.COND_WAIT, 0x3000, 0x2000)]

@@ -74,7 +74,7 @@ def short(line):
     if line == NO_RACES:
         return "none"
     first, second, times = line.split(", ")
-    return ", ".join([*(" ".join(access.split()[2:4]) for access in (first, second)), times])
+    return ", ".join([*(" ".join(access.split()[2:-3]) for access in (first, second)), times])
 
 
 class WithKeys(unittest.TestCase):
@@ -226,10 +226,48 @@ class Locks(WithKeys):
         self.race((2, [*store(), *published()]), (3, [*looked_at(12), *load()]))
         self.race((3, looked_at()), (2, [*store(), *published()]), (3, load()))
         self.no_race((2, [*store(), *published()]), (1, published()), (3, [*looked_at(), *load()]))
-        self.race((2, [*store(), *published(8, FENCE_RW_RW)]), (3, [*looked_at(), *load()]))
         both = ["2 stores, 3 loads, once"] * 2
-        self.race((2, [*store(), *published()]), (3, [*looked_at(8, FENCE_RW_RW), *load()]), races=["2 stores, 3 loads, once"])
+        self.race((2, [*store(), *published(8, FENCE_RW_RW)]), (3, [*looked_at(), *load()]), races=["2 stores, 3 loads atomically, once", both[0]])
+        self.race((2, [*store(), *published()]), (3, [*looked_at(8, FENCE_RW_RW), *load()]), races=["2 stores atomically, 3 loads, once", both[0]])
         self.race((2, [*store(), *store(8)]), (3, [*load(8), *load()]), races=both)
+
+    def test_plain_beside_atomic(self):
+        """Of one word, whichever comes first; two atomic ones don't race, nor do two loads, nor accesses to other bytes."""
+        self.race((2, published()), (3, load(8)), races=["2 stores atomically, 3 loads, once"])
+        self.race((3, load(8)), (2, published()), races=["3 loads, 2 stores atomically, once"])
+        self.race((2, store(8)), (3, looked_at()), races=["2 stores, 3 loads atomically, once"])
+        self.race((3, looked_at()), (2, store(8)), races=["3 loads atomically, 2 stores, once"])
+        self.race((2, published()), (3, store(8)), races=["2 stores atomically, 3 stores, once"])
+        self.race((2, store(8)), (3, published()), races=["2 stores, 3 stores atomically, once"])
+        self.race((2, published()), (3, load(9, BYTE)), races=["2 stores atomically, 3 loads, once"])
+        for first, second in [(published(), published()), (looked_at(), published()), (looked_at(), looked_at()), (looked_at(), load(8)), (published(), load(12))]:
+            self.no_race((2, first), (3, second))
+        self.assertEqual(told((2, published()), (3, load(8))),
+                         ["3+3 thread 2 stores atomically 00002808 pc 00001048, 5+2 thread 3 loads 00002808 pc 00001058, once"])
+
+    def test_plain_ordered_beside_atomic(self):
+        """By the atomic store, which is itself among what it leads on from; by a lock; not what comes behind the one or before the other."""
+        self.no_race((2, [*store(8), *published()]), (3, looked_at()))
+        self.no_race((2, published()), (3, [*looked_at(), *store(8)]))
+        self.no_race((2, published()), (3, [*looked_at(), *load(8)]))
+        self.no_race((2, locked(published())), (3, locked(load(8))))
+        self.no_race((2, locked(store(8))), (3, locked(published())))
+        self.race((2, [*published(), *store(8)]), (3, looked_at()), races=["2 stores, 3 loads atomically, once"])
+        self.race((2, published()), (3, [*load(8), *looked_at()]), races=["2 stores atomically, 3 loads, once"])
+        self.race((3, looked_at()), (2, published()), (3, load(8)), races=["2 stores atomically, 3 loads, once"])
+        self.race((2, [*store(), *published()]), (3, [*published(), *load()]))
+        self.race((2, [*store(), *looked_at()]), (3, [*looked_at(), *load()]))
+        self.no_race((2, [*store(8), *published(8 + 4096)]), (3, looked_at(8)))
+
+    def test_kept_atomic(self):
+        """They are kept as plain ones are, and in their place."""
+        self.race((2, [*store(8), *published()]), (3, load(8)), races=["2 stores atomically, 3 loads, once"])
+        self.race((2, [*published(), *store(8)]), (3, published()), races=["2 stores, 3 stores atomically, once"])
+        self.no_race((2, [*store(8), *published()]), (3, published()))
+        self.no_race((2, [*load(8), *looked_at()]), (3, published()))
+        self.race((2, [*looked_at(), *load(8)]), (3, published()), races=["2 loads, 3 stores atomically, once"])
+        self.race((2, load(8)), (3, looked_at()), (4, store(8)), threads=3,
+                  races=["3 loads atomically, 4 stores, once", "2 loads, 4 stores, once"])
 
 
 class Threads(WithKeys):

@@ -46,8 +46,8 @@ static void change_triple(void) {
 }
 
 static void lower(int to) {
-    int old = lowest;
-    while (to < old && !__sync_bool_compare_and_swap(&lowest, old, to)) old = lowest;
+    int old = __atomic_load_n(&lowest, __ATOMIC_RELAXED);
+    while (to < old && !__sync_bool_compare_and_swap(&lowest, old, to)) old = __atomic_load_n(&lowest, __ATOMIC_RELAXED);
 }
 
 static void *work(void *number) {

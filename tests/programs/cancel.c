@@ -70,7 +70,9 @@ static void *reads(void *unused) {
 static void *prints(void *unused) {
     (void)unused;
     pthread_cancel(pthread_self());
+    flockfile(stdout);
     printf("who prints is not cancelled within a %s\n", "line");
+    funlockfile(stdout);
     pthread_testcancel();
     puts("never printed");
     return NULL;

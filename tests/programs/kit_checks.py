@@ -39,20 +39,16 @@ def formula(variables, clauses, seed):
 
 # --- Refusals ---------------------------------------------------------------------------------------------------------
 
-NO_FILES = "a guest has no files, only stdin, stdout and stderr"
+NO_FILES = "a guest has files by the option -files alone"
 REFUSED_SOURCES = [
-    ("#include <signal.h>", "a guest has no signals"),
-    ("#include <threads.h>", "use <pthread.h>"),
+    ("#include <signal.h>\nint end(void) { return kill(1, SIGINT); }", "kill: a guest has no signals for others: raise"),
     ("#include <stdio.h>\nFILE *file(void) { return fopen(\"name\", \"r\"); }", NO_FILES),
     ("#include <unistd.h>\nint two(void) { return fork(); }", "fork: a guest is one process"),
     ("#include <fcntl.h>\nint file(void) { return open(\"name\", 0); }", f"open: {NO_FILES}"),
     ("#include <stdlib.h>\nint run(void) { return system(\"ls\"); }", "a guest is one process"),
-    ("#include <pthread.h>\nint low(void) { return pthread_setschedprio(pthread_self(), 1); }",
-     "pthread_setschedprio: who runs is decided outside"),
-    ("#include <unistd.h>\nint id(void) { return pthread_kill(1, 2); }", "pthread_kill: a guest has no signals"),
-    ("#include <stdio.h>\nint show(long double of) { return printf(\"it is %-8.3Lf\\n\", of); }",
-     "the text \"it is %-8.3Lf\" has a long double"),
-    ("#include <stdio.h>\nint take(long double *to) { return scanf(\"%Lg\", to); }", "convert it to double"),
+    ("#include <pthread.h>\nint one(void) { return pthread_setaffinity_np(pthread_self(), 0, 0); }",
+     "pthread_setaffinity_np: who runs is decided outside"),
+    ("#include <unistd.h>\nint late(void) { return alarm(1); }", "alarm: a guest has no signals from outside"),
     ("char many[5000000]; char *all(void) { return many; }", "more than the 1,024 pages"),
 ]
 REFUSED_WORDS = [
@@ -64,8 +60,10 @@ REFUSED_WORDS = [
     ([BUILD, "-c", "{c}", "-o", "{folder}/p.bin"], "guest/cc takes it"),
     ([BUILD, "{c}", "-o", "{folder}/p.bin", "--env", "GREETING"], "it has to be NAME=VALUE"),
     ([BUILD], "usage: guest/build"),
+    ([BUILD, "{folder}/long.c", "-o", "{folder}/p.bin", "-DPICOLIBC_INTEGER_PRINTF_SCANF"], "the text \"it is %-8.3Lf\" has a long double"),
     ([CC, "-shared", "{c}"], "no shared libraries"),
     ([CC, "-fsanitize=thread", "{c}"], "-fsanitize=thread: a guest has no library for it"),
+    ([CC, "-fsanitize=undefined", "{c}"], "with -fsanitize-trap=all it needs none"),
     ([CC, "{folder}/none.c"], "there is no such file"),
     ([CC], "no source is named"),
     ([IMAGE, "{folder}/none"], "No such file"),
@@ -95,6 +93,7 @@ def refused_sources(folder):
 def refused_words(folder):
     places = {"folder": str(folder), "c": str(folder / "fine.c")}
     (folder / "fine.c").write_text("int main(void) { return 0; }\n")
+    (folder / "long.c").write_text("#include <stdio.h>\nint main(void) { return printf(\"it is %-8.3Lf\\n\", 1.5L); }\n")
     (folder / "empty").write_bytes(b"")
     call("cc", folder / "fine.c", "-o", folder / "host")
     call(CC, "-c", folder / "fine.c", "-o", folder / "object.o")
@@ -126,7 +125,12 @@ ENDED = [  # a program, its options, pages, how it ends and what it prints
     ("overflow.c", overflow("wide_call", "thread"), 64, "exit 134", "begin\n" + OVERFLOWED.format(2)),
     ("overflow.c", overflow("recursion", "thread"), 256, "exit 0", "begin\nnever printed\n"),  # 64 KiB are enough
     ("no_stack.c", [], 64, "exit 3", "{stack}\nEAGAIN\n"),
-    ("long_double.c", [], 64, "exit 134", "begin\na guest can't print or read a long double: convert it to double\n"),
+    ("long_double.c", [], 64, "exit 134", "begin\na guest can't read a long double by a format: read a double, or take strtold\n"),
+    ("held_stream.c", [], 64, "exit 0", "who holds the stream prints on\ncancelled\n"),
+    ("asserted.c", [], 64, "exit 134", "assertion \"1 + 1 == 3\" failed: file \"asserted.c\", line 7, function: main\n"),
+    ("signals.c", ["-DENDING=abort()"], 64, "exit 134", "begin\nsignal 1\n"),
+    ("signals.c", ["-DENDING=raise(SIGABRT),signal(SIGABRT,SIG_IGN),abort()"], 64, "exit 134", "begin\nsignal 1\n"),
+    ("signals.c", ["-DENDING=raise(SIGTERM)"], 64, "exit 143", "begin\n"),
     ("large.c", [], 64, "exit 126", "this guest needs {pages} pages at least: format its disk with --pages\n"),
     ("large.c", [], 100, "exit 0", "1\n"),
 ]
@@ -221,7 +225,7 @@ def tools(ckrt, folder):
 
 # --- Headers ----------------------------------------------------------------------------------------------------------
 
-HEADERS = ["pthread", "semaphore", "sched", "stdatomic", "stdio", "stdlib", "time", "unistd"]
+HEADERS = ["limits", "pthread", "semaphore", "sched", "setjmp", "signal", "stdatomic", "stdio", "stdlib", "threads", "time", "unistd"]
 STRICT = ["-pedantic", "-Wall", "-Wextra", "-Wstrict-prototypes", "-Werror", "-c"]
 
 
@@ -237,6 +241,75 @@ def headers(folder):
                                   capture_output=True, text=True, check=False)
             if done.returncode:
                 yield f"{' '.join(chosen)} as {standard}: {done.stderr}"
+
+
+# --- What else the compiler does ---------------------------------------------------------------------------------------
+
+TYPES = """#include <inttypes.h>
+#include <stdio.h>
+int main(void) {
+    uint32_t number = UINT32_C(4000000000);
+    int32_t least = INT32_MIN;
+    printf("%u %d %" PRIu32 " %x\\n", number, least, UINT32_MAX, UINT32_C(255));
+    return 0;
+}
+"""
+OVER = """int main(int count, char **arguments) {
+    int sum = 2147483646 + count;
+    (void)arguments;
+    return count > 0 ? sum + count : 0;
+}
+"""
+
+
+def types(ckrt, folder):
+    """A format of %u takes a uint32_t, as on Linux."""
+    source, image = folder / "types.c", folder / "types.bin"
+    source.write_text(TYPES)
+    call(BUILD, source, "-o", image, "-Wall", "-Wextra", "-Werror", "-Wformat=2")
+    found = driven(ckrt, image, folder)
+    if found != ("ended: exit 0", "4000000000 -2147483648 4294967295 ff\n"):
+        yield f"types of 32 bits: {found!r}"
+
+
+def digits(ckrt, folder):
+    """Numbers of any size: more than a schedule with kills has the time for."""
+    source, image, here = TOP / "tests/programs/digits.c", folder / "digits.bin", folder / "digits.host"
+    call("cc", "-std=gnu11", "-O2", "-DTRIED=400", source, "-o", here)
+    call(BUILD, source, "-o", image, "-DTRIED=400")
+    found = driven(ckrt, image, folder)
+    if found != ("ended: exit 0", call(here)):
+        yield f"digits of 400 numbers: {found!r}"
+
+
+def traps(ckrt, folder):
+    """Undefined behaviour is a fault where the program was built so, and guest/where names its line."""
+    source, image = folder / "over.c", folder / "over.bin"
+    source.write_text(OVER)
+    for word in ["-fsanitize-trap=all", "-fsanitize-undefined-trap-on-error"]:
+        call(BUILD, source, "-o", image, "-fsanitize=undefined", word)
+        ending, _ = driven(ckrt, image, folder)
+        fault = re.fullmatch(r"ended: fault 1 ([0-9a-f]{8}) Breakpoint( .*)?", ending)
+        place = call(WHERE, folder / "over.elf", fault[1]) if fault else ""
+        if not re.search(r"over\.c:4$", place.strip()):
+            yield f"{word}: {ending!r} at {place!r}"
+
+
+def cache(folder):
+    """Below a prefix that can't be written the kit's objects are kept in the user's cache."""
+    prefix, kept = folder / "prefix", folder / "cache"
+    prefix.mkdir()
+    call("cp", "-r", TOP / "guest", prefix)
+    (prefix / "out").write_text("no folder")
+    call("env", f"XDG_CACHE_HOME={kept}", prefix / "guest/cc", folder / "fine.c", "-o", folder / "fine")
+    objects = [path.parent for path in kept.glob("ckrt/kit/*/thread.o")]
+    if len(objects) != 1:
+        yield f"the cache has {objects}"
+        return
+    (objects[0] / "join.o").unlink()
+    call("env", f"XDG_CACHE_HOME={kept}", prefix / "guest/cc", folder / "fine.c", "-o", folder / "fine")
+    if (objects[0] / "join.o").exists():
+        yield "what is in the cache was made anew"
 
 
 # --- Dependencies, and a project that is driven on ----------------------------------------------------------------------
@@ -290,7 +363,7 @@ def words(folder):
 def failures(ckrt, folder):
     """All that is wrong, as texts."""
     checks = [refused_sources(folder), refused_words(folder), endings(ckrt, folder), tools(ckrt, folder), headers(folder),
-              projects(ckrt, folder), words(folder)]
+              types(ckrt, folder), digits(ckrt, folder), traps(ckrt, folder), cache(folder), projects(ckrt, folder), words(folder)]
     found = []
     for check in checks:
         wrong = list(check)

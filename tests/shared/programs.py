@@ -8,7 +8,7 @@ EXAMPLES = TOP / "guest/examples"  # guests in C, each with its image beside it
 
 
 def found(name="ckrt"):
-    """The path of a program: what the variable CKRT (of ckrt_probe CKRT_PROBE) names, else what `./build --program` finds or builds.
+    """The path of a program: what the variable CKRT (of ckrt_bench_probe CKRT_BENCH_PROBE) names, else what `./build --program` finds or builds.
 
     It raises CalledProcessError where the program can't be built; `./build` has told why by then.
     """
@@ -24,7 +24,7 @@ def run(*words):
 
 def add_program(parser, name="ckrt"):
     """Adds the option that names a program, as --ckrt FILE; `read_words` fills it in where it isn't given."""
-    option = f"--{name.removeprefix('ckrt_')}"
+    option = f"--{name.rpartition('_')[2]}"
     parser.add_argument(option, metavar="FILE", type=absolute, help=f"{name}, in place of the one that `./build --program` finds")
 
 

@@ -1,18 +1,19 @@
 //! Checkpoint and restart of pthread programs: does what its words ask for, on standard input, output and error.
 #![tactic(auto)]
 
+use ckrt_cli::run_words;
+use ckrt_cli_files::{OutputReason, SystemSources, ToldWriter};
+use ckrt_cli_reports::{SystemMeter, WrittenReport};
 use ckrt_disk::Calls;
-use ckrt_program::run_words;
-use ckrt_reports::{SystemMeter, WrittenReport};
-use ckrt_sources::{OutputReason, SystemSources, ToldWriter};
 use std::cell::Cell;
 use std::env;
 use std::io::{self, ErrorKind};
+use std::marker::Brand;
 use std::process::ExitCode;
 
 /// The job of these words on the standard streams, with a place for why an output failed; the answer is the program's status.
 fn run<'a>(rt: &'a HostRuntime, words: &'a [&'a str], why: &'a Cell<OutputReason>) -> u8 {
-    run_words(
+    run_words::<HostRuntime, Brand, _, _, _, _>(
         rt.alloc(),
         words,
         &mut SystemSources::new(rt, why, Calls::new()),

@@ -5,14 +5,14 @@ use Rattle.ckrt_events.specs.Bytes.{IsInRange}
 use Rattle.ckrt_events.specs.declared.event.Event.{Event}
 use Rattle.ckrt_machine.specs.Events.{AllAccepted, step}
 use Rattle.ckrt_machine.specs.Steps.{State}
-use Rattle.ckrt_order.specs.Detection.{Found}
-use Rattle.ckrt_order.specs.Laws.{IsRaceOf}
-use Rattle.ckrt_races.specs.Laws.{history_of}
-use Rattle.ckrt_races.specs.Recorded.{found_by}
-use Rattle.ckrt_races.proofs.RiseLemmas.{only_races_told}
-use Rattle.ckrt_hunt.specs.Runs.{beginning}
-use Rattle.ckrt_hunt.specs.Tallies.{plan_in}
-use Rattle.ckrt_hunt.proofs.RunLemmas.{same_events}
+use Rattle.ckrt_look_clocks.specs.Detection.{Found}
+use Rattle.ckrt_look_clocks.specs.Laws.{IsRaceOf}
+use Rattle.ckrt_look_races.specs.Laws.{history_of}
+use Rattle.ckrt_look_races.specs.Recorded.{found_by}
+use Rattle.ckrt_look_races.proofs.RiseLemmas.{only_races_told}
+use Rattle.ckrt_hunt_schedules.specs.Runs.{beginning}
+use Rattle.ckrt_hunt_schedules.specs.Tallies.{plan_in}
+use Rattle.ckrt_hunt_schedules.proofs.RunLemmas.{same_events}
 use Rattle.ckrt_hunt_races.specs.RaceRuns.{OnlyRacesAreTold, RacesAreOfTheRun, RacesRepeat}
 
 -- accepted events are in their ranges

@@ -1,6 +1,6 @@
 -- Seeds that are looked at, one after another.
 use Rattle.std.proofs.Common.{◌≡◌, ℕ, suc, ◌+◌, ◌-◌, ◌≤◌, subst, arith}
-use Rattle.ckrt_hunt.specs.Tallies.{Hunted}
+use Rattle.ckrt_hunt_schedules.specs.Tallies.{Hunted}
 use Rattle.ckrt_hunt_races.specs.Races.{Raced}
 use Rattle.ckrt_hunt_races.specs.RaceRuns.{AreLookedAt, IsLookedAt}
 

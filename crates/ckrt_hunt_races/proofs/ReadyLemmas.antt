@@ -3,11 +3,11 @@ use Rattle.std.proofs.Common.{◌≡◌, ◌≤◌, ◌∙◌, ℕ, length, ap, 
 use Rattle.std.proofs.lemmas.List.{length-replicate}
 use Rattle.ckrt_machine.specs.Events.{Machine}
 use Rattle.ckrt_machine.specs.Steps.{State}
-use Rattle.ckrt_order.specs.Detection.{Watched, fresh, no_accesses, no_clock}
-use Rattle.ckrt_races.specs.Holders.{HOLDERS}
-use Rattle.ckrt_races.specs.Recorded.{words_of}
-use Rattle.ckrt_hunt.specs.declared.plan.Plan.{Plan}
-use Rattle.ckrt_hunt.specs.Tallies.{Hunted, IsRoomFor, plan_in}
+use Rattle.ckrt_look_clocks.specs.Detection.{Watched, fresh, no_accesses, no_clock}
+use Rattle.ckrt_look_races.specs.Holders.{HOLDERS}
+use Rattle.ckrt_look_races.specs.Recorded.{words_of}
+use Rattle.ckrt_hunt_schedules.specs.declared.plan.Plan.{Plan}
+use Rattle.ckrt_hunt_schedules.specs.Tallies.{Hunted, IsRoomFor, plan_in}
 use Rattle.ckrt_hunt_races.specs.declared.beginning.Beginning.{Beginning}
 use Rattle.ckrt_hunt_races.specs.Races.{Raced, with_run}
 use Rattle.ckrt_hunt_races.specs.RaceRuns.{HasBegun, HasRaces, IsBegun, IsLookedAt, IsPutAside, IsReady, IsSameSize, Sees}

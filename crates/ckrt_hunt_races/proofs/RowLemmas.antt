@@ -5,8 +5,8 @@ use Rattle.std.proofs.lemmas.List.{take_all}
 use Rattle.std.proofs.lemmas.List.Folds.{list_any_more}
 use Rattle.std.proofs.lemmas.Option.{slice_get-get_or}
 use Rattle.std.specs.List.{list_any}
-use Rattle.ckrt_order.specs.declared.pair.Pair.{Pair}
-use Rattle.ckrt_order.specs.Detection.{one_more}
+use Rattle.ckrt_look_clocks.specs.declared.pair.Pair.{Pair}
+use Rattle.ckrt_look_clocks.specs.Detection.{one_more}
 use Rattle.ckrt_hunt_races.specs.declared.row.RaceRow.{RaceRow}
 use Rattle.ckrt_hunt_races.specs.Races.{counted, first_row, has_places, with_pair, with_row}
 use Rattle.ckrt_hunt_races.specs.declared.row.TheConstants.{RACE_ROWS}

@@ -1,11 +1,11 @@
 -- What is noted keeps the sizes of a detector.
 use Rattle.std.proofs.Common.{◌≡◌, ◌∙◌, List, [], ◌∷◌, length, slice_get, Option, Some, None, refl}
 use Rattle.std.proofs.lemmas.List.{length-set}
-use Rattle.ckrt_order.specs.declared.operation.Access.{Access}
-use Rattle.ckrt_order.specs.declared.operation.Operation.{Operation}
-use Rattle.ckrt_order.specs.declared.operation.Operation.TheVariants as operation
-use Rattle.ckrt_order.specs.declared.shadow.Cell.{Cell}
-use Rattle.ckrt_order.specs.Detection.{Watched, access_at, behind, behind_all, clock_at, clock_of, joined, kept, word_of}
+use Rattle.ckrt_look_clocks.specs.declared.operation.Access.{Access}
+use Rattle.ckrt_look_clocks.specs.declared.operation.Operation.{Operation}
+use Rattle.ckrt_look_clocks.specs.declared.operation.Operation.TheVariants as operation
+use Rattle.ckrt_look_clocks.specs.declared.shadow.Cell.{Cell}
+use Rattle.ckrt_look_clocks.specs.Detection.{Watched, access_at, behind, behind_all, clock_at, clock_of, joined, kept, word_of}
 
 holders_at : (a : Access) (c : Option Cell) (w : Watched) → length (access_at a c w).clocks ≡ length w.clocks
 holders_at a None w = refl

@@ -3,8 +3,8 @@ use Rattle.std.proofs.Common.{◌≡◌, ◌<◌, ◌+◌, ℕ, suc, List, lengt
 use Rattle.std.proofs.lemmas.Option.{slice_get-get_or}
 use Rattle.std.specs.Prelude.{slice_get}
 use Rattle.std.specs.Io.KnownBytes.{Appends}
-use Rattle.ckrt_hunt.proofs.AppendLemmas.{appends_both, appends_none}
-use Rattle.ckrt_hunt.specs.declared.table.Asked.{Asked}
+use Rattle.ckrt_hunt_schedules.proofs.AppendLemmas.{appends_both, appends_none}
+use Rattle.ckrt_hunt_schedules.specs.declared.table.Asked.{Asked}
 use Rattle.ckrt_hunt_races.specs.declared.row.RaceRow.{RaceRow}
 use Rattle.ckrt_hunt_races.specs.RaceTable.{row_text, rows_text}
 

@@ -9,17 +9,17 @@ use Rattle.ckrt_machine.specs.Steps.{State}
 use Rattle.ckrt_machine.proofs.FoldLaws.{accepted_on, state_on}
 use Rattle.ckrt_schedule.specs.declared.next.Next.TheVariants.{Submit, End}
 use Rattle.ckrt_schedule.specs.declared.next.ScheduleEnd.{ScheduleEnd}
-use Rattle.ckrt_order.specs.Detection.{Watched, behind_all, fresh, no_accesses, no_clock}
-use Rattle.ckrt_races.specs.Holders.{HOLDERS}
-use Rattle.ckrt_races.specs.Recorded.{words_of}
-use Rattle.ckrt_races.specs.Steps.{of_event, of_events}
-use Rattle.ckrt_races.proofs.BehindLemmas.{behind_both}
-use Rattle.ckrt_hunt.specs.declared.made.Made.{Made}
-use Rattle.ckrt_hunt.specs.declared.plan.Plan.{Plan}
-use Rattle.ckrt_hunt.specs.Plans.{made_with, nothing_made}
-use Rattle.ckrt_hunt.specs.Runs.{Point, beginning, next_at, on}
-use Rattle.ckrt_hunt.specs.Turns.{next, runner_of}
-use Rattle.ckrt_hunt.proofs.RunLemmas.{behind_on, scheduled_on}
+use Rattle.ckrt_look_clocks.specs.Detection.{Watched, behind_all, fresh, no_accesses, no_clock}
+use Rattle.ckrt_look_races.specs.Holders.{HOLDERS}
+use Rattle.ckrt_look_races.specs.Recorded.{words_of}
+use Rattle.ckrt_look_races.specs.Steps.{of_event, of_events}
+use Rattle.ckrt_look_races.proofs.BehindLemmas.{behind_both}
+use Rattle.ckrt_hunt_schedules.specs.declared.made.Made.{Made}
+use Rattle.ckrt_hunt_schedules.specs.declared.plan.Plan.{Plan}
+use Rattle.ckrt_hunt_schedules.specs.Plans.{made_with, nothing_made}
+use Rattle.ckrt_hunt_schedules.specs.Runs.{Point, beginning, next_at, on}
+use Rattle.ckrt_hunt_schedules.specs.Turns.{next, runner_of}
+use Rattle.ckrt_hunt_schedules.proofs.RunLemmas.{behind_on, scheduled_on}
 use Rattle.ckrt_hunt_races.specs.RaceRuns.{HasSeen, Sees}
 use Rattle.ckrt_hunt_races.proofs.SizeLemmas.{same_holders, same_words}
 

@@ -1,11 +1,11 @@
 -- A hunt from its image to its table, with the races of its runs where they are asked for.
 use Rattle.std.specs.Prelude.{ℕ, nat_lt, Bool, true, false, ◌||◌, List, [], ◌++◌, length, Option, Some, None}
-use Rattle.ckrt_hunt.specs.Table.{done_text}
-use Rattle.ckrt_hunt.specs.Seeds.{IsBeginning}
-use Rattle.ckrt_hunt.specs.Tallies.{Hunted, IsHunted, IsTallyOf, hunted_of}
-use Rattle.ckrt_hunt.specs.declared.plan.Input.{Input}
-use Rattle.ckrt_hunt.specs.declared.seeds.Seeds.{Seeds}
-use Rattle.ckrt_hunt.specs.declared.table.Asked.{Asked}
+use Rattle.ckrt_hunt_schedules.specs.Table.{done_text}
+use Rattle.ckrt_hunt_schedules.specs.Seeds.{IsBeginning}
+use Rattle.ckrt_hunt_schedules.specs.Tallies.{Hunted, IsHunted, IsTallyOf, hunted_of}
+use Rattle.ckrt_hunt_schedules.specs.declared.plan.Input.{Input}
+use Rattle.ckrt_hunt_schedules.specs.declared.seeds.Seeds.{Seeds}
+use Rattle.ckrt_hunt_schedules.specs.declared.table.Asked.{Asked}
 use Rattle.ckrt_hunt_races.specs.declared.tally.RaceTally.{RaceTally}
 use Rattle.ckrt_hunt_races.specs.declared.telling.HuntTold.{HuntTold}
 use Rattle.ckrt_hunt_races.specs.Races.{raced_in}

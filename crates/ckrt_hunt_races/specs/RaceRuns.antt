@@ -7,19 +7,19 @@ use Rattle.ckrt_machine.specs.Events.{AllAccepted, fold}
 use Rattle.ckrt_machine.specs.Steps.{State}
 use Rattle.ckrt_schedule.specs.declared.next.Next.TheVariants.{End}
 use Rattle.ckrt_schedule.specs.declared.next.ScheduleEnd.{ScheduleEnd}
-use Rattle.ckrt_order.specs.Detection.{Found, Watched, behind_all, fresh}
-use Rattle.ckrt_order.specs.Laws.{IsRaceOf}
-use Rattle.ckrt_races.specs.Holders.{HOLDERS}
-use Rattle.ckrt_races.specs.Laws.{history_of}
-use Rattle.ckrt_races.specs.Recorded.{found_by, words_of}
-use Rattle.ckrt_races.specs.Steps.{of_events}
-use Rattle.ckrt_hunt.specs.Runs.{AreScheduled, Point, beginning, behind, next_at}
-use Rattle.ckrt_hunt.specs.Tallies.{Hunted, IsNoted, IsRoomFor, SeedComesTo, plan_in}
-use Rattle.ckrt_hunt.specs.declared.made.Made.{Made}
-use Rattle.ckrt_hunt.specs.declared.plan.Plan.{Plan}
-use Rattle.ckrt_hunt.specs.declared.runs.Told.{Told}
-use Rattle.ckrt_hunt.specs.declared.seeds.Seeds.{Seeds}
-use Rattle.ckrt_hunt.specs.declared.tally.Tally.{Tally}
+use Rattle.ckrt_look_clocks.specs.Detection.{Found, Watched, behind_all, fresh}
+use Rattle.ckrt_look_clocks.specs.Laws.{IsRaceOf}
+use Rattle.ckrt_look_races.specs.Holders.{HOLDERS}
+use Rattle.ckrt_look_races.specs.Laws.{history_of}
+use Rattle.ckrt_look_races.specs.Recorded.{found_by, words_of}
+use Rattle.ckrt_look_races.specs.Steps.{of_events}
+use Rattle.ckrt_hunt_schedules.specs.Runs.{AreScheduled, Point, beginning, behind, next_at}
+use Rattle.ckrt_hunt_schedules.specs.Tallies.{Hunted, IsNoted, IsRoomFor, SeedComesTo, plan_in}
+use Rattle.ckrt_hunt_schedules.specs.declared.made.Made.{Made}
+use Rattle.ckrt_hunt_schedules.specs.declared.plan.Plan.{Plan}
+use Rattle.ckrt_hunt_schedules.specs.declared.runs.Told.{Told}
+use Rattle.ckrt_hunt_schedules.specs.declared.seeds.Seeds.{Seeds}
+use Rattle.ckrt_hunt_schedules.specs.declared.tally.Tally.{Tally}
 use Rattle.ckrt_hunt_races.specs.declared.beginning.Beginning.{Beginning}
 use Rattle.ckrt_hunt_races.specs.declared.tally.RaceTally.{RaceTally}
 use Rattle.ckrt_hunt_races.specs.Races.{Raced, no_races, raced_in, with_run}

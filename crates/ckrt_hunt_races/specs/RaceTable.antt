@@ -5,9 +5,9 @@
 --     race 1: 12 of 200 runs, first by seed 3: 5+91 thread 3 stores 00006224 pc 00001038, 7+7 thread 2 stores 00006224 pc 000010c8
 --         ckrt hunt races.bin --seeds 3-3 --pages 64 --harts 1 --steps 10000000 --races --keep seed-3.disk
 use Rattle.std.specs.Prelude.{ℕ, zero, suc, ◌+◌, ◌-◌, ◌==◌, if◌then◌else◌, List, [], ◌∷◌, ◌++◌, length, slice_get, codes, decimal, Option, Some, None}
-use Rattle.ckrt_hunt.specs.Table.{command_line, runs_text}
-use Rattle.ckrt_hunt.specs.declared.table.Asked.{Asked}
-use Rattle.ckrt_races.specs.Texts.{both_text}
+use Rattle.ckrt_hunt_schedules.specs.Table.{command_line, runs_text}
+use Rattle.ckrt_hunt_schedules.specs.declared.table.Asked.{Asked}
+use Rattle.ckrt_look_races.specs.Texts.{both_text}
 use Rattle.ckrt_hunt_races.specs.declared.row.RaceRow.{RaceRow}
 use Rattle.ckrt_hunt_races.specs.Races.{Raced}
 

@@ -2,8 +2,8 @@
 -- seed whose run had it, and the accesses that raced there first in that run. Whichever place came first, the pair is one.
 use Rattle.std.specs.Prelude.{ℕ, nat_lt, Bool, ◌||◌, not, if◌then◌else◌, List, [], ◌∷◌, ◌++◌, length}
 use Rattle.std.specs.List.{list_any}
-use Rattle.ckrt_order.specs.Detection.{Found, is_at, one_more}
-use Rattle.ckrt_order.specs.declared.pair.Pair.{Pair}
+use Rattle.ckrt_look_clocks.specs.Detection.{Found, is_at, one_more}
+use Rattle.ckrt_look_clocks.specs.declared.pair.Pair.{Pair}
 use Rattle.ckrt_hunt_races.specs.declared.row.RaceRow.{RaceRow}
 use Rattle.ckrt_hunt_races.specs.declared.tally.RaceTally.{RaceTally}
 use Rattle.ckrt_hunt_races.specs.declared.row.TheConstants.{RACE_ROWS}

@@ -4,10 +4,10 @@ ghost use Rattle.ckrt_machine.specs.Events.{fresh};
 ghost use Rattle.ckrt_machine.specs.Steps.{State};
 ghost use Rattle.ckrt_memory.specs.declared.MemoryError.TheVariants.{ImageTooLong};
 ghost use Rattle.ckrt_state.specs.WellFormed.{IsWellFormed};
-ghost use Rattle.ckrt_hunt.specs.Tallies.{IsRoomFor};
+ghost use Rattle.ckrt_hunt_schedules.specs.Tallies.{IsRoomFor};
 ghost use Rattle.ckrt_hunt_races.specs.RaceRuns.{IsBegun, IsPutAside, IsSameSize};
 
-use ckrt_hunt::Shape;
+use ckrt_hunt_schedules::Shape;
 use ckrt_machine::Machine;
 use ckrt_memory::{Memory, MemoryError};
 use ckrt_restore::{restore_memory, restore_tables};

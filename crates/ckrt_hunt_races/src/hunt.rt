@@ -5,10 +5,10 @@ ghost use Rattle.ckrt_memory.specs.declared.MemoryError.TheVariants.{ImageTooLon
 use crate::beginning::Beginning;
 use crate::tally::RaceTally;
 use crate::walk::watch_run;
-use ckrt_hunt::{Hunt, HuntOnlooker, Input, Seeds, Shape, Tally};
+use ckrt_hunt_schedules::{Hunt, HuntOnlooker, Input, Seeds, Shape, Tally, is_over};
+use ckrt_look_clocks::Detector;
+use ckrt_look_races::detector_for;
 use ckrt_memory::MemoryError;
-use ckrt_order::Detector;
-use ckrt_races::detector_for;
 use std::alloc::Global;
 use std::marker::Model;
 
@@ -24,7 +24,7 @@ pub struct RaceHunt<'i> {
 }
 
 impl<'i> Model for RaceHunt<'i> {
-    ghost use Rattle.ckrt_hunt.specs.Tallies.{Hunted};
+    ghost use Rattle.ckrt_hunt_schedules.specs.Tallies.{Hunted};
     ghost use Rattle.ckrt_hunt_races.specs.RaceRuns.{IsReady};
 
     ghost Value = { Hunted };
@@ -35,8 +35,8 @@ impl<'i> Model for RaceHunt<'i> {
 }
 
 impl<'i> RaceHunt<'i> {
-    ghost use Rattle.ckrt_hunt.specs.Seeds.{IsBeginning};
-    ghost use Rattle.ckrt_hunt.specs.Tallies.{AreNoted, hunted_of};
+    ghost use Rattle.ckrt_hunt_schedules.specs.Seeds.{IsBeginning, IsEndedBy};
+    ghost use Rattle.ckrt_hunt_schedules.specs.Tallies.{AreNoted, hunted_of};
     ghost use Rattle.ckrt_hunt_races.specs.RaceRuns.{AreLookedAt, IsLookedAt, IsSeedNoted};
     ghost use Rattle.ckrt_hunt_races.specs.Races.{raced_in};
 
@@ -107,6 +107,7 @@ impl<'i> RaceHunt<'i> {
         onlooker: &mut O,
     ) -> Seeds
         ensures begins { IsBeginning seeds may_end result }
+        ensures ended { IsEndedBy O.Answers seeds may_end result }
         ensures noted { AreNoted self.old seeds.first (result.last - seeds.first + 1)
             tally.old tally.new }
         ensures looked_at { AreLookedAt self.old seeds.first (result.last - seeds.first + 1)
@@ -115,7 +116,7 @@ impl<'i> RaceHunt<'i> {
     {
         for seed in seeds.first..seeds.last {
             self.note_seed(seed, tally, races);
-            if !onlooker.has_time(seed, tally) && may_end {
+            if is_over(onlooker, seed, tally, may_end) {
                 return Seeds {
                     first: seeds.first,
                     last: seed,

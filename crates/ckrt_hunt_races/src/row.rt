@@ -4,7 +4,7 @@ ghost use Rattle.std.specs.List.{list_any};
 ghost use Rattle.ckrt_hunt_races.specs.Races.{counted, has_others, has_places, lacks_row, with_pair, with_pairs};
 ghost use Rattle.ckrt_hunt_races.specs.declared.row.TheConstants.{RACE_ROWS};
 
-use ckrt_order::{Detector, Pair};
+use ckrt_look_clocks::{Detector, Pair};
 
 /// How many pairs of places a tally tells apart.
 pub const RACE_ROWS: usize = 64;

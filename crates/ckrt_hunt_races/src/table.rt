@@ -6,12 +6,12 @@ ghost use Rattle.ckrt_hunt_races.specs.Races.{raced_in};
 
 use crate::row::RaceRow;
 use crate::tally::RaceTally;
-use ckrt_hunt::{Asked, write_command_line, write_counted, write_runs};
-use ckrt_races::write_both;
+use ckrt_hunt_schedules::{Asked, write_command_line, write_counted, write_runs};
+use ckrt_look_races::write_both;
 use std::io::{Result, Write};
 
 /// In how many runs a pair raced, and by which seed first.
-#[tactic(auto, using(ckrt_hunt::proofs::AppendLemmas::appends_both))]
+#[tactic(auto, using(ckrt_hunt_schedules::proofs::AppendLemmas::appends_both))]
 fn write_head<W: Write>(out: &mut W, asked: &Asked<'_>, number: u64, row: &RaceRow) -> Result<()>
     ensures { OnOk result
         (Appends (W.contents out.old) (W.contents out.new) (head_text asked.now number row.now)) }
@@ -24,7 +24,7 @@ fn write_head<W: Write>(out: &mut W, asked: &Asked<'_>, number: u64, row: &RaceR
 }
 
 /// The line of a pair.
-#[tactic(auto, using(ckrt_hunt::proofs::AppendLemmas::appends_both))]
+#[tactic(auto, using(ckrt_hunt_schedules::proofs::AppendLemmas::appends_both))]
 fn write_race_line<W: Write>(
     out: &mut W,
     asked: &Asked<'_>,
@@ -40,7 +40,7 @@ fn write_race_line<W: Write>(
 }
 
 /// The two lines of a pair.
-#[tactic(auto, using(ckrt_hunt::proofs::AppendLemmas::appends_both))]
+#[tactic(auto, using(ckrt_hunt_schedules::proofs::AppendLemmas::appends_both))]
 fn write_row<W: Write>(out: &mut W, asked: &Asked<'_>, number: u64, row: &RaceRow) -> Result<()>
     ensures { OnOk result
         (Appends (W.contents out.old) (W.contents out.new) (row_text asked.now number row.now)) }
@@ -62,7 +62,7 @@ fn write_rows<W: Write>(out: &mut W, asked: &Asked<'_>, rows: &[RaceRow]) -> Res
 }
 
 /// The line of the runs that had a race without a row.
-#[tactic(auto, using(ckrt_hunt::proofs::AppendLemmas::appends_both))]
+#[tactic(auto, using(ckrt_hunt_schedules::proofs::AppendLemmas::appends_both))]
 fn write_known_others<W: Write>(out: &mut W, asked: &Asked<'_>, others: u64) -> Result<()>
     ensures { OnOk result
         (Appends (W.contents out.old) (W.contents out.new) (known_others_line asked.now others)) }
@@ -73,7 +73,7 @@ fn write_known_others<W: Write>(out: &mut W, asked: &Asked<'_>, others: u64) -> 
 }
 
 /// The same, if there are any.
-#[tactic(auto, using(ckrt_hunt::proofs::AppendLemmas::appends_none))]
+#[tactic(auto, using(ckrt_hunt_schedules::proofs::AppendLemmas::appends_none))]
 fn write_others<W: Write>(out: &mut W, asked: &Asked<'_>, others: u64) -> Result<()>
     ensures { OnOk result
         (Appends (W.contents out.old) (W.contents out.new) (others_line asked.now others)) }
@@ -86,7 +86,7 @@ fn write_others<W: Write>(out: &mut W, asked: &Asked<'_>, others: u64) -> Result
 }
 
 /// The line of a hunt without a race.
-#[tactic(auto, using(ckrt_hunt::proofs::AppendLemmas::appends_both))]
+#[tactic(auto, using(ckrt_hunt_schedules::proofs::AppendLemmas::appends_both))]
 fn write_no_races<W: Write>(out: &mut W, asked: &Asked<'_>) -> Result<()>
     ensures { OnOk result
         (Appends (W.contents out.old) (W.contents out.new) (no_races_line asked.now)) }
@@ -96,7 +96,7 @@ fn write_no_races<W: Write>(out: &mut W, asked: &Asked<'_>) -> Result<()>
 }
 
 /// The rows, and what has none.
-#[tactic(auto, using(ckrt_hunt::proofs::AppendLemmas::appends_both))]
+#[tactic(auto, using(ckrt_hunt_schedules::proofs::AppendLemmas::appends_both))]
 fn write_some<W: Write>(out: &mut W, asked: &Asked<'_>, races: &RaceTally) -> Result<()>
     ensures { OnOk result
         (Appends (W.contents out.old) (W.contents out.new)

@@ -3,7 +3,7 @@ ghost use Rattle.std.specs.Prelude.{◌≡◌, ◌≤◌, nat_lt, length, vec_ca
 ghost use Rattle.ckrt_hunt_races.specs.declared.row.TheConstants.{RACE_ROWS};
 
 use crate::row::{RACE_ROWS, RaceRow, has_others, note_pairs};
-use ckrt_order::Detector;
+use ckrt_look_clocks::Detector;
 use std::alloc::{AllocError, Global};
 
 /// Which pairs of places raced in the runs of seeds, each once, and how many runs had a race for whose places there was no row left.

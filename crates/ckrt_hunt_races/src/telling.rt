@@ -2,15 +2,16 @@
 ghost use Rattle.std.specs.Prelude.{◌≡◌, ◌≢◌, ◌*◌, ◌-◌, ◌<◌, ◌↔◌, ◌++◌, [], length, true, IfErr, IfOk, IsErrOf, OnOk};
 ghost use Rattle.std.specs.Io.KnownBytes.{Appends};
 ghost use Rattle.ckrt_memory.specs.declared.MemoryError.TheVariants as memory;
-ghost use Rattle.ckrt_hunt.specs.declared.telling.HuntFault.TheVariants as hunt;
-ghost use Rattle.ckrt_hunt.specs.Table.{table_text};
+ghost use Rattle.ckrt_hunt_schedules.specs.Seeds.{IsEndedBy};
+ghost use Rattle.ckrt_hunt_schedules.specs.declared.telling.HuntFault.TheVariants as hunt;
+ghost use Rattle.ckrt_hunt_schedules.specs.Table.{table_text};
 ghost use Rattle.ckrt_hunt_races.specs.Races.{no_races, raced_in};
 ghost use Rattle.ckrt_hunt_races.specs.Hunts.{IsCounted, IsHuntedWith, has_race, has_several, races_behind, told_text};
 
 use crate::hunt::RaceHunt;
 use crate::table::write_races;
 use crate::tally::RaceTally;
-use ckrt_hunt::{
+use ckrt_hunt_schedules::{
     Asked, HuntDone, HuntFault, HuntOnlooker, Input, Tally, hunt_and_tell, hunt_fault_of,
     write_table,
 };
@@ -65,7 +66,9 @@ fn count_runs<O: HuntOnlooker>(
     asked: &Asked<'_>,
     onlooker: &mut O,
 ) -> Result<HuntTold, AllocError>
-    ensures { IfOk result (IsCounted hunt.old asked.now) }
+    ensures counted { IfOk result (IsCounted hunt.old asked.now) }
+    ensures ended { IfOk result
+        (λ told. IsEndedBy O.Answers asked.now.seeds asked.now.may_end told.done.seeds) }
 {
     let (mut tally, mut races) = nothing_counted(alloc)?;
     let seeds = hunt.note_seeds(&mut tally, &mut races, asked.seeds, asked.may_end, onlooker);
@@ -88,6 +91,8 @@ fn count_all<O: HuntOnlooker>(
     onlooker: &mut O,
 ) -> Result<HuntTold, MemoryError>
     ensures counted { IfOk result (IsCounted hunt.entry asked.now) }
+    ensures ended { IfOk result
+        (λ told. IsEndedBy O.Answers asked.now.seeds asked.now.may_end told.done.seeds) }
     ensures fault { IfErr result (λ e. e ≡ memory.OutOfMemory) }
 {
     let mut hunt = hunt;
@@ -108,6 +113,8 @@ fn hunt_for_races<O: HuntOnlooker>(
     onlooker: &mut O,
 ) -> Result<HuntTold, MemoryError>
     ensures hunted { IfOk result (IsHuntedWith true image.now input.entry asked.now) }
+    ensures ended { IfOk result
+        (λ told. IsEndedBy O.Answers asked.now.seeds asked.now.may_end told.done.seeds) }
     ensures too_long { IsErrOf result memory.ImageTooLong
         ↔ (4096 * (asked.now.shape.pages - 1) < length image.now) }
 {
@@ -118,7 +125,7 @@ fn hunt_for_races<O: HuntOnlooker>(
 }
 
 /// Writes the races of a hunt, where they were asked for.
-#[tactic(auto, using(ckrt_hunt::proofs::AppendLemmas::appends_none))]
+#[tactic(auto, using(ckrt_hunt_schedules::proofs::AppendLemmas::appends_none))]
 fn write_races_behind<W: Write>(
     out: &mut W,
     asked: &Asked<'_>,
@@ -134,7 +141,7 @@ fn write_races_behind<W: Write>(
 }
 
 /// Writes what a hunt came to: the table of its outcomes, and its races behind it.
-#[tactic(auto, using(ckrt_hunt::proofs::AppendLemmas::appends_both))]
+#[tactic(auto, using(ckrt_hunt_schedules::proofs::AppendLemmas::appends_both))]
 fn write_told<W: Write>(out: &mut W, asked: &Asked<'_>, told: &HuntTold) -> io::Result<()>
     ensures { OnOk result
         (Appends (W.contents out.old) (W.contents out.new)
@@ -154,6 +161,8 @@ fn hunt_and_tell_races<O: HuntOnlooker, W: Write>(
     out: &mut W,
 ) -> Result<HuntTold, HuntFault>
     ensures hunted { IfOk result (IsHuntedWith true image.now input.entry asked.now) }
+    ensures ended { IfOk result
+        (λ told. IsEndedBy O.Answers asked.now.seeds asked.now.may_end told.done.seeds) }
     ensures told { IfOk result (λ told.
         Appends (W.contents out.old) (W.contents out.new) (told_text asked.now told)) }
     ensures too_long { IsErrOf result hunt.ImageTooLong
@@ -193,6 +202,8 @@ pub fn hunt_as_asked<O: HuntOnlooker, W: Write>(
 ) -> Result<HuntTold, HuntFault>
     ensures hunted { IfOk result
         (IsHuntedWith asked.now.races image.now input.entry asked.now) }
+    ensures ended { IfOk result
+        (λ told. IsEndedBy O.Answers asked.now.seeds asked.now.may_end told.done.seeds) }
     ensures told { IfOk result (λ told.
         Appends (W.contents out.old) (W.contents out.new) (told_text asked.now told)) }
     ensures too_long { IsErrOf result hunt.ImageTooLong

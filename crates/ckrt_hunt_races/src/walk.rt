@@ -1,16 +1,16 @@
 //! A run of a seed, made by one machine, and step by step by another one.
 ghost use Rattle.std.specs.Prelude.{◌≡◌, ◌≤◌, ◌+◌, length};
 ghost use Rattle.ckrt_machine.specs.Steps.{State};
-ghost use Rattle.ckrt_order.specs.Detection.{Watched};
+ghost use Rattle.ckrt_look_clocks.specs.Detection.{Watched};
 ghost use Rattle.ckrt_schedule.specs.declared.next.Next.TheVariants.{Submit};
-ghost use Rattle.ckrt_hunt.specs.Turns.{IsFit, next};
+ghost use Rattle.ckrt_hunt_schedules.specs.Turns.{IsFit, next};
 ghost use Rattle.ckrt_hunt_races.specs.RaceRuns.{AreAlike, HasBegun, HasSeen, IsSameSize, Sees};
 
 use ckrt_events::Event;
-use ckrt_hunt::{Made, Plan, next, runner_of};
+use ckrt_hunt_schedules::{Made, Plan, next, runner_of};
+use ckrt_look_clocks::Detector;
+use ckrt_look_races::watch_event;
 use ckrt_machine::Machine;
-use ckrt_order::Detector;
-use ckrt_races::watch_event;
 use ckrt_schedule::Next;
 
 /// One event on, by both machines.

@@ -1,4 +1,15 @@
 mod WitnessLemmas
+mod CameLemmas
+mod RunsLemmas
 mod TurnLemmas
 mod PowerLemmas
 mod ClosedLemmas
+mod MachineLemmas
+mod LivesLemmas
+mod FaultLemmas
+mod ServiceLemmas
+mod ShelfLemmas
+mod StoppingLemmas
+mod PrintedLemmas
+mod LengthenedLemmas
+mod WordsLemmas

@@ -1,4 +1,4 @@
--- A session that takes an event and commits it.
+-- A session that takes an event and commits or saves it.
 use Rattle.std.proofs.Common.{◌≡◌, false, [], ◌∷◌, ◌++◌, Option, Some, None, Result, Ok, Err, refl, ◌∙◌, ap, subst, arith}
 use Rattle.std.specs.Prelude.{MatchOption, OnOk, is_err}
 use Rattle.ckrt_disk.specs.declared.disk.Disk.{Ghosts}
@@ -6,11 +6,11 @@ use Rattle.ckrt_events.specs.declared.event.Event.{Event}
 use Rattle.ckrt_recovery.specs.Calls.{IsAfterEvent}
 use Rattle.ckrt_recovery.specs.Reached.{Takes}
 use Rattle.ckrt_recovery.specs.Represents.{RecoversAtAnyMoment, Represents, RepresentsDisk, RepresentsOneMore}
-use Rattle.ckrt_recovery.specs.View.{View, after_event, committed, refusal_of, view_of}
+use Rattle.ckrt_recovery.specs.View.{View, after_event, refusal_of, view_of}
 use Rattle.ckrt_recovery.specs.declared.fault.SubmitFault.{SubmitFault}
 use Rattle.ckrt_recovery.specs.declared.session.Session.{Session}
 use Rattle.ckrt_stored.specs.Programs.{Program, RecoversTo, RecoversToStart}
-use Rattle.ckrt_drives.proofs.LeftLemmas.{starts_formatted}
+use Rattle.ckrt_drive_theorem.proofs.LeftLemmas.{starts_formatted}
 use Rattle.ckrt_witness.specs.Power.{PowerWitness}
 
 pub on_ok : {X E : Type 0} (r : Result X E) (P : Type 0) → is_err r ≡ false → OnOk r P → P
@@ -23,7 +23,7 @@ module _ {D : Type 0} {g : Ghosts D} (p : Program) (disk : D) (e : Event) (first
   same_number (Some fault) same = ap (λ (s : Session D g). s.acknowledged) same
 
   pub takes_one : {X E : Type 0} (result : Result X E) → is_err result ≡ false → RepresentsDisk disk first → IsAfterEvent first e old → RepresentsOneMore first e result old → old.disk ≡ first.disk
-      → RecoversAtAnyMoment old new → (g.is_honest new.disk → g.is_honest old.disk) → view_of new ≡ committed (view_of old) → g.is_honest new.disk → RecoversToStart p (g.content disk) → PowerWitness g p
+      → RecoversAtAnyMoment old new → (g.is_honest new.disk → g.is_honest old.disk) → new.acknowledged ≡ old.progress.count → g.is_honest new.disk → RecoversToStart p (g.content disk) → PowerWitness g p
   takes_one result fine given after more same call honest_before ok honest start =
       let honest_old : g.is_honest old.disk = honest_before honest in
       let honest_first : g.is_honest first.disk = subst g.is_honest same honest_old in
@@ -50,5 +50,5 @@ module _ {D : Type 0} {g : Ghosts D} (p : Program) (disk : D) (e : Event) (first
         call = call;
         honest = honest;
         pending = omega (arith, reps.acknowledged, same_number (refusal_of (view_of first) e) after);
-        acknowledges = ap (λ (v : View). v.acknowledged) ok ∙ (takes p [] reps).count;
+        acknowledges = ok ∙ (takes p [] reps).count;
       }

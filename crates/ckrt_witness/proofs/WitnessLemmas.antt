@@ -9,13 +9,13 @@ use Rattle.ckrt_disk.specs.declared.disk.Disk.{Ghosts}
 use Rattle.ckrt_drive.specs.Stages.{GoesThrough, Stage}
 use Rattle.ckrt_drive.specs.declared.options.Options.{Options}
 use Rattle.ckrt_stored.specs.Programs.{Program, RecoversToStart}
-use Rattle.ckrt_drives.specs.Drives.{StopLeaves}
-use Rattle.ckrt_drives.specs.Together.{IsLeftSince}
-use Rattle.ckrt_drives.proofs.LeftLemmas.{left_image}
+use Rattle.ckrt_drive_theorem.specs.Drives.{StopLeaves}
+use Rattle.ckrt_drive_theorem.specs.Together.{IsLeftSince}
+use Rattle.ckrt_drive_theorem.proofs.LeftLemmas.{left_image}
 use Rattle.ckrt_witness.specs.Drives.{DroveTwice, IsReopened, Witness}
 
 -- a device of which nothing is pending has one image
-only_image : {D : Type 0} (d : Ghosts D) (disk : D) (image : List ℕ) → ((i : ℕ) → ¬ d.pending disk i) → MayBeLeft d disk image → image ≡ d.content disk
+pub only_image : {D : Type 0} (d : Ghosts D) (disk : D) (image : List ℕ) → ((i : ℕ) → ¬ d.pending disk i) → MayBeLeft d disk image → image ≡ d.content disk
 only_image d disk image settled may = same_lists image (d.content disk) may.size (λ i x lt.
     let long : i < length (d.content disk) = omega (arith, lt, may.size) in
     get_or_default_zero image i x lt ∙ (may.same i (settled i) ∙ sym (get_or_default_zero (d.content disk) i x long)))
@@ -23,12 +23,12 @@ only_image d disk image settled may = same_lists image (d.content disk) may.size
 module _ {D : Type 0} (d : Ghosts D) (counts : (disk : D) (t : ℕ) (image : List ℕ) → d.is_honest disk → t ≤ d.moment disk → IsImage (d.content disk) (d.pending disk) image → d.left_since disk t image)
     (reads : (disk : D) → d.is_honest disk → IsImage (d.content disk) (d.pending disk) (d.content disk)) where
   -- a device that is made anew with the bytes as they read is what a power cut left
-  again : (end next : D) → IsReopened d end next → IsLeftSince d end end next
+  pub again : (end next : D) → IsReopened d end next → IsLeftSince d end end next
   again end next is = left_image d end end next (d.content end) (counts end (d.moment end) (d.content end) is.honest (omega arith) (reads end is.honest)) is.same is.settled
 
 module _ {D O : Type 0} (d : Ghosts D) (o : Ghosts O) where
   -- a stop behind the last step
-  stop_at_end : (options : Options) (stages : List (Stage d o)) (x y : Stage d o) (disk : D) (output : O) → GoesThrough options stages x y
+  pub stop_at_end : (options : Options) (stages : List (Stage d o)) (x y : Stage d o) (disk : D) (output : O) → GoesThrough options stages x y
       → IsLeftSince d y.session.disk y.session.disk disk → IsLeftSince o y.output y.output output → StopLeaves stages x y disk output
   stop_at_end options [] x y disk output goes left out = (
     goes,

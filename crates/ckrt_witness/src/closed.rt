@@ -9,7 +9,7 @@ ghost use Rattle.ckrt_witness.specs.Power.{PowerWitness};
 ghost use Rattle.ckrt_witness.specs.Turns.{TurnWitness};
 
 use crate::drives::{Left, drive_once, two_drives};
-use crate::power::commit_one;
+use crate::power::{commit_one, save_one};
 use crate::turns::make_turns;
 use ckrt_disk::{Disk, MemoryDisk, StoppingDisk};
 use ckrt_drive::{DriveFault, Options};
@@ -42,7 +42,7 @@ const ENDLESS: &[u8] = &[
 const TURN: u32 = 100;
 
 /// The smallest machine.
-const SMALL: Config = Config {
+pub(crate) const SMALL: Config = Config {
     pages: 16,
     harts: 1,
     journal: 4_096,
@@ -57,14 +57,14 @@ fn expect_eq<R: Abort, T: Debug + PartialEq + Drop>(rt: &R, got: T, want: T) {
 }
 
 /// A copy of bytes.
-fn copied<R: Abort + AllocGlobal>(rt: &R, bytes: &[u8]) -> Vec<u8>
+pub(crate) fn copied<R: Abort + AllocGlobal>(rt: &R, bytes: &[u8]) -> Vec<u8>
     ensures { result.items ≡ bytes.now }
 {
     bytes.to_vec(rt.alloc()).expect(rt, "memory for bytes")
 }
 
 /// A disk in memory with these bytes.
-fn memory_disk<R: Abort + AllocGlobal>(rt: &R, bytes: Vec<u8>) -> MemoryDisk
+pub(crate) fn memory_disk<R: Abort + AllocGlobal>(rt: &R, bytes: Vec<u8>) -> MemoryDisk
     ensures content { ⟦<MemoryDisk as Disk>⟧.content result ≡ bytes.items }
     ensures settled { (i : ℕ) → ¬ ⟦<MemoryDisk as Disk>⟧.pending result i }
 {
@@ -72,7 +72,11 @@ fn memory_disk<R: Abort + AllocGlobal>(rt: &R, bytes: Vec<u8>) -> MemoryDisk
 }
 
 /// One that stops at a call, and lays open gates over its pending bytes then.
-fn stopping_disk<R: Abort + AllocGlobal>(rt: &R, bytes: Vec<u8>, at_call: u64) -> StoppingDisk
+pub(crate) fn stopping_disk<R: Abort + AllocGlobal>(
+    rt: &R,
+    bytes: Vec<u8>,
+    at_call: u64,
+) -> StoppingDisk
     ensures content { ⟦<StoppingDisk as Disk>⟧.content result ≡ bytes.items }
     ensures settled { (i : ℕ) → ¬ ⟦<StoppingDisk as Disk>⟧.pending result i }
 {
@@ -80,14 +84,14 @@ fn stopping_disk<R: Abort + AllocGlobal>(rt: &R, bytes: Vec<u8>, at_call: u64) -
     StoppingDisk::new(rt.alloc(), bytes, at_call, fill).expect(rt, "memory for a disk")
 }
 
-/// The bytes of a disk that was formatted with the guest, with room for a record.
-fn formatted<R: Abort + AllocGlobal>(rt: &R) -> Vec<u8>
+/// The bytes of a disk that was formatted with a guest, with room for a record.
+pub(crate) fn formatted<R: Abort + AllocGlobal>(rt: &R, guest: &[u8]) -> Vec<u8>
     ensures { (p : Program) × RecoversToStart p result.items }
 {
     let size = SMALL.size_needed().saturating_add(RECORD_BYTES);
     let zeros = vec![in rt.alloc(); 0; size].expect(rt, "memory for bytes");
     let mut disk = memory_disk(rt, zeros);
-    match format(rt.alloc(), &mut disk, SMALL, GUEST) {
+    match format(rt.alloc(), &mut disk, SMALL, guest) {
         Ok(()) => disk.into_image(),
         Err(fault) => panic!(rt; "{fault}"),
     }
@@ -139,7 +143,7 @@ fn many_drives<R: Abort + AllocGlobal>(rt: &R, text: &[u8], old: &[u8])
     requires old { old.now ≢ [] }
     ensures { Witness ⟦<StoppingDisk as Disk>⟧ ⟦<MemoryDisk as Disk>⟧ text.now }
 {
-    let image = formatted(rt);
+    let image = formatted(rt, GUEST);
     let output = memory_disk(rt, copied(rt, old));
     let first = drove(rt, image, STOP, output, text);
     expect_eq(rt, first.answer, Err(DriveFault::Device));
@@ -154,8 +158,19 @@ fn many_drives<R: Abort + AllocGlobal>(rt: &R, text: &[u8], old: &[u8])
 fn power_loss<R: Abort + AllocGlobal>(rt: &R)
     ensures { (p : Program) × PowerWitness ⟦<MemoryDisk as Disk>⟧ p }
 {
-    let disk = memory_disk(rt, formatted(rt));
+    let disk = memory_disk(rt, formatted(rt, GUEST));
     match commit_one(rt.alloc(), disk, &Event::Tick(1)) {
+        Some(_) => {}
+        None => panic!(rt; "the disk doesn't recover, or the event is refused"),
+    }
+}
+
+/// The same with a checkpoint in place of the commit.
+fn checkpoint<R: Abort + AllocGlobal>(rt: &R)
+    ensures { (p : Program) × PowerWitness ⟦<MemoryDisk as Disk>⟧ p }
+{
+    let disk = memory_disk(rt, formatted(rt, GUEST));
+    match save_one(rt.alloc(), disk, &Event::Tick(1)) {
         Some(_) => {}
         None => panic!(rt; "the disk doesn't recover, or the event is refused"),
     }
@@ -184,4 +199,9 @@ fn the_premises_of_many_drives_are_met(rt: HostRuntime) {
 #[test]
 fn the_premises_of_power_loss_are_met(rt: HostRuntime) {
     power_loss(&rt);
+}
+
+#[test]
+fn the_premises_of_a_checkpoint_are_met(rt: HostRuntime) {
+    checkpoint(&rt);
 }

@@ -3,12 +3,64 @@
 
 #[cfg(test)]
 mod closed;
+#[cfg(test)]
+mod closed_codes;
+#[cfg(test)]
+mod closed_commands;
+#[cfg(test)]
+mod closed_faults;
+#[cfg(test)]
+mod closed_inspecting;
+#[cfg(test)]
+mod closed_lengthened;
+#[cfg(test)]
+mod closed_lives;
+#[cfg(test)]
+mod closed_machine;
+#[cfg(test)]
+mod closed_making;
+#[cfg(test)]
+mod closed_printed;
+#[cfg(test)]
+mod closed_service;
+#[cfg(test)]
+mod closed_stopping;
+#[cfg(test)]
+mod closed_words;
+mod codes;
+mod commands;
 mod drives;
+mod faults;
 mod files;
+mod inspecting;
+mod lengthened;
+mod lives;
+mod machine;
+mod making;
 mod power;
+mod printed;
+mod saved;
+mod service;
+mod shelf;
+mod stopping;
 mod turns;
+mod words;
 
+pub use codes::{read_events, read_instruction};
+pub use commands::two_runs;
 pub use drives::{Left, drive_once, two_drives};
+pub use faults::{fail_commit, have_each_fault, is_refused, refuse_checkpoint};
 pub use files::{Three, opened_again, three_sizes};
-pub use power::commit_one;
+pub use inspecting::inspect_one;
+pub use lengthened::lengthen;
+pub use lives::live_four_times;
+pub use machine::{Places, apply_each_kind};
+pub use making::{make_one, refuse_one};
+pub use power::{commit_one, save_one};
+pub use printed::{fail_one, hold_one, run_one, serve_twice};
+pub use saved::read_saved;
+pub use service::serve_once;
+pub use shelf::{Noted, Shelf};
+pub use stopping::fail_drive;
 pub use turns::{make_events, make_turns};
+pub use words::{ask_format, ask_version};

@@ -1,9 +1,9 @@
-/* A format of a long double that nobody can see before the program runs. */
+/* A long double that is to be read by a format. */
 #include <stdio.h>
 
 int main(void) {
-    char format[] = {'%', '.', '3', 'L', 'f', '\n', 0};
+    long double value = 0;
+    char text[] = "1.5";
     printf("%s\n", "begin");
-    printf(format, 1.5L);
-    return 0;
+    return sscanf(text, "%Lf", &value) == 1;
 }

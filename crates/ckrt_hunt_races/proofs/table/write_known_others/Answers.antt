@@ -1,8 +1,8 @@
 use Rattle.std.proofs.Common.{◌++◌, codes, decimal, rules}
 use Rattle.std.proofs.lemmas.Result.{on_ok_weaker}
 use Rattle.std.specs.Io.KnownBytes.{Appends}
-use Rattle.ckrt_hunt.specs.Table.{runs_text}
-use Rattle.ckrt_hunt.proofs.AppendLemmas.{appends_both}
+use Rattle.ckrt_hunt_schedules.specs.Table.{runs_text}
+use Rattle.ckrt_hunt_schedules.proofs.AppendLemmas.{appends_both}
 use Rattle.ckrt_hunt_races.proofs.table.write_known_others.Goals as goal
 
 -- piece by piece

@@ -1,7 +1,7 @@
 use Rattle.std.proofs.Common.{◌++◌, codes, decimal, subst}
 use Rattle.std.proofs.lemmas.Result.{on_ok_weaker}
 use Rattle.std.specs.Io.KnownBytes.{Appends}
-use Rattle.ckrt_hunt.proofs.AppendLemmas.{appends_both}
+use Rattle.ckrt_hunt_schedules.proofs.AppendLemmas.{appends_both}
 use Rattle.ckrt_hunt_races.proofs.table.write_no_races.Goals as goal
 
 -- of as many as there are seeds

@@ -1,7 +1,7 @@
 use Rattle.std.proofs.Common.{◌++◌, codes}
 use Rattle.std.proofs.lemmas.Result.{on_ok_weaker}
-use Rattle.ckrt_races.specs.Texts.{both_text}
-use Rattle.ckrt_hunt.proofs.AppendLemmas.{appends_both}
+use Rattle.ckrt_look_races.specs.Texts.{both_text}
+use Rattle.ckrt_hunt_schedules.proofs.AppendLemmas.{appends_both}
 use Rattle.ckrt_hunt_races.specs.RaceTable.{head_text}
 use Rattle.ckrt_hunt_races.proofs.table.write_race_line.Goals as goal
 

@@ -1,6 +1,6 @@
 use Rattle.std.proofs.lemmas.Result.{on_ok_weaker}
-use Rattle.ckrt_hunt.specs.Table.{command_line}
-use Rattle.ckrt_hunt.proofs.AppendLemmas.{appends_both}
+use Rattle.ckrt_hunt_schedules.specs.Table.{command_line}
+use Rattle.ckrt_hunt_schedules.proofs.AppendLemmas.{appends_both}
 use Rattle.ckrt_hunt_races.specs.RaceTable.{race_line}
 use Rattle.ckrt_hunt_races.proofs.table.write_row.Goals as goal
 

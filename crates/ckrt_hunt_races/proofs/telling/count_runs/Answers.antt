@@ -1,12 +1,12 @@
 use Rattle.std.proofs.Common.{◌+◌, ◌-◌, subst, sym}
-use Rattle.ckrt_hunt.specs.Tallies.{AreNoted}
+use Rattle.ckrt_hunt_schedules.specs.Tallies.{AreNoted}
 use Rattle.ckrt_hunt_races.specs.Races.{Raced, no_races, raced_in}
 use Rattle.ckrt_hunt_races.specs.RaceRuns.{AreLookedAt}
 use Rattle.ckrt_hunt_races.proofs.telling.count_runs.Goals as goal
 
 -- as many as were run
-pub returns : goal.returns
-returns g c =
+pub returns-clause-counted : goal.returns-clause-counted
+returns-clause-counted g c =
     let h = c.args.hunt.now in
     let all = c.args.asked.now.seeds in
     let some = c.note_seeds-seeds.result in

@@ -2,8 +2,8 @@ use Rattle.std.proofs.Common.{None, subst, sym}
 use Rattle.std.proofs.lemmas.List.{append-nil}
 use Rattle.std.proofs.lemmas.Result.{IfOk-weaker}
 use Rattle.std.specs.Io.KnownBytes.{Appends}
-use Rattle.ckrt_hunt.specs.Table.{done_text}
-use Rattle.ckrt_hunt.specs.Tallies.{hunted_of}
+use Rattle.ckrt_hunt_schedules.specs.Table.{done_text}
+use Rattle.ckrt_hunt_schedules.specs.Tallies.{hunted_of}
 use Rattle.ckrt_hunt_races.specs.Hunts.{AreAskedRaces, IsHuntedWith}
 use Rattle.ckrt_hunt_races.proofs.telling.hunt_as_asked.Goals as goal
 

@@ -1,6 +1,6 @@
 use Rattle.std.proofs.Common.{true, subst}
 use Rattle.std.proofs.lemmas.Result.{IfOk-weaker}
-use Rattle.ckrt_hunt.specs.Tallies.{Hunted, IsTallyOf}
+use Rattle.ckrt_hunt_schedules.specs.Tallies.{Hunted, IsTallyOf}
 use Rattle.ckrt_hunt_races.specs.Hunts.{AreAskedRaces}
 use Rattle.ckrt_hunt_races.specs.declared.telling.HuntTold.{HuntTold}
 use Rattle.ckrt_hunt_races.proofs.telling.hunt_for_races.Goals as goal

@@ -1,6 +1,6 @@
 use Rattle.std.proofs.lemmas.Result.{on_ok_weaker}
-use Rattle.ckrt_hunt.specs.Table.{table_text}
-use Rattle.ckrt_hunt.proofs.AppendLemmas.{appends_both}
+use Rattle.ckrt_hunt_schedules.specs.Table.{table_text}
+use Rattle.ckrt_hunt_schedules.proofs.AppendLemmas.{appends_both}
 use Rattle.ckrt_hunt_races.specs.Hunts.{races_behind}
 use Rattle.ckrt_hunt_races.proofs.telling.write_told.Goals as goal
 

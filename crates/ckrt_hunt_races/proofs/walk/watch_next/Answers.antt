@@ -3,12 +3,12 @@ use Rattle.ckrt_machine.specs.Events.{After, refusal_of, step}
 use Rattle.ckrt_machine.specs.Steps.{State}
 use Rattle.ckrt_machine.proofs.Fixed.{same_harts}
 use Rattle.ckrt_state.specs.declared.table.Tables.{Tables}
-use Rattle.ckrt_order.specs.Detection.{behind_all}
-use Rattle.ckrt_races.specs.Steps.{of_event}
-use Rattle.ckrt_hunt.specs.declared.made.Made.{Made}
-use Rattle.ckrt_hunt.specs.Plans.{steps_made}
-use Rattle.ckrt_hunt.specs.Turns.{runner_of}
-use Rattle.ckrt_hunt.proofs.TurnLemmas.{ran_within}
+use Rattle.ckrt_look_clocks.specs.Detection.{behind_all}
+use Rattle.ckrt_look_races.specs.Steps.{of_event}
+use Rattle.ckrt_hunt_schedules.specs.declared.made.Made.{Made}
+use Rattle.ckrt_hunt_schedules.specs.Plans.{steps_made}
+use Rattle.ckrt_hunt_schedules.specs.Turns.{runner_of}
+use Rattle.ckrt_hunt_schedules.proofs.TurnLemmas.{ran_within}
 use Rattle.ckrt_hunt_races.proofs.WalkLemmas.{seen_on, turns_within}
 use Rattle.ckrt_hunt_races.proofs.walk.watch_next.Goals as goal
 

@@ -1,6 +1,6 @@
 use Rattle.std.proofs.Common.{◌∙◌, arith, ap, length, sym, subst, refl}
 use Rattle.ckrt_machine.specs.Steps.{State}
-use Rattle.ckrt_hunt.specs.declared.made.Made.{Made}
+use Rattle.ckrt_hunt_schedules.specs.declared.made.Made.{Made}
 use Rattle.ckrt_hunt_races.specs.RaceRuns.{HasSeen}
 use Rattle.ckrt_hunt_races.proofs.WalkLemmas.{seen_first, sees}
 use Rattle.ckrt_hunt_races.proofs.walk.watch_run.Goals as goal

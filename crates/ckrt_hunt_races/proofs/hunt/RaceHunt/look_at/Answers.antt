@@ -1,7 +1,7 @@
 use Rattle.std.proofs.Common.{◌∙◌, ap, subst, sym}
 use Rattle.ckrt_machine.specs.Events.{Machine}
 use Rattle.ckrt_machine.specs.Steps.{State}
-use Rattle.ckrt_hunt.specs.Tallies.{Hunted}
+use Rattle.ckrt_hunt_schedules.specs.Tallies.{Hunted}
 use Rattle.ckrt_hunt_races.specs.Races.{raced_in}
 use Rattle.ckrt_hunt_races.specs.RaceRuns.{IsBegun, IsLookedAt, IsSameSize}
 use Rattle.ckrt_hunt_races.proofs.ReadyLemmas.{begun_again, has_begun, looked, ready_again, room_at}

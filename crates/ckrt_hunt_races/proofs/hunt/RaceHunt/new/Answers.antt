@@ -1,6 +1,6 @@
 use Rattle.std.proofs.Common.{ap, sym}
 use Rattle.ckrt_machine.specs.Events.{fresh}
-use Rattle.ckrt_hunt.specs.Tallies.{Hunted}
+use Rattle.ckrt_hunt_schedules.specs.Tallies.{Hunted}
 use Rattle.ckrt_hunt_races.proofs.ReadyLemmas.{ready_first}
 use Rattle.ckrt_hunt_races.proofs.hunt.RaceHunt.new.Goals as goal
 

@@ -1,9 +1,10 @@
-use Rattle.std.proofs.Common.{◌≡◌, ◌∙◌, ◌+◌, ◌-◌, subst, arith}
-use Rattle.ckrt_hunt.specs.Tallies.{AreNoted, Hunted}
-use Rattle.ckrt_hunt.proofs.TallyLemmas.{noted_on}
+use Rattle.std.proofs.Common.{◌≡◌, ◌∙◌, ◌+◌, ◌-◌, subst, refl, arith}
+use Rattle.ckrt_hunt_schedules.specs.Tallies.{AreNoted, Hunted}
+use Rattle.ckrt_hunt_schedules.proofs.TallyLemmas.{noted_on}
 use Rattle.ckrt_hunt_races.specs.Races.{raced_in}
 use Rattle.ckrt_hunt_races.specs.RaceRuns.{AreLookedAt, IsLookedAt, IsSeedNoted}
 use Rattle.ckrt_hunt_races.proofs.NotedLemmas.{looked_on}
+use Rattle.ckrt_hunt_schedules.proofs.TimeLemmas.{asked_on}
 use Rattle.ckrt_hunt_races.proofs.hunt.RaceHunt.note_seeds.Goals as goal
 
 pub loop-seed-preserved : goal.loop-seed-preserved
@@ -18,11 +19,12 @@ loop-seed-preserved g c =
       looked_at = looked_on h c.args.seeds.first seed (raced_in c.args.races.now) (raced_in c.loop-seed.races) (raced_in c.note_seed.new.races) (omega arith) so_far.looked_at l;
       same = c.note_seed.ensures.same ∙ so_far.same;
       few = omega arith;
+      asked = λ yes. asked_on g.O.HuntOnlooker.Answers c.args.seeds.first c.loop-seed.seed (c.loop-seed.invariant.asked yes) (c.if-is_over.ensures.on refl yes);
     }
 
 -- it ends behind this seed
-pub returns-then-may_end-clause-noted : goal.returns-then-may_end-clause-noted
-returns-then-may_end-clause-noted g c =
+pub returns-then-is_over-clause-noted : goal.returns-then-is_over-clause-noted
+returns-then-is_over-clause-noted g c =
     let h = c.args.self.now in
     let first = c.args.seeds.first in
     let seed = c.loop-seed.seed in
@@ -31,8 +33,8 @@ returns-then-may_end-clause-noted g c =
     subst (λ n. AreNoted h first n c.args.tally.now c.note_seed.new.tally) more
     (noted_on h first seed n.told c.args.tally.now c.loop-seed.tally c.note_seed.new.tally (omega arith) c.loop-seed.invariant.noted n.comes n.noted)
 
-pub returns-then-may_end-clause-looked_at : goal.returns-then-may_end-clause-looked_at
-returns-then-may_end-clause-looked_at g c =
+pub returns-then-is_over-clause-looked_at : goal.returns-then-is_over-clause-looked_at
+returns-then-is_over-clause-looked_at g c =
     let h = c.args.self.now in
     let first = c.args.seeds.first in
     let seed = c.loop-seed.seed in
@@ -41,8 +43,8 @@ returns-then-may_end-clause-looked_at g c =
     subst (λ n. AreLookedAt h first n (raced_in c.args.races.now) (raced_in c.note_seed.new.races)) more
     (looked_on h first seed (raced_in c.args.races.now) (raced_in c.loop-seed.races) (raced_in c.note_seed.new.races) (omega arith) c.loop-seed.invariant.looked_at l)
 
-pub returns-then-may_end-clause-same : goal.returns-then-may_end-clause-same
-returns-then-may_end-clause-same g c = c.note_seed.ensures.same ∙ c.loop-seed.invariant.same
+pub returns-then-is_over-clause-same : goal.returns-then-is_over-clause-same
+returns-then-is_over-clause-same g c = c.note_seed.ensures.same ∙ c.loop-seed.invariant.same
 
 -- the last seed comes behind all others
 pub returns-clause-noted : goal.returns-clause-noted
@@ -69,3 +71,15 @@ returns-clause-looked_at g c =
 
 pub returns-clause-same : goal.returns-clause-same
 returns-clause-same g c = c.note_seed-2.ensures.same ∙ c.loop-seed.invariant.same
+
+pub returns-then-is_over-clause-ended : goal.returns-then-is_over-clause-ended
+returns-then-is_over-clause-ended g c = record {
+  went_on = c.loop-seed.invariant.asked;
+  ended = λ less. (c.if-is_over.ensures.over refl).1;
+}
+
+pub returns-clause-ended : goal.returns-clause-ended
+returns-clause-ended g c = record {
+  went_on = λ yes n from below. c.loop-seed.invariant.asked yes n from (omega (arith, below));
+  ended = λ less. absurd (omega (arith, less));
+}

@@ -1,5 +1,5 @@
-use Rattle.std.proofs.Common.{◌≡◌, ◌≤◌, ◌-◌}
-use Rattle.ckrt_hunt.specs.Tallies.{AreNoted}
+use Rattle.std.proofs.Common.{◌≡◌, ◌≤◌, ◌<◌, ◌-◌, ℕ, true}
+use Rattle.ckrt_hunt_schedules.specs.Tallies.{AreNoted}
 use Rattle.ckrt_hunt_races.specs.Races.{raced_in}
 use Rattle.ckrt_hunt_races.specs.RaceRuns.{AreLookedAt}
 use Rattle.ckrt_hunt_races.proofs.hunt.RaceHunt.note_seeds.Given as goal
@@ -11,4 +11,5 @@ invariant-loop-seed g l = record {
   looked_at : AreLookedAt l.fn.self l.seeds.first (l.seed - l.seeds.first) (raced_in l.fn.races) (raced_in l.races);
   same : l.self ≡ l.fn.self;
   few : l.seed - l.seeds.first ≤ l.seeds.last - l.seeds.first;
+  asked : l.may_end ≡ true → (n : ℕ) → l.seeds.first ≤ n → n < l.seed → g.O.HuntOnlooker.Answers n true;
 }

@@ -1,0 +1,122 @@
+-- What a disk holds as a core: in a file beside the path that it is for, which gets that path once it is whole and durable. So at every moment
+-- what had the path stands there, or the whole core.
+use Rattle.std.specs.Prelude.{◌≡◌, ◌≢◌, ◌⊎◌, ℕ, List, length, Result, Ok, Err, OnOk, IfErr}
+use Rattle.ckrt_look_core_file.specs.Core.{core_of}
+use Rattle.ckrt_disk.specs.Disk.{HasFailed}
+use Rattle.ckrt_disk.specs.Frame.{IsOnlyRead}
+use Rattle.ckrt_disk.specs.declared.disk.Disk.{Ghosts}
+use Rattle.ckrt_stored.specs.Progress.{recovered_of}
+use Rattle.ckrt_stored.specs.declared.progress.Progress.{Progress}
+use Rattle.ckrt_inspect.specs.Inspect.{AgreesAt, is_device}
+use Rattle.ckrt_inspect.specs.declared.fault.InspectFault.{InspectFault}
+use Rattle.ckrt_cli_words.specs.Jobs.{CoreMaking}
+use Rattle.ckrt_cli_files.specs.Openings.{Openings, opened, refused, with_abandoned, with_closed, with_closed_output, with_disk, with_making, with_named}
+use Rattle.ckrt_cli_faults.specs.declared.fault.JobFault.{JobFault}
+use Rattle.ckrt_cli_faults.specs.declared.fault.JobFault.TheVariants as job
+use Rattle.ckrt_cli_files.specs.declared.file.FileFault.{FileFault}
+use Rattle.ckrt_cli_files.specs.declared.file.FileFault.TheVariants as fault
+use Rattle.ckrt_cli_files.specs.declared.file.JobFile.TheVariants as file
+
+-- THE FILE
+
+-- why a core wasn't written into its file: a call failed, or the file has another length
+abbrev pub IsWriteFault : {D : Type 0} → Ghosts D → (core : List ℕ) → (start end : D) → FileFault
+    → Type 0
+IsWriteFault d core start end fault.Unwritten = HasFailed (d.failures start) (d.failures end)
+IsWriteFault d core start end fault.Other = d.size start ≢ length core
+IsWriteFault d core start end _ = ⊥
+
+-- from start to end the file got the bytes of a core, and no others, durably, if it was honest to that end
+pub record WritesCore {D : Type 0} (d : Ghosts D) (core : List ℕ) (start end : D)
+    (answer : Result (Unit {0}) FileFault) : Type 0 where
+  pub written : OnOk answer (d.is_honest end → d.content end ≡ core)
+  pub durable : OnOk answer (d.is_honest end → (i : ℕ) → ¬ d.pending end i)
+  pub fault : IfErr answer (IsWriteFault d core start end)
+
+-- ITS NAME
+
+-- the core got the path that it was made for
+pub record IsNamed {D : Type 0} (path : List ℕ) (core : D) (asked new : Openings D)
+    (result : Result (Unit {0}) JobFault) : Type 0 where
+  pub is : result ≡ Ok tt
+  pub names : new ≡ with_closed_output (with_named asked (opened path) core) core
+
+-- the path was refused, and the core given up
+pub record LacksName {D : Type 0} (path : List ℕ) (core : D) (asked new : Openings D)
+    (result : Result (Unit {0}) JobFault) : Type 0 where
+  pub why : FileFault
+  pub is : result ≡ Err (job.File file.Core why)
+  pub gives_up : new ≡ with_abandoned (with_named asked (refused path why) core) core
+
+-- what became of a core in the making where its writing answered so: only one that is whole gets a name, and one that isn't is given up
+abbrev pub EndsCore : {D : Type 0} → (path : List ℕ) → D → (asked new : Openings D)
+    → Result (Unit {0}) FileFault → Result (Unit {0}) JobFault → Type 0
+EndsCore path core asked new (Ok done) result =
+    IsNamed path core asked new result ⊎ LacksName path core asked new result
+EndsCore path core asked new (Err why) result =
+    (result ≡ Err (job.File file.Core why)) × (new ≡ with_abandoned asked core)
+
+-- a core in the making was written, and got its name where that could be
+pub record WritesInto {D : Type 0} (d : Ghosts D) (core path : List ℕ) (start : D)
+    (asked new : Openings D) (result : Result (Unit {0}) JobFault) : Type 0 where
+  pub end : D
+  pub answer : Result (Unit {0}) FileFault
+  pub writes : WritesCore d core start end answer
+  pub ends : EndsCore path end asked new answer result
+
+module _ {D : Type 0} (d : Ghosts D) (Fills : ℕ → D → Type 0) (core path : List ℕ) (old new : Openings D) (result : Result (Unit {0}) JobFault) where
+  -- there was no memory for it, and no file was asked for
+  abbrev pub LacksMemory : Type 0
+  LacksMemory = (result ≡ Err job.OutOfMemory) × (new ≡ old)
+
+  -- no file can be made for its path
+  pub record LacksFile : Type 0 where
+    pub why : FileFault
+    pub is : result ≡ Err (job.File file.Core why)
+    pub refuses : new ≡ with_making old (refused path why)
+
+  -- a file of its length was made for its path, and written
+  pub record MakesIt : Type 0 where
+    pub start : D
+    pub is_opened : Fills (length core) start
+    pub writes : WritesInto d core path start (with_making old (opened path)) new result
+
+  abbrev pub MakesCore : Type 0
+  MakesCore = LacksMemory ⊎ LacksFile ⊎ MakesIt
+
+-- THE DISK
+
+-- where a program was found its core was made; else no file was asked for
+abbrev pub CoresFound : {D : Type 0} → Ghosts D → (ℕ → D → Type 0) → (path : List ℕ)
+    → (old new : Openings D) → Result Progress InspectFault → Result (Unit {0}) JobFault → Type 0
+CoresFound d Fills path old new (Ok found) result =
+    MakesCore d Fills (core_of (recovered_of found).state) path old new result
+CoresFound d Fills path old new (Err f) result = (result ≡ Err (job.Inspect f)) × (new ≡ old)
+
+-- From disk to end the disk was only read. What was found on it is what it recovers to, or recovered to after that many events, if it was honest to
+-- that end, or the fault is what it says.
+pub record Cores {D : Type 0} (d : Ghosts D) (Fills : ℕ → D → Type 0) (c : CoreMaking)
+    (disk end : D) (old new : Openings D) (result : Result (Unit {0}) JobFault) : Type 0 where
+  pub found : Result Progress InspectFault
+  pub read : IsOnlyRead d disk end (is_device found)
+  pub tells : d.is_honest end → AgreesAt c.at (d.content disk) found
+  pub makes : CoresFound d Fills c.file old new found result
+
+-- a core was made of a disk that was opened to be looked at, and that was closed as it was then
+pub record CoresOpened {D : Type 0} (d : Ghosts D) (Opens : D → Type 0) (Fills : ℕ → D → Type 0)
+    (c : CoreMaking) (asked new : Openings D) (result : Result (Unit {0}) JobFault)
+    : Type 0 where
+  pub start : D
+  pub is_opened : Opens start
+  pub end : D
+  pub made : Openings D
+  pub cores : Cores d Fills c start end asked made result
+  pub closes : new ≡ with_closed made end
+
+-- a core was made of the disk of this path, or that can't be opened
+abbrev pub CoresPath : {D : Type 0} → Ghosts D → (D → Type 0) → (ℕ → D → Type 0) → CoreMaking
+    → (old new : Openings D) → Result (Unit {0}) JobFault → Type 0
+CoresPath d Opens Fills c old new result =
+    ((why : FileFault) × (result ≡ Err (job.File file.Disk why))
+    × (new ≡ with_disk old (refused c.disk why)))
+    ⊎ CoresOpened d Opens Fills c (with_disk old (opened c.disk)) new result

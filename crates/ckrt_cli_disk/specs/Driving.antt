@@ -1,0 +1,387 @@
+-- The drive of a disk, with its input from a file, and its output in a disk of its own or on the standard output: from the words' options to
+-- the ending.
+use Rattle.std.specs.Prelude.{◌≡◌, ◌⊎◌, ◌-◌, ◌^◌, ℕ, Bool, true, false, List, Option, Some, None, Result, Ok, Err, IfErr, IfOk, IfSome, is_err, is_some}
+use Rattle.ckrt_checkpoint.specs.declared.config.Config.{Config}
+use Rattle.ckrt_disk.specs.Disk.{HasFailed}
+use Rattle.ckrt_disk.specs.Frame.{IsOnlyRead}
+use Rattle.ckrt_disk.specs.declared.disk.DeviceFault.{DeviceFault}
+use Rattle.ckrt_disk.specs.declared.disk.Disk.{Ghosts}
+use Rattle.ckrt_events.specs.declared.event.Event.{Event}
+use Rattle.ckrt_stored.specs.Programs.{Program, RecoversTo}
+use Rattle.ckrt_stored.specs.Progress.{recovered_of}
+use Rattle.ckrt_stored.specs.Reads.{is_device}
+use Rattle.ckrt_stored.specs.Recovery.{AgreesOnFault, Recovers}
+use Rattle.ckrt_stored.specs.declared.fault.RecoverFault.{RecoverFault}
+use Rattle.ckrt_stored.specs.declared.fault.RecoverFault.TheVariants as recover
+use Rattle.ckrt_recovery.specs.Opening.{IsSyncedAndRead}
+use Rattle.ckrt_recovery.specs.Represents.{Represents}
+use Rattle.ckrt_recovery.specs.View.{opened as opened_view, view_of}
+use Rattle.ckrt_recovery.specs.declared.session.Session.{Session}
+use Rattle.ckrt_machine.specs.Steps.{State}
+use Rattle.ckrt_drive.specs.Runs.{Runs}
+use Rattle.ckrt_drive.specs.Stages.{GoesBySteps, IsOver, stage}
+use Rattle.ckrt_drive.specs.Streams.{got_to, writer_of}
+use Rattle.ckrt_drive.specs.declared.fault.DriveFault.{DriveFault}
+use Rattle.ckrt_drive.specs.declared.fault.DriveFault.TheVariants.{Output}
+use Rattle.ckrt_drive.specs.declared.options.Options.{Options}
+use Rattle.ckrt_schedule.specs.declared.next.ScheduleEnd.{ScheduleEnd}
+use Rattle.ckrt_drive.specs.declared.stream.StreamOutput.{StreamOutput}
+use Rattle.ckrt_cli_words.specs.Jobs.{Driving}
+use Rattle.ckrt_cli_words.specs.declared.job.Sizes.{Sizes}
+use Rattle.ckrt_cli_disk.specs.Addresses.{fault_address}
+use Rattle.ckrt_cli_disk.specs.Feeding.{Supplies, file_of, made_size}
+use Rattle.ckrt_cli_faults.specs.Lengths.{fits, lengths_of}
+use Rattle.ckrt_cli_disk.specs.Missing.{FindsDisk}
+use Rattle.ckrt_cli_files.specs.Openings.{Openings, opened, refused, with_both_closed, with_closed, with_closed_output, with_output}
+use Rattle.ckrt_cli_faults.specs.Ranges.{config_for, is_in_range}
+use Rattle.ckrt_cli_disk.specs.Sizes.{other_sizes}
+use Rattle.ckrt_cli_files.specs.Sources.{Gives}
+use Rattle.ckrt_cli_faults.specs.declared.driven.Driven.{Driven}
+use Rattle.ckrt_cli_faults.specs.declared.fault.JobFault.{JobFault}
+use Rattle.ckrt_cli_faults.specs.declared.fault.JobFault.TheVariants as job
+use Rattle.ckrt_cli_disk.specs.declared.feeding.Intake.{Intake}
+use Rattle.ckrt_cli_disk.specs.declared.feeding.Supplied.{Supplied}
+use Rattle.ckrt_cli_files.specs.declared.file.FileFault.{FileFault}
+use Rattle.ckrt_cli_files.specs.declared.file.JobFile.TheVariants as file
+use Rattle.ckrt_cli_files.specs.declared.output.OpenedOutput.{OpenedOutput}
+use Rattle.ckrt_cli_files.specs.declared.reason.OutputReason.{OutputReason}
+
+-- THE OPTIONS
+
+-- below which offset output is left out
+abbrev pub offset_of : Option ℕ → ℕ
+offset_of None = 0
+offset_of (Some from) = from
+
+-- the greatest number of 64 bits where no limit is given
+abbrev pub limit_of : Option ℕ → ℕ
+limit_of None = 2 ^ 64 - 1
+limit_of (Some events) = events
+
+-- how the drive goes that the words ask for
+pub record IsAsked (j : Driving) (o : Options) : Type 0 where
+  pub turn : o.turn ≡ j.turn
+  pub rounds : o.rounds ≡ j.rounds
+  pub events : o.events ≡ limit_of j.events
+  pub seed : o.seed ≡ j.seed
+
+-- THE SESSION
+
+-- what a drive came to where its run answered so, and the machine is in this state
+abbrev pub driven_of : State → Result (Option ScheduleEnd) DriveFault → Result Driven DriveFault
+driven_of s (Ok ending) =
+    Ok (record { ending = ending; status = s.tables.status; address = fault_address s })
+driven_of s (Err fault) = Err fault
+
+-- How a drive goes, and what its program is given: these bytes, if any, where they were read as they are, from those on that it had taken.
+pub record Way : Type 1 where
+  pub options : Options
+  pub IsRead : Type 0
+  pub file : Option (List ℕ)
+  pub taken : ℕ
+
+-- without an input
+abbrev pub unfed : Options → Way
+unfed options = record { options = options; IsRead = Unit {0}; file = None; taken = 0 }
+
+-- with this one, which ends so: its bytes are those of its file, where that was honest to the end
+abbrev pub fed_from : {D : Type 0} → Ghosts D → Options → Intake D → (end : D) → Way
+fed_from d options it end = record {
+  options = options;
+  IsRead = d.is_honest end;
+  file = Some (d.content it.file);
+  taken = it.taken;
+}
+
+-- with an input, where there is one; one that begins also ends
+abbrev pub way_of : {D : Type 0} → Ghosts D → Options → Option (Intake D) → (end : Option D) → Way
+way_of d options None end = unfed options
+way_of d options (Some it) None = unfed options
+way_of d options (Some it) (Some end) = fed_from d options it end
+
+-- From s to t, with its output from a to b, a session was driven this way: by the plan, with all its events left, up to an end.
+pub record DrivesWay {D O : Type 0} {g : Ghosts D} (o : Ghosts O) (way : Way) (s t : Session D g)
+    (a b : O) (answer : Result Driven DriveFault) : Type 0 where
+  pub ran : Result (Option ScheduleEnd) DriveFault
+  -- how many events are left in the end, and how many bytes of input the program has taken
+  pub left : ℕ
+  pub taken : ℕ
+  -- what it did, what every stop left, what was acknowledged, and what the output holds
+  pub runs : Runs o way.options (2 ^ 64 - 1) way.options.events left s t a b ran
+  -- step by step
+  pub by_steps : GoesBySteps way.options way.IsRead way.file
+      (stage o way.options.events way.taken s a) (stage o left taken t b)
+  -- and nothing is next at an end
+  pub over : way.IsRead
+      → IfOk ran (λ ended. IfSome ended (IsOver way.options way.file (stage o left taken t b)))
+  -- the program stands as it says
+  pub gives : answer ≡ driven_of t.progress.machine.state ran
+  pub output : IfErr answer (λ fault. fault ≡ Output → HasFailed (o.failures a) (o.failures b))
+
+-- THE FILES
+
+-- what a job answers where its drive answered so; of an output that failed it says why
+abbrev pub answer_of : OutputReason → Result Driven DriveFault → Result Driven JobFault
+answer_of why (Ok driven) = Ok driven
+answer_of why (Err Output) = Err (job.OutputFailed why)
+answer_of why (Err fault) = Err (job.Drive fault)
+
+-- What a drive is set among: its stream, and how that is lent its writer; what sources may give; the file of its input, and where the words say
+-- that it goes on; where its output goes, and below which offset it is left out; and how it goes.
+pub record Setting {D : Type 0} (d : Ghosts D) (W : Type 0) : Type 1 where
+  pub stream : Ghosts (StreamOutput W)
+  pub Lent : (stream end : StreamOutput W) → Type 0
+  pub sources : Gives D
+  pub input : Option (List ℕ)
+  pub input_from : Option ℕ
+  pub output : Option (List ℕ)
+  pub from : ℕ
+  pub options : Options
+
+abbrev pub setting_of : {D W : Type 0} {d : Ghosts D} → Ghosts (StreamOutput W)
+    → ((stream end : StreamOutput W) → Type 0) → Gives D → Driving → Options → Setting d W
+setting_of o Lent gives j options = record {
+  stream = o;
+  Lent = Lent;
+  sources = gives;
+  input = j.input;
+  input_from = j.input_from;
+  output = j.output;
+  from = offset_of j.from;
+  options = options;
+}
+
+-- A session that is ready to be driven, with an input, where there is one.
+pub record Ready {D : Type 0} (d : Ghosts D) : Type 0 where
+  pub session : Session D d
+  pub intake : Option (Intake D)
+
+abbrev pub ready : {D : Type 0} {d : Ghosts D} → Session D d → Option (Intake D) → Ready d
+ready s intake = record { session = s; intake = intake }
+
+-- it was driven onto an output that was opened, and all were closed as the drive left them. The openings go from asked to new.
+pub record DrivesOnto {D : Type 0} {d : Ghosts D} (options : Options) (it : Ready d) (output : D)
+    (asked new : Openings D) (result : Result Driven JobFault) : Type 0 where
+  pub after : Session D d
+  pub end : D
+  -- the input, as the drive left it
+  pub input : Option D
+  pub kept : is_some input ≡ is_some it.intake
+  pub answer : Result Driven DriveFault
+  pub drives : DrivesWay d (way_of d options it.intake input) it.session after output end answer
+  -- why the output failed, if it did
+  pub why : OutputReason
+  pub gives : result ≡ answer_of why answer
+  pub closes : new ≡ with_both_closed (with_closed_output asked end) input after.disk
+
+-- the output of this path can't be opened, and disk and input were closed as they were
+pub record LacksOutput {D : Type 0} {d : Ghosts D} (path : List ℕ) (it : Ready d)
+    (old new : Openings D) (result : Result Driven JobFault) : Type 0 where
+  pub why : FileFault
+  pub is : result ≡ Err (job.File file.Output why)
+  pub closes : new
+      ≡ with_both_closed (with_output old (refused path why)) (file_of it.intake) it.session.disk
+
+-- the output that was opened can't be the disk's, by the length of its file, and all were closed as they were
+pub record RefusesOutput {D : Type 0} {d : Ghosts D} (output : OpenedOutput D) (it : Ready d)
+    (asked new : Openings D) (result : Result Driven JobFault) : Type 0 where
+  pub unfit : fits (lengths_of output.length it.session) ≡ false
+  pub is : result ≡ Err (job.OutputDiffers (lengths_of output.length it.session))
+  pub closes : new
+      ≡ with_both_closed (with_closed_output asked output.output) (file_of it.intake)
+      it.session.disk
+
+-- the length of its file fits the disk, and the session was driven onto it
+pub record TakesOutput {D : Type 0} {d : Ghosts D} (output : OpenedOutput D) (options : Options)
+    (it : Ready d) (asked new : Openings D) (result : Result Driven JobFault) : Type 0 where
+  pub fit : fits (lengths_of output.length it.session) ≡ true
+  pub drives : DrivesOnto options it output.output asked new result
+
+abbrev pub DrivesOpenedOutput : {D : Type 0} {d : Ghosts D} → OpenedOutput D → Options → Ready d
+    → (asked new : Openings D) → Result Driven JobFault → Type 0
+DrivesOpenedOutput output options it asked new result =
+    RefusesOutput output it asked new result ⊎ TakesOutput output options it asked new result
+
+-- the output of this path was opened, and the session driven onto it where it fits
+pub record OpensOutput {D : Type 0} {d : Ghosts D} (Outputs : OpenedOutput D → Type 0)
+    (path : List ℕ) (options : Options) (it : Ready d) (old new : Openings D)
+    (result : Result Driven JobFault) : Type 0 where
+  pub output : OpenedOutput D
+  pub is_opened : Outputs output
+  pub drives : DrivesOpenedOutput output options it (with_output old (opened path)) new result
+
+-- what became of a session whose output goes into the file of a path
+abbrev pub DrivesInto : {D : Type 0} {d : Ghosts D} → (OpenedOutput D → Type 0) → (path : List ℕ)
+    → Options → Ready d → (old new : Openings D) → Result Driven JobFault → Type 0
+DrivesInto Outputs path options it old new result =
+    LacksOutput path it old new result ⊎ OpensOutput Outputs path options it old new result
+
+-- A stream is lent the job's writer, from its beginning to its end: that holds what the writer held before, and in the end what it holds after
+-- the job. What writers hold goes from a to b.
+pub record IsLent {W : Type 0} (contents : W → Option (List ℕ)) (a b : Option (List ℕ))
+    (stream end : StreamOutput W) : Type 0 where
+  pub before : contents (writer_of stream) ≡ a
+  pub behind : contents (writer_of end) ≡ b
+
+-- the session was driven onto a stream that leaves out the bytes below an offset, and disk and input were closed as the drive left them
+pub record DrivesStream {D W : Type 0} {d : Ghosts D} (set : Setting d W) (it : Ready d)
+    (old new : Openings D) (result : Result Driven JobFault) : Type 0 where
+  pub stream : StreamOutput W
+  pub begins : got_to stream ≡ set.from
+  pub after : Session D d
+  pub end : StreamOutput W
+  pub input : Option D
+  pub kept : is_some input ≡ is_some it.intake
+  pub answer : Result Driven DriveFault
+  pub drives : DrivesWay set.stream (way_of d set.options it.intake input) it.session after
+      stream end answer
+  -- nothing is written but by the stream
+  pub lent : set.Lent stream end
+  -- why the output failed, if it did
+  pub why : OutputReason
+  pub gives : result ≡ answer_of why answer
+  pub closes : new ≡ with_both_closed old input after.disk
+
+-- the session was driven with its output in the file of a path, where there is one, else onto a stream
+abbrev pub DrivesToward : {D W : Type 0} {d : Ghosts D} → Setting d W → Ready d
+    → (old new : Openings D) → Result Driven JobFault → (output : Option (List ℕ)) → Type 0
+DrivesToward set it old new result (Some path) =
+    DrivesInto (set.sources.Outputs path) path set.options it old new result
+DrivesToward set it old new result None = DrivesStream set it old new result
+
+abbrev pub DrivesRecovered : {D W : Type 0} {d : Ghosts D} → Setting d W → Ready d
+    → (old new : Openings D) → Result Driven JobFault → Type 0
+DrivesRecovered set it old new result = DrivesToward set it old new result set.output
+
+-- where the output goes into a file nothing is written
+abbrev pub IsUnwritten : (output : Option (List ℕ)) → (a b : Option (List ℕ)) → Type 0
+IsUnwritten (Some path) a b = b ≡ a
+IsUnwritten None a b = Unit {0}
+
+-- THE DISK
+
+-- the session is what the disk's content recovers to
+pub record IsRecovered {D : Type 0} (d : Ghosts D) (start : D) (s : Session D d) : Type 0 where
+  pub content : d.is_honest s.disk → Recovers (d.content start) (Ok (recovered_of s.progress))
+  pub view : view_of s ≡ opened_view (recovered_of s.progress)
+  -- so what a drive says of a list of events it says of the one that the content recovers to
+  pub represents : d.is_honest s.disk → (p : Program) (events : List Event) (limit : ℕ)
+      → RecoversTo p events limit (d.content start) → Represents p events s
+  pub disk : IsSyncedAndRead d start s.disk false
+
+-- nothing was recovered, and no output was asked for; the fault is the content's, or the device failed a call, or memory was refused
+pub record LacksRecovery {D : Type 0} (d : Ghosts D) (start : D) (input : Option D)
+    (old new : Openings D) (result : Result Driven JobFault) : Type 0 where
+  pub end : D
+  pub why : RecoverFault
+  pub is : result ≡ Err (job.Recover why)
+  pub content : d.is_honest end → AgreesOnFault why (Recovers (d.content start))
+  pub disk : IsSyncedAndRead d start end (is_device {X = Unit {0}} (Err why))
+  pub closes : new ≡ with_both_closed old input end
+
+-- the disk was recovered, and driven
+pub record DrivesDisk {D W : Type 0} {d : Ghosts D} (set : Setting d W) (start : Supplied D)
+    (old new : Openings D) (result : Result Driven JobFault) : Type 0 where
+  pub session : Session D d
+  pub recovered : IsRecovered d start.disk session
+  pub drives : DrivesRecovered set (ready session start.intake) old new result
+
+abbrev pub DrivesOpened : {D W : Type 0} {d : Ghosts D} → Setting d W → Supplied D
+    → (old new : Openings D) → Result Driven JobFault → Type 0
+DrivesOpened {d = d} set start old new result =
+    LacksRecovery d start.disk (file_of start.intake) old new result
+    ⊎ DrivesDisk set start old new result
+
+-- THE INPUT
+
+-- it was driven with its input, where that was found
+abbrev pub DrivesSupplied : {D W : Type 0} {d : Ghosts D} → Setting d W → (old new : Openings D)
+    → Result Driven JobFault → (found : Result (Supplied D) JobFault) → Type 0
+DrivesSupplied set old new result (Ok it) = DrivesOpened set it old new result
+DrivesSupplied set old new result (Err fault) = (result ≡ Err fault) × (new ≡ old)
+
+-- a disk with the sizes of the words was driven, with the input of the words, where they name one
+pub record DrivesFed {D W : Type 0} {d : Ghosts D} (set : Setting d W) (start : D)
+    (old new : Openings D) (result : Result Driven JobFault) : Type 0 where
+  pub found : Result (Supplied D) JobFault
+  pub asked : Openings D
+  pub supplies : Supplies d set.sources set.input set.input_from start old asked found
+  pub drives : DrivesSupplied set asked new result found
+
+-- THE SIZES
+
+-- What became of a disk that was looked at: a read failed; or it has other sizes than those that are asked for; or it was driven. Where it
+-- wasn't, it was closed as it was, and nothing else was asked for.
+abbrev pub DrivesLooked : {D W : Type 0} {d : Ghosts D} → Setting d W → D → (old new : Openings D)
+    → Result Driven JobFault → (found : Result (Option Config) DeviceFault) → Type 0
+DrivesLooked set disk old new result (Err failed) =
+    (result ≡ Err (job.Recover recover.Device)) × (new ≡ with_closed old disk)
+DrivesLooked set disk old new result (Ok (Some other)) =
+    (result ≡ Err (job.SizesDiffer other)) × (new ≡ with_closed old disk)
+DrivesLooked set disk old new result (Ok None) = DrivesFed set disk old new result
+
+-- the disk's sizes were read, and it was driven where they are those that are asked for
+pub record DrivesSized {D W : Type 0} {d : Ghosts D} (set : Setting d W) (sizes : Sizes) (start : D)
+    (old new : Openings D) (result : Result Driven JobFault) : Type 0 where
+  pub disk : D
+  pub found : Result (Option Config) DeviceFault
+  pub read : IsOnlyRead d start disk (is_err found)
+  pub exact : IfOk found (λ other. d.is_honest disk → other ≡ other_sizes sizes (d.content start))
+  pub drives : DrivesLooked set disk old new result found
+
+-- THE JOB
+
+-- What a drive has besides its words: its stream, and how that is lent its writer; and what sources may give.
+pub record Means {D : Type 0} (d : Ghosts D) (W : Type 0) : Type 1 where
+  pub stream : Ghosts (StreamOutput W)
+  pub Lent : (stream end : StreamOutput W) → Type 0
+  pub images : List ℕ → Option (List ℕ)
+  pub Opens : D → Type 0
+  pub Fills : D → Type 0
+  pub sources : Gives D
+
+-- those of these words, where sources give these bytes for the path of an image, these disks for that of a disk, and these once it is filled
+abbrev pub means_of : {D W : Type 0} → (d : Ghosts D) → Ghosts (StreamOutput W)
+    → ((stream end : StreamOutput W) → Type 0) → (List ℕ → Option (List ℕ))
+    → (List ℕ → D → Type 0) → (List ℕ → ℕ → D → Type 0) → Gives D → Driving → Means d W
+means_of d o Lent images Opens Fills gives j = record {
+  stream = o;
+  Lent = Lent;
+  images = images;
+  Opens = Opens j.disk;
+  Fills = Fills j.disk (made_size j);
+  sources = gives;
+}
+
+-- A drive that came by its disk drives it as the words ask; one that didn't asked for nothing more.
+pub record DrivesIt {D W : Type 0} {d : Ghosts D} (means : Means d W) (j : Driving) (start : D)
+    (old new : Openings D) (result : Result Driven JobFault) : Type 0 where
+  pub options : Options
+  pub asked : IsAsked j options
+  pub drives : DrivesSized
+      (setting_of {d = d} means.stream means.Lent means.sources j options) j.sizes start old new
+      result
+
+abbrev pub DrivesFound : {D W : Type 0} {d : Ghosts D} → Means d W → Driving
+    → (old new : Openings D) → Result Driven JobFault → (found : Result D JobFault) → Type 0
+DrivesFound means j old new result (Ok start) = DrivesIt means j start old new result
+DrivesFound means j old new result (Err fault) = (result ≡ Err fault) × (new ≡ old)
+
+-- the drive of the words' path: how it came by its disk, and what became of it
+pub record FindsAndDrives {D W : Type 0} {d : Ghosts D} (means : Means d W) (j : Driving)
+    (old new : Openings D) (result : Result Driven JobFault) : Type 0 where
+  pub found : Result D JobFault
+  pub asked : Openings D
+  pub finds : FindsDisk d (config_for j.sizes) means.images means.Opens means.Fills j.disk j.image
+      old asked found
+  pub drives : DrivesFound means j asked new result found
+
+-- Out of its ranges nothing is asked for.
+abbrev pub DrivesInRange : {D W : Type 0} {d : Ghosts D} → Means d W → Driving
+    → (old new : Openings D) → Result Driven JobFault → Bool → Type 0
+DrivesInRange means j old new result true = FindsAndDrives means j old new result
+DrivesInRange means j old new result false = (result ≡ Err job.Range) × (new ≡ old)
+
+abbrev pub DrivesPath : {D W : Type 0} {d : Ghosts D} → Means d W → Driving → (old new : Openings D)
+    → Result Driven JobFault → Type 0
+DrivesPath means j old new result = DrivesInRange means j old new result (is_in_range j)

@@ -1,0 +1,454 @@
+//! Driving a disk.
+ghost use Rattle.std.specs.Prelude.{◌≡◌, None, Some, is_some, true};
+ghost use Rattle.ckrt_cli_words.specs.Jobs.{driving_of};
+ghost use Rattle.ckrt_cli_disk.specs.Driving.{DrivesFed, DrivesInto, DrivesOnto, DrivesOpened, DrivesOpenedOutput, DrivesPath, DrivesRecovered, DrivesSized, DrivesStream, DrivesWay, IsAsked, IsLent, IsUnwritten, answer_of, driven_of, means_of, offset_of, ready, setting_of, way_of};
+ghost use Rattle.ckrt_cli_faults.specs.Ranges.{is_in_range};
+ghost use Rattle.ckrt_drive.specs.Streams.{HasSameWriter};
+
+use crate::address::fault_address;
+use crate::feeding::{Intake, Supplied, close_both, file_of, supply};
+use crate::missing::find_disk;
+use crate::sizes::other_sizes;
+use ckrt_cli_faults::{DrivePaths, Driven, JobFault, Meter, OutputLengths, Watch, is_in_range};
+use ckrt_cli_files::{JobFile, OpenedOutput, OutputReason, Sources};
+use ckrt_cli_words::DriveJob;
+use ckrt_disk::Disk;
+use ckrt_drive::{Drive, DriveFault, Feed, FromDisk, Nothing, Options, StreamOutput};
+use ckrt_machine::Machine;
+use ckrt_recovery::{RecoverFault, Session, recover};
+use ckrt_schedule::ScheduleEnd;
+use std::alloc::Global;
+use std::io::{Read, Write};
+
+/// A session, its output and its input after a drive, and what it came to.
+#[derive(Drop)]
+pub(crate) struct Undertaken<D: Disk, O, F> {
+    pub(crate) session: Session<D>,
+    pub(crate) output: O,
+    pub(crate) input: F,
+    pub(crate) driven: Result<Driven, DriveFault>,
+}
+
+/// How the drive goes that the words ask for.
+fn options_of(job: &DriveJob<'_>) -> Options
+    requires { is_in_range (driving_of job.now) ≡ true }
+    ensures { IsAsked (driving_of job.now) result }
+{
+    let options = Options::new(job.turn, job.rounds, job.events.unwrap_or(u64::MAX));
+    match job.seed {
+        Some(seed) => options.with_seed(seed),
+        None => options,
+    }
+}
+
+/// How the drive is watched that the words ask for.
+fn watch_of<'a>(job: &DriveJob<'a>) -> Watch<'a>
+    ensures progress { result.progress ≡ job.now.progress }
+    ensures status { result.status ≡ job.now.status }
+    ensures paths { result.paths ≡ record {
+      disk = job.now.disk;
+      image = job.now.image;
+      input = job.now.input;
+      output = job.now.output;
+    } }
+{
+    Watch {
+        progress: job.progress,
+        status: job.status,
+        paths: DrivePaths {
+            disk: job.disk,
+            image: job.image,
+            input: job.input,
+            output: job.output,
+        },
+    }
+}
+
+/// What a drive came to where its run answered so, and the machine stands so.
+fn driven_of(
+    machine: &Machine,
+    answer: Result<Option<ScheduleEnd>, DriveFault>,
+) -> Result<Driven, DriveFault>
+    ensures { result ≡ driven_of machine.now.state answer }
+{
+    match answer {
+        Ok(ending) => Ok(Driven {
+            ending,
+            status: machine.status(),
+            address: fault_address(machine),
+        }),
+        Err(fault) => Err(fault),
+    }
+}
+
+/// Drives a session, with its output in a disk of its own and its input from a feed, of which the program has taken that many
+/// bytes.
+fn undertake<D: Disk, O: Disk, F: Feed, M: Meter>(
+    session: Session<D>,
+    output: O,
+    feed: F,
+    taken: u64,
+    options: Options,
+    meter: &mut M,
+) -> Undertaken<D, O, F>
+    ensures { DrivesWay O.Disk (record {
+      options = options;
+      IsRead = F.is_honest result.input;
+      file = F.file feed;
+      taken = taken;
+    })
+        session result.session output result.output result.driven }
+{
+    let mut drive = Drive::with_feed(session, output, options, feed, taken);
+    let answer = drive.run(u64::MAX, meter);
+    let driven = driven_of(drive.session().machine(), answer);
+    let (session, output, input) = drive.into_parts();
+    Undertaken {
+        session,
+        output,
+        input,
+        driven,
+    }
+}
+
+/// Drives a session without an input, with its output in a disk of its own.
+fn drive_unfed<D: Disk, O: Disk, M: Meter>(
+    session: Session<D>,
+    output: O,
+    options: Options,
+    meter: &mut M,
+) -> Undertaken<D, O, Option<D>>
+    ensures drives { DrivesWay O.Disk (way_of D.Disk options None result.input) session
+        result.session output result.output result.driven }
+    ensures unfed { result.input ≡ None }
+{
+    let undertaken = undertake(session, output, Nothing, 0, options, meter);
+    Undertaken {
+        session: undertaken.session,
+        output: undertaken.output,
+        input: None,
+        driven: undertaken.driven,
+    }
+}
+
+/// Drives a session with an input, and with its output in a disk of its own.
+fn drive_fed<D: Disk, O: Disk, M: Meter>(
+    session: Session<D>,
+    output: O,
+    intake: Intake<D>,
+    options: Options,
+    meter: &mut M,
+) -> Undertaken<D, O, Option<D>>
+    ensures drives { DrivesWay O.Disk (way_of D.Disk options (Some intake) result.input) session
+        result.session output result.output result.driven }
+    ensures fed { is_some result.input ≡ true }
+{
+    meter.fed(intake.taken);
+    let feed = FromDisk::new(intake.file);
+    let undertaken = undertake(session, output, feed, intake.taken, options, meter);
+    Undertaken {
+        session: undertaken.session,
+        output: undertaken.output,
+        input: Some(undertaken.input.into_disk()),
+        driven: undertaken.driven,
+    }
+}
+
+/// Drives a session, with an input, where there is one, and with its output in a disk of its own.
+fn drive_session<D: Disk, O: Disk, M: Meter>(
+    session: Session<D>,
+    output: O,
+    intake: Option<Intake<D>>,
+    options: Options,
+    meter: &mut M,
+) -> Undertaken<D, O, Option<D>>
+    ensures drives { DrivesWay O.Disk (way_of D.Disk options intake result.input) session
+        result.session output result.output result.driven }
+    ensures kept { is_some result.input ≡ is_some intake }
+{
+    match intake {
+        Some(intake) => drive_fed(session, output, intake, options, meter),
+        None => drive_unfed(session, output, options, meter),
+    }
+}
+
+/// What the job answers where its drive answered so. Of an output that failed it says why.
+fn answer_of(why: OutputReason, driven: Result<Driven, DriveFault>) -> Result<Driven, JobFault>
+    ensures { result ≡ answer_of why driven }
+{
+    match driven {
+        Ok(driven) => Ok(driven),
+        Err(DriveFault::Output) => Err(JobFault::OutputFailed(why)),
+        Err(fault) => Err(JobFault::Drive(fault)),
+    }
+}
+
+/// Drives a session onto an output that was opened, and closes all.
+fn drive_onto<'a, I: Read, D: Disk, S: Sources<'a, I, D>, M: Meter>(
+    session: Session<D>,
+    output: D,
+    intake: Option<Intake<D>>,
+    options: Options,
+    sources: &mut S,
+    meter: &mut M,
+) -> Result<Driven, JobFault>
+    ensures { DrivesOnto {d = D.Disk} options (ready session intake) output
+        (S.openings sources.old) (S.openings sources.new) result }
+{
+    let undertaken = drive_session(session, output, intake, options, meter);
+    let why = sources.last_reason();
+    sources.close_output(undertaken.output);
+    close_both::<D, S>(undertaken.session.into_disk(), undertaken.input, sources);
+    answer_of(why, undertaken.driven)
+}
+
+/// Drives a session onto an output that was opened, if the length of its file fits the disk; else closes all as they are.
+fn drive_onto_opened<'a, I: Read, D: Disk, S: Sources<'a, I, D>, M: Meter>(
+    session: Session<D>,
+    opened: OpenedOutput<D>,
+    intake: Option<Intake<D>>,
+    options: Options,
+    sources: &mut S,
+    meter: &mut M,
+) -> Result<Driven, JobFault>
+    ensures { DrivesOpenedOutput {d = D.Disk} opened options (ready session intake)
+        (S.openings sources.old) (S.openings sources.new) result }
+{
+    let lengths = OutputLengths {
+        length: opened.length,
+        confirmed: session.confirmed(),
+        released: session.released(),
+    };
+    if lengths.fits() {
+        return drive_onto::<I, D, S, M>(session, opened.output, intake, options, sources, meter);
+    }
+    sources.close_output(opened.output);
+    close_both::<D, S>(session.into_disk(), file_of(intake), sources);
+    Err(JobFault::OutputDiffers(lengths))
+}
+
+/// Drives a session, with its output in the file of a path.
+fn drive_into_file<'a, I: Read, D: Disk, S: Sources<'a, I, D>, M: Meter>(
+    session: Session<D>,
+    path: &'a str,
+    intake: Option<Intake<D>>,
+    options: Options,
+    sources: &mut S,
+    meter: &mut M,
+) -> Result<Driven, JobFault>
+    ensures { DrivesInto {d = D.Disk} ((S.gives sources.old).Outputs path.now) path.now options
+        (ready session intake) (S.openings sources.old) (S.openings sources.new) result }
+{
+    match sources.open_output(path) {
+        Ok(opened) => {
+            drive_onto_opened::<I, D, S, M>(session, opened, intake, options, sources, meter)
+        }
+        Err(fault) => {
+            close_both::<D, S>(session.into_disk(), file_of(intake), sources);
+            Err(JobFault::File(JobFile::Output, fault))
+        }
+    }
+}
+
+/// Drives a session, with its output on a stream, which is lent its writer all the while.
+fn drive_streamed<'a, D: Disk, W: Write, M: Meter>(
+    session: Session<D>,
+    stream: StreamOutput<'a, W>,
+    intake: Option<Intake<D>>,
+    options: Options,
+    meter: &mut M,
+) -> Undertaken<D, StreamOutput<'a, W>, Option<D>>
+    ensures drives { DrivesWay ⟦<StreamOutput<'a, W> as Disk>⟧
+        (way_of D.Disk options intake result.input) session result.session stream.entry
+        result.output result.driven }
+    ensures kept { is_some result.input ≡ is_some intake }
+    ensures lent { HasSameWriter stream.entry result.output }
+{
+    drive_session(session, stream, intake, options, meter)
+}
+
+/// Drives a session, with its output on a writer but for the bytes below an offset, and closes disk and input.
+fn drive_onto_stream<'a, I: Read, D: Disk, S: Sources<'a, I, D>, W: Write + 'a, M: Meter>(
+    session: Session<D>,
+    intake: Option<Intake<D>>,
+    job: &DriveJob<'a>,
+    options: Options,
+    sources: &mut S,
+    writer: &mut W,
+    meter: &mut M,
+) -> Result<Driven, JobFault>
+    ensures { DrivesStream {d = D.Disk} (setting_of ⟦<StreamOutput<'a, W> as Disk>⟧
+        (IsLent W.contents (W.contents writer.old) (W.contents writer.new)) (S.gives sources.old)
+        (driving_of job.now) options) (ready session intake) (S.openings sources.old)
+        (S.openings sources.new) result }
+{
+    let stream = StreamOutput::new(writer, offset_of(job.from));
+    let Undertaken {
+        session,
+        output,
+        input,
+        driven,
+    } = drive_streamed(session, stream, intake, options, meter);
+    let why = sources.last_reason();
+    close_both::<D, S>(session.into_disk(), input, sources);
+    let writer = output.into_writer();
+    // This does nothing at run time: clauses learn here what the writer holds once the stream has it no more.
+    let _ = &*writer;
+    answer_of(why, driven)
+}
+
+/// Below which offset output is left out.
+fn offset_of(from: Option<u64>) -> u64
+    ensures { result ≡ offset_of from }
+{
+    match from {
+        None => 0,
+        Some(from) => from,
+    }
+}
+
+/// Drives a session, with its output in the job's file, or on the writer where the words name none.
+fn drive_recovered<'a, I: Read, D: Disk, S: Sources<'a, I, D>, W: Write + 'a, M: Meter>(
+    session: Session<D>,
+    intake: Option<Intake<D>>,
+    job: &DriveJob<'a>,
+    options: Options,
+    sources: &mut S,
+    writer: &mut W,
+    meter: &mut M,
+) -> Result<Driven, JobFault>
+    ensures drives { DrivesRecovered {d = D.Disk} (setting_of ⟦<StreamOutput<'a, W> as Disk>⟧
+        (IsLent W.contents (W.contents writer.old) (W.contents writer.new)) (S.gives sources.old)
+        (driving_of job.now) options) (ready session intake) (S.openings sources.old)
+        (S.openings sources.new) result }
+    ensures unwritten { IsUnwritten (driving_of job.now).output (W.contents writer.old)
+        (W.contents writer.new) }
+{
+    match job.output {
+        Some(path) => {
+            drive_into_file::<I, D, S, M>(session, path, intake, options, sources, meter)
+        }
+        None => drive_onto_stream::<I, D, S, W, M>(
+            session, intake, job, options, sources, writer, meter,
+        ),
+    }
+}
+
+/// Recovers a disk that was opened, and drives it, with its input, where there is one.
+fn drive_opened<'a, I: Read, D: Disk, S: Sources<'a, I, D>, W: Write + 'a, M: Meter>(
+    alloc: Global,
+    supplied: Supplied<D>,
+    job: &DriveJob<'a>,
+    options: Options,
+    sources: &mut S,
+    writer: &mut W,
+    meter: &mut M,
+) -> Result<Driven, JobFault>
+    ensures drives { DrivesOpened {d = D.Disk} (setting_of ⟦<StreamOutput<'a, W> as Disk>⟧
+        (IsLent W.contents (W.contents writer.old) (W.contents writer.new)) (S.gives sources.old)
+        (driving_of job.now) options) supplied (S.openings sources.old) (S.openings sources.new)
+        result }
+    ensures unwritten { IsUnwritten (driving_of job.now).output (W.contents writer.old)
+        (W.contents writer.new) }
+{
+    let Supplied { disk, intake } = supplied;
+    match recover(alloc, disk) {
+        Ok(session) => drive_recovered::<I, D, S, W, M>(
+            session, intake, job, options, sources, writer, meter,
+        ),
+        Err(unrecovered) => {
+            close_both::<D, S>(unrecovered.disk, file_of(intake), sources);
+            Err(JobFault::Recover(unrecovered.fault))
+        }
+    }
+}
+
+/// Drives a disk with the input of the words, where they name one.
+fn drive_fed_by_words<'a, I: Read, D: Disk, S: Sources<'a, I, D>, W: Write + 'a, M: Meter>(
+    alloc: Global,
+    disk: D,
+    job: &DriveJob<'a>,
+    options: Options,
+    sources: &mut S,
+    writer: &mut W,
+    meter: &mut M,
+) -> Result<Driven, JobFault>
+    requires { is_in_range (driving_of job.now) ≡ true }
+    ensures drives { DrivesFed {d = D.Disk} (setting_of ⟦<StreamOutput<'a, W> as Disk>⟧
+        (IsLent W.contents (W.contents writer.old) (W.contents writer.new)) (S.gives sources.old)
+        (driving_of job.now) options) disk (S.openings sources.old) (S.openings sources.new)
+        result }
+    ensures unwritten { IsUnwritten (driving_of job.now).output (W.contents writer.old)
+        (W.contents writer.new) }
+{
+    let supplied = supply::<I, D, S>(disk, job, sources)?;
+    drive_opened::<I, D, S, W, M>(alloc, supplied, job, options, sources, writer, meter)
+}
+
+/// Drives a disk that was found, if it has the sizes that are asked for; else closes it as it is.
+fn drive_sized<'a, I: Read, D: Disk, S: Sources<'a, I, D>, W: Write + 'a, M: Meter>(
+    alloc: Global,
+    disk: D,
+    job: &DriveJob<'a>,
+    options: Options,
+    sources: &mut S,
+    writer: &mut W,
+    meter: &mut M,
+) -> Result<Driven, JobFault>
+    requires { is_in_range (driving_of job.now) ≡ true }
+    ensures drives { DrivesSized {d = D.Disk} (setting_of ⟦<StreamOutput<'a, W> as Disk>⟧
+        (IsLent W.contents (W.contents writer.old) (W.contents writer.new)) (S.gives sources.old)
+        (driving_of job.now) options) job.now.sizes disk (S.openings sources.old)
+        (S.openings sources.new) result }
+    ensures unwritten { IsUnwritten (driving_of job.now).output (W.contents writer.old)
+        (W.contents writer.new) }
+{
+    let mut disk = disk;
+    let found = other_sizes(&mut disk, &job.sizes);
+    match found {
+        Ok(None) => {
+            drive_fed_by_words::<I, D, S, W, M>(alloc, disk, job, options, sources, writer, meter)
+        }
+        Ok(Some(other)) => {
+            sources.close(disk);
+            Err(JobFault::SizesDiffer(other))
+        }
+        Err(_) => {
+            sources.close(disk);
+            Err(JobFault::Recover(RecoverFault::Device))
+        }
+    }
+}
+
+/// Drives the disk of a path to an end, with its output in the file of another, which is asked for once the disk is
+/// recovered, or on the writer where the words name none. Its program's input is the job's file, where the words name one. A disk
+/// that is missing is made, where the words have an image for it.
+///
+/// # Errors
+///
+/// The first that applies: `Range`, before anything is opened; `File` of the disk, or what making it answers; `BadConfig` where
+/// it has other sizes than those of the words; what the input's fault is, before a byte of the disk is changed; `Recover`, before
+/// the output is asked for; `File` of the output; then what the drive answers.
+pub fn drive_path<'a, I: Read + Drop, D: Disk, S: Sources<'a, I, D>, W: Write + 'a, M: Meter>(
+    alloc: Global,
+    job: &DriveJob<'a>,
+    sources: &mut S,
+    writer: &mut W,
+    meter: &mut M,
+) -> Result<Driven, JobFault>
+    ensures drives { DrivesPath (means_of D.Disk ⟦<StreamOutput<'a, W> as Disk>⟧
+        (IsLent W.contents (W.contents writer.old) (W.contents writer.new))
+        (S.image_bytes sources.old) (S.opens sources.old) (S.fills sources.old)
+        (S.gives sources.old) (driving_of job.now)) (driving_of job.now)
+        (S.openings sources.old) (S.openings sources.new) result }
+    ensures unwritten { IsUnwritten (driving_of job.now).output (W.contents writer.old)
+        (W.contents writer.new) }
+{
+    if !is_in_range(job) {
+        return Err(JobFault::Range);
+    }
+    let options = options_of(job);
+    let disk = find_disk::<I, D, S>(alloc, job, sources)?;
+    meter.begin(alloc, watch_of(job));
+    drive_sized::<I, D, S, W, M>(alloc, disk, job, options, sources, writer, meter)
+}

@@ -1,0 +1,5 @@
+pub mod Ends
+pub mod Lines
+pub mod Reports
+pub mod Unfit
+pub mod Standings

@@ -1,0 +1,261 @@
+//! How far a drive or a hunt is, told while it runs.
+ghost use Rattle.std.specs.Prelude.{◌≡◌};
+ghost use Rattle.ckrt_cli_reports.specs.Ends.{standing_of};
+ghost use Rattle.ckrt_cli_reports.specs.Standings.{readings_of};
+
+use crate::hunted::HuntTimes;
+use crate::rhythm::Rhythm;
+use crate::status::StatusFile;
+use ckrt_cli_faults::{Meter, Watch};
+use ckrt_disk::Disk;
+use ckrt_drive::{Onlooker, StepDone};
+use ckrt_events::Event;
+use ckrt_hunt_schedules::{HuntOnlooker, HuntWatch, Tally};
+use ckrt_input::taken_by;
+use ckrt_inspect::{Readings, Standing};
+use ckrt_machine::Answer;
+use ckrt_recovery::Session;
+use ckrt_schedule::ScheduleEnd;
+use std::alloc::Global;
+use std::fs::{File, Files};
+use std::rt::Clock;
+use std::time::{Duration, Instant};
+
+/// How a drive stands behind a step that did this.
+fn standing_of(did: &StepDone) -> Standing
+    ensures { result ≡ standing_of did.now }
+{
+    match did {
+        StepDone::Stopped(ScheduleEnd::Ended) => Standing::Ended,
+        StepDone::Stopped(ScheduleEnd::WaitsForInput) => Standing::WaitsForInput,
+        StepDone::Stopped(ScheduleEnd::Deadlock) => Standing::Deadlock,
+        StepDone::Stopped(ScheduleEnd::Enough) => Standing::Enough,
+        StepDone::Submitted(_, _)
+        | StepDone::Committed
+        | StepDone::Checkpointed
+        | StepDone::Released => Standing::Running,
+    }
+}
+
+/// The clock is looked at once in so many steps of a drive.
+const STEPS_PER_LOOK: u32 = 64;
+
+/// The seconds from one status to the next.
+const STATUS_INTERVAL: u64 = 10;
+
+/// What was counted since a drive began.
+#[derive(Clone, Copy)]
+struct Counts {
+    /// How many events the disk had before, once that is known.
+    earlier_events: Option<u64>,
+    events: u64,
+    steps: u64,
+    /// How many bytes of its input the program has taken, where it has one.
+    taken: Option<u64>,
+}
+
+impl Counts {
+    /// Nothing yet.
+    fn new() -> Counts {
+        Counts {
+            earlier_events: None,
+            events: 0,
+            steps: 0,
+            taken: None,
+        }
+    }
+
+    /// Counts an event, and the guest steps that it made.
+    fn count(&mut self, event: &Event, answer: &Answer) {
+        self.events = self.events.saturating_add(1);
+        if let Answer::Ran(steps, _) = answer {
+            self.steps = self.steps.saturating_add(u64::from(*steps));
+        }
+        self.taken = match self.taken {
+            Some(taken) => Some(taken.saturating_add(taken_by(event) as u64)),
+            None => None,
+        };
+    }
+
+    /// The events of the disk since its first one.
+    fn all_events(&self) -> u64 {
+        self.earlier_events.unwrap_or(0).saturating_add(self.events)
+    }
+
+    /// How the drive stands with this session: nothing that it counts as acknowledged is more than the session does.
+    fn readings<D: Disk>(&self, session: &Session<D>, standing: Standing) -> Readings
+        ensures { result ≡ readings_of session.now self.now.steps self.now.taken standing }
+    {
+        Readings {
+            events: session.count(),
+            acknowledged: session.acknowledged(),
+            steps: self.steps,
+            output: session.released(),
+            input: self.taken,
+            generation: session.generation(),
+            room: session.room() as u64,
+            standing,
+        }
+    }
+}
+
+/// Tells from time to time how far a drive is: by a line on standard error, with the events of the disk since its first one, guest
+/// steps since the drive began, guest steps a second since the last line, bytes of output of acknowledged events, generation, and
+/// the room that the journal has left in bytes; and by a file. Of a hunt the line has the seeds that were run and the last of them, seeds a
+/// second since the last line, and how many outcomes there are. Where the clock or standard error fails there is no line.
+#[derive(Drop)]
+pub struct SystemMeter<'a, R> {
+    rt: &'a R,
+    lines: Rhythm,
+    statuses: Rhythm,
+    status: Option<StatusFile>,
+    /// Whether the last status could be written.
+    is_written: bool,
+    unlooked: u32,
+    counts: Counts,
+    steps_at_last_line: u64,
+    hunt: HuntTimes,
+}
+
+impl<'a, R: Clock + Eprint + Files<File = File>> SystemMeter<'a, R> {
+    /// A meter that tells nothing yet.
+    pub fn new(rt: &'a R) -> SystemMeter<'a, R> {
+        SystemMeter {
+            rt,
+            lines: Rhythm::never(),
+            statuses: Rhythm::never(),
+            status: None,
+            is_written: true,
+            unlooked: 0,
+            counts: Counts::new(),
+            steps_at_last_line: 0,
+            hunt: HuntTimes::begun(None, None),
+        }
+    }
+
+    /// The present moment, where the clock tells it.
+    fn moment(&self) -> Option<Instant> {
+        Instant::now(self.rt).ok()
+    }
+
+    /// Whether it is time to look at the clock.
+    fn looks(&mut self) -> bool {
+        self.unlooked = self.unlooked.wrapping_add(1) % STEPS_PER_LOOK;
+        self.unlooked == 0
+    }
+
+    /// Prints a line.
+    fn print<D: Disk>(&mut self, since: Duration, session: &Session<D>) {
+        let steps = u128::from(self.counts.steps.saturating_sub(self.steps_at_last_line));
+        let _ = eprintln!(self.rt;
+            "progress: {} events, {} steps, {} steps a second, {} bytes of output, generation {}, room {}",
+            self.counts.all_events(),
+            self.counts.steps,
+            1_000 * steps / since.as_millis().max(1),
+            session.released(),
+            session.generation(),
+            session.room()
+        );
+        self.steps_at_last_line = self.counts.steps;
+        self.lines.last = self.moment();
+    }
+
+    /// Prints a line of a hunt.
+    fn print_hunt(&mut self, since: Duration, seed: u64, tally: &Tally) {
+        let rate = self.hunt.rate(since);
+        let _ = eprintln!(self.rt;
+            "progress: {} runs, seed {}, {} runs a second, outcomes: {}",
+            self.hunt.runs,
+            seed,
+            rate,
+            tally.rows().len()
+        );
+        self.lines.last = self.moment();
+    }
+
+    /// Writes the status. Where that fails it says so, once until it goes well again.
+    fn write_status<D: Disk>(&mut self, session: &Session<D>, standing: Standing) {
+        self.statuses.last = self.moment();
+        let readings = self.counts.readings(session, standing);
+        let Some(status) = &mut self.status else {
+            return;
+        };
+        let written = status.write(self.rt, &readings, session.machine().tables());
+        if let Err(fault) = written {
+            if self.is_written {
+                let _ = eprintln!(self.rt; "ckrt: the status {}: {}", status.path(), fault.text());
+            }
+        }
+        self.is_written = written.is_ok();
+    }
+
+    /// Tells what is due.
+    fn tell_due<D: Disk>(&mut self, session: &Session<D>) {
+        if let Some(since) = self.lines.due(self.rt) {
+            self.print(since, session);
+        }
+        if self.statuses.due(self.rt).is_some() {
+            self.write_status(session, Standing::Running);
+        }
+    }
+}
+
+impl<'a, R: Clock + Eprint + Files<File = File>> Onlooker for SystemMeter<'a, R> {
+    fn look<D: Disk>(&mut self, did: &StepDone, session: &Session<D>) {
+        // no event of the drive is acknowledged before it first looks on
+        let is_first = self.counts.earlier_events.is_none();
+        if is_first {
+            self.counts.earlier_events = Some(session.acknowledged());
+        }
+        if let StepDone::Submitted(event, answer) = did {
+            self.counts.count(event, answer);
+        }
+        if is_first || matches!(did, StepDone::Stopped(_)) {
+            self.write_status(session, standing_of(did));
+        } else if self.looks() {
+            self.tell_due(session);
+        }
+    }
+}
+
+impl<'a, R: Clock + Eprint + Files<File = File>> Meter for SystemMeter<'a, R> {
+    fn begin(&mut self, alloc: Global, watch: Watch<'_>) {
+        self.lines = Rhythm {
+            interval: watch.progress.map(Duration::from_secs),
+            last: self.moment(),
+        };
+        self.statuses = Rhythm {
+            interval: Some(Duration::from_secs(STATUS_INTERVAL)),
+            last: self.moment(),
+        };
+        self.status = match watch.status {
+            Some(path) => StatusFile::new(alloc, path, &watch.paths),
+            None => None,
+        };
+    }
+
+    fn fed(&mut self, taken: u64) {
+        self.counts.taken = Some(taken);
+    }
+}
+
+impl<'a, R: Clock + Eprint + Files<File = File>> HuntOnlooker for SystemMeter<'a, R> {
+    ghost Answers = { λ _ _. Unit {0} };
+
+    fn begin_hunt(&mut self, watch: HuntWatch) {
+        let moment = self.moment();
+        self.hunt = HuntTimes::begun(moment, watch.seconds);
+        self.lines = Rhythm {
+            interval: watch.progress.map(Duration::from_secs),
+            last: moment,
+        };
+    }
+
+    fn has_time(&mut self, seed: u64, tally: &Tally) -> bool {
+        self.hunt.count();
+        if let Some(since) = self.lines.due(self.rt) {
+            self.print_hunt(since, seed, tally);
+        }
+        self.hunt.has_time(self.rt)
+    }
+}

@@ -1,0 +1,5 @@
+mod BeforeLemmas
+mod SupplyLemmas
+mod LongLemmas
+mod HoldLemmas
+mod RunLemmas

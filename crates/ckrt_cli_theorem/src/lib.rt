@@ -1,0 +1,6 @@
+//! The promise of many drives from the words of the program on: runs of one command, one after another.
+#![tactic(auto)]
+
+mod laws;
+
+pub use laws::{commands_go_on, disks_are_left_before_drives, runs_go_on};

@@ -1,0 +1,11 @@
+use Rattle.std.proofs.Common.{ap, ◌≡◌, ◌∙◌}
+use Rattle.std.proofs.lemmas.Result.{IfOk-weaker}
+use Rattle.clap.specs.Words.{App, app_of, with_subcommand}
+use Rattle.ckrt_cli_words.specs.Commands.{ckrt_app, hunt_app}
+use Rattle.ckrt_cli_words.proofs.command.command.Goals as goal
+
+-- command by command
+pub returns : goal.returns
+returns c =
+    IfOk-weaker c.with_command.result _ (λ whole. app_of whole ≡ ckrt_app)
+    (λ _ is. is hunt_app c.hunt_command.ensures.app ∙ ap (λ (a : App). with_subcommand a hunt_app.top) c.in_ok-with_profile.ensures) c.with_command.ensures

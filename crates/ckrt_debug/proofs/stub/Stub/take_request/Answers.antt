@@ -1,7 +1,0 @@
-use Rattle.std.proofs.Common.{[], refl}
-use Rattle.ckrt_commands.proofs.WriteLemmas.{Appends-nothing}
-use Rattle.ckrt_debug.proofs.stub.Stub.take_request.Goals as goal
-
-pub returns-in_default-clause-whole : goal.returns-in_default-clause-whole
-returns-in_default-clause-whole g c =
-    rw c.in_default.is ([], (refl, refl, refl), Appends-nothing (g.W.Write.contents c.args.writer.now))

@@ -1,0 +1,287 @@
+-- An image with zeros after its bytes: what it recovers to, and what it tells.
+use Rattle.std.proofs.Common.{◌≡◌, ◌⊎◌, inl, inr, ⊎_elim, ℕ, ◌+◌, ◌*◌, ◌-◌, ◌<◌, ◌≤◌, ◌&&◌, not, Bool, true, false, cond, nat_eq, nat_lt, nat_le, if◌then◌else◌, List, [], ◌∷◌, ◌++◌, length, take, drop, Option, Some, None, Result, Ok, Err, refl, sym, ◌∙◌, ap, subst, arith, length-append, length-drop}
+use Rattle.std.specs.Prelude.{replicate}
+use Rattle.std.proofs.lemmas.Bool.Decides.{nat_tests}
+use Rattle.std.proofs.lemmas.List.{drop-append-le, take-append-le}
+use Rattle.ckrt_disk.specs.Disk.{IsImage}
+use Rattle.ckrt_disk.specs.Frame.{IsOnlyRead, MayBeLeft}
+use Rattle.ckrt_disk.specs.declared.disk.Disk.{Ghosts}
+use Rattle.ckrt_events.specs.declared.event.Event.{Event}
+use Rattle.ckrt_journal.specs.Chain.{batches_of, journal_bytes}
+use Rattle.ckrt_checkpoint.specs.declared.area.Area.{Area}
+use Rattle.ckrt_checkpoint.specs.declared.config.Config.{Config}
+use Rattle.ckrt_checkpoint.specs.declared.header.Header.{Header}
+use Rattle.ckrt_checkpoint.specs.Areas.{area_of, newest_area}
+use Rattle.ckrt_checkpoint.specs.Layout.{area_at, area_size, header_in, header_of, is_open, is_valid, journal_at, journal_of, memory_at, memory_of, memory_size, number_at, size_needed, tables_at, tables_of}
+use Rattle.ckrt_checkpoint.proofs.PickLemmas.{area_end}
+use Rattle.ckrt_stored.specs.declared.fault.RecoverFault.{RecoverFault}
+use Rattle.ckrt_stored.specs.declared.fault.RecoverFault.TheVariants.{NotFormatted, Version, Damaged}
+use Rattle.ckrt_drive.specs.Stages.{Stage}
+use Rattle.ckrt_input.specs.Taken.{taken_by}
+use Rattle.ckrt_stored.specs.Programs.{Program, RecoversTo}
+use Rattle.ckrt_stored.specs.Recovery.{Recovered, Recovers, in_use}
+use Rattle.ckrt_stored.specs.Superblock.{MAGIC, superblock_in, superblock_of}
+use Rattle.ckrt_stored.proofs.AreaLemmas.{IsInUse, is_in_use}
+use Rattle.ckrt_stored.proofs.GrowthLemmas.{used_by, uses}
+use Rattle.ckrt_stored.proofs.RecoverLemmas.{IsKnown, known, same_found, stays_by}
+use Rattle.ckrt_record.specs.Fed.{IsFed, IsFedIn, RecoversFed}
+use Rattle.ckrt_record.specs.Offset.{is_first, offset_from, recorded_in, saved_offset}
+use Rattle.ckrt_record.specs.declared.slot.Slot.{Slot}
+use Rattle.ckrt_record.specs.Slot.{SLOT_BYTES, slot_at, slot_in, slot_of}
+use Rattle.ckrt_drive_theorem.specs.Drives.{StopLeaves}
+use Rattle.ckrt_drive_theorem.specs.Lengthening.{IsLengthened, IsLonger, LengthenedTells, LengtheningKeeps, RecoverLonger}
+use Rattle.ckrt_drive_theorem.specs.Together.{IsLeftSince, Past, StandTogether, StandsFed}
+use Rattle.ckrt_drive_theorem.proofs.FedLemmas.{tells_from}
+use Rattle.ckrt_drive_theorem.proofs.LeftLemmas.{left_again}
+
+-- PARTS OF IT
+
+part : (n at : ℕ) (short tail : List ℕ) → at + n ≤ length short → take n (drop at (short ++ tail)) ≡ take n (drop at short)
+part n at short tail within =
+    let first : at ≤ length short = omega (arith, within) in
+    let second : n ≤ length (drop at short) = omega (arith, within, length-drop at short) in
+    ap (take n) (drop-append-le at short tail first) ∙ take-append-le n (drop at short) tail second
+
+-- THE SUPERBLOCK
+
+abbrev chosen : (a o m v w : Bool) → Config → Result Config RecoverFault
+chosen a o m v w c = cond a (Err NotFormatted) (cond (not o) (Err NotFormatted) (cond (not m) (Err NotFormatted) (cond (not v) (Err Version) (cond w (Ok c) (Err Damaged)))))
+
+-- its tests, where it gives a configuration
+record HasPassed (a o m v w : Bool) (x c : Config) : Type 0 where
+  pub long : a ≡ false
+  pub opened : o ≡ true
+  pub magic : m ≡ true
+  pub version : v ≡ true
+  pub within : w ≡ true
+  pub is : x ≡ c
+
+has_passed : (a o m v w : Bool) (x c : Config) → chosen a o m v w x ≡ Ok c → HasPassed a o m v w x c
+has_passed true o m v w x c e = absurd (cc)
+has_passed false false m v w x c e = absurd (cc)
+has_passed false true false v w x c e = absurd (cc)
+has_passed false true true false w x c e = absurd (cc)
+has_passed false true true true false x c e = absurd (cc)
+has_passed false true true true true x c e = record { long = refl; opened = refl; magic = refl; version = refl; within = refl; is = cc }
+
+passes : (a o m v w : Bool) (x c : Config) → HasPassed a o m v w x c → chosen a o m v w x ≡ Ok c
+passes true o m v w x c h = let no = h.long in absurd (cc)
+passes false false m v w x c h = let no = h.opened in absurd (cc)
+passes false true false v w x c h = let no = h.magic in absurd (cc)
+passes false true true false w x c h = let no = h.version in absurd (cc)
+passes false true true true false x c h = let no = h.within in absurd (cc)
+passes false true true true true x c h = ap (λ (y : Config). Ok y) h.is
+
+-- a size that is within one is within a greater one
+record IsWithinBoth (v : Bool) (n s t : ℕ) : Type 0 where
+  pub valid : v ≡ true
+  pub fits : n ≤ s
+  pub still : (v && nat_le n t) ≡ true
+
+within_both : (v : Bool) (n s t : ℕ) → s ≤ t → (v && nat_le n s) ≡ true → IsWithinBoth v n s t
+within_both false n s t le e = absurd (cc)
+within_both true n s t le e = record { valid = refl; fits = grind (arith, nat_tests, e); still = grind (arith, nat_tests, e, le) }
+
+not_short : (n : ℕ) → nat_lt n 32 ≡ false → 32 ≤ n
+not_short n e = grind (arith, nat_tests, e)
+
+still_long : (n m : ℕ) → 32 ≤ n → n ≤ m → nat_lt m 32 ≡ false
+still_long n m long le = grind (arith, nat_tests, long, le)
+
+abbrev config_in : List ℕ → Config
+config_in block = record { pages = number_at 4 20 block; harts = number_at 4 24 block; journal = number_at 4 28 block }
+
+record KeepsSuperblock (short image : List ℕ) (c : Config) : Type 0 where
+  pub valid : is_valid c ≡ true
+  pub fits : size_needed c ≤ length short
+  pub stays : superblock_of image ≡ Ok c
+
+module _ (short tail : List ℕ) where
+  abbrev whole : List ℕ
+  whole = short ++ tail
+
+  no_shorter : length short ≤ length whole
+  no_shorter = omega (arith, length-append short tail)
+
+  superblock_stays : (c : Config) → superblock_of short ≡ Ok c → KeepsSuperblock short whole c
+  superblock_stays c is =
+      let b = take 32 short in
+      let x : Config = config_in b in
+      let h = has_passed (nat_lt (length short) 32) (is_open b) (nat_eq (number_at 8 8 b) MAGIC) (nat_eq (number_at 4 16 b) 1) (is_valid x && nat_le (size_needed x) (length short)) x c is in
+      let long : 32 ≤ length short = not_short (length short) h.long in
+      let both = within_both (is_valid x) (size_needed x) (length short) (length whole) no_shorter h.within in
+      record {
+        valid = subst (λ (y : Config). is_valid y ≡ true) h.is both.valid;
+        fits = subst (λ (y : Config). size_needed y ≤ length short) h.is both.fits;
+        stays = ap (λ (l : List ℕ). if nat_lt (length whole) 32 then Err NotFormatted else superblock_in (length whole) l) (take-append-le 32 short tail long)
+            ∙ passes (nat_lt (length whole) 32) (is_open b) (nat_eq (number_at 8 8 b) MAGIC) (nat_eq (number_at 4 16 b) 1) (is_valid x && nat_le (size_needed x) (length whole)) x c
+            (record { long = still_long (length short) (length whole) long no_shorter; opened = h.opened; magic = h.magic; version = h.version; within = both.still; is = h.is });
+      }
+
+-- THE AREA IN USE
+
+-- the places of an area and a journal lie within the format's bytes
+record LieWithin (c : Config) (index tables : ℕ) : Type 0 where
+  pub area : area_at c index + area_size c ≤ 4096 + 2 * area_size c
+  pub tables_end : tables_at c index + tables ≤ size_needed c
+  pub memory_end : memory_at c index + memory_size c ≤ size_needed c
+  pub journal_end : journal_at c index + c.journal ≤ size_needed c
+
+lie_at : (c : Config) (index tables : ℕ) → 1 ≤ c.pages → tables ≤ 98304 → area_at c index + area_size c ≤ 4096 + 2 * area_size c → journal_at c index + c.journal ≤ size_needed c → LieWithin c index tables
+lie_at c index tables pages few area journal = record {
+  area = area;
+  tables_end = omega (arith, few, area);
+  memory_end = omega (arith, pages, area);
+  journal_end = journal;
+}
+
+journal_fits : (c : Config) (index : ℕ) → (index ≡ 0) ⊎ (index ≡ 1) → journal_at c index + c.journal ≤ size_needed c
+journal_fits c index (inl zeroth) = subst (λ i. journal_at c i + c.journal ≤ size_needed c) (sym zeroth) (omega arith)
+journal_fits c index (inr first) = subst (λ i. journal_at c i + c.journal ≤ size_needed c) (sym first) (omega arith)
+
+few_tables : (a : Area) (n : ℕ) → (nat_lt a.header.count n && (nat_lt a.header.offset n && nat_le a.header.tables 98304)) ≡ true → a.header.tables ≤ 98304
+few_tables a n in_range = grind (arith, nat_tests, in_range)
+
+some_pages : (c : Config) → is_valid c ≡ true → 1 ≤ c.pages
+some_pages c valid = let many : 16 ≤ c.pages = grind (arith, nat_tests, valid) in omega (arith, many)
+
+module _ (short tail : List ℕ) (r : Recovered) (recovers : Recovers short (Ok r)) where
+  abbrev was : IsKnown short r
+  was = known short r recovers
+
+  abbrev after : List ℕ
+  after = short ++ tail
+
+  kept : KeepsSuperblock short after was.config
+  kept = superblock_stays short tail was.config (uses was.config was.area short was.used).superblock
+
+  there : IsInUse was.config was.area short
+  there = is_in_use was.config short was.area (uses was.config was.area short was.used).area
+
+  lies : LieWithin was.config was.area.index was.area.header.tables
+  lies = lie_at was.config was.area.index was.area.header.tables (some_pages was.config kept.valid) (few_tables was.area _ there.in_range) (area_end was.config was.area.index there.index) (journal_fits was.config was.area.index there.index)
+
+  header_stays : (index : ℕ) → (index ≡ 0) ⊎ (index ≡ 1) → header_of was.config index after ≡ header_of was.config index short
+  header_stays index which = ap header_in (part 40 (area_at was.config index) short tail (omega (arith, area_end was.config index which, kept.fits)))
+
+  area_stays : area_of was.config after ≡ area_of was.config short
+  area_stays = ap (λ (h : Header). newest_area h (header_of was.config 1 after)) (header_stays 0 (inl refl)) ∙ ap (λ (h : Header). newest_area (header_of was.config 0 short) h) (header_stays 1 (inr refl))
+
+  used_longer : in_use after ≡ Ok (was.config, was.area)
+  used_longer = used_by was.config was.area after kept.stays (area_stays ∙ (uses was.config was.area short was.used).area)
+
+  chain_longer : batches_of was.area.header.version (journal_bytes (journal_of was.config was.area.index was.area.header.version) after) ≡ Ok was.batches
+  chain_longer = ap (batches_of was.area.header.version) (part was.config.journal (journal_at was.config was.area.index) short tail (omega (arith, lies.journal_end, kept.fits))) ∙ was.chain
+
+  recovers_longer : Recovers after (Ok r)
+  recovers_longer = stays_by short after r was (record {
+    used = used_longer;
+    tables = part was.area.header.tables (tables_at was.config was.area.index) short tail (omega (arith, lies.tables_end, kept.fits));
+    memory = part (memory_size was.config) (memory_at was.config was.area.index) short tail (omega (arith, lies.memory_end, kept.fits));
+  }) chain_longer
+
+pub recover_longer : RecoverLonger
+recover_longer short image r longer recovers = subst (λ (l : List ℕ). Recovers l (Ok r)) (sym longer.is) (recovers_longer short (replicate longer.zeros 0) r recovers)
+
+-- THE RECORD
+
+no_slot : (b : Bool) (x : Option Slot) (s : Slot) → (if b then None else x) ≡ Some s → (b ≡ false) × (x ≡ Some s)
+no_slot true x s e = absurd (cc)
+no_slot false x s e = (refl, e)
+
+slot_longer : (c : Config) (index : ℕ) (short tail : List ℕ) (s : Slot) → slot_of c index short ≡ Some s → slot_of c index (short ++ tail) ≡ Some s
+slot_longer c index short tail s is =
+    let at = slot_at c index in
+    let p = no_slot (nat_lt (length short) (at + SLOT_BYTES)) (slot_in (take SLOT_BYTES (drop at short))) s is in
+    let long : at + SLOT_BYTES ≤ length short = grind (arith, nat_tests, p.0) in
+    let longer : nat_lt (length (short ++ tail)) (at + SLOT_BYTES) ≡ false = grind (arith, nat_tests, long, length-append short tail) in
+    ap (λ b. if b then None else slot_in (take SLOT_BYTES (drop at (short ++ tail)))) longer ∙ ap slot_in (part SLOT_BYTES at short tail long) ∙ p.1
+
+saved_longer : (c : Config) (area : Area) (short tail : List ℕ) (n : ℕ) → saved_offset c area short ≡ Some n → saved_offset c area (short ++ tail) ≡ Some n
+saved_longer c area short tail n known = by_first (is_first area) known
+  where
+    by_slot : (o : Option Slot) → slot_of c area.index short ≡ o → recorded_in area o ≡ Some n → recorded_in area (slot_of c area.index (short ++ tail)) ≡ Some n
+    by_slot None is e = absurd (cc)
+    by_slot (Some s) is e = ap (recorded_in area) (slot_longer c area.index short tail s is) ∙ e
+
+    by_first : (b : Bool) → (if b then Some 0 else recorded_in area (slot_of c area.index short)) ≡ Some n → (if b then Some 0 else recorded_in area (slot_of c area.index (short ++ tail))) ≡ Some n
+    by_first true e = e
+    by_first false e = by_slot (slot_of c area.index short) refl e
+
+fed_longer : (short tail : List ℕ) (r : Recovered) → Recovers short (Ok r) → (events : List Event) → IsFed events short → IsFed events (short ++ tail)
+fed_longer short tail r recovers events is =
+    let k = known short r recovers in
+    let f : IsFedIn events k.config k.area short = subst (λ (u : Config × Area). IsFedIn events u.0 u.1 short) (same_found is.config k.config is.area k.area (sym is.used ∙ k.used)) is.fed in
+    let l = lies short tail r recovers in
+    record {
+      config = k.config;
+      area = k.area;
+      used = used_longer short tail r recovers;
+      fed = record {
+        saved = f.saved;
+        count = f.count;
+        known = saved_longer k.config k.area short tail (taken_by f.saved) f.known;
+        batches = f.batches;
+        chain = ap (batches_of k.area.header.version) (part k.config.journal (journal_at k.config k.area.index) short tail (omega (arith, l.journal_end, (kept short tail r recovers).fits))) ∙ f.chain;
+        all = f.all;
+      };
+    }
+
+-- A DISK THAT IS MADE LONGER
+
+to_longer : (p : Program) (events : List Event) (limit : ℕ) (short image : List ℕ) → IsLonger short image → RecoversTo p events limit short → RecoversTo p events limit image
+to_longer p events limit short image longer to = record { recovered = to.recovered; recovers = recover_longer short image to.recovered longer to.recovers; has_events = to.has_events; held_from = to.held_from }
+
+fed_to_longer : (p : Program) (events : List Event) (limit : ℕ) (short image : List ℕ) → IsLonger short image → RecoversFed p events limit short → RecoversFed p events limit image
+fed_to_longer p events limit short image longer fed = (
+  to_longer p events limit short image longer fed.0,
+  subst (λ (l : List ℕ). IsFed events l) (sym longer.is) (fed_longer short (replicate longer.zeros 0) fed.0.recovered fed.0.recovers events fed.1),
+)
+
+module _ {D O : Type 0} (d : Ghosts D) (o : Ghosts O) where
+  stands_longer : (h : Past) (old left : D) (output : O) → IsLengthened d old left → StandTogether d o h old output → StandTogether d o h left output
+  stands_longer h old left output is stand = record {
+    images = λ image may.
+        let was = is.images image may in
+        let t = stand.images was.0 was.1 in
+        record { all = t.all; begins = t.begins; within = t.within; to = t.to; recovers = to_longer h.program t.all t.to was.0 image was.2 t.recovers; reached = t.reached; has = t.has; spares = t.spares };
+    inside = stand.inside;
+  }
+
+  fed_stands_longer : (h : Past) (file : Option (List ℕ)) (old left : D) → IsLengthened d old left → StandsFed d file h old → StandsFed d file h left
+  fed_stands_longer h None old left is stand = tt
+  fed_stands_longer h (Some bytes) old left is stand = λ image may.
+      let was = is.images image may in
+      let k = stand was.0 was.1 in
+      record { all = k.all; begins = k.begins; within = k.within; to = k.to; fed = fed_to_longer h.program k.all k.to was.0 image was.2 k.fed }
+
+  pub keeps_longer : LengtheningKeeps d o
+  keeps_longer h file old left output is stand fed = (stands_longer h old left output is stand, fed_stands_longer h file old left is fed)
+
+pub tells_longer : {D : Type 0} (d : Ghosts D) → ((disk : D) → d.is_honest disk → IsImage (d.content disk) (d.pending disk) (d.content disk)) → LengthenedTells d
+tells_longer d reads h file old longer honest fed is said =
+    let k = fed (d.content old) (reads old honest) in
+    let more = fed_to_longer h.program k.all k.to (d.content old) (d.content longer) is k.fed in
+    tells_from said k.all (d.content longer) more.1 ∙ sym (tells_from said k.all (d.content old) k.fed.1)
+
+-- READS BEFORE RECOVERY
+
+module _ {D : Type 0} (d : Ghosts D) (law : (disk : D) (image : List ℕ) → d.is_honest disk → d.left_since disk (d.moment disk) image → IsImage (d.content disk) (d.pending disk) image) where
+  left_by_reads : (old new start end left : D) (failed : Bool) → IsOnlyRead d start end failed → d.is_honest end → IsLeftSince d old new start → IsLeftSince d start end left → IsLeftSince d old new left
+  left_by_reads old new start end left failed read honest first second = record {
+    images = λ image may. first.images image (⊎_elim
+        (λ (past : _). law start image (read.same.honest honest) past)
+        (λ (none : ⊥). absurd none)
+        ((read.any_moment honest).each (d.moment start) image (omega arith) (second.images image may)));
+    inside = second.inside;
+  }
+
+module _ {D O : Type 0} (d : Ghosts D) (o : Ghosts O) (law : (disk : D) (image : List ℕ) → d.is_honest disk → d.left_since disk (d.moment disk) image → IsImage (d.content disk) (d.pending disk) image)
+    (output_law : (disk : O) (image : List ℕ) → o.is_honest disk → o.left_since disk (o.moment disk) image → IsImage (o.content disk) (o.pending disk) image) where
+  pub stop_in_reads : (stages : List (Stage d o)) (x at : Stage d o) (start end left : D) (output other : O) (failed : Bool) → StopLeaves stages x at start output → IsOnlyRead d start end failed → d.is_honest end → o.is_honest output
+      → IsLeftSince d start end left → IsLeftSince o output output other → StopLeaves stages x at left other
+  stop_in_reads [] x at start end left output other failed h read honest whole there same =
+      (h.0, left_by_reads d law x.session.disk x.session.disk start end left failed read honest h.1 there, left_again o output_law x.output x.output output other whole h.2 same)
+  stop_in_reads (z ∷ more) x at start end left output other failed (inl h) read honest whole there same =
+      inl (h.0, left_by_reads d law x.session.disk z.session.disk start end left failed read honest h.1 there, left_again o output_law x.output z.output output other whole h.2 same)
+  stop_in_reads (z ∷ more) x at start end left output other failed (inr h) read honest whole there same = inr (stop_in_reads more z at start end left output other failed h read honest whole there same)

@@ -1,0 +1,11 @@
+use Rattle.ckrt_drive_theorem.proofs.LengtheningLemmas.{keeps_longer, recover_longer, tells_longer}
+use Rattle.ckrt_drive_theorem.proofs.lengthening.longer_disks_are_the_same.Goals as goal
+
+pub returns-clause-recover : goal.returns-clause-recover
+returns-clause-recover g c = recover_longer
+
+pub returns-clause-keep : goal.returns-clause-keep
+returns-clause-keep g c = keeps_longer g.D.Disk g.O.Disk
+
+pub returns-clause-tell : goal.returns-clause-tell
+returns-clause-tell g c = tells_longer g.D.Disk g.met.D.Disk.readable

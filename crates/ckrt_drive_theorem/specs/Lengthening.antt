@@ -1,0 +1,39 @@
+-- A disk that is made longer, as one without room for the record is: what a stop meanwhile leaves, and what that recovers to.
+use Rattle.std.specs.Prelude.{◌≡◌, ◌<◌, ℕ, List, ◌++◌, length, replicate, Option, Some, Ok}
+use Rattle.ckrt_disk.specs.Frame.{MayBeLeft}
+use Rattle.ckrt_disk.specs.declared.disk.Disk.{Ghosts}
+use Rattle.ckrt_record.specs.Offset.{offset_from}
+use Rattle.ckrt_stored.specs.Recovery.{Recovered, Recovers}
+use Rattle.ckrt_drive_theorem.specs.Together.{Past, StandTogether, StandsFed}
+
+-- an image with zeros after its bytes
+pub record IsLonger (short image : List ℕ) : Type 0 where
+  pub zeros : ℕ
+  pub is : image ≡ short ++ replicate zeros 0
+
+-- it recovers to the same
+abbrev pub RecoverLonger : Type 0
+RecoverLonger =
+    (short image : List ℕ) (r : Recovered) → IsLonger short image → Recovers short (Ok r)
+    → Recovers image (Ok r)
+
+-- What is left where a disk was being made longer, or is: whatever a stop may leave of it now is what a stop might have left before, with zeros
+-- after it.
+pub record IsLengthened {D : Type 0} (d : Ghosts D) (old left : D) : Type 0 where
+  pub images : (image : List ℕ) → MayBeLeft d left image
+      → (short : List ℕ) × MayBeLeft d old short × IsLonger short image
+  pub inside : (i : ℕ) → d.pending left i → i < length (d.content left)
+
+-- so it goes with the output as before, and keeps what its events took of an input
+abbrev pub LengtheningKeeps : {D O : Type 0} → Ghosts D → Ghosts O → Type 0
+LengtheningKeeps {D = D} {O = O} d o =
+    (h : Past) (file : Option (List ℕ)) (old left : D) (output : O) → IsLengthened d old left
+    → StandTogether d o h old output → StandsFed d file h old
+    → StandTogether d o h left output × StandsFed d file h left
+
+-- and it tells as much of its input as before
+abbrev pub LengthenedTells : {D : Type 0} → Ghosts D → Type 0
+LengthenedTells {D = D} d =
+    (h : Past) (file : List ℕ) (old longer : D) → d.is_honest old
+    → StandsFed d (Some file) h old → IsLonger (d.content old) (d.content longer) → (said : Option ℕ)
+    → offset_from said (d.content longer) ≡ offset_from said (d.content old)

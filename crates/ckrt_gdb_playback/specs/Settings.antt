@@ -1,0 +1,53 @@
+-- What a request sets that neither looks nor moves: whose registers are told, who steps back, and where there is to be a stop.
+use Rattle.std.specs.Prelude.{◌≡◌, ℕ, if◌then◌else◌, true, List, [], codes}
+use Rattle.ckrt_thread.specs.State as threads
+use Rattle.ckrt_gdb_history.specs.declared.stop.Stops.{Stops}
+use Rattle.ckrt_gdb_packets.specs.declared.request.Choice.{Choice}
+use Rattle.ckrt_gdb_packets.specs.declared.request.Choice.TheVariants.{All, Any, One}
+use Rattle.ckrt_gdb_packets.specs.declared.request.Request.{Request}
+use Rattle.ckrt_gdb_packets.specs.declared.request.Request.TheVariants.{Examine, Choose, Insert, Remove, Detach, Kill}
+use Rattle.ckrt_gdb_playback.specs.declared.marks.Marked.{Marked}
+use Rattle.ckrt_gdb_playback.specs.declared.marks.Marked.TheVariants.{Done, Full, Unsupported}
+use Rattle.ckrt_gdb_playback.specs.declared.view.View.{View}
+use Rattle.ckrt_gdb_playback.specs.Look.{done_text, failed_text, is_shown}
+use Rattle.ckrt_gdb_playback.specs.Marks.{HasInserted, HasRemoved, inserted, removed}
+
+-- THE VIEW: of any thread, that of the last stop is examined; who isn't shown isn't
+
+abbrev pub examined : Choice → View → threads.State → View
+examined (One t) v s = if is_shown t s then record v { examined = t } else v
+examined Any v s = record v { examined = v.last.thread }
+examined All v s = record v { examined = v.last.thread }
+
+abbrev pub view_after : Request → View → threads.State → View
+view_after (Examine choice) v s = examined choice v s
+view_after (Choose choice) v s = record v { chosen = choice }
+view_after _ v s = v
+
+-- THE STOPS
+
+abbrev pub HasSetStops : Request → (old new : Stops) → Type 0
+HasSetStops (Insert mark) old new = HasInserted mark old new
+HasSetStops (Remove mark) old new = HasRemoved mark old new
+HasSetStops _ old new = new ≡ old
+
+-- THE REPLY
+
+abbrev pub examined_text : Choice → threads.State → List ℕ
+examined_text (One t) s = done_text (is_shown t s)
+examined_text Any s = done_text true
+examined_text All s = done_text true
+
+abbrev pub marked_text : Marked → List ℕ
+marked_text Done = codes "OK"
+marked_text Full = failed_text 1
+marked_text Unsupported = []
+
+abbrev pub set_text : Request → Stops → threads.State → List ℕ
+set_text (Examine choice) stops s = examined_text choice s
+set_text (Choose choice) stops s = done_text true
+set_text (Insert mark) stops s = marked_text (inserted mark stops)
+set_text (Remove mark) stops s = marked_text (removed mark)
+set_text Detach stops s = codes "OK"
+set_text Kill stops s = codes "OK"
+set_text _ stops s = []

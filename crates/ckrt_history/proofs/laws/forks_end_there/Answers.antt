@@ -1,5 +1,0 @@
-use Rattle.ckrt_history.proofs.ForkLemmas.{ends_there}
-use Rattle.ckrt_history.proofs.laws.forks_end_there.Goals as goal
-
-pub returns : goal.returns
-returns c = λ h is. ends_there h.position h.events h.start is

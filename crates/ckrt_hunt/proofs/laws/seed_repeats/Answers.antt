@@ -1,5 +1,0 @@
-use Rattle.ckrt_hunt.proofs.RunLemmas.{same_told}
-use Rattle.ckrt_hunt.proofs.laws.seed_repeats.Goals as goal
-
-pub returns : goal.returns
-returns c = λ p start a b. same_told p start a b

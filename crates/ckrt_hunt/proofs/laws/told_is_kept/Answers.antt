@@ -1,5 +1,0 @@
-use Rattle.ckrt_hunt.proofs.DiskLemmas.{is_told}
-use Rattle.ckrt_hunt.proofs.laws.told_is_kept.Goals as goal
-
-pub returns : goal.returns
-returns g c = λ program p disk ending told has comes. is_told program p disk ending told has comes

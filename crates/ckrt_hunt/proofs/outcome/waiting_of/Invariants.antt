@@ -1,8 +1,0 @@
-use Rattle.std.proofs.Common.{◌≡◌, ◌≤◌, ◌-◌, length}
-use Rattle.ckrt_hunt.specs.Outcomes.{waiting_among}
-use Rattle.ckrt_hunt.proofs.outcome.waiting_of.Given as goal
-
--- the threads before it have been looked at
-abbrev pub invariant-loop-thread : goal.invariant-loop-thread
-invariant-loop-thread l =
-    (l.waiting.items ≡ waiting_among l.tables (l.thread - 1)) × (length l.waiting.items ≤ l.thread - 1)

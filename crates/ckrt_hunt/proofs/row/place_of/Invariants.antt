@@ -1,6 +1,0 @@
-use Rattle.ckrt_hunt.specs.Tallies.{HasNone}
-use Rattle.ckrt_hunt.proofs.row.place_of.Given as goal
-
--- none of the rows before it has the outcome
-abbrev pub invariant-loop-place : goal.invariant-loop-place
-invariant-loop-place l = HasNone l.told l.rows l.place

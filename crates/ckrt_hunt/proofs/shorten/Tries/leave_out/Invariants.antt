@@ -1,6 +1,0 @@
-use Rattle.std.proofs.Common.{◌≡◌}
-use Rattle.ckrt_hunt.proofs.shorten.Tries.leave_out.Given as goal
-
--- the hunt is as it was
-abbrev pub invariant-loop : goal.invariant-loop
-invariant-loop l = l.hunt ≡ l.fn.hunt

@@ -1,0 +1,12 @@
+pub mod TurnLemmas
+pub mod RunLemmas
+mod ShortLemmas
+pub mod TallyLemmas
+pub mod SameLemmas
+pub mod KeepLemmas
+pub mod AppendLemmas
+pub mod LotLemmas
+pub mod DiskLemmas
+mod NumberLemmas
+mod CircleLemmas
+pub mod TimeLemmas

@@ -1,0 +1,12 @@
+use Rattle.std.proofs.Common.{◌≡◌, ◌≤◌, ◌<◌, ◌-◌, ℕ, true}
+use Rattle.ckrt_hunt_schedules.specs.Tallies.{AreNoted}
+use Rattle.ckrt_hunt_schedules.proofs.hunt.Hunt.note_seeds.Given as goal
+
+-- the seeds before it have been noted
+abbrev pub invariant-loop-seed : goal.invariant-loop-seed
+invariant-loop-seed g l = record {
+  noted : AreNoted l.fn.self l.seeds.first (l.seed - l.seeds.first) l.fn.tally l.tally;
+  same : l.self ≡ l.fn.self;
+  few : l.seed - l.seeds.first ≤ l.seeds.last - l.seeds.first;
+  asked : l.may_end ≡ true → (n : ℕ) → l.seeds.first ≤ n → n < l.seed → g.O.HuntOnlooker.Answers n true;
+}

@@ -1,0 +1,14 @@
+use Rattle.std.proofs.Common.{◌≡◌, ◌≤◌, ◌-◌, length}
+use Rattle.ckrt_hunt_schedules.proofs.noting.note_turns.Given as goal
+
+-- as many turns as events at most, on the same machine
+abbrev pub invariant-events : goal.invariant-events
+invariant-events l = record {
+  turns : l.made.turns ≤ l.made.events;
+  harts : l.machine.state.tables.threads.hart_count ≡ l.fn.machine.state.tables.threads.hart_count;
+  size : length l.machine.state.bytes ≡ length l.fn.machine.state.bytes;
+}
+
+-- the events that are left
+abbrev pub decreases-events : goal.decreases-events
+decreases-events l = l.plan.limit - l.made.events

@@ -1,0 +1,17 @@
+use Rattle.std.proofs.Common.{◌++◌, codes, decimal, subst}
+use Rattle.std.proofs.lemmas.Result.{on_ok_weaker}
+use Rattle.std.specs.Io.KnownBytes.{Appends}
+use Rattle.ckrt_hunt_schedules.proofs.AppendLemmas.{appends_both}
+use Rattle.ckrt_hunt_schedules.proofs.texts.write_limit.Goals as goal
+
+-- piece by piece
+pub returns : goal.returns
+returns g c =
+    let has = g.W.Write.contents in
+    let a = has c.args.out.now in
+    let b = has c.write_counted.new.out in
+    let z = has c.write_all.new.self in
+    let limit : Appends a b (codes "no end within " ++ decimal c.args.limit) =
+    subst (λ n. Appends a b (codes "no end within " ++ decimal n)) c.from.ensures c.in_ok-write_counted.ensures in
+    on_ok_weaker c.write_all.result (λ last.
+    appends_both a b z (codes "no end within " ++ decimal c.args.limit) (codes " steps or events") limit last) c.write_all.ensures.bytes

@@ -1,0 +1,152 @@
+-- The table of a hunt (this project's own format): for each outcome a line that says how often it came, by which seed first, and what it is, and a
+-- line with the command that repeats it. An outcome has the number of its row, from 1 on.
+--
+--     outcome 2: 3 of 200 runs, first by seed 17: deadlock, thread 2 waits for mutex 00002c58 (thread 3 has it)
+--         ckrt hunt race.bin --seeds 17-17 --pages 64 --harts 2 --steps 10000000 --keep seed-17.disk
+use Rattle.std.specs.Prelude.{ℕ, zero, suc, ◌+◌, ◌-◌, ◌==◌, Bool, if◌then◌else◌, List, [], ◌∷◌, ◌++◌, length, take, slice_get, codes, decimal, Option, Some, None, option_map}
+use Rattle.std.specs.List.{flat_map}
+use Rattle.hex.specs.Hex.{encode_lower}
+use Rattle.ckrt_rv32i.specs.Names.{cause_name}
+use Rattle.ckrt_inspect.specs.Texts.{hex_text}
+use Rattle.ckrt_hunt_schedules.specs.declared.outcome.Awaited.{Awaited}
+use Rattle.ckrt_hunt_schedules.specs.declared.outcome.Awaited.TheVariants as awaited
+use Rattle.ckrt_hunt_schedules.specs.declared.outcome.Outcome.{Outcome}
+use Rattle.ckrt_hunt_schedules.specs.declared.outcome.Outcome.TheVariants as outcome
+use Rattle.ckrt_hunt_schedules.specs.declared.outcome.Waiting.{Waiting}
+use Rattle.ckrt_hunt_schedules.specs.declared.row.Row.{Row}
+use Rattle.ckrt_hunt_schedules.specs.declared.shape.Shape.{Shape}
+use Rattle.ckrt_hunt_schedules.specs.declared.shorten.Found.{Found}
+use Rattle.ckrt_hunt_schedules.specs.declared.table.Asked.{Asked}
+use Rattle.ckrt_hunt_schedules.specs.declared.tally.Tally.{Tally}
+use Rattle.ckrt_hunt_schedules.specs.declared.telling.HuntDone.{HuntDone}
+
+-- WHAT A RUN CAME TO
+
+-- who has what is waited for
+abbrev pub owner_text : Option ℕ → List ℕ
+owner_text None = []
+owner_text (Some t) = codes " (thread " ++ decimal t ++ codes " has it)"
+
+abbrev pub awaited_text : Awaited → List ℕ
+awaited_text awaited.Input = codes "input"
+awaited_text awaited.Deadline = codes "its deadline"
+awaited_text (awaited.End t) = codes "the end of thread " ++ decimal t
+awaited_text (awaited.Mutex a owner) = codes "mutex " ++ hex_text a ++ owner_text owner
+awaited_text (awaited.Condition a) = codes "condition " ++ hex_text a
+awaited_text (awaited.Barrier a) = codes "barrier " ++ hex_text a
+awaited_text (awaited.Read a) = codes "read lock " ++ hex_text a
+awaited_text (awaited.Write a) = codes "write lock " ++ hex_text a
+
+abbrev pub waiting_text : Waiting → List ℕ
+waiting_text w =
+    codes ", thread " ++ decimal w.thread ++ codes " waits for " ++ awaited_text w.awaited
+
+-- of runs of at most that many steps and events
+abbrev pub outcome_text : (limit : ℕ) → Outcome → List ℕ
+outcome_text limit (outcome.Exited status) = codes "exit " ++ decimal status
+outcome_text limit (outcome.Faulted t pc c) =
+    codes "fault of thread " ++ decimal t ++ (codes " at " ++ hex_text pc) ++ codes ", " ++ cause_name c
+outcome_text limit (outcome.Deadlock waiting) = codes "deadlock" ++ flat_map waiting_text waiting.items
+outcome_text limit outcome.WaitsForInput = codes "waits for input"
+outcome_text limit (outcome.NoEnd circle) =
+    (codes "no end within " ++ decimal limit ++ codes " steps or events") ++ flat_map waiting_text circle.items
+
+-- the first eight digits of the digest of the output
+abbrev pub digest_text : Option (List ℕ) → List ℕ
+digest_text None = []
+digest_text (Some digest) = codes ", output " ++ encode_lower (take 4 digest)
+
+-- ITS TWO LINES
+
+-- the second number of how many runs of how many
+abbrev pub runs_text : Asked → List ℕ
+runs_text a = codes " of " ++ decimal (a.seeds.last - a.seeds.first + 1) ++ codes " runs"
+
+abbrev pub head_text : Asked → (number : ℕ) → Row → List ℕ
+head_text a number r =
+    codes "outcome " ++ decimal number ++ (codes ": " ++ decimal r.count) ++ runs_text a
+    ++ (codes ", first by seed " ++ decimal r.first)
+    ++ codes ": "
+
+abbrev pub outcome_line : Asked → (number : ℕ) → Row → List ℕ
+outcome_line a number r =
+    head_text a number r ++ outcome_text a.shape.limit r.told.outcome ++ digest_text r.told.digest ++ 10 ∷ []
+
+-- the command that runs one seed alone, and keeps it
+abbrev pub seed_text : (seed : ℕ) → List ℕ
+seed_text seed = codes " --seeds " ++ decimal seed ++ (codes "-" ++ decimal seed)
+
+abbrev pub shape_text : Shape → List ℕ
+shape_text s =
+    codes " --pages " ++ decimal s.pages ++ (codes " --harts " ++ decimal s.harts) ++ (codes " --steps " ++ decimal s.limit)
+
+-- the input, where there is one
+abbrev pub input_path_text : Option (List ℕ) → List ℕ
+input_path_text None = []
+input_path_text (Some path) = codes " --input " ++ path
+
+abbrev pub input_text : Asked → List ℕ
+input_text a = input_path_text (option_map (λ path. path.now) a.input)
+
+-- that runs are looked at for races, where they are
+abbrev pub races_word : Bool → List ℕ
+races_word races = if races then codes " --races" else []
+
+abbrev pub command_line : Asked → (seed : ℕ) → List ℕ
+command_line a seed =
+    codes "    ckrt hunt " ++ a.image.now ++ seed_text seed ++ shape_text a.shape ++ input_text a
+    ++ races_word a.races
+    ++ (codes " --keep seed-" ++ decimal seed)
+    ++ codes ".disk\n"
+
+abbrev pub row_text : Asked → (number : ℕ) → Row → List ℕ
+row_text a number r = outcome_line a number r ++ command_line a r.first
+
+-- THE TABLE
+
+abbrev pub row_text_at : Asked → (number : ℕ) → Option Row → List ℕ
+row_text_at a number None = []
+row_text_at a number (Some r) = row_text a number r
+
+-- the first n rows
+unfoldable pub rows_text : Asked → List Row → (n : ℕ) → List ℕ
+rows_text a rows zero = []
+rows_text a rows (suc n) = rows_text a rows n ++ row_text_at a (suc n) (slice_get rows n)
+
+-- the runs for whose outcomes there was no row left, if there are any
+abbrev pub others_line : Asked → (others : ℕ) → List ℕ
+others_line a others =
+    if others == 0 then [] else codes "other outcomes: " ++ decimal others ++ runs_text a ++ 10 ∷ []
+
+abbrev pub table_text : Asked → Tally → List ℕ
+table_text a t = rows_text a t.rows.items (length t.rows.items) ++ others_line a t.others
+
+-- of the seeds that were run
+abbrev pub done_text : Asked → HuntDone → List ℕ
+done_text a done = table_text (record a { seeds = done.seeds }) done.tally
+
+-- A RUN THAT IS KEPT
+--
+--     kept: the run of seed 17 on bugs/outcome-2.disk, switches: 4, drawn with 4123
+
+-- how many switches it was drawn with, where it was shortened
+abbrev pub drawn_by : {A : Type 0} → (given : Option A) → (drawn : ℕ) → List ℕ
+drawn_by None drawn = codes ", as it was drawn"
+drawn_by (Some turns) drawn = codes ", drawn with " ++ decimal drawn
+
+abbrev pub drawn_text : Found → List ℕ
+drawn_text found = drawn_by found.plan.turns found.drawn
+
+-- a seed behind a word, and the disk of its run
+abbrev pub placed_text : (word : List ℕ) → (seed : ℕ) → (path : List ℕ) → List ℕ
+placed_text word seed path = word ++ decimal seed ++ codes " on " ++ path
+
+abbrev pub kept_text : (seed : ℕ) → (path : List ℕ) → Found → List ℕ
+kept_text seed path found =
+    placed_text (codes "kept: the run of seed ") seed path ++ (codes ", switches: " ++ decimal found.switches)
+    ++ drawn_text found
+    ++ 10 ∷ []
+
+-- one that isn't
+abbrev pub unkept_text : (seed : ℕ) → (path : List ℕ) → List ℕ
+unkept_text seed path = placed_text (codes "not kept: the run of seed ") seed path ++ 10 ∷ []

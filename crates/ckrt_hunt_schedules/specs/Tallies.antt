@@ -1,0 +1,110 @@
+-- What seeds came to, counted (this project's choice): each outcome once, with how often it came, and the first seed that came to it.
+use Rattle.std.specs.Prelude.{◌≡◌, ◌≢◌, ◌≤◌, ◌<◌, ℕ, zero, suc, ◌+◌, ◌-◌, ◌&&◌, nat_le, min, if◌then◌else◌, Option, Some, None, List, [], ◌∷◌, ◌++◌, length, slice_get, slice_set}
+use Rattle.ckrt_memory.specs.Marks.{Memory}
+use Rattle.ckrt_state.specs.declared.table.Tables.{Tables}
+use Rattle.ckrt_machine.specs.Events.{fresh}
+use Rattle.ckrt_machine.specs.Steps.{State}
+use Rattle.ckrt_hunt_schedules.specs.declared.plan.Input.{Input}
+use Rattle.ckrt_hunt_schedules.specs.declared.plan.Plan.{Plan}
+use Rattle.ckrt_hunt_schedules.specs.declared.runs.Told.{Told}
+use Rattle.ckrt_hunt_schedules.specs.declared.row.Row.{Row}
+use Rattle.ckrt_hunt_schedules.specs.declared.seeds.Seeds.{Seeds}
+use Rattle.ckrt_hunt_schedules.specs.declared.table.Asked.{Asked}
+use Rattle.ckrt_hunt_schedules.specs.declared.shape.Shape.{Shape}
+use Rattle.ckrt_hunt_schedules.specs.declared.tally.Tally.{Tally}
+use Rattle.ckrt_hunt_schedules.specs.declared.tally.TheConstants.{TALLY_ROWS}
+use Rattle.ckrt_hunt_schedules.specs.declared.telling.HuntDone.{HuntDone}
+use Rattle.ckrt_hunt_schedules.specs.Plans.{plan_of}
+use Rattle.ckrt_hunt_schedules.specs.Runs.{ComesTo}
+use Rattle.ckrt_hunt_schedules.specs.Seeds.{IsBeginning}
+
+-- one more, as far as 64 bits count
+abbrev pub one_more : ℕ → ℕ
+one_more n = min (n + 1) 18446744073709551615
+
+-- the row of a seed that came to this first
+abbrev pub first_row : (seed : ℕ) → Told → Row
+first_row seed told = record { told = told; count = 1; first = seed }
+
+-- none of the first k rows has the outcome
+abbrev pub HasNone : Told → List Row → (k : ℕ) → Type 0
+HasNone told rows k = (j : ℕ) → j < k → (r : Row) → slice_get rows j ≡ Some r → r.told ≢ told
+
+-- the place is that of the first row with the outcome, and this is its row
+pub record IsFirst (told : Told) (rows : List Row) (k : ℕ) (r : Row) : Type 0 where
+  pub row : slice_get rows k ≡ Some r
+  pub same : r.told ≡ told
+  pub before : HasNone told rows k
+
+-- one more run was noted, whose seed came to this
+pub record IsNoted (seed : ℕ) (told : Told) (old new : Tally) : Type 0 where
+  -- where its outcome has a row, the row counts it
+  pub again : (k : ℕ) (r : Row) → IsFirst told old.rows.items k r
+      → (new.rows.items ≡ slice_set old.rows.items k (record r { count = one_more r.count }))
+      × (new.others ≡ old.others)
+  -- where it has none, it gets one, as long as there is one left
+  pub first : HasNone told old.rows.items (length old.rows.items)
+      → length old.rows.items < TALLY_ROWS
+      → (new.rows.items ≡ old.rows.items ++ first_row seed told ∷ []) × (new.others ≡ old.others)
+  pub full : HasNone told old.rows.items (length old.rows.items)
+      → TALLY_ROWS ≤ length old.rows.items
+      → (new.rows.items ≡ old.rows.items) × (new.others ≡ one_more old.others)
+
+-- what a program is run with: its pages, its harts, and how many steps and events a run has at most
+abbrev pub numbers_of : Shape → ℕ × ℕ × ℕ
+numbers_of s = (s.pages, s.harts, s.limit)
+
+-- the ranges of pages and harts are those of a disk
+abbrev pub shape_of : (pages harts limit : ℕ) → Option (ℕ × ℕ × ℕ)
+shape_of pages harts limit =
+    if nat_le 16 pages && (nat_le pages 1024 && (nat_le 1 harts && nat_le harts 8)) then Some (pages, harts, limit)
+    else None
+
+-- a program that is hunted: how many steps and events a run has at most, the state that each begins with, and what it is given to read
+pub record Hunted : Type 0 where
+  pub limit : ℕ
+  pub start : State
+  pub input : Input
+
+-- the plan of a seed
+abbrev pub plan_in : Hunted → (seed : ℕ) → Plan
+plan_in h seed = record (plan_of h.limit seed) { input = h.input }
+
+-- a memory and tables have the room for a state, which has a hart at least
+pub record IsRoomFor (s : State) (memory : Memory) (tables : Tables) : Type 0 where
+  pub size : length memory.bytes ≡ length s.bytes
+  pub harts : tables.threads.hart_count ≡ s.tables.threads.hart_count
+  pub some : 1 ≤ s.tables.threads.hart_count
+
+-- what a seed comes to, from the beginning of the program
+abbrev pub SeedComesTo : Hunted → (seed : ℕ) → Told → Type 0
+SeedComesTo h seed told = ComesTo (plan_in h seed) h.start told
+
+-- a tally that grew by a seed out of one of which something was so
+pub record Grew (WasSo : Tally → Type 0) (h : Hunted) (seed : ℕ) (tally : Tally) : Type 0 where
+  pub before : Tally
+  pub was_so : WasSo before
+  pub told : Told
+  pub comes : SeedComesTo h seed told
+  pub noted : IsNoted seed told before tally
+
+-- n seeds were noted, from one on: each in its turn, with what it comes to
+abbrev pub AreNoted : Hunted → (first n : ℕ) → (old new : Tally) → Type 0
+AreNoted h first zero old new = new ≡ old
+AreNoted h first (suc n) old new = Grew (AreNoted h first n old) h (first + n) new
+
+-- what all seeds of a range came to: each was noted in its turn, from no outcome on
+pub record IsTallyOf (h : Hunted) (seeds : Seeds) (tally : Tally) : Type 0 where
+  pub begun : Tally
+  pub no_rows : begun.rows.items ≡ []
+  pub no_others : begun.others ≡ 0
+  pub noted : AreNoted h seeds.first (seeds.last - seeds.first + 1) begun tally
+
+-- the program with this image, as it is run with a shape and an input
+abbrev pub hunted_of : (image : List ℕ) → Shape → Input → Hunted
+hunted_of image s input = record { limit = s.limit; start = fresh s.pages s.harts image; input = input }
+
+-- the program with this image and this input was hunted as it was asked for: by the first seeds of its range, or by all of them
+pub record IsHunted (image : List ℕ) (input : Input) (asked : Asked) (done : HuntDone) : Type 0 where
+  pub begins : IsBeginning asked.seeds asked.may_end done.seeds
+  pub tally : IsTallyOf (hunted_of image asked.shape input) done.seeds done.tally

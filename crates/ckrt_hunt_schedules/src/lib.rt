@@ -1,0 +1,48 @@
+//! The hunt: a program runs from its beginning by one schedule after another, each drawn from its seed, and what each run
+//! comes to is counted.
+#![tactic(auto)]
+
+mod disks;
+mod drawn;
+mod given;
+mod hunt;
+mod keeping;
+mod laws;
+mod lots;
+mod made;
+mod noting;
+mod onlooker;
+mod outcome;
+mod plan;
+mod row;
+mod runs;
+mod seeds;
+mod shape;
+mod shorten;
+mod table;
+mod tally;
+mod telling;
+mod texts;
+mod turn;
+mod turns;
+
+pub use disks::{KeptDisk, SeedFault, keep_seed};
+pub use given::{MOST_STEPS, Turn};
+pub use hunt::Hunt;
+pub use keeping::{KeepFault, keep};
+pub use laws::{seed_repeats, told_is_kept, told_is_kept_short};
+pub use made::{Lowered, Made};
+pub use onlooker::{HuntOnlooker, HuntWatch, is_over};
+pub use outcome::{Awaited, Outcome, Waiting};
+pub use plan::{Input, Plan};
+pub use row::Row;
+pub use runs::{Finished, Told, run};
+pub use seeds::Seeds;
+pub use shape::Shape;
+pub use shorten::{Found, MOST_TRIES, Tries, as_drawn, room_for};
+pub use table::{Asked, write_command_line, write_kept, write_runs, write_table, write_unkept};
+pub use tally::{TALLY_ROWS, Tally};
+pub use telling::{HuntDone, HuntFault, hunt_and_tell, hunt_fault_of};
+pub use texts::write_counted;
+pub use turn::{next, runner_of};
+pub use turns::{MOST_TURNS, Turns};

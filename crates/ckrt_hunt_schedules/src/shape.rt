@@ -1,0 +1,37 @@
+//! What a program is run with.
+ghost use Rattle.std.specs.Prelude.{◌≤◌};
+
+/// What a program is run with: the pages of its memory, page 0 counted, its harts, and how many steps and events a run has
+/// at most.
+#[derive(Clone, Copy, Debug, PartialEq, Eq)]
+pub struct Shape {
+    pub pages: u32,
+    pub harts: usize,
+    pub limit: u32,
+    ghost some_pages: { 16 ≤ pages },
+    ghost few_pages: { pages ≤ 1024 },
+    ghost some_harts: { 1 ≤ harts },
+    ghost few_harts: { harts ≤ 8 },
+}
+
+impl Shape {
+    ghost use Rattle.std.specs.Prelude.{◌≡◌, option_map};
+    ghost use Rattle.ckrt_hunt_schedules.specs.Tallies.{numbers_of, shape_of};
+
+    /// A program of that many pages and harts, whose runs have at most that many steps and events. None where the pages aren't
+    /// 16 to 1,024, or the harts 1 to 8.
+    pub fn new(pages: u32, harts: u32, limit: u32) -> Option<Shape>
+        ensures { option_map numbers_of result ≡ shape_of pages harts limit }
+    {
+        if 16 <= pages && pages <= 1_024 && 1 <= harts && harts <= 8 {
+            let harts = harts as usize;
+            Some(Shape {
+                pages,
+                harts,
+                limit,
+            })
+        } else {
+            None
+        }
+    }
+}

@@ -1,0 +1,247 @@
+//! What a hunt came to, as a table.
+ghost use Rattle.std.specs.Prelude.{◌≡◌, ◌+◌, ◌≤◌, ◌++◌, ◌∷◌, [], codes, decimal, length, OnOk};
+ghost use Rattle.std.specs.Io.KnownBytes.{Appends};
+ghost use Rattle.ckrt_hunt_schedules.specs.Table.{command_line, drawn_text, head_text, input_text, kept_text, outcome_line, others_line, placed_text, races_word, row_text, rows_text, runs_text, seed_text, shape_text, table_text, unkept_text};
+
+use crate::row::Row;
+use crate::seeds::Seeds;
+use crate::shape::Shape;
+use crate::shorten::Found;
+use crate::tally::Tally;
+use crate::texts::{write_counted, write_digest, write_outcome};
+use std::io::{Result, Write};
+
+/// What a hunt was asked for.
+#[derive(Clone, Copy, Debug, PartialEq, Eq)]
+pub struct Asked<'a> {
+    /// The path of the image, as it was given.
+    pub image: &'a str,
+    pub shape: Shape,
+    pub seeds: Seeds,
+    /// Whether it may end before its last seed.
+    pub may_end: bool,
+    /// The path of the input, as it was given, where there is one.
+    pub input: Option<&'a str>,
+    /// Whether each run is looked at for races too.
+    pub races: bool,
+}
+
+/// Writes of how many runs. It takes no memory.
+#[tactic(auto, using(crate::proofs::AppendLemmas::appends_both))]
+pub fn write_runs<W: Write>(out: &mut W, asked: &Asked<'_>) -> Result<()>
+    ensures { OnOk result
+        (Appends (W.contents out.old) (W.contents out.new) (runs_text asked.now)) }
+{
+    write_counted(out, b" of ", asked.seeds.count())?;
+    out.write_all(b" runs")
+}
+
+/// How often an outcome came, and by which seed first.
+#[tactic(auto, using(crate::proofs::AppendLemmas::appends_both))]
+fn write_head<W: Write>(out: &mut W, asked: &Asked<'_>, number: u64, row: &Row) -> Result<()>
+    ensures { OnOk result
+        (Appends (W.contents out.old) (W.contents out.new) (head_text asked.now number row.now)) }
+{
+    write_counted(out, b"outcome ", number)?;
+    write_counted(out, b": ", row.count)?;
+    write_runs(out, asked)?;
+    write_counted(out, b", first by seed ", row.first)?;
+    out.write_all(b": ")
+}
+
+/// The line of an outcome.
+#[tactic(auto, using(crate::proofs::AppendLemmas::appends_both))]
+fn write_outcome_line<W: Write>(
+    out: &mut W,
+    asked: &Asked<'_>,
+    number: u64,
+    row: &Row,
+) -> Result<()>
+    ensures { OnOk result
+        (Appends (W.contents out.old) (W.contents out.new)
+        (outcome_line asked.now number row.now)) }
+{
+    write_head(out, asked, number, row)?;
+    write_outcome(out, asked.shape.limit, &row.told.outcome)?;
+    write_digest(out, &row.told.digest)?;
+    out.write_all(b"\n")
+}
+
+/// The seed of a command.
+#[tactic(auto, using(crate::proofs::AppendLemmas::appends_both))]
+fn write_seed<W: Write>(out: &mut W, seed: u64) -> Result<()>
+    ensures { OnOk result
+        (Appends (W.contents out.old) (W.contents out.new) (seed_text seed)) }
+{
+    write_counted(out, b" --seeds ", seed)?;
+    write_counted(out, b"-", seed)
+}
+
+/// What the program of a command is run with.
+#[tactic(auto, using(crate::proofs::AppendLemmas::appends_both))]
+fn write_shape<W: Write>(out: &mut W, shape: &Shape) -> Result<()>
+    ensures { OnOk result
+        (Appends (W.contents out.old) (W.contents out.new) (shape_text shape.now)) }
+{
+    write_counted(out, b" --pages ", u64::from(shape.pages))?;
+    write_counted(out, b" --harts ", shape.harts as u64)?;
+    write_counted(out, b" --steps ", u64::from(shape.limit))
+}
+
+fn write_known_input<W: Write>(out: &mut W, path: &str) -> Result<()>
+    ensures { OnOk result
+        (Appends (W.contents out.old) (W.contents out.new) (codes " --input " ++ path.now)) }
+{
+    out.write_all(b" --input ")?;
+    out.write_all(path.as_bytes())
+}
+
+/// The input of a command, where there is one.
+#[tactic(auto, using(crate::proofs::AppendLemmas::appends_none))]
+fn write_input<W: Write>(out: &mut W, asked: &Asked<'_>) -> Result<()>
+    ensures { OnOk result
+        (Appends (W.contents out.old) (W.contents out.new) (input_text asked.now)) }
+{
+    match asked.input {
+        Some(path) => write_known_input(out, path),
+        None => Ok(()),
+    }
+}
+
+/// That runs are looked at for races, where they are.
+#[tactic(auto, using(crate::proofs::AppendLemmas::appends_none))]
+fn write_races_word<W: Write>(out: &mut W, races: bool) -> Result<()>
+    ensures { OnOk result
+        (Appends (W.contents out.old) (W.contents out.new) (races_word races)) }
+{
+    if races {
+        out.write_all(b" --races")
+    } else {
+        Ok(())
+    }
+}
+
+/// Writes the command that runs a seed alone, and keeps it. It takes no memory.
+pub fn write_command_line<W: Write>(out: &mut W, asked: &Asked<'_>, seed: u64) -> Result<()>
+    ensures { OnOk result
+        (Appends (W.contents out.old) (W.contents out.new) (command_line asked.now seed)) }
+{
+    out.write_all(b"    ckrt hunt ")?;
+    out.write_all(asked.image.as_bytes())?;
+    write_seed(out, seed)?;
+    write_shape(out, &asked.shape)?;
+    write_input(out, asked)?;
+    write_races_word(out, asked.races)?;
+    write_counted(out, b" --keep seed-", seed)?;
+    out.write_all(b".disk\n")
+}
+
+/// The two lines of an outcome.
+#[tactic(auto, using(crate::proofs::AppendLemmas::appends_both))]
+fn write_row<W: Write>(out: &mut W, asked: &Asked<'_>, number: u64, row: &Row) -> Result<()>
+    ensures { OnOk result
+        (Appends (W.contents out.old) (W.contents out.new) (row_text asked.now number row.now)) }
+{
+    write_outcome_line(out, asked, number, row)?;
+    write_command_line(out, asked, row.first)
+}
+
+/// The lines of all rows.
+fn write_rows<W: Write>(out: &mut W, asked: &Asked<'_>, rows: &[Row]) -> Result<()>
+    ensures { OnOk result
+        (Appends (W.contents out.old) (W.contents out.new)
+        (rows_text asked.now rows.now (length rows.now))) }
+{
+    for place in 0..rows.len() {
+        write_row(out, asked, place as u64 + 1, &rows[place])?;
+    }
+    Ok(())
+}
+
+/// The line of the runs that no row counts.
+fn write_known_others<W: Write>(out: &mut W, asked: &Asked<'_>, others: u64) -> Result<()>
+    ensures { OnOk result
+        (Appends (W.contents out.old) (W.contents out.new)
+        (codes "other outcomes: " ++ decimal others ++ runs_text asked.now ++ 10 ∷ [])) }
+{
+    write_counted(out, b"other outcomes: ", others)?;
+    write_runs(out, asked)?;
+    out.write_all(b"\n")
+}
+
+/// The same, if there are any.
+#[tactic(auto, using(crate::proofs::AppendLemmas::appends_none))]
+fn write_others<W: Write>(out: &mut W, asked: &Asked<'_>, others: u64) -> Result<()>
+    ensures { OnOk result
+        (Appends (W.contents out.old) (W.contents out.new) (others_line asked.now others)) }
+{
+    if others == 0 {
+        Ok(())
+    } else {
+        write_known_others(out, asked, others)
+    }
+}
+
+/// Writes what a hunt came to: for each outcome, in the order in which they came first, how often it came, the first seed
+/// that came to it, what it is, and the command that repeats it. A number of the outcome stands before it, from 1 on. It
+/// takes no memory.
+#[tactic(auto, using(crate::proofs::AppendLemmas::appends_both))]
+pub fn write_table<W: Write>(out: &mut W, asked: &Asked<'_>, tally: &Tally) -> Result<()>
+    ensures { OnOk result
+        (Appends (W.contents out.old) (W.contents out.new) (table_text asked.now tally.now)) }
+{
+    write_rows(out, asked, tally.rows())?;
+    write_others(out, asked, tally.others())
+}
+
+/// A number of switches after a word.
+fn write_switches<W: Write>(out: &mut W, word: &[u8], switches: u32) -> Result<()>
+    ensures { OnOk result
+        (Appends (W.contents out.old) (W.contents out.new) (word.now ++ decimal switches)) }
+{
+    write_counted(out, word, u64::from(switches))
+}
+
+/// How the run was drawn that is kept.
+#[tactic(auto, using(crate::proofs::AppendLemmas::appends_both))]
+fn write_drawn<W: Write>(out: &mut W, found: &Found<'_>) -> Result<()>
+    ensures { OnOk result
+        (Appends (W.contents out.old) (W.contents out.new) (drawn_text found.now)) }
+{
+    match found.plan.turns {
+        Some(_) => write_switches(out, b", drawn with ", found.drawn),
+        None => out.write_all(b", as it was drawn"),
+    }
+}
+
+/// A seed behind a word, and the disk of its run.
+fn write_placed<W: Write>(out: &mut W, word: &[u8], seed: u64, path: &str) -> Result<()>
+    ensures { OnOk result
+        (Appends (W.contents out.old) (W.contents out.new) (placed_text word.now seed path.now)) }
+{
+    write_counted(out, word, seed)?;
+    out.write_all(b" on ")?;
+    out.write_all(path.as_bytes())
+}
+
+/// Writes that the run of a seed isn't kept on the disk of a path. It takes no memory.
+#[tactic(auto, using(crate::proofs::AppendLemmas::appends_both))]
+pub fn write_unkept<W: Write>(out: &mut W, seed: u64, path: &str) -> Result<()>
+    ensures { OnOk result
+        (Appends (W.contents out.old) (W.contents out.new) (unkept_text seed path.now)) }
+{
+    write_placed(out, b"not kept: the run of seed ", seed, path)?;
+    out.write_all(b"\n")
+}
+
+/// Writes which seed's run is kept, on the disk of which path, how many switches it has, and how many it was drawn with: a
+/// switch is a thread that runs after another one. It takes no memory.
+pub fn write_kept<W: Write>(out: &mut W, seed: u64, path: &str, found: &Found<'_>) -> Result<()>
+    ensures { OnOk result
+        (Appends (W.contents out.old) (W.contents out.new) (kept_text seed path.now found.now)) }
+{
+    write_placed(out, b"kept: the run of seed ", seed, path)?;
+    write_switches(out, b", switches: ", found.switches)?;
+    write_drawn(out, found)?;
+    out.write_all(b"\n")
+}

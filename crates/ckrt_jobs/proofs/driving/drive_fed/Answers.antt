@@ -1,5 +1,0 @@
-use Rattle.ckrt_jobs.proofs.driving.drive_fed.Goals as goal
-
--- the feed is the input's file, and leaves it as it is
-pub returns-clause-drives : goal.returns-clause-drives
-returns-clause-drives g c = rw c.into_disk.ensures (rw c.new-feed.ensures at c.undertake-undertaken.ensures)

@@ -1,0 +1,122 @@
+-- A stretch of what a disk has recorded, and what is told of it (this project's choice).
+use Rattle.std.specs.Prelude.{◌≡◌, ◌≤◌, ℕ, ◌+◌, ◌-◌, List, length, take, drop, Option, Some, None, unwrap_or, Result, Ok, Err}
+use Rattle.std.specs.Io.KnownBytes.{Appends}
+use Rattle.ckrt_events.specs.declared.event.Event.{Event}
+use Rattle.ckrt_machine.specs.Events.{AllAccepted, fold}
+use Rattle.ckrt_machine.specs.Steps.{State}
+use Rattle.ckrt_stored.specs.Recovery.{Recovers}
+use Rattle.ckrt_stored.specs.declared.fault.RecoverFault.TheVariants as recover
+use Rattle.ckrt_stored.specs.declared.fault.RecoverFault.{RecoverFault}
+use Rattle.ckrt_look_recording.specs.Reading.{RecordsUnreplayed}
+use Rattle.ckrt_look_recording.specs.Recording.{HasRecording, Recorded, Records}
+use Rattle.ckrt_inspect.specs.declared.fault.InspectFault.{InspectFault}
+use Rattle.ckrt_inspect.specs.declared.fault.InspectFault.TheVariants.{NotFormatted, Version, Damaged, Device, OutOfMemory, Write, Range}
+use Rattle.ckrt_look_calls.specs.declared.stretch.Stretch.{Stretch}
+
+-- A STRETCH OF WHAT WAS RECORDED, which is behind `first` events and ends with the one that is the `last`th
+
+-- behind how many events it begins, and how many there are at its end
+abbrev pub from_of : Stretch → (first : ℕ) → ℕ
+from_of s first = unwrap_or s.from first
+
+abbrev pub to_of : Stretch → (last : ℕ) → ℕ
+to_of s last = unwrap_or s.to last
+
+-- all of it was recorded
+pub record IsWithin (s : Stretch) (first last : ℕ) : Type 0 where
+  pub begins : first ≤ from_of s first
+  pub ordered : from_of s first ≤ to_of s last
+  pub ends : to_of s last ≤ last
+
+-- how many events there are with the recorded ones
+abbrev pub last_of : Recorded → ℕ
+last_of r = r.first + length r.events
+
+-- the state that it begins with
+abbrev pub state_of : Stretch → Recorded → State
+state_of s r = (fold (take (from_of s r.first - r.first) r.events) r.start).state
+
+-- its events
+abbrev pub events_of : Stretch → Recorded → List Event
+events_of s r =
+    take (to_of s (last_of r) - from_of s r.first) (drop (from_of s r.first - r.first) r.events)
+
+-- READING IT
+
+-- What is read for a stretch that ends there. Where it has an end of its own, events may lie behind it that nobody makes when it's told, so all are
+-- made before: what is recorded is known. Else whoever tells it makes them to the last.
+abbrev pub RecordsTo : (to : Option ℕ) → List ℕ → Result Recorded RecoverFault → Type 0
+RecordsTo (Some to) = Records
+RecordsTo None = RecordsUnreplayed
+
+-- GOING THERE
+
+-- the events before it
+abbrev pub before_of : Stretch → Recorded → List Event
+before_of s r = take (from_of s r.first - r.first) r.events
+
+-- it was recorded: it begins behind k events, has the events es, and its state is z; each event before it is accepted at its turn
+pub record IsReached (s : Stretch) (r : Recorded) (k : ℕ) (es : List Event) (z : State)
+    : Type 0 where
+  pub within : IsWithin s r.first (last_of r)
+  pub first : k ≡ from_of s r.first
+  pub events : es ≡ events_of s r
+  pub state : z ≡ state_of s r
+  pub before : AllAccepted (before_of s r) r.start
+
+-- Not all of it was recorded, though each event is accepted, as is known before where it has an end of its own. Or not each event is accepted at its
+-- turn.
+abbrev pub IsReachFault : Stretch → Recorded → InspectFault → Type 0
+IsReachFault s r Range =
+    (IsWithin s r.first (last_of r) → ⊥) × (s.to ≡ None → AllAccepted r.events r.start)
+IsReachFault s r Damaged = AllAccepted r.events r.start → ⊥
+IsReachFault s r _ = ⊥
+
+-- why nothing is told of events: not each of them is accepted at its turn, or the memory or the writer failed
+abbrev pub IsEventsFault : List Event → State → InspectFault → Type 0
+IsEventsFault es s Damaged = AllAccepted es s → ⊥
+IsEventsFault es s OutOfMemory = Unit {0}
+IsEventsFault es s Write = Unit {0}
+IsEventsFault es s _ = ⊥
+
+-- WHAT IS TOLD
+
+-- which text tells of events that are behind k others, from this state on
+abbrev pub Account : Type 1
+Account = (k : ℕ) → List Event → State → (text : List ℕ) → Type 0
+
+-- such a text was written
+pub record Writes (IsText : List ℕ → Type 0) (old new : Option (List ℕ)) : Type 0 where
+  pub text : List ℕ
+  pub is : IsText text
+  pub written : Appends old new text
+
+-- that of a stretch of what an image has recorded
+pub record IsTold (Tells : Account) (s : Stretch) (image : List ℕ) (old new : Option (List ℕ))
+    : Type 0 where
+  pub recorded : Recorded
+  pub has : HasRecording image recorded
+  pub within : IsWithin s recorded.first (last_of recorded)
+  pub writes : Writes (Tells (from_of s recorded.first) (events_of s recorded) (state_of s recorded)) old new
+
+-- the image has something recorded, but not all of the stretch
+pub record IsOutside (s : Stretch) (image : List ℕ) : Type 0 where
+  pub recorded : Recorded
+  pub has : HasRecording image recorded
+  pub outside : IsWithin s recorded.first (last_of recorded) → ⊥
+
+-- what a fault says of the image; Device, OutOfMemory and Write say nothing of it
+abbrev pub IsFaultOf : Stretch → List ℕ → InspectFault → Type 0
+IsFaultOf s image NotFormatted = Recovers image (Err recover.NotFormatted)
+IsFaultOf s image Version = Recovers image (Err recover.Version)
+IsFaultOf s image Damaged = Recovers image (Err recover.Damaged)
+IsFaultOf s image Range = IsOutside s image
+IsFaultOf s image Device = Unit {0}
+IsFaultOf s image OutOfMemory = Unit {0}
+IsFaultOf s image Write = Unit {0}
+
+-- what was told of a stretch of an image, or the fault
+abbrev pub TellsStretch : Account → Stretch → (image : List ℕ) → (old new : Option (List ℕ))
+    → Result (Unit {0}) InspectFault → Type 0
+TellsStretch Tells s image old new (Ok done) = IsTold Tells s image old new
+TellsStretch Tells s image old new (Err f) = IsFaultOf s image f

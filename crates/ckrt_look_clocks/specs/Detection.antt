@@ -1,0 +1,164 @@
+-- How races are found, operation by operation: vector clocks (Mattern 1989; Fidge 1988) tell what each holder has seen, and a
+-- shadow of each word of memory has the accesses that a later one is compared with (this project's choice).
+use Rattle.std.specs.Prelude.{ℕ, ◌+◌, ◌/◌, ◌==◌, nat_lt, min, Bool, false, ◌&&◌, ◌||◌, not, if◌then◌else◌, List, [], ◌∷◌, ◌++◌, length, get_or, slice_get, slice_set, replicate, Option, Some, None}
+use Rattle.std.specs.List.{list_any}
+use Rattle.ckrt_look_clocks.specs.declared.operation.Place.{Place}
+use Rattle.ckrt_look_clocks.specs.declared.operation.Access.{Access}
+use Rattle.ckrt_look_clocks.specs.declared.operation.Operation.{Operation}
+use Rattle.ckrt_look_clocks.specs.declared.operation.Operation.TheVariants as operation
+use Rattle.ckrt_look_clocks.specs.declared.operation.TheConstants.{THREADS}
+use Rattle.ckrt_look_clocks.specs.declared.clock.Clock.{Clock}
+use Rattle.ckrt_look_clocks.specs.declared.shadow.Cell.{Cell}
+use Rattle.ckrt_look_clocks.specs.declared.found.Findings.{Findings}
+use Rattle.ckrt_look_clocks.specs.declared.pair.Pair.{Pair}
+use Rattle.ckrt_look_clocks.specs.declared.pair.TheConstants.{PAIRS}
+use Rattle.ckrt_look_clocks.specs.Histories.{History, conflict, is_before}
+
+-- CLOCKS: of each thread, the place before which all its accesses are seen
+
+abbrev pub nothing : Place
+nothing = record { event = 0; step = 0 }
+
+abbrev pub no_clock : Clock
+no_clock = record { seen = replicate 65 nothing }
+
+abbrev pub later : Place → Place → Place
+later p q = if is_before p q then q else p
+
+-- what two have seen, together
+abbrev pub joined : List Place → List Place → List Place
+joined [] ys = ys
+joined (x ∷ xs) [] = x ∷ xs
+joined (x ∷ xs) (y ∷ ys) = later x y ∷ joined xs ys
+
+abbrev pub clock_of : ℕ → List Clock → Clock
+clock_of h clocks = get_or clocks h no_clock
+
+-- what a holder has seen at a place: a thread has seen all that it did before
+abbrev pub clock_at : ℕ → Place → List Clock → Clock
+clock_at h p clocks =
+    if nat_lt h THREADS then record { seen = slice_set (clock_of h clocks).seen h p }
+    else clock_of h clocks
+
+abbrev pub learned : ℕ → Clock → List Clock → List Clock
+learned h c clocks = slice_set clocks h (record { seen = joined (clock_of h clocks).seen c.seen })
+
+abbrev pub passed : (from to : ℕ) → Place → List Clock → List Clock
+passed from to p clocks = learned to (clock_at from p clocks) clocks
+
+-- a thread has seen an access
+abbrev pub knows : List Clock → ℕ → Access → Bool
+knows clocks t a =
+    t == a.thread || is_before a.place (get_or (clock_of t clocks).seen a.thread nothing)
+
+-- THE SHADOW of a word of memory: its last store, and the last loads of the two threads that loaded it last
+
+abbrev pub is_by : ℕ → Option Access → Bool
+is_by t None = false
+is_by t (Some a) = t == a.thread
+
+abbrev pub with_load : Access → Cell → Cell
+with_load a c =
+    if is_by a.thread c.load then record c { load = Some a }
+    else record c { load = Some a; other = c.load }
+
+abbrev pub kept : Access → Cell → Cell
+kept a c = if a.is_store then record c { store = Some a } else with_load a c
+
+-- WHAT WAS FOUND: pairs of places in the program, each with the first two accesses there that race, and how often
+
+pub record Found : Type 0 where
+  pub pairs : List Pair
+  pub others : ℕ
+
+abbrev pub found_in : Findings → Found
+found_in f = record { pairs = f.pairs.items; others = f.others }
+
+abbrev pub no_findings : Found
+no_findings = record { pairs = []; others = 0 }
+
+-- one more, as far as 64 bits count
+abbrev pub one_more : ℕ → ℕ
+one_more n = min (n + 1) 18446744073709551615
+
+-- two accesses stand at the places of a pair, in either order
+abbrev pub is_at : Access → Access → Pair → Bool
+is_at a b p =
+    (p.first.pc == a.pc && p.second.pc == b.pc) || (p.first.pc == b.pc && p.second.pc == a.pc)
+
+-- the first pair with these places counts one more
+abbrev pub counted : Access → Access → List Pair → List Pair
+counted a b [] = []
+counted a b (p ∷ ps) =
+    if is_at a b p then record p { count = one_more p.count } ∷ ps else p ∷ counted a b ps
+
+abbrev pub first_pair : Access → Access → Pair
+first_pair a b = record { first = a; second = b; count = 1 }
+
+-- a pair of places gets a row as long as there is one left
+abbrev pub with_pair : Access → Access → Found → Found
+with_pair a b f =
+    if nat_lt (length f.pairs) PAIRS then record f { pairs = f.pairs ++ first_pair a b ∷ [] }
+    else record f { others = one_more f.others }
+
+abbrev pub noted : Access → Access → Found → Found
+noted a b f =
+    if list_any (is_at a b) f.pairs then record f { pairs = counted a b f.pairs }
+    else with_pair a b f
+
+-- an access races with one that was kept: they conflict, and its thread hasn't seen that
+abbrev pub races : List Clock → Access → Access → Bool
+races clocks b a = conflict a b && not (knows clocks b.thread a)
+
+abbrev pub compared : List Clock → Access → Option Access → Found → Found
+compared clocks b None f = f
+compared clocks b (Some a) f = if races clocks b a then noted a b f else f
+
+abbrev pub compared_all : List Clock → Access → Cell → Found → Found
+compared_all clocks b c f =
+    compared clocks b c.other (compared clocks b c.load (compared clocks b c.store f))
+
+-- OPERATION BY OPERATION
+
+-- the clocks of all holders, the shadow of each word from address 0 on, and what was found
+pub record Watched : Type 0 where
+  pub clocks : List Clock
+  pub shadow : List Cell
+  pub found : Found
+
+abbrev pub word_of : Access → ℕ
+word_of a = a.address / 4
+
+-- an access to a word with this shadow; a word outside the memory has none
+abbrev pub access_at : Access → Option Cell → Watched → Watched
+access_at a None w = w
+access_at a (Some c) w = record {
+  clocks = w.clocks;
+  shadow = slice_set w.shadow (word_of a) (kept a c);
+  found = compared_all w.clocks a c w.found;
+}
+
+abbrev pub behind : Operation → Watched → Watched
+behind (operation.Access a) w = access_at a (slice_get w.shadow (word_of a)) w
+behind (operation.Pass from to p) w = record w { clocks = passed from to p w.clocks }
+
+-- these operations in order
+abbrev pub behind_all : List Operation → Watched → Watched
+behind_all [] w = w
+behind_all (o ∷ os) w = behind_all os (behind o w)
+
+abbrev pub no_accesses : Cell
+no_accesses = record { store = None; load = None; other = None }
+
+-- nothing was done yet by so many holders to so many words
+abbrev pub fresh : (holders words : ℕ) → Watched
+fresh holders words = record {
+  clocks = replicate holders no_clock;
+  shadow = replicate words no_accesses;
+  found = no_findings;
+}
+
+-- the same of a whole history
+abbrev pub watched : History → (holders words : ℕ) → Watched
+watched [] holders words = fresh holders words
+watched (o ∷ past) holders words = behind o (watched past holders words)

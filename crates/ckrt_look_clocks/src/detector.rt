@@ -1,0 +1,164 @@
+//! Operation by operation.
+ghost use Rattle.std.specs.Prelude.{◌≡◌, length, replicate, IfOk};
+ghost use Rattle.ckrt_look_clocks.specs.Detection.{compared, compared_all, found_in, no_accesses, no_clock};
+
+use crate::clock::{Clock, knows, no_clock, pass};
+use crate::found::Findings;
+use crate::operation::{Access, Operation, conflict};
+use crate::pair::Pair;
+use crate::shadow::{Cell, keep, no_accesses};
+use std::alloc::{AllocError, Global};
+use std::marker::Model;
+
+/// What each holder has seen, the last accesses to each word of memory, and which of all accesses raced.
+#[derive(Drop)]
+pub struct Detector {
+    clocks: Vec<Clock>,
+    shadow: Vec<Cell>,
+    found: Findings,
+}
+
+impl Model for Detector {
+    ghost use Rattle.ckrt_look_clocks.specs.Detection.{Watched, found_in};
+
+    ghost Value = { Watched };
+
+    ghost view = { λ d. record {
+      clocks = d.clocks.items;
+      shadow = d.shadow.items;
+      found = found_in d.found;
+    } };
+}
+
+/// Holders that have seen nothing.
+fn fresh_clocks(alloc: Global, holders: usize) -> Result<Vec<Clock>, AllocError>
+    ensures { IfOk result (λ clocks. clocks.items ≡ replicate holders no_clock) }
+{
+    let mut clocks = Vec::with_capacity(alloc, holders)?;
+    for _ in 0..holders {
+        if clocks.push(no_clock()).is_err() {
+            return Err(AllocError);
+        }
+    }
+    Ok(clocks)
+}
+
+/// Words that nothing accessed.
+fn fresh_shadow(alloc: Global, words: usize) -> Result<Vec<Cell>, AllocError>
+    ensures { IfOk result (λ shadow. shadow.items ≡ replicate words no_accesses) }
+{
+    let mut shadow = Vec::with_capacity(alloc, words)?;
+    for _ in 0..words {
+        if shadow.push(no_accesses()).is_err() {
+            return Err(AllocError);
+        }
+    }
+    Ok(shadow)
+}
+
+/// Holders have seen nothing any more.
+fn clear_clocks(clocks: &mut Vec<Clock>)
+    ensures { clocks.new.items ≡ replicate (length clocks.old.items) no_clock }
+{
+    clocks.as_mut_slice().fill(no_clock());
+}
+
+/// Nothing accessed words any more.
+fn clear_shadow(shadow: &mut Vec<Cell>)
+    ensures { shadow.new.items ≡ replicate (length shadow.old.items) no_accesses }
+{
+    shadow.as_mut_slice().fill(no_accesses());
+}
+
+/// An access is compared with one that was kept.
+fn compare(clocks: &[Clock], access: &Access, kept: &Option<Access>, found: &mut Findings)
+    ensures { found_in found.new ≡ compared clocks.now access.now kept.now (found_in found.old) }
+{
+    if let Some(kept) = kept {
+        if conflict(kept, access) && !knows(clocks, access.thread, kept) {
+            found.note(kept, access);
+        }
+    }
+}
+
+/// An access is compared with those that were kept of its word.
+fn compare_all(clocks: &[Clock], access: &Access, cell: &Cell, found: &mut Findings)
+    ensures { found_in found.new
+        ≡ compared_all clocks.now access.now cell.now (found_in found.old) }
+{
+    compare(clocks, access, &cell.store, found);
+    compare(clocks, access, &cell.load, found);
+    compare(clocks, access, &cell.other, found);
+}
+
+impl Detector {
+    ghost use Rattle.ckrt_look_clocks.specs.Detection.{access_at, behind, fresh, passed, word_of};
+    ghost use Rattle.std.specs.Prelude.{slice_get};
+
+    /// Nothing was done yet, by so many holders, of which the first 65 are threads, to a memory of so many words. It takes 1,040
+    /// bytes a holder and 120 bytes a word.
+    pub fn new(alloc: Global, holders: usize, words: usize) -> Result<Detector, AllocError>
+        ensures { IfOk result (λ detector. detector ≡ fresh holders words) }
+    {
+        Ok(Detector {
+            clocks: fresh_clocks(alloc, holders)?,
+            shadow: fresh_shadow(alloc, words)?,
+            found: Findings::new(alloc)?,
+        })
+    }
+
+    /// Nothing was done any more, as when it was new. It takes no memory.
+    pub fn clear(&mut self)
+        ensures { self.new ≡ fresh (length self.old.clocks) (length self.old.shadow) }
+    {
+        clear_clocks(&mut self.clocks);
+        clear_shadow(&mut self.shadow);
+        self.found.clear();
+    }
+
+    /// A thread loads or stores.
+    pub fn access(&mut self, access: &Access)
+        ensures { self.new
+            ≡ access_at access.now (slice_get self.old.shadow (word_of access.now)) self.old }
+    {
+        let word = (access.address / 4) as usize;
+        if word >= self.shadow.len() {
+            return;
+        }
+        let mut cell = self.shadow[word];
+        compare_all(self.clocks.as_slice(), access, &cell, &mut self.found);
+        keep(&mut cell, access);
+        self.shadow[word] = cell;
+    }
+
+    /// The next operation.
+    pub fn note(&mut self, operation: &Operation)
+        ensures { self.new ≡ behind operation.now self.old }
+    {
+        match operation {
+            Operation::Access(access) => self.access(access),
+            Operation::Pass(from, to, place) => {
+                pass(
+                    &mut self.clocks,
+                    usize::from(*from),
+                    usize::from(*to),
+                    *place,
+                );
+            }
+        }
+    }
+
+    /// The pairs of places whose accesses raced, in the order in which they were found.
+    pub fn pairs(&self) -> &[Pair]
+        ensures { result.now ≡ self.now.found.pairs }
+    {
+        self.found.pairs.as_slice()
+    }
+
+    /// How often accesses raced for whose places no row was left.
+    pub fn others(&self) -> u64
+        ensures { result ≡ self.now.found.others }
+    {
+        self.found.others
+    }
+}

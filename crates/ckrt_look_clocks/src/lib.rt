@@ -1,0 +1,22 @@
+//! Data races: which accesses of threads to one memory are unordered, told operation by operation.
+//!
+//! A [`Detector`] is given the operations of a run in their order: loads and stores, and what is passed from one holder to another,
+//! as a lock passes on to the thread that takes it what was seen by those that gave it up. It takes no memory once it is made.
+#![tactic(auto)]
+
+mod clock;
+mod detector;
+mod found;
+mod laws;
+mod operation;
+mod pair;
+mod shadow;
+
+pub use clock::Clock;
+pub use detector::Detector;
+pub use laws::{
+    clocks_are_exact, kept_races_are_found, only_races_are_found, seen_behind_seen, seen_by_chains,
+};
+pub use operation::{Access, Operation, Place, THREADS};
+pub use pair::{PAIRS, Pair};
+pub use shadow::Cell;

@@ -1,0 +1,104 @@
+-- What a step that is no call loads or stores. Fetches are no accesses.
+use Rattle.std.specs.Prelude.{ℕ, ◌+◌, ◌-◌, ◌==◌, ◌&&◌, Bool, true, false, if◌then◌else◌, List, [], ◌∷◌, Option, Some, None}
+use Rattle.ckrt_registers.specs.Registers.{Registers, get}
+use Rattle.ckrt_rv32i.specs.Decoding.{instruction_of}
+use Rattle.ckrt_rv32i.specs.Effect.{following, load_size}
+use Rattle.ckrt_rv32i.specs.Memory.{byte_count, is_aligned, is_valid, loaded}
+use Rattle.ckrt_rv32i.specs.Words.{word_add_signed}
+use Rattle.ckrt_rv32i.specs.declared.instruction.Instr.{Instr}
+use Rattle.ckrt_rv32i.specs.declared.instruction.Instr.TheVariants as instr
+use Rattle.ckrt_rv32i.specs.declared.memory_bus.Size.{Size}
+use Rattle.ckrt_rv32i.specs.declared.memory_bus.Size.TheVariants as size
+use Rattle.ckrt_thread.specs.State as threads
+use Rattle.ckrt_machine.specs.Steps.{State}
+use Rattle.ckrt_look_clocks.specs.declared.operation.Access.{Access}
+use Rattle.ckrt_look_clocks.specs.declared.operation.Place.{Place}
+use Rattle.ckrt_look_clocks.specs.declared.operation.Operation.{Operation}
+use Rattle.ckrt_look_clocks.specs.declared.operation.Operation.TheVariants as operation
+use Rattle.ckrt_look_races.specs.declared.accesses.Stepping.{Stepping}
+use Rattle.ckrt_look_races.specs.declared.holders.Lock.TheVariants as lock
+use Rattle.ckrt_look_races.specs.Holders.{acquired, released, thread_holder}
+
+-- ATOMIC OPERATIONS stand beside a fence, as the RISC-V psABI maps those of C11 (unprivileged manual, table A.6): a load that acquires
+-- is followed by FENCE R,RW, and a store that releases follows FENCE RW,W
+
+abbrev pub FENCE_R_RW : ℕ
+FENCE_R_RW = 0x0230000F
+
+abbrev pub FENCE_RW_W : ℕ
+FENCE_RW_W = 0x0310000F
+
+-- the word stands at an address
+abbrev pub is_word_at : List ℕ → (address word : ℕ) → Bool
+is_word_at bytes a w = is_valid bytes a size.Word && loaded bytes a size.Word == w
+
+-- the load of a step
+abbrev pub is_atomic_load : List ℕ → Stepping → Bool
+is_atomic_load bytes s = is_word_at bytes (following s.regs) FENCE_R_RW
+
+-- its store
+abbrev pub is_atomic_store : List ℕ → Stepping → Bool
+is_atomic_store bytes s = is_word_at bytes (s.regs.pc - 4) FENCE_RW_W
+
+abbrev pub access_of : Stepping → (is_store is_atomic : Bool) → (address : ℕ) → Size → Access
+access_of s is_store is_atomic a z = record {
+  thread = thread_holder s.thread;
+  is_store = is_store;
+  is_atomic = is_atomic;
+  pc = s.regs.pc;
+  address = a;
+  size = byte_count z;
+  place = s.place;
+}
+
+-- a load; before an atomic one what those have given up is taken who stored so to the word, so that all they did is before it
+abbrev pub load_operations : Stepping → (is_atomic : Bool) → (address : ℕ) → Size → List Operation
+load_operations s false a z = operation.Access (access_of s false false a z) ∷ []
+load_operations s true a z =
+    acquired s.thread (lock.Word a) s.place ∷ operation.Access (access_of s false true a z) ∷ []
+
+-- the place behind a step, from which on the step itself is among what a thread has done
+abbrev pub place_behind : Place → Place
+place_behind p = record { event = p.event; step = p.step + 1 }
+
+-- a store; behind an atomic one all is given up that its thread has done, this store too
+abbrev pub store_operations : Stepping → (is_atomic : Bool) → (address : ℕ) → Size → List Operation
+store_operations s false a z = operation.Access (access_of s true false a z) ∷ []
+store_operations s true a z =
+    operation.Access (access_of s true true a z)
+    ∷ released s.thread (lock.Word a) (place_behind s.place) ∷ []
+
+-- only where the address is one of the memory, and aligned
+abbrev pub may_access : List ℕ → (address : ℕ) → Size → Bool
+may_access bytes a z = is_aligned a z && is_valid bytes a z
+
+abbrev pub load_at : List ℕ → Stepping → (address : ℕ) → Size → List Operation
+load_at bytes s a z =
+    if may_access bytes a z then load_operations s (is_atomic_load bytes s) a z else []
+
+abbrev pub store_at : List ℕ → Stepping → (address : ℕ) → Size → List Operation
+store_at bytes s a z =
+    if may_access bytes a z then store_operations s (is_atomic_store bytes s) a z else []
+
+abbrev pub of_instruction : List ℕ → Stepping → Option Instr → List Operation
+of_instruction bytes s (Some (instr.Load k rd rs1 offset)) =
+    load_at bytes s (word_add_signed (get s.regs rs1) offset) (load_size k)
+of_instruction bytes s (Some (instr.Store z rs1 rs2 offset)) =
+    store_at bytes s (word_add_signed (get s.regs rs1) offset) z
+of_instruction bytes s _ = []
+
+-- the instruction at an address
+abbrev pub fetched : List ℕ → (pc : ℕ) → Option Instr
+fetched bytes pc =
+    if is_valid bytes pc size.Word then instruction_of (loaded bytes pc size.Word) else None
+
+abbrev pub of_registers : (t : ℕ) → Place → List ℕ → Option Registers → List Operation
+of_registers t p bytes None = []
+of_registers t p bytes (Some r) =
+    of_instruction bytes (record { thread = t; place = p; regs = r }) (fetched bytes r.pc)
+
+-- what the next step of the thread on a hart accesses, if that is an instruction
+abbrev pub accesses : Place → Option ℕ → State → List Operation
+accesses p None s = []
+accesses p (Some t) s =
+    of_registers t p s.bytes (threads.regs_of (threads.thread_of s.tables.threads t))

@@ -1,0 +1,24 @@
+-- The races of recorded events, as they are written.
+use Rattle.std.specs.Prelude.{◌≡◌, ℕ, ◌+◌, ◌/◌, List, length}
+use Rattle.ckrt_events.specs.declared.event.Event.{Event}
+use Rattle.ckrt_machine.specs.Steps.{State}
+use Rattle.ckrt_look_clocks.specs.Detection.{Found, behind_all, fresh}
+use Rattle.ckrt_look_races.specs.Holders.{HOLDERS}
+use Rattle.ckrt_look_races.specs.Steps.{of_events}
+use Rattle.ckrt_look_races.specs.Texts.{found_text}
+
+-- how many words of memory a shadow has: from address 0 on
+abbrev pub words_of : State → ℕ
+words_of s = 1024 + length s.bytes / 4
+
+-- what is found by these events, of which the first is behind k others, where all that came before is taken as ordered
+abbrev pub found_by : ℕ → List Event → State → Found
+found_by k es s = (behind_all (of_events k es s) (fresh HOLDERS (words_of s))).found
+
+-- what is written of them
+abbrev pub races_text : ℕ → List Event → State → List ℕ
+races_text k es s = found_text (found_by k es s)
+
+-- this is that text
+abbrev pub IsRacesText : (k : ℕ) → List Event → State → List ℕ → Type 0
+IsRacesText k es s text = text ≡ races_text k es s

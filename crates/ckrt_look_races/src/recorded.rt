@@ -1,0 +1,103 @@
+//! The races of events.
+ghost use Rattle.std.specs.Prelude.{◌≡◌, ◌⊎◌, ◌<◌, ◌+◌, ◌^◌, IfErr, IfOk, OnOk, length};
+ghost use Rattle.std.specs.Bool.{OnFalse, OnTrue};
+ghost use Rattle.std.specs.Io.KnownBytes.{Appends};
+ghost use Rattle.ckrt_machine.specs.Events.{AllAccepted};
+ghost use Rattle.ckrt_look_calls.specs.Stretches.{IsEventsFault};
+ghost use Rattle.ckrt_look_clocks.specs.Detection.{behind_all, fresh};
+ghost use Rattle.ckrt_look_races.specs.Holders as holders;
+ghost use Rattle.ckrt_look_races.specs.Recorded.{races_text, words_of};
+ghost use Rattle.ckrt_look_races.specs.Steps.{of_events};
+ghost use Rattle.ckrt_look_races.specs.Texts.{found_text};
+
+use crate::holders::HOLDERS;
+use crate::texts::write_found;
+use crate::walk::watch_event;
+use ckrt_events::Event;
+use ckrt_inspect::InspectFault;
+use ckrt_look_clocks::Detector;
+use ckrt_machine::Machine;
+use std::alloc::{AllocError, Global};
+use std::io::Write;
+
+/// Makes events, if each is accepted at its turn, and gives a detector their operations. The first is behind `count` others.
+fn watch_events(
+    machine: &mut Machine,
+    count: u64,
+    events: &[Event],
+    detector: &mut Detector,
+) -> bool
+    requires few { count + length events.now < 2 ^ 64 }
+    ensures watched { OnTrue result
+        (detector.new ≡ behind_all (of_events count events.now machine.old.state) detector.old) }
+    ensures accepted { OnTrue result (AllAccepted events.now machine.old.state) }
+    ensures refused { OnFalse result (AllAccepted events.now machine.old.state → ⊥) }
+{
+    let mut done = count;
+    for event in events {
+        if !event.in_range() || machine.accept(0, event).is_err() {
+            return false;
+        }
+        watch_event(machine, done, event, detector);
+        done += 1;
+    }
+    true
+}
+
+/// How many words of memory there are, from address 0 on.
+fn words_of(machine: &Machine) -> usize
+    ensures { result ≡ words_of machine.now.state }
+{
+    1024 * machine.memory().pages() as usize
+}
+
+/// A detector for what a machine does from here on: what was done before is taken as ordered. It takes 14 MB, and 30 bytes for each of
+/// the guest's memory.
+pub fn detector_for(alloc: Global, machine: &Machine) -> Result<Detector, AllocError>
+    ensures { IfOk result (λ detector.
+        detector ≡ fresh holders.HOLDERS (words_of machine.now.state)) }
+{
+    Detector::new(alloc, HOLDERS, words_of(machine))
+}
+
+/// Writes what was found.
+fn write_detected<W: Write>(out: &mut W, detector: &Detector) -> Result<(), InspectFault>
+    ensures found { OnOk result
+        (Appends (W.contents out.old) (W.contents out.new) (found_text detector.now.found)) }
+    ensures fault { IfErr result (λ e. e ≡ InspectFault.Write) }
+{
+    match write_found(out, detector) {
+        Ok(()) => Ok(()),
+        Err(_) => Err(InspectFault::Write),
+    }
+}
+
+/// Makes events, each of which is to be accepted at its turn, and writes their races: each pair of places in them once, with the first two
+/// accesses there that race, and how often, or that there were none. The first event is behind `count` others, and what was done
+/// before it is taken as ordered. It takes 14 MB, and 30 bytes for each of the guest's memory.
+///
+/// # Errors
+///
+/// `Damaged` where an event isn't accepted at its turn, `OutOfMemory` where a growth was refused, `Write` where the writer failed.
+pub fn write_races<W: Write>(
+    alloc: Global,
+    machine: &mut Machine,
+    count: u64,
+    events: &[Event],
+    out: &mut W,
+) -> Result<(), InspectFault>
+    requires few { count + length events.now < 2 ^ 64 }
+    ensures races { OnOk result
+        (Appends (W.contents out.old) (W.contents out.new)
+        (races_text count events.now machine.old.state)) }
+    ensures accepted { OnOk result (AllAccepted events.now machine.old.state) }
+    ensures fault { IfErr result (IsEventsFault events.now machine.old.state) }
+{
+    let Ok(mut detector) = detector_for(alloc, machine) else {
+        return Err(InspectFault::OutOfMemory);
+    };
+    if !watch_events(machine, count, events, &mut detector) {
+        return Err(InspectFault::Damaged);
+    }
+    write_detected(out, &detector)
+}

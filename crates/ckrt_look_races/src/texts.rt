@@ -1,0 +1,139 @@
+//! What was found, as text.
+ghost use Rattle.std.specs.Prelude.{◌≡◌, [], OnOk};
+ghost use Rattle.std.specs.List.{flat_map};
+ghost use Rattle.std.specs.Io.KnownBytes.{Appends};
+ghost use Rattle.ckrt_look_races.specs.Texts.{access_text, both_text, found_text, others_line, others_text, pair_line, place_text, times_text, verb, what_text};
+
+use ckrt_look_calls::{write_counted, write_hex, write_number};
+use ckrt_look_clocks::{Access, Detector, Pair};
+use std::io::{Result, Write};
+
+/// Where an access was made, and by whom.
+#[tactic(auto, using(ckrt_look_calls::proofs::AppendLemmas::appends_both))]
+fn write_place<W: Write>(out: &mut W, access: &Access) -> Result<()>
+    ensures { OnOk result
+        (Appends (W.contents out.old) (W.contents out.new) (place_text access.now)) }
+{
+    write_number(out, access.place.event)?;
+    write_counted(out, b"+", u64::from(access.place.step))?;
+    write_counted(out, b" thread ", u64::from(access.thread))
+}
+
+/// What an access does.
+fn verb(access: &Access) -> &'static [u8]
+    ensures { result.now ≡ verb access.now.is_store access.now.is_atomic }
+{
+    match (access.is_store, access.is_atomic) {
+        (true, false) => b" stores ".as_slice(),
+        (true, true) => b" stores atomically ".as_slice(),
+        (false, false) => b" loads ".as_slice(),
+        (false, true) => b" loads atomically ".as_slice(),
+    }
+}
+
+/// What an access does where, and the instruction's address.
+#[tactic(auto, using(ckrt_look_calls::proofs::AppendLemmas::appends_both))]
+fn write_what<W: Write>(out: &mut W, access: &Access) -> Result<()>
+    ensures { OnOk result
+        (Appends (W.contents out.old) (W.contents out.new) (what_text access.now)) }
+{
+    out.write_all(verb(access))?;
+    write_hex(out, access.address)?;
+    out.write_all(b" pc ")?;
+    write_hex(out, access.pc)
+}
+
+/// An access.
+#[tactic(auto, using(ckrt_look_calls::proofs::AppendLemmas::appends_both))]
+fn write_access<W: Write>(out: &mut W, access: &Access) -> Result<()>
+    ensures { OnOk result
+        (Appends (W.contents out.old) (W.contents out.new) (access_text access.now)) }
+{
+    write_place(out, access)?;
+    write_what(out, access)
+}
+
+/// How often.
+#[tactic(auto, using(ckrt_look_calls::proofs::AppendLemmas::appends_both))]
+fn write_times<W: Write>(out: &mut W, times: u64) -> Result<()>
+    ensures { OnOk result
+        (Appends (W.contents out.old) (W.contents out.new) (times_text times)) }
+{
+    if times == 1 {
+        return out.write_all(b"once");
+    }
+    write_number(out, times)?;
+    out.write_all(b" times")
+}
+
+/// Writes the two accesses of a pair. It takes no memory.
+#[tactic(auto, using(ckrt_look_calls::proofs::AppendLemmas::appends_both))]
+pub fn write_both<W: Write>(out: &mut W, pair: &Pair) -> Result<()>
+    ensures { OnOk result
+        (Appends (W.contents out.old) (W.contents out.new) (both_text pair.now)) }
+{
+    write_access(out, &pair.first)?;
+    out.write_all(b", ")?;
+    write_access(out, &pair.second)
+}
+
+/// A pair of places.
+#[tactic(auto, using(ckrt_look_calls::proofs::AppendLemmas::appends_both))]
+fn write_pair<W: Write>(out: &mut W, pair: &Pair) -> Result<()>
+    ensures { OnOk result
+        (Appends (W.contents out.old) (W.contents out.new) (pair_line pair.now)) }
+{
+    write_both(out, pair)?;
+    out.write_all(b", ")?;
+    write_times(out, pair.count)?;
+    out.write_all(b"\n")
+}
+
+/// Pairs of places.
+#[tactic(auto, using(ckrt_look_calls::proofs::AppendLemmas::appends_none, ckrt_look_calls::proofs::AppendLemmas::appends_more, ckrt_look_calls::proofs::AppendLemmas::appends_all))]
+fn write_pairs<W: Write>(out: &mut W, pairs: &[Pair]) -> Result<()>
+    ensures { OnOk result
+        (Appends (W.contents out.old) (W.contents out.new) (flat_map pair_line pairs.now)) }
+{
+    for pair in pairs {
+        write_pair(out, pair)?;
+    }
+    Ok(())
+}
+
+/// How often accesses raced for whose places no row was left.
+#[tactic(auto, using(ckrt_look_calls::proofs::AppendLemmas::appends_both))]
+fn write_others<W: Write>(out: &mut W, others: u64) -> Result<()>
+    ensures { OnOk result
+        (Appends (W.contents out.old) (W.contents out.new) (others_text others)) }
+{
+    out.write_all(b"and ")?;
+    write_times(out, others)?;
+    out.write_all(b" at other places\n")
+}
+
+/// The same, if they did.
+#[tactic(auto, using(ckrt_look_calls::proofs::AppendLemmas::appends_none))]
+fn write_others_line<W: Write>(out: &mut W, others: u64) -> Result<()>
+    ensures { OnOk result
+        (Appends (W.contents out.old) (W.contents out.new) (others_line others)) }
+{
+    match others {
+        0 => Ok(()),
+        _ => write_others(out, others),
+    }
+}
+
+/// What was found.
+#[tactic(auto, using(ckrt_look_calls::proofs::AppendLemmas::appends_both))]
+pub(crate) fn write_found<W: Write>(out: &mut W, detector: &Detector) -> Result<()>
+    ensures { OnOk result
+        (Appends (W.contents out.old) (W.contents out.new) (found_text detector.now.found)) }
+{
+    let pairs = detector.pairs();
+    if pairs.is_empty() {
+        return out.write_all(b"no races in this schedule; another one may have some\n");
+    }
+    write_pairs(out, pairs)?;
+    write_others_line(out, detector.others())
+}

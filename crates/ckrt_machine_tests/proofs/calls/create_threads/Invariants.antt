@@ -1,5 +1,0 @@
-use Rattle.ckrt_state.specs.WellFormed.{IsWellFormed}
-use Rattle.ckrt_machine_tests.proofs.calls.create_threads.Given as goal
-
-abbrev pub invariant-loop-id : goal.invariant-loop-id
-invariant-loop-id g l = IsWellFormed l.tables

@@ -1,7 +1,0 @@
-pub mod ListLemmas
-pub mod FoundLemmas
-pub mod ClockLemmas
-pub mod SeenLemmas
-pub mod RaceLemmas
-pub mod KeptLemmas
-pub mod ChainLemmas

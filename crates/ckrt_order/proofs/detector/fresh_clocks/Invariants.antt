@@ -1,7 +1,0 @@
-use Rattle.std.proofs.Common.{◌≡◌, replicate}
-use Rattle.ckrt_order.specs.Detection.{no_clock}
-use Rattle.ckrt_order.proofs.detector.fresh_clocks.Given as goal
-
--- so many have seen nothing
-abbrev pub invariant-loop : goal.invariant-loop
-invariant-loop l = l.clocks.items ≡ replicate l.counter no_clock

@@ -1,5 +1,0 @@
-use Rattle.ckrt_order.proofs.RaceLemmas.{clocks_are_exact}
-use Rattle.ckrt_order.proofs.laws.clocks_are_exact.Goals as goal
-
-pub returns : goal.returns
-returns c = clocks_are_exact

@@ -1,5 +1,0 @@
-use Rattle.ckrt_order.proofs.KeptLemmas.{kept_races}
-use Rattle.ckrt_order.proofs.laws.kept_races_are_found.Goals as goal
-
-pub returns : goal.returns
-returns c = kept_races

@@ -1,5 +1,0 @@
-use Rattle.ckrt_order.proofs.ChainLemmas.{seen_chains}
-use Rattle.ckrt_order.proofs.laws.seen_by_chains.Goals as goal
-
-pub returns : goal.returns
-returns c = seen_chains

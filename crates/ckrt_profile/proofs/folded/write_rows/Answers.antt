@@ -1,9 +1,0 @@
-use Rattle.ckrt_trace.proofs.AppendLemmas.{appends_more}
-use Rattle.ckrt_profile.specs.Texts.{row_line}
-use Rattle.ckrt_profile.proofs.folded.write_rows.Goals as goal
-
--- the line of one row more
-pub loop-row-preserved : goal.loop-row-preserved
-loop-row-preserved g c =
-    let has = g.W.Write.contents in
-    appends_more (row_line c.args.rows.now) c.args.rows.now c.loop-row.row-index _ (has c.args.out.now) (has c.loop-row.out) (has c.write_row.new.out) c.loop-row-test.true c.loop-row.invariant c.in_ok-write_row.ensures

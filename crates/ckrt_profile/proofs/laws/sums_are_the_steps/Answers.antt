@@ -1,5 +1,0 @@
-use Rattle.ckrt_profile.proofs.SumLemmas.{sums_steps}
-use Rattle.ckrt_profile.proofs.laws.sums_are_the_steps.Goals as goal
-
-pub returns : goal.returns
-returns c = sums_steps

@@ -1,9 +1,0 @@
-use Rattle.std.proofs.Common.{◌≡◌, take}
-use Rattle.std.specs.List.{flat_map}
-use Rattle.ckrt_order.specs.Detection.{behind_all}
-use Rattle.ckrt_races.specs.Orders.{arrived}
-use Rattle.ckrt_races.proofs.calls.watch_arrivals.Given as goal
-
--- those of the waits so far
-abbrev pub invariant-loop-wait : goal.invariant-loop-wait
-invariant-loop-wait l = l.detector ≡ behind_all (flat_map (arrived l.place l.thread l.barrier) (take l.wait-index l.waits)) l.fn.detector

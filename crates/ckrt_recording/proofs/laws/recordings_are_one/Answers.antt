@@ -1,5 +1,0 @@
-use Rattle.ckrt_recording.proofs.RecordedLemmas.{recorded_once}
-use Rattle.ckrt_recording.proofs.laws.recordings_are_one.Goals as goal
-
-pub returns : goal.returns
-returns c = recorded_once

@@ -1,5 +1,0 @@
-use Rattle.ckrt_recording.proofs.RecordedLemmas.{recorded_leads}
-use Rattle.ckrt_recording.proofs.laws.recordings_lead_on.Goals as goal
-
-pub returns : goal.returns
-returns c = recorded_leads

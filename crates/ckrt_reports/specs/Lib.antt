@@ -1,4 +1,0 @@
-pub mod Ends
-pub mod Lines
-pub mod Reports
-pub mod Unfit

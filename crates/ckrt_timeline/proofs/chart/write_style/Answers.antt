@@ -1,4 +1,0 @@
-use Rattle.ckrt_timeline.proofs.chart.write_style.Goals as goal
-
-pub returns : goal.returns
-returns g c = c.write_parts.ensures

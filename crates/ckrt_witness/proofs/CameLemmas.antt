@@ -1,0 +1,121 @@
+-- A run whose job didn't fail came to its drive.
+use Rattle.std.proofs.Common.{◌≡◌, inl, inr, ℕ, Bool, true, false, List, Option, Some, None, Result, Ok, Err, refl, sym, ◌∙◌, ap, subst}
+use Rattle.std.specs.Prelude.{◌≢◌}
+use Rattle.ckrt_checkpoint.specs.declared.config.Config.{Config}
+use Rattle.ckrt_disk.specs.Frame.{IsOnlyRead}
+use Rattle.ckrt_disk.specs.declared.disk.DeviceFault.{DeviceFault}
+use Rattle.ckrt_disk.specs.declared.disk.Disk.{Ghosts}
+use Rattle.std.specs.Prelude.{is_err, is_some}
+use Rattle.ckrt_drive.specs.declared.options.Options.{Options}
+use Rattle.ckrt_cli_disk.specs.Driving.{DrivesFound, DrivesInRange, DrivesInto, DrivesLooked, DrivesOpened, DrivesOpenedOutput, DrivesPath, DrivesSupplied, DrivesToward, IsAsked, IsRecovered, Means, ready}
+use Rattle.ckrt_cli_disk.specs.Feeding.{Supplies}
+use Rattle.ckrt_cli_disk.specs.Missing.{FindsDisk}
+use Rattle.ckrt_cli_disk.specs.declared.feeding.Supplied.{Supplied}
+use Rattle.ckrt_cli_faults.specs.Outside.{Outside}
+use Rattle.ckrt_cli_faults.specs.Ranges.{config_for, is_in_range}
+use Rattle.ckrt_cli_faults.specs.Statuses.{status_of, status_of_words}
+use Rattle.ckrt_cli_faults.specs.declared.driven.Driven.{Driven}
+use Rattle.ckrt_cli_faults.specs.declared.fault.JobFault.{JobFault}
+use Rattle.ckrt_cli.specs.Performing.{Reach, RunsRequest, RunsWords, Said, means_in, outcome_with_end}
+use Rattle.ckrt_recovery.specs.declared.session.Session.{Session}
+use Rattle.ckrt_cli_files.specs.Openings.{Openings, opened, with_both_closed, with_closed_output, with_output}
+use Rattle.ckrt_cli_files.specs.declared.output.OpenedOutput.{OpenedOutput}
+use Rattle.ckrt_cli_words.specs.Jobs.{Driving, drive, request_of_words}
+use Rattle.ckrt_cli_words.specs.declared.job.WordsFault.{WordsFault}
+use Rattle.ckrt_cli_words.specs.declared.job.WordsFault.TheVariants as words
+use Rattle.ckrt_cli_theorem.specs.Coming.{Came, Fed, Sized, in_range, of_fed, of_found, of_looked, of_path, of_sized, onto_fitting, onto_opened, set}
+use Rattle.ckrt_cli_theorem.specs.Commands.{asked_or, of_request, of_words}
+
+module _ {D W : Type 0} {d : Ghosts D} (means : Means d W) (j : Driving) where
+  abbrev pub Finds : D → Type 0
+  Finds x = (old : Openings D) × (asked : Openings D) × FindsDisk d (config_for j.sizes) means.images means.Opens means.Fills j.disk j.image old asked (Ok x)
+
+  -- what is known of a drive that a run came to, besides
+  pub record Facts (path : List ℕ) (new : Openings D) (came : Came d means.sources j path) : Type 0 where
+    pub finds : Finds came.found
+    pub asked : Openings D
+    pub closes : new ≡ with_both_closed (with_closed_output asked came.run.end) came.run.input came.run.after.disk
+    pub kept : is_some came.run.input ≡ is_some came.run.intake
+
+  module _ (path : List ℕ) (named : j.output ≡ Some path) (result : Result Driven JobFault) (new : Openings D) where
+    -- there is a drive, or the job failed
+    abbrev pub Says : Option (Came d means.sources j path) → Type 0
+    Says None = (fault : JobFault) × (result ≡ Err fault)
+    Says (Some came) = Facts path new came
+
+    by_fitting : (fed : Fed d means.sources j) → Finds fed.sized.found → (session : Session D d) → (recovered : IsRecovered d fed.it.disk session) → (output : OpenedOutput D) → (is_opened : means.sources.Outputs path output)
+        → (drives : DrivesOpenedOutput output fed.sized.options (ready session fed.it.intake) (with_output fed.asked (opened path)) new result)
+        → Says (onto_fitting means j path named result fed new session recovered output is_opened drives)
+    by_fitting fed finds session recovered output is_opened (inl refuses) = (_, refuses.is)
+    by_fitting fed finds session recovered output is_opened (inr takes) = record { finds = finds; asked = with_output fed.asked (opened path); closes = takes.drives.closes; kept = takes.drives.kept }
+
+    by_output : (fed : Fed d means.sources j) → Finds fed.sized.found → (session : Session D d) → (recovered : IsRecovered d fed.it.disk session)
+        → (drives : DrivesInto (means.sources.Outputs path) path fed.sized.options (ready session fed.it.intake) fed.asked new result)
+        → Says (onto_opened means j path named result fed new session recovered drives)
+    by_output fed finds session recovered (inl lacks) = (_, lacks.is)
+    by_output fed finds session recovered (inr opens) = by_fitting fed finds session recovered opens.output opens.is_opened opens.drives
+
+    by_fed : (fed : Fed d means.sources j) → Finds fed.sized.found → (drives : DrivesOpened (set means j path named result fed.sized.options) fed.it fed.asked new result) → Says (of_fed means j path named result fed new drives)
+    by_fed fed finds (inl lacks) = (_, lacks.is)
+    by_fed fed finds (inr drives) =
+        by_output fed finds drives.session drives.recovered
+        (subst
+        (DrivesToward (set means j path named result fed.sized.options) (ready drives.session fed.it.intake) fed.asked new
+        result)
+        named drives.drives)
+
+    by_sized : (sized : Sized d j) → Finds sized.found → (before asked : Openings D) → (got : Result (Supplied D) JobFault)
+        → (supplies : Supplies d means.sources j.input j.input_from sized.looked before asked got)
+        → (ends : DrivesSupplied (set means j path named result sized.options) asked new result got)
+        → Says (of_sized means j path named result sized before asked new got supplies ends)
+    by_sized sized finds before asked (Err fault) supplies ends = (_, ends.0)
+    by_sized sized finds before asked (Ok it) supplies ends =
+        by_fed (record { sized = sized; before = before; asked = asked; it = it; supplies = supplies }) finds ends
+
+    by_looked : (options : Options) (asks : IsAsked j options) (found looked : D) → Finds found → (old : Openings D) → (other : Result (Option Config) DeviceFault)
+        → (sized : IsOnlyRead d found looked (is_err other))
+        → (drives : DrivesLooked (set means j path named result options) looked old new result other)
+        → Says (of_looked means j path named result options asks found looked old new other sized drives)
+    by_looked options asks found looked finds old (Err failed) sized ends = (_, ends.0)
+    by_looked options asks found looked finds old (Ok (Some other)) sized ends = (_, ends.0)
+    by_looked options asks found looked finds old (Ok None) sized fed =
+        by_sized
+        (record { options = options; asks = asks; found = found; looked = looked; sized = sized }) finds
+        old fed.asked fed.found fed.supplies fed.drives
+
+    by_found : (first old : Openings D) → (found : Result D JobFault) → FindsDisk d (config_for j.sizes) means.images means.Opens means.Fills j.disk j.image first old found
+        → (it : DrivesFound means j old new result found) → Says (of_found means j path named result old new found it)
+    by_found first old (Err fault) finds ends = (_, ends.0)
+    by_found first old (Ok found) finds it =
+        by_looked it.options it.asked found it.drives.disk (first, old, finds) old it.drives.found it.drives.read it.drives.drives
+
+    by_range : (old : Openings D) → (b : Bool) → (it : DrivesInRange means j old new result b) → Says (in_range means j path named result old new b it)
+    by_range old false ends = (_, ends.0)
+    by_range old true it = by_found old it.asked it.found it.finds it.drives
+
+    by_path : (old : Openings D) → (drives : DrivesPath means j old new result) → Says (of_path means j path named result old new drives)
+    by_path old drives = by_range old (is_in_range j) drives
+
+    some : (o : Option (Came d means.sources j path)) → Says o → ((fault : JobFault) → result ≡ Err fault → ⊥) → (came : Came d means.sources j path) × (o ≡ Some came) × Facts path new came
+    some None failed well = absurd (well failed.0 failed.1)
+    some (Some came) facts well = (came, refl, facts)
+
+not_refused : (f : WordsFault) (status : ℕ) → status ≡ status_of_words f → status ≢ 1 → status ≢ 2 → ⊥
+not_refused (words.Usage text) status is one two = two is
+not_refused words.OutOfMemory status is one two = one is
+
+module _ {D W : Type 0} {d : Ghosts D} (it : Reach d W) (ws : List (List ℕ)) (j : Driving) (path : List ℕ) (asks : request_of_words ws ≡ Some (drive j)) (named : j.output ≡ Some path)
+    (old new : Outside D) (said : Said) (status : ℕ) (done : status ≢ 1) (taken : status ≢ 2) where
+  by_request : (run : RunsRequest it (drive j) old new said status) → (came : Came d it.others j path) × (of_request it ws j path asks named old new said status run ≡ Some came) × Facts (means_in it old new j) j path new.openings came
+  by_request run =
+      some (means_in it old new j) j path named run.performs.0.0 new.openings
+      (of_path (means_in it old new j) j path named run.performs.0.0 old.openings new.openings run.performs.0.2)
+      (by_path (means_in it old new j) j path named run.performs.0.0 new.openings old.openings run.performs.0.2)
+      (λ fault is. done (run.gives ∙ ap status_of (run.performs.0.1 ∙ ap outcome_with_end is)))
+
+  pub came_by_words : (runs : RunsWords it ws old new said status) → (came : Came d it.others j path) × (of_words it ws j path asks named old new said status runs ≡ Some came) × Facts (means_in it old new j) j path new.openings came
+  came_by_words (inr refuses) = absurd (not_refused refuses.fault status refuses.gives done taken)
+  came_by_words (inl runs) =
+      by_request
+      (subst (λ q. RunsRequest it q old new said status)
+      (ap (asked_or (drive j)) (sym runs.1 ∙ asks)) runs.2)

@@ -1,0 +1,4 @@
+use Rattle.ckrt_witness.proofs.closed_faults.failed.Goals as goal
+
+pub returns : goal.returns
+returns g c = c.in-Some.ensures tt

@@ -1,0 +1,1 @@
+/* The length of an array is in cdefs.h. */

@@ -1,0 +1,1 @@
+/* In place of what glibc's configure script writes. */

@@ -1,0 +1,11 @@
+/* In place of what valgrind's configure script writes: what a guest has. */
+#define HAVE_BUILTIN_ATOMIC 1
+#define HAVE_CLOCK_GETTIME 1
+#define HAVE_CLOCK_MONOTONIC 1
+#define HAVE_PTHREAD_BARRIER 1
+#define HAVE_PTHREAD_MUTEX_TIMEDLOCK 1
+#define HAVE_PTHREAD_RWLOCK_T 1
+#define HAVE_PTHREAD_RWLOCK_TIMEDRDLOCK 1
+#define HAVE_PTHREAD_RWLOCK_TIMEDWRLOCK 1
+#define HAVE_PTHREAD_SPINLOCK 1
+#define HAVE_PTHREAD_YIELD 1
