@@ -9,6 +9,7 @@ from bisect import bisect_right
 from dataclasses import dataclass, field
 
 TOOL = "riscv64-unknown-elf-"
+PAGE = 4_096  # the first one has no memory
 HEADER = re.compile(r"^ *<([0-9a-f]+)><([0-9a-f]+)>: Abbrev Number: \d+(?: \((\w+)\))?")
 ATTRIBUTE = re.compile(r"^ *<[0-9a-f]+> +(DW_AT_\w+) *: (.*)$")
 
@@ -64,7 +65,7 @@ class Program:
     def sized_symbols(self):
         for line in output_of("nm", "-S", "--defined-only", self.path).splitlines():
             words = line.split()
-            if len(words) == 4:
+            if len(words) == 4 and int(words[0], 16) >= PAGE:  # below stand offsets of thread-local variables, and numbers
                 yield int(words[0], 16), int(words[1], 16), words[3], words[2] in "tTwW"
 
     def placed_variables(self):
@@ -142,6 +143,8 @@ class Program:
         return {address: self.place(address) for address in addresses}
 
     def place(self, address):
+        if address < PAGE:
+            return "the null page"
         found = self.symbol_at(address)
         if not found:
             return None

@@ -155,6 +155,5 @@ void __guest_stop(int status) {
     begin_frame();
     put_header("end", 0, (uint32_t)status, 0);
     put_text("\n");
-    runtime(CALL_EXIT, (uint32_t)status, 0, 0, 0);
-    __builtin_unreachable();
+    last_call(CALL_EXIT, (uint32_t)status);
 }

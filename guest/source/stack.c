@@ -42,8 +42,7 @@ void __guest_say_number(uint32_t number) {
 }
 
 void __guest_stop(int status) {
-    runtime(CALL_EXIT, (uint32_t)status, 0, 0, 0);
-    __builtin_unreachable();
+    last_call(CALL_EXIT, (uint32_t)status);
 }
 
 #endif

@@ -297,8 +297,7 @@ void *__guest_thread_leave(struct thread *thread) {
 }
 
 void pthread_exit(void *value) {
-    runtime(CALL_THREAD_EXIT, (uint32_t)value, 0, 0, 0);
-    __builtin_unreachable();
+    last_call(CALL_THREAD_EXIT, (uint32_t)value);
 }
 
 pthread_t pthread_self(void) { return runtime(CALL_SELF, 0, 0, 0, 0).result; }
