@@ -8,7 +8,8 @@
 - `reading`: reads disks by the format alone;
 - `comparing`: compares outputs and disks, and tells what differs;
 - `instructions`: words of instructions, and guests with labels;
-- `guests`: guests that several tests run, and what they put.
+- `guests`: guests that several tests run, and what they put;
+- `kit_checks`: the guest kit, apart from what its programs print.
 
-The comparing model (`tests/differential`) takes nothing of it: it has the rules, the layout and the instructions by itself.
+The comparing model (`tests/model`) takes nothing of it: it has the rules, the layout and the instructions by itself.
 """
