@@ -1,8 +1,7 @@
-#!/usr/bin/env -S python3 -B
 """Tells how many jumps that a processor may not keep decoded a guest step meets in the loop over decoded words.
 
-    bench/jumps             ckrt_bench_probe on bench/guests/sha256-big.bin, which takes some minutes
-    bench/jumps COMMAND..   another program that has the loop and tells its steps
+    bench/run jumps             ckrt_bench_probe on bench/guests/sha256-big.bin, which takes some minutes
+    bench/run jumps COMMAND..   another program that has the loop and tells its steps
 
 Processors from Skylake to Cascade Lake don't keep a line of 32 bytes among their decoded instructions where a jump in it
 crosses or ends at its boundary; a comparison that is fused with a jump counts with it. A program that meets one at each step
@@ -85,7 +84,3 @@ def main():
         print(f"{at:x}: {said.split('<')[0].strip():40} {counts[at] / steps:.3f} a step")
     print(f"the loop begins at {instructions[0][0] % LINE} behind a boundary of {LINE} bytes")
     print(f"jumps at a boundary that a step meets: {met / steps:.2f}")
-
-
-if __name__ == "__main__":
-    main()

@@ -83,7 +83,7 @@ def calls(machine):
     print(f"a plain instruction: {alone / steps * 1e9:.1f} ns")
     for name in ("locks-4", "locks-crowded"):
         cost = (seconds_of(machine, guest(name), steps) - alone) / CALLS
-        note("run", f"a call in {name}", "ns", cost * 1e9, alone / steps * 1e9)
+        note("machine", f"a call in {name}", "ns", cost * 1e9, alone / steps * 1e9)
         print(f"a call in {name}: {cost * 1e9:.0f} ns, {cost * steps / alone:.0f} plain instructions")
 
 
@@ -116,7 +116,7 @@ def same_programs(machine, names):
         print(f"{name:16} {steps / 1e6:8.0f} {shown(ours):>11} {shown(qemu):>9} {shown(host):>9} {times:>11}")
         for what, other in (("qemu-user", qemu), ("the host", host)):
             if other is not None:
-                note("run", f"{name} beside {what}", "s", ours, other, ("", ours / other, ""))
+                note("machine", f"{name} beside {what}", "s", ours, other, ("", ours / other, ""))
 
 
 def host_seconds(name):
@@ -135,7 +135,7 @@ def doubles(machine, name, objects):
     host = host_seconds(name)
     for what, other in (("qemu-user", qemu), ("Python", python), ("the host", host)):
         if other is not None:
-            note("run", f"{name} beside {what}", "s", ours, other, ("", ours / other, ""))
+            note("machine", f"{name} beside {what}", "s", ours, other, ("", ours / other, ""))
     times = "-" if host is None else f"{ours / host:.0f}"
     print(f"{name:16} {runs[0][1] / 1e6:8.0f} {shown(ours):>11} {shown(qemu):>9} {shown(python):>10} {shown(host):>9} {times:>11}")
     return host and ours / host
@@ -176,7 +176,7 @@ def main():
             numeric.append(ours / base)
         elif name not in STORING:
             ratios.append(ours / base)
-        note("run", name, "steps/s", ours, base, ("", ours / base, ""))
+        note("machine", name, "steps/s", ours, base, ("", ours / base, ""))
         print(f"{name:16} {base / 1e6:15.0f} {ours / 1e6:17.0f} {ours / base:6.2f}")
     mean("geometric mean of the ratios", ratios)
     mean("geometric mean of the ratios of guests that multiply and divide", numeric)
@@ -184,7 +184,3 @@ def main():
     all_doubles(machine, [name for name in names if name in DOUBLES])
     if not sys.argv[1:]:
         calls(machine)
-
-
-if __name__ == "__main__":
-    main()
