@@ -9,7 +9,7 @@ from model.machine import Machine
 from model.objects import Mutex, ReadWriteLock
 from model.recovery import tables_of
 from model.tables import decode_tables, encode_tables
-from model.threads import UNWIND, Handler, State, Status, Thread, Wait, WaitKind, new_thread
+from model.threads import UNWIND, Handler, State, Thread, Wait, WaitKind, new_thread
 
 HARTS = 2
 MUTEX, OTHER, CONDITION, BARRIER, LOCK, READ_LOCK = 0x2000, 0x2004, 0x3000, 0x4000, 0x5000, 0x5004
