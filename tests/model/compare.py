@@ -18,7 +18,7 @@ from cases.halts import HaltsCase, difference_of_halts
 from cases.histories import HistoriesCase, is_turned
 from cases.hunted import HuntsCase, difference_of_hunts
 from cases.inputs import InputsCase, difference_of_inputs
-from cases.kinds import KINDS, case_of
+from cases.kinds import KINDS, Case, case_of
 from cases.lived import LivedCase, difference_of_lived
 from cases.mixed import MixedCase, difference_of_mixed
 from cases.moved import MovedCase, difference_of_moved
@@ -243,56 +243,6 @@ def difference_of_words(ckrt, case, folder, tally):
     return None
 
 
-def first_difference(ckrt, case, folder, tally, count_life):
-    """Runs a case; None, or in a few words where the two differ."""
-    path = folder / "disk"
-    match case:
-        case FormatCase():
-            return difference_of_format(ckrt, case, folder, tally)
-        case MovedCase():
-            return difference_of_moved(ckrt, case, path, tally)
-        case SteppedCase():
-            return difference_of_stepped(ckrt, case, path, tally)
-        case LivedCase():
-            return difference_of_lived(ckrt, case, path, tally)
-        case DebuggedCase():
-            return difference_of_debugged(ckrt, case, path, tally)
-        case TimedCase():
-            return difference_of_timed(ckrt, case, folder, tally)
-        case RacedCase():
-            return difference_of_raced(ckrt, case, folder, tally)
-        case HuntsCase():
-            return difference_of_hunts(ckrt, case, folder, tally)
-        case WordsCase():
-            return difference_of_words(ckrt, case, folder, tally)
-        case HaltsCase():
-            return difference_of_halts(ckrt, case, folder, tally, count_life)
-        case InputsCase():
-            return difference_of_inputs(ckrt, case, folder, tally, count_life)
-        case MixedCase():
-            return difference_of_mixed(ckrt, case, folder, tally, count_life)
-        case DrivesCase():
-            return difference_of_drives(ckrt, case, folder, tally, count_life)
-        case ListingsCase():
-            return difference_of_listings(ckrt, case, path, tally)
-        case HistoriesCase():
-            return difference_of_histories(ckrt, case, path, tally)
-        case TimelinesCase():
-            return difference_of_timelines(ckrt, case, path, tally)
-        case ProfilesCase():
-            return difference_of_profiles(ckrt, case, path, tally)
-        case RacesCase():
-            return difference_of_races(ckrt, case, path, tally)
-        case LivesCase():
-            return difference_of_stops(ckrt, case, path, tally, count_life)
-        case CutCase():
-            difference = difference_of_cut(ckrt, case, path, tally)
-            return difference or difference_of_next_life(ckrt, path, bytearray(path.read_bytes()), LOOKING, tally)
-        case TracedCase():
-            return difference_of_fate(ckrt, case, path, tally, count_life)
-    return difference_of_lives(ckrt, case, folder, tally, count_life)
-
-
 def difference_of_lives(ckrt, case, folder, tally, count_life):
     disk, path = case.disk(), folder / "disk"
     if case.damaged is None and case.version is None:
@@ -345,6 +295,41 @@ def difference_of_fate(ckrt, case, path, tally, count_life):
     difference = difference_of_traced(ckrt, case, path, tally, count_life)
     data = joined(Random(0), case.lines_after)
     return difference or difference_of_next_life(ckrt, path, bytearray(path.read_bytes()), data, tally)
+
+
+def difference_behind_cut(ckrt, case, path, tally):
+    """That of a format that is stopped, or of a life on what it has left."""
+    difference = difference_of_cut(ckrt, case, path, tally)
+    return difference or difference_of_next_life(ckrt, path, bytearray(path.read_bytes()), LOOKING, tally)
+
+
+# What compares a case, by its type: it is given the path of the case's disk, or its folder, and in the last two what counts a life.
+OF_DISK = {
+    MovedCase: difference_of_moved, SteppedCase: difference_of_stepped, LivedCase: difference_of_lived, DebuggedCase: difference_of_debugged,
+    ListingsCase: difference_of_listings, HistoriesCase: difference_of_histories, TimelinesCase: difference_of_timelines,
+    ProfilesCase: difference_of_profiles, RacesCase: difference_of_races, CutCase: difference_behind_cut,
+}
+OF_FOLDER = {
+    FormatCase: difference_of_format, TimedCase: difference_of_timed, RacedCase: difference_of_raced, HuntsCase: difference_of_hunts,
+    WordsCase: difference_of_words,
+}
+OF_DISK_COUNTED = {LivesCase: difference_of_stops, TracedCase: difference_of_fate}
+OF_FOLDER_COUNTED = {
+    Case: difference_of_lives, HaltsCase: difference_of_halts, InputsCase: difference_of_inputs, MixedCase: difference_of_mixed,
+    DrivesCase: difference_of_drives,
+}
+
+
+def first_difference(ckrt, case, folder, tally, count_life):
+    """Runs a case; None, or in a few words where the two differ."""
+    kind, path = type(case), folder / "disk"
+    if kind in OF_DISK:
+        return OF_DISK[kind](ckrt, case, path, tally)
+    if kind in OF_FOLDER:
+        return OF_FOLDER[kind](ckrt, case, folder, tally)
+    if kind in OF_DISK_COUNTED:
+        return OF_DISK_COUNTED[kind](ckrt, case, path, tally, count_life)
+    return OF_FOLDER_COUNTED[kind](ckrt, case, folder, tally, count_life)
 
 
 def place_of_difference(expected, shown):

@@ -1,6 +1,6 @@
 """What the tests and the benches have in common.
 
-- `programs`: finds the program, and runs commands;
+- `programs`: finds the program, reads a test's words, and runs commands;
 - `crates`: what crates.txt says of crates and their groups;
 - `disks`: where things lie on a disk, and how one is made of an image;
 - `lives`: drives and services, and when they are killed;

@@ -1,4 +1,5 @@
-"""Finds the programs that tests and benches run, and runs commands."""
+"""Finds the programs that tests and benches run, reads their words, and runs commands."""
+import argparse
 import os
 import subprocess
 from pathlib import Path
@@ -20,6 +21,11 @@ def run(*words):
     """What a command prints, without the space around it. It raises CalledProcessError where the command's status isn't 0."""
     done = subprocess.run([str(word) for word in words], check=True, stdout=subprocess.PIPE, text=True)
     return done.stdout.strip()
+
+
+def parser_of(text):
+    """A parser of a test's words, whose help is what the test says of itself."""
+    return argparse.ArgumentParser(description=text, formatter_class=argparse.RawDescriptionHelpFormatter)
 
 
 def add_program(parser, name="ckrt"):
