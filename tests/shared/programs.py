@@ -46,6 +46,19 @@ def read_words(parser):
     return words
 
 
+def add_cuts(parser, what):
+    """Adds the words [CKRT] CUTS; `read_cuts` makes the path of ckrt and a number of them."""
+    parser.add_argument("given", nargs="+", metavar="[CKRT] CUTS", help=f"the program, and {what}")
+
+
+def read_cuts(parser):
+    """The words of the command line, with the number of cuts, and the path of ckrt where it wasn't given."""
+    words = parser.parse_args()
+    words.cuts = int(words.given.pop())
+    words.ckrt = absolute(words.given[0]) if words.given else found()
+    return words
+
+
 def absolute(path):
     """A path that holds in any folder."""
     return Path(path).resolve()
