@@ -2,7 +2,10 @@
 
 What they are is `saved` (a well-formed state and held output have just these bytes), `short` (they end too early, or a
 number has no meaning), `other` (their state has other bytes) or the first rule of `well_formed.py` that their state breaks.
-Words: how many of each at most (12), the longest in bytes (1500), the first seed (1), the version (1).
+
+    python3 -B -m cases.table_vectors [MOST [LONGEST [SEED [VERSION]]]]
+
+MOST of each at most (12), none above LONGEST bytes (1500), from SEED on (1), in VERSION (1).
 """
 import struct
 import sys

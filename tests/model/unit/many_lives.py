@@ -1,6 +1,8 @@
 """Random lists of lives through the model: its reports against those foreseen by counting calls, and against each promise.
 
-Words: how many lists (1,000), the first seed (1).
+    python3 -B -m unit.many_lives [LISTS [SEED]]
+
+There are 1,000 lists, from seed 1 on, where no other numbers are given.
 """
 import sys
 from collections import Counter

@@ -506,7 +506,3 @@ class WhatIsDrawn(WithKeys):
         before = bytes(disk)
         refuse_event(Random(1), disk)
         self.assertEqual(bytes(disk), before)
-
-
-if __name__ == "__main__":
-    unittest.main()

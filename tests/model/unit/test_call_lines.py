@@ -420,7 +420,3 @@ class Answers(WithKeys):
         self.assertEqual({call: len(form) + form.count("m") for call, form in FORMS.items()},
                          {Call(number): row.arguments for number, row in CALLS.items()})
         self.assertTrue(set(KEY_CALLS) <= set(FORMS) and set(SECOND_ANSWERS) <= set(FORMS))
-
-
-if __name__ == "__main__":
-    unittest.main()

@@ -253,7 +253,3 @@ class Instructions(unittest.TestCase):
         """A byte that is stored changes that byte alone, and is loaded with and without its sign."""
         registers, _, _ = self.after("000022b7 fff00313 0062a023 f8000393 007280a3 0002a503 00128583 0012c603 00229683", 9)
         self.assertEqual(registers[10:14], [0xFFFF80FF, 0xFFFFFF80, 0x80, ALL_ONES])
-
-
-if __name__ == "__main__":
-    unittest.main()

@@ -107,7 +107,3 @@ class Pictures(unittest.TestCase):
         self.assertIsNone(difference_of_columns(ElementTree.fromstring(SHAPE.format(2, self.legend, ROW.format(1600, self.columns()))), [
             ElementTree.fromstring(ROW.replace("<svg ", '<svg xmlns="http://www.w3.org/2000/svg" ').format(1600, self.columns()))],
             self.timeline))
-
-
-if __name__ == "__main__":
-    unittest.main()

@@ -98,7 +98,3 @@ class Driver(unittest.TestCase):
         for which, kind in FOUND_BY:
             with self.subTest(which=which, kind=kind):
                 self.assertTrue(any(self.difference(which, kind, seed) for seed in range(1, 33)))
-
-
-if __name__ == "__main__":
-    unittest.main()

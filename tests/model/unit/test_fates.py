@@ -139,7 +139,3 @@ class Fates(unittest.TestCase):
                     replies, left = self.failed(contents, data, call, chance.choice([0, 2]))
                     self.assertEqual(replies, transcript(contents, data, fate))
                     self.require_prefix(case, data, left, replies)
-
-
-if __name__ == "__main__":
-    unittest.main()

@@ -319,7 +319,3 @@ class Feeding(unittest.TestCase):
                 if not device.has_stopped:
                     break
             self.assertGreater(call, 30)
-
-
-if __name__ == "__main__":
-    unittest.main()

@@ -139,7 +139,3 @@ class Tables(unittest.TestCase):
     def test_kept(self):
         self.assertEqual(line_of_kept(3, "seed-3.disk", 17, 19), "kept: the run of seed 3 on seed-3.disk, switches: 17, drawn with 19")
         self.assertEqual(line_of_kept(3, "bugs/outcome-1.disk", 0, None), "kept: the run of seed 3 on bugs/outcome-1.disk, switches: 0, as it was drawn")
-
-
-if __name__ == "__main__":
-    unittest.main()

@@ -400,7 +400,3 @@ class RandomCases(WithKeys):
         with switched(keys=False):
             self.assertIsNone(case_of("threads", 1).version)
             self.assertFalse(SWITCHES.keys)
-
-
-if __name__ == "__main__":
-    unittest.main()

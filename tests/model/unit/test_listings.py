@@ -101,7 +101,3 @@ class Code(unittest.TestCase):
                            (0xFFFFFFFC, ""), (0x0FF8, "00001000 00001004"), (0, "")):
             machine.threads[1].pc = pc
             self.assertEqual([line.split()[0] for line in lines_of_code(machine, 1)], places.split())
-
-
-if __name__ == "__main__":
-    unittest.main()

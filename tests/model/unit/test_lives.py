@@ -101,7 +101,3 @@ class RandomLists(unittest.TestCase):
                 reports = lives(case.image, case.geometry, listed)
                 self.assertTrue(reports == foreseen(case.image, case.geometry, listed))
                 require_promises(case.image, case.geometry, listed, reports)
-
-
-if __name__ == "__main__":
-    unittest.main()

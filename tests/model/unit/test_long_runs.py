@@ -157,7 +157,3 @@ class RandomCases(WithLongRuns):
         self.assertGreater(lines, 100)
         self.assertGreater(tally["refusal", "NeedsCheckpoint"], 0)
         self.assertGreater(tally[Call.PUTC.name.lower(), "0"], 0)
-
-
-if __name__ == "__main__":
-    unittest.main()

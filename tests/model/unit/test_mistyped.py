@@ -217,7 +217,3 @@ class Sessions(WithKeys):
         self.assertEqual(tally, Counter({("mistyped", BEHIND): 1}))
         for place, wrong in [(1, (BEHIND + "\n", "OK")), (1, (COMMAND + "\n" + LISTED, "OK")), (1, (LISTED, "OK")), (2, ("", "OK")), (2, (LISTED + "x\n", "OK"))]:
             self.assertIsNotNone(difference_of_answers(case, [*right[:place], wrong, *right[place + 1:]], Counter()), wrong)
-
-
-if __name__ == "__main__":
-    unittest.main()

@@ -509,7 +509,3 @@ class Ways(TwoThreads):
             self.assertEqual((packet, why), ("?", answer))
             self.assertEqual(place, (self.way.place_text() + "\n", "OK"))
             self.assertEqual(self.way.named, thread_of_stop(answer[1]))
-
-
-if __name__ == "__main__":
-    unittest.main()

@@ -193,7 +193,3 @@ class Owners(WithKeys):
                 machine.block(1, WaitKind.SLEEP, deadline=count + 1)
         self.assertEqual([event.thread for event in events if isinstance(event, Place)], [1, 2, 3, 1])
         self.assertEqual(events[1::3] + events[2::3], [Run(0, 5)] * 4 + [Tick(1)] * 4)
-
-
-if __name__ == "__main__":
-    unittest.main()

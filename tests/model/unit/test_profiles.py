@@ -308,7 +308,3 @@ class Tables(WithKeys):
         self.assertIsNone(difference_of_costs(entries, list(entries)))
         for wrong in [entries[:2], [*entries[2:], *entries[:2]], [("1", 5), *entries[1:]], [*entries[:3], ("thread 2", "2", 2, 0)], None]:
             self.assertIsNotNone(difference_of_costs(entries, wrong), wrong)
-
-
-if __name__ == "__main__":
-    unittest.main()

@@ -233,7 +233,3 @@ class Comparison(unittest.TestCase):
             self.assertIsNotNone(self.differs_by_time(wrong()), wrong)
         self.assertIsNone(self.differs_by_time(KeepsShorter(), False))
         self.assertIsNotNone(self.differs_by_time(Unasked(), False, "kept"))
-
-
-if __name__ == "__main__":
-    unittest.main()

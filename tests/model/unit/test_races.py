@@ -388,7 +388,3 @@ class ClocksAndChains(unittest.TestCase):
                 for first, epoch, doing in doings[-6:]:
                     for number in set(range(1, 6)) - {first}:
                         self.assertEqual(ways[0].has_seen(number, first, epoch), ways[1].leads_to(doing, number), seed)
-
-
-if __name__ == "__main__":
-    unittest.main()

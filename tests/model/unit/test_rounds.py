@@ -143,7 +143,3 @@ class Rounds(unittest.TestCase):
                 return
             machine.step(event)
             self.assertEqual(watch.note(event), [], f"guest {seed} behind {count} events")
-
-
-if __name__ == "__main__":
-    unittest.main()

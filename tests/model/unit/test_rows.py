@@ -449,7 +449,3 @@ class Listings(unittest.TestCase):
             "wait 7 read 00005000", "wait 8 write 00005000", "wait 9 input", "wait 10 sleep until 6",
             "mutex 00002000 recursive 1 2", "mutex 00002004 errorcheck 0 0", "barrier 00004000 3", "rwlock 00005000 writer 1",
             "rwlock 00005004 readers 2:1 12:3"])
-
-
-if __name__ == "__main__":
-    unittest.main()

@@ -78,7 +78,3 @@ class Stops(unittest.TestCase):
                 for _ in range(3):
                     contents, taken = self.life(case, chance, contents, lines, taken, chance.choice([30, 300]))
                     lines = lines[min(len(lines), 4):]
-
-
-if __name__ == "__main__":
-    unittest.main()

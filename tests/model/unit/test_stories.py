@@ -394,7 +394,3 @@ class Scripts(WithKeys):
                              (3, ("", "01")), (0, ("", "E01")), (4, ("", "E01")), (4, ("", "OK")), (5, ("", "E01"))]:
             self.assertIsNotNone(difference_of_answers(case, [*right[:place], wrong, *right[place + 1:]], Counter()), place)
         self.assertIsNotNone(difference_of_answers(case, right[:-1], Counter()))
-
-
-if __name__ == "__main__":
-    unittest.main()

@@ -154,7 +154,3 @@ class Sessions(WithKeys):
         self.assertIsNone(unlike(["goto"], [told], [told]))
         for wrong in ([told] * 2, [(NOWHERE, "OK")], [("event 7, from 0 to 9\n", "OK")], []):
             self.assertIsNotNone(unlike(["goto"], [told], wrong))
-
-
-if __name__ == "__main__":
-    unittest.main()

@@ -361,7 +361,3 @@ class Resumed(unittest.TestCase):
         machine.resume(state)
         self.assertEqual(encode_tables(machine, held), encode_tables(crowd(), b""))
         self.assertEqual(machine.tick(4), 2)
-
-
-if __name__ == "__main__":
-    unittest.main()

@@ -48,7 +48,3 @@ class Texts(unittest.TestCase):
                 self.assertLessEqual(len(text), 24)
         self.assertEqual(names, set(FORMS))
         self.assertEqual(len(names), 38)
-
-
-if __name__ == "__main__":
-    unittest.main()

@@ -65,7 +65,3 @@ class Words(unittest.TestCase):
             self.assertEqual(fault_of_options(*words), fault, words)
         self.assertEqual({fault_of_options(*words) for words in REFUSED}, {"Range"})
         self.assertEqual(LONGEST, 365 * 24 * 60 * 60)
-
-
-if __name__ == "__main__":
-    unittest.main()

@@ -181,7 +181,3 @@ class Pictures(unittest.TestCase):
 
     def test_width(self):
         self.assertTrue(difference_of_picture('<svg xmlns="http://www.w3.org/2000/svg" width="499"/>', 500, self.timeline))
-
-
-if __name__ == "__main__":
-    unittest.main()

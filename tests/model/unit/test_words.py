@@ -38,7 +38,3 @@ class Chosen(unittest.TestCase):
                 texts = [word.partition("=")[2] or case.words[place + 1] for place, word in enumerate(case.words)
                          if name != "code" and str(word).partition("=")[0] == f"--{name}"]
                 self.assertIn([int(text) for text in texts], [[value], []])
-
-
-if __name__ == "__main__":
-    unittest.main()

@@ -15,7 +15,3 @@ class Texts(unittest.TestCase):
 
     def test_each_changes_something(self):
         self.assertEqual([(name, text) for name, text, changed in wrong_models() if text == changed], [])
-
-
-if __name__ == "__main__":
-    unittest.main()
