@@ -23,6 +23,12 @@ def run(*words):
     return done.stdout.strip()
 
 
+def say(*words, folder=None):
+    """Runs a command, in a folder if one is named: its status, what it prints, and the last line that it reports."""
+    done = subprocess.run([str(word) for word in words], cwd=folder, capture_output=True, text=True, check=False)
+    return done.returncode, done.stdout, (done.stderr.splitlines() or [""])[-1]
+
+
 def parser_of(text):
     """A parser of a test's words, whose help is what the test says of itself."""
     return argparse.ArgumentParser(description=text, formatter_class=argparse.RawDescriptionHelpFormatter)
