@@ -218,7 +218,3 @@ def main():
     bench = Bench(*sys.argv[1:2] or ".")
     for job in sys.argv[2:] or JOBS:
         JOBS[job](bench)
-
-
-if __name__ == "__main__":
-    main()

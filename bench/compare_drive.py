@@ -198,7 +198,3 @@ def main():
             JOBS[job](bench)
     finally:
         bench.remove()
-
-
-if __name__ == "__main__":
-    main()

@@ -72,7 +72,3 @@ def main():
     print(f"proved: read_chain {events / reading * 1e3:.0f}, decode_events and its iterator {events / rest * 1e3:.0f}, both {events / (reading + rest) * 1e3:.0f}")
     note("journal", "reading and decoding an event", "ns", (reading + rest) / events, base / events)
     print(f"both beside the plain loop: {(reading + rest) / base:.2f} times its time")
-
-
-if __name__ == "__main__":
-    main()

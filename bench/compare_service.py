@@ -196,7 +196,3 @@ def main():
     note("service", "resident, process alone", "KiB", alone)
     note("service", "resident, with program and C library", "KiB", mapped)
     print(f"resident with 1,024 pages: {alone} KiB, with program and C library {mapped} KiB")
-
-
-if __name__ == "__main__":
-    main()

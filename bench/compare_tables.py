@@ -47,7 +47,3 @@ def main():
     make_tables.make(folder)
     for state in STATES:
         compare(programs, folder, state)
-
-
-if __name__ == "__main__":
-    main()

@@ -8,7 +8,7 @@
 # - scratch registers are 0 at its end.
 #
 # Zeros, subnormals, infinities and NaNs branch to what stands behind that `ret`, and so does an overflow or an underflow.
-# The runtime knows the common cases by their words: words.txt lists them, and tests/arithmetic compares.
+# The runtime knows the common cases by their words: words.txt lists them, and tests/guests/arithmetic compares.
 #include "routine.h"
 
 # The mantissa of hi:lo, shifted left by 10, so that its hidden bit is bit 62; one is 1 << 30.

@@ -1,6 +1,6 @@
 """What the tests and the benches have in common.
 
-- `programs`: finds the program, and runs commands;
+- `programs`: finds the program, reads a test's words, and runs commands;
 - `crates`: what crates.txt says of crates and their groups;
 - `disks`: where things lie on a disk, and how one is made of an image;
 - `lives`: drives and services, and when they are killed;
@@ -8,7 +8,8 @@
 - `reading`: reads disks by the format alone;
 - `comparing`: compares outputs and disks, and tells what differs;
 - `instructions`: words of instructions, and guests with labels;
-- `guests`: guests that several tests run, and what they put.
+- `guests`: guests that several tests run, and what they put;
+- `kit_checks`: the guest kit, apart from what its programs print.
 
-The comparing model (`tests/differential`) takes nothing of it: it has the rules, the layout and the instructions by itself.
+The comparing model (`tests/model`) takes nothing of it: it has the rules, the layout and the instructions by itself.
 """

@@ -1,6 +1,8 @@
 """Compares outputs and disks, and tells what differs."""
 import contextlib
 import sys
+import tempfile
+from pathlib import Path
 
 SHOWN, ENDS = 300, 140  # characters of a value that are shown, and of each of its ends where it is longer
 
@@ -19,6 +21,33 @@ def telling(test, *also):
         yield
     except (Failure, *also) as failure:
         sys.exit(f"{test}: {failure}")
+
+
+class Faults:
+    """What comparisons find wrong, which is told together at the end."""
+
+    def __init__(self, test):
+        self.test, self.found = test, []
+
+    def expect(self, what, got, want):
+        """Two values have to be the same."""
+        if got != want:
+            self.add(f"{what}: wanted {want!r}, and found {got!r}")
+
+    def add(self, text):
+        self.found.append(f"{self.test}: {text}")
+
+    def tell(self, well):
+        """Prints them, or what is told where nothing is wrong. Returns the status."""
+        print("\n".join(self.found) or well)
+        return 1 if self.found else 0
+
+
+def run_checks(checks, ckrt, prefix):
+    """Calls each with the program and an empty folder of its own."""
+    for check in checks:
+        with tempfile.TemporaryDirectory(prefix=prefix) as folder:
+            check(ckrt, Path(folder))
 
 
 def expect(what, got, want):

@@ -118,3 +118,17 @@ def putting_memory(pages):
     program.label("end")
     program.jump("end")
     return program.image()
+
+
+def echoing():
+    """Puts each byte of its input, and ends by `exit 0` at the input's end."""
+    program = Program()
+    program.addi(6, 0, -1)
+    program.label("byte")
+    program.call(GETC)
+    program.beq(10, 6, "end")
+    program.call(PUTC)
+    program.jump("byte")
+    program.label("end")
+    program.exit()
+    return program.image()

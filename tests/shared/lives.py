@@ -1,5 +1,6 @@
 """Lives of the program: drives and services, from their start to their end or their kill. All times are seconds."""
 import itertools
+import re
 import subprocess
 import time
 from typing import NamedTuple
@@ -68,9 +69,15 @@ def replies(ckrt, disk, lines):
     return subprocess.run([ckrt, "run", disk], input=text, capture_output=True, text=True, check=True).stdout.splitlines()
 
 
-def listing(ckrt, disk):
+def listing(ckrt, disk, *words):
     """What `ckrt inspect` shows of a disk. It raises CalledProcessError where that is none, or is locked."""
-    return subprocess.run([ckrt, "inspect", disk], check=True, stdout=subprocess.PIPE, text=True).stdout
+    return subprocess.run([ckrt, "inspect", disk, *map(str, words)], check=True, stdout=subprocess.PIPE, text=True).stdout
+
+
+def pcs_listed(ckrt, disk, *words):
+    """The pcs of the threads of a listing, by their ids."""
+    found = re.findall(r"^thread (\d+) \w+ (?:ready|blocked) pc (\w+)", listing(ckrt, disk, *words), re.MULTILINE)
+    return {int(thread): int(pc, 16) for thread, pc in found}
 
 
 def events_of(ckrt, disk):

@@ -1,4 +1,5 @@
-"""Finds the programs that tests and benches run, and runs commands."""
+"""Finds the programs that tests and benches run, reads their words, and runs commands."""
+import argparse
 import os
 import subprocess
 from pathlib import Path
@@ -22,6 +23,17 @@ def run(*words):
     return done.stdout.strip()
 
 
+def say(*words, folder=None):
+    """Runs a command, in a folder if one is named: its status, what it prints, and the last line that it reports."""
+    done = subprocess.run([str(word) for word in words], cwd=folder, capture_output=True, text=True, check=False)
+    return done.returncode, done.stdout, (done.stderr.splitlines() or [""])[-1]
+
+
+def parser_of(text):
+    """A parser of a test's words, whose help is what the test says of itself."""
+    return argparse.ArgumentParser(description=text, formatter_class=argparse.RawDescriptionHelpFormatter)
+
+
 def add_program(parser, name="ckrt"):
     """Adds the option that names a program, as --ckrt FILE; `read_words` fills it in where it isn't given."""
     option = f"--{name.rpartition('_')[2]}"
@@ -37,6 +49,19 @@ def read_words(parser):
     """The words of the command line, with the path of ckrt where --ckrt wasn't given."""
     words = parser.parse_args()
     words.ckrt = words.ckrt or found()
+    return words
+
+
+def add_cuts(parser, what):
+    """Adds the words [CKRT] CUTS; `read_cuts` makes the path of ckrt and a number of them."""
+    parser.add_argument("given", nargs="+", metavar="[CKRT] CUTS", help=f"the program, and {what}")
+
+
+def read_cuts(parser):
+    """The words of the command line, with the number of cuts, and the path of ckrt where it wasn't given."""
+    words = parser.parse_args()
+    words.cuts = int(words.given.pop())
+    words.ckrt = absolute(words.given[0]) if words.given else found()
     return words
 
 

@@ -1,0 +1,145 @@
+"""Cases of `ckrt races` and `ckrt timeline`: disks with recorded events, and stretches of these; what both sides make of them."""
+import json
+import re
+import subprocess
+from dataclasses import dataclass
+
+from cases.histories import disk_with_stretches, is_turned
+from model.columns import is_dense
+from model.listing import OutOfRange
+from model.pictures import difference_of_picture
+from model.races import Readings
+from model.recovery import Unrecovered
+from model.stretches import Recording
+from model.timelines import Timeline, trace_events
+
+TIME_LIMIT = 60
+WIDTH, WIDTHS = 1200, range(400, 4001)
+
+
+@dataclass
+class RacesCase:
+    """A disk, and stretches of its events: from and to, None where nothing is said."""
+    contents: bytes
+    stretches: list
+
+    def disk(self):
+        return bytearray(self.contents)
+
+
+@dataclass
+class TimelinesCase(RacesCase):
+    """With the width of its pictures, None where nothing is said."""
+    width: int | None
+
+
+def races_case(chance, case):
+    return RacesCase(*disk_with_stretches(chance, case))
+
+
+def timelines_case(chance, case):
+    width = chance.choice([None, None, 400, 4000, chance.choice(WIDTHS), 399, 4001, 0])
+    return TimelinesCase(*disk_with_stretches(chance, case), width)
+
+
+@dataclass(frozen=True)
+class Glance:
+    """What a job shows: its status, its text, and the fault's line."""
+    status: int
+    text: str
+    fault: str = ""
+
+
+def glance_of_program(ckrt, command, path, stretch, *options):
+    ends = [(name, str(end)) for name, end in zip(("--from", "--to"), stretch) if end is not None]
+    words = [ckrt, command, path, *[word for pair in ends for word in pair], *options]
+    done = subprocess.run(words, capture_output=True, timeout=TIME_LIMIT)
+    return Glance(done.returncode, done.stdout.decode(), "".join(done.stderr.decode().splitlines()[-1:]))
+
+
+def recording_of(contents):
+    """None and the fault of a disk that doesn't recover."""
+    try:
+        return Recording(bytearray(contents)), None
+    except Unrecovered as fault:
+        return None, Glance(1, "", f"ckrt: {fault}")
+
+
+def shown(recording, fault, stretch, looker):
+    """What the looker has seen of the stretch, or the fault."""
+    if is_turned(*stretch):
+        return None, Glance(1, "", "ckrt: Range")
+    if fault:
+        return None, fault
+    try:
+        return recording.show(looker, *stretch), None
+    except OutOfRange as outside:
+        return None, Glance(1, "", f"ckrt: {outside}")
+
+
+def difference_of_races(ckrt, case, path, tally):
+    """None, or where the two differ on a stretch; what the page leaves open isn't compared. The disk's file keeps its bytes."""
+    path.write_bytes(case.disk())
+    recording, unrecovered = recording_of(case.contents)
+    for stretch in case.stretches:
+        readings, fault = shown(recording, unrecovered, stretch, Readings())
+        lines = readings.lines() if readings else []
+        tally["races", "left open" if lines is None else fault.fault[6:] if fault else "shown"] += 1
+        if lines is None:
+            continue
+        tally.update(("line of races", kind_of_race(line)) for line in lines)
+        expected = fault or Glance(0, "".join(line + "\n" for line in lines))
+        got = glance_of_program(ckrt, "races", path, stretch)
+        if got != expected:
+            return f"races (from, to {stretch}): {place_of_difference(expected, got)}"
+    return None if path.read_bytes() == case.contents else "races changed the disk's bytes"
+
+
+def kind_of_race(line):
+    """Who stores and who loads, or the first word of another line."""
+    kinds = re.findall(r"(?:stores|loads)(?: atomically)?", line)
+    return ", ".join(kinds) or line.split()[0]
+
+
+def place_of_difference(expected, got):
+    if expected.text == got.text:
+        return f"model {expected}, program {got}"
+    wanted, there = expected.text.splitlines(), got.text.splitlines()
+    for number, pair in enumerate(zip(wanted, there), 1):
+        if pair[0] != pair[1]:
+            return f"line {number}: model {pair[0]!r}, program {pair[1]!r}"
+    return f"{len(wanted)} lines of the model, {len(there)} of the program, {got.fault}"
+
+
+def difference_of_timelines(ckrt, case, path, tally):
+    """None, or where the two differ: in the trace events, or in a picture's width, ticks, rows and pieces."""
+    path.write_bytes(case.disk())
+    recording, unrecovered = recording_of(case.contents)
+    for stretch in case.stretches:
+        timeline, fault = shown(recording, unrecovered, stretch, Timeline())
+        tally["timeline", fault.fault[6:] if fault else "shown by columns" if is_dense(timeline) else "shown"] += 1
+        tally.update(("piece of a timeline", piece.activity.category) for pieces in (timeline.pieces.values() if timeline else ())
+                     for piece in pieces)
+        for compare in (difference_of_events, difference_of_chart):
+            difference = compare(ckrt, path, stretch, case.width, timeline, fault)
+            if difference:
+                return f"timeline (from, to {stretch}): {difference}"
+    return None if path.read_bytes() == case.contents else "timeline changed the disk's bytes"
+
+
+def difference_of_events(ckrt, path, stretch, width, timeline, fault):
+    got = glance_of_program(ckrt, "timeline", path, stretch, "--json")
+    if fault or got.status:
+        return None if got == fault else f"json: model {fault}, program {got}"
+    wanted, there = trace_events(timeline), json.loads(got.text)["traceEvents"]
+    unlike = next((pair for pair in zip(wanted, there) if pair[0] != pair[1]), (len(wanted), len(there)))
+    return None if wanted == there else "trace events: model {}, program {}".format(*unlike)
+
+
+def difference_of_chart(ckrt, path, stretch, width, timeline, fault):
+    """A width out of its range is told before the disk is opened."""
+    got = glance_of_program(ckrt, "timeline", path, stretch, *([] if width is None else ["--width", str(width)]))
+    fault = Glance(1, "", "ckrt: Range") if width is not None and width not in WIDTHS else fault
+    if fault or got.status:
+        return None if got == fault else f"picture: model {fault}, program {got}"
+    return difference_of_picture(got.text, WIDTH if width is None else width, timeline)

@@ -1,0 +1,152 @@
+"""Cases of `ckrt hunt --races`: each seed's run is kept as it was drawn, and its disk has the races that are told; then the tables of all
+seeds, with races and without, and a disk for each outcome."""
+from dataclasses import dataclass, replace
+
+from cases.glances import Glance, glance_of_program, kind_of_race
+from cases.hunted import HuntsCase, hunt, hunts_case, kept_run
+from model.abi import Call
+from model.assembler import Label, Program, call_words, image_of, immediate_form, load_number, store_form
+from model.hunts import line_of_kept, lines_of_table, status_of
+from model.race_rows import lines_of_races
+from model.races import Readings
+
+WORDS, MUTEX = 0x2800, 0x2000
+ROWS = "race ", "other races", "no races"
+SHORTEST_PIECE, LONGEST_PIECE = 5, 40  # in words, without a lock between
+
+
+class Crossing:
+    """Threads that go over many words, each in an order and by instructions of its own: two words that two of them access make a pair of
+    places, unless a lock that lies between orders them. So there are more pairs than have lines, and others by other schedules."""
+
+    def __init__(self, chance):
+        self.chance, self.program = chance, Program()
+        self.words = chance.choice([20, 70, 80, 100])
+        self.store_share = chance.choice([0.5, 0.9, 1])
+        names = [f"thread {number}" for number in range(chance.choice([2, 2, 3]))]
+        for name in names:
+            self.program.add(call_words(Call.CREATE, Label(name), 0, 0, 0))
+        self.program.add(chance.choice([call_words(Call.THREAD_EXIT, 0), call_words(Call.JOIN, 2) + call_words(Call.EXIT, 0)]))
+        for name in names:
+            self.program.label(name)
+            self.program.add(load_number(3, WORDS))
+            self.cross()
+        self.image = image_of(self.program.words())
+
+    def cross(self):
+        words = self.chance.sample(range(self.words), self.words)
+        while words:
+            length = self.chance.randint(SHORTEST_PIECE, LONGEST_PIECE)
+            piece, words = words[:length], words[length:]
+            self.program.add([self.access(4 * word) for word in piece])
+            self.program.add(call_words(Call.MUTEX_LOCK, MUTEX) + call_words(Call.MUTEX_UNLOCK, MUTEX))
+        self.program.add(call_words(Call.THREAD_EXIT, 0))
+
+    def access(self, offset):
+        is_store = self.chance.random() < self.store_share
+        return store_form(2, 4, offset, 3) if is_store else immediate_form(0x03, 2, 4, 3, offset)
+
+
+@dataclass
+class RacedCase(HuntsCase):
+    """The options ask for races."""
+
+
+def raced_case(chance, seed):
+    case = hunts_case(chance, seed)
+    image = Crossing(chance).image if chance.random() < 0.4 else case.image
+    return RacedCase(image, case.seeds, replace(case.options, is_raced=True), case.input)
+
+
+@dataclass
+class Run:
+    """A seed's run as it was drawn: what it comes to, its switches, its races by each reading, and the bytes of its disk."""
+    outcome: str
+    switches: int
+    readings: Readings
+    disk: bytes
+
+
+def tables_of(runs, options):
+    """The status and the lines that a hunt of these runs tells, by each reading of their races."""
+    outcomes = {seed: run.outcome for seed, run in runs.items()}
+    told = []
+    for races in ({seed: run.readings.narrow for seed, run in runs.items()}, {seed: run.readings.wide for seed, run in runs.items()}):
+        lines = [*lines_of_table("image", outcomes, options), *lines_of_races("image", races, options)]
+        told.append((status_of(outcomes.values(), races.values()), lines))
+    return told
+
+
+def difference_of_told(shown, runs, options, kept=()):
+    """None, or where the two differ; of races that the page leaves open the lines of outcomes alone are compared."""
+    narrow, wide = tables_of(runs, options)
+    status, lines = shown
+    if narrow != wide:
+        wanted = lines_of_table("image", {seed: run.outcome for seed, run in runs.items()}, options)
+        return None if lines[:len(wanted)] == wanted else f"model {wanted}, program {lines}"
+    wanted = [*narrow[1], *kept]
+    if (status, lines) == (narrow[0], wanted):
+        return None
+    unlike = next((pair for pair in zip(wanted, lines) if pair[0] != pair[1]), (f"{len(wanted)} lines", f"{len(lines)} lines"))
+    return f"model {narrow[0]} {unlike[0]!r}, program {status} {unlike[1]!r}"
+
+
+def difference_of_glance(ckrt, disk, readings):
+    """The disk has the very races that are told of its seed."""
+    lines = readings.lines()
+    got = glance_of_program(ckrt, "races", disk, (None, None))
+    is_so = lines is None or got == Glance(0, "".join(line + "\n" for line in lines))
+    return None if is_so else f"races of its disk: model {lines}, program {got}"
+
+
+def difference_of_drawn(ckrt, case, folder, seed):
+    """The run of a seed by the disk that is kept, and None or where that and what is told differ."""
+    kept, difference = kept_run(ckrt, case, folder, seed)
+    if difference:
+        return None, difference
+    disk = folder / "kept"
+    run = Run(kept.outcome, kept.folded.switches, kept.recording.show(Readings()), disk.read_bytes())
+    told = [line_of_kept(seed, "kept", run.switches, None)]
+    return run, difference_of_told((kept.status, kept.lines), {seed: run}, case.options, told) or difference_of_glance(ckrt, disk, run.readings)
+
+
+def difference_of_folder(ckrt, case, folder, runs):
+    """Each outcome gets a disk, with the drawn run of the first seed that came to it. The folder is taken away."""
+    first = {run.outcome: seed for seed, run in reversed(runs.items())}
+    wanted = {f"folder/outcome-{number}.disk": seed for number, seed in enumerate(sorted(first.values(), key=list(runs).index), 1)}
+    (folder / "folder").mkdir()
+    told = [line_of_kept(seed, path, runs[seed].switches, None) for path, seed in wanted.items()]
+    difference = difference_of_told(hunt(ckrt, folder, case.seeds, case.options, "--keep", "folder/"), runs, case.options, told)
+    there = {f"folder/{file.name}": file.read_bytes() for file in (folder / "folder").iterdir()}
+    for file in (folder / "folder").iterdir():
+        file.unlink()
+    (folder / "folder").rmdir()
+    is_right = there == {path: runs[seed].disk for path, seed in wanted.items()}
+    return difference or (None if is_right else f"disks of outcomes: {sorted(there)}")
+
+
+def difference_of_raced(ckrt, case, folder, tally):
+    """None, or where they differ: by each kept disk, in the tables of all seeds, or in the disks of outcomes."""
+    (folder / "image").write_bytes(case.image)
+    if case.input is not None:
+        (folder / "input").write_bytes(case.input)
+    runs = {}
+    for seed in case.seeds:
+        runs[seed], difference = difference_of_drawn(ckrt, case, folder, seed)
+        if difference:
+            return f"seed {seed}: {difference}"
+    narrow, wide = tables_of(runs, case.options)
+    tally["hunt for races", "shown" if narrow == wide else "left open"] += 1
+    tally.update(("race of a hunt", kind_of_race(line)) for line in narrow[1] if line.startswith(ROWS))
+    difference = difference_of_told(hunt(ckrt, folder, case.seeds, case.options), runs, case.options) or difference_of_folder(ckrt, case, folder, runs)
+    if difference:
+        return f"table: {difference}"
+    return difference_of_plain(ckrt, case, folder, {seed: run.outcome for seed, run in runs.items()})
+
+
+def difference_of_plain(ckrt, case, folder, outcomes):
+    """Who doesn't ask for races gets the same outcomes."""
+    options = replace(case.options, is_raced=False)
+    expected = status_of(outcomes.values()), lines_of_table("image", outcomes, options)
+    shown = hunt(ckrt, folder, case.seeds, options)
+    return None if shown == expected else f"without races: model {expected}, program {shown}"

@@ -1,0 +1,175 @@
+"""Cases of hunts by time: the table is that of the seeds that were run, lines of progress fit it, and what is kept comes to its outcomes, and
+has its races."""
+import re
+import subprocess
+import time
+from dataclasses import dataclass, replace
+
+from cases.hunted import TIME_LIMIT, Hunted
+from model.hunts import MOST_OUTCOMES, SEVERAL, Options, command_of, fold, line_of_kept, text_of_outcome
+from model.race_rows import difference_of_rows, rows_of_races, split_table
+from model.races import Readings
+from model.stretches import Recording
+
+SECONDS = 1
+LONGEST = 31_536_000
+REFUSED = [("1-2", 1, None), (None, 0, None), (None, LONGEST + 1, None), (None, None, 0), (None, 1, 0), ("3-2", None, None), ("3-2", None, 1)]
+OUTCOME = re.compile(r"outcome (\d+): (\d+) of (\d+) runs, first by seed (\d+): (.+)")
+OTHERS = re.compile(r"other outcomes: (\d+) of (\d+) runs")
+PROGRESS = re.compile(r"progress: (\d+) runs, seed (\d+), (\d+) runs a second, outcomes: (\d+)")
+
+
+@dataclass
+class TimedCase:
+    """`keep` is where runs are kept, or none; the shift is how far behind seed 1 a hunt of as many seeds begins."""
+    image: bytes
+    options: Options
+    keep: str | None
+    shift: int
+    refused: tuple  # seeds, seconds and progress, of which some aren't in range
+
+    def disk(self):
+        """None is given."""
+        return b""
+
+
+@dataclass(frozen=True)
+class Outcome:
+    count: int
+    first: int
+    text: str
+
+
+def timed_case(chance, seed):
+    options = Options(chance.choice([16, 17]), chance.choice([1, 2]), chance.choice([500, 3000]))
+    case = TimedCase(Hunted(chance, False).image, options, chance.choice([None, "kept", "folder/", "folder/"]), chance.choice([0, 0, 500]), chance.choice(REFUSED))
+    case.options = replace(options, is_raced=chance.random() < 0.5)
+    return case
+
+
+def outcomes_of(lines, options):
+    """What a table tells, with the number of all runs; None where it is none: each outcome has a number, a count, a seed that is later
+    than the one before, another text, and its command. Only behind as many as may be there is a line of all others."""
+    found, total, last = [], None, OTHERS.fullmatch(lines[-1]) if lines[2 * MOST_OUTCOMES:] else None
+    lines = lines[:-1] if last else lines
+    for number, (told, command) in enumerate(zip(lines[::2], lines[1::2]), 1):
+        read = OUTCOME.fullmatch(told)
+        if read is None or int(read[1]) != number or total not in (None, int(read[3])):
+            return None
+        found.append(Outcome(int(read[2]), int(read[4]), read[5]))
+        total = int(read[3])
+        if command != "    " + command_of("image", found[-1].first, options):
+            return None
+    firsts, texts = [one.first for one in found], [one.text for one in found]
+    others = [int(last[1])] if last and int(last[2]) == total else []
+    is_whole = len(lines) == 2 * len(found) <= 2 * MOST_OUTCOMES and sum([one.count for one in found] + others) == total
+    return (found, total) if is_whole and sorted(set(firsts)) == firsts and len(set(texts)) == len(texts) else None
+
+
+def rows_of(table, options):
+    """The outcomes of a table, the number of all runs, and its races, where these are asked for; None where it is none."""
+    lines, races = split_table(table) if options.is_raced else (table, [])
+    read = outcomes_of(lines, options)
+    rows = rows_of_races(races, options, read[1]) if read and options.is_raced else []
+    return None if read is None or rows is None else (*read, rows)
+
+
+def difference_of_progress(lines, found, first, total, seconds):
+    """None, or a line that doesn't fit the outcomes of a hunt from its first seed on, which took so many seconds."""
+    runs = 0
+    for line in lines:
+        read = PROGRESS.fullmatch(line)
+        if read is None:
+            return f"no line of progress: {line}"
+        before, runs, seed, rate, outcomes = runs, *map(int, read.groups())
+        known = sum(one.first <= seed for one in found)
+        if not before < runs <= total or seed != first - 1 + runs or outcomes != known or rate > runs - before:
+            return f"{line}: {before} runs before it, {known} outcomes by then, {total} runs in all"
+    return None if len(lines) <= seconds else f"{len(lines)} lines of progress in {seconds:.1f} seconds"
+
+
+def run_hunt(ckrt, case, folder, *words):
+    """The status, the lines on standard output and on standard error, and the seconds that it took."""
+    began = time.monotonic()
+    command = [ckrt, "hunt", "image", *words, *case.options.words().split()]
+    done = subprocess.run(command, cwd=folder, capture_output=True, timeout=TIME_LIMIT, text=True)
+    return done.returncode, done.stdout.splitlines(), done.stderr.splitlines(), time.monotonic() - began
+
+
+def difference_of_refused(ckrt, case, folder):
+    """There is no such image, which nobody is told."""
+    words = [word for name, value in zip(("--seeds", "--seconds", "--progress"), case.refused) if value is not None for word in (name, str(value))]
+    done = subprocess.run([ckrt, "hunt", "missing", *words], cwd=folder, capture_output=True, timeout=TIME_LIMIT, text=True)
+    expected, shown = f"ckrt: {fault_of_options(*case.refused)}", "".join(done.stderr.splitlines()[-1:])
+    return None if (done.returncode, done.stdout, shown) == (1, "", expected) else f"{words}: model {expected}, program {done.returncode} {shown}"
+
+
+def difference_of_timed(ckrt, case, folder, tally):
+    (folder / "image").write_bytes(case.image)
+    kept = folder / (case.keep or "kept").rstrip("/")
+    empty(kept)
+    if case.keep == "folder/":
+        kept.mkdir(exist_ok=True)
+    words = ["--seconds", str(SECONDS), "--progress", "1", *(["--keep", case.keep] if case.keep else [])]
+    status, lines, errors, took = run_hunt(ckrt, case, folder, *words)
+    table = [line for line in lines if not line.startswith("kept: ")]
+    read = rows_of(table, case.options)
+    if read is None:
+        return f"no table: {table[:6]}"
+    found, total, races = read
+    tally["hunt by time", "several" if len(found) > 1 else "one outcome"] += 1
+    tally["hunt by time", "line of progress"] += len(errors)
+    tally["hunt by time", "row of a race"] += len(races)
+    if took < SECONDS or status != (SEVERAL if len(found) > 1 or races else 0):
+        return f"{took:.2f} seconds, status {status} with {len(found)} outcomes and {len(races)} races"
+    return (difference_of_refused(ckrt, case, folder) or difference_of_progress(errors, found, 1, total, took)
+            or difference_of_disks(case, kept, found, races, lines[len(table):]) or difference_of_range(ckrt, case, folder, (status, table), total))
+
+
+def difference_of_disks(case, kept, found, races, told):
+    """What is kept: the run of the first seed, or one of each outcome, where races are asked for as it was drawn, with its races. The disks
+    are taken away."""
+    if case.keep is None:
+        return None if not told else f"nothing is kept: {told}"
+    is_folder = case.keep.endswith("/")
+    wanted = [(one, kept / f"outcome-{number}.disk" if is_folder else kept) for number, one in enumerate(found, 1)][:None if is_folder else 1]
+    names = [f"{case.keep}{path.name}" if is_folder else case.keep for _, path in wanted]
+    if len(told) != len(wanted) or is_folder and len(list(kept.iterdir())) != len(wanted):
+        return f"{len(wanted)} disks of the model, kept {told}"
+    for (one, path), name, line in zip(wanted, names, told):
+        recording = Recording(bytearray(path.read_bytes()))
+        folded, drawn = fold(recording), None if case.options.is_raced else line.rpartition(" ")[2]
+        difference = difference_of_rows(races, one.first, recording.show(Readings())) if case.options.is_raced else None
+        if difference:
+            return f"races on {path.name}: {difference}"
+        if text_of_outcome(folded, case.options.steps) != one.text or line != line_of_kept(one.first, name, folded.switches, drawn):
+            return f"{line}: model {text_of_outcome(folded, case.options.steps)}, {folded.switches} switches"
+    empty(kept)
+    return None
+
+
+def empty(kept):
+    for file in kept.iterdir() if kept.is_dir() else [kept]:
+        file.unlink(missing_ok=True)
+    if kept.is_dir():
+        kept.rmdir()
+
+
+def difference_of_range(ckrt, case, folder, expected, total):
+    """The table is that of just these seeds; and a range that begins later tells its own seeds."""
+    status, table, errors, took = run_hunt(ckrt, case, folder, "--seeds", f"1-{total}")
+    if (status, table) != expected or errors:
+        return f"a hunt of seeds 1-{total}: {status} {table} {errors}, by time {expected}"
+    if not case.shift:
+        return None
+    first = 1 + case.shift
+    _, table, errors, took = run_hunt(ckrt, case, folder, "--seeds", f"{first}-{first + total - 1}", "--progress", "1")
+    read = rows_of(table, case.options)
+    return difference_of_progress(errors, read[0], first, total, took) if read and read[1] == total else f"no table: {table[:6]}"
+
+
+def fault_of_options(seeds, seconds, progress):
+    """The name of the fault that the words have, before anything is opened, or None."""
+    is_turned = seeds is not None and int(seeds.split("-")[0]) > int(seeds.split("-")[1])
+    is_wrong = is_turned or (seconds is not None and not 1 <= seconds <= LONGEST) or seeds is not None and seconds is not None or progress == 0
+    return "Range" if is_wrong else None

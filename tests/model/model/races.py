@@ -1,0 +1,102 @@
+"""The lines of `ckrt races`: pairs of places whose accesses no chain orders, as the recorded events are made again."""
+from dataclasses import dataclass
+
+from model.accesses import Access, Shadow, access_of
+from model.clocks import Clocks
+from model.listing import address_text
+from model.orders import Before, Orders
+from model.stretches import is_plain
+
+PAIRS = 64  # that have lines of their own
+NO_RACES = "no races in this schedule; another one may have some"
+
+
+@dataclass
+class Pair:
+    """The first two accesses that raced at two places, and how often accesses there did."""
+    first: Access
+    second: Access
+    count: int = 1
+
+
+class Races:
+    """What is found by one reading of what orders."""
+
+    def __init__(self, is_wide):
+        self.clocks, self.shadow = Clocks(), Shadow()
+        self.orders = Orders(self.clocks, is_wide)
+        self.pairs, self.others = {}, 0
+
+    def note(self, access):
+        """What a thread did up to an atomic store, that too, is before each later atomic load of the word."""
+        holder = self.orders.place("word", access.word)
+        if access.is_atomic and not access.is_store:
+            self.clocks.take(access.thread, holder)
+        self.compare(access)
+        if access.is_atomic and access.is_store:
+            self.clocks.give(access.thread, holder)
+
+    def compare(self, access):
+        """With those that are kept of its word; then it is kept itself."""
+        for kept, epoch in self.shadow.kept(access.word):
+            if kept.conflicts(access) and not self.clocks.has_seen(access.thread, kept.thread, epoch):
+                self.count(kept, access)
+        self.shadow.keep(access, self.clocks.epoch(access.thread))
+
+    def count(self, first, second):
+        """Whichever of the two places comes first."""
+        places = frozenset([first.place, second.place])
+        if places in self.pairs:
+            self.pairs[places].count += 1
+        elif len(self.pairs) < PAIRS:
+            self.pairs[places] = Pair(first, second)
+        else:
+            self.others += 1
+
+    def lines(self):
+        """In the order in which the pairs were found."""
+        lines = [f"{text_of_pair(pair)}, {times(pair.count)}" for pair in self.pairs.values()]
+        return lines + ([f"and {times(self.others)} at other places"] if self.others else []) or [NO_RACES]
+
+
+def times(count):
+    return "once" if count == 1 else f"{count} times"
+
+
+def text_of_pair(pair):
+    return f"{text_of_access(pair.first)}, {text_of_access(pair.second)}"
+
+
+def text_of_access(access):
+    event, step = access.position
+    what = ("stores" if access.is_store else "loads") + (" atomically" if access.is_atomic else "")
+    return f"{event}+{step} thread {access.thread} {what} {address_text(access.address)} pc {address_text(access.place)}"
+
+
+class Readings:
+    """Looks on, and finds the races by the narrow reading and by the wide one."""
+
+    def __init__(self):
+        self.narrow, self.wide = Races(False), Races(True)
+        self.event = 0
+
+    def begin_event(self, number):
+        self.event = number
+
+    def look(self, machine, hart, step, make):
+        """A plain step has an access at most; any other one, and an event that is no run, may hand something on."""
+        thread_id = None if hart is None else machine.harts[hart]
+        if thread_id is not None and is_plain(machine, thread_id):
+            access = access_of(machine, thread_id, (self.event, step))
+            for races in (self.narrow, self.wide) if access else ():
+                races.note(access)
+            return make()
+        before = Before(machine, thread_id)
+        made = make()
+        for races in (self.narrow, self.wide):
+            races.orders.hand_on(before, machine)
+        return made
+
+    def lines(self):
+        """None where the two readings differ."""
+        return self.narrow.lines() if self.narrow.lines() == self.wide.lines() else None

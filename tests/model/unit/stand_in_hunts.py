@@ -1,0 +1,339 @@
+"""A `ckrt hunt --races` made of the model, to try the comparison with; and wrong ones, which it has to find.
+
+What schedule a seed draws isn't compared, so here it is that of a drive by lots, but for whom a hart gets: the planned thread, since a hunt's
+turns have no owners. The races of runs are told by a tally that takes one run after the other.
+"""
+from functools import lru_cache
+
+from cases.glances import Glance
+from model.devices import MemoryDisk
+from model.events import Place, Run
+from model.feeding import next_input, taken_by
+from model.hunts import command_of, fold, line_of_kept, lines_of_table, text_of_outcome
+from model.layout import Geometry, format_disk
+from model.plans import Options as Plan, next_event
+from model.races import PAIRS, Races, Readings, text_of_access, text_of_pair
+from model.session import Session
+from model.stretches import Recording
+
+JOURNAL, LONGEST_TURN, EVENTS_OF_A_COMMIT = 1 << 16, 60, 50
+
+
+def next_of(seed, events, machine, data, taken):
+    """The event that is due, or a word for why there is none."""
+    given = None if data is None else next_input(data, taken, machine)
+    event = given or next_event(Plan(turn=LONGEST_TURN, seed=seed), events, machine)
+    return Place(event.hart, machine.planned(event.hart)) if isinstance(event, Place) else event
+
+
+@lru_cache(maxsize=None)
+def disk_of(seed, options, image, data):
+    """The bytes of a disk with a seed's run, whole, as often as it is asked for."""
+    disk = format_disk(Geometry(options.pages, options.harts, JOURNAL), image)
+    session, taken, steps = Session(MemoryDisk(disk)), 0, 0
+    while session.machine.is_running and max(steps, session.events) < options.steps:
+        event = next_of(seed, session.events, session.machine, data, taken)
+        if isinstance(event, str):
+            break
+        event = Run(event.hart, min(event.steps, options.steps - steps)) if isinstance(event, Run) else event
+        reply = session.submit(event)[1]
+        steps += int(reply.split()[3]) if isinstance(event, Run) else 0
+        taken += taken_by([event])
+        if session.events % EVENTS_OF_A_COMMIT == 0:
+            session.commit()
+            session.take_output()
+    session.commit()
+    return bytes(disk)
+
+
+@lru_cache(maxsize=None)
+def folded(disk):
+    return fold(Recording(bytearray(disk)))
+
+
+@lru_cache(maxsize=None)
+def races_of(disk):
+    return Recording(bytearray(disk)).show(Readings()).narrow
+
+
+class Row:
+    def __init__(self, pair, seed):
+        self.pair, self.seed, self.count = pair, seed, 0
+
+
+class Tally:
+    """Takes the races of one run after the other."""
+    room = PAIRS
+
+    def __init__(self):
+        self.rows, self.runs, self.others = {}, 0, 0
+
+    def key(self, pair):
+        return frozenset([pair.first.place, pair.second.place])
+
+    def take(self, seed, races):
+        left = races.others
+        for pair in races.pairs.values():
+            if self.key(pair) not in self.rows and len(self.rows) == self.room:
+                left += pair.count
+            else:
+                self.note(self.rows.setdefault(self.key(pair), Row(pair, seed)), seed, pair)
+        self.runs += 1
+        self.note_others(left)
+
+    def note(self, row, seed, pair):
+        row.count += 1
+
+    def note_others(self, left):
+        self.others += left > 0
+
+    def ordered(self):
+        return self.rows.values()
+
+    def lines(self, options):
+        lines = []
+        for number, row in enumerate(self.ordered(), 1):
+            lines += [f"race {number}: {row.count} of {self.runs} runs, first by seed {row.seed}: {text_of_pair(row.pair)}",
+                      f"    {command_of('image', row.seed, options)}"]
+        lines += [f"other races: in {self.others} of {self.runs} runs"] if self.others else []
+        return lines or [f"no races in {self.runs} runs; other schedules may have some"]
+
+
+class Hunts:
+    """Takes the places of `hunt` and of `glance_of_program`."""
+    tally = Tally
+
+    def hunt(self, ckrt, folder, seeds, options, *more):
+        data = (folder / options.input).read_bytes() if options.input else None
+        disks = {seed: disk_of(seed, options, (folder / "image").read_bytes(), data) for seed in seeds}
+        outcomes = {seed: text_of_outcome(folded(disk), options.steps) for seed, disk in disks.items()}
+        races = self.races(disks, outcomes, options) if options.is_raced else []
+        kept = self.keep(folder, more[-1], disks, outcomes) if more else []
+        lines = self.arranged(lines_of_table("image", outcomes, self.told(options)), races, kept)
+        return 8 if len(set(outcomes.values())) > 1 or self.counts(races) else 0, lines
+
+    def arranged(self, table, races, kept):
+        return [*table, *races, *kept]
+
+    def told(self, options):
+        return options
+
+    def counts(self, races):
+        """Whether these lines tell a race."""
+        return len(races) > 1
+
+    def found_in(self, disks, outcomes):
+        return {seed: races_of(disk) for seed, disk in disks.items()}
+
+    def races(self, disks, outcomes, options):
+        tally = self.tally()
+        for seed, races in self.found_in(disks, outcomes).items():
+            tally.take(seed, races)
+        return tally.lines(options)
+
+    def kept_of(self, seed, disks):
+        return disks[seed]
+
+    def keep(self, folder, path, disks, outcomes):
+        first = {outcome: seed for seed, outcome in reversed(outcomes.items())}
+        seeds = sorted(first.values(), key=list(disks).index) if path.endswith("/") else list(disks)[:1]
+        paths = [f"{path}outcome-{number}.disk" if path.endswith("/") else path for number in range(1, len(seeds) + 1)]
+        for seed, name in zip(seeds, paths):
+            (folder / name).write_bytes(self.kept_of(seed, disks))
+        return [self.line_of_kept(seed, name, folded(disks[seed]).switches) for seed, name in zip(seeds, paths)]
+
+    def line_of_kept(self, seed, name, switches):
+        return line_of_kept(seed, name, switches, None)
+
+    def glance(self, ckrt, command, path, stretch):
+        return Glance(0, "".join(line + "\n" for line in races_of(path.read_bytes()).lines()))
+
+
+class CountsRaces(Tally):
+    """A run is counted as often as it raced there."""
+
+    def note(self, row, seed, pair):
+        row.count += pair.count
+
+
+class LastSeed(Tally):
+    def note(self, row, seed, pair):
+        row.count, row.seed = row.count + 1, seed
+
+
+class LastAccesses(Tally):
+    """Those of the last run that has the pair."""
+
+    def note(self, row, seed, pair):
+        row.count, row.pair = row.count + 1, pair
+
+
+class BothWays(Tally):
+    """A pair whose places come the other way round is another one."""
+
+    def key(self, pair):
+        return pair.first.place, pair.second.place
+
+
+class MoreRoom(Tally):
+    room = PAIRS + 1
+
+
+class LessRoom(Tally):
+    room = PAIRS - 1
+
+
+class OthersByRaces(Tally):
+    def note_others(self, left):
+        self.others += left
+
+
+class ForgetsOthers(Tally):
+    def note_others(self, left):
+        pass
+
+
+class OwnPairsAlone(Tally):
+    """What a run has beyond its own pairs isn't counted."""
+
+    def take(self, seed, races):
+        others, races.others = races.others, 0
+        super().take(seed, races)
+        races.others = others
+
+
+class ByAddress(Tally):
+    """The rows in the order of addresses."""
+
+    def ordered(self):
+        return sorted(self.rows.values(), key=lambda row: (row.pair.first.address, text_of_access(row.pair.first)))
+
+
+class RunsWithRaces(Tally):
+    """All runs are those that raced."""
+
+    def take(self, seed, races):
+        super().take(seed, races)
+        self.runs -= not races.pairs
+
+
+class Silent(Tally):
+    """Nothing is told where there is nothing."""
+
+    def lines(self, options):
+        return super().lines(options) if self.rows else []
+
+
+class StatusOfOutcomes(Hunts):
+    def counts(self, races):
+        return False
+
+
+class FirstRuns(Hunts):
+    """Of each outcome the first run alone is looked at."""
+
+    def found_in(self, disks, outcomes):
+        first = set({outcome: seed for seed, outcome in reversed(outcomes.items())}.values())
+        return {seed: races_of(disk) if seed in first else Races(False) for seed, disk in disks.items()}
+
+
+class SameDetector(Hunts):
+    """What one run leaves is there in the next one."""
+
+    def found_in(self, disks, outcomes):
+        left, found = Readings(), {}
+        for seed, disk in disks.items():
+            narrow = Recording(bytearray(disk)).show(left).narrow
+            found[seed] = Races(False)
+            found[seed].pairs, found[seed].others = dict(narrow.pairs), narrow.others
+        return found
+
+
+class SameClocks(Hunts):
+    """The pairs are new in each run, and the clocks and accesses aren't."""
+
+    def found_in(self, disks, outcomes):
+        left, found = Readings(), {}
+        for seed, disk in disks.items():
+            left.narrow.pairs, left.narrow.others = {}, 0
+            Recording(bytearray(disk)).show(left)
+            found[seed] = Races(False)
+            found[seed].pairs, found[seed].others = left.narrow.pairs, left.narrow.others
+        return found
+
+
+class KeepsAnother(Hunts):
+    """The run of another seed is kept where that is the first of several."""
+
+    def kept_of(self, seed, disks):
+        return list(disks.values())[-1]
+
+
+class KeepsShorter(Hunts):
+    def line_of_kept(self, seed, name, switches):
+        return line_of_kept(seed, name, switches, switches)
+
+
+class WithoutWord(Hunts):
+    """The commands of outcomes don't ask for races."""
+
+    def told(self, options):
+        return type(options)(options.pages, options.harts, options.steps, options.input)
+
+
+class RacesFirst(Hunts):
+    def arranged(self, table, races, kept):
+        return [*races, *table, *kept]
+
+
+class RacesLast(Hunts):
+    def arranged(self, table, races, kept):
+        return [*table, *kept, *races]
+
+
+class Unasked(Hunts):
+    """Tells of races always."""
+
+    def hunt(self, ckrt, folder, seeds, options, *more):
+        status, lines = super().hunt(ckrt, folder, seeds, type(options)(options.pages, options.harts, options.steps, options.input, True), *more)
+        return status, lines if options.is_raced else [line.replace(" --races", "") for line in lines]
+
+
+class UnaskedStatus(Hunts):
+    """Who doesn't ask for races gets the status of one who does."""
+
+    def hunt(self, ckrt, folder, seeds, options, *more):
+        status, lines = super().hunt(ckrt, folder, seeds, options, *more)
+        asked = super().hunt(ckrt, folder, seeds, type(options)(options.pages, options.harts, options.steps, options.input, True))
+        return asked[0], lines
+
+
+class OfKeptRuns(Hunts):
+    """Looks for races only where something is kept."""
+
+    def hunt(self, ckrt, folder, seeds, options, *more):
+        status, lines = super().hunt(ckrt, folder, seeds, options, *more)
+        return status, lines if more else [line for line in lines if not line.startswith("race ")]
+
+
+class ShorterInFolders(Hunts):
+    def line_of_kept(self, seed, name, switches):
+        return line_of_kept(seed, name, switches, switches if "/" in name else None)
+
+
+class OtherEvents(Hunts):
+    """The disk tells its races by other positions."""
+
+    def glance(self, ckrt, command, path, stretch):
+        glance = super().glance(ckrt, command, path, stretch)
+        return Glance(0, glance.text.replace("+", "+1"))
+
+
+def of_tally(wrong):
+    return type(wrong.__name__, (Hunts,), {"tally": wrong})
+
+
+TALLIES = [CountsRaces, LastSeed, LastAccesses, BothWays, MoreRoom, LessRoom, OthersByRaces, ForgetsOthers, OwnPairsAlone, ByAddress, RunsWithRaces,
+           Silent]
+WRONG_HUNTS = [*map(of_tally, TALLIES), StatusOfOutcomes, FirstRuns, SameDetector, SameClocks, KeepsAnother, KeepsShorter, WithoutWord, RacesFirst,
+               RacesLast, Unasked, UnaskedStatus, OfKeptRuns, ShorterInFolders, OtherEvents]

@@ -1,0 +1,141 @@
+"""Hunts: outcomes of small guests by hand, switches, and the table."""
+import unittest
+from hashlib import sha256
+
+from model.abi import Call
+from model.events import Eof, Input
+from model.hunts import Options, fold, is_fed, line_of_kept, lines_of_table, status_of, text_of_outcome
+from model.races import Pair, Races
+from model.switches import switched
+from unit.test_races import call, load, locked, recording_of
+
+LOCK = Call.MUTEX_LOCK
+WAITS = [  # of thread 2, how it is told
+    (call(LOCK, 0x2000), "mutex 00002000 (thread 1 has it)"),
+    ([*call(LOCK, 0x2004), *call(Call.COND_WAIT, 0x3000, 0x2004)], "condition 00003000"),
+    (call(Call.BARRIER_WAIT, 0x4000), "barrier 00004000"), (call(Call.RWLOCK_RDLOCK, 0x5000), "read lock 00005000"),
+    (call(Call.RWLOCK_WRLOCK, 0x5000), "write lock 00005000"),
+]
+HELD = [*call(LOCK, 0x2000), *call(Call.RWLOCK_WRLOCK, 0x5000), *call(Call.BARRIER_INIT, 0x4000, 2)]
+
+
+class WithKeys(unittest.TestCase):
+    def setUp(self):
+        switch = switched(keys=True, long_runs=True)
+        switch.__enter__()
+        self.addCleanup(switch.__exit__, None, None, None)
+
+    def comes_to(self, text, *turns, threads=1):
+        self.assertEqual(text_of_outcome(fold(recording_of(turns, threads=threads)), 77), text)
+
+
+class Outcomes(WithKeys):
+    def test_exits(self):
+        self.comes_to("exit 3, output e3b0c442", (1, call(Call.EXIT, 3)))
+        digest = sha256(b"AB").hexdigest()[:8]
+        self.comes_to(f"exit 0, output {digest}", (2, call(Call.PUTC, 65)), (1, [*call(Call.PUTC, 66), *call(Call.EXIT, 0)]))
+
+    def test_faults(self):
+        self.comes_to("fault of thread 2 at 00001028, LoadMisaligned", (2, load(1)))
+
+    def test_deadlocks(self):
+        """The last thread that could go on joins the other one."""
+        for words, text in WAITS:
+            self.comes_to(f"deadlock, thread 1 waits for the end of thread 2, thread 2 waits for {text}", (1, HELD), (2, words),
+                          (1, call(Call.JOIN, 2)))
+        text = "deadlock, thread 1 waits for mutex 00002000 (thread 2 has it), thread 2 waits for the end of thread 1"
+        self.comes_to(text, (2, call(LOCK, 0x2000)),
+                      (1, call(LOCK, 0x2000)), (2, call(Call.JOIN, 1)))
+
+    def test_what_is_none(self):
+        """Somebody is ready, waits for a moment, or for input."""
+        joins = (1, call(Call.JOIN, 2))
+        self.comes_to("no end within 77 steps or events", (1, call(LOCK, 0x2000)), joins)
+        self.comes_to("no end within 77 steps or events", (2, call(Call.SLEEP_UNTIL, 9, 0)), joins)
+        self.comes_to("no end within 77 steps or events", (1, call(LOCK, 0x2000)), (2, call(Call.MUTEX_TIMEDLOCK, 0x2000, 9, 0)), joins)
+        self.comes_to("waits for input", (2, call(Call.GETC)), joins)
+
+    def test_circles(self):
+        """Who waits for whom in a circle is told, though others go on; a wait with a deadline is in none, and who only waits for one of them isn't told."""
+        text = "no end within 77 steps or events"
+        two = ", thread 2 waits for mutex 00002004 (thread 3 has it), thread 3 waits for mutex 00002000 (thread 2 has it)"
+        first = [(2, call(LOCK, 0x2000)), (3, call(LOCK, 0x2004)), (2, call(LOCK, 0x2004))]
+        self.comes_to(text + two, *first, (3, call(LOCK, 0x2000)), threads=3)
+        self.comes_to(text, *first, (3, call(Call.MUTEX_TIMEDLOCK, 0x2000, 9, 0)), threads=3)
+        self.comes_to(text + two, *first, (3, call(LOCK, 0x2000)), (4, call(LOCK, 0x2004)), threads=4)
+        joined = ", thread 2 waits for the end of thread 3, thread 3 waits for mutex 00002000 (thread 2 has it)"
+        self.comes_to(text + joined, (2, call(LOCK, 0x2000)), (3, call(LOCK, 0x2000)), (2, call(Call.JOIN, 3)), threads=3)
+        self.comes_to(text, (2, call(LOCK, 0x2000)), (3, call(LOCK, 0x2000)), threads=3)
+
+    def test_ended_threads(self):
+        """They wait for nothing, and get their mutexes back as they wait for others."""
+        wait = [*call(LOCK, 0x2000), *call(Call.COND_WAIT, 0x3000, 0x2000)]
+        self.comes_to("deadlock, thread 1 waits for the end of thread 3, thread 3 waits for mutex 00002000 (thread 2 has it)", (3, wait),
+                      (2, [*call(LOCK, 0x2000), *call(Call.COND_SIGNAL, 0x3000), *call(Call.THREAD_EXIT, 0)]),
+                      (1, call(Call.JOIN, 3)), threads=2)
+
+
+class Counts(WithKeys):
+    def test_switches(self):
+        """Of runs of other threads than the run before; a hart is none."""
+        for turns, switches in [([], 0), ([(1, load())], 0), ([(2, load()), (2, load()), (1, load())], 2),
+                                ([(2, load()), (1, load()), (2, load())], 3)]:
+            self.assertEqual(fold(recording_of(turns, threads=1)).switches, switches)
+
+    def test_steps(self):
+        folded = fold(recording_of([(2, load()), (1, locked([]))], threads=1))
+        self.assertEqual((folded.steps, folded.events, bytes(folded.output)), (16, 6, b""))
+        self.assertEqual(fold(recording_of([(2, [*call(Call.GETC), *load()])], threads=1)).steps, 9)
+
+
+class Inputs(WithKeys):
+    def test_given(self):
+        """At once, before all else, and the end behind it."""
+        recording = recording_of([(1, load())], threads=0)
+        self.assertTrue(is_fed(recording, None))
+        self.assertFalse(is_fed(recording, b""))
+        events = recording.events
+        for given, data, is_so in [([Eof()], b"", True), ([Input(b"ab"), Eof()], b"ab", True), ([Eof()], b"ab", False), ([Eof()], None, False),
+                                   ([Input(b"ab")], b"ab", False), ([Input(b"ab"), Eof()], b"abc", False)]:
+            recording.events = [*given, *events]
+            self.assertEqual(is_fed(recording, data), is_so)
+
+
+class Tables(unittest.TestCase):
+    def test_order_and_counts(self):
+        outcomes = dict(zip(range(8, 13), ["exit 0, output 1", "deadlock", "exit 0, output 1", "exit 1, output 1", "deadlock"]))
+        self.assertEqual(lines_of_table("a.bin", outcomes, Options(16, 2, 99)), [
+            "outcome 1: 2 of 5 runs, first by seed 8: exit 0, output 1",
+            "    ckrt hunt a.bin --seeds 8-8 --pages 16 --harts 2 --steps 99 --keep seed-8.disk",
+            "outcome 2: 2 of 5 runs, first by seed 9: deadlock",
+            "    ckrt hunt a.bin --seeds 9-9 --pages 16 --harts 2 --steps 99 --keep seed-9.disk",
+            "outcome 3: 1 of 5 runs, first by seed 11: exit 1, output 1",
+            "    ckrt hunt a.bin --seeds 11-11 --pages 16 --harts 2 --steps 99 --keep seed-11.disk"])
+        self.assertEqual(lines_of_table("a.bin", {8: "deadlock"}, Options(16, 2, 99, "b.txt"))[1],
+                         "    ckrt hunt a.bin --seeds 8-8 --pages 16 --harts 2 --steps 99 --input b.txt --keep seed-8.disk")
+
+    def test_others(self):
+        """64 have lines of their own."""
+        for count in (64, 65):
+            outcomes = {seed: f"exit {seed % count}, output 1" for seed in range(1, 131)}
+            lines = lines_of_table("a.bin", outcomes, Options(16, 2, 99))
+            others = [] if count == 64 else ["other outcomes: 2 of 130 runs"]
+            self.assertEqual((lines[128:], lines[126][:12]), (others, "outcome 64: "), count)
+
+    def test_races_asked_for(self):
+        """Behind the input, and before what is kept."""
+        self.assertEqual(lines_of_table("a.bin", {8: "deadlock"}, Options(16, 2, 99, "b.txt", is_raced=True))[1],
+                         "    ckrt hunt a.bin --seeds 8-8 --pages 16 --harts 2 --steps 99 --input b.txt --races --keep seed-8.disk")
+        self.assertEqual(Options(16, 2, 99, is_raced=True).words(), "--pages 16 --harts 2 --steps 99 --races")
+
+    def test_status(self):
+        """Another one where there are several outcomes, or one of the runs raced."""
+        quiet, raced = Races(False), Races(False)
+        raced.pairs[frozenset([4, 8])] = Pair(None, None)
+        for outcomes, found, status in [(["a"], [], 0), (["a", "a"], [quiet, quiet], 0), (["a", "b"], [quiet, quiet], 8), (["a", "b"], [], 8),
+                                        (["a", "a"], [quiet, raced], 8), (["a"], [raced], 8), (["a", "b", "a"], [raced, raced, quiet], 8)]:
+            self.assertEqual(status_of(outcomes, found), status)
+
+    def test_kept(self):
+        self.assertEqual(line_of_kept(3, "seed-3.disk", 17, 19), "kept: the run of seed 3 on seed-3.disk, switches: 17, drawn with 19")
+        self.assertEqual(line_of_kept(3, "bugs/outcome-1.disk", 0, None), "kept: the run of seed 3 on bugs/outcome-1.disk, switches: 0, as it was drawn")

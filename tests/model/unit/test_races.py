@@ -1,0 +1,390 @@
+"""Data races: what orders accesses and what doesn't, by small guests; which accesses are kept; the text; and clocks beside chains."""
+import unittest
+from random import Random
+
+from model.abi import ALL_ONES, Call
+from model.assembler import STOP, Jump, Label, Program, call_words, image_of, immediate_form, length_of, load_number, store_form
+from model.clocks import Clocks
+from model.layout import Geometry, format_disk
+from model.lines import serve_disk
+from model.races import NO_RACES, Readings
+from model.stretches import Recording
+from model.switches import switched
+
+SHARED = 0x2800
+FENCE_RW_W, FENCE_R_RW, FENCE_RW_RW = 0x0310000F, 0x0230000F, 0x0330000F
+HALF, BYTE, BYTE_UNSIGNED = 1, 0, 4
+
+
+def base(offset=0):
+    return load_number(3, SHARED + offset)
+
+
+def store(offset=0, width=2):
+    return [*base(offset), store_form(width, 4, 0, 3)]
+
+
+def load(offset=0, width=2):
+    return [*base(offset), immediate_form(0x03, width, 4, 3, 0)]
+
+
+def published(offset=8, fence=FENCE_RW_W):
+    """An atomic store."""
+    return [*base(offset), fence, store_form(2, 4, 0, 3)]
+
+
+def looked_at(offset=8, fence=FENCE_R_RW):
+    """An atomic load."""
+    return [*base(offset), immediate_form(0x03, 2, 4, 3, 0), fence]
+
+
+def call(number, *arguments):
+    return call_words(number, *arguments)
+
+
+def locked(items, mutex=0x2000):
+    return [*call(Call.MUTEX_LOCK, mutex), *items, *call(Call.MUTEX_UNLOCK, mutex)]
+
+
+def recording_of(turns, threads=2, routines=()):
+    """Thread 1 creates others, and then each turn is a thread's: the words that it executes, or a number of steps of a routine."""
+    code = {1: [item for number in range(2, threads + 2) for item in call(Call.CREATE, Label(f"thread {number}"), 0, 0, 0)],
+            **{number: [] for number in range(2, threads + 2)}}
+    lines = ["place 0 1", f"run 0 {length_of(code[1]) // 4}"]
+    for number, items in turns:
+        steps = items if isinstance(items, int) else length_of(items) // 4
+        code[number] = code.get(number, []) + ([] if isinstance(items, int) else items)
+        lines += [f"place 0 {number}", f"run 0 {steps}"]
+    program = Program()
+    for name, items in [*((f"thread {number}", items) for number, items in code.items()), *routines]:
+        program.label(name)
+        program.add([*items, STOP])
+    disk = format_disk(Geometry(16, 1, 1 << 16), image_of(program.words()))
+    serve_disk(disk, "\n".join([*lines, "commit", ""]).encode())
+    return Recording(disk)
+
+
+def told(*turns, **what):
+    """The lines; None where the page leaves them open."""
+    return recording_of(turns, **what).show(Readings()).lines()
+
+
+def short(line):
+    """Without positions, addresses and pcs."""
+    if line == NO_RACES:
+        return "none"
+    first, second, times = line.split(", ")
+    return ", ".join([*(" ".join(access.split()[2:-3]) for access in (first, second)), times])
+
+
+class WithKeys(unittest.TestCase):
+    def setUp(self):
+        switch = switched(keys=True, long_runs=True)
+        switch.__enter__()
+        self.addCleanup(switch.__exit__, None, None, None)
+
+    def race(self, *turns, races=("2 stores, 3 loads, once",), **what):
+        self.assertEqual([short(line) for line in told(*turns, **what)], list(races))
+
+    def no_race(self, *turns, **what):
+        self.race(*turns, races=["none"], **what)
+
+    def is_open(self, *turns, **what):
+        self.assertIsNone(told(*turns, **what))
+
+
+class Accesses(WithKeys):
+    def test_text(self):
+        """The creates are 14 steps; thread 2 begins at 0x103c."""
+        self.assertEqual(told((2, store()), (3, load())),
+                         ["3+2 thread 2 stores 00002800 pc 00001044, 5+2 thread 3 loads 00002800 pc 00001054, once"])
+
+    def test_kinds(self):
+        self.race((2, load()), (3, store()), races=["2 loads, 3 stores, once"])
+        self.race((2, store()), (3, store()), races=["2 stores, 3 stores, once"])
+        self.no_race((2, load()), (3, load()))
+        self.no_race((2, store()), (2, load()))
+
+    def test_common_bytes(self):
+        self.race((2, store(0, BYTE)), (3, load(0, HALF)))
+        self.race((2, store(2, HALF)), (3, load(3, BYTE_UNSIGNED)))
+        self.no_race((2, store(0, HALF)), (3, load(2, HALF)))
+        self.no_race((2, store(0, BYTE)), (3, load(1, BYTE)))
+        self.no_race((2, store()), (3, load(4)))
+
+    def test_faults_access_nothing(self):
+        self.no_race((2, store()), (3, load(1)))
+        self.no_race((2, store()), (3, load(0, 3)))
+        self.no_race((2, load()), (3, store(0, 3)))
+
+    def test_kept_loads(self):
+        """A store meets the loads of the two threads that loaded last, the later one first; each has its last one."""
+        loads = [(2, load()), (3, load()), (4, load())]
+        self.race(*loads, (5, store()), threads=4, races=["4 loads, 5 stores, once", "3 loads, 5 stores, once"])
+        self.race(*loads, (2, load()), (5, store()), threads=4, races=["2 loads, 5 stores, once", "4 loads, 5 stores, once"])
+        self.race((2, load(0, BYTE)), (2, load(1, BYTE)), (3, store(0, BYTE)), races=["none"])
+
+    def test_kept_stores(self):
+        """The last one alone, and it stays behind loads."""
+        self.race((2, store(0, BYTE)), (2, store(1, BYTE)), (3, load(0, BYTE)), races=["none"])
+        self.race((2, store()), (3, load()), (4, load()), threads=3, races=["2 stores, 3 loads, once", "2 stores, 4 loads, once"])
+        self.race((2, load()), (2, store()), (3, store()), races=["2 stores, 3 stores, once", "2 loads, 3 stores, once"])
+
+    def test_pairs(self):
+        """Of two places, whichever comes first; and a place with itself."""
+        routines = [(name, [*store(), Jump(name)]) for name in ("left", "right")]
+        made = [(2, call(Call.CREATE, Label(name), 0, 0, 0)) for name in ("left", "right", "left")]
+        self.race(*made, (4, 4), (5, 4), (4, 4), (5, 4), routines=routines, races=["4 stores, 5 stores, 3 times"])
+        self.race(*made, (4, 4), (6, 4), (4, 4), (5, 4), routines=routines, races=["4 stores, 6 stores, 2 times", "4 stores, 5 stores, once"])
+
+    def test_other_places(self):
+        stores = [item for _ in range(70) for item in store()]
+        lines = told((2, store()), (3, stores))
+        self.assertEqual([short(line) for line in lines], ["2 stores, 3 stores, once"])
+        lines = told((2, [item for at in range(70) for item in store(4 * at)]), (3, [item for at in range(70) for item in store(4 * at)]))
+        self.assertEqual((len(lines), lines[-1]), (65, "and 6 times at other places"))
+
+
+class Locks(WithKeys):
+    def test_mutex(self):
+        self.no_race((2, locked(store())), (3, locked(load())))
+        self.race((2, locked(store())), (3, locked(load(), 0x2004)))
+        self.race((2, [*call(Call.MUTEX_LOCK, 0x2000), *store()]), (3, load()))
+        self.race((2, [*locked([]), *store()]), (3, locked(load())))
+
+    def test_one_direction(self):
+        """Who takes the lock first isn't ordered behind the other."""
+        self.race((3, locked([])), (2, locked(store())), (3, load()))
+
+    def test_hand_over(self):
+        self.no_race((2, [*call(Call.MUTEX_LOCK, 0x2000), *store()]), (3, call(Call.MUTEX_LOCK, 0x2000)),
+                     (2, call(Call.MUTEX_UNLOCK, 0x2000)), (3, load()))
+
+    def test_locks_of_one_word(self):
+        """A lock is known by its address, be there another one at the next byte; one of another kind is another one."""
+        def held(lock, taken, items):
+            return [*call(taken, lock), *items, *call(Call.RWLOCK_UNLOCK, lock)]
+
+        for one, other in [(0x2000, 0x2001), (0x2001, 0x2000), (0x2001, 0x2002), (0x2000, 0x3003), (ALL_ONES, ALL_ONES - 1)]:
+            self.race((2, locked(store(), one)), (3, locked(load(), other)))
+            self.race((2, held(one, Call.RWLOCK_WRLOCK, store())), (3, held(other, Call.RWLOCK_RDLOCK, load())))
+            self.no_race((2, locked(store(), one)), (3, locked(load(), one)))
+            self.no_race((2, held(one, Call.RWLOCK_WRLOCK, store())), (3, held(one, Call.RWLOCK_RDLOCK, load())))
+        self.race((2, locked(store())), (3, held(0x2000, Call.RWLOCK_RDLOCK, load())))
+        wait = [*call(Call.MUTEX_LOCK, 0x2001), *store(), *call(Call.COND_WAIT, 0x3000, 0x2001)]
+        self.race((2, wait), (3, locked(load(), 0x2002)))
+        self.no_race((2, wait), (3, locked(load(), 0x2001)))
+
+    def test_words_that_count_as_one(self):
+        self.no_race((2, [*store(), *published(8)]), (3, [*looked_at(8 + 4096), *load()]))
+        self.race((2, [*store(), *published(8)]), (3, [*looked_at(12), *load()]))
+        self.no_race((2, [*store(), *published(8)]), (3, [*looked_at(8), *load()]))
+
+    def test_locks_that_count_as_one(self):
+        self.no_race((2, locked(store())), (3, locked(load(), 0x5000)))
+        self.race((2, locked(store())), (3, [*call(Call.RWLOCK_WRLOCK, 0x2000), *load()]))
+
+    def test_levels(self):
+        """Whether an unlock that leaves a level gives up the mutex is open; it is seen only where another one counts as this one."""
+        twice = [*call(Call.MUTEX_INIT, 0x2000, 1), *call(Call.MUTEX_LOCK, 0x2000), *call(Call.MUTEX_LOCK, 0x2000), *store(),
+                 *call(Call.MUTEX_UNLOCK, 0x2000)]
+        self.is_open((2, twice), (3, locked(load(), 0x3000)))
+        self.no_race((2, [*twice, *call(Call.MUTEX_UNLOCK, 0x2000)]), (3, locked(load())))
+
+    def test_conditions(self):
+        """A wait gives up the mutex and takes it again; a signal orders nothing."""
+        wait = [*call(Call.MUTEX_LOCK, 0x2000), *store(), *call(Call.COND_WAIT, 0x3000, 0x2000)]
+        self.no_race((2, wait), (3, locked(load())))
+        self.race((2, [*locked([]), *wait[:-1]][:-1]), (3, load()))
+        wait = [*call(Call.MUTEX_LOCK, 0x2000), *call(Call.COND_WAIT, 0x3000, 0x2000)]
+        self.race((3, wait), (2, [*store(), *call(Call.COND_SIGNAL, 0x3000)]), (3, load()))
+        self.no_race((3, wait), (2, [*locked(store()), *call(Call.COND_SIGNAL, 0x3000)]), (3, load()))
+
+    def test_read_write_locks(self):
+        def held(number, items, lock=0x2000):
+            return [*call(number, lock), *items, *call(Call.RWLOCK_UNLOCK, lock)]
+        read, write = Call.RWLOCK_RDLOCK, Call.RWLOCK_WRLOCK
+        self.no_race((2, held(write, store())), (3, held(write, load())))
+        self.no_race((2, held(write, store())), (3, held(read, load())))
+        self.no_race((2, held(read, store())), (3, held(write, load())))
+        self.race((2, held(read, store())), (3, held(read, load())))
+        self.no_race((2, held(write, store())), (3, held(Call.RWLOCK_TRYRDLOCK, load())))
+        self.no_race((2, held(read, store())), (3, held(Call.RWLOCK_TRYWRLOCK, load(), 0x7000)))
+
+    def test_barriers(self):
+        """All that come, before all that leave; and no earlier round."""
+        begun = (1, call(Call.BARRIER_INIT, 0x2000, 2))
+        wait = call(Call.BARRIER_WAIT, 0x2000)
+        self.no_race(begun, (2, [*store(), *wait]), (3, [*wait, *load()]))
+        self.no_race(begun, (3, wait), (2, [*store(), *wait]), (3, load()))
+        self.race(begun, (3, wait), (2, [*wait, *store()]), (3, load()))
+        self.race((1, call(Call.BARRIER_INIT, 0x2000, 1)), (2, [*store(), *wait]), (3, [*wait, *load()]))
+
+    def test_atomic_operations(self):
+        self.no_race((2, [*store(), *published()]), (3, [*looked_at(), *load()]))
+        self.no_race((2, published()), (3, looked_at()))
+        self.race((2, [*store(), *published()]), (3, [*looked_at(12), *load()]))
+        self.race((3, looked_at()), (2, [*store(), *published()]), (3, load()))
+        self.no_race((2, [*store(), *published()]), (1, published()), (3, [*looked_at(), *load()]))
+        both = ["2 stores, 3 loads, once"] * 2
+        self.race((2, [*store(), *published(8, FENCE_RW_RW)]), (3, [*looked_at(), *load()]), races=["2 stores, 3 loads atomically, once", both[0]])
+        self.race((2, [*store(), *published()]), (3, [*looked_at(8, FENCE_RW_RW), *load()]), races=["2 stores atomically, 3 loads, once", both[0]])
+        self.race((2, [*store(), *store(8)]), (3, [*load(8), *load()]), races=both)
+
+    def test_plain_beside_atomic(self):
+        """Of one word, whichever comes first; two atomic ones don't race, nor do two loads, nor accesses to other bytes."""
+        self.race((2, published()), (3, load(8)), races=["2 stores atomically, 3 loads, once"])
+        self.race((3, load(8)), (2, published()), races=["3 loads, 2 stores atomically, once"])
+        self.race((2, store(8)), (3, looked_at()), races=["2 stores, 3 loads atomically, once"])
+        self.race((3, looked_at()), (2, store(8)), races=["3 loads atomically, 2 stores, once"])
+        self.race((2, published()), (3, store(8)), races=["2 stores atomically, 3 stores, once"])
+        self.race((2, store(8)), (3, published()), races=["2 stores, 3 stores atomically, once"])
+        self.race((2, published()), (3, load(9, BYTE)), races=["2 stores atomically, 3 loads, once"])
+        for first, second in [(published(), published()), (looked_at(), published()), (looked_at(), looked_at()), (looked_at(), load(8)), (published(), load(12))]:
+            self.no_race((2, first), (3, second))
+        self.assertEqual(told((2, published()), (3, load(8))),
+                         ["3+3 thread 2 stores atomically 00002808 pc 00001048, 5+2 thread 3 loads 00002808 pc 00001058, once"])
+
+    def test_plain_ordered_beside_atomic(self):
+        """By the atomic store, which is itself among what it leads on from; by a lock; not what comes behind the one or before the other."""
+        self.no_race((2, [*store(8), *published()]), (3, looked_at()))
+        self.no_race((2, published()), (3, [*looked_at(), *store(8)]))
+        self.no_race((2, published()), (3, [*looked_at(), *load(8)]))
+        self.no_race((2, locked(published())), (3, locked(load(8))))
+        self.no_race((2, locked(store(8))), (3, locked(published())))
+        self.race((2, [*published(), *store(8)]), (3, looked_at()), races=["2 stores, 3 loads atomically, once"])
+        self.race((2, published()), (3, [*load(8), *looked_at()]), races=["2 stores atomically, 3 loads, once"])
+        self.race((3, looked_at()), (2, published()), (3, load(8)), races=["2 stores atomically, 3 loads, once"])
+        self.race((2, [*store(), *published()]), (3, [*published(), *load()]))
+        self.race((2, [*store(), *looked_at()]), (3, [*looked_at(), *load()]))
+        self.no_race((2, [*store(8), *published(8 + 4096)]), (3, looked_at(8)))
+
+    def test_kept_atomic(self):
+        """They are kept as plain ones are, and in their place."""
+        self.race((2, [*store(8), *published()]), (3, load(8)), races=["2 stores atomically, 3 loads, once"])
+        self.race((2, [*published(), *store(8)]), (3, published()), races=["2 stores, 3 stores atomically, once"])
+        self.no_race((2, [*store(8), *published()]), (3, published()))
+        self.no_race((2, [*load(8), *looked_at()]), (3, published()))
+        self.race((2, [*looked_at(), *load(8)]), (3, published()), races=["2 loads, 3 stores atomically, once"])
+        self.race((2, load(8)), (3, looked_at()), (4, store(8)), threads=3,
+                  races=["3 loads atomically, 4 stores, once", "2 loads, 4 stores, once"])
+
+
+class Threads(WithKeys):
+    def test_create_and_join(self):
+        create = call(Call.CREATE, Label("late"), 0, 0, 0)
+        late = [("late", [*load(), *store(8), *call(Call.THREAD_EXIT, 0)])]
+        length = length_of(late[0][1]) // 4
+        self.no_race((2, [*store(), *create]), (4, length), routines=late)
+        self.race((2, [*create, *store()]), (4, length), routines=late, races=["2 stores, 4 loads, once"])
+        self.no_race((2, create), (4, length), (3, [*call(Call.JOIN, 4), *load(8)]), routines=late)
+        self.no_race((2, create), (3, call(Call.JOIN, 4)), (4, length), (3, load(8)), routines=late)
+        self.race((2, create), (4, length), (3, [*call(Call.DETACH, 4), *load(8)]), routines=late, races=["4 stores, 3 loads, once"])
+        self.race((2, [*call(Call.DETACH, 3), *store()]), (3, load()))
+
+    def test_numbers_given_again(self):
+        """A thread that gets a number is ordered behind the one that had it."""
+        create = call(Call.CREATE, Label("late"), 0, 0, 1)
+        late = [("late", [*store(), *call(Call.THREAD_EXIT, 0)])]
+        self.no_race((2, create), (4, length_of(late[0][1]) // 4), (3, create), (4, 3), routines=late)
+
+    def test_cancelled_joiner(self):
+        """It joins nobody."""
+        pushed = [*call(Call.CLEANUP_PUSH, Label("handler"), 0), *call(Call.JOIN, 2)]
+        self.race((3, pushed), (2, store()), (1, call(Call.CANCEL, 3)), (3, 3), routines=[("handler", load())])
+
+
+class Requests(WithKeys):
+    PUSHED = call(Call.CLEANUP_PUSH, Label("handler"), 0)
+    HANDLER = [("handler", load())]
+    CANCELS = [*store(), *call(Call.CANCEL, 3)]
+
+    def test_acting(self):
+        """At a point, at once, in a wait, and behind a condition."""
+        self.no_race((3, self.PUSHED), (2, self.CANCELS), (3, call(Call.TESTCANCEL)), (3, 3), routines=self.HANDLER)
+        self.no_race((3, [*self.PUSHED, *call(Call.SETCANCELTYPE, 1)]), (2, self.CANCELS), (3, 4), routines=self.HANDLER)
+        self.no_race((3, [*self.PUSHED, *call(Call.GETC)]), (2, self.CANCELS), (3, 3), routines=self.HANDLER)
+        waits = [*self.PUSHED, *call(Call.MUTEX_LOCK, 0x2000), *call(Call.COND_WAIT, 0x3000, 0x2000)]
+        self.no_race((3, waits), (2, self.CANCELS), (3, 3), routines=self.HANDLER)
+
+    def test_before_acting(self):
+        self.race((2, self.CANCELS), (3, load()))
+        self.race((3, call(Call.SETCANCELSTATE, 1)), (2, self.CANCELS), (3, [*call(Call.TESTCANCEL), *load()]))
+        self.race((3, self.PUSHED), (2, [*call(Call.CANCEL, 3), *store()]), (3, call(Call.TESTCANCEL)), (3, 3), routines=self.HANDLER)
+
+    def test_ends(self):
+        """A thread that ends where it acts has seen who cancelled it; one that unwinds by itself hasn't."""
+        self.no_race((3, call(Call.GETC)), (2, self.CANCELS), (1, [*call(Call.JOIN, 3), *load()]))
+        left = [*self.PUSHED, *call(Call.SETCANCELSTATE, 1)]
+        self.race((3, left), (2, self.CANCELS), (3, call(Call.THREAD_EXIT, 0)), (3, 3), routines=self.HANDLER)
+
+
+class Stretches(WithKeys):
+    def test_what_was_before(self):
+        recording = recording_of([(2, store()), (3, load()), (2, load()), (3, store())])
+        whole = recording.show(Readings()).lines()
+        self.assertEqual([short(line) for line in whole], ["2 stores, 3 loads, once", "2 stores, 3 stores, once", "2 loads, 3 stores, once"])
+        self.assertEqual(recording.show(Readings(), 6).lines(), [whole[2]])
+        self.assertEqual(recording.show(Readings(), None, 6).lines(), [whole[0]])
+        self.assertEqual(recording.show(Readings(), 4, 4).lines(), [NO_RACES])
+
+
+class Chains:
+    """The second way: each doing of a thread, and which doings come right behind it."""
+
+    def __init__(self):
+        self.last, self.behind, self.given, self.count = {}, {}, {}, 0
+
+    def do(self, thread):
+        """A doing, which is a number."""
+        self.count += 1
+        self.behind[self.count] = set()
+        if thread in self.last:
+            self.behind[self.last[thread]].add(self.count)
+        self.last[thread] = self.count
+        return self.count
+
+    def give(self, thread, holder):
+        self.given.setdefault(holder, []).append(self.do(thread))
+
+    def take(self, thread, holder):
+        doing = self.do(thread)
+        for given in self.given.get(holder, []):
+            self.behind[given].add(doing)
+
+    def lead(self, thread, other):
+        first, second = self.do(thread), self.do(other)
+        self.behind[first].add(second)
+
+    def meet(self, threads):
+        came = [self.do(thread) for thread in threads]
+        left = [self.do(thread) for thread in threads]
+        for doing in came:
+            self.behind[doing].update(left)
+
+    def leads_to(self, doing, thread):
+        """Whether a chain goes from a doing to the last one of a thread."""
+        reached, left = {doing}, [doing]
+        while left:
+            more = self.behind[left.pop()] - reached
+            reached |= more
+            left += more
+        return self.last.get(thread) in reached
+
+
+class ClocksAndChains(unittest.TestCase):
+    def test_drawn_ways(self):
+        for seed in range(300):
+            chance, ways, doings = Random(seed), (Clocks(), Chains()), []
+            for _ in range(40):
+                thread, other = chance.sample(range(1, 6), 2)
+                name, *words = chance.choice([("give", thread, chance.choice("ab")), ("take", thread, chance.choice("ab")),
+                                              ("lead", thread, other), ("meet", [thread, other]), ("do", thread), ("do", thread)])
+                if name == "do":
+                    doings.append((thread, ways[0].epoch(thread), ways[1].do(thread)))
+                else:
+                    for way in ways:
+                        getattr(way, name)(*words)
+                for first, epoch, doing in doings[-6:]:
+                    for number in set(range(1, 6)) - {first}:
+                        self.assertEqual(ways[0].has_seen(number, first, epoch), ways[1].leads_to(doing, number), seed)
