@@ -22,9 +22,6 @@ static struct open_file console_files[] = {
     {&consoles[0], 0, O_RDONLY, 2}, {&consoles[1], 0, O_WRONLY, 2}, {&consoles[2], 0, O_WRONLY, 2}};
 static struct open_file *open_files[MOST_OPEN] = {&console_files[0], &console_files[1], &console_files[2]};
 
-static bool reads(const struct open_file *file) { return (file->flags & O_ACCMODE) != O_WRONLY; }
-static bool writes(const struct open_file *file) { return (file->flags & O_ACCMODE) != O_RDONLY; }
-
 struct open_file *__guest_open_file(int number) {
     return number >= 0 && number < MOST_OPEN ? open_files[number] : NULL;
 }
