@@ -24,7 +24,7 @@ SHORTEST, LONGEST = 0.02, 0.2  # seconds until a kill of ckrt-files
 KILLED = 0.5  # how many of its runs
 MAKER_LACKS = "maker"  # a control: none of its syncs is made
 LONGEST_FRAME = 64 + 1_023 + 4_096 + 1  # bytes
-BEFORE_THE_CUT = b"was made of"  # how ckrt-files refuses an output that a cut has left shorter
+BEFORE_THE_CUT = re.compile(rb"has \d+ bytes, and .* was made of \d+: ")  # how ckrt-files refuses an output that a cut has left shorter
 
 
 @dataclass
@@ -122,7 +122,7 @@ class Files:
             done = subprocess.run(words, capture_output=True, timeout=seconds, env=environment, check=False)
         except subprocess.TimeoutExpired:
             return
-        if done.returncode and BEFORE_THE_CUT not in done.stderr:
+        if done.returncode and not BEFORE_THE_CUT.search(done.stderr):
             raise Finding(f"ckrt-files: {done.stderr.decode()}")
         if not done.returncode:
             logged.note(f"made {name} {size}")
