@@ -6,6 +6,7 @@ from dataclasses import dataclass, field
 from pathlib import Path
 
 from shared.comparing import Failure
+from shared.disks import LEAST_JOURNAL
 from shared.programs import TOP
 
 PROGRAMS = TOP / "tests/programs/files"
@@ -35,6 +36,9 @@ class Program:
     is_tar: bool = False
     words: tuple = ()
     harts: int = 1
+    turn: int = 50_000  # steps, so that a life that is cut early has done something
+    rounds: int = 8  # in a commit
+    journal: int = LEAST_JOURNAL
 
 
 def write_files(files, folder):
