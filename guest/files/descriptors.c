@@ -22,9 +22,6 @@ static struct open_file console_files[] = {
     {&consoles[0], 0, O_RDONLY, 2}, {&consoles[1], 0, O_WRONLY, 2}, {&consoles[2], 0, O_WRONLY, 2}};
 static struct open_file *open_files[MOST_OPEN] = {&console_files[0], &console_files[1], &console_files[2]};
 
-static bool reads(const struct open_file *file) { return (file->flags & O_ACCMODE) != O_WRONLY; }
-static bool writes(const struct open_file *file) { return (file->flags & O_ACCMODE) != O_RDONLY; }
-
 struct open_file *__guest_open_file(int number) {
     return number >= 0 && number < MOST_OPEN ? open_files[number] : NULL;
 }
@@ -43,16 +40,20 @@ static int free_number(int least) {
     return -EMFILE;
 }
 
-int __guest_open_node(struct node *node, int flags) {
-    int number = free_number(0);
-    if (number < 0) return number;
-    struct open_file *file = malloc(sizeof *file);
-    if (!file) return -ENOSPC;
+/* Gives a node a number that is free. */
+static int open_by(int number, struct open_file *file, struct node *node, int flags) {
     *file = (struct open_file){.node = node, .flags = flags, .uses = 1};
     node->uses++;
     if (reads(file)) node->content.was_open_to_read = true;
     open_files[number] = file;
     return number;
+}
+
+int __guest_open_node(struct node *node, int flags) {
+    int number = free_number(0);
+    struct open_file *file = number < 0 ? NULL : malloc(sizeof *file);
+    if (number < 0) return number;
+    return file ? open_by(number, file, node, flags) : -ENOSPC;
 }
 
 /* --- open and close ----------------------------------------------------------------------------------------------- */
@@ -73,6 +74,7 @@ int __guest_resize(struct node *node, off_t size) {
 static int create(const struct place *place, mode_t mode, struct node **node) {
     if (!place->name || place->needs_folder) return -EISDIR;
     if (__guest_is_reserved(place)) return -EACCES;
+    if (!__guest_has_room_for_name(place, NULL)) return -ENAMETOOLONG;
     *node = __guest_make_node(place, PLAIN, mode & 07777);
     if (!*node) return -ENOSPC;
     __guest_put_out(*node);
@@ -89,17 +91,26 @@ static int may_open(const struct node *node, int flags) {
     return 0;
 }
 
+/* What a place has, or a new file; cut, if that is asked for. */
+static int prepare(const struct place *place, int flags, mode_t mode, struct node **node) {
+    bool is_cut = (flags & O_TRUNC) && (flags & O_ACCMODE) != O_RDONLY;
+    *node = place->node;
+    if (!*node) return create(place, mode, node);
+    int error = may_open(*node, flags);
+    return !error && is_cut && (*node)->kind == PLAIN ? __guest_resize(*node, 0) : error;
+}
+
+/* Room comes first: where there is none no file is made or cut. It may come from the very file. */
 static int open_place(const struct place *place, int flags, mode_t mode) {
-    struct node *node = place->node;
-    int error = node ? may_open(node, flags) : flags & O_CREAT ? 0 : -ENOENT;
-    int number = error ? error : free_number(0);
-    if (number < 0) return number;
-    if (!node) {
-        if ((error = create(place, mode, &node))) return error;
-    } else if ((flags & O_TRUNC) && (flags & O_ACCMODE) != O_RDONLY && node->kind == PLAIN) {
-        if ((error = __guest_resize(node, 0))) return error;
-    }
-    return __guest_open_node(node, flags & ~(O_CREAT | O_EXCL | O_TRUNC | O_DIRECTORY | O_CLOEXEC));
+    struct node *node;
+    if (!place->node && !(flags & O_CREAT)) return -ENOENT;
+    int number = free_number(0);
+    struct open_file *file = number < 0 ? NULL : malloc(sizeof *file);
+    if (number < 0 || !file) return number < 0 ? number : -ENOSPC;
+    int error = prepare(place, flags, mode, &node);
+    if (!error) return open_by(number, file, node, flags & ~(O_CREAT | O_EXCL | O_TRUNC | O_DIRECTORY | O_CLOEXEC));
+    free(file);
+    return error;
 }
 
 static int open_at(int folder, const char *path, int flags, mode_t mode) {
@@ -233,7 +244,7 @@ static int write_file(struct open_file *file, const char *from, uint32_t count, 
         __guest_put_console(node->kind, from, count);
         return (int)count;
     }
-    uint32_t at = file->flags & O_APPEND ? node->content.size : offset ? (uint32_t)*offset : file->offset;
+    uint32_t at = offset ? (uint32_t)*offset : file->flags & O_APPEND ? node->content.size : file->offset;
     int stored = write_plain(node, at, from, count);
     if (stored > 0 && !offset) file->offset = at + (uint32_t)stored;
     return stored;
@@ -260,6 +271,15 @@ ssize_t pwrite(int number, const void *from, size_t count, off_t offset) {
 
 /* --- Several pieces at once --------------------------------------------------------------------------------------- */
 
+/* All together have to be a number that a call may answer. */
+static bool are_countable(const struct iovec *pieces, int count) {
+    size_t sum = 0;
+    for (int i = 0; i < count; i++) {
+        if (__builtin_add_overflow(sum, pieces[i].iov_len, &sum) || sum > MOST_SIZE) return false;
+    }
+    return true;
+}
+
 /* Goes over the pieces up to one that isn't done whole. */
 static ssize_t all_pieces(int number, const struct iovec *pieces, int count, bool is_read) {
     ssize_t sum = 0;
@@ -275,7 +295,8 @@ static ssize_t all_pieces(int number, const struct iovec *pieces, int count, boo
 
 /* No other thread's call comes between two pieces, but while one waits for input. */
 static ssize_t locked_pieces(int number, const struct iovec *pieces, int count, bool is_read) {
-    if (count <= 0 || count > IOV_MAX) return __guest_answer(-EINVAL);
+    pthread_testcancel();
+    if (count <= 0 || count > IOV_MAX || !are_countable(pieces, count)) return __guest_answer(-EINVAL);
     int state = __guest_files_lock();
     struct open_file *file = __guest_open_file(number);
     bool may_wait = is_read && file && file->node->kind == INPUT;

@@ -3,6 +3,7 @@
 #define GUEST_FILES_DESCRIPTORS_H
 
 #include "node.h"
+#include <fcntl.h>
 
 /* How many files may be open at once. */
 enum { MOST_OPEN = 64 };
@@ -14,6 +15,9 @@ struct open_file {
     int flags; /* as of `open` */
     uint32_t uses;
 };
+
+static inline bool reads(const struct open_file *file) { return (file->flags & O_ACCMODE) != O_WRONLY; }
+static inline bool writes(const struct open_file *file) { return (file->flags & O_ACCMODE) != O_RDONLY; }
 
 /* Under the lock: NULL for a number that isn't open. */
 struct open_file *__guest_open_file(int number);

@@ -3,6 +3,7 @@
 #include <dirent.h>
 #include <errno.h>
 #include <fcntl.h>
+#include <pthread.h>
 #include <stdlib.h>
 #include <string.h>
 #include <unistd.h>
@@ -76,17 +77,20 @@ DIR *opendir(const char *path) {
 
 int closedir(DIR *stream) {
     int number = stream->number;
+    pthread_testcancel();
     free(stream->entries);
     free(stream);
-    return close(number);
+    return __guest_close(number);
 }
 
 struct dirent *readdir(DIR *stream) { return stream->next < stream->count ? &stream->entries[stream->next++] : NULL; }
 
 int readdir_r(DIR *restrict stream, struct dirent *restrict to, struct dirent **restrict result) {
+    int state = __guest_files_lock();
     struct dirent *entry = readdir(stream);
     if (entry) *to = *entry;
     *result = entry ? to : NULL;
+    __guest_files_unlock(state);
     return 0;
 }
 

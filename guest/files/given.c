@@ -49,13 +49,13 @@ static bool get_bytes(char *to, uint32_t count) {
     return true;
 }
 
-/* Digits to the base 8, between blanks and zeros. */
+/* Digits to the base 8, between blanks and zeros; MOST_SIZE for a number that is greater. */
 static uint32_t number_at(const char *at, uint32_t room) {
-    uint32_t number = 0;
+    uint64_t number = 0;
     for (const char *end = at + room; at < end; at++) {
         if (*at >= '0' && *at <= '7') number = number * 8 + (uint32_t)(*at - '0');
     }
-    return number;
+    return number < MOST_SIZE ? (uint32_t)number : MOST_SIZE;
 }
 
 /* The sum of a header's bytes, with blanks in its own place. */
@@ -94,6 +94,7 @@ static char *add(char *to, const char *text, size_t room) {
 /* The name of a header: what an entry before it has told, or its own in two parts. */
 static void name_of(const char *header, const char *told, char *name) {
     if (told) {
+        if (strlen(told) > MOST_PATH) refuse(": the name is too long\n", told);
         add(name, told, MOST_PATH);
         return;
     }
@@ -105,13 +106,15 @@ static void name_of(const char *header, const char *told, char *name) {
 }
 
 /* The value of `path` in records of the form "LENGTH KEY=VALUE\n"; NULL: there is none. */
-static char *path_of(const char *records) {
+static char *path_of(const char *records, const char *end, const char *name) {
     char *path = NULL;
-    while (*records) {
+    while (records < end && *records) {
         char *key;
         uint32_t length = strtoul(records, &key, 10);
-        if (length == 0 || *key != ' ') break;
-        if (strncmp(key, " path=", 6) == 0) {
+        if (*key != ' ' || length > (size_t)(end - records) || length <= (size_t)(key - records)) {
+            refuse(": what the archive tells of it can't be read\n", name);
+        }
+        if (strncmp(key, " path=", 6) == 0 && records + length > key + 6) {
             free(path);
             path = strndup(key + 6, (size_t)(records + length - 1 - (key + 6)));
         }
@@ -143,7 +146,7 @@ static char *take_entry(const char *header, const char *told) {
     case 'x':
     case 'g':
         bytes = get_entry(size, name);
-        if (header[KIND_AT] == 'x') path = path_of(bytes);
+        if (header[KIND_AT] == 'x') path = path_of(bytes, bytes + size, name);
         free(bytes);
         break;
     default: refuse(" is no file and no folder of the archive\n", name);

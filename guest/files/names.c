@@ -210,6 +210,7 @@ int truncate(const char *path, off_t size) { return with_node(AT_FDCWD, path, re
 static int make_folder(struct place *place, uintptr_t mode) {
     if (place->node) return -EEXIST;
     if (__guest_is_reserved(place)) return -EACCES;
+    if (!__guest_has_room_for_name(place, NULL)) return -ENAMETOOLONG;
     struct node *node = __guest_make_node(place, FOLDER, (mode_t)mode & ~__guest_umask & 07777);
     if (!node) return -ENOSPC;
     __guest_put_out(node);
@@ -268,6 +269,7 @@ static int may_rename(const struct place *from, const struct place *to) {
     if (from->node->is_fixed || (to->node && to->node->is_fixed)) return -EBUSY;
     if (__guest_goes_out(from->node) != __guest_goes_out(to->folder)) return -EXDEV;
     if (is_within(to->folder, from->node)) return -EINVAL;
+    if (!__guest_has_room_for_name(to, from->node)) return -ENAMETOOLONG;
     bool is_folder = from->node->kind == FOLDER;
     if (to->needs_folder && !is_folder) return -ENOTDIR;
     if (!to->node) return 0;

@@ -110,6 +110,34 @@ int __guest_find_node(struct node *begin, const char *path, struct node **node) 
     return error ? error : place.node ? 0 : -ENOENT;
 }
 
+static size_t part_bytes(const struct node *node) { return strlen(node->name) + 1; }
+
+/* The most bytes that names from a node on have, without its own. Without a call of itself, since a thread's stack is short. */
+static size_t longest_below(const struct node *top) {
+    size_t bytes = 0, most = 0;
+    for (const struct node *node = top->first; node;) {
+        bytes += part_bytes(node);
+        if (bytes > most) most = bytes;
+        if (node->first) {
+            node = node->first;
+            continue;
+        }
+        bytes -= part_bytes(node);
+        while (!node->next && node->folder != top) {
+            node = node->folder;
+            bytes -= part_bytes(node);
+        }
+        node = node->next;
+    }
+    return most;
+}
+
+bool __guest_has_room_for_name(const struct place *place, const struct node *node) {
+    size_t bytes = place->length + 1;
+    for (const struct node *folder = place->folder; folder != &root; folder = folder->folder) bytes += part_bytes(folder);
+    return bytes + (node ? longest_below(node) : 0) <= MOST_PATH;
+}
+
 /* --- Nodes -------------------------------------------------------------------------------------------------------- */
 
 static void hang(struct node *node, struct node *folder) {
@@ -225,7 +253,7 @@ struct node *__guest_make_given(const char *path, enum kind kind) {
         if (length > MOST_NAME || is_name(path, length, "..") || __guest_is_reserved(&place)) return NULL;
         if (!is_name(path, length, ".")) {
             enum kind wanted = is_last ? kind : FOLDER;
-            if (!node) node = __guest_make_node(&place, wanted, wanted == FOLDER ? 0755 : 0644);
+            if (!node && __guest_has_room_for_name(&place, NULL)) node = __guest_make_node(&place, wanted, wanted == FOLDER ? 0755 : 0644);
             if (!node || node->kind != wanted) return NULL;
             folder = node;
         }

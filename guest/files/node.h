@@ -94,6 +94,10 @@ int __guest_find_node(struct node *begin, const char *path, struct node **node);
 /* Whether ckrt-files has a file of its own of this name. */
 bool __guest_is_reserved(const struct place *place);
 
+/* Whether a node may have a place's name, or a new one where it is NULL: whole names, from the root on, have an end, those of all
+   that is below it too. */
+bool __guest_has_room_for_name(const struct place *place, const struct node *node);
+
 /* Makes a node under a place's name; NULL: the heap has no room. Without a folder it has no name. */
 struct node *__guest_make_node(const struct place *place, enum kind kind, mode_t mode);
 void __guest_move_node(struct node *node, const struct place *place, char *name);

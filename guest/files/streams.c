@@ -85,6 +85,12 @@ static bool make_buffer(struct stream *stream) {
     return stream->buffer;
 }
 
+/* Takes back a buffer of the program's: the first three have one of their own, also where the heap has no room. */
+static void give_own_buffer(struct stream *stream) {
+    stream->buffer = stream == &input ? input_room : stream == &output ? output_room : stream == &errors ? errors_room : NULL;
+    stream->room = stream == &output ? sizeof output_room : sizeof input_room;
+}
+
 /* Writes what waits. What can't be written is dropped. */
 static int flush(struct stream *stream) {
     const char *at = stream->buffer;
@@ -282,20 +288,30 @@ static void take_out(struct stream *stream) {
     pthread_mutex_unlock(&list_lock.mutex);
 }
 
-/* A stream over a descriptor; NULL with `errno`. */
-static struct stream *new_stream(int number, int flags) {
+/* A stream that has no descriptor yet; NULL with `errno`. */
+static struct stream *new_stream(int flags) {
     pthread_mutexattr_t attributes = {.type = PTHREAD_MUTEX_RECURSIVE};
     struct stream *stream = calloc(1, sizeof *stream);
     if (!stream) return NULL;
     stream->file = (struct __file){.flags = stream_flags(flags), .put = put, .get = get, .flush = flush_hook};
-    stream->number = number;
     if (pthread_mutex_init(&stream->mutex, &attributes) != 0) {
         free(stream);
         errno = EMFILE;
         return NULL;
     }
-    add(stream);
     return stream;
+}
+
+/* Gives a new stream a descriptor; frees it where that is -1. NULL with `errno`. */
+static FILE *give_number(struct stream *stream, int number) {
+    stream->number = number;
+    if (number >= 0) {
+        add(stream);
+        return &stream->file;
+    }
+    pthread_mutex_destroy(&stream->mutex);
+    free(stream);
+    return NULL;
 }
 
 FILE *fdopen(int number, const char *mode) {
@@ -306,28 +322,27 @@ FILE *fdopen(int number, const char *mode) {
         errno = EINVAL;
         return NULL;
     }
-    if (flags & O_APPEND) fcntl(number, F_SETFL, is | O_APPEND);
-    struct stream *stream = new_stream(number, flags);
-    return stream ? &stream->file : NULL;
+    struct stream *stream = new_stream(flags);
+    if (stream && (flags & O_APPEND)) fcntl(number, F_SETFL, is | O_APPEND);
+    return stream ? give_number(stream, number) : NULL;
 }
 
-static FILE *stream_over(int number, int flags) {
-    struct stream *stream = number < 0 ? NULL : new_stream(number, flags);
-    if (number >= 0 && !stream) {
-        int error = errno;
-        __guest_close(number);
-        errno = error;
-    }
-    return stream ? &stream->file : NULL;
-}
-
+/* The stream comes first: where there is no room for it no file is made or cut. */
 FILE *fopen(const char *path, const char *mode) {
-    int flags = flags_of(mode);
-    return flags < 0 ? NULL : stream_over(open(path, flags, 0666), flags);
+    int flags = flags_of(mode), state;
+    pthread_testcancel();
+    struct stream *stream = flags < 0 ? NULL : new_stream(flags);
+    if (!stream) return NULL;
+    pthread_setcancelstate(PTHREAD_CANCEL_DISABLE, &state); /* `open` is a cancellation point */
+    FILE *file = give_number(stream, open(path, flags, 0666));
+    pthread_setcancelstate(state, NULL);
+    return file;
 }
 
 /* A file without a name: it never goes out. */
 FILE *tmpfile(void) {
+    struct stream *stream = new_stream(O_RDWR);
+    if (!stream) return NULL;
     int state = __guest_files_lock();
     struct place nowhere = {.folder = NULL};
     struct node *node = __guest_make_node(&nowhere, PLAIN, 0600);
@@ -337,12 +352,12 @@ FILE *tmpfile(void) {
         __guest_end_use(node);
     }
     __guest_files_unlock(state);
-    return stream_over(__guest_answer(number), O_RDWR);
+    return give_number(stream, __guest_answer(number));
 }
 
 static void free_buffer(struct stream *stream) {
     if (stream->owns_buffer) free(stream->buffer);
-    stream->buffer = NULL;
+    stream->buffer = NULL; /* not one of its own: it has ended, or gets another one */
     stream->filled = stream->taken = 0;
     stream->owns_buffer = false;
 }
@@ -378,6 +393,7 @@ static bool exchange(struct stream *stream, const char *path, int flags) {
     if (number < 0) {
         int error = errno;
         __guest_close(stream->number);
+        stream->number = -1;
         errno = error;
         return false;
     }
@@ -389,9 +405,11 @@ static bool exchange(struct stream *stream, const char *path, int flags) {
 
 FILE *freopen(const char *path, const char *mode, FILE *file) {
     struct stream *stream = stream_of(file);
-    int flags = flags_of(mode);
+    int flags = flags_of(mode), state;
+    pthread_testcancel();
     if (!stream) errno = EBADF;
     if (!stream || flags < 0) return NULL;
+    pthread_setcancelstate(PTHREAD_CANCEL_DISABLE, &state); /* `open` is a cancellation point */
     flockfile(file);
     settle(stream);
     int is = path ? 0 : fcntl(stream->number, F_GETFL);
@@ -403,6 +421,7 @@ FILE *freopen(const char *path, const char *mode, FILE *file) {
     stream->is_writing = false;
     if (path && stream->mode == _IOLBF) stream->mode = _IOFBF; /* of a file that is no console */
     funlockfile(file);
+    pthread_setcancelstate(state, NULL);
     return is_done ? file : NULL;
 }
 
@@ -496,12 +515,15 @@ int __wrap_setvbuf(FILE *file, char *buffer, int mode, size_t size) {
     if (mode != _IOFBF && mode != _IOLBF && mode != _IONBF) return -1;
     flockfile(file);
     int result = settle(stream);
-    free_buffer(stream);
+    char *other = mode == _IONBF || size == 0 ? NULL : buffer ? buffer : malloc(size);
     stream->mode = mode;
-    if (mode != _IONBF && size > 0 && (buffer || (stream->buffer = malloc(size)))) {
+    if (other) {
+        free_buffer(stream);
+        stream->buffer = other;
         stream->owns_buffer = !buffer;
-        if (buffer) stream->buffer = buffer;
         stream->room = least(size, MOST_SIZE);
+    } else if (!stream->owns_buffer) {
+        give_own_buffer(stream);
     }
     funlockfile(file);
     return result;
@@ -512,12 +534,18 @@ void setlinebuf(FILE *file) { setvbuf(file, NULL, _IOLBF, 0); }
 
 /* --- The end ------------------------------------------------------------------------------------------------------ */
 
+/* Waits for a while at most. */
+static void take_for_the_end(pthread_mutex_t *mutex) {
+    uint64_t moment = __guest_now() + EXIT_TICKS;
+    object_call(CALL_MUTEX_TIMEDLOCK, mutex, low_word(moment), high_word(moment), 0);
+}
+
 /* Behind the routines of atexit and all other destructors. A stream whose owner waits for ever is flushed all the same. */
 __attribute__((destructor(101))) static void end(void) {
+    take_for_the_end(&list_lock.mutex); /* no stream is freed any more */
     for (struct stream *stream = streams; stream; stream = stream->next) {
-        uint64_t moment = __guest_now() + EXIT_TICKS;
         if (!(stream->file.flags & __SWR)) continue;
-        object_call(CALL_MUTEX_TIMEDLOCK, &stream->mutex, low_word(moment), high_word(moment), 0);
+        take_for_the_end(&stream->mutex);
         flush(stream);
     }
 }

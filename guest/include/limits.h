@@ -20,5 +20,6 @@
 #define SEM_NSEMS_MAX 1048576 /* the words of the largest memory: nothing else bounds their number */
 #undef SEM_VALUE_MAX
 #define SEM_VALUE_MAX 2147483647
+#define SSIZE_MAX 2147483647 /* of an answer of read and write */
 
 #endif

@@ -77,6 +77,7 @@ class Run:
     acknowledged: int = 0
     printed: int = 0  # so many bytes of output, of lines
     kept: int = 0  # so many bytes of output, of drives that ended by themselves
+    made: int = 0  # so many bytes of output, of which a ckrt-files that ended by itself has made files
 
     def take_line(self, line):
         match line.split():
@@ -92,16 +93,25 @@ class Run:
             raise Finding(f"printed {data.hex()} at {offset}, behind {self.printed} bytes")
         self.printed = max(self.printed, offset + len(data))
 
+    def right(self, held, _confirmed):
+        """How many bytes of an output are right, of which so many are confirmed."""
+        return first_difference(held, self.wanted)
+
+
+def numbers(seed, count):
+    """What is promised of a disk whose guest puts sums of numbers."""
+    return Run(output_of(seed, count))
+
 
 class State:
-    """What is known at a moment of a log."""
+    """What is known at a moment of a log. `new_run` says what is promised of a disk that is made, by its seed and its count."""
 
-    def __init__(self):
-        self.files, self.runs, self.life, self.line = {}, {}, None, b""
+    def __init__(self, new_run=numbers):
+        self.new_run, self.files, self.runs, self.life, self.line = new_run, {}, {}, None, b""
 
     def after_a_cut(self, folder):
         """The same promises, with the files as they are now."""
-        state = State()
+        state = State(self.new_run)
         state.runs = {name: replace(run) for name, run in self.runs.items()}
         for name in self.files:
             path = folder / name
@@ -128,9 +138,11 @@ class State:
                 self.files.setdefault(name, File()).take_over(name, data)
             case ["life", name, seed, count, _]:
                 self.life, self.line = name, b""
-                self.runs.setdefault(name, Run(output_of(int(seed), int(count))))
+                self.runs.setdefault(name, self.new_run(int(seed), int(count)))
             case ["kept", name, length]:
                 self.runs[name].kept = int(length)
+            case ["made", name, length]:
+                self.runs[name].made = int(length)
 
     def check(self, folder):
         """Looks at a folder behind a cut."""
@@ -153,7 +165,7 @@ def check_run(folder, name, run):
     if events < run.acknowledged:
         raise Finding(f"{disk.name} recovers to {events} events, though {run.acknowledged} were acknowledged")
     held = output.read_bytes() if output.exists() else b""
-    right = first_difference(held, run.wanted)
+    right = run.right(held, confirmed)
     if max(right, run.printed) < confirmed:
         raise Finding(f"{disk.name} has {confirmed} bytes of output as confirmed, of which {right} are kept and {run.printed} printed")
     if right < run.kept:

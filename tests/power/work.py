@@ -65,6 +65,11 @@ class Place:
     folder: Path
     images: Path
     ckrt: Path
+    pages: int = 16
+    turns: tuple = 30, 100, 400  # of drives that are cut
+    events: tuple = 10, 40, 100, 300, 10_000
+    calls: tuple = CALLS
+    turns_behind: tuple = 1_000, 5_000, 65_535  # of drives behind a cut
 
     def image(self, name):
         path = self.images / f"{name}.bin"
@@ -77,7 +82,7 @@ class Place:
         return [self.ckrt, job, self.folder / f"{name}.disk", *more]
 
     def format_words(self, name):
-        return self.words("format", name, self.image(name), *shape_words(pages=16, journal=JOURNALS[seed_of(name) % len(JOURNALS)]))
+        return self.words("format", name, self.image(name), *shape_words(pages=self.pages, journal=JOURNALS[seed_of(name) % len(JOURNALS)]))
 
     def drive_words(self, name, *more):
         return self.words("drive", name, "--output", self.folder / f"{name}.out", *more)
@@ -114,9 +119,9 @@ class Logged:
 
     def drive(self, name):
         """A drive with a rhythm drawn by lot, which ends by itself or is killed."""
-        turn, rounds, events = (str(self.chance.choice(of)) for of in ([30, 100, 400], [1, 2, 8], [10, 40, 100, 300, 10_000]))
+        turn, rounds, events = (str(self.chance.choice(of)) for of in (self.place.turns, [1, 2, 8], self.place.events))
         words = self.place.drive_words(name, "--turn", turn, "--rounds-per-commit", rounds, "--events", events)
-        if self.live(name, words, calls=self.chance.choice(CALLS)) == 0:
+        if self.live(name, words, calls=self.chance.choice(self.place.calls)) == 0:
             self.note(f"kept {name} {(self.place.folder / f'{name}.out').stat().st_size}")
 
     def feed(self, name):
@@ -168,7 +173,7 @@ def begin_other(folder, seed):
     return child
 
 
-def work(logged, names):
+def work(logged, names, behind_drive=lambda name: None):
     """Disks are made where they aren't there, driven and fed in turns, beside other programs that write and sync."""
     others = [begin_other(logged.place.folder, logged.chance.random()) for _ in range(OTHERS)]
     try:
@@ -180,6 +185,7 @@ def work(logged, names):
                     logged.feed(name)
                 elif not name.startswith("made"):
                     logged.drive(name)
+                    behind_drive(name)
     finally:
         for other in others:
             os.kill(other, signal.SIGKILL)
@@ -198,27 +204,37 @@ def shown(words, done):
     return f"{' '.join(map(str, words[1:3]))}: status {done.returncode}, {(done.stdout + done.stderr)[-200:]!r}"
 
 
-def go_on(place, name, run, chance):
-    """Gives the same commands again after a cut, until the guest has ended, and compares its output."""
-    wanted = output_of(seed_of(name), COUNT)
-    if not run.formatted:
-        words = place.format_words(name)
+def format_again(place, name):
+    """Makes a disk behind a cut, or finds it made."""
+    words = place.format_words(name)
+    done = said(words)
+    if done.returncode and b"it is no disk, and is unchanged" in done.stderr:
+        # the cut left other bytes than its first block, by which the file would be known
+        words[2].unlink()
         done = said(words)
-        if done.returncode and b"it is no disk, and is unchanged" in done.stderr:
-            # the cut left other bytes than its first block, by which the file would be known
-            words[2].unlink()
-            done = said(words)
-        if done.returncode and not done.stderr.endswith(b"ckrt: AlreadyFormatted\n"):
-            raise Finding(shown(words, done))
-    output = place.folder / f"{name}.out"
-    if name.startswith("lines"):
-        # who read the lines has kept the bytes, and hands them to the drive, which goes on behind them
-        output.write_bytes(wanted[:max(run.printed, feed_behind(place, name, wanted))])
-    rhythm = "--turn", str(chance.choice([1_000, 5_000, 65_535])), "--rounds-per-commit", str(chance.choice([3, 16]))
+    if done.returncode and not done.stderr.endswith(b"ckrt: AlreadyFormatted\n"):
+        raise Finding(shown(words, done))
+
+
+def drive_again(place, name, chance):
+    """Drives a disk behind a cut, to the end of its guest."""
+    rhythm = "--turn", str(chance.choice(place.turns_behind)), "--rounds-per-commit", str(chance.choice([3, 16]))
     words = place.drive_words(name, *rhythm)
     done = said(words)
     if done.returncode or not done.stderr.startswith(b"ended: exit 0"):
         raise Finding(shown(words, done))
+
+
+def go_on(place, name, run, chance):
+    """Gives the same commands again after a cut, until the guest has ended, and compares its output."""
+    wanted = output_of(seed_of(name), COUNT)
+    if not run.formatted:
+        format_again(place, name)
+    output = place.folder / f"{name}.out"
+    if name.startswith("lines"):
+        # who read the lines has kept the bytes, and hands them to the drive, which goes on behind them
+        output.write_bytes(wanted[:max(run.printed, feed_behind(place, name, wanted))])
+    drive_again(place, name, chance)
     held = output.read_bytes()
     if held != wanted:
         at = first_difference(held, wanted)
