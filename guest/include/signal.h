@@ -103,11 +103,15 @@ union sigval {
     void *sival_ptr;
 };
 
+/* All that isn't named here is 0. */
 typedef struct {
     int si_signo;
-    int si_code; /* SI_USER */
-    pid_t si_pid;
-    void *si_addr; /* NULL */
+    int si_code;  /* SI_USER */
+    pid_t si_pid; /* of the one process */
+    uid_t si_uid;
+    int si_errno;
+    int si_status;
+    void *si_addr;
     union sigval si_value;
 } siginfo_t;
 
