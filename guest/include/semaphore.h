@@ -26,9 +26,9 @@ typedef struct {
     unsigned count;
 } sem_t;
 
-/* The name is a slash and up to 250 other characters. <fcntl.h> has O_CREAT and O_EXCL; with O_CREAT a mode, which says nothing,
-   and a count follow. The same name gives the same semaphore until sem_unlink. SEM_FAILED with EEXIST, EINVAL, ENAMETOOLONG, ENOENT,
-   ENOMEM. */
+/* The name is a slash and up to 251 other characters; as on Linux the slash may be left out. <fcntl.h> has O_CREAT and O_EXCL; with
+   O_CREAT a mode, which says nothing, and a count follow. The same name gives the same semaphore until sem_unlink. SEM_FAILED with
+   EEXIST, EINVAL, ENAMETOOLONG, ENOENT, ENOMEM. */
 sem_t *sem_open(const char *name, int flags, ...);
 int sem_close(sem_t *semaphore);                               /* EINVAL: not open */
 int sem_unlink(const char *name);                              /* ENAMETOOLONG, ENOENT */

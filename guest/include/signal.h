@@ -63,7 +63,7 @@ typedef void (*sighandler_t)(int);
 /* The handler before. SIG_ERR with EINVAL: no such signal, or one that can have no handler. */
 void (*signal(int number, void (*handler)(int)))(int);
 
-/* 0 once the handler has returned, or where the signal is blocked. -1 with EINVAL: no such signal. */
+/* 0 once the handler has returned, where the signal is blocked, or of the number 0. -1 with EINVAL: no such signal. */
 int raise(int number);
 
 /* --- Masks -------------------------------------------------------------------------------------------------------- */
@@ -86,7 +86,8 @@ int sigismember(const sigset_t *set, int number);
 #define SIG_UNBLOCK 2
 
 /* A new thread has the mask of the thread that made it. Of what is raised while it is blocked a handler runs once, when it is
-   unblocked. EINVAL: no such way. */
+   unblocked. It is discarded where it is set to be ignored before, and signals to stop and SIGCONT discard each other.
+   EINVAL: no such way. */
 typedef unsigned int pthread_t;
 int pthread_sigmask(int how, const sigset_t *__restrict set, sigset_t *__restrict old);
 int sigprocmask(int how, const sigset_t *__restrict set, sigset_t *__restrict old);
@@ -102,11 +103,15 @@ union sigval {
     void *sival_ptr;
 };
 
+/* All that isn't named here is 0. */
 typedef struct {
     int si_signo;
-    int si_code; /* SI_USER */
-    pid_t si_pid;
-    void *si_addr; /* NULL */
+    int si_code;  /* SI_USER */
+    pid_t si_pid; /* of the one process */
+    uid_t si_uid;
+    int si_errno;
+    int si_status;
+    void *si_addr;
     union sigval si_value;
 } siginfo_t;
 

@@ -35,7 +35,10 @@ int __guest_limbs_for(const struct number *number);
 
 struct digits __guest_digits_of(const struct number *number, uint32_t *limbs);
 
-/* A place is the power of ten that a digit counts. That of the leading digit; 0 of the number 0. */
+/* A place is the power of ten that a digit counts. No number has a digit below the least, which the least long double has. */
+enum { LEAST_PLACE = -16494 };
+
+/* The place of the leading digit; 0 of the number 0. */
 int __guest_leading_place(const struct digits *of);
 int __guest_digit_at(const struct digits *of, int place);
 

@@ -9,14 +9,14 @@
 #include <stdlib.h>
 #include <string.h>
 
-enum { LONGEST_NAME = 251 }; /* as on Linux */
+enum { LONGEST_NAME = 251 }; /* behind the slash, as on Linux */
 
 struct named {
     sem_t semaphore; /* what the program has the address of */
     unsigned opened;
     bool has_name; /* it wasn't unlinked */
     struct named *next;
-    char name[];
+    char name[]; /* without the slash */
 };
 
 static struct named *first;
@@ -59,16 +59,19 @@ static int find_or_make(const char *name, int flags, unsigned count, struct name
     return *found ? 0 : ENOMEM;
 }
 
+/* The name behind its slash, which POSIX asks for and Linux doesn't. */
+static const char *behind_slash(const char *name) { return name + strspn(name, "/"); }
+
 static int check_name(const char *name) {
     size_t length = strlen(name);
     if (length > LONGEST_NAME) return ENAMETOOLONG;
-    return name[0] == '/' && length > 1 && !strchr(name + 1, '/') ? 0 : EINVAL;
+    return length > 0 && !strchr(name, '/') ? 0 : EINVAL;
 }
 
 sem_t *sem_open(const char *name, int flags, ...) {
     struct named *named = NULL;
     unsigned count = 0;
-    int error = check_name(name);
+    int error = check_name(name = behind_slash(name));
     if (flags & O_CREAT) {
         va_list more;
         va_start(more, flags);
@@ -101,6 +104,7 @@ int sem_close(sem_t *semaphore) {
 }
 
 int sem_unlink(const char *name) {
+    name = behind_slash(name);
     int error = strlen(name) > LONGEST_NAME ? ENAMETOOLONG : 0;
     lock();
     struct named *named = error ? NULL : with_name(name);

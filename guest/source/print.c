@@ -5,65 +5,113 @@
  * This file is linked where a program asks for the usual printf: see guest/cc.
  */
 #include "digits.h"
+#include "format.h"
 #include <ctype.h>
+#include <errno.h>
 #include <limits.h>
-#include <stdarg.h>
 #include <stddef.h>
 #include <stdio.h>
 #include <string.h>
+#include <wchar.h>
 
-enum { USUAL_PRECISION = 6, NOT_GIVEN = -1, MOST_DIGITS = 22, MOST_NIBBLES = 29 };
-
-/* Of `size` hh is H, and ll is q. */
-struct format {
-    bool is_left, has_plus, has_space, is_alternate, has_zeros;
-    int width, precision;
-    char size, kind;
-};
+enum { USUAL_PRECISION = 6, MOST_DIGITS = 22, MOST_NIBBLES = 29 };
 
 struct output {
     FILE *stream;
     int count;
-    bool has_failed;
+    bool has_failed; /* nothing more is put then */
 };
 
+static void fail(struct output *to, int error) {
+    errno = error;
+    to->has_failed = true;
+}
+
+/* Whether so many bytes more are still a count. */
+static bool has_room(struct output *to, unsigned bytes) {
+    if (!to->has_failed && bytes > (unsigned)(INT_MAX - to->count)) fail(to, EOVERFLOW);
+    return !to->has_failed;
+}
+
 static void put(struct output *to, char byte) {
-    if (to->stream->put(byte, to->stream) < 0) to->has_failed = true;
+    if (!has_room(to, 1)) return;
     to->count++;
+    if (to->stream->put(byte, to->stream) >= 0) return;
+    to->stream->flags |= __SERR;
+    to->has_failed = true;
 }
 
-static void put_all(struct output *to, const char *text, int length) {
-    for (int i = 0; i < length; i++) put(to, text[i]);
+static void put_all(struct output *to, const char *text, unsigned length) {
+    for (unsigned i = 0; i < length; i++) put(to, text[i]);
 }
 
-static void put_many(struct output *to, char byte, int count) {
-    for (; count > 0; count--) put(to, byte);
+static void put_many(struct output *to, char byte, unsigned count) {
+    for (; count > 0 && !to->has_failed; count--) put(to, byte);
 }
 
 /* Puts what stands before a text of so many bytes, and answers how many blanks stand behind it. */
-static int begin(struct output *to, const struct format *format, const char *prefix, int length) {
-    int before = (int)strlen(prefix), fill = format->width - before - length;
+static unsigned begin(struct output *to, const struct format *format, const char *prefix, unsigned length) {
+    unsigned before = strlen(prefix), whole = before + length, width = (unsigned)format->width;
+    unsigned fill = width > whole ? width - whole : 0;
     bool has_zeros = format->has_zeros && !format->is_left;
+    if (!has_room(to, whole + fill)) return 0;
     if (!format->is_left && !has_zeros) put_many(to, ' ', fill);
     put_all(to, prefix, before);
     if (has_zeros) put_many(to, '0', fill);
     return format->is_left ? fill : 0;
 }
 
+/* --- Texts -------------------------------------------------------------------------------------------------------- */
+
 static void put_text(struct output *to, struct format *format, const char *text) {
     if (!text) text = "(null)";
-    int length = (int)(format->precision < 0 ? strlen(text) : strnlen(text, (size_t)format->precision));
+    size_t length = format->precision < 0 ? strlen(text) : strnlen(text, (size_t)format->precision);
     format->has_zeros = false;
-    int behind = begin(to, format, "", length);
+    unsigned behind = begin(to, format, "", length);
     put_all(to, text, length);
     put_many(to, ' ', behind);
 }
 
 static void put_byte(struct output *to, struct format *format, char byte) {
     format->has_zeros = false;
-    int behind = begin(to, format, "", 1);
+    unsigned behind = begin(to, format, "", 1);
     put(to, byte);
     put_many(to, ' ', behind);
+}
+
+/* The bytes of a wide character, and how many; 0: it would be more than `room`, or it has none, which fails. */
+static unsigned bytes_of(struct output *to, wchar_t wide, unsigned room, char bytes[MB_LEN_MAX]) {
+    mbstate_t state = {0};
+    size_t length = wcrtomb(bytes, wide, &state);
+    if (length == (size_t)-1) fail(to, EILSEQ);
+    return length <= room ? length : 0;
+}
+
+/* How many bytes of a wide text a precision lets through: those of whole characters. */
+static unsigned wide_length(struct output *to, const wchar_t *text, unsigned most) {
+    char bytes[MB_LEN_MAX];
+    unsigned length = 0, more;
+    for (; length < most && *text && (more = bytes_of(to, *text, most - length, bytes)); text++) length += more;
+    return length;
+}
+
+static void put_wide_text(struct output *to, struct format *format, const wchar_t *text) {
+    char bytes[MB_LEN_MAX];
+    unsigned most = format->precision < 0 ? INT_MAX : (unsigned)format->precision, length = wide_length(to, text, most);
+    format->has_zeros = false;
+    unsigned behind = begin(to, format, "", length);
+    while (length > 0 && !to->has_failed) {
+        unsigned count = bytes_of(to, *text++, length, bytes);
+        put_all(to, bytes, count);
+        length -= count;
+    }
+    put_many(to, ' ', behind);
+}
+
+/* C11, 7.21.6.1: as a text of the one character. */
+static void put_wide(struct output *to, struct format *format, wchar_t wide) {
+    format->precision = NOT_GIVEN;
+    put_wide_text(to, format, (wchar_t[]){wide, 0});
 }
 
 static const char *sign_of(const struct format *format, bool is_negative) {
@@ -82,39 +130,32 @@ static char *write_digits(char *end, unsigned long long value, unsigned base, bo
 
 static void put_whole(struct output *to, struct format *format, const char *prefix, unsigned long long value, unsigned base) {
     char digits[MOST_DIGITS], *end = digits + sizeof digits, *first = write_digits(end, value, base, format->kind == 'X');
-    int length = (int)(end - first), least = format->precision < 0 ? 1 : format->precision;
+    unsigned length = (unsigned)(end - first), least = format->precision < 0 ? 1 : (unsigned)format->precision;
     if (format->precision >= 0) format->has_zeros = false;
     if (format->kind == 'o' && format->is_alternate && least <= length) least = length + 1;
-    int zeros = least > length ? least - length : 0;
-    int behind = begin(to, format, prefix, zeros + length);
+    unsigned zeros = least > length ? least - length : 0, behind = begin(to, format, prefix, zeros + length);
     put_many(to, '0', zeros);
     put_all(to, first, length);
     put_many(to, ' ', behind);
 }
 
-static long long signed_value(char size, va_list *values) {
+static long long signed_value(char size, const union value *value) {
     switch (size) {
-    case 'H': return (signed char)va_arg(*values, int);
-    case 'h': return (short)va_arg(*values, int);
-    case 'l': return va_arg(*values, long);
-    case 'q': return va_arg(*values, long long);
-    case 'j': return va_arg(*values, intmax_t);
-    case 'z':
-    case 't': return va_arg(*values, ptrdiff_t);
-    default: return va_arg(*values, int);
+    case 'H': return (signed char)value->word;
+    case 'h': return (short)value->word;
+    case 'q':
+    case 'j': return (long long)value->two_words;
+    default: return (int)value->word; /* a long is an int, and so is a ptrdiff_t */
     }
 }
 
-static unsigned long long unsigned_value(char size, va_list *values) {
+static unsigned long long unsigned_value(char size, const union value *value) {
     switch (size) {
-    case 'H': return (unsigned char)va_arg(*values, unsigned);
-    case 'h': return (unsigned short)va_arg(*values, unsigned);
-    case 'l': return va_arg(*values, unsigned long);
-    case 'q': return va_arg(*values, unsigned long long);
-    case 'j': return va_arg(*values, uintmax_t);
-    case 'z':
-    case 't': return va_arg(*values, size_t);
-    default: return va_arg(*values, unsigned);
+    case 'H': return (unsigned char)value->word;
+    case 'h': return (unsigned short)value->word;
+    case 'q':
+    case 'j': return value->two_words;
+    default: return (unsigned)value->word;
     }
 }
 
@@ -135,60 +176,72 @@ static void put_pointer(struct output *to, struct format *format, void *pointer)
 
 /* --- Numbers with a fraction -------------------------------------------------------------------------------------- */
 
-static void put_places(struct output *to, const struct digits *digits, int from, int down_to) {
-    for (int place = from; place >= down_to; place--) put(to, (char)('0' + __guest_digit_at(digits, place)));
+/* Puts so many digits from a place down. Below the least place there are zeros alone. */
+static void put_places(struct output *to, const struct digits *digits, int from, unsigned count) {
+    unsigned shown = (unsigned)(from - LEAST_PLACE + 1);
+    if (shown > count) shown = count;
+    for (unsigned i = 0; i < shown && !to->has_failed; i++) put(to, (char)('0' + __guest_digit_at(digits, from - (int)i)));
+    put_many(to, '0', count - shown);
+}
+
+/* The place of the last of so many digits below one, or one that is below all digits. */
+static int last_place(int from, unsigned count) {
+    return count < (unsigned)(from - LEAST_PLACE + 1) ? from - (int)count : LEAST_PLACE - 1;
 }
 
 /* As %f, with so many digits behind the point; all are there, rounded. */
-static void put_fixed(struct output *to, const struct format *format, const char *sign, const struct digits *digits, int precision) {
+static void put_fixed(struct output *to, const struct format *format, const char *sign, const struct digits *digits,
+                      unsigned precision) {
     int leading = __guest_leading_place(digits), top = leading > 0 ? leading : 0;
     bool has_point = precision > 0 || format->is_alternate;
-    int behind = begin(to, format, sign, top + 1 + has_point + precision);
-    put_places(to, digits, top, 0);
+    unsigned whole = (unsigned)top + 1, behind = begin(to, format, sign, whole + has_point + precision);
+    put_places(to, digits, top, whole);
     if (has_point) put(to, '.');
-    put_places(to, digits, -1, -precision);
+    put_places(to, digits, -1, precision);
     put_many(to, ' ', behind);
 }
 
 /* The letter, a sign, and so many digits at least. Answers how many bytes it wrote. */
-static int write_exponent(char *text, char letter, int exponent, int least) {
+static unsigned write_exponent(char *text, char letter, int exponent, int least) {
     char digits[MOST_DIGITS], *end = digits + sizeof digits;
     char *first = write_digits(end, (unsigned)(exponent < 0 ? -exponent : exponent), 10, false);
     while (end - first < least) *--first = '0';
     text[0] = letter;
     text[1] = exponent < 0 ? '-' : '+';
     memcpy(text + 2, first, (size_t)(end - first));
-    return 2 + (int)(end - first);
+    return 2 + (unsigned)(end - first);
 }
 
 /* As %e. */
 static void put_scientific(struct output *to, const struct format *format, const char *sign, const struct digits *digits,
-                           int precision) {
+                           unsigned precision) {
     char exponent[MOST_DIGITS];
     int top = __guest_leading_place(digits);
-    int length = write_exponent(exponent, format->kind < 'a' ? 'E' : 'e', top, 2);
+    unsigned length = write_exponent(exponent, format->kind < 'a' ? 'E' : 'e', top, 2);
     bool has_point = precision > 0 || format->is_alternate;
-    int behind = begin(to, format, sign, 1 + has_point + precision + length);
-    put_places(to, digits, top, top);
+    unsigned behind = begin(to, format, sign, 1 + has_point + precision + length);
+    put_places(to, digits, top, 1);
     if (has_point) put(to, '.');
-    put_places(to, digits, top - 1, top - precision);
+    put_places(to, digits, top - 1, precision);
     put_all(to, exponent, length);
     put_many(to, ' ', behind);
 }
 
 /* How many of so many digits below a place there are without zeros at the end. */
-static int without_zeros(const struct digits *digits, int place, int count) {
-    while (count > 0 && !__guest_digit_at(digits, place - count)) count--;
+static unsigned without_zeros(const struct digits *digits, int place, unsigned count) {
+    unsigned most = (unsigned)(place - LEAST_PLACE);
+    if (count > most) count = most;
+    while (count > 0 && !__guest_digit_at(digits, place - (int)count)) count--;
     return count;
 }
 
 /* As %g. */
 static void put_shorter(struct output *to, const struct format *format, const char *sign, struct digits *digits, int precision) {
     int count = precision > 0 ? precision : 1;
-    __guest_round_at(digits, __guest_leading_place(digits) - (count - 1));
+    __guest_round_at(digits, last_place(__guest_leading_place(digits), (unsigned)count - 1));
     int top = __guest_leading_place(digits);
     bool is_fixed = top >= -4 && top < count;
-    int behind_point = is_fixed ? count - 1 - top : count - 1;
+    unsigned behind_point = (unsigned)count - 1 - (is_fixed ? (unsigned)top : 0);
     if (!format->is_alternate) behind_point = without_zeros(digits, is_fixed ? 0 : top, behind_point);
     if (is_fixed) put_fixed(to, format, sign, digits, behind_point);
     else put_scientific(to, format, sign, digits, behind_point);
@@ -218,14 +271,15 @@ static void put_hexadecimal(struct output *to, const struct format *format, cons
     if (format->precision >= 0) precision = format->precision;
     else while (precision > 0 && !nibbles[precision]) precision--;
     if (precision < count) round_nibbles(nibbles, count, precision);
-    int length = write_exponent(exponent, is_upper ? 'P' : 'p', is_zero ? 0 : number->exponent + number->fraction_bits, 1);
+    unsigned length = write_exponent(exponent, is_upper ? 'P' : 'p', is_zero ? 0 : number->exponent + number->fraction_bits, 1);
     bool has_point = precision > 0 || format->is_alternate;
     strcat(strcpy(prefix, sign), is_upper ? "0X" : "0x");
-    int behind = begin(to, format, prefix, 1 + has_point + precision + length);
-    for (int i = 0; i <= precision; i++) {
-        put(to, i > count ? '0' : (is_upper ? "0123456789ABCDEF" : "0123456789abcdef")[nibbles[i]]);
+    unsigned behind = begin(to, format, prefix, 1 + has_point + (unsigned)precision + length);
+    for (int i = 0; i <= precision && i <= count; i++) {
+        put(to, (is_upper ? "0123456789ABCDEF" : "0123456789abcdef")[nibbles[i]]);
         if (i == 0 && has_point) put(to, '.');
     }
+    if (precision > count) put_many(to, '0', (unsigned)(precision - count));
     put_all(to, exponent, length);
     put_many(to, ' ', behind);
 }
@@ -236,12 +290,12 @@ static void put_finite(struct output *to, const struct format *format, const cha
     int precision = format->precision < 0 ? USUAL_PRECISION : format->precision;
     switch (tolower((unsigned char)format->kind)) {
     case 'f':
-        __guest_round_at(&digits, -precision);
-        put_fixed(to, format, sign, &digits, precision);
+        __guest_round_at(&digits, last_place(0, (unsigned)precision));
+        put_fixed(to, format, sign, &digits, (unsigned)precision);
         break;
     case 'e':
-        __guest_round_at(&digits, __guest_leading_place(&digits) - precision);
-        put_scientific(to, format, sign, &digits, precision);
+        __guest_round_at(&digits, last_place(__guest_leading_place(&digits), (unsigned)precision));
+        put_scientific(to, format, sign, &digits, (unsigned)precision);
         break;
     default: put_shorter(to, format, sign, &digits, precision);
     }
@@ -257,15 +311,14 @@ static void put_number(struct output *to, struct format *format, struct number n
     }
     format->has_zeros = false;
     const char *text = number.kind == INFINITE ? (is_upper ? "INF" : "inf") : (is_upper ? "NAN" : "nan");
-    int behind = begin(to, format, sign, 3);
+    unsigned behind = begin(to, format, sign, 3);
     put_all(to, text, 3);
     put_many(to, ' ', behind);
 }
 
 /* --- Formats ------------------------------------------------------------------------------------------------------ */
 
-static void store_count(char size, va_list *values, int count) {
-    void *to = va_arg(*values, void *);
+static void store_count(char size, void *to, int count) {
     switch (size) {
     case 'H': *(signed char *)to = (signed char)count; break;
     case 'h': *(short *)to = (short)count; break;
@@ -275,78 +328,59 @@ static void store_count(char size, va_list *values, int count) {
     }
 }
 
-static const char *read_flags(const char *at, struct format *format) {
-    for (;; at++) {
-        switch (*at) {
-        case '-': format->is_left = true; break;
-        case '+': format->has_plus = true; break;
-        case ' ': format->has_space = true; break;
-        case '#': format->is_alternate = true; break;
-        case '0': format->has_zeros = true; break;
-        default: return at;
-        }
-    }
-}
-
-static const char *read_number(const char *at, int *number, va_list *values) {
-    *number = 0;
-    if (*at == '*') {
-        *number = va_arg(*values, int);
-        return at + 1;
-    }
-    for (; isdigit((unsigned char)*at); at++) *number = *number * 10 + (*at - '0');
-    return at;
-}
-
-/* Reads a format from behind its percent sign. Answers what follows it. */
-static const char *read_format(const char *at, struct format *format, va_list *values) {
-    *format = (struct format){.precision = NOT_GIVEN};
-    at = read_number(read_flags(at, format), &format->width, values);
-    if (format->width < 0) {
-        format->is_left = true;
-        format->width = -format->width;
-    }
-    if (*at == '.') at = read_number(at + 1, &format->precision, values);
-    if (strchr("hljztL", *at) && *at) format->size = *at++;
-    if (format->size == *at && (*at == 'h' || *at == 'l')) format->size = *at++ == 'h' ? 'H' : 'q';
-    format->kind = *at;
-    return *at ? at + 1 : at;
-}
-
-static void put_value(struct output *to, struct format *format, va_list *values) {
+static void put_value(struct output *to, struct format *format, const union value *value) {
+    void *pointer = (void *)value->word;
+    bool is_long = format->size == 'l';
     switch (format->kind) {
     case 'd':
-    case 'i': put_signed(to, format, signed_value(format->size, values)); break;
+    case 'i': put_signed(to, format, signed_value(format->size, value)); break;
     case 'o':
     case 'u':
     case 'x':
-    case 'X': put_unsigned(to, format, unsigned_value(format->size, values)); break;
-    case 'c': put_byte(to, format, (char)va_arg(*values, int)); break;
-    case 's': put_text(to, format, va_arg(*values, const char *)); break;
-    case 'p': put_pointer(to, format, va_arg(*values, void *)); break;
-    case 'n': store_count(format->size, values, to->count); break;
+    case 'X': put_unsigned(to, format, unsigned_value(format->size, value)); break;
+    case 'c': is_long ? put_wide(to, format, (wchar_t)value->word) : put_byte(to, format, (char)value->word); break;
+    case 's': is_long && pointer ? put_wide_text(to, format, pointer) : put_text(to, format, pointer); break;
+    case 'p': put_pointer(to, format, pointer); break;
+    case 'n': store_count(format->size, pointer, to->count); break;
     case '%': put(to, '%'); break;
     default:
         if (!format->kind || !strchr("aAeEfFgG", format->kind)) break;
-        put_number(to, format, format->size == 'L' ? __guest_number_of_long(va_arg(*values, long double))
-                                                   : __guest_number_of(va_arg(*values, double)));
+        put_number(to, format, format->size == 'L' ? __guest_number_of_long(value->long_real) : __guest_number_of(value->real));
     }
 }
 
-int vfprintf(FILE *stream, const char *text, va_list given) {
+static int print(FILE *stream, const char *text, struct values *values) {
     struct output to = {.stream = stream};
-    struct format format;
-    va_list values;
-    if (!(stream->flags & __SWR)) return EOF;
-    va_copy(values, given);
     while (*text && !to.has_failed) {
         if (*text != '%') {
             put(&to, *text++);
             continue;
         }
-        text = read_format(text + 1, &format, &values);
-        put_value(&to, &format, &values);
+        struct format format;
+        text = __guest_read_format(text + 1, &format, values);
+        union value value = __guest_value_of(&format, values);
+        if (format.error) fail(&to, format.error);
+        else put_value(&to, &format, &value);
     }
-    va_end(values);
     return to.has_failed ? EOF : to.count;
+}
+
+/* Not a part of vfprintf: the room is much for a stack. */
+static __attribute__((noinline)) int print_numbered(FILE *stream, const char *text, struct values *values) {
+    union value room[NL_ARGMAX];
+    __guest_read_numbered(text, values, room);
+    return print(stream, text, values);
+}
+
+int vfprintf(FILE *stream, const char *text, va_list given) {
+    struct values values = {.numbered = NULL};
+    if (!(stream->flags & __SWR)) {
+        stream->flags |= __SERR;
+        errno = EBADF;
+        return EOF;
+    }
+    va_copy(values.list, given);
+    int count = strchr(text, '$') ? print_numbered(stream, text, &values) : print(stream, text, &values);
+    va_end(values.list);
+    return count;
 }

@@ -22,14 +22,21 @@ typedef void (*handler)(int);
 /* Of 7 and 29 POSIX has no name, and 0 is none. */
 static const uint32_t signals = ~(BIT(0) | BIT(7) | BIT(29));
 static const uint32_t unblockable = BIT(SIGKILL) | BIT(SIGSTOP);
-static const uint32_t do_nothing = BIT(SIGURG) | BIT(SIGSTOP) | BIT(SIGTSTP) | BIT(SIGCONT) | BIT(SIGCHLD) | BIT(SIGTTIN) |
-                                   BIT(SIGTTOU) | BIT(SIGWINCH);
 
-/* By the signal's number, under the lock of queues. */
+/* Those that do nothing without a handler: they are ignored, or would stop a process. */
+static const uint32_t ignored = BIT(SIGURG) | BIT(SIGCONT) | BIT(SIGCHLD) | BIT(SIGWINCH);
+static const uint32_t stops = BIT(SIGSTOP) | BIT(SIGTSTP) | BIT(SIGTTIN) | BIT(SIGTTOU);
+
+/* By the signal's number, under the lock of queues: what it does, and how often those that were pending, in any thread, were
+   discarded. */
 static struct sigaction actions[NSIG];
+static uint32_t discards[NSIG];
 
-/* What the thread has raised while it was blocked. */
-static _Thread_local uint32_t raised;
+/* What the thread has raised while it was blocked, and the count of discards then: where that has grown, it isn't pending any more. */
+static _Thread_local uint32_t raised, discards_then[NSIG];
+
+static void lock(void) { pthread_mutex_lock(&__guest_queue_lock.mutex); }
+static void unlock(void) { pthread_mutex_unlock(&__guest_queue_lock.mutex); }
 
 static bool is_signal(int number) { return number > 0 && number < NSIG && (signals & BIT(number)); }
 
@@ -40,13 +47,35 @@ static int failed(int error) {
 
 /* --- Actions ------------------------------------------------------------------------------------------------------ */
 
-/* Gives the action before, and sets another one if there is one. */
+static bool has_handler(const struct sigaction *action) {
+    return action->sa_handler != SIG_DFL && action->sa_handler != SIG_IGN;
+}
+
+static bool is_ignored(int number, const struct sigaction *action) {
+    return action->sa_handler == SIG_IGN || (action->sa_handler == SIG_DFL && (ignored & BIT(number)));
+}
+
+/* Gives the action before, and sets another one if there is one. What is pending of a signal that is ignored then is discarded
+   (POSIX, XSH 2.4.3). */
 static struct sigaction change(int number, const struct sigaction *action) {
-    pthread_mutex_lock(&__guest_queue_lock.mutex);
+    lock();
     struct sigaction old = actions[number];
     if (action) actions[number] = *action;
-    pthread_mutex_unlock(&__guest_queue_lock.mutex);
+    if (action && is_ignored(number, action)) discards[number]++;
+    unlock();
     return old;
+}
+
+/* Gives the action, and takes a handler away that is to run once. */
+static struct sigaction take(int number) {
+    lock();
+    struct sigaction action = actions[number];
+    if (has_handler(&action) && (action.sa_flags & SA_RESETHAND)) {
+        actions[number].sa_handler = SIG_DFL;
+        actions[number].sa_flags &= ~SA_SIGINFO;
+    }
+    unlock();
+    return action;
 }
 
 int sigaction(int number, const struct sigaction *restrict action, struct sigaction *restrict old) {
@@ -77,20 +106,37 @@ static void call(int number, const struct sigaction *action) {
 
 /* Does what the signal does, once. */
 static void act(int number) {
-    struct sigaction action = change(number, NULL);
-    if (action.sa_handler == SIG_IGN) return;
-    if (action.sa_handler == SIG_DFL) {
-        if (!(do_nothing & BIT(number))) _exit(STATUS_OF_SIGNALS + number);
-        return;
+    struct sigaction action = take(number);
+    if (has_handler(&action)) call(number, &action);
+    else if (action.sa_handler == SIG_DFL && !((ignored | stops) & BIT(number))) _exit(STATUS_OF_SIGNALS + number);
+}
+
+/* What the thread has raised and hasn't acted on yet. */
+static uint32_t pending(void) {
+    if (!raised) return 0;
+    lock();
+    for (int number = 1; number < NSIG; number++) {
+        if (discards_then[number] != discards[number]) raised &= ~BIT(number);
     }
-    if (action.sa_flags & SA_RESETHAND) change(number, &(struct sigaction){.sa_handler = SIG_DFL});
-    call(number, &action);
+    unlock();
+    return raised;
+}
+
+/* A signal to stop discards what is pending of SIGCONT, and that one discards those (POSIX, XSH 2.4.1). */
+static void add(int number) {
+    lock();
+    for (uint32_t against = number == SIGCONT ? stops : stops & BIT(number) ? BIT(SIGCONT) : 0; against; against &= against - 1) {
+        discards[__builtin_ctz(against)]++;
+    }
+    raised |= BIT(number);
+    discards_then[number] = discards[number];
+    unlock();
 }
 
 /* Acts on what the thread has raised and doesn't block, the least number first. */
 static void act_on_raised(void) {
     uint32_t waiting;
-    while ((waiting = raised & ~__guest_self()->blocked)) {
+    while ((waiting = pending() & ~__guest_self()->blocked)) {
         int number = __builtin_ctz(waiting);
         raised &= ~BIT(number);
         act(number);
@@ -98,8 +144,9 @@ static void act_on_raised(void) {
 }
 
 int raise(int number) {
+    if (number == 0) return 0; /* no signal: a look whether the thread is there, as in pthread_kill */
     if (!is_signal(number)) return failed(EINVAL);
-    raised |= BIT(number);
+    add(number);
     act_on_raised();
     return 0;
 }
@@ -144,7 +191,7 @@ int sigdelset(sigset_t *set, int number) {
 int sigismember(const sigset_t *set, int number) { return is_signal(number) ? (*set & BIT(number)) != 0 : failed(EINVAL); }
 
 int sigpending(sigset_t *set) {
-    *set = raised;
+    *set = pending() & __guest_self()->blocked;
     return 0;
 }
 

@@ -4,6 +4,7 @@
 #include <pthread.h>
 #include <semaphore.h>
 #include <stdio.h>
+#include <string.h>
 #include <unistd.h>
 
 enum { ROUNDS = 20 };
@@ -15,6 +16,7 @@ static const char *error_name(void) {
     switch (errno) {
     case EEXIST: return "EEXIST";
     case EINVAL: return "EINVAL";
+    case ENAMETOOLONG: return "ENAMETOOLONG";
     case ENOENT: return "ENOENT";
     default: return "another";
     }
@@ -38,6 +40,36 @@ static void *returns(void *unused) {
     sem_close(first);
     sem_close(second);
     return unused;
+}
+
+/* Opens a name, closes and unlinks it. */
+static void try(const char *what, const char *name) {
+    sem_t *made = sem_open(name, O_CREAT, 0600, 1);
+    say(what, made != SEM_FAILED);
+    if (made == SEM_FAILED) return;
+    sem_close(made);
+    say("its end", sem_unlink(name) == 0);
+}
+
+/* Linux takes 251 characters behind the slash, which may be left out. */
+static void names(void) {
+    char longest[254];
+    memset(longest, 'x', sizeof longest);
+    longest[0] = '/';
+    longest[252] = 0;
+    try("the longest", longest);
+    longest[252] = 'x';
+    longest[253] = 0;
+    try("a longer one", longest);
+    try("without a slash", pong + 1);
+    sem_t *made = sem_open(ping + 1, O_CREAT | O_EXCL, 0600, 3), *again = sem_open(ping, 0);
+    sem_post(made);
+    printf("with it the same: %d\n", count_of(again));
+    sem_close(made);
+    sem_close(again);
+    say("unlink with it", sem_unlink(ping) == 0);
+    try("two slashes", "/a/b");
+    try("an empty one", "");
 }
 
 int main(void) {
@@ -75,5 +107,6 @@ int main(void) {
     sem_unlink(pong);
     say("too many", sem_open(ping, O_CREAT, 0600, 4000000000u) != SEM_FAILED);
     say("no name", sem_open("/", O_CREAT, 0600, 1) != SEM_FAILED);
+    names();
     return 0;
 }

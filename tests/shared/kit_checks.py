@@ -115,6 +115,11 @@ def overflow(way, place, *more):
     return [f"-DWAY={way}", f"-DIN_MAIN={int(place == 'main')}", f"-DIN_MALLOC={int('malloc' in more)}", "-w"]
 
 
+# 1e-5 has 65 digits; of all others a text has more bytes than an int counts.
+OVERLONG = "".join(f"{line}\n" for line in [
+    "%.2147483647f -1 EOVERFLOW", "%.2147483642e -1 EOVERFLOW", "%.2147483647a -1 EOVERFLOW", "%#.2147483647g -1 EOVERFLOW",
+    "%.2147483647g 70", "%*d -1 EOVERFLOW", "%+.*d -1 EOVERFLOW", "x%*d -1 EOVERFLOW"])
+
 ENDED = [  # a program, its options, pages, how it ends and what it prints
     ("overflow.c", overflow("wide", "main"), 64, "exit 134", "begin\n" + OVERFLOWED.format(1)),
     ("overflow.c", overflow("recursion", "main"), 64, "exit 134", "begin\n" + OVERFLOWED.format(1)),
@@ -128,6 +133,7 @@ ENDED = [  # a program, its options, pages, how it ends and what it prints
     ("long_double.c", [], 64, "exit 134", "begin\na guest can't read a long double by a format: read a double, or take strtold\n"),
     ("held_stream.c", [], 64, "exit 0", "who holds the stream prints on\ncancelled\n"),
     ("asserted.c", [], 64, "exit 134", "assertion \"1 + 1 == 3\" failed: file \"asserted.c\", line 7, function: main\n"),
+    ("overlong.c", [], 64, "exit 0", OVERLONG),
     ("signals.c", ["-DENDING=abort()"], 64, "exit 134", "begin\nsignal 1\n"),
     ("signals.c", ["-DENDING=raise(SIGABRT),signal(SIGABRT,SIG_IGN),abort()"], 64, "exit 134", "begin\nsignal 1\n"),
     ("signals.c", ["-DENDING=raise(SIGTERM)"], 64, "exit 143", "begin\n"),
