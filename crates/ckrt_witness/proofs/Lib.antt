@@ -13,3 +13,4 @@ mod StoppingLemmas
 mod PrintedLemmas
 mod LengthenedLemmas
 mod WordsLemmas
+mod AreaLemmas

@@ -16,3 +16,4 @@ pub mod Service
 pub mod Stopping
 pub mod Turns
 pub mod Words
+pub mod Areas

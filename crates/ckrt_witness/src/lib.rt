@@ -1,8 +1,11 @@
 //! Witnesses: of the theorems of docs/promises examples that meet all premises at once. So no theorem is true only because nothing meets it.
 #![tactic(auto)]
 
+mod areas;
 #[cfg(test)]
 mod closed;
+#[cfg(test)]
+mod closed_areas;
 #[cfg(test)]
 mod closed_codes;
 #[cfg(test)]
@@ -46,6 +49,7 @@ mod stopping;
 mod turns;
 mod words;
 
+pub use areas::{change_unused, has_both_open};
 pub use codes::{read_events, read_instruction};
 pub use commands::two_runs;
 pub use drives::{Left, drive_once, two_drives};
