@@ -14,3 +14,5 @@ mod PrintedLemmas
 mod LengthenedLemmas
 mod WordsLemmas
 mod AreaLemmas
+mod AlikeLemmas
+mod LineLemmas

@@ -17,3 +17,5 @@ pub mod Stopping
 pub mod Turns
 pub mod Words
 pub mod Areas
+pub mod Alike
+pub mod Lines

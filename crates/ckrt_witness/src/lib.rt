@@ -1,9 +1,12 @@
 //! Witnesses: of the theorems of docs/promises examples that meet all premises at once. So no theorem is true only because nothing meets it.
 #![tactic(auto)]
 
+mod alike;
 mod areas;
 #[cfg(test)]
 mod closed;
+#[cfg(test)]
+mod closed_alike;
 #[cfg(test)]
 mod closed_areas;
 #[cfg(test)]
@@ -25,6 +28,8 @@ mod closed_making;
 #[cfg(test)]
 mod closed_printed;
 #[cfg(test)]
+mod closed_released;
+#[cfg(test)]
 mod closed_service;
 #[cfg(test)]
 mod closed_stopping;
@@ -42,6 +47,7 @@ mod machine;
 mod making;
 mod power;
 mod printed;
+mod released;
 mod saved;
 mod service;
 mod shelf;
@@ -49,6 +55,7 @@ mod stopping;
 mod turns;
 mod words;
 
+pub use alike::{answer_alike, represent_again, represent_one};
 pub use areas::{change_unused, has_both_open};
 pub use codes::{read_events, read_instruction};
 pub use commands::two_runs;
@@ -62,6 +69,7 @@ pub use machine::{Places, apply_each_kind};
 pub use making::{make_one, refuse_one};
 pub use power::{commit_one, save_one};
 pub use printed::{fail_one, hold_one, run_one, serve_twice};
+pub use released::release_twice;
 pub use saved::read_saved;
 pub use service::serve_once;
 pub use shelf::{Noted, Shelf};
