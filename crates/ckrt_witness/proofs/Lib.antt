@@ -1,6 +1,7 @@
 mod WitnessLemmas
 mod CameLemmas
 mod RunsLemmas
+mod BeforeLemmas
 mod TurnLemmas
 mod PowerLemmas
 mod ClosedLemmas
@@ -14,5 +15,6 @@ mod PrintedLemmas
 mod LengthenedLemmas
 mod WordsLemmas
 mod AreaLemmas
+mod LengthLemmas
 mod AlikeLemmas
 mod LineLemmas

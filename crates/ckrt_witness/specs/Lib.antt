@@ -1,4 +1,5 @@
 pub mod Drives
+pub mod Before
 pub mod Runs
 pub mod Shelf
 pub mod Codes
@@ -17,5 +18,6 @@ pub mod Stopping
 pub mod Turns
 pub mod Words
 pub mod Areas
+pub mod Lengths
 pub mod Alike
 pub mod Lines

@@ -3,12 +3,15 @@
 
 mod alike;
 mod areas;
+mod before;
 #[cfg(test)]
 mod closed;
 #[cfg(test)]
 mod closed_alike;
 #[cfg(test)]
 mod closed_areas;
+#[cfg(test)]
+mod closed_before;
 #[cfg(test)]
 mod closed_codes;
 #[cfg(test)]
@@ -19,6 +22,8 @@ mod closed_faults;
 mod closed_inspecting;
 #[cfg(test)]
 mod closed_lengthened;
+#[cfg(test)]
+mod closed_lengths;
 #[cfg(test)]
 mod closed_lives;
 #[cfg(test)]
@@ -42,6 +47,7 @@ mod faults;
 mod files;
 mod inspecting;
 mod lengthened;
+mod lengths;
 mod lives;
 mod machine;
 mod making;
@@ -57,6 +63,7 @@ mod words;
 
 pub use alike::{answer_alike, represent_again, represent_one};
 pub use areas::{change_unused, has_both_open};
+pub use before::{fail_recovery, read_before, stop_before};
 pub use codes::{read_events, read_instruction};
 pub use commands::two_runs;
 pub use drives::{Left, drive_once, two_drives};
@@ -64,6 +71,7 @@ pub use faults::{fail_commit, have_each_fault, is_refused, refuse_checkpoint};
 pub use files::{Three, opened_again, three_sizes};
 pub use inspecting::inspect_one;
 pub use lengthened::lengthen;
+pub use lengths::drive_to_end;
 pub use lives::live_four_times;
 pub use machine::{Places, apply_each_kind};
 pub use making::{make_one, refuse_one};
