@@ -18,3 +18,4 @@ mod AreaLemmas
 mod LengthLemmas
 mod AlikeLemmas
 mod LineLemmas
+mod StreamLemmas

@@ -21,3 +21,4 @@ pub mod Areas
 pub mod Lengths
 pub mod Alike
 pub mod Lines
+pub mod Streams

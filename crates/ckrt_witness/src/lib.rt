@@ -39,6 +39,8 @@ mod closed_service;
 #[cfg(test)]
 mod closed_stopping;
 #[cfg(test)]
+mod closed_streams;
+#[cfg(test)]
 mod closed_words;
 mod codes;
 mod commands;
@@ -58,6 +60,7 @@ mod saved;
 mod service;
 mod shelf;
 mod stopping;
+mod streams;
 mod turns;
 mod words;
 
@@ -79,8 +82,9 @@ pub use power::{commit_one, save_one};
 pub use printed::{fail_one, hold_one, run_one, serve_twice};
 pub use released::release_twice;
 pub use saved::read_saved;
-pub use service::serve_once;
+pub use service::{refuse_image, serve_in_memory, serve_once};
 pub use shelf::{Noted, Shelf};
-pub use stopping::fail_drive;
+pub use stopping::{fail_by_input, fail_drive};
+pub use streams::{Cut, Narrow, serve_broken};
 pub use turns::{make_events, make_turns};
 pub use words::{ask_format, ask_version};
