@@ -19,3 +19,4 @@ mod LengthLemmas
 mod AlikeLemmas
 mod LineLemmas
 mod StreamLemmas
+mod DriveTurnLemmas

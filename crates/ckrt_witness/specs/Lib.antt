@@ -22,3 +22,4 @@ pub mod Lengths
 pub mod Alike
 pub mod Lines
 pub mod Streams
+pub mod DriveTurns

@@ -17,6 +17,8 @@ mod closed_codes;
 #[cfg(test)]
 mod closed_commands;
 #[cfg(test)]
+mod closed_drive_turns;
+#[cfg(test)]
 mod closed_faults;
 #[cfg(test)]
 mod closed_inspecting;
@@ -44,6 +46,7 @@ mod closed_streams;
 mod closed_words;
 mod codes;
 mod commands;
+mod drive_turns;
 mod drives;
 mod faults;
 mod files;
@@ -69,6 +72,7 @@ pub use areas::{change_unused, has_both_open};
 pub use before::{fail_recovery, read_before, stop_before};
 pub use codes::{read_events, read_instruction};
 pub use commands::two_runs;
+pub use drive_turns::{Alone, drive_alone, drive_turns, turn_twice};
 pub use drives::{Left, drive_once, two_drives};
 pub use faults::{fail_commit, have_each_fault, is_refused, refuse_checkpoint};
 pub use files::{Three, opened_again, three_sizes};
