@@ -33,6 +33,8 @@ mod closed_machine;
 #[cfg(test)]
 mod closed_making;
 #[cfg(test)]
+mod closed_memory_words;
+#[cfg(test)]
 mod closed_printed;
 #[cfg(test)]
 mod closed_released;
@@ -85,7 +87,7 @@ pub use making::{make_one, refuse_one};
 pub use power::{commit_one, save_one};
 pub use printed::{fail_one, hold_one, run_one, serve_twice};
 pub use released::release_twice;
-pub use saved::read_saved;
+pub use saved::{is_fresh, read_saved};
 pub use service::{refuse_image, serve_in_memory, serve_once};
 pub use shelf::{Noted, Shelf};
 pub use stopping::{fail_by_input, fail_drive};
