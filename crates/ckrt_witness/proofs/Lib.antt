@@ -1,6 +1,7 @@
 mod WitnessLemmas
 mod CameLemmas
 mod RunsLemmas
+mod BeforeLemmas
 mod TurnLemmas
 mod PowerLemmas
 mod ClosedLemmas
@@ -13,3 +14,9 @@ mod StoppingLemmas
 mod PrintedLemmas
 mod LengthenedLemmas
 mod WordsLemmas
+mod AreaLemmas
+mod LengthLemmas
+mod AlikeLemmas
+mod LineLemmas
+mod StreamLemmas
+mod DriveTurnLemmas

@@ -1,12 +1,13 @@
 -- A session that takes an event and commits or saves it.
-use Rattle.std.proofs.Common.{◌≡◌, false, [], ◌∷◌, ◌++◌, Option, Some, None, Result, Ok, Err, refl, ◌∙◌, ap, subst, arith}
+use Rattle.std.proofs.Common.{◌≡◌, false, true, List, [], ◌∷◌, ◌++◌, take, ℕ, Option, Some, None, Result, Ok, Err, refl, ◌∙◌, ap, subst, arith}
 use Rattle.std.specs.Prelude.{MatchOption, OnOk, is_err}
+use Rattle.ckrt_disk.specs.Disk.{IsImage}
 use Rattle.ckrt_disk.specs.declared.disk.Disk.{Ghosts}
 use Rattle.ckrt_events.specs.declared.event.Event.{Event}
 use Rattle.ckrt_recovery.specs.Calls.{IsAfterEvent}
 use Rattle.ckrt_recovery.specs.Reached.{Takes}
-use Rattle.ckrt_recovery.specs.Represents.{RecoversAtAnyMoment, Represents, RepresentsDisk, RepresentsOneMore}
-use Rattle.ckrt_recovery.specs.View.{View, after_event, refusal_of, view_of}
+use Rattle.ckrt_recovery.specs.Represents.{RecoversAtAnyMoment, Represents, RepresentsDisk, RepresentsOneMore, RepresentsSame}
+use Rattle.ckrt_recovery.specs.View.{View, after_event, committed, refusal_of, view_of}
 use Rattle.ckrt_recovery.specs.declared.fault.SubmitFault.{SubmitFault}
 use Rattle.ckrt_recovery.specs.declared.session.Session.{Session}
 use Rattle.ckrt_stored.specs.Programs.{Program, RecoversTo, RecoversToStart}
@@ -52,3 +53,16 @@ module _ {D : Type 0} {g : Ghosts D} (p : Program) (disk : D) (e : Event) (first
         pending = omega (arith, reps.acknowledged, same_number (refusal_of (view_of first) e) after);
         acknowledges = ok ∙ (takes p [] reps).count;
       }
+
+-- a session that has committed its one event represents it, and its disk recovers to it
+module _ {D : Type 0} {g : Ghosts D} (p : Program) (disk : D) where
+  pub represents_one : {X E : Type 0} (result : Result X E) (e : Event) (first old new : Session D g) → is_err result ≡ false → RepresentsDisk disk first → RepresentsOneMore first e result old → RepresentsSame old new
+      → view_of new ≡ committed (view_of old) → ((x : D) → g.is_honest x → IsImage (g.content x) (g.pending x) (g.content x)) → g.is_honest first.disk → g.is_honest new.disk → RecoversToStart p (g.content disk)
+      → Represents p (e ∷ []) new × RecoversTo p (e ∷ []) new.progress.confirmed (g.content new.disk)
+  represents_one result e first old new fine given more same ok reads honest honest_new start =
+      let none : Represents p [] first = given honest p [] 0 (starts_formatted p (g.content disk) start) in
+      let one : Represents p (e ∷ []) old = on_ok result (Represents p (e ∷ []) old) fine (more p [] none) in
+      let held : Represents p (e ∷ []) new = same p (e ∷ []) one in
+      let well : new.failed ≡ false = ap (λ (v : View). v.failed) ok in
+      let all : new.acknowledged ≡ 1 = ap (λ (v : View). v.acknowledged) ok ∙ one.count in
+      (held, subst (λ n. RecoversTo p (take n (e ∷ [])) new.progress.confirmed (g.content new.disk)) all (held.images well (g.content new.disk) (reads new.disk honest_new)).to)

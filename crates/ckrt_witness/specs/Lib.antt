@@ -1,4 +1,5 @@
 pub mod Drives
+pub mod Before
 pub mod Runs
 pub mod Shelf
 pub mod Codes
@@ -16,3 +17,9 @@ pub mod Service
 pub mod Stopping
 pub mod Turns
 pub mod Words
+pub mod Areas
+pub mod Lengths
+pub mod Alike
+pub mod Lines
+pub mod Streams
+pub mod DriveTurns

@@ -4,7 +4,7 @@ use Rattle.ckrt_disk.specs.Disk.{HasFailed}
 use Rattle.ckrt_disk.specs.declared.disk.Disk.{Ghosts}
 use Rattle.ckrt_drive.specs.Stages.{Stage, TakesStep}
 use Rattle.ckrt_drive.specs.declared.fault.DriveFault.{DriveFault}
-use Rattle.ckrt_drive.specs.declared.fault.DriveFault.TheVariants.{Device, Output, OutputFull}
+use Rattle.ckrt_drive.specs.declared.fault.DriveFault.TheVariants.{Device, Input, Output, OutputFull}
 use Rattle.ckrt_drive.specs.declared.options.Options.{Options}
 use Rattle.ckrt_drive.specs.Runs.{Runs}
 use Rattle.ckrt_events.specs.declared.event.Event.{Event}
@@ -29,7 +29,7 @@ pub record FailedDrive {D O : Type 0} (d : Ghosts D) (o : Ghosts O) (p : Program
   pub honest : d.is_honest new.disk
   pub output_honest : o.is_honest end
 
--- a drive that its disk fails, one that its output fails, and one whose output has no room
+-- a drive that its disk fails, one that its output fails, one whose output has no room, and one that its input fails
 pub record FailureWitness {D : Type 0} (d : Ghosts D) : Type 0 where
   pub program : Program
   pub by_disk : FailedDrive d d program Device
@@ -37,3 +37,7 @@ pub record FailureWitness {D : Type 0} (d : Ghosts D) : Type 0 where
   pub by_output : FailedDrive d d program Output
   pub grew : HasFailed (d.failures by_output.output) (d.failures by_output.end)
   pub full : FailedDrive d d program OutputFull
+  pub by_input : FailedDrive d d program Input
+  pub input : D
+  pub input_end : D
+  pub read_failed : HasFailed (d.failures input) (d.failures input_end)

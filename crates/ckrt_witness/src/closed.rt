@@ -23,7 +23,7 @@ use std::fmt::Debug;
 use std::process::Abort;
 
 /// A guest that puts the first byte of its input, and exits.
-const GUEST: &[u8] = &[
+pub(crate) const GUEST: &[u8] = &[
     0x93, 0x08, 0x30, 0x00, // addi x17, x0, 3
     0x73, 0x00, 0x00, 0x00, // ecall
     0x93, 0x08, 0x20, 0x00, // addi x17, x0, 2
@@ -34,7 +34,7 @@ const GUEST: &[u8] = &[
 ];
 
 /// A guest that goes round for ever.
-const ENDLESS: &[u8] = &[
+pub(crate) const ENDLESS: &[u8] = &[
     0x6f, 0x00, 0x00, 0x00, // jal x0, 0
 ];
 
@@ -49,7 +49,7 @@ pub(crate) const SMALL: Config = Config {
 };
 
 /// The call of its disk at which the first drive is stopped: within its first commit, behind the sync of recovery and the write of a batch.
-const STOP: u64 = 3;
+pub(crate) const STOP: u64 = 3;
 
 /// Two values of any kind.
 fn expect_eq<R: Abort, T: Debug + PartialEq + Drop>(rt: &R, got: T, want: T) {
@@ -109,7 +109,7 @@ fn taken<R: Abort + AllocGlobal>(rt: &R, image: &[u8]) -> u64
 }
 
 /// A drive of a disk with these bytes, which stops at a call.
-fn drove<R: Abort + AllocGlobal>(
+pub(crate) fn drove<R: Abort + AllocGlobal>(
     rt: &R,
     image: Vec<u8>,
     at_call: u64,

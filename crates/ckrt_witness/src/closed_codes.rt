@@ -2,12 +2,14 @@
 //! by coming to its end.
 ghost use Rattle.std.specs.Prelude.{◌⊎◌, ◌≡◌, ◌≤◌};
 ghost use Rattle.ckrt_witness.specs.Codes.{EventsWitness, InstructionWitness};
-ghost use Rattle.ckrt_witness.specs.Saved.{SavedWitness};
+ghost use Rattle.ckrt_witness.specs.Saved.{FreshWitness, SavedWitness};
 
+use crate::closed::SMALL;
 use crate::codes::{read_events, read_instruction};
-use crate::saved::read_saved;
+use crate::saved::{is_fresh, read_saved};
 use arrayvec::ArrayVec;
 use ckrt_events::{BATCH_LIMIT, Event};
+use ckrt_recovery::Config;
 use ckrt_tables::TABLES_ROOM;
 use std::process::Abort;
 
@@ -47,6 +49,15 @@ fn saved<R: Abort + AllocGlobal>(rt: &R, version: u32, harts: usize, bytes: &[u8
     let mut room = vec![in rt.alloc(); 0u8; TABLES_ROOM].expect(rt, "memory for tables");
     if !read_saved(rt.alloc(), version, harts, bytes, torn, room.as_mut_slice()) {
         panic!(rt; "the tables aren't read back, or torn ones are read");
+    }
+}
+
+/// A configuration whose program can be saved before it begins.
+fn fresh<R: Abort>(rt: &R, config: &Config)
+    ensures { FreshWitness config.now.pages config.now.harts }
+{
+    if !is_fresh(config) {
+        panic!(rt; "the configuration is out of its ranges");
     }
 }
 
@@ -118,4 +129,9 @@ fn the_premises_of_one_state_are_met(rt: HostRuntime) {
     saved(&rt, 2, 1, &bytes, torn(&rt, &bytes));
     let old = tables_with_output(&rt, 1);
     saved(&rt, 1, 1, &old, torn(&rt, &old));
+}
+
+#[test]
+fn the_premises_of_fresh_tables_are_met(rt: HostRuntime) {
+    fresh(&rt, &SMALL);
 }

@@ -2,13 +2,13 @@
 //! end.
 ghost use Rattle.std.specs.Prelude.{◌≡◌, true};
 ghost use Rattle.ckrt_disk.specs.Disk.{HasFailed};
-ghost use Rattle.ckrt_drive.specs.declared.fault.DriveFault.TheVariants.{Device, Output, OutputFull};
+ghost use Rattle.ckrt_drive.specs.declared.fault.DriveFault.TheVariants.{Device, Input, Output, OutputFull};
 ghost use Rattle.ckrt_stored.specs.Programs.{Program, RecoversToStart};
 ghost use Rattle.ckrt_witness.specs.Stopping.{FailedDrive, FailureWitness};
 
 use crate::closed::{copied, formatted, stopping_disk};
 use crate::closed_machine::WAITERS;
-use crate::stopping::fail_drive;
+use crate::stopping::{fail_by_input, fail_drive};
 use ckrt_disk::{Disk, StoppingDisk};
 use ckrt_drive::{DriveFault, Options};
 use std::process::Abort;
@@ -49,6 +49,30 @@ fn without_room<R: Abort + AllocGlobal>(rt: &R, disk: StoppingDisk, output: Stop
     }
 }
 
+/// A drive that its input fails.
+fn by_input<R: Abort + AllocGlobal>(
+    rt: &R,
+    disk: StoppingDisk,
+    output: StoppingDisk,
+    input: StoppingDisk,
+) -> StoppingDisk
+    ensures { (p : Program) → RecoversToStart p (⟦<StoppingDisk as Disk>⟧.content disk)
+        → FailedDrive ⟦<StoppingDisk as Disk>⟧ ⟦<StoppingDisk as Disk>⟧ p Input
+        × HasFailed (⟦<StoppingDisk as Disk>⟧.failures input)
+        (⟦<StoppingDisk as Disk>⟧.failures result) }
+{
+    match fail_by_input(
+        rt.alloc(),
+        disk,
+        output,
+        input,
+        Options::new(300, 1, u64::MAX),
+    ) {
+        Some(end) => end,
+        None => panic!(rt; "the input doesn't fail the drive"),
+    }
+}
+
 /// Drives of one program, each of which fails so: they meet all premises of the clauses.
 fn failures<R: Abort + AllocGlobal>(rt: &R)
     ensures { FailureWitness ⟦<StoppingDisk as Disk>⟧ }
@@ -60,6 +84,11 @@ fn failures<R: Abort + AllocGlobal>(rt: &R)
     by_output(rt, disk, stopping_disk(rt, copied(rt, &[0; 8]), 1));
     let disk = stopping_disk(rt, copied(rt, &image), 0);
     without_room(rt, disk, stopping_disk(rt, copied(rt, &[]), 0));
+    let disk = stopping_disk(rt, copied(rt, &image), 0);
+    let output = stopping_disk(rt, copied(rt, &[0; 8]), 0);
+    let mut input = stopping_disk(rt, copied(rt, b"Ab"), 1);
+    let _ = input.sync();
+    let _end = by_input(rt, disk, output, input);
 }
 
 #[test]

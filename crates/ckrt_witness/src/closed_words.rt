@@ -19,7 +19,7 @@ use std::io::Write;
 use std::process::Abort;
 
 /// Words that ask for a disk to be made.
-fn expect_format<'a, R: Abort + AllocGlobal>(rt: &R, words: &'a [&'a str])
+pub(crate) fn expect_format<'a, R: Abort + AllocGlobal>(rt: &R, words: &'a [&'a str])
     ensures { AsksFormat (map (λ s. s.now) words.entry.now) }
 {
     if !ask_format(rt.alloc(), words) {
@@ -28,7 +28,7 @@ fn expect_format<'a, R: Abort + AllocGlobal>(rt: &R, words: &'a [&'a str])
 }
 
 /// Words that ask for the version.
-fn expect_version<'a, R: Abort + AllocGlobal>(rt: &R, words: &'a [&'a str])
+pub(crate) fn expect_version<'a, R: Abort + AllocGlobal>(rt: &R, words: &'a [&'a str])
     ensures { request_of_words (map (λ s. s.now) words.entry.now) ≡ Some version }
 {
     if !ask_version(rt.alloc(), words) {
@@ -37,7 +37,7 @@ fn expect_version<'a, R: Abort + AllocGlobal>(rt: &R, words: &'a [&'a str])
 }
 
 /// There are words.
-fn expect_some<'a, R: Abort>(rt: &R, words: &'a [&'a str])
+pub(crate) fn expect_some<'a, R: Abort>(rt: &R, words: &'a [&'a str])
     ensures { map (λ s. s.now) words.entry.now ≢ [] }
 {
     if words.is_empty() {
@@ -46,7 +46,7 @@ fn expect_some<'a, R: Abort>(rt: &R, words: &'a [&'a str])
 }
 
 /// A status.
-fn expect_status<R: Abort>(rt: &R, got: u8, want: u8)
+pub(crate) fn expect_status<R: Abort>(rt: &R, got: u8, want: u8)
     ensures { got ≡ want }
 {
     if got != want {

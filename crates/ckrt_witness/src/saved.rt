@@ -1,8 +1,9 @@
 //! Saved tables that are read and written again, as the laws of their encoding speak of them.
 ghost use Rattle.std.specs.Prelude.{◌⊎◌, ◌≡◌, ◌≤◌, length, true};
 ghost use Rattle.ckrt_tables.specs.Encoding.{TABLES_ROOM};
-ghost use Rattle.ckrt_witness.specs.Saved.{SavedWitness};
+ghost use Rattle.ckrt_witness.specs.Saved.{FreshWitness, SavedWitness};
 
+use ckrt_checkpoint::Config;
 use ckrt_tables::{decode_tables, encode_tables};
 use std::alloc::Global;
 
@@ -32,4 +33,12 @@ pub fn read_saved(
     };
     let _size = encode_tables(&tables, &held, room);
     true
+}
+
+/// Whether a program of this configuration can be saved before it begins: where the configuration is in its ranges, that meets all premises of
+/// the law.
+pub fn is_fresh(config: &Config) -> bool
+    ensures { result ≡ true → FreshWitness config.now.pages config.now.harts }
+{
+    config.is_valid()
 }

@@ -2,11 +2,11 @@
 ghost use Rattle.std.specs.Prelude.{◌≡◌, ◌≢◌, ◌+◌, ◌≤◌, ◌<◌, [], IfSome, true};
 ghost use Rattle.ckrt_disk.specs.Disk.{HasFailed};
 ghost use Rattle.ckrt_stored.specs.Programs.{Program, RecoversToStart};
-ghost use Rattle.ckrt_witness.specs.Service.{ServiceWitness};
+ghost use Rattle.ckrt_witness.specs.Service.{RefusesImage, ServesImage, ServiceWitness};
 
 use ckrt_disk::Disk;
-use ckrt_main::serve;
-use ckrt_recovery::{Session, recover};
+use ckrt_main::{ServeFault, serve, serve_image};
+use ckrt_recovery::{Config, Session, recover};
 use std::alloc::Global;
 
 /// Whether there are lines and a text.
@@ -54,4 +54,31 @@ pub fn serve_once<D: Disk + Drop>(alloc: Global, disk: D, lines: &[u8]) -> Optio
         return None;
     }
     Some(session)
+}
+
+/// Serves an image in memory, and finds that lines were answered. False where it isn't served, or nothing is read or written.
+pub fn serve_in_memory(alloc: Global, image: &[u8], config: Config, lines: &[u8]) -> bool
+    ensures { result ≡ true → ServesImage config image.now }
+{
+    let mut reader = lines;
+    let mut writer = Vec::new(alloc);
+    let Ok(()) = serve_image(alloc, image, config, &mut reader, &mut writer) else {
+        return false;
+    };
+    are_some(lines, writer.as_slice())
+}
+
+/// Asks for a service of an image that is refused. False where it isn't, or there are no lines.
+pub fn refuse_image(alloc: Global, image: &[u8], config: Config, lines: &[u8]) -> bool
+    ensures { result ≡ true → RefusesImage config image.now }
+{
+    if lines.is_empty() {
+        return false;
+    }
+    let mut reader = lines;
+    let mut writer = Vec::new(alloc);
+    let Err(ServeFault::Format) = serve_image(alloc, image, config, &mut reader, &mut writer) else {
+        return false;
+    };
+    true
 }
