@@ -2,16 +2,16 @@
 use Rattle.std.proofs.Common.{◌≡◌, ◌≢◌, ◌∙◌, ℕ, zero, suc, ◌+◌, ◌||◌, ◌&&◌, not, Bool, true, false, List, [], ◌∷◌, ◌++◌, length, take, drop, Option, Some, None, Result, Ok, Err, refl, sym, ap, subst, arith}
 use Rattle.std.proofs.lemmas.Bool.{false≢true}
 use Rattle.std.specs.Prelude.{◌==◌, MatchOption, is_ok}
-use Rattle.std.specs.List.{AllByRecursion, list_any}
+use Rattle.std.specs.List.{list_any}
 use Rattle.std.specs.Str.Lines.{lines}
 use Rattle.ckrt_commands.specs.Replies.{Reply, outputs, outputs_by}
-use Rattle.ckrt_commands.specs.Transcript.{Fate, followed_by, respond, respond_all, submitted, transcript}
+use Rattle.ckrt_commands.specs.Transcript.{followed_by, respond, respond_all, submitted, transcript}
 use Rattle.ckrt_events.specs.Line.{command_of}
 use Rattle.ckrt_events.specs.declared.command.Command.{Command}
 use Rattle.ckrt_events.specs.declared.command.Command.TheVariants.{Submit}
 use Rattle.ckrt_events.specs.declared.command.LineFault.{LineFault}
 use Rattle.ckrt_events.specs.declared.event.Event.{Event}
-use Rattle.ckrt_main.specs.Alike.{NoneIsLocal, is_local}
+use Rattle.ckrt_main.specs.Alike.{NoneIsLocal}
 use Rattle.ckrt_main.specs.Service.{is_open}
 use Rattle.ckrt_main.proofs.LineLemmas.{respond-last}
 use Rattle.ckrt_recovery.specs.View.{View, confirmed_to, refusal_of, released_output}

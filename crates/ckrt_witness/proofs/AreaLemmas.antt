@@ -14,7 +14,7 @@ use Rattle.ckrt_checkpoint.specs.declared.header.Header.{Header}
 use Rattle.ckrt_checkpoint.specs.Areas.{area_of, checked_area}
 use Rattle.ckrt_checkpoint.specs.Layout.{area_at, area_size, header_of, is_open, is_valid, journal_at, memory_of, size_needed}
 use Rattle.ckrt_checkpoint.proofs.PickLemmas.{area_end, checked_same}
-use Rattle.ckrt_stored.specs.Frame.{BelongsTo, HoldsState, IsNewest}
+use Rattle.ckrt_stored.specs.Frame.{BelongsTo, IsNewest}
 use Rattle.ckrt_stored.specs.Recovery.{Recovered, Recovers, in_use}
 use Rattle.ckrt_stored.proofs.AreaLemmas.{IsInUse, is_in_use}
 use Rattle.ckrt_stored.proofs.GrowthLemmas.{Uses, uses}

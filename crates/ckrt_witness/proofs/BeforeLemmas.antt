@@ -1,8 +1,7 @@
 -- What a stop leaves of a disk that was read, or that failed its recovery, after the one that a drive left.
-use Rattle.std.proofs.Common.{◌≡◌, ℕ, ◌≤◌, List, sym, subst}
+use Rattle.std.proofs.Common.{ℕ, ◌≤◌, List, sym, subst}
 use Rattle.ckrt_disk.specs.Disk.{IsImage}
 use Rattle.ckrt_disk.specs.declared.disk.Disk.{Ghosts}
-use Rattle.ckrt_drive.specs.Stages.{Stage}
 use Rattle.ckrt_drive_theorem.specs.Drives.{StopLeaves}
 use Rattle.ckrt_drive_theorem.specs.Together.{IsLeftSince}
 use Rattle.ckrt_drive_theorem.proofs.LeftLemmas.{left_image}

@@ -1,7 +1,7 @@
 -- Drives without an input, and the turns of their threads.
 use Rattle.std.proofs.Common.{◌≡◌, ◌∙◌, ℕ, ◌≤◌, ◌+◌, Bool, true, false, cond, Option, Some, None, List, [], ◌∷◌, ◌++◌, length, refl, sym, ap, subst, arith, append-nil}
 use Rattle.std.proofs.lemmas.Bool.Decides.{nat_tests}
-use Rattle.std.specs.Prelude.{◌==◌, ◌*◌, ◌&&◌, IfSome, nat_le}
+use Rattle.std.specs.Prelude.{◌==◌, ◌*◌, IfSome, nat_le}
 use Rattle.ckrt_disk.specs.Disk.{IsImage}
 use Rattle.ckrt_disk.specs.declared.disk.Disk.{Ghosts}
 use Rattle.ckrt_checkpoint.specs.Layout.{is_valid}
@@ -13,9 +13,8 @@ use Rattle.ckrt_machine.specs.Runs.{is_running}
 use Rattle.ckrt_machine.specs.Steps.{State}
 use Rattle.ckrt_state.specs.declared.table.Tables.{Tables}
 use Rattle.ckrt_thread.specs.State.{is_ready}
-use Rattle.ckrt_schedule.specs.Schedules.{chosen, earliest_deadline, event_at, idle_until, next_by, next_event, next_sought, of_busy, of_runner, on_hart, run_by, runner_at, ticks_to, turn_at}
+use Rattle.ckrt_schedule.specs.Schedules.{chosen, earliest_deadline, event_at, idle_until, next_by, next_event, next_sought, of_runner, on_hart, run_by, runner_at, ticks_to, turn_at}
 use Rattle.ckrt_schedule.specs.Turns.{given_among, is_given, turns_within}
-use Rattle.ckrt_schedule.specs.declared.next.Next.{Next}
 use Rattle.ckrt_schedule.specs.declared.next.Next.TheVariants.{Submit}
 use Rattle.ckrt_schedule.specs.declared.schedule.Schedule.{Schedule}
 use Rattle.ckrt_schedule.specs.declared.schedule.Sought.TheVariants.{Busy}
@@ -30,11 +29,10 @@ use Rattle.ckrt_drive_theorem.specs.ByPlan.{AreByPlan, Course, IsByPlanFrom, cou
 use Rattle.ckrt_drive_theorem.specs.Drives.{ComeBehind, IsTold, Keeps, OneDrive, StopLeaves, course_of}
 use Rattle.ckrt_drive_theorem.specs.Theorem.{Begin, ManyDrives}
 use Rattle.ckrt_drive_theorem.specs.Together.{IsLeftSince, StandsFed, past}
-use Rattle.ckrt_recovery.specs.Lists.{IsBeginningOf}
 use Rattle.ckrt_recovery.specs.Represents.{Represents}
 use Rattle.ckrt_recovery.specs.declared.session.Session.{Session}
 use Rattle.ckrt_stored.specs.Programs.{Program, RecoversToStart, state_after}
-use Rattle.ckrt_witness.specs.DriveTurns.{DriveTurnsWitness, DroveAlone, DroveTurns, MakesTurns}
+use Rattle.ckrt_witness.specs.DriveTurns.{DriveTurnsWitness, DroveAlone, DroveTurns}
 use Rattle.ckrt_witness.specs.Drives.{Went}
 use Rattle.ckrt_witness.proofs.WitnessLemmas.{again, only_image, stop_at_end}
 

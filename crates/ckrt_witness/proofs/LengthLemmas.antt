@@ -1,5 +1,5 @@
 -- A drive that came to its end, as a run of the program.
-use Rattle.std.proofs.Common.{◌≡◌, ◌<◌, ◌^◌, ◌-◌, ℕ, true, [], List, Option, Some, Ok, Result, refl}
+use Rattle.std.proofs.Common.{◌≡◌, ◌<◌, ◌^◌, ◌-◌, ℕ, true, [], Some, Ok, refl}
 use Rattle.ckrt_disk.specs.declared.disk.Disk.{Ghosts}
 use Rattle.ckrt_drive.specs.Runs.{Runs}
 use Rattle.ckrt_drive.specs.Stages.{GoesBySteps, IsOver, stage}

@@ -1,5 +1,5 @@
 -- What meets the premises of the laws of what comes before a drive: a disk is read, and recovered.
-use Rattle.std.specs.Prelude.{◌≡◌, ℕ, true, false, List}
+use Rattle.std.specs.Prelude.{ℕ, true, false, List}
 use Rattle.ckrt_disk.specs.Frame.{IsOnlyRead}
 use Rattle.ckrt_disk.specs.declared.disk.Disk.{Ghosts}
 use Rattle.ckrt_drive.specs.Stages.{Stage}

@@ -1,5 +1,5 @@
 -- What meets the premises of the promise of turns in drives.
-use Rattle.std.specs.Prelude.{◌≡◌, ◌≤◌, ℕ, true, None, List, [], ◌∷◌, length}
+use Rattle.std.specs.Prelude.{◌≡◌, ◌≤◌, ℕ, true, None, [], ◌∷◌, length}
 use Rattle.ckrt_disk.specs.declared.disk.Disk.{Ghosts}
 use Rattle.ckrt_thread.specs.State.{is_ready}
 use Rattle.ckrt_recovery.specs.Lists.{IsBeginningOf}

@@ -1,5 +1,5 @@
 //! Sessions of one program over two disks, as the laws of what they answer alike speak of them.
-ghost use Rattle.std.specs.Prelude.{◌≡◌, ◌≢◌, ◌==◌, ◌∷◌, ℕ, List, [], None, IfSome, false, true};
+ghost use Rattle.std.specs.Prelude.{◌≡◌, ◌≢◌, ◌==◌, ◌∷◌, List, [], None, IfSome, false, true};
 ghost use Rattle.std.specs.List.{list_any};
 ghost use Rattle.ckrt_commands.specs.Transcript.{transcript};
 ghost use Rattle.ckrt_events.specs.Bytes.{IsInRange};

@@ -1,6 +1,5 @@
 //! A closed witness of services whose reader or writer fails. What stops a test meets any clause, so it shows its witness by coming to its
 //! end.
-ghost use Rattle.std.specs.Prelude.{◌≡◌};
 ghost use Rattle.ckrt_main.specs.declared.fault.ServeFault.TheVariants.{Read, Write};
 ghost use Rattle.ckrt_stored.specs.Programs.{Program, RecoversToStart};
 ghost use Rattle.ckrt_witness.specs.Streams.{BrokenService, StreamsWitness};

@@ -1,5 +1,5 @@
 //! Drives without an input, as the promise of turns in drives speaks of them.
-ghost use Rattle.std.specs.Prelude.{◌≡◌, ◌≤◌, None, IfOk, IfSome, true};
+ghost use Rattle.std.specs.Prelude.{◌≡◌, ◌≤◌, None, IfSome, true};
 ghost use Rattle.ckrt_drive.specs.Plan.{schedule_of};
 ghost use Rattle.ckrt_drive.specs.Stages.{stage};
 ghost use Rattle.ckrt_drive.specs.declared.options.Options.{Options};

@@ -1,4 +1,4 @@
-use Rattle.std.proofs.Common.{rules, ◌≡◌, ◌∙◌, false, subst}
+use Rattle.std.proofs.Common.{rules, ◌≡◌, false, subst}
 use Rattle.std.specs.Prelude.{is_err}
 use Rattle.ckrt_witness.proofs.PowerLemmas.{on_ok, represents_one}
 use Rattle.ckrt_witness.proofs.alike.represent_one.Goals as goal

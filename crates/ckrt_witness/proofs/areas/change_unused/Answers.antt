@@ -1,8 +1,8 @@
-use Rattle.std.proofs.Common.{◌≡◌, ◌≢◌, ◌∙◌, ◌-◌, ◌≤◌, ◌+◌, ◌∷◌, [], ℕ, List, true, false, length, take, drop, refl, sym, subst, ap, arith}
+use Rattle.std.proofs.Common.{◌≡◌, ◌≢◌, ◌∙◌, ◌-◌, ◌≤◌, ◌+◌, ◌∷◌, [], ℕ, List, false, length, take, drop, sym, subst, ap, arith}
 use Rattle.std.proofs.lemmas.Bool.{not-true}
 use Rattle.std.specs.Prelude.{is_err}
 use Rattle.ckrt_disk.specs.Disk.{IsOverwritten, IsWithin}
-use Rattle.ckrt_disk.specs.Frame.{IsSameOutside, WritesWithin}
+use Rattle.ckrt_disk.specs.Frame.{IsSameOutside}
 use Rattle.ckrt_checkpoint.specs.Layout.{area_at, header_of}
 use Rattle.ckrt_checkpoint.specs.declared.header.Header.{Header}
 use Rattle.ckrt_disk.proofs.FrameLemmas.{where_ok}

@@ -1,4 +1,4 @@
-use Rattle.std.proofs.Common.{◌≡◌, ◌∙◌, ◌∷◌, [], List, ℕ, sym, ap, subst}
+use Rattle.std.proofs.Common.{◌∙◌, ◌∷◌, [], sym, ap, subst}
 use Rattle.ckrt_disk.specs.contracts.memory.MemoryDiskDisk.TheImpl as memory
 use Rattle.ckrt_stored.specs.Programs.{RecoversTo, RecoversToStart}
 use Rattle.ckrt_witness.proofs.closed_alike.alike.Goals as goal

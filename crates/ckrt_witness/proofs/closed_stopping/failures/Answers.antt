@@ -17,7 +17,7 @@ returns g c =
       grew = other.1;
       full = c.without_room.ensures p.0 (start _ (c.stopping_disk-disk-3.ensures.content ∙ c.copied-5.ensures ∙ c.deref-3.ensures.value));
       by_input = input.0;
-      input = _;
-      input_end = _;
+      input = c.sync.new.self;
+      input_end = c.by_input-end.result;
       read_failed = input.1;
     }
