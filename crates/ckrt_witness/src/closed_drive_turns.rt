@@ -5,7 +5,7 @@ ghost use Rattle.ckrt_drive_theorem.specs.ByPlan.{course};
 ghost use Rattle.ckrt_witness.specs.DriveTurns.{DriveTurnsWitness, DroveAlone, MakesTurns};
 
 use crate::closed::{ENDLESS, copied, formatted, memory_disk, stopping_disk};
-use crate::drive_turns::{Alone, drive_alone, drive_turns, turn_twice};
+use crate::turns_in_drives::{Alone, drive_alone, drive_turns, turn_twice};
 use ckrt_disk::{Disk, MemoryDisk, StoppingDisk};
 use ckrt_drive::Options;
 use std::process::Abort;

@@ -1,5 +1,5 @@
 use Rattle.ckrt_witness.proofs.DriveTurnLemmas.{drove_alone}
-use Rattle.ckrt_witness.proofs.drive_turns.drive_alone.Goals as goal
+use Rattle.ckrt_witness.proofs.turns_in_drives.drive_alone.Goals as goal
 
 pub returns : goal.returns
 returns g c =

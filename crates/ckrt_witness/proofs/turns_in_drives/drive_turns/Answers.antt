@@ -1,7 +1,7 @@
 use Rattle.std.proofs.Common.{rules, ◌≡◌, ◌≤◌, ◌∙◌, subst}
 use Rattle.ckrt_schedule.specs.Turns.{turns_within}
 use Rattle.ckrt_witness.proofs.DriveTurnLemmas.{drove_alone}
-use Rattle.ckrt_witness.proofs.drive_turns.drive_turns.Goals as goal
+use Rattle.ckrt_witness.proofs.turns_in_drives.drive_turns.Goals as goal
 
 pub returns : goal.returns
 returns g c =

@@ -1,4 +1,4 @@
-use Rattle.ckrt_witness.proofs.drive_turns.go_alone.Goals as goal
+use Rattle.ckrt_witness.proofs.turns_in_drives.go_alone.Goals as goal
 
 pub returns : goal.returns
 returns g c =
