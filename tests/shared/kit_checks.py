@@ -301,6 +301,19 @@ def traps(ckrt, folder):
             yield f"{word}: {ending!r} at {place!r}"
 
 
+def ends(ckrt, folder):
+    """The last pc of a process that ended lies in the function that made the last call, and NULL's members in no variable."""
+    source, image = folder / "ending.c", folder / "ending.bin"
+    source.write_text("#include <stdlib.h>\nint main(void) { exit(3); }\n")
+    call(BUILD, source, "-o", image)
+    ending, _ = driven(ckrt, image, folder)
+    listing = call(ckrt, "inspect", folder / "driven.disk")
+    pc = re.search(r"^thread 1 .* pc ([0-9a-f]{8})", listing, re.MULTILINE)
+    places = call(WHERE, folder / "ending.elf", pc[1], "00000000", "00000008").splitlines() if pc else []
+    if ending != "ended: exit 3" or [it.split(" ", 1)[1].split(" at ")[0] for it in places] != ["__guest_stop", "the null page", "the null page"]:
+        yield f"the end of a process: {ending!r} at {places!r}"
+
+
 def cache(folder):
     """Below a prefix that can't be written the kit's objects are kept in the user's cache."""
     prefix, kept = folder / "prefix", folder / "cache"
@@ -369,7 +382,7 @@ def words(folder):
 def failures(ckrt, folder):
     """All that is wrong, as texts."""
     checks = [refused_sources(folder), refused_words(folder), endings(ckrt, folder), tools(ckrt, folder), headers(folder),
-              types(ckrt, folder), digits(ckrt, folder), traps(ckrt, folder), cache(folder), projects(ckrt, folder), words(folder)]
+              types(ckrt, folder), digits(ckrt, folder), traps(ckrt, folder), ends(ckrt, folder), cache(folder), projects(ckrt, folder), words(folder)]
     found = []
     for check in checks:
         wrong = list(check)
