@@ -15,6 +15,7 @@ from shared.comparing import first_difference
 from shared.disks import shape_words
 from shared.guests import count_down, draw
 from shared.instructions import SLEEP_UNTIL, Program
+from shared.lives import ENOUGH
 
 COUNT = 3_000  # bytes that a guest puts
 JOURNALS = [4_096, 8_192, 65_536]
@@ -140,7 +141,8 @@ class Logged:
         """A drive with a rhythm drawn by lot, which ends by itself or is killed."""
         turn, rounds, events = (str(self.chance.choice(of)) for of in (self.place.turns, [1, 2, 8], self.place.events))
         words = self.place.drive_words(name, "--turn", turn, "--rounds-per-commit", rounds, "--events", events)
-        if self.place.is_end(self.live(name, words, calls=self.chance.choice(self.place.calls))):
+        status = self.live(name, words, calls=self.chance.choice(self.place.calls))
+        if self.place.is_end(status) or status == ENOUGH and (self.place.folder / f"{name}.out").exists():
             self.note(f"kept {name} {(self.place.folder / f'{name}.out').stat().st_size}")
 
     def feed(self, name):
