@@ -1,6 +1,6 @@
-# Settings for guests, in a session or with a core:
+# Settings for guests, in a session or with a core. ckrt.py, which lies beside, makes them, and more. By itself this serves a gdb
+# without Python:
 #     gdb-multiarch -x gdb/ckrt.gdb PROGRAM.elf -ex 'target remote | ckrt debug DISK'
-#     gdb-multiarch -x gdb/ckrt.gdb PROGRAM.elf CORE
 # Sources of the kit are named `guest/..`: `directory FOLDER`, with the folder in which guest/ lies, shows them.
 set pagination off
 set confirm off

@@ -1,7 +1,7 @@
 """A guest with files on a file system that is cut, and what ckrt-files makes of its output there.
 
 The guest is tests/programs/files/tables.c. It appends to its files, and renames each once it is whole: so all that its files ever
-have is a beginning of what the same program leaves here.
+have is a beginning of what the same program leaves here. Or it is an ordinary program of a source package.
 """
 import os
 import re
@@ -14,7 +14,9 @@ from pathlib import Path
 
 from promises import Finding, Run
 from shared.comparing import first_difference
-from shared.with_files import MAKER, OWN, PROGRAMS, Program, build, run_here, tree_of
+from shared.disks import Layout
+from shared.tried import given_of, image_of, link_tried, run_tried_here, sources_of
+from shared.with_files import MAKER, OWN, PROGRAMS, Program, build, left_unchanged, run_here, tree_of
 from work import Place, drive_again, format_again, said
 
 PROGRAM = Program("tables", [PROGRAMS / "tables.c"])
@@ -23,15 +25,19 @@ LOCK = {"lock": b""}  # a file that is there until the end
 SHORTEST, LONGEST = 0.02, 0.2  # seconds until a kill of ckrt-files
 KILLED = 0.5  # how many of its runs
 MAKER_LACKS = "maker"  # a control: none of its syncs is made
+MEBIBYTE = 1 << 20
+MORE = "more"  # what the names of disks with more pages begin with
+RHYTHM = {"turns": (5_000, 30_000, 200_000), "events": (100, 1_000, 10_000), "calls": (0, 20, 150, 600, 3_000), "turns_behind": (200_000, 1_000_000)}  # of a package
 LONGEST_FRAME = 64 + 1_023 + 4_096 + 1  # bytes
 BEFORE_THE_CUT = re.compile(rb"has \d+ bytes, and .* was made of \d+: ")  # how ckrt-files refuses an output that a cut has left shorter
 
 
 @dataclass
 class FilesPlace(Place):
-    """As Place, with one image for all disks."""
+    """As Place, with one image for all disks, of which some have more pages."""
 
     pages: int = 32
+    more_pages: int = 512
     turns: tuple = 2_000, 10_000, 65_535
     events: tuple = 30, 100, 300, 10_000
     calls: tuple = 0, 20, 150, 600
@@ -40,6 +46,9 @@ class FilesPlace(Place):
 
     def image(self, _name):
         return self.built
+
+    def pages_of(self, name):
+        return self.more_pages if name.startswith(MORE) else self.pages
 
 
 @lru_cache(64)
@@ -55,16 +64,32 @@ def made_of(data):
         return tree_of(made, {".ckrt-files"})
 
 
-def check_beginnings(found, wanted):
-    """Each file has to be a beginning of one that is there at the end."""
+def check_parts(found, wanted):
+    """Each file of our guest has to be a beginning of one that is there at the end, where it is whole if it has its name."""
     for name, data in found.items():
         whole = wanted.get(name.removesuffix(PART), b"")
-        if data is None and whole is None or name in LOCK and not data:
+        if name in LOCK and not data:
             continue
-        if data is None or whole is None or not whole.startswith(data):
-            raise Finding(f"{name} has {data and data[-40:]!r} at its end, which is no beginning of what is right")
+        check_beginning(name, data, whole)
         if data != whole and name not in OWN and not name.endswith(PART):
             raise Finding(f"{name} has {len(data)} bytes and its name")
+
+
+def check_beginning(name, data, whole):
+    if (data is None) != (whole is None) or data and not whole.startswith(data):
+        raise Finding(f"{name} has {data and data[-40:]!r} at its end, which is no beginning of what is right")
+
+
+def check_beginnings(found, wanted):
+    """Each file of a program that only appends has to be a beginning of the one that is there at the end."""
+    for name, data in found.items():
+        if name not in wanted:
+            raise Finding(f"{name} is made, which isn't there at the end")
+        check_beginning(name, data, wanted[name])
+
+
+def check_nothing(_found, _wanted):
+    """Any file may be there before the end of a program that writes in place."""
 
 
 @dataclass
@@ -72,15 +97,25 @@ class FilesRun(Run):
     """What was promised of a disk of this guest. `wanted` is by the names of files."""
 
     keeps_order: bool = False  # whether the file system shows no byte behind a cut that wasn't written
+    check: object = check_parts  # what has to be so of the files that a beginning of the output makes
     sure: bytes = b""  # what was confirmed of the output: by no way may another byte come there
+    released: bytes = b""  # what was ever written to the output: nor here
+
+    def release(self, offset, data):
+        before = self.released[offset:offset + len(data)]
+        if offset > len(self.released) or not data.startswith(before):
+            raise Finding(f"{len(data)} bytes of output are written at {offset}, where others were written before, or none up to there")
+        self.released += data[len(before):]
 
     def right(self, held, confirmed):
         if not held.startswith(self.sure[:len(held)]):
             raise Finding(f"byte {first_difference(held, self.sure)} of the output is another one than at the cut before")
         count = max(confirmed, self.kept)
-        check_beginnings(made_of(held[:count]), self.wanted)
+        if count > len(self.released) or not self.released.startswith(held[:count]):
+            raise Finding(f"{count} bytes of output are confirmed, which aren't those that were written")
+        self.check(made_of(held[:count]), self.wanted)
         if self.keeps_order:
-            check_beginnings(made_of(held), self.wanted)
+            self.check(made_of(held), self.wanted)
         self.sure = max(self.sure, held[:count], key=len)
         return len(held)
 
@@ -89,9 +124,11 @@ class Files:
     """Disks that such guests work on, and folders on the same file system that are made of their outputs meanwhile."""
 
     least_cuts = 12  # of a recording
+    check = staticmethod(check_parts)
 
     def __init__(self, room):
         room.mkdir()
+        self.more = mebibytes_of(FilesPlace.more_pages)
         self.image = build(PROGRAM, room)
         files, out, err, status = run_here(PROGRAM, room)
         if status:
@@ -103,10 +140,10 @@ class Files:
 
     def kinds(self, is_first):
         """The disks of a recording that is new."""
-        return ["files", "more"] * is_first
+        return ["files", MORE] * is_first
 
     def new_run(self, keeps_order):
-        return lambda *_: FilesRun(self.wanted, keeps_order=keeps_order)
+        return lambda *_: FilesRun(self.wanted, keeps_order=keeps_order, check=self.check)
 
     def behind_drive(self, logged, name, keeps_order):
         """Makes files of what is there, maybe up to a kill. Behind a cut that is right once the drive has made up its output again."""
@@ -135,8 +172,8 @@ class Files:
         output, made = in_place(place, name)
         if run.made and not is_recorded(made, output, run.made):
             raise Finding(f"files were made of {run.made} bytes, and {made.name} doesn't say so")
-        if not output.read_bytes().startswith(run.sure):
-            raise Finding("a byte that was confirmed is another one at the end")
+        if not output.read_bytes().startswith(run.released):
+            raise Finding("a byte of output that was written before the cut is another one at the end")
         done = said([MAKER, output, made])
         if done.returncode:
             raise Finding(f"ckrt-files: {done.stderr.decode()}")
@@ -145,6 +182,43 @@ class Files:
                 wrong = [it for it in {*found, *self.wanted} if found.get(it) != self.wanted.get(it)]
                 raise Finding(f"where ckrt-files {what}, wrong at the end: {', '.join(sorted(wrong))}")
         shutil.rmtree(made)
+
+
+class Package(Files):
+    """As Files, with an ordinary program of a source package in place of ours, on one disk."""
+
+    least_cuts = 20
+
+    def __init__(self, room, tried, folder):
+        room.mkdir()
+        self.tried, top = tried, sources_of(tried, folder)
+        given = given_of(tried, top)
+        files, out, err, self.exit = run_tried_here(tried, top, room)
+        self.wanted = left_unchanged(files, given) | {"stdout": out, "stderr": err}
+        linked = link_tried(tried, top, room)
+        self.image = image_of(tried, linked, room / "guest.bin", given)
+        self.of_another_byte = image_of(tried, linked, room / "another.bin", with_another_byte(given))
+        self.check = check_beginnings if tried.appends else check_nothing
+        self.more = mebibytes_of(tried.pages)
+
+    def kinds(self, is_first):
+        return ["files"] * is_first
+
+    def place(self, folder, images, ckrt):
+        return FilesPlace(folder, images, ckrt, self.tried.pages, exit=self.exit, built=self.image, **RHYTHM)
+
+
+def mebibytes_of(pages):
+    """What a file system has to have beyond the room for small disks, for one of so many pages: twice what that needs."""
+    return -(-2 * Layout(pages).size() // MEBIBYTE)
+
+
+def with_another_byte(given):
+    """Files of which the first has another byte in its middle."""
+    first, *_ = given
+    data = bytearray(given[first])
+    data[len(data) // 2] ^= 1
+    return {**given, first: bytes(data)}
 
 
 def is_recorded(made, output, size):

@@ -11,6 +11,8 @@ from shared.guests import MASK, generator
 from shared.reading import read_disk, recovered
 
 TABLE = 0x30FC
+WITH_BYTES = {"write", "part"}  # notes behind whose line there are bytes, so many as its last word says
+OUTPUT = ".out"  # behind the name of a disk
 
 
 class Finding(Exception):
@@ -51,21 +53,33 @@ class File:
     pending: Ranges = field(default_factory=Ranges)
 
     def write(self, offset, data):
-        if len(self.content) < offset:
-            self.content.extend(bytes(offset - len(self.content)))
+        self.extend(offset)
         self.content[offset:offset + len(data)] = data
         self.pending.of.append((offset, offset + len(data)))
 
-    def take_over(self, name, found):
-        """What a killed program has left: of its last write perhaps a part, which is pending all the same."""
-        self.check(name, found)
-        self.content = bytearray(found)
+    def take_over(self, name, offset, data):
+        """A part of what a killed program has left: of its last write perhaps a part, which is pending all the same."""
+        self.check(name, data, offset, offset + len(data))
+        self.extend(offset + len(data))
+        self.content[offset:offset + len(data)] = data
 
-    def check(self, name, found):
+    def end_at(self, name, size):
+        """How long that is, of which all parts were taken over."""
+        self.check(name, self.content[:size])
+        self.extend(size)
+        del self.content[size:]
+
+    def extend(self, size):
+        self.content.extend(bytes(max(0, size - len(self.content))))
+
+    def check(self, name, found, first=0, last=None):
+        """Looks whether the bytes from the first on, up to the last or to the end, are found where they aren't pending."""
         for begin, end in self.pending.settled(len(self.content)):
-            if found[begin:end] != self.content[begin:end]:
-                at = begin + first_difference(found[begin:end], self.content[begin:end])
-                raise Finding(f"{name}: byte {at} was synced as {self.content[at]:02x}, and is {found[at:at + 1].hex() or 'missing'}")
+            begin, end = max(begin, first), end if last is None else min(end, last)
+            part, wanted = found[max(0, begin - first):max(0, end - first)], self.content[begin:end]
+            if part != wanted:
+                at = first_difference(part, wanted)
+                raise Finding(f"{name}: byte {begin + at} was synced as {wanted[at]:02x}, and is {part[at:at + 1].hex() or 'missing'}")
 
 
 @dataclass
@@ -92,6 +106,11 @@ class Run:
         if self.wanted[offset:offset + len(data)] != data or offset > self.printed:
             raise Finding(f"printed {data.hex()} at {offset}, behind {self.printed} bytes")
         self.printed = max(self.printed, offset + len(data))
+
+    def release(self, offset, data):
+        """What a drive is about to write to its output."""
+        if self.wanted[offset:offset + len(data)] != data:
+            raise Finding(f"{len(data)} bytes of output are written at {offset}, which aren't those that are wanted there")
 
     def right(self, held, _confirmed):
         """How many bytes of an output are right, of which so many are confirmed."""
@@ -122,7 +141,10 @@ class State:
     def take(self, note):
         if note.file == NOTES:
             head, _, data = note.data.partition(b"\n")
-            self.take_note(head.decode().split(), data)
+            words = head.decode().split()
+            if len(data) != (int(words[-1]) if words[0] in WITH_BYTES else 0):
+                raise ValueError(f"a note isn't whole, since the kernel hands a long write on in parts: {words}, with {len(data)} bytes")
+            self.take_note(words, data)
         else:
             *lines, self.line = (self.line + note.data).split(b"\n")
             for line in lines:
@@ -132,10 +154,14 @@ class State:
         match words:
             case ["write", name, offset, _]:
                 self.files.setdefault(name, File()).write(int(offset), data)
+                if name.endswith(OUTPUT):
+                    self.runs[name.removesuffix(OUTPUT)].release(int(offset), data)
             case ["synced", name] if name in self.files:
                 self.files[name].pending = Ranges()
-            case ["found", name]:
-                self.files.setdefault(name, File()).take_over(name, data)
+            case ["part", name, offset, _]:
+                self.files.setdefault(name, File()).take_over(name, int(offset), data)
+            case ["found", name, size]:
+                self.files.setdefault(name, File()).end_at(name, int(size))
             case ["life", name, seed, count, _]:
                 self.life, self.line = name, b""
                 self.runs.setdefault(name, self.new_run(int(seed), int(count)))

@@ -15,14 +15,17 @@ from shared.comparing import first_difference
 from shared.disks import shape_words
 from shared.guests import count_down, draw
 from shared.instructions import SLEEP_UNTIL, Program
+from shared.lives import ENOUGH
 
 COUNT = 3_000  # bytes that a guest puts
 JOURNALS = [4_096, 8_192, 65_536]
 LIVES = 3  # of each disk in a recording
+EXITED = 7  # the status of a drive whose guest has ended by another status than 0
 OTHERS, LONGEST_REST = 2, 0.004  # other programs on the file system, and the seconds for which one rests
 CALLS = 0, 7, 40, 150, 600  # behind so many writes and syncs a life is killed, if it isn't 0
 RESTS = "0", "0", "500"  # microseconds behind each write of a life
 PATIENCE = 600  # seconds for a command, on a machine however busy
+PART = 1 << 19  # bytes of a file in one note: the logged disk takes twice as many in one request
 
 
 def guest(seed, count, rounds=0):
@@ -70,6 +73,15 @@ class Place:
     events: tuple = 10, 40, 100, 300, 10_000
     calls: tuple = CALLS
     turns_behind: tuple = 1_000, 5_000, 65_535  # of drives behind a cut
+    exit: int = 0  # by which the guest ends
+
+    def pages_of(self, _name):
+        """How many pages a disk has."""
+        return self.pages
+
+    def is_end(self, status):
+        """Whether a drive has this status whose guest has ended."""
+        return status == (EXITED if self.exit else 0)
 
     def image(self, name):
         path = self.images / f"{name}.bin"
@@ -82,7 +94,7 @@ class Place:
         return [self.ckrt, job, self.folder / f"{name}.disk", *more]
 
     def format_words(self, name):
-        return self.words("format", name, self.image(name), *shape_words(pages=self.pages, journal=JOURNALS[seed_of(name) % len(JOURNALS)]))
+        return self.words("format", name, self.image(name), *shape_words(pages=self.pages_of(name), journal=JOURNALS[seed_of(name) % len(JOURNALS)]))
 
     def drive_words(self, name, *more):
         return self.words("drive", name, "--output", self.folder / f"{name}.out", *more)
@@ -110,9 +122,17 @@ class Logged:
         done = subprocess.run(words, input=lines, stdout=self.prints, stderr=self.prints, env=environment, timeout=PATIENCE, check=False)
         if done.returncode < 0:
             for file in (f"{name}.disk", f"{name}.out"):
-                if (self.place.folder / file).exists():
-                    self.note(f"found {file}", (self.place.folder / file).read_bytes())
+                self.note_found(file)
         return done.returncode
+
+    def note_found(self, file):
+        """Notes what a kill has left of a file, in parts that the kernel hands on whole."""
+        if (self.place.folder / file).exists():
+            data = (self.place.folder / file).read_bytes()
+            for at in range(0, len(data), PART):
+                part = data[at:at + PART]
+                self.note(f"part {file} {at} {len(part)}", part)
+            self.note(f"found {file} {len(data)}")
 
     def format(self, name):
         self.live(name, self.place.format_words(name))
@@ -121,7 +141,8 @@ class Logged:
         """A drive with a rhythm drawn by lot, which ends by itself or is killed."""
         turn, rounds, events = (str(self.chance.choice(of)) for of in (self.place.turns, [1, 2, 8], self.place.events))
         words = self.place.drive_words(name, "--turn", turn, "--rounds-per-commit", rounds, "--events", events)
-        if self.live(name, words, calls=self.chance.choice(self.place.calls)) == 0:
+        status = self.live(name, words, calls=self.chance.choice(self.place.calls))
+        if self.place.is_end(status) or status == ENOUGH and (self.place.folder / f"{name}.out").exists():
             self.note(f"kept {name} {(self.place.folder / f'{name}.out').stat().st_size}")
 
     def feed(self, name):
@@ -221,7 +242,7 @@ def drive_again(place, name, chance):
     rhythm = "--turn", str(chance.choice(place.turns_behind)), "--rounds-per-commit", str(chance.choice([3, 16]))
     words = place.drive_words(name, *rhythm)
     done = said(words)
-    if done.returncode or not done.stderr.startswith(b"ended: exit 0"):
+    if not place.is_end(done.returncode) or not done.stderr.startswith(b"ended: exit %d\n" % place.exit):
         raise Finding(shown(words, done))
 
 
