@@ -1,8 +1,8 @@
 //! What a session has beside the run: what gdb said last, its stops, and what bounds its motions.
-ghost use Rattle.std.specs.Prelude.{◌≡◌, ◌≤◌, ◌↔◌, IfSome, IsNone, IsSome, IsTrue, min, true, false};
+ghost use Rattle.std.specs.Prelude.{◌≡◌, ◌≤◌, ◌↔◌, IfSome, IsNone, IsSome, IsTrue, length, min, true, false};
 ghost use Rattle.ckrt_events.specs.Bytes.{IsInRange};
 ghost use Rattle.ckrt_gdb_history.specs.Forks.{append_fault, forked, with_event};
-ghost use Rattle.ckrt_gdb_history.specs.Positions.{IsPosition};
+ghost use Rattle.ckrt_gdb_history.specs.Positions.{IsPosition, at_event};
 ghost use Rattle.ckrt_gdb_playback.specs.Extending.{going_on, view_behind};
 ghost use Rattle.ckrt_gdb_playback.specs.Playback.{HasPlace, position_of};
 ghost use Rattle.ckrt_gdb_history.specs.Stops.{widths};
@@ -13,14 +13,14 @@ ghost use Rattle.ckrt_gdb_playback.specs.Requests.{last_text};
 ghost use Rattle.ckrt_gdb_playback.specs.Settings.{HasSetStops, examined, examined_text, marked_text, set_text, view_after};
 ghost use Rattle.ckrt_gdb_playback.specs.Limits.{unbounded};
 ghost use Rattle.ckrt_gdb_playback.specs.Marks.{IsWithoutStops};
-ghost use Rattle.ckrt_gdb_playback.specs.Told.{first_view, next_or, shown, standing_in, told};
+ghost use Rattle.ckrt_gdb_playback.specs.Told.{ender_or, first_view, next_or, shown, standing_in, told};
 
 use crate::going::{Way, go};
-use crate::limits::Bounds;
+use crate::limits::{Bounds, begin_of};
 use crate::look::{FAILED, put_done, put_last, put_reply};
 use crate::marks::{Marked, insert, remove};
 use crate::threads::is_shown;
-use crate::told::{first_view, next_or, shown, standing_in};
+use crate::told::{ender_or, first_view, next_or, shown, standing_in};
 use crate::view::View;
 use ckrt_events::Event;
 use ckrt_gdb_history::{AppendFault, History, Position, Stops};
@@ -184,6 +184,21 @@ impl Desk {
         let thread = next_or(history, self.view.last.thread);
         self.view = standing_in(&self.view, thread);
         true
+    }
+
+    /// Goes behind the last event, and shows who ended the program, if it has ended.
+    pub fn reach_end(&mut self, history: &mut History)
+        ensures stops { self.new.stops ≡ self.old.stops }
+        ensures kept { (self.new.bounds ≡ self.old.bounds) × (self.new.first ≡ self.old.first)
+            × (self.new.recorded ≡ self.old.recorded) }
+        ensures there { history.new ≡ at (at_event (length history.old.events)) history.old }
+        ensures view { self.new.view
+            ≡ standing_in self.old.view (ender_or self.old.view.last.thread history.new) }
+    {
+        let end = begin_of(history, history.events().len());
+        history.go_to(end);
+        let ender = ender_or(history, self.view.last.thread);
+        self.view = standing_in(&self.view, ender);
     }
 
     /// Motions end from now on where so many events of all are done, and so many steps of the next. The result is that position. None where
