@@ -1,7 +1,7 @@
 -- A session with a debugger, between two packets.
 use Rattle.std.specs.Prelude.{◌≡◌, ℕ, min, Bool, true, false, List, length, Option, Some, None, is_some}
 use Rattle.ckrt_gdb_history.specs.declared.position.Position.{Position}
-use Rattle.ckrt_gdb_history.specs.Positions.{History}
+use Rattle.ckrt_gdb_history.specs.Positions.{History, at_event}
 use Rattle.ckrt_gdb_history.specs.Forks.{forked, with_event}
 use Rattle.ckrt_gdb_history.specs.Extended.{Extended}
 use Rattle.ckrt_gdb_history.specs.declared.forking.AppendFault.{AppendFault}
@@ -22,7 +22,7 @@ use Rattle.ckrt_gdb_playback.specs.declared.playback.Playback.{Playback}
 use Rattle.ckrt_gdb_playback.specs.declared.playback.Playback.TheVariants.{Unplayed}
 use Rattle.ckrt_gdb_playback.specs.Requests.{last_text, look_of, way_of}
 use Rattle.ckrt_gdb_playback.specs.Settings.{HasSetStops, set_text, view_after}
-use Rattle.ckrt_gdb_playback.specs.Told.{first_view, next_or, shown, standing_in, told}
+use Rattle.ckrt_gdb_playback.specs.Told.{ender_or, first_view, next_or, shown, standing_in, told}
 
 -- it is of the same run, at any position
 abbrev pub IsOfRun : (old new : Stub) → Type 0
@@ -93,6 +93,18 @@ pub record HasGone (p : Position) (old new : Stub) : Type 0 where
   pub history : history_of new.playback ≡ at p (history_of old.playback)
   pub view : new.desk.view
       ≡ standing_in old.desk.view (next_or old.desk.view.last.thread (history_of new.playback))
+  pub stops : new.desk.stops ≡ old.desk.stops
+  pub bounds : new.desk.bounds ≡ old.desk.bounds
+  pub first : new.desk.first ≡ old.desk.first
+  pub recorded : new.desk.recorded ≡ old.desk.recorded
+
+-- a session has gone behind the last event, and shows who ended the program; nothing else changes
+pub record HasGoneToEnd (old new : Stub) : Type 0 where
+  pub replayed : IsReplayed old new
+  pub history : history_of new.playback
+      ≡ at (at_event (length (history_of old.playback).events)) (history_of old.playback)
+  pub view : new.desk.view
+      ≡ standing_in old.desk.view (ender_or old.desk.view.last.thread (history_of new.playback))
   pub stops : new.desk.stops ≡ old.desk.stops
   pub bounds : new.desk.bounds ≡ old.desk.bounds
   pub first : new.desk.first ≡ old.desk.first
