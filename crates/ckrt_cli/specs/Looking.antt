@@ -23,9 +23,9 @@ pub record Sight (D : Type 0) : Type 1 where
   pub Opens : D → Type 0
   pub Tells : Telling
 
--- behind how many events the stretch begins, and behind how many it ends
+-- behind how many events the stretch begins, behind how many it ends, and how many of its last ones are told
 abbrev pub stretch_of : DiskStretch → Stretch
-stretch_of s = record { from = s.from; to = s.to }
+stretch_of s = record { from = s.from; to = s.to; last = s.last }
 
 -- what the job answers
 abbrev pub answer_of : Result (Unit {0}) InspectFault → Result (Unit {0}) JobFault

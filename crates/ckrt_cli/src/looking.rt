@@ -23,6 +23,7 @@ fn stretch(job: &StretchJob<'_>) -> Stretch
     Stretch {
         from: job.from,
         to: job.to,
+        last: job.last,
     }
 }
 

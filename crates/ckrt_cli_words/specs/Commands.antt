@@ -1,7 +1,7 @@
 -- The program's command line, as `clap` sees it: `format DISK IMAGE [--pages P] [--harts H] [--journal J]`, `run DISK`,
--- `inspect DISK [--at K] [--code]`, `core DISK FILE [--at K]`, `calls DISK [--from K] [--to K]`, `debug DISK [--at K]`,
--- `races DISK [--from K] [--to K]`, `timeline DISK [--from K] [--to K] [--width W] [--json]`,
--- `profile DISK [--from K] [--to K] [--folded | --callgrind]`,
+-- `inspect DISK [--at K] [--code]`, `core DISK FILE [--at K]`, `calls DISK [--from K] [--to K] [--last N]`, `debug DISK [--at K]`,
+-- `races DISK [--from K] [--to K] [--last N]`, `timeline DISK [--from K] [--to K] [--last N] [--width W] [--json]`,
+-- `profile DISK [--from K] [--to K] [--last N] [--folded | --callgrind]`,
 -- `hunt IMAGE [--seeds A-B | --seconds S] [--pages P] [--harts H] [--input FILE] [--steps N] [--races] [--keep DISK | FOLDER/] [--progress SECONDS]` and
 -- `drive DISK [--image IMAGE] [--pages P] [--harts H] [--journal J] [--input FILE] [--input-from OFFSET] [--output FILE] [--turn N] [--rounds-per-commit R] [--events N] [--seed S]
 -- [--progress SECONDS] [--status FILE] [--from OFFSET]`.
@@ -76,10 +76,11 @@ core_app =
 -- the words of a stretch of what a disk has recorded, behind the name of a command
 abbrev pub stretch_app : App → App
 stretch_app named =
-    with_rule (with_rule (with_rule named
+    with_rule (with_rule (with_rule (with_rule named
     (needed_rule (codes "disk")))
     (place_rule (codes "from")))
-    (place_rule (codes "to"))
+    (place_rule (codes "to")))
+    (place_rule (codes "last"))
 
 abbrev pub calls_app : App
 calls_app = stretch_app (new_app (codes "calls"))

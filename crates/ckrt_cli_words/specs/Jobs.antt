@@ -42,11 +42,12 @@ pub record CoreMaking : Type 0 where
   pub file : Text
   pub at : Option ℕ
 
--- a stretch of what a disk has recorded: which disk, behind how many events it begins, and behind how many it ends
+-- a stretch of what a disk has recorded: which disk, behind how many events it begins, and behind how many it ends, and how many of its last events are told
 pub record DiskStretch : Type 0 where
   pub disk : Text
   pub from : Option ℕ
   pub to : Option ℕ
+  pub last : Option ℕ
 
 -- what `debug` serves to a debugger: which disk, and behind how many events it begins
 pub record Debugging : Type 0 where
@@ -129,7 +130,7 @@ abbrev pub core_making_of : CoreJob → CoreMaking
 core_making_of c = record { disk = c.disk.now; file = c.file.now; at = c.at }
 
 abbrev pub disk_stretch_of : StretchJob → DiskStretch
-disk_stretch_of s = record { disk = s.disk.now; from = s.from; to = s.to }
+disk_stretch_of s = record { disk = s.disk.now; from = s.from; to = s.to; last = s.last }
 
 abbrev pub debugging_of : DebugJob → Debugging
 debugging_of d = record { disk = d.disk.now; at = d.at }
@@ -236,7 +237,12 @@ core_making_in rows = do
 abbrev pub disk_stretch_in : List Row → Option DiskStretch
 disk_stretch_in rows = do
   disk ← first_of (codes "disk") rows
-  Some (record { disk = disk; from = place_in (codes "from") rows; to = place_in (codes "to") rows })
+  Some (record {
+    disk = disk;
+    from = place_in (codes "from") rows;
+    to = place_in (codes "to") rows;
+    last = place_in (codes "last") rows;
+  })
 
 abbrev pub debugging_in : List Row → Option Debugging
 debugging_in rows = do

@@ -217,6 +217,14 @@ fn end<'a>(alloc: Global) -> Arg<'a>
     place(alloc, "to", "K", "End after K events, not at the last one")
 }
 
+/// How many events of a stretch are told.
+fn latest<'a>(alloc: Global) -> Arg<'a>
+    ensures rule { rule_of result ≡ place_rule (codes "last") }
+    ensures local { result.global ≡ false }
+{
+    place(alloc, "last", "N", "Only the last N events of these")
+}
+
 /// The words of a stretch of what a disk has recorded.
 fn stretch_arguments<'a>(alloc: Global) -> Result<Vec<Arg<'a>>, AllocError>
     ensures app { IfOk result (λ arguments. (named : App)
@@ -227,6 +235,7 @@ fn stretch_arguments<'a>(alloc: Global) -> Result<Vec<Arg<'a>>, AllocError>
         needed(alloc, "disk", "DISK", "A disk that `format` made"),
         beginning(alloc),
         end(alloc),
+        latest(alloc),
     ]?;
     Ok(arguments)
 }
@@ -299,6 +308,7 @@ fn timeline_arguments<'a>(alloc: Global) -> Result<Vec<Arg<'a>>, AllocError>
         needed(alloc, "disk", "DISK", "A disk that `format` made"),
         beginning(alloc),
         end(alloc),
+        latest(alloc),
         number(
             alloc,
             "width",
@@ -338,6 +348,7 @@ fn profile_arguments<'a>(alloc: Global) -> Result<Vec<Arg<'a>>, AllocError>
         needed(alloc, "disk", "DISK", "A disk that `format` made"),
         beginning(alloc),
         end(alloc),
+        latest(alloc),
         flag(
             alloc,
             "folded",

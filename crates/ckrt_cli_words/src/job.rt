@@ -78,6 +78,8 @@ pub struct StretchJob<'a> {
     pub from: Option<u64>,
     /// Behind how many events it ends; at the last one where this isn't given.
     pub to: Option<u64>,
+    /// How many of its events are told, the last ones; all where this isn't given.
+    pub last: Option<u64>,
 }
 
 /// What `debug` serves.

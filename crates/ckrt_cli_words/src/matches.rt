@@ -69,7 +69,13 @@ fn stretch<'a>(matches: &ArgMatches<'a>) -> Option<StretchJob<'a>>
 {
     let disk = text(matches, "disk")?;
     let (from, to) = (place(matches, "from"), place(matches, "to"));
-    Some(StretchJob { disk, from, to })
+    let last = place(matches, "last");
+    Some(StretchJob {
+        disk,
+        from,
+        to,
+        last,
+    })
 }
 
 /// What `debug` was given.

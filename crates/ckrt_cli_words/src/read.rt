@@ -37,22 +37,22 @@ const CORE_USAGE: &str = "Usage: ckrt core <DISK> <FILE> [--at NUMBER OF EVENTS]
 
 /// What follows a number of `calls` that isn't one.
 const CALLS_USAGE: &str =
-    "Usage: ckrt calls <DISK> [--from NUMBER OF EVENTS] [--to NUMBER OF EVENTS]";
+    "Usage: ckrt calls <DISK> [--from NUMBER OF EVENTS] [--to NUMBER OF EVENTS] [--last NUMBER OF EVENTS]";
 
 /// What follows a number of `debug` that isn't one.
 const DEBUG_USAGE: &str = "Usage: ckrt debug <DISK> [--at NUMBER OF EVENTS]";
 
 /// What follows a number of `races` that isn't one.
 const RACES_USAGE: &str =
-    "Usage: ckrt races <DISK> [--from NUMBER OF EVENTS] [--to NUMBER OF EVENTS]";
+    "Usage: ckrt races <DISK> [--from NUMBER OF EVENTS] [--to NUMBER OF EVENTS] [--last NUMBER OF EVENTS]";
 
 /// What follows a number of `timeline` that isn't one.
 const TIMELINE_USAGE: &str =
-    "Usage: ckrt timeline <DISK> [--from NUMBER OF EVENTS] [--to NUMBER OF EVENTS] [--width 400 to 4000] [--json]";
+    "Usage: ckrt timeline <DISK> [--from NUMBER OF EVENTS] [--to NUMBER OF EVENTS] [--last NUMBER OF EVENTS] [--width 400 to 4000] [--json]";
 
 /// What follows a number of `profile` that isn't one.
 const PROFILE_USAGE: &str =
-    "Usage: ckrt profile <DISK> [--from NUMBER OF EVENTS] [--to NUMBER OF EVENTS] [--folded | --callgrind]";
+    "Usage: ckrt profile <DISK> [--from NUMBER OF EVENTS] [--to NUMBER OF EVENTS] [--last NUMBER OF EVENTS] [--folded | --callgrind]";
 
 /// What is wrong with `profile` with both of its forms.
 const BOTH_FORMS: &str = "error: the argument '--folded' cannot be used with '--callgrind'";
@@ -138,7 +138,7 @@ fn is_version(words: &[&str]) -> bool
 /// they are `--version` alone, else what `clap` makes of them. An option of `format` that isn't given has 64 pages, 1 hart
 /// and a journal of 65,536 bytes; one that is given has to be a number below 2^32. `inspect` shows the disk after the last
 /// event where `--at` isn't given, which has to be a number below 2^64, and so does `core`. `calls` begins at the first one
-/// that the disk still has, and ends at the last one where its numbers aren't given, which have to be below 2^64 too. So does
+/// that the disk still has, ends at the last one, and tells all where its numbers aren't given, which have to be below 2^64 too. So does
 /// `debug` begin, where `--at` isn't given.
 ///
 /// `hunt` has no seeds, no seconds, 64 pages, 1 hart, no file of its input, runs of at most 10,000,000 steps, no look at races, no disk and no line of progress where these aren't given;

@@ -40,16 +40,21 @@ module _ (t : ℕ) (stops : Stops) (last : Position) (h before : History) (halt 
   pub stopped : (IsStepping t before halt → ⊥) → SteppedOn t stops last h before halt
   stopped never = (before, halt, there, inr (never, refl, refl))
 
--- ON, and told at z
+-- ON, from a search that ends at x, and is told at z
 
-module _ (bounds : Bounds) (stops : Stops) (end : Position) (h z : History) (found : Found) (thread : ℕ) (moved : Bool) (stopped : Stopped)
-    (within : IsEndOn bounds h end) (so : moved ≡ has_moved h.position z.position) (says : stopped ≡ told_on bounds.until found moved thread z) where
-  pub moved_on : WentOn stops end h z found → (f : Found) × Moved bounds On stops h z f × (stopped ≡ told bounds On f thread h z)
-  moved_on went = (found, (end, within, went), says ∙ ap (λ m. told_on bounds.until found m thread z) so)
+module _ (bounds : Bounds) (stops : Stops) (end : Position) (h x z : History) (found : Found) (thread : ℕ) (moved : Bool) (stopped : Stopped)
+    (within : IsEndOn bounds h end) (same : z ≡ x) (so : moved ≡ has_moved h.position x.position) (says : stopped ≡ told_on bounds.until found moved thread x) where
+  told_there : stopped ≡ told_on bounds.until found (has_moved h.position z.position) thread z
+  told_there =
+      says ∙ ap (λ m. told_on bounds.until found m thread x) so
+      ∙ ap (λ (y : History). told_on bounds.until found (has_moved h.position y.position) thread y) (sym same)
 
-  pub stepped_on : (last : ℕ) → SteppedOn thread stops end h z found
+  pub moved_on : WentOn stops end h x found → (f : Found) × Moved bounds On stops h z f × (stopped ≡ told bounds On f thread h z)
+  moved_on went = (found, (end, within, subst (λ (y : History). WentOn stops end h y found) (sym same) went), told_there)
+
+  pub stepped_on : (last : ℕ) → SteppedOn thread stops end h x found
       → (f : Found) × Moved bounds (StepOn thread) stops h z f × (stopped ≡ told bounds (StepOn thread) f last h z)
-  stepped_on last went = (found, (end, within, went), says ∙ ap (λ m. told_on bounds.until found m thread z) so)
+  stepped_on last went = (found, (end, within, subst (λ (y : History). SteppedOn thread stops end h y found) (sym same) went), told_there)
 
 -- BACK, from a search that ends at x, and is told at z
 

@@ -41,10 +41,22 @@ first_or_one (t ∷ ts) = t
 abbrev pub shown : ℕ → threads.State → ℕ
 shown t s = if is_shown t s then t else first_or_one (shown_ids s)
 
--- behind the last event: the fault with which the program ended, where somebody has just come there; else that nothing is recorded behind
+-- the status of a guest that aborted: 128, and gdb's number of SIGABRT
+abbrev pub ABORTED : ℕ
+ABORTED = 134
+
+-- a thread made the step with which the program ended: it aborted, or there is another reason to stop
+abbrev pub exited : ℕ → Reason → ℕ → Stopped
+exited n reason t =
+    if n == ABORTED then record { signal = 6; cause = cause.Stopped; thread = t }
+    else record { signal = 5; cause = reason; thread = t }
+
+-- behind the last event: the fault or the abort with which the program ended, where somebody has just come there; else that nothing is
+-- recorded behind
 abbrev pub ending_of : Status → (has_moved : Bool) → ℕ → Stopped
 ending_of (status.Faulted u pc c) true t =
     record { signal = signal_of c; cause = cause.Stopped; thread = u }
+ending_of (status.Exited n) true t = exited n cause.End t
 ending_of _ has_moved t = record { signal = 5; cause = cause.End; thread = t }
 
 -- WHOM IT NAMES
@@ -68,18 +80,28 @@ next_or t h = next_in (runner_at h.position h.events h.start) t (threads_at h)
 abbrev pub stepper_or : ℕ → History → ℕ
 stepper_or t h = next_or t (at (previous_position h.position h.events h.start) h)
 
+-- who ended the program: the thread of its fault, or who made its last step; this thread where it hasn't ended
+abbrev pub ender_by : Status → ℕ → History → ℕ
+ender_by status.Running t h = t
+ender_by (status.Exited n) t h = stepper_or t h
+ender_by (status.Faulted u pc c) t h = u
+
+-- behind the last event that one
+abbrev pub ender_or : ℕ → History → ℕ
+ender_or t h = shown (ender_by (status_at h) t h) (threads_at h)
+
 -- WHAT IT IS TOLD AS
 
 abbrev pub trap : Reason → ℕ → Stopped
 trap reason t = record { signal = 5; cause = reason; thread = t }
 
 -- of a thread that stands, where gdb has said nothing of threads
-abbrev pub first_view : ℕ → View
-first_view t = record { examined = t; chosen = Any; last = trap cause.Stopped t }
+abbrev pub first_view : (known t : ℕ) → View
+first_view known t = record { examined = t; chosen = Any; last = trap cause.Stopped t; known = known }
 
 -- of one that stands where somebody went: its registers are told
 abbrev pub standing_in : View → ℕ → View
-standing_in v t = record { examined = t; chosen = v.chosen; last = trap cause.Stopped t }
+standing_in v t = record { examined = t; chosen = v.chosen; last = trap cause.Stopped t; known = v.known }
 
 -- at the position that was named (gdb's number of no signal), or at the limit of steps
 abbrev pub reached : ℕ → Stopped
@@ -87,6 +109,10 @@ reached t = record { signal = 0; cause = cause.Stopped; thread = t }
 
 abbrev pub interrupted : ℕ → Stopped
 interrupted t = record { signal = 2; cause = cause.Stopped; thread = t }
+
+-- a motion ended at the limit of steps
+abbrev pub is_interrupted : Stopped → Bool
+is_interrupted s = s.signal == 2
 
 abbrev pub is_same : (p q : Position) → Bool
 is_same p q = p.events == q.events && p.steps == q.steps
@@ -102,9 +128,10 @@ is_named (Some u) p = is_same u p
 abbrev pub at_end : Option Position → ℕ → History → Stopped
 at_end until t h = if is_named until h.position then reached t else interrupted t
 
--- behind a thread's step: the fault with which the program ended by it, if one did
+-- behind a thread's step: the fault or the abort with which the program ended by it, if one did
 abbrev pub stepped : (is_end : Bool) → Status → ℕ → Stopped
 stepped true (status.Faulted u pc c) t = ending_of (status.Faulted u pc c) true t
+stepped true (status.Exited n) t = exited n cause.Stopped t
 stepped _ _ t = trap cause.Stopped t
 
 abbrev pub is_begin : History → Bool
@@ -122,7 +149,7 @@ told_on until (Written address) m t h = trap (cause.Written address) (next_or t 
 told_on until Halted m t h = trap cause.Stopped (next_or t h)
 told_on until Stepped m t h = stepped (is_end h) (status_at h) (shown t (threads_at h))
 told_on until Nothing m t h =
-    if is_end h then ending_of (status_at h) m (shown t (threads_at h)) else at_end until (next_or t h) h
+    if is_end h then ending_of (status_at h) m (ender_or t h) else at_end until (next_or t h) h
 
 -- a motion back
 abbrev pub told_back : Option Position → Found → ℕ → History → Stopped

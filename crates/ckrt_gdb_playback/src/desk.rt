@@ -1,8 +1,8 @@
 //! What a session has beside the run: what gdb said last, its stops, and what bounds its motions.
-ghost use Rattle.std.specs.Prelude.{◌≡◌, ◌≤◌, ◌↔◌, IfSome, IsNone, IsSome, IsTrue, min, true, false};
+ghost use Rattle.std.specs.Prelude.{◌≡◌, ◌≤◌, ◌↔◌, IfSome, IsNone, IsSome, IsTrue, length, min, true, false};
 ghost use Rattle.ckrt_events.specs.Bytes.{IsInRange};
 ghost use Rattle.ckrt_gdb_history.specs.Forks.{append_fault, forked, with_event};
-ghost use Rattle.ckrt_gdb_history.specs.Positions.{IsPosition};
+ghost use Rattle.ckrt_gdb_history.specs.Positions.{IsPosition, at_event};
 ghost use Rattle.ckrt_gdb_playback.specs.Extending.{going_on, view_behind};
 ghost use Rattle.ckrt_gdb_playback.specs.Playback.{HasPlace, position_of};
 ghost use Rattle.ckrt_gdb_history.specs.Stops.{widths};
@@ -13,20 +13,20 @@ ghost use Rattle.ckrt_gdb_playback.specs.Requests.{last_text};
 ghost use Rattle.ckrt_gdb_playback.specs.Settings.{HasSetStops, examined, examined_text, marked_text, set_text, view_after};
 ghost use Rattle.ckrt_gdb_playback.specs.Limits.{unbounded};
 ghost use Rattle.ckrt_gdb_playback.specs.Marks.{IsWithoutStops};
-ghost use Rattle.ckrt_gdb_playback.specs.Told.{first_view, next_or, shown, standing_in, told};
+ghost use Rattle.ckrt_gdb_playback.specs.Told.{ender_or, first_view, next_or, shown, standing_in, told};
 
 use crate::going::{Way, go};
-use crate::limits::Bounds;
+use crate::limits::{Bounds, begin_of};
 use crate::look::{FAILED, put_done, put_last, put_reply};
 use crate::marks::{Marked, insert, remove};
-use crate::threads::is_shown;
-use crate::told::{first_view, next_or, shown, standing_in};
+use crate::threads::is_listed;
+use crate::told::{ender_or, first_view, next_or, shown, standing_in};
 use crate::view::View;
 use ckrt_events::Event;
 use ckrt_gdb_history::{AppendFault, History, Position, Stops};
 use ckrt_gdb_packets::{Choice, Payload, Reply, Request};
 use ckrt_schedule::{Schedule, ScheduleEnd};
-use ckrt_thread::Threads;
+use ckrt_thread::{ThreadId, Threads};
 
 /// How many steps a turn has in a run that goes on by itself: as many as in a drive that is given no other number.
 const TURN: u32 = 1_000_000;
@@ -55,13 +55,13 @@ fn put_marked(marked: Marked, out: &mut Payload)
     }
 }
 
-/// The thread whose registers are told from now on: of any, that of the last stop. Nothing changes where it isn't shown.
+/// The thread whose registers are told from now on: of any, that of the last stop. Nothing changes where it isn't listed.
 fn examine(view: &mut View, choice: Choice, threads: &Threads, out: &mut Payload)
     ensures view { view.new ≡ examined choice view.old threads.now }
-    ensures payload { out.new.items ≡ fitting (examined_text choice threads.now) }
+    ensures payload { out.new.items ≡ fitting (examined_text choice view.old.known threads.now) }
 {
     match choice {
-        Choice::One(thread) if is_shown(threads, thread) => {
+        Choice::One(thread) if is_listed(threads, view.known, thread) => {
             view.examined = thread as u8;
             put_done(true, out);
         }
@@ -105,9 +105,9 @@ fn view_behind(end: &Result<ScheduleEnd, AppendFault>, view: &View, history: &Hi
 
 impl Desk {
     /// A session that begins: thread 1 is shown, or whoever is left, and there is no stop. Before the first event of the run `first`
-    /// were done, and so many are recorded.
-    pub fn new(first: u64, recorded: usize, threads: &Threads) -> Desk
-        ensures view { result.view ≡ first_view (shown 1 threads.now) }
+    /// were done, so many are recorded, and gdb knows the threads up to a number.
+    pub fn new(first: u64, recorded: usize, threads: &Threads, known: ThreadId) -> Desk
+        ensures view { result.view ≡ first_view known (shown 1 threads.now) }
         ensures stops { IsWithoutStops result.stops }
         ensures bounds { result.bounds ≡ unbounded }
         ensures first { result.first ≡ first }
@@ -116,7 +116,7 @@ impl Desk {
         Desk {
             first,
             recorded,
-            view: first_view(shown(threads, 1)),
+            view: first_view(known, shown(threads, 1)),
             stops: Stops::new(),
             bounds: Bounds::new(),
         }
@@ -129,7 +129,7 @@ impl Desk {
         ensures kept { (self.new.bounds ≡ self.old.bounds) × (self.new.first ≡ self.old.first)
             × (self.new.recorded ≡ self.old.recorded) }
         ensures payload { out.new.items
-            ≡ fitting (set_text request.now self.old.stops threads.now) }
+            ≡ fitting (set_text request.now self.old.stops self.old.view.known threads.now) }
     {
         match request {
             Request::Examine(choice) => examine(&mut self.view, *choice, threads, out),
@@ -149,7 +149,8 @@ impl Desk {
         ensures stops { self.new.stops ≡ self.old.stops }
         ensures kept { (self.new.bounds ≡ self.old.bounds) × (self.new.first ≡ self.old.first)
             × (self.new.recorded ≡ self.old.recorded)
-            × (self.new.view.chosen ≡ self.old.view.chosen) }
+            × (self.new.view.chosen ≡ self.old.view.chosen)
+            × (self.new.view.known ≡ self.old.view.known) }
         ensures moved { (found : Found)
             × Moved self.old.bounds way self.old.stops history.old history.new found
             × (self.new.view.last
@@ -184,6 +185,21 @@ impl Desk {
         let thread = next_or(history, self.view.last.thread);
         self.view = standing_in(&self.view, thread);
         true
+    }
+
+    /// Goes behind the last event, and shows who ended the program, if it has ended.
+    pub fn reach_end(&mut self, history: &mut History)
+        ensures stops { self.new.stops ≡ self.old.stops }
+        ensures kept { (self.new.bounds ≡ self.old.bounds) × (self.new.first ≡ self.old.first)
+            × (self.new.recorded ≡ self.old.recorded) }
+        ensures there { history.new ≡ at (at_event (length history.old.events)) history.old }
+        ensures view { self.new.view
+            ≡ standing_in self.old.view (ender_or self.old.view.last.thread history.new) }
+    {
+        let end = begin_of(history, history.events().len());
+        history.go_to(end);
+        let ender = ender_or(history, self.view.last.thread);
+        self.view = standing_in(&self.view, ender);
     }
 
     /// Motions end from now on where so many events of all are done, and so many steps of the next. The result is that position. None where

@@ -28,5 +28,5 @@ pub use limits::Bounds;
 pub use look::{put_reply, tell_state};
 pub use playback::Playback;
 pub use recorded::Recorded;
-pub use told::is_same;
+pub use told::{is_interrupted, is_same};
 pub use view::{Stopped, View};

@@ -1,6 +1,6 @@
 //! How a stop is told.
 ghost use Rattle.std.specs.Prelude.{◌≡◌};
-ghost use Rattle.ckrt_gdb_playback.specs.Told.{first_view, standing_in, ending_of, has_moved, interrupted, is_begin, is_end, next_or, shown, signal_of, status_at, stepped, stepper_or, told_back, told_on, trap, reached, is_same, is_named, at_end};
+ghost use Rattle.ckrt_gdb_playback.specs.Told.{ender_by, ender_or, exited, first_view, is_interrupted, standing_in, ending_of, has_moved, interrupted, is_begin, is_end, next_or, shown, signal_of, status_at, stepped, stepper_or, told_back, told_on, trap, reached, is_same, is_named, at_end};
 
 use crate::motion::Found;
 use crate::threads::{is_shown, shown_ids};
@@ -19,6 +19,12 @@ const INTERRUPTED: u8 = 2;
 
 /// gdb's number of no signal.
 const NONE: u8 = 0;
+
+/// gdb's number of an abort.
+const ABORT: u8 = 6;
+
+/// The status of a guest that aborted.
+const ABORTED: u32 = 134;
 
 /// gdb's number of the signal that a fault would be to a thread.
 fn signal_of(fault: Fault) -> u8
@@ -65,14 +71,15 @@ pub fn trap(cause: Cause, thread: ThreadId) -> Stopped
     }
 }
 
-/// A thread that stands, where gdb has said nothing of threads.
-pub fn first_view(thread: ThreadId) -> View
-    ensures { result ≡ first_view thread }
+/// A thread that stands, where gdb has said nothing of threads, and knows those up to a number.
+pub fn first_view(known: ThreadId, thread: ThreadId) -> View
+    ensures { result ≡ first_view known thread }
 {
     View {
         examined: thread,
         chosen: Choice::Any,
         last: trap(Cause::Stopped, thread),
+        known,
     }
 }
 
@@ -84,6 +91,7 @@ pub fn standing_in(view: &View, thread: ThreadId) -> View
         examined: thread,
         chosen: view.chosen,
         last: trap(Cause::Stopped, thread),
+        known: view.known,
     }
 }
 
@@ -137,7 +145,29 @@ fn at_end(history: &History, until: Option<Position>, thread: ThreadId) -> Stopp
     }
 }
 
-/// The stop behind the last event: the fault with which the program ended, if one did and it is told for the first time; else that
+/// Whether a motion ended at the limit of steps.
+pub fn is_interrupted(stopped: Stopped) -> bool
+    ensures { result ≡ is_interrupted stopped }
+{
+    stopped.signal == INTERRUPTED
+}
+
+/// The stop behind the step with which the program ended: it aborted, or there is another cause.
+fn exited(status: u32, cause: Cause, thread: ThreadId) -> Stopped
+    ensures { result ≡ exited status cause thread }
+{
+    if status == ABORTED {
+        Stopped {
+            signal: ABORT,
+            cause: Cause::Stopped,
+            thread,
+        }
+    } else {
+        trap(cause, thread)
+    }
+}
+
+/// The stop behind the last event: the fault or the abort with which the program ended, if it is told for the first time; else that
 /// nothing is recorded behind.
 pub fn ending(status: Status, has_moved: bool, thread: ThreadId) -> Stopped
     ensures { result ≡ ending_of status has_moved thread }
@@ -148,6 +178,7 @@ pub fn ending(status: Status, has_moved: bool, thread: ThreadId) -> Stopped
             cause: Cause::Stopped,
             thread: faulted,
         },
+        Status::Exited(status) if has_moved => exited(status, Cause::End, thread),
         _ => trap(Cause::End, thread),
     }
 }
@@ -193,25 +224,48 @@ fn status_at(history: &History) -> Status
     history.machine().status()
 }
 
-/// The stop behind a thread's step: the fault with which the program ended by it, if one did.
+/// Who ended a program that stands so, or this thread where it hasn't ended.
+fn ender_by(status: Status, history: &mut History, thread: ThreadId) -> ThreadId
+    ensures history { history.new ≡ history.old }
+    ensures ender { result ≡ ender_by status thread history.old }
+{
+    match status {
+        Status::Running => thread,
+        Status::Exited(_) => stepper_or(history, thread),
+        Status::Faulted(faulted, _, _) => faulted,
+    }
+}
+
+/// Who ended the program, or this thread where it hasn't ended.
+pub fn ender_or(history: &mut History, thread: ThreadId) -> ThreadId
+    ensures history { history.new ≡ history.old }
+    ensures ender { result ≡ ender_or thread history.old }
+{
+    let ender = ender_by(status_at(history), history, thread);
+    shown(&history.machine().tables().threads, ender)
+}
+
+/// The stop behind a thread's step: the fault or the abort with which the program ended by it, if one did.
 fn stepped(is_end: bool, status: Status, thread: ThreadId) -> Stopped
     ensures { result ≡ stepped is_end status thread }
 {
     match status {
         Status::Faulted(_, _, _) if is_end => ending(status, true, thread),
+        Status::Exited(number) if is_end => exited(number, Cause::Stopped, thread),
         _ => trap(Cause::Stopped, thread),
     }
 }
 
 /// A motion that was to go on, and `has_moved` if it did. The thread is the one that was to step, or that of the last stop.
 pub fn told_on(
-    history: &History,
+    history: &mut History,
     until: Option<Position>,
     found: Found,
     has_moved: bool,
     thread: ThreadId,
 ) -> Stopped
-    ensures { result ≡ told_on until found has_moved thread history.now }
+    ensures history { history.new ≡ history.old }
+    ensures told { result ≡ told_on until found has_moved thread history.old }
 {
     let next = next_or(history, thread);
     let shown = shown(&history.machine().tables().threads, thread);
@@ -221,7 +275,7 @@ pub fn told_on(
         Found::Written(address) => trap(Cause::Written(address), next),
         Found::Halted => trap(Cause::Stopped, next),
         Found::Stepped => stepped(is_end, status, shown),
-        Found::Nothing if is_end => ending(status, has_moved, shown),
+        Found::Nothing if is_end => ending(status, has_moved, ender_or(history, thread)),
         Found::Nothing => at_end(history, until, next),
     }
 }

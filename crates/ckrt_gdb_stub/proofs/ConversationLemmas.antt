@@ -2,7 +2,7 @@
 use Rattle.std.proofs.Common.{◌≡◌, ◌⊎◌, inl, inr, ℕ, zero, suc, ◌≤◌, ◌<◌, Bool, true, false, Option, Some, None, List, [], ◌∷◌, ◌++◌, length, take, drop, refl, sym, ap, subst, ◌∙◌, arith, append_assoc, append-nil, drop_of_length-le, length-drop, min, nat_le}
 use Rattle.std.proofs.lemmas.Bool.{leb-false, leb-true}
 use Rattle.std.proofs.lemmas.List.{take_min}
-use Rattle.std.specs.Prelude.{IfErr, IfOk, IsErrOf, Result, Ok, Err, codes, is_some}
+use Rattle.std.specs.Prelude.{IfErr, IfOk, IsErrOf, OnErr, Result, Ok, Err, codes, is_some}
 use Rattle.std.specs.Result.{IsErrAnd}
 use Rattle.std.specs.Io.KnownBytes.{Appends, Consumes, Keeps}
 use Rattle.ckrt_disk.specs.Writing.{AppendsPart}
@@ -14,8 +14,9 @@ use Rattle.ckrt_gdb_stub.specs.declared.fault.DebugFault.TheVariants.{OutOfMemor
 use Rattle.ckrt_gdb_stub.specs.declared.line.Line.{Line}
 use Rattle.ckrt_gdb_stub.specs.Monitor.{Obeys}
 use Rattle.ckrt_gdb_playback.specs.Playback.{IsPlayable}
-use Rattle.ckrt_gdb_stub.specs.Conversation.{Advances, Breaks, BreaksAfter, BreaksByte, BreaksOff, BreaksRequest, Goes, HasHeard, Hears, HearsAll, IsReply, Replies, RepliesBy, RepliesToUser, RespondsTo, TakesMemory, Talk, Writes, asked_by, begun, console_frames, console_in, console_text, hearing, monitored, sign_in, talk_of}
+use Rattle.ckrt_gdb_stub.specs.Conversation.{Advances, Breaks, BreaksAfter, BreaksByte, BreaksOff, BreaksRequest, Goes, HasHeard, Hears, HearsAll, IsReply, Replies, RepliesBy, RepliesToGdb, RepliesToUser, RespondsTo, TakesMemory, Talk, Writes, asked_by, begun, console_frames, console_in, console_text, hearing, monitored, note_of, sign_in, talk_of}
 use Rattle.ckrt_gdb_stub.specs.declared.stub.Stub.{Stub}
+use Rattle.ckrt_gdb_stub.specs.Session.{Answers}
 
 -- WRITERS
 
@@ -28,6 +29,11 @@ part_behind a b c x y p part =
 pub part_front : (a b : Option (List ℕ)) (x y : List ℕ) → AppendsPart a b x → AppendsPart a b (x ++ y)
 part_front a b x y part =
     (part.0, (part.1.0 ++ y, ap (λ l. l ++ y) part.1.1 ∙ append_assoc part.0 part.1.0 y), part.2)
+
+-- a call that was broken off behind a text
+pub parts_behind : {A : Type 0} (r : Result A DebugFault) (a b c : Option (List ℕ)) (x y : List ℕ) → Appends a b x → OnErr r (AppendsPart b c y) → OnErr r (AppendsPart a c (x ++ y))
+parts_behind (Ok z) a b c x y p part = tt
+parts_behind (Err e) a b c x y p part = part_behind a b c x y p part
 
 -- THE CONSOLE
 
@@ -187,6 +193,20 @@ module _ (text told console : List ℕ) (old new : Stub) (obeys : Obeys text old
     subst (λ s. RepliesToUser text old new (console_frames console ++ frame_of (codes "OK")) s) (sym is) user_reply,
     Appends-append a b c (console_frames console) (frame_of (codes "OK")) (subst (λ l. Appends a b (console_frames l)) same first) last,
   )
+
+-- A REQUEST OF GDB'S OWN
+
+module _ (request : Request) (old new : Stub) (payload note : List ℕ) (answers : Answers request old new payload) (is : note ≡ note_of request old new) where
+  gdb_reply : RepliesToGdb request old new (console_frames note ++ frame_of payload) (frame_of payload)
+  gdb_reply = (payload, answers, refl, ap (λ l. console_frames l ++ frame_of payload) is)
+
+  -- it was answered
+  pub gdb_told : (sent : List ℕ) (a b : Option (List ℕ)) → sent ≡ frame_of payload → Appends a b (console_frames note ++ frame_of payload) → Writes (RepliesToGdb request old) new sent a b
+  gdb_told sent a b same wrote = (console_frames note ++ frame_of payload, subst (λ s. RepliesToGdb request old new (console_frames note ++ frame_of payload) s) (sym same) gdb_reply, wrote)
+
+  -- or that was broken off
+  pub gdb_broke : (a b : Option (List ℕ)) (e : DebugFault) → e ≡ Write → AppendsPart a b (console_frames note ++ frame_of payload) → Breaks e (RepliesToGdb request old) old a b
+  gdb_broke a b e same part = writer_broke (RepliesToGdb request old) old new a b (console_frames note ++ frame_of payload) (frame_of payload) e same gdb_reply part
 
 -- BY WHAT A REQUEST IS
 

@@ -12,7 +12,7 @@ use Rattle.ckrt_events.specs.declared.command.LineFault.{LineFault}
 use Rattle.ckrt_events.specs.declared.command.LineFault.TheVariants.{Unknown}
 use Rattle.ckrt_events.specs.declared.event.Event.{Event}
 use Rattle.ckrt_gdb_stub.specs.declared.command.Command.{Command}
-use Rattle.ckrt_gdb_stub.specs.declared.command.Command.TheVariants.{Append, Events, Extend, Fork, GoTo, Help, Inspect, Limit, Until}
+use Rattle.ckrt_gdb_stub.specs.declared.command.Command.TheVariants.{Append, Events, Extend, Fork, GoTo, GoToEnd, Help, Inspect, Limit, Until}
 use Rattle.ckrt_gdb_stub.specs.declared.command.Misread.{Misread}
 use Rattle.ckrt_gdb_stub.specs.declared.command.Misread.TheVariants.{Name, Number, Position, Superfluous}
 use Rattle.ckrt_gdb_stub.specs.declared.command.Place.{Place}
@@ -88,10 +88,14 @@ alone name =
     else if bytes_eq name (codes "help") then Some Help
     else None
 
+-- to a place, or to the end
+abbrev pub going_of : (word : List ℕ) → Option Command
+going_of word = if bytes_eq word (codes "end") then Some GoToEnd else option_map GoTo (place_of word)
+
 -- one that is about a word
 abbrev pub about : (name word : List ℕ) → Result Command Misread
 about name word =
-    if bytes_eq name (codes "goto") then ok_or (option_map GoTo (place_of word)) Position
+    if bytes_eq name (codes "goto") then ok_or (going_of word) Position
     else if bytes_eq name (codes "until") then ok_or (option_map Until (place_of word)) Position
     else if bytes_eq name (codes "limit") then ok_or (option_map Limit (positive_of word)) Number
     else if bytes_eq name (codes "live") then ok_or (option_map Extend (positive_of word)) Number

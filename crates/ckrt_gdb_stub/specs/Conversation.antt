@@ -13,11 +13,15 @@ use Rattle.ckrt_gdb_packets.specs.declared.request.Request.TheVariants.{Detach, 
 use Rattle.ckrt_gdb_stub.specs.declared.fault.DebugFault.{DebugFault}
 use Rattle.ckrt_gdb_stub.specs.declared.fault.DebugFault.TheVariants as fault
 use Rattle.ckrt_gdb_stub.specs.declared.line.Line.{Line}
+use Rattle.ckrt_gdb_stub.specs.declared.serve.TheConstants.{LIMIT_NOTE}
 use Rattle.ckrt_gdb_stub.specs.declared.stub.Stub.{Stub}
+use Rattle.ckrt_gdb_playback.specs.declared.going.Way.{Way}
+use Rattle.ckrt_gdb_playback.specs.declared.view.View.{View}
 use Rattle.ckrt_gdb_playback.specs.Look.{fitting}
+use Rattle.ckrt_gdb_playback.specs.Told.{is_interrupted}
 use Rattle.ckrt_gdb_stub.specs.Monitor.{Obeys}
 use Rattle.ckrt_gdb_playback.specs.Playback.{IsPlayable}
-use Rattle.ckrt_gdb_stub.specs.Session.{Answers}
+use Rattle.ckrt_gdb_stub.specs.Session.{Answers, way_in}
 
 -- A session and its line: what was heard of the frame under way, the frame that was sent last, and whether packets are acknowledged.
 pub record Talk : Type 0 where
@@ -101,11 +105,19 @@ RepliesToUser text old new frames sent =
     (console : List ℕ) × Obeys text old new console × (sent ≡ frame_of (codes "OK"))
     × (frames ≡ console_frames console ++ sent)
 
--- or the one reply
+-- what gdb's user is told before a reply: that a motion ended at the limit of steps
+abbrev pub note_by : Option Way → View → List ℕ
+note_by None v = []
+note_by (Some way) v = if is_interrupted v.last then LIMIT_NOTE.now else []
+
+abbrev pub note_of : Request → (old new : Stub) → List ℕ
+note_of request old new = note_by (way_in request old) new.desk.view
+
+-- or this, and the one reply
 abbrev pub RepliesToGdb : Request → (old new : Stub) → (frames sent : List ℕ) → Type 0
 RepliesToGdb request old new frames sent =
     (payload : List ℕ) × Answers request old new payload × (sent ≡ frame_of payload)
-    × (frames ≡ sent)
+    × (frames ≡ console_frames (note_of request old new) ++ sent)
 
 abbrev pub RepliesBy : Option (List ℕ) → Request → (old new : Stub) → (frames sent : List ℕ) → Type 0
 RepliesBy (Some text) request old new frames sent = RepliesToUser text old new frames sent

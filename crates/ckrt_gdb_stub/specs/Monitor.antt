@@ -12,14 +12,14 @@ use Rattle.ckrt_gdb_history.specs.declared.position.Position.{Position}
 use Rattle.ckrt_gdb_history.specs.Forks.{append_fault}
 use Rattle.ckrt_inspect.specs.Listing.{listing_by}
 use Rattle.ckrt_gdb_stub.specs.declared.command.Command.{Command}
-use Rattle.ckrt_gdb_stub.specs.declared.command.Command.TheVariants.{Append, Events, Extend, Fork, GoTo, Help, Inspect, Limit, Until}
+use Rattle.ckrt_gdb_stub.specs.declared.command.Command.TheVariants.{Append, Events, Extend, Fork, GoTo, GoToEnd, Help, Inspect, Limit, Until}
 use Rattle.ckrt_gdb_stub.specs.declared.command.Misread.{Misread}
 use Rattle.ckrt_gdb_stub.specs.declared.command.Misread.TheVariants as misread
 use Rattle.ckrt_gdb_stub.specs.declared.monitor.TheConstants.{HELP}
 use Rattle.ckrt_gdb_stub.specs.declared.stub.Stub.{Stub}
 use Rattle.ckrt_gdb_stub.specs.Commands.{command_of}
 use Rattle.ckrt_gdb_playback.specs.Playback.{history_of, state_of}
-use Rattle.ckrt_gdb_stub.specs.Session.{HasBounds, HasForked, HasGoneOn, IsSame, Makes, Names, Reaches, gone_on}
+use Rattle.ckrt_gdb_stub.specs.Session.{HasBounds, HasForked, HasGoneOn, HasGoneToEnd, IsSame, Makes, Names, Reaches, gone_on}
 use Rattle.ckrt_gdb_playback.specs.Told.{is_before, is_same}
 
 -- WHERE IT STANDS: `event K+S, from F to L`, and how many of these events are recorded where not all are
@@ -138,6 +138,7 @@ DoesAppend (Err fault) old new console =
 abbrev pub Does : Command → (old new : Stub) → (console : List ℕ) → Type 0
 Does (GoTo p) old new console =
     (is_there : Bool) × Reaches p.events p.steps old is_there new × (console ≡ gone_text is_there new)
+Does GoToEnd old new console = HasGoneToEnd old new × (console ≡ standing_line new)
 Does (Until p) old new console =
     (there : Option Position) × Names p.events p.steps old there new
     × (console ≡ named_text there (history_of old.playback).position)

@@ -1,7 +1,7 @@
 //! What gdb's user commands by `monitor`.
 ghost use Rattle.std.specs.Prelude.{◌≡◌, IfOk, IfSome, ok_or};
 ghost use Rattle.std.specs.List.{before_first};
-ghost use Rattle.ckrt_gdb_stub.specs.Commands.{IsInRangeCommand, IsInRangeEvent, about, alone, command_in, command_of, event_of, is_plus, number_of, place_of, positive_in, positive_of, steps_of, with_word, without_word, word_in, word_of};
+ghost use Rattle.ckrt_gdb_stub.specs.Commands.{IsInRangeCommand, IsInRangeEvent, about, alone, command_in, command_of, event_of, going_of, is_plus, number_of, place_of, positive_in, positive_of, steps_of, with_word, without_word, word_in, word_of};
 ghost use Rattle.ckrt_gdb_stub.specs.declared.command.Misread.TheVariants.{Number, Position};
 
 use ckrt_events::{Command as LineCommand, Event, LineFault, parse_command};
@@ -18,6 +18,8 @@ pub struct Place {
 pub enum Command {
     /// To go there.
     GoTo(Place),
+    /// To go behind the last event.
+    GoToEnd,
     /// To end motions there.
     Until(Place),
     /// To make so many steps at most in a motion, 1 or more.
@@ -157,13 +159,24 @@ fn alone(name: &str) -> Option<Command>
     }
 }
 
+/// To go to the place that a word names, or to the end.
+fn going_in(word: &str) -> Result<Command, Misread>
+    ensures command { result ≡ ok_or (going_of word.now) Position }
+    ensures in_range { IfOk result IsInRangeCommand }
+{
+    if word == "end" {
+        return Ok(Command::GoToEnd);
+    }
+    Ok(Command::GoTo(place_in(word)?))
+}
+
 /// A command that is about a word, by its name.
 fn about(name: &str, word: &str) -> Result<Command, Misread>
     ensures command { result ≡ about name.now word.now }
     ensures in_range { IfOk result IsInRangeCommand }
 {
     if name == "goto" {
-        Ok(Command::GoTo(place_in(word)?))
+        going_in(word)
     } else if name == "until" {
         Ok(Command::Until(place_in(word)?))
     } else if name == "limit" {

@@ -1,5 +1,5 @@
 //! The line to gdb.
-ghost use Rattle.std.specs.Prelude.{◌≡◌, ◌∷◌, [], IfErr, IfOk, MatchOption, OnErr, OnOk};
+ghost use Rattle.std.specs.Prelude.{◌≡◌, ◌++◌, ◌∷◌, [], IfErr, IfOk, MatchOption, OnErr, OnOk};
 ghost use Rattle.std.specs.Io.KnownBytes.{Appends, Consumes, IsAtEnd, Keeps};
 ghost use Rattle.ckrt_disk.specs.Writing.{AppendsPart};
 ghost use Rattle.ckrt_gdb_packets.specs.Framing.{arrival_of, frame_of, line_after};
@@ -94,6 +94,23 @@ fn sign<W: Write>(
     }
 }
 
+/// Sends a payload in its frame.
+fn send_frame<W: Write>(
+    payload: &Payload,
+    frame: &mut ArrayVec<u8, FRAME_LIMIT>,
+    writer: &mut W,
+) -> Result<(), DebugFault>
+    ensures sent { frame.new.items ≡ frame_of payload.now.items }
+    ensures ok { OnOk result (Appends (W.contents writer.old) (W.contents writer.new)
+        (frame_of payload.now.items)) }
+    ensures part { OnErr result (AppendsPart (W.contents writer.old) (W.contents writer.new)
+        (frame_of payload.now.items)) }
+    ensures fault { IfErr result (λ e. e ≡ DebugFault.Write) }
+{
+    write_frame(payload, frame);
+    write(writer, frame.as_slice())
+}
+
 impl Line {
     /// A line on which nothing has come yet.
     pub fn new() -> Line
@@ -118,8 +135,7 @@ impl Line {
             (frame_of self.old.payload.items)) }
         ensures fault { IfErr result (λ e. e ≡ DebugFault.Write) }
     {
-        write_frame(&self.payload, &mut self.frame);
-        write(writer, self.frame.as_slice())
+        send_frame(&self.payload, &mut self.frame, writer)
     }
 
     /// Sends a reply in place of the payload.
@@ -158,6 +174,26 @@ impl Line {
             rest = more;
         }
         Ok(())
+    }
+
+    /// Sends a text to gdb's console, and a payload behind it.
+    pub fn send_behind<W: Write>(
+        &mut self,
+        note: &[u8],
+        payload: &Payload,
+        writer: &mut W,
+    ) -> Result<(), DebugFault>
+        ensures sent { OnOk result (self.new.frame.items ≡ frame_of payload.now.items) }
+        ensures heard { self.new.receiver ≡ self.old.receiver }
+        ensures acknowledged { self.new.is_acknowledged ≡ self.old.is_acknowledged }
+        ensures ok { OnOk result (Appends (W.contents writer.old) (W.contents writer.new)
+            (console_frames note.now ++ frame_of payload.now.items)) }
+        ensures part { OnErr result (AppendsPart (W.contents writer.old) (W.contents writer.new)
+            (console_frames note.now ++ frame_of payload.now.items)) }
+        ensures fault { IfErr result (λ e. e ≡ DebugFault.Write) }
+    {
+        self.tell(note, writer)?;
+        send_frame(payload, &mut self.frame, writer)
     }
 
     /// What was asked, if this arrived.

@@ -23,6 +23,7 @@ use std::alloc::AllocError;
 const HELP: &[u8] = b"monitor events      the events that there are, and where it stands\n\
 monitor inspect     threads, locks and waits, as ckrt inspect lists them\n\
 monitor goto K+S    stand where K events are done and S steps of the next; then: maintenance flush register-cache\n\
+monitor goto end    stand behind the last event; then: maintenance flush register-cache\n\
 monitor until K+S   continue or reverse-continue stop there\n\
 monitor limit N     a continue makes N steps at most, by and large\n\
 monitor fork        forget the events behind where it stands, in this session alone\n\
@@ -231,6 +232,19 @@ impl Stub {
         Ok(stub)
     }
 
+    /// Goes behind the last event, and tells where it stands then.
+    fn go_to_end(self, out: &mut Vec<u8>) -> Result<Stub, DebugFault>
+        ensures does { IfOk result (λ stub. (console : List ℕ)
+            × Does Command.GoToEnd self stub console
+            × (out.new.items ≡ out.old.items ++ console)) }
+        ensures refused { IsErrOf result Refused → IsPlayable self.playback → ⊥ }
+        ensures fault { IfErr result (λ e. (e ≡ Refused) ⊎ (e ≡ OutOfMemory)) }
+    {
+        let stub = self.reach_end()?;
+        stub.push_standing(out)?;
+        Ok(stub)
+    }
+
     /// Motions end at a place from now on, if there is one, and it is told by which motion it goes there.
     fn stop_at(self, place: Place, out: &mut Vec<u8>) -> Result<Stub, DebugFault>
         ensures does { IfOk result (λ stub. (console : List ℕ)
@@ -404,6 +418,7 @@ impl Stub {
     {
         match command {
             Command::GoTo(place) => self.go_to(place, out),
+            Command::GoToEnd => self.go_to_end(out),
             Command::Until(place) => self.stop_at(place, out),
             Command::Limit(limit) => self.limit(limit, out),
             Command::Events => self.tell_standing(out),

@@ -2,13 +2,29 @@
 ghost use Rattle.std.specs.Prelude.{◌≡◌, ◌≢◌, ◌∷◌, [], ℕ, List, Option, IfErr, IfOk, OnOk, option_map};
 ghost use Rattle.std.specs.Io.KnownBytes.{Appends, Consumes};
 ghost use Rattle.ckrt_gdb_stub.specs.declared.fault.DebugFault.TheVariants.{OutOfMemory, Range};
-ghost use Rattle.ckrt_gdb_stub.specs.Conversation.{Advances, Breaks, BreaksAfter, BreaksByte, BreaksOff, BreaksRequest, Hears, Replies, RepliesToGdb, RepliesToUser, RespondsTo, Serves, TakesMemory, Writes, acknowledges_behind, leaves, monitored, talk_of};
+ghost use Rattle.ckrt_gdb_stub.specs.Conversation.{Advances, Breaks, BreaksAfter, BreaksByte, BreaksOff, BreaksRequest, Hears, Replies, RepliesToGdb, RepliesToUser, RespondsTo, Serves, TakesMemory, Writes, acknowledges_behind, leaves, monitored, note_by, talk_of};
 
 use crate::fault::DebugFault;
 use crate::line::{Line, next_byte};
 use crate::stub::Stub;
+use arrayvec::ArrayVec;
 use ckrt_gdb_packets::{Reply, Request};
+use ckrt_gdb_playback::{View, Way, is_interrupted};
 use std::io::{Read, Write};
+
+/// What gdb's user is told where a motion ended at the limit of steps.
+const LIMIT_NOTE: &[u8] =
+    b"ended by the limit of steps, 2000000000 at first: the same command goes on, and monitor limit N sets another\n";
+
+/// What gdb's user is told before the reply to a request by which somebody went this way, if anybody did.
+fn note_by(way: Option<Way>, view: &View) -> &'static [u8]
+    ensures { result.now ≡ note_by way view.now }
+{
+    match way {
+        Some(_) if is_interrupted(view.last) => LIMIT_NOTE,
+        _ => b"",
+    }
+}
 
 /// The text that gdb's user commands, if the request is that.
 fn monitored(request: &Request) -> Option<&[u8]>
@@ -74,8 +90,10 @@ impl Stub {
             (W.contents writer.old) (W.contents writer.new)) }
         ensures memory { IfErr result (λ e. e ≢ OutOfMemory) }
     {
-        let stub = self.answer(request, &mut line.payload)?;
-        line.send(writer)?;
+        let way = self.way(request);
+        let mut payload = ArrayVec::new();
+        let stub = self.answer(request, &mut payload)?;
+        line.send_behind(note_by(way, &stub.desk.view), &payload, writer)?;
         Ok(stub)
     }
 

@@ -7,7 +7,7 @@ ghost use Rattle.ckrt_gdb_playback.specs.Look.{fitting};
 ghost use Rattle.ckrt_gdb_playback.specs.Requests.{last_text};
 ghost use Rattle.ckrt_events.specs.Bytes.{IsInRange};
 ghost use Rattle.ckrt_gdb_history.specs.Forks.{append_fault};
-ghost use Rattle.ckrt_gdb_stub.specs.Session.{Answers, BeginsAt, HasForked, HasGoneOn, HasMoved, HasSet, IsMotion, IsOfRun, IsOutside, Makes, Names, Reaches, gone_on, look_in, set_text_in, way_in};
+ghost use Rattle.ckrt_gdb_stub.specs.Session.{Answers, BeginsAt, HasForked, HasGoneOn, HasGoneToEnd, HasMoved, HasSet, IsMotion, IsOfRun, IsOutside, Makes, Names, Reaches, gone_on, look_in, set_text_in, way_in};
 
 use crate::fault::DebugFault;
 use ckrt_events::Event;
@@ -62,6 +62,7 @@ impl Stub {
             first,
             recorded.event_count(),
             &recorded.machine().tables().threads,
+            recorded.known_threads(),
         );
         let stub = Stub {
             alloc,
@@ -101,6 +102,26 @@ impl Stub {
             },
             is_there,
         ))
+    }
+
+    /// Goes behind the last event, and shows who ended the program, if it has ended.
+    pub(crate) fn reach_end(self) -> Result<Stub, HistoryFault>
+        ensures reached { IfOk result (HasGoneToEnd self) }
+        ensures refused { IfErr result (λ _. IsPlayable self.playback → ⊥) }
+    {
+        let Stub {
+            alloc,
+            playback,
+            mut desk,
+        } = self;
+        let mut history = playback.played()?;
+        desk.reach_end(&mut history);
+        let playback = Playback::Played(history);
+        Ok(Stub {
+            alloc,
+            playback,
+            desk,
+        })
     }
 
     /// Motions end from now on where so many events of all are done, and so many steps of the next. None where the run has no such
@@ -253,7 +274,7 @@ impl Stub {
     }
 
     /// The way that gdb wants to go, if it does.
-    fn way(&self, request: &Request) -> Option<Way>
+    pub(crate) fn way(&self, request: &Request) -> Option<Way>
         ensures { result ≡ way_in request.now self.now }
     {
         way_of(

@@ -1,5 +1,5 @@
 -- A stretch of what a disk has recorded, and what is told of it.
-use Rattle.std.proofs.Common.{◌≡◌, ◌≤◌, ℕ, ◌-◌, false, List, length, length-drop, take, drop, Option, Some, None, unwrap_or, Result, Ok, Err, refl, sym, ◌∙◌, ap, subst, arith}
+use Rattle.std.proofs.Common.{◌≡◌, ◌≤◌, ℕ, ◌-◌, max, false, List, length, length-drop, take, drop, Option, Some, None, unwrap_or, Result, Ok, Err, refl, sym, ◌∙◌, ap, subst, arith}
 use Rattle.std.proofs.lemmas.List.{take-append-drop, take_all}
 use Rattle.std.specs.Prelude.{IfErr, OnOk}
 use Rattle.std.specs.Io.KnownBytes.{Appends, Keeps}
@@ -17,12 +17,22 @@ use Rattle.ckrt_inspect.specs.Inspect.{is_device, of_recovery}
 use Rattle.ckrt_inspect.specs.declared.fault.InspectFault.{InspectFault}
 use Rattle.ckrt_inspect.specs.declared.fault.InspectFault.TheVariants.{NotFormatted, Version, Damaged, Device, OutOfMemory, Write, Range}
 use Rattle.ckrt_look_calls.specs.declared.stretch.Stretch.{Stretch}
-use Rattle.ckrt_look_calls.specs.Stretches.{Account, IsEventsFault, IsFaultOf, IsReachFault, IsReached, IsWithin, RecordsTo, TellsStretch, Writes, before_of, events_of, from_of, last_of, state_of, to_of}
+use Rattle.ckrt_look_calls.specs.Stretches.{Account, IsEventsFault, IsFaultOf, IsReachFault, IsReached, IsWithin, RecordsTo, TellsStretch, Writes, before_of, events_of, begin_in, begin_of, from_of, last_of, lately, state_of, to_of}
 use Rattle.ckrt_look_calls.proofs.AppendLemmas.{appends_kept}
+
+-- WHERE IT BEGINS
+
+-- no earlier than the recording, and no later than it ends
+pub begins_within : (s : Stretch) (first last : ℕ) → IsWithin s first last → (first ≤ begin_of s first last) × (begin_of s first last ≤ to_of s last)
+begins_within s first last within = go s.last
+  where
+    go : (o : Option ℕ) → (first ≤ max (from_of s first) (lately o (to_of s last))) × (max (from_of s first) (lately o (to_of s last)) ≤ to_of s last)
+    go None = (omega (arith, within.begins), omega (arith, within.ordered))
+    go (Some n) = (omega (arith, within.begins), omega (arith, within.ordered))
 
 -- THE STRETCH IS REACHED, from its bounds
 
-pub reached : (s : Stretch) (r : Recorded) (from to : ℕ) (told : List Event) (z : State) → IsWithin s r.first (last_of r) → from ≡ from_of s r.first → to ≡ to_of s (last_of r)
+pub reached : (s : Stretch) (r : Recorded) (from to : ℕ) (told : List Event) (z : State) → IsWithin s r.first (last_of r) → from ≡ begin_in s r → to ≡ to_of s (last_of r)
     → told ≡ take (to - from) (drop (from - r.first) r.events) → z ≡ (fold (take (from - r.first) r.events) r.start).state → AllAccepted (take (from - r.first) r.events) r.start → IsReached s r from told z
 reached s r from to told z within is_from is_to is_told is_state accepted = record {
   within = within;
@@ -37,10 +47,10 @@ reached s r from to told z within is_from is_to is_told is_state accepted = reco
 -- of a stretch without an end of its own all events are accepted, where those before it and its own are
 all_made : (s : Stretch) (r : Recorded) → s.to ≡ None → IsWithin s r.first (last_of r) → AllAccepted (before_of s r) r.start → AllAccepted (events_of s r) (state_of s r) → AllAccepted r.events r.start
 all_made s r none within before own =
-    let from = from_of s r.first in
+    let from = begin_in s r in
     let n = from - r.first in
     let last : to_of s (last_of r) ≡ last_of r = ap (λ o. unwrap_or o (last_of r)) none in
-    let few : length (drop n r.events) ≤ to_of s (last_of r) - from = omega (arith, length-drop n r.events, last, within.begins) in
+    let few : length (drop n r.events) ≤ to_of s (last_of r) - from = omega (arith, length-drop n r.events, last, (begins_within s r.first (last_of r) within).0) in
     let behind : events_of s r ≡ drop n r.events = take_all (to_of s (last_of r) - from) (drop n r.events) few in
     subst (λ (l : List Event). AllAccepted l r.start) (take-append-drop n r.events)
     (accepted-append (take n r.events) (drop n r.events) r.start before (subst (λ (l : List Event). AllAccepted l (state_of s r)) behind own))
@@ -64,8 +74,8 @@ damaged_to None image r has refused = has.damaged refused
 -- all its events are accepted where those of the recording are
 accepted_in : (s : Stretch) (r : Recorded) → AllAccepted r.events r.start → AllAccepted (events_of s r) (state_of s r)
 accepted_in s r all =
-    let from = from_of s r.first - r.first in
-    accepted_first (to_of s (last_of r) - from_of s r.first) (drop from r.events) (state_of s r) (accepted_behind from r.events r.start all)
+    let from = begin_in s r - r.first in
+    accepted_first (to_of s (last_of r) - begin_in s r) (drop from r.events) (state_of s r) (accepted_behind from r.events r.start all)
 
 -- a fault of going to the stretch is one of the image
 pub fault_of_reaching : (s : Stretch) (image : List ℕ) (r : Recorded) (f : InspectFault) → RecordsTo s.to image (Ok r) → IsReachFault s r f → IsFaultOf s image f

@@ -1,5 +1,5 @@
 -- A stretch of what a disk has recorded, and what is told of it (this project's choice).
-use Rattle.std.specs.Prelude.{◌≡◌, ◌≤◌, ℕ, ◌+◌, ◌-◌, List, length, take, drop, Option, Some, None, unwrap_or, Result, Ok, Err}
+use Rattle.std.specs.Prelude.{◌≡◌, ◌≤◌, ℕ, ◌+◌, ◌-◌, max, List, length, take, drop, Option, Some, None, unwrap_or, Result, Ok, Err}
 use Rattle.std.specs.Io.KnownBytes.{Appends}
 use Rattle.ckrt_events.specs.declared.event.Event.{Event}
 use Rattle.ckrt_machine.specs.Events.{AllAccepted, fold}
@@ -15,14 +15,23 @@ use Rattle.ckrt_look_calls.specs.declared.stretch.Stretch.{Stretch}
 
 -- A STRETCH OF WHAT WAS RECORDED, which is behind `first` events and ends with the one that is the `last`th
 
--- behind how many events it begins, and how many there are at its end
+-- behind how many events it would begin, and how many there are at its end
 abbrev pub from_of : Stretch → (first : ℕ) → ℕ
 from_of s first = unwrap_or s.from first
 
 abbrev pub to_of : Stretch → (last : ℕ) → ℕ
 to_of s last = unwrap_or s.to last
 
--- all of it was recorded
+-- behind how many the last so many begin
+abbrev pub lately : (last : Option ℕ) → (to : ℕ) → ℕ
+lately None to = 0
+lately (Some n) to = to - n
+
+-- behind how many it begins: where only the last so many of its events are asked for, behind those before them
+abbrev pub begin_of : Stretch → (first last : ℕ) → ℕ
+begin_of s first last = max (from_of s first) (lately s.last (to_of s last))
+
+-- all of it was recorded, and those before its last ones
 pub record IsWithin (s : Stretch) (first last : ℕ) : Type 0 where
   pub begins : first ≤ from_of s first
   pub ordered : from_of s first ≤ to_of s last
@@ -32,14 +41,22 @@ pub record IsWithin (s : Stretch) (first last : ℕ) : Type 0 where
 abbrev pub last_of : Recorded → ℕ
 last_of r = r.first + length r.events
 
+-- behind how many of them it begins
+abbrev pub begin_in : Stretch → Recorded → ℕ
+begin_in s r = begin_of s r.first (last_of r)
+
+-- the events before it
+abbrev pub before_of : Stretch → Recorded → List Event
+before_of s r = take (begin_in s r - r.first) r.events
+
 -- the state that it begins with
 abbrev pub state_of : Stretch → Recorded → State
-state_of s r = (fold (take (from_of s r.first - r.first) r.events) r.start).state
+state_of s r = (fold (before_of s r) r.start).state
 
 -- its events
 abbrev pub events_of : Stretch → Recorded → List Event
 events_of s r =
-    take (to_of s (last_of r) - from_of s r.first) (drop (from_of s r.first - r.first) r.events)
+    take (to_of s (last_of r) - begin_in s r) (drop (begin_in s r - r.first) r.events)
 
 -- READING IT
 
@@ -51,15 +68,11 @@ RecordsTo None = RecordsUnreplayed
 
 -- GOING THERE
 
--- the events before it
-abbrev pub before_of : Stretch → Recorded → List Event
-before_of s r = take (from_of s r.first - r.first) r.events
-
 -- it was recorded: it begins behind k events, has the events es, and its state is z; each event before it is accepted at its turn
 pub record IsReached (s : Stretch) (r : Recorded) (k : ℕ) (es : List Event) (z : State)
     : Type 0 where
   pub within : IsWithin s r.first (last_of r)
-  pub first : k ≡ from_of s r.first
+  pub first : k ≡ begin_in s r
   pub events : es ≡ events_of s r
   pub state : z ≡ state_of s r
   pub before : AllAccepted (before_of s r) r.start
@@ -97,7 +110,7 @@ pub record IsTold (Tells : Account) (s : Stretch) (image : List ℕ) (old new : 
   pub recorded : Recorded
   pub has : HasRecording image recorded
   pub within : IsWithin s recorded.first (last_of recorded)
-  pub writes : Writes (Tells (from_of s recorded.first) (events_of s recorded) (state_of s recorded)) old new
+  pub writes : Writes (Tells (begin_in s recorded) (events_of s recorded) (state_of s recorded)) old new
 
 -- the image has something recorded, but not all of the stretch
 pub record IsOutside (s : Stretch) (image : List ℕ) : Type 0 where

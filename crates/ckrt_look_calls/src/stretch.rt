@@ -1,5 +1,5 @@
 //! Stretches of what a disk has recorded.
-ghost use Rattle.std.specs.Prelude.{◌≡◌, ◌<◌, ◌+◌, ◌^◌, None, IfErr, IfOk, IfSome, OnOk, length};
+ghost use Rattle.std.specs.Prelude.{◌≡◌, ◌≤◌, ◌<◌, ◌+◌, ◌^◌, None, IfErr, IfOk, IfSome, OnOk, length};
 ghost use Rattle.std.specs.Bool.{OnFalse, OnTrue};
 ghost use Rattle.ckrt_disk.specs.Frame.{IsOnlyRead};
 ghost use Rattle.ckrt_inspect.specs.Inspect.{is_device};
@@ -7,7 +7,7 @@ ghost use Rattle.ckrt_machine.specs.Events.{AllAccepted};
 ghost use Rattle.ckrt_look_recording.specs.Recording.{recorded_of};
 ghost use Rattle.ckrt_stored.specs.Reads as reads;
 ghost use Rattle.ckrt_stored.specs.Reads.{IsReadAs};
-ghost use Rattle.ckrt_look_calls.specs.Stretches.{IsEventsFault, IsReachFault, IsReached, IsWithin, RecordsTo, TellsStretch, Writes, from_of, to_of};
+ghost use Rattle.ckrt_look_calls.specs.Stretches.{IsEventsFault, IsReachFault, IsReached, IsWithin, RecordsTo, TellsStretch, Writes, begin_of, lately, to_of};
 
 use ckrt_disk::Disk;
 use ckrt_events::Event;
@@ -25,6 +25,8 @@ pub struct Stretch {
     pub from: Option<u64>,
     /// Those among the first so many. Where it isn't given they end at the last one.
     pub to: Option<u64>,
+    /// Of these the last so many, or all where they are fewer. Where it isn't given all are told.
+    pub last: Option<u64>,
 }
 
 /// A way of telling events, as a text.
@@ -56,17 +58,29 @@ pub trait Telling {
         ensures fault { IfErr result (IsEventsFault events.now machine.old.state) };
 }
 
+/// Behind how many events the last so many begin.
+fn lately(last: Option<u64>, to: u64) -> u64
+    ensures place { result ≡ lately last to }
+    ensures within { result ≤ to }
+{
+    match last {
+        Some(count) => to.saturating_sub(count),
+        None => 0,
+    }
+}
+
 /// Behind how many events a stretch begins, and how many there are at its end, if it lies within those that are behind `first` others
 /// and end with the one that is the `last`th.
 fn bounds(stretch: Stretch, first: u64, last: u64) -> Option<(u64, u64)>
     ensures some { IfSome result (λ b. IsWithin stretch first last
-        × (b.0 ≡ from_of stretch first) × (b.1 ≡ to_of stretch last)) }
+        × (b.0 ≡ begin_of stretch first last) × (b.1 ≡ to_of stretch last)) }
+    ensures ordered { IfSome result (λ b. (first ≤ b.0) × (b.0 ≤ b.1)) }
     ensures none { result ≡ None → IsWithin stretch first last → ⊥ }
 {
     let from = stretch.from.unwrap_or(first);
     let to = stretch.to.unwrap_or(last);
     if first <= from && from <= to && to <= last {
-        Some((from, to))
+        Some((from.max(lately(stretch.last, to)), to))
     } else {
         None
     }

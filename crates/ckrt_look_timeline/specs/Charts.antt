@@ -1,5 +1,5 @@
 -- A whole picture, and the whole of trace events.
-use Rattle.std.specs.Prelude.{ℕ, ◌+◌, ◌*◌, ◌-◌, ◌/◌, ◌%◌, ◌==◌, ◌&&◌, max, Bool, true, if◌then◌else◌, List, [], ◌∷◌, ◌++◌, codes, decimal}
+use Rattle.std.specs.Prelude.{ℕ, ◌+◌, ◌*◌, ◌-◌, ◌/◌, ◌%◌, ◌==◌, ◌&&◌, max, min, nat_le, Bool, true, if◌then◌else◌, List, [], ◌∷◌, ◌++◌, codes, decimal, length}
 use Rattle.ckrt_look_timeline.specs.declared.piece.Piece.{Piece}
 use Rattle.ckrt_look_timeline.specs.declared.words.Form.{Form}
 use Rattle.ckrt_look_timeline.specs.declared.words.Form.TheVariants as form
@@ -91,26 +91,61 @@ is_told c k = (k - c.first) % (c.events / STRIDES + 1) == 0
 abbrev pub place_of : Chart → (x : ℕ) → ℕ
 place_of c x = LEFT + x * inner c / max c.steps 1
 
--- at place x, down to y
-abbrev pub tick_text : (k x y : ℕ) → List ℕ
-tick_text k x y = joined (
+-- half of what the number of an event takes: 4 pixels for each of its digits, and 2 more
+abbrev pub half_of : (k : ℕ) → ℕ
+half_of k = 4 * length (decimal k) + 2
+
+-- where the middle of its number stands: at its place, or so far before the right edge that the picture has all of it
+abbrev pub middle_of : Chart → (k x : ℕ) → ℕ
+middle_of c k x = min (place_of c x) (c.width - half_of k)
+
+-- it has room where the numbers before it end at place `free`
+abbrev pub has_room : Chart → (k x free : ℕ) → Bool
+has_room c k x free = nat_le (free + half_of k) (middle_of c k x)
+
+-- its number is told
+abbrev pub is_numbered : Chart → (k x free : ℕ) → Bool
+is_numbered c k x free = is_told c k && has_room c k x free
+
+-- where the numbers end behind it
+abbrev pub free_behind : Chart → (k x free : ℕ) → ℕ
+free_behind c k x free = if is_numbered c k x free then middle_of c k x + half_of k else free
+
+-- a line at place x, down to y
+abbrev pub line_text : (x y : ℕ) → List ℕ
+line_text x y = joined (
     codes "<line class=\"tick\" x1=\"" ∷ decimal x ∷ codes "\" x2=\"" ∷ decimal x
-    ∷ codes "\" y1=\"74\" y2=\"" ∷ decimal y ∷ codes "\"/><text text-anchor=\"middle\" fill=\"#555\" x=\"" ∷ decimal x
-    ∷ codes "\" y=\"" ∷ decimal (y + 14) ∷ codes "\">" ∷ decimal k ∷ codes "</text>\n" ∷ [])
+    ∷ codes "\" y1=\"74\" y2=\"" ∷ decimal y ∷ codes "\"/>" ∷ [])
+
+-- the number k with its middle at place x, below y
+abbrev pub number_text : (k x y : ℕ) → List ℕ
+number_text k x y = joined (
+    codes "<text text-anchor=\"middle\" fill=\"#555\" x=\"" ∷ decimal x
+    ∷ codes "\" y=\"" ∷ decimal (y + 14) ∷ codes "\">" ∷ decimal k ∷ codes "</text>" ∷ [])
+
+-- the number of event k, where it has room
+abbrev pub label_text : Chart → (k x free : ℕ) → List ℕ
+label_text c k x free =
+    if has_room c k x free then number_text k (middle_of c k x) (bottom c) else []
+
+abbrev pub tick_text : Chart → (k x free : ℕ) → List ℕ
+tick_text c k x free =
+    line_text (place_of c x) (bottom c) ++ (label_text c k x free ++ codes "\n")
 
 abbrev pub instant_text : (k x : ℕ) → List ℕ
 instant_text k x = joined (
     codes ",\n{\"name\":\"event " ∷ decimal k ∷ codes "\",\"ph\":\"i\",\"ts\":" ∷ decimal x
     ∷ codes ",\"pid\":1,\"tid\":0,\"s\":\"p\"}" ∷ [])
 
-abbrev pub mark_text : Form → Chart → (k x : ℕ) → List ℕ
-mark_text form.Picture c k x = if is_told c k then tick_text k (place_of c x) (bottom c) else []
-mark_text form.Events c k x = instant_text k x
+abbrev pub mark_text : Form → Chart → (k x free : ℕ) → List ℕ
+mark_text form.Picture c k x free = if is_told c k then tick_text c k x free else []
+mark_text form.Events c k x free = instant_text k x
 
--- of the events from k on, which begin behind so many steps
-abbrev pub marks_text : Form → Chart → (k : ℕ) → List ℕ → List ℕ
-marks_text f c k [] = []
-marks_text f c k (x ∷ xs) = mark_text f c k x ++ marks_text f c (k + 1) xs
+-- of the events from k on, which begin behind so many steps, where the numbers before them end at place `free`
+abbrev pub marks_text : Form → Chart → (k free : ℕ) → List ℕ → List ℕ
+marks_text f c k free [] = []
+marks_text f c k free (x ∷ xs) =
+    mark_text f c k x free ++ marks_text f c (k + 1) (free_behind c k x free) xs
 
 -- ALL
 
@@ -162,4 +197,4 @@ end_text form.Events = codes "\n]}\n"
 -- of threads with these pieces, the first of which is thread 1, and of events that begin behind so many steps
 abbrev pub chart_text : Form → Chart → List ℕ → List (List Piece) → List ℕ
 chart_text f c begins tracks =
-    begin_text f c ++ marks_text f c c.first begins ++ rows_text f c 1 TOP tracks ++ end_text f
+    begin_text f c ++ marks_text f c c.first 0 begins ++ rows_text f c 1 TOP tracks ++ end_text f

@@ -1,7 +1,7 @@
 //! A whole picture, and the whole of trace events.
 ghost use Rattle.std.specs.Prelude.{◌≡◌, ◌≤◌, ◌<◌, ◌+◌, ◌^◌, ◌++◌, ℕ, OnOk, length};
 ghost use Rattle.std.specs.Io.KnownBytes.{Appends};
-ghost use Rattle.ckrt_look_timeline.specs.Charts.{LEGEND, STYLE, begin_text, bottom, chart_text, end_text, foot_text, head_text, heading_text, inside_text, instant_text, is_blank, is_told, mark_text, marks_text, name_text, bars_text, page_text, place_of, row_text, rows_in, rows_text, scale_text, tall_text, tick_text};
+ghost use Rattle.ckrt_look_timeline.specs.Charts.{LEGEND, STYLE, begin_text, bottom, chart_text, end_text, foot_text, free_behind, half_of, has_room, head_text, heading_text, inside_text, instant_text, is_blank, is_told, label_text, line_text, mark_text, marks_text, middle_of, name_text, number_text, bars_text, page_text, place_of, row_text, rows_in, rows_text, scale_text, tall_text, tick_text};
 ghost use Rattle.ckrt_look_timeline.specs.Tracks.{AreUpTo};
 ghost use Rattle.ckrt_look_timeline.specs.Pieces.{laid, pieces_at, tracks_of};
 
@@ -205,11 +205,52 @@ fn is_told(chart: &Chart, event: u64) -> bool
     (event - chart.first) % (chart.events / 20 + 1) == 0
 }
 
-/// The tick of an event at a place, down to where the rows end.
-fn write_tick<W: Write>(out: &mut W, event: u64, place: u64, bottom: u64) -> Result<()>
-    requires { bottom ≤ 1616 }
+/// Half of what the number of an event takes: 4 pixels for each of its digits, and 2 more.
+fn half_of(event: u64) -> u64
+    ensures half { result ≡ half_of event }
+    ensures small { result ≤ 162 }
+{
+    let digits = itoa::Buffer::new().format(event).len() as u64;
+    4 * digits + 2
+}
+
+/// Where the middle of its number stands.
+fn middle_of(chart: &Chart, event: u64, begin: u64) -> u64
+    requires { begin ≤ chart.now.steps }
+    ensures middle { result ≡ middle_of chart.now event begin }
+    ensures within { result ≤ 4000 }
+{
+    place_of(chart, begin).min(chart.width - half_of(event))
+}
+
+/// Whether it has room where the numbers before it end at place `free`.
+fn has_room(chart: &Chart, event: u64, begin: u64, free: u64) -> bool
+    requires begin { begin ≤ chart.now.steps }
+    requires free { free ≤ 4162 }
+    ensures { result ≡ has_room chart.now event begin free }
+{
+    free + half_of(event) <= middle_of(chart, event, begin)
+}
+
+/// Where the numbers end behind it.
+fn free_behind(chart: &Chart, event: u64, begin: u64, free: u64) -> u64
+    requires event { chart.now.first ≤ event }
+    requires begin { begin ≤ chart.now.steps }
+    requires free { free ≤ 4162 }
+    ensures free { result ≡ free_behind chart.now event begin free }
+    ensures within { result ≤ 4162 }
+{
+    if is_told(chart, event) && has_room(chart, event, begin, free) {
+        middle_of(chart, event, begin) + half_of(event)
+    } else {
+        free
+    }
+}
+
+/// A line at a place, down to where the rows end.
+fn write_line<W: Write>(out: &mut W, place: u64, bottom: u64) -> Result<()>
     ensures { OnOk result (Appends (W.contents out.old) (W.contents out.new)
-        (tick_text event place bottom)) }
+        (line_text place bottom)) }
 {
     write_parts(
         out,
@@ -220,15 +261,61 @@ fn write_tick<W: Write>(out: &mut W, event: u64, place: u64, bottom: u64) -> Res
             Part::Number(place),
             Part::Text(b"\" y1=\"74\" y2=\""),
             Part::Number(bottom),
-            Part::Text(b"\"/><text text-anchor=\"middle\" fill=\"#555\" x=\""),
-            Part::Number(place),
+            Part::Text(b"\"/>"),
+        ],
+    )
+}
+
+/// The number of an event, with its middle at a place.
+fn write_number<W: Write>(out: &mut W, event: u64, middle: u64, bottom: u64) -> Result<()>
+    requires { bottom ≤ 1616 }
+    ensures { OnOk result (Appends (W.contents out.old) (W.contents out.new)
+        (number_text event middle bottom)) }
+{
+    write_parts(
+        out,
+        &[
+            Part::Text(b"<text text-anchor=\"middle\" fill=\"#555\" x=\""),
+            Part::Number(middle),
             Part::Text(b"\" y=\""),
             Part::Number(bottom + 14),
             Part::Text(b"\">"),
             Part::Number(event),
-            Part::Text(b"</text>\n"),
+            Part::Text(b"</text>"),
         ],
     )
+}
+
+/// The number of an event, where it has room.
+#[tactic(auto, using(ckrt_look_calls::proofs::AppendLemmas::appends_none))]
+fn write_label<W: Write>(
+    out: &mut W,
+    chart: &Chart,
+    event: u64,
+    begin: u64,
+    free: u64,
+) -> Result<()>
+    requires begin { begin ≤ chart.now.steps }
+    requires free { free ≤ 4162 }
+    ensures { OnOk result (Appends (W.contents out.old) (W.contents out.new)
+        (label_text chart.now event begin free)) }
+{
+    if !has_room(chart, event, begin, free) {
+        return Ok(());
+    }
+    write_number(out, event, middle_of(chart, event, begin), bottom(chart))
+}
+
+/// The tick of an event.
+fn write_tick<W: Write>(out: &mut W, chart: &Chart, event: u64, begin: u64, free: u64) -> Result<()>
+    requires begin { begin ≤ chart.now.steps }
+    requires free { free ≤ 4162 }
+    ensures { OnOk result (Appends (W.contents out.old) (W.contents out.new)
+        (tick_text chart.now event begin free)) }
+{
+    write_line(out, place_of(chart, begin), bottom(chart))?;
+    write_label(out, chart, event, begin, free)?;
+    out.write_all(b"\n")
 }
 
 /// The instant of an event.
@@ -248,7 +335,7 @@ fn write_instant<W: Write>(out: &mut W, event: u64, begin: u64) -> Result<()>
     )
 }
 
-/// What is told of an event.
+/// What is told of an event, where the numbers before it end at place `free`.
 #[tactic(auto, using(ckrt_look_calls::proofs::AppendLemmas::appends_none))]
 fn write_mark<W: Write>(
     out: &mut W,
@@ -256,17 +343,17 @@ fn write_mark<W: Write>(
     chart: &Chart,
     event: u64,
     begin: u64,
+    free: u64,
 ) -> Result<()>
     requires event { chart.now.first ≤ event }
     requires begin { begin ≤ chart.now.steps }
+    requires free { free ≤ 4162 }
     ensures { OnOk result (Appends (W.contents out.old) (W.contents out.new)
-        (mark_text form chart.now event begin)) }
+        (mark_text form chart.now event begin free)) }
 {
     match form {
         Form::Events => write_instant(out, event, begin),
-        Form::Picture if is_told(chart, event) => {
-            write_tick(out, event, place_of(chart, begin), bottom(chart))
-        }
+        Form::Picture if is_told(chart, event) => write_tick(out, chart, event, begin, free),
         Form::Picture => Ok(()),
     }
 }
@@ -276,11 +363,13 @@ fn write_marks<W: Write>(out: &mut W, form: Form, chart: &Chart, begins: &[u64])
     requires many { length begins.now ≤ chart.now.events }
     requires each { AreUpTo chart.now.steps begins.now }
     ensures { OnOk result (Appends (W.contents out.old) (W.contents out.new)
-        (marks_text form chart.now chart.now.first begins.now)) }
+        (marks_text form chart.now chart.now.first 0 begins.now)) }
 {
     let mut event = chart.first;
+    let mut free = 0;
     for begin in begins {
-        write_mark(out, form, chart, event, *begin)?;
+        write_mark(out, form, chart, event, *begin, free)?;
+        free = free_behind(chart, event, *begin, free);
         event += 1;
     }
     Ok(())

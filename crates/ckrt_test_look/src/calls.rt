@@ -22,32 +22,44 @@ const WHOLE: Row = (&[], &[2, 4]);
 
 const SAVED: Row = (&[1, 2], &[2, 4]);
 
-/// Where a stretch begins and ends, the answer, and what is written.
+/// Where a stretch begins and ends, how many of its last events are told, the answer, and what is written.
 type Told = (
+    Option<u64>,
     Option<u64>,
     Option<u64>,
     Result<(), InspectFault>,
     &'static [u8],
 );
 
-const OF_THE_WHOLE: [Told; 9] = [
-    (None, None, Ok(()), ALL),
-    (Some(0), Some(3), Ok(()), ALL),
-    (Some(1), None, Ok(()), CALLED),
-    (None, Some(2), Ok(()), PLACED),
-    (Some(1), Some(2), Ok(()), b""),
-    (Some(3), Some(3), Ok(()), b""),
-    (Some(2), Some(1), RANGE, b""),
-    (Some(4), None, RANGE, b""),
-    (None, Some(4), RANGE, b""),
+const OF_THE_WHOLE: [Told; 18] = [
+    (None, None, None, Ok(()), ALL),
+    (Some(0), Some(3), None, Ok(()), ALL),
+    (Some(1), None, None, Ok(()), CALLED),
+    (None, Some(2), None, Ok(()), PLACED),
+    (Some(1), Some(2), None, Ok(()), b""),
+    (Some(3), Some(3), None, Ok(()), b""),
+    (Some(2), Some(1), None, RANGE, b""),
+    (Some(4), None, None, RANGE, b""),
+    (None, Some(4), None, RANGE, b""),
+    (None, None, Some(0), Ok(()), b""),
+    (None, None, Some(1), Ok(()), CALLED),
+    (None, None, Some(3), Ok(()), ALL),
+    (None, None, Some(u64::MAX), Ok(()), ALL),
+    (None, Some(2), Some(1), Ok(()), b""),
+    (None, Some(2), Some(2), Ok(()), PLACED),
+    (Some(1), None, Some(3), Ok(()), CALLED),
+    (Some(2), Some(1), Some(1), RANGE, b""),
+    (Some(4), None, Some(1), RANGE, b""),
 ];
 
-const OF_THE_SAVED: [Told; 5] = [
-    (None, None, Ok(()), CALLED),
-    (Some(2), None, Ok(()), CALLED),
-    (Some(1), Some(3), Ok(()), CALLED),
-    (Some(0), None, RANGE, b""),
-    (None, Some(0), RANGE, b""),
+const OF_THE_SAVED: [Told; 7] = [
+    (None, None, None, Ok(()), CALLED),
+    (Some(2), None, None, Ok(()), CALLED),
+    (Some(1), Some(3), None, Ok(()), CALLED),
+    (Some(0), None, None, RANGE, b""),
+    (None, Some(0), None, RANGE, b""),
+    (None, None, Some(9), Ok(()), CALLED),
+    (Some(0), None, Some(1), RANGE, b""),
 ];
 
 /// It ensures nothing, so tests that call it are cheap to prove.
@@ -65,9 +77,10 @@ fn expect_told<R: Abort + AllocGlobal, D: Disk>(rt: &R, disk: &mut D, told: &Tol
     let stretch = Stretch {
         from: told.0,
         to: told.1,
+        last: told.2,
     };
-    expect_eq(rt, outcome(rt, disk, stretch, &mut out), told.2);
-    expect_eq(rt, out.as_slice(), told.3);
+    expect_eq(rt, outcome(rt, disk, stretch, &mut out), told.3);
+    expect_eq(rt, out.as_slice(), told.4);
 }
 
 fn expect_all<R: Abort + AllocGlobal>(rt: &R, row: &Row, all: &[Told]) {
@@ -82,5 +95,5 @@ fn calls_of_a_stretch_are_told(rt: HostRuntime) {
     expect_all(&rt, &WHOLE, &OF_THE_WHOLE);
     expect_all(&rt, &SAVED, &OF_THE_SAVED);
     let fault = Err(InspectFault::NotFormatted);
-    expect_told(&rt, &mut empty(&rt), &(None, None, fault, b""));
+    expect_told(&rt, &mut empty(&rt), &(None, None, None, fault, b""));
 }

@@ -4,5 +4,5 @@ use Rattle.ckrt_gdb_playback.proofs.going.go_to_stop.Goals as goal
 pub returns : goal.returns
 returns c =
     let end = c.end_on-end in let told = c.told_on in
-    moved_on c.args.bounds c.args.stops.now end.result c.args.history.now c.go_on-found.new.history c.go_on-found.result c.args.thread c.has_moved-has_moved.result told.result
-    end.ensures.end (cc) told.ensures c.go_on-found.ensures
+    moved_on c.args.bounds c.args.stops.now end.result c.args.history.now c.go_on-found.new.history told.new.history c.go_on-found.result c.args.thread c.has_moved-has_moved.result told.result
+    end.ensures.end told.ensures.history (cc) told.ensures.told c.go_on-found.ensures

@@ -17,7 +17,7 @@ returns g c =
     let e = has c.write_rows.new.out in
     let z = has c.write_all.new.self in
     let begin : List ℕ = begin_text f chart in
-    let marks : List ℕ = marks_text f chart chart.first c.args.begins.now in
+    let marks : List ℕ = marks_text f chart chart.first 0 c.args.begins.now in
     let rows : List ℕ = rows_text f chart 1 80 (tracks_of c.args.tracks.now) in
     let end : List ℕ = end_text f in
     on_ok_weaker c.write_all.result (λ last.

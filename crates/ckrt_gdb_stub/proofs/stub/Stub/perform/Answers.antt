@@ -16,6 +16,17 @@ returns-in-GoTo-clause-refused c = c.go_to.ensures.refused
 pub returns-in-GoTo-clause-fault : goal.returns-in-GoTo-clause-fault
 returns-in-GoTo-clause-fault c = c.go_to.ensures.fault
 
+pub returns-in-GoToEnd-clause-does : goal.returns-in-GoToEnd-clause-does
+returns-in-GoToEnd-clause-does c =
+    subst (λ (k : Command). IfOk c.go_to_end.result (λ stub. (console : List ℕ) × Does k c.args.self stub console × (c.go_to_end.new.out.items ≡ c.args.out.now.items ++ console)))
+    (sym c.in-GoToEnd.is) c.go_to_end.ensures.does
+
+pub returns-in-GoToEnd-clause-refused : goal.returns-in-GoToEnd-clause-refused
+returns-in-GoToEnd-clause-refused c = c.go_to_end.ensures.refused
+
+pub returns-in-GoToEnd-clause-fault : goal.returns-in-GoToEnd-clause-fault
+returns-in-GoToEnd-clause-fault c = c.go_to_end.ensures.fault
+
 pub returns-in-Until-clause-does : goal.returns-in-Until-clause-does
 returns-in-Until-clause-does c =
     subst (λ (k : Command). IfOk c.stop_at.result (λ stub. (console : List ℕ) × Does k c.args.self stub console × (c.stop_at.new.out.items ≡ c.args.out.now.items ++ console)))
