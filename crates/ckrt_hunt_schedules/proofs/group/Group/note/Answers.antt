@@ -2,7 +2,7 @@ use Rattle.std.proofs.Common.{◌≡◌, ◌∙◌, ◌++◌, length, take, drop
 use Rattle.std.proofs.Math.Seq.{take-append_seam}
 use Rattle.ckrt_hunt_schedules.specs.Tallies.{HasNone, IsFirst, one_more}
 use Rattle.ckrt_hunt_schedules.proofs.TallyLemmas.{noted_again, noted_first, noted_full}
-use Rattle.ckrt_hunt_schedules.proofs.tally.Tally.note.Goals as goal
+use Rattle.ckrt_hunt_schedules.proofs.group.Group.note.Goals as goal
 
 pub returns-in-Some : goal.returns-in-Some
 returns-in-Some c =
@@ -18,9 +18,9 @@ returns-in-Some c =
 pub returns-in-None : goal.returns-in-None
 returns-in-None c =
     let none : HasNone c.args.told c.args.self.now.rows.items (length c.args.self.now.rows.items) = subst (λ rows. HasNone c.args.told rows (length rows)) c.as_slice.ensures.value (c.in-None.ensures.none refl) in
-    noted_first c.args.seed c.args.told c.args.self.now _ none (omega (arith, c.len.ensures, c.if-len-lt-TALLY_ROWS.true)) (let h = c.push.ensures in search rules) refl
+    noted_first c.args.seed c.args.told c.args.self.now _ none (omega (arith, c.len.ensures, c.if-len-lt-GROUP_ROWS.true)) (let h = c.push.ensures in search rules) refl
 
 pub returns-in-None-2 : goal.returns-in-None-2
 returns-in-None-2 c =
     let none : HasNone c.args.told c.args.self.now.rows.items (length c.args.self.now.rows.items) = subst (λ rows. HasNone c.args.told rows (length rows)) c.as_slice.ensures.value (c.in-None-2.ensures.none refl) in
-    noted_full c.args.seed c.args.told c.args.self.now _ none (omega (arith, c.len.ensures, c.if-len-lt-TALLY_ROWS.false)) refl (search rules)
+    noted_full c.args.seed c.args.told c.args.self.now _ none (omega (arith, c.len.ensures, c.if-len-lt-GROUP_ROWS.false)) refl (search rules)
