@@ -4,7 +4,7 @@ ghost use Rattle.std.specs.Prelude.{◌≤◌};
 
 use anyhow::{Result, bail, ensure};
 use ckrt_events::Event;
-use ckrt_input::{next_input, taken_by};
+use ckrt_schedule::{next_input, taken_by};
 use ckrt_machine::{Answer, Machine};
 use ckrt_memory::MemoryError;
 use ckrt_state::Status;

@@ -1,1 +1,9 @@
 pub mod Performing
+pub mod Debugging
+pub mod Drawings
+pub mod Looking
+pub mod Profiling
+pub mod Tellings
+pub mod Hunting
+pub mod Inputs
+pub mod Keeping

@@ -25,13 +25,13 @@ use Rattle.ckrt_cli_faults.specs.Statuses.{status_of, status_of_words}
 use Rattle.ckrt_cli_reports.specs.Lines.{Reports, ReportsOutcome, SaysLine, formatted_line, version_line}
 use Rattle.ckrt_cli_reports.specs.Reports.{words_report_of}
 use Rattle.ckrt_cli_disk.specs.Showing.{Shows, shown_of}
-use Rattle.ckrt_cli_look.specs.Drawings.{TimelinePath}
-use Rattle.ckrt_cli_look.specs.Profiling.{ProfilesPath}
-use Rattle.ckrt_cli_look.specs.Tellings.{RacesPath, TracesPath}
-use Rattle.ckrt_cli_look.specs.Debugging.{DebugsPath}
 use Rattle.ckrt_hunt_schedules.specs.declared.verdict.Verdict.{Verdict}
 use Rattle.ckrt_hunt_schedules.specs.declared.verdict.Verdict.TheVariants as verdict
-use Rattle.ckrt_cli_hunt.specs.Hunting.{Hunter, HuntsPath, kept_size}
+use Rattle.ckrt_cli.specs.Drawings.{TimelinePath}
+use Rattle.ckrt_cli.specs.Profiling.{ProfilesPath}
+use Rattle.ckrt_cli.specs.Tellings.{RacesPath, TracesPath}
+use Rattle.ckrt_cli.specs.Debugging.{DebugsPath}
+use Rattle.ckrt_cli.specs.Hunting.{Hunter, HuntsPath, kept_size}
 use Rattle.ckrt_cli_files.specs.Real.{IsDiskOf, IsFilledOf, RealFile, real_gives}
 use Rattle.ckrt_cli_files.specs.Sources.{Gives}
 use Rattle.ckrt_cli_faults.specs.declared.done.Done.{Done}

@@ -16,9 +16,64 @@
 //! used for and of its path, whatever bytes they hold over time; and of the files that it was handed, what they were asked for.
 //!
 //! Only tested: that what is printed is flushed, that faults on standard error reach it.
+//!
+//! The jobs that look back at what a disk has recorded: telling its calls, its data races and where its steps went, drawing what its
+//! threads did, and serving it to a debugger.
+//!
+//! Proved of [`calls_path`]: the disk is only read, and closed as it was then; what was written are the lines of the events that it
+//! has recorded, all or a stretch of them; where it hasn't recorded all of that stretch, the fault is Unrecorded; Range comes exactly
+//! where the stretch would end before it begins.
+//!
+//! Proved of [`races_path`]: the same of the pairs of places that race.
+//!
+//! Proved of [`timeline_path`]: the same of what each thread did, as a picture or as trace events; Range comes also exactly where the
+//! width is out of its range, and nothing is asked for then.
+//!
+//! Proved of [`profile_path`]: the same of where the steps went, in each form.
+//!
+//! Proved of [`debug_path`]: the disk is only read, and closed as it was then; the session begins with what its content has recorded,
+//! or where the words ask; it moves only where each event is accepted, and the older part leads to the last checkpoint;
+//! what was written is what the session says of what was read, or a beginning of it where it broke off. That the disk is closed before
+//! anything is read of the debugger is so by the types: a session has no disk.
+//!
+//! The job that hunts an image: what its seeds come to, as a table, and the run of the first one on a disk of its own.
+//!
+//! Proved of [`hunt_path`]: BadConfig comes where pages or harts are out of their ranges, and else Range exactly where another number
+//! is, where there are seeds beside seconds, or where the text of the seeds is no range, before anything is asked for. Else the image
+//! is read as for a disk, then the input, if the words name one, and each seed is run with it, or each from 1 on up to one that has taken the time; what was written is the table of
+//! what these came to, or nothing, unless the writer failed. Where the words ask for races, those of the runs are behind it. The answer
+//! is whether there were several outcomes, or a race. Where the
+//! words name a disk, it is asked for only then. It gets the name of its path only where it has a whole run that comes to what the
+//! first seed comes to, by the shortest schedule that was found, or as it was drawn where races are asked for: whatever a stop leaves of
+//! it recovers to just that. Else it is given
+//! up. Behind the table it is told how many switches that run has, and how many the seed drew. Where the words name a folder, it is so
+//! with a disk for each outcome, in their order, each with the run of the first seed that came to it. The first one that isn't kept is
+//! named, and ends it.
 #![tactic(auto)]
 
+mod calls;
+mod debug;
+mod folder;
+mod found;
+mod hunting;
+mod input;
+mod keeping;
+mod look_laws;
+mod looking;
+mod profile;
 mod program;
+mod races;
 mod stored;
+mod timeline;
 
+pub use calls::calls_path;
+pub use debug::debug_path;
+pub use hunting::hunt_path;
+pub use look_laws::{
+    recorded_events_are_accepted, refused_events_are_damage, runs_that_lead_on_are_sound,
+    sound_runs_are_recorded,
+};
+pub use profile::profile_path;
 pub use program::{run_words, run_words_with};
+pub use races::races_path;
+pub use timeline::timeline_path;

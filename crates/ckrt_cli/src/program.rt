@@ -9,12 +9,10 @@ ghost use Rattle.ckrt_cli.specs.Performing.{made_line, MakesPath, Performs, Runs
 ghost use Rattle.ckrt_cli_faults.specs.Outside.{outside};
 ghost use Rattle.ckrt_cli_reports.specs.Lines.{version_line};
 
-use crate::stored;
+use crate::{calls_path, debug_path, hunt_path, profile_path, races_path, stored, timeline_path};
 use ckrt_cli_disk::{core_path, drive_path, inspect_disk, make_disk, run_disk};
 use ckrt_cli_faults::{Done, Driven, JobFault, Meter};
 use ckrt_cli_files::{JobFile, RealDisk, Sources, SystemSources};
-use ckrt_cli_hunt::hunt_path;
-use ckrt_cli_look::{calls_path, debug_path, profile_path, races_path, timeline_path};
 use ckrt_cli_reports::{Reporter, report, report_words, write_formatted, write_version};
 use ckrt_cli_words::{FormatJob, InspectJob, Job, read_words};
 use ckrt_disk::{Disk, Holds};

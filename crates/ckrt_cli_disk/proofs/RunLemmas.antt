@@ -12,7 +12,7 @@ use Rattle.ckrt_stored.specs.Programs.{Program, RecoversTo}
 use Rattle.ckrt_stored.specs.Progress.{recovered_of}
 use Rattle.ckrt_stored.specs.Recovery.{Recovers}
 use Rattle.ckrt_recovery.specs.Between.{RecoversBetween}
-use Rattle.ckrt_recovery.specs.Lists.{IsBeginningOf}
+use Rattle.ckrt_disk.specs.Lists.{IsBeginningOf}
 use Rattle.ckrt_recovery.specs.Opening.{IsSyncedAndRead}
 use Rattle.ckrt_recovery.specs.Represents.{Represents, RecoversToEither}
 use Rattle.ckrt_commands.specs.Transcript.{Fate, transcript}

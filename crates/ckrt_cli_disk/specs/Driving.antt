@@ -6,16 +6,12 @@ use Rattle.ckrt_disk.specs.Disk.{HasFailed}
 use Rattle.ckrt_disk.specs.Frame.{IsOnlyRead}
 use Rattle.ckrt_disk.specs.declared.disk.DeviceFault.{DeviceFault}
 use Rattle.ckrt_disk.specs.declared.disk.Disk.{Ghosts}
-use Rattle.ckrt_events.specs.declared.event.Event.{Event}
-use Rattle.ckrt_stored.specs.Programs.{Program, RecoversTo}
-use Rattle.ckrt_stored.specs.Progress.{recovered_of}
 use Rattle.ckrt_stored.specs.Reads.{is_device}
 use Rattle.ckrt_stored.specs.Recovery.{AgreesOnFault, Recovers}
 use Rattle.ckrt_stored.specs.declared.fault.RecoverFault.{RecoverFault}
 use Rattle.ckrt_stored.specs.declared.fault.RecoverFault.TheVariants as recover
 use Rattle.ckrt_recovery.specs.Opening.{IsSyncedAndRead}
-use Rattle.ckrt_recovery.specs.Represents.{Represents}
-use Rattle.ckrt_recovery.specs.View.{opened as opened_view, view_of}
+use Rattle.ckrt_recovery.specs.Recovered.{IsRecovered}
 use Rattle.ckrt_recovery.specs.declared.session.Session.{Session}
 use Rattle.ckrt_machine.specs.Steps.{State}
 use Rattle.ckrt_drive.specs.Runs.{Runs}
@@ -259,15 +255,6 @@ IsUnwritten (Some path) a b = b ≡ a
 IsUnwritten None a b = Unit {0}
 
 -- THE DISK
-
--- the session is what the disk's content recovers to
-pub record IsRecovered {D : Type 0} (d : Ghosts D) (start : D) (s : Session D d) : Type 0 where
-  pub content : d.is_honest s.disk → Recovers (d.content start) (Ok (recovered_of s.progress))
-  pub view : view_of s ≡ opened_view (recovered_of s.progress)
-  -- so what a drive says of a list of events it says of the one that the content recovers to
-  pub represents : d.is_honest s.disk → (p : Program) (events : List Event) (limit : ℕ)
-      → RecoversTo p events limit (d.content start) → Represents p events s
-  pub disk : IsSyncedAndRead d start s.disk false
 
 -- nothing was recovered, and no output was asked for; the fault is the content's, or the device failed a call, or memory was refused
 pub record LacksRecovery {D : Type 0} (d : Ghosts D) (start : D) (input : Option D)

@@ -6,7 +6,7 @@ use Rattle.ckrt_disk.specs.declared.disk.Disk.{Ghosts}
 use Rattle.ckrt_events.specs.declared.event.Event.{Event}
 use Rattle.ckrt_stored.specs.Programs.{Program, RecoversTo, output_after}
 use Rattle.ckrt_recovery.specs.Between.{StandsIn}
-use Rattle.ckrt_recovery.specs.Lists.{IsBeginningOf}
+use Rattle.ckrt_disk.specs.Lists.{IsBeginningOf}
 
 -- the image recovers to a list that begins with these events
 pub record RecoversBehind (p : Program) (events : List Event) (image : List ℕ) : Type 0 where

@@ -11,7 +11,7 @@ use Rattle.ckrt_stored.specs.Reads.{is_device}
 use Rattle.ckrt_stored.specs.Recovery.{AgreesOnFault, Recovered, Recovers}
 use Rattle.ckrt_stored.specs.declared.fault.RecoverFault.{RecoverFault}
 use Rattle.ckrt_recovery.specs.Between.{RecoversBetween, StandsIn}
-use Rattle.ckrt_recovery.specs.Lists.{IsBeginningOf}
+use Rattle.ckrt_disk.specs.Lists.{IsBeginningOf}
 use Rattle.ckrt_recovery.specs.Opening.{IsSyncedAndRead}
 use Rattle.ckrt_commands.specs.Replies.{acks_of, oks_of, outs_of, shown_up_to, text_of}
 use Rattle.ckrt_commands.specs.Transcript.{Fate, transcript}

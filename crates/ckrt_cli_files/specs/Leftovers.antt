@@ -2,7 +2,7 @@
 use Rattle.std.specs.Prelude.{◌≡◌, ◌≢◌, ◌⊎◌, ◌&&◌, ◌||◌, not, ℕ, nat_eq, nat_lt, Bool, true, false, if◌then◌else◌, List, length, take, Ok}
 use Rattle.std.specs.List.{list_all}
 use Rattle.ckrt_checkpoint.specs.Layout.{is_open, number_at}
-use Rattle.ckrt_blank_disk.specs.Filling.{smallest_disk}
+use Rattle.ckrt_stored.specs.Filling.{smallest_disk}
 use Rattle.ckrt_stored.specs.declared.fault.RecoverFault.{RecoverFault}
 use Rattle.ckrt_stored.specs.declared.fault.RecoverFault.TheVariants.{Device, OutOfMemory}
 use Rattle.ckrt_stored.specs.Recovery.{Recovered, Recovers}

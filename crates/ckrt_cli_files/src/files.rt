@@ -11,7 +11,7 @@ use crate::leftover::{FileKind, kind_of, look_at_leftover};
 use crate::output::OpenedOutput;
 use crate::reason::OutputReason;
 use crate::told::{RealDisk, Teller, ToldFile};
-use ckrt_blank_disk::{SMALLEST_DISK, fill_up};
+use ckrt_stored::{SMALLEST_DISK, fill_up};
 use ckrt_checkpoint::FIELDS_AT;
 use ckrt_disk::{Calls, Disk, FileDisk, FileUse, Holds, SystemFile};
 use ckrt_recovery::RecoverFault;

@@ -3,7 +3,7 @@ ghost use Rattle.std.specs.Prelude.{◌≡◌, ◌↔◌, ◌≤◌, ◌+◌, fa
 ghost use Rattle.ckrt_disk.specs.Frame.{IsOnlyRead, IsSameDisk};
 ghost use Rattle.ckrt_cli_files.specs.Leftovers.{HasNotBegun, IsInMaking, IsOfContent, has_disk, is_free, is_marked, is_unfinished, is_unnamed, is_zero, kind_of};
 
-use ckrt_blank_disk::SMALLEST_DISK;
+use ckrt_stored::SMALLEST_DISK;
 use ckrt_checkpoint::{FIELDS_AT, OPEN, number_64};
 use ckrt_disk::{DeviceFault, Disk};
 use ckrt_recovery::{RecoverFault, Session, recover};

@@ -6,7 +6,7 @@
 //! Proved of the files of the system: none that is opened has the descriptor of a standard stream; the folder that is looked for is
 //! the path's; the record has just what was asked for. A file is taken for a disk in the making exactly where it is empty, begins
 //! with a mark of a making, or recovers to a program that hasn't begun; and it is formatted only where it is free: where it has
-//! that mark, or nothing but zeros. Filling is stated over any disk (`ckrt_blank_disk`).
+//! that mark, or nothing but zeros. Filling is stated over any disk (`ckrt_stored`).
 //!
 //! Only tested: which reason of a failed output is told, what a path opens, that a file is filled and locked and its folder synced,
 //! that a disk in the making takes no other file's name.

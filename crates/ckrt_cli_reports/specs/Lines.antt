@@ -1,7 +1,7 @@
 -- What is printed and said of an outcome, and by whom: lines on a writer, and texts of a reporter.
 use Rattle.std.specs.Prelude.{◌≡◌, ℕ, Bool, false, List, [], ◌∷◌, ◌++◌, codes, decimal, Option, Result, Ok, Err}
 use Rattle.std.specs.Io.KnownBytes.{Appends}
-use Rattle.ckrt_commands.specs.Writing.{AppendsPart}
+use Rattle.ckrt_disk.specs.Writing.{AppendsPart}
 use Rattle.ckrt_main.specs.declared.fault.ServeFault.TheVariants as serve
 use Rattle.ckrt_cli_words.specs.Jobs.{Request}
 use Rattle.ckrt_cli_faults.specs.declared.done.Done.{Done}

@@ -7,7 +7,7 @@ use Rattle.ckrt_events.specs.declared.event.Event.{Event}
 use Rattle.ckrt_drive.specs.Output.{HoldsOutput}
 use Rattle.ckrt_drive.specs.Plan.{schedule_of}
 use Rattle.ckrt_drive.specs.declared.options.Options.{Options}
-use Rattle.ckrt_input.specs.Next.{AreGiven}
+use Rattle.ckrt_schedule.specs.Next.{AreGiven}
 use Rattle.ckrt_record.specs.Offset.{offset_from}
 use Rattle.ckrt_schedule.specs.declared.schedule.Schedule.{Schedule}
 use Rattle.ckrt_stored.specs.Programs.{output_after, start_of}
@@ -22,13 +22,13 @@ use Rattle.ckrt_drive_theorem.specs.ByPlan.{IsByPlan, IsByPlanFrom, IsUnbroken, 
 use Rattle.ckrt_drive_theorem.specs.Drives.{HasEnded, IsTold, IsToldByRecord, Keeps, OneDrive, StopLeaves, course_of, past_behind}
 use Rattle.ckrt_drive_theorem.specs.Giving.{GiveFile}
 use Rattle.ckrt_drive_theorem.specs.Lengthening.{IsLengthened}
-use Rattle.ckrt_drive_theorem.specs.Runs.{IsRun, TellsIfLonger, way_of_run}
+use Rattle.ckrt_cli_theorem.specs.Runs.{IsRun, TellsIfLonger, way_of_run}
 use Rattle.ckrt_drive_theorem.specs.Together.{Past, StandsFed}
 use Rattle.ckrt_drive_theorem.proofs.ByPlanLemmas.{end_unbroken, list_by_plan}
 use Rattle.ckrt_drive_theorem.proofs.DriveLemmas.{disk_honest, drive_keeps}
 use Rattle.ckrt_drive_theorem.proofs.FedLemmas.{drive_given, gives, is_told}
 use Rattle.ckrt_drive_theorem.proofs.LengtheningLemmas.{tells_longer}
-use Rattle.ckrt_drive_theorem.proofs.RunLemmas.{is_run, told_by_record}
+use Rattle.ckrt_cli_theorem.proofs.DriveRunLemmas.{is_run, told_by_record}
 use Rattle.ckrt_cli_theorem.specs.Promise.{Common, Drove, HasSchedule, Holds, IsAsBefore, IsKept, as_drive}
 use Rattle.ckrt_cli_theorem.proofs.LongLemmas.{long_as_all}
 use Rattle.ckrt_cli_theorem.proofs.SupplyLemmas.{Reaches, Stands, by_input, by_reads, by_zeros}

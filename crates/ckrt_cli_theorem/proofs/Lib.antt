@@ -3,3 +3,5 @@ mod SupplyLemmas
 mod LongLemmas
 mod HoldLemmas
 mod RunLemmas
+pub mod DriveRunLemmas
+pub mod LengthLemmas

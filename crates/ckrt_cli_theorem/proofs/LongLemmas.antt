@@ -9,9 +9,9 @@ use Rattle.ckrt_recovery.specs.Represents.{Represents, acknowledged_of}
 use Rattle.ckrt_recovery.specs.View.{view_of}
 use Rattle.ckrt_recovery.specs.declared.session.Session.{Session}
 use Rattle.ckrt_stored.specs.Programs.{Program, output_after}
-use Rattle.ckrt_drive_theorem.specs.Lengths.{size_after}
-use Rattle.ckrt_drive_theorem.specs.Runs.{ProgramRun, way_of_run}
-use Rattle.ckrt_drive_theorem.proofs.LengthLemmas.{long_as_output}
+use Rattle.ckrt_cli_theorem.specs.Lengths.{size_after}
+use Rattle.ckrt_cli_theorem.specs.Runs.{ProgramRun, way_of_run}
+use Rattle.ckrt_cli_theorem.proofs.LengthLemmas.{long_as_output}
 
 module _ {D : Type 0} {d : Ghosts D} (p : Program) where
   released_all : (all : List Event) (t : Session D d) → Represents p all t → IsAllSaved (view_of t) → t.released ≡ length (output_after p all)

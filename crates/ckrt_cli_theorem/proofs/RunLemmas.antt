@@ -5,7 +5,7 @@ use Rattle.ckrt_disk.specs.Disk.{IsImage}
 use Rattle.ckrt_disk.specs.declared.disk.Disk.{Ghosts}
 use Rattle.ckrt_schedule.specs.declared.schedule.Schedule.{Schedule}
 use Rattle.ckrt_stored.specs.Programs.{Program}
-use Rattle.ckrt_input.specs.Next.{AreGiven}
+use Rattle.ckrt_schedule.specs.Next.{AreGiven}
 use Rattle.ckrt_stored.specs.Programs.{start_of}
 use Rattle.ckrt_cli.specs.Performing.{Reach}
 use Rattle.ckrt_drive_theorem.specs.ByPlan.{IsByPlan, course}

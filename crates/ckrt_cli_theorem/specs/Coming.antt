@@ -7,7 +7,8 @@ use Rattle.ckrt_disk.specs.declared.disk.DeviceFault.{DeviceFault}
 use Rattle.ckrt_disk.specs.declared.disk.Disk.{Ghosts}
 use Rattle.ckrt_drive.specs.declared.options.Options.{Options}
 use Rattle.ckrt_cli_words.specs.Jobs.{Driving}
-use Rattle.ckrt_cli_disk.specs.Driving.{DrivesFound, DrivesInRange, DrivesInto, DrivesLooked, DrivesOpened, DrivesOpenedOutput, DrivesPath, DrivesSupplied, DrivesToward, IsAsked, IsRecovered, Means, Setting, ready, setting_of}
+use Rattle.ckrt_cli_disk.specs.Driving.{DrivesFound, DrivesInRange, DrivesInto, DrivesLooked, DrivesOpened, DrivesOpenedOutput, DrivesPath, DrivesSupplied, DrivesToward, IsAsked, Means, Setting, ready, setting_of}
+use Rattle.ckrt_recovery.specs.Recovered.{IsRecovered}
 use Rattle.ckrt_cli_disk.specs.Feeding.{Supplies}
 use Rattle.ckrt_cli_disk.specs.declared.feeding.Supplied.{Supplied}
 use Rattle.ckrt_cli_files.specs.Openings.{Openings, opened, with_output}
@@ -17,7 +18,7 @@ use Rattle.ckrt_cli_faults.specs.Lengths.{fits, lengths_of}
 use Rattle.ckrt_cli_faults.specs.Ranges.{is_in_range}
 use Rattle.ckrt_cli_faults.specs.declared.driven.Driven.{Driven}
 use Rattle.ckrt_cli_faults.specs.declared.fault.JobFault.{JobFault}
-use Rattle.ckrt_drive_theorem.specs.Runs.{ProgramRun}
+use Rattle.ckrt_cli_theorem.specs.Runs.{ProgramRun}
 use Rattle.ckrt_recovery.specs.declared.session.Session.{Session}
 
 -- A job came to its drive, onto the output of this path.

@@ -1,3 +1,5 @@
 pub mod Coming
 pub mod Promise
 pub mod Commands
+pub mod Runs
+pub mod Lengths

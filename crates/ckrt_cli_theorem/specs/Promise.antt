@@ -16,8 +16,8 @@ use Rattle.ckrt_drive_theorem.specs.ByPlan.{IsByPlan, IsUnbroken, course}
 use Rattle.ckrt_drive_theorem.specs.Drives.{HasEnded, Keeps, OneDrive, past_behind}
 use Rattle.ckrt_drive_theorem.specs.Giving.{GiveFile}
 use Rattle.ckrt_drive_theorem.specs.Lengthening.{IsLengthened, IsLonger}
-use Rattle.ckrt_drive_theorem.specs.Lengths.{size_after}
-use Rattle.ckrt_drive_theorem.specs.Runs.{IsRun, drive_of, way_of_run}
+use Rattle.ckrt_cli_theorem.specs.Lengths.{size_after}
+use Rattle.ckrt_cli_theorem.specs.Runs.{IsRun, drive_of, way_of_run}
 use Rattle.ckrt_drive_theorem.specs.Together.{IsLeftSince, Past}
 use Rattle.ckrt_cli_theorem.specs.Coming.{Came}
 

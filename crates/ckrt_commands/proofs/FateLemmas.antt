@@ -14,10 +14,10 @@ use Rattle.ckrt_recovery.specs.declared.fault.CommitFault.TheVariants.{Failed, G
 use Rattle.ckrt_recovery.specs.declared.fault.SubmitFault.{SubmitFault}
 use Rattle.ckrt_recovery.specs.declared.fault.SubmitFault.TheVariants as submit_fault
 use Rattle.ckrt_recovery.specs.Calls.{checkpoint_refusal}
-use Rattle.ckrt_recovery.specs.Lists.{IsBeginningOf}
+use Rattle.ckrt_disk.specs.Lists.{IsBeginningOf}
 use Rattle.ckrt_recovery.specs.View.{View, refusal_of, refusal_when_running, committed, checkpointed}
 use Rattle.ckrt_commands.specs.Transcript.{Fate, Transcript, unless_quit, followed_by, submitted, submit, unless_refused, run_planned, output, commit_by, by_fate, saved, respond, respond_all, transcript}
-use Rattle.ckrt_recovery.proofs.ListLemmas.{begins_behind, begins_itself, nothing_begins}
+use Rattle.ckrt_disk.proofs.ListLemmas.{begins_behind, begins_itself, nothing_begins}
 
 -- AFTER A FAILURE
 

@@ -1,9 +1,13 @@
-pub mod WriteLemmas
 pub mod ReplyLemmas
-pub mod AcceptLemmas
 pub mod EventLemmas
 pub mod FateLemmas
 pub mod TellLemmas
 pub mod TakenLemmas
 pub mod PieceLemmas
 pub mod ResponseLemmas
+pub mod TranscriptLemmas
+pub mod LifePieceLemmas
+pub mod StepLemmas
+pub mod LifeLemmas
+pub mod ManyLemmas
+pub mod ByteLemmas

@@ -6,18 +6,18 @@ use Rattle.ckrt_events.specs.declared.event.Event.{Event}
 use Rattle.ckrt_stored.specs.Programs.{Program, output_after}
 use Rattle.ckrt_recovery.specs.declared.session.Session.{Session}
 use Rattle.ckrt_recovery.specs.Between.{StandsIn}
-use Rattle.ckrt_recovery.specs.Lists.{IsBeginningOf}
+use Rattle.ckrt_disk.specs.Lists.{IsBeginningOf}
 use Rattle.ckrt_commands.specs.Replies.{Reply, shown_in, oks_of, acks_of, outs_of}
 use Rattle.ckrt_recovery.specs.Represents.{Represents, acknowledged_of}
 use Rattle.ckrt_recovery.specs.View.{View, view_of}
 use Rattle.ckrt_commands.specs.Transcript.{Fate, Transcript, preceded_by, unless_quit, followed_by}
 use Rattle.ckrt_commands.specs.Pieces.{Tells, Piece, Suits, Responds, Interrupted, ends, Answers, BreaksOff}
-use Rattle.ckrt_commands.specs.Accepts.{AreOutput}
+use Rattle.ckrt_commands.specs.Outputs.{AreOutput}
 use Rattle.ckrt_commands.proofs.TellLemmas.{tells_more, tells_nothing}
 use Rattle.ckrt_commands.proofs.TakenLemmas.{taken_more, taken_nothing}
 use Rattle.ckrt_commands.proofs.ReplyLemmas.{all_weaker, all_more, oks-append, acks-append, outs-append, shown_more, stands_longer}
-use Rattle.ckrt_recovery.proofs.ListLemmas.{begins_behind, begins_more, taken_begins}
-use Rattle.ckrt_commands.proofs.AcceptLemmas.{accepts_kept, accepts_more, output_begins}
+use Rattle.ckrt_disk.proofs.ListLemmas.{begins_behind, begins_more, taken_begins}
+use Rattle.ckrt_recovery.proofs.AcceptLemmas.{accepts_kept, accepts_more, output_begins}
 
 acks_more : (n m : ℕ) (xs ys zs : List Reply) → n ≤ m → AllByRecursion (λ k. k ≤ n) (acks_of (xs ++ [])) → AllByRecursion (λ k. k ≤ m) (acks_of (ys ++ zs)) → AllByRecursion (λ k. k ≤ m) (acks_of ((xs ++ ys) ++ zs))
 acks_more n m xs ys zs le first second =

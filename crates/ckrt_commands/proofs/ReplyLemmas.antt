@@ -4,7 +4,7 @@ use Rattle.std.specs.List.{AllByRecursion}
 use Rattle.std.proofs.lemmas.Bool.Decides.{leb_tells}
 use Rattle.std.proofs.lemmas.List.{drop_all, take-append-drop}
 use Rattle.ckrt_recovery.specs.Between.{StandsIn}
-use Rattle.ckrt_recovery.specs.Lists.{IsBeginningOf}
+use Rattle.ckrt_disk.specs.Lists.{IsBeginningOf}
 use Rattle.ckrt_commands.specs.Replies.{Reply, Accepted, Acknowledged, NotAccepted, NotSaved, NotUnderstood, Output, line_of, told_of, text_of, outputs_by, outputs, oks_of, acks_of, outs_of, shown_in, shown_up_to}
 
 -- WHAT HOLDS OF EACH

@@ -20,12 +20,13 @@ use Rattle.ckrt_recovery.specs.Represents.{Represents, acknowledged_of}
 use Rattle.ckrt_recovery.specs.View.{View, view_of, refusal_of, refusal_when_running, after_event, committed, checkpointed, released_output, confirmed_to}
 use Rattle.ckrt_commands.specs.Transcript.{Fate, Transcript, preceded_by, followed_by, submitted, submit, unless_refused, output, commit_by, commit, saved, checkpoint, by_fate, refused_commit}
 use Rattle.ckrt_commands.specs.Pieces.{Tells, TellsPart, Answers, BreaksOff, HasTaken, Responds, Interrupted, Suits, ends}
-use Rattle.ckrt_commands.specs.Accepts.{Accepts, AreOutput}
-use Rattle.ckrt_commands.proofs.AcceptLemmas.{accepts_kept, accepts_more, accepts_still, refused_failed}
+use Rattle.ckrt_recovery.specs.Accepts.{Accepts}
+use Rattle.ckrt_commands.specs.Outputs.{AreOutput}
+use Rattle.ckrt_recovery.proofs.AcceptLemmas.{accepts_kept, accepts_more, accepts_still, refused_failed}
 use Rattle.ckrt_commands.proofs.EventLemmas.{accepted_before, refused_alone}
 use Rattle.ckrt_commands.proofs.PieceLemmas.{answers_then, broken_then, broken_followed, interrupted_as, interrupted_then, responds_as, responds_then}
 use Rattle.ckrt_commands.proofs.ReplyLemmas.{no_acks, no_oks, oks-outputs, fewer_outs, acks-outputs, shown-outputs, shown_behind, shown_in-outputs, shows_none, stands-outputs}
-use Rattle.ckrt_recovery.proofs.ListLemmas.{nothing_begins}
+use Rattle.ckrt_disk.proofs.ListLemmas.{nothing_begins}
 use Rattle.ckrt_commands.proofs.TakenLemmas.{taken_still, taken_output}
 
 -- what is said of an answer that is known

@@ -1,12 +1,12 @@
 -- What a listener is told, one reply after another.
 use Rattle.std.proofs.Common.{◌≡◌, ℕ, List, [], ◌∷◌, ◌++◌, Option, refl, sym, ◌∙◌, ap, subst, append_assoc, append-nil}
 use Rattle.std.specs.Io.KnownBytes.{Appends}
-use Rattle.ckrt_recovery.specs.Lists.{IsBeginningOf}
+use Rattle.ckrt_disk.specs.Lists.{IsBeginningOf}
 use Rattle.ckrt_commands.specs.Pieces.{Tells}
 use Rattle.ckrt_commands.specs.Replies.{Reply, told_of}
-use Rattle.ckrt_commands.specs.Writing.{AppendsPart}
+use Rattle.ckrt_disk.specs.Writing.{AppendsPart}
 use Rattle.ckrt_commands.proofs.ReplyLemmas.{told-append}
-use Rattle.ckrt_commands.proofs.WriteLemmas.{Appends-append, Appends-nothing}
+use Rattle.ckrt_disk.proofs.WriteLemmas.{Appends-append, Appends-nothing}
 
 begins_nothing : (part : List ℕ) → IsBeginningOf part [] → part ≡ []
 begins_nothing [] h = refl

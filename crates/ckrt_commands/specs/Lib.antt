@@ -1,5 +1,7 @@
 pub mod Replies
 pub mod Transcript
-pub mod Accepts
+pub mod Outputs
 pub mod Pieces
-pub mod Writing
+pub mod Commands
+pub mod LifePieces
+pub mod Lives

@@ -6,10 +6,11 @@ use Rattle.ckrt_disk.specs.declared.disk.Disk.{Ghosts}
 use Rattle.ckrt_events.specs.declared.event.Event.{Event}
 use Rattle.ckrt_stored.specs.Programs.{Program, output_after}
 use Rattle.ckrt_recovery.specs.declared.session.Session.{Session}
-use Rattle.ckrt_recovery.specs.Lists.{IsBeginningOf}
+use Rattle.ckrt_disk.specs.Lists.{IsBeginningOf}
 use Rattle.ckrt_recovery.specs.Represents.{Represents}
 use Rattle.ckrt_recovery.specs.View.{View, view_of}
-use Rattle.ckrt_commands.specs.Accepts.{Accepts, AreOutput}
+use Rattle.ckrt_recovery.specs.Accepts.{Accepts}
+use Rattle.ckrt_commands.specs.Outputs.{AreOutput}
 use Rattle.ckrt_commands.specs.Replies.{Reply, told_of, shown_in, oks_of, acks_of, shown_up_to}
 use Rattle.ckrt_commands.specs.Transcript.{Fate, Transcript, preceded_by}
 

@@ -2,13 +2,12 @@
 use Rattle.std.specs.Prelude.{ℕ, ◌+◌, ◌/◌, zero, suc, List, [], ◌∷◌, ◌++◌, length, take, drop, codes, decimal}
 use Rattle.hex.specs.Hex.{encode_lower}
 use Rattle.ckrt_events.specs.declared.command.LineFault.{LineFault}
-use Rattle.ckrt_events.specs.declared.command.LineFault.TheVariants.{Unknown, Number, Hex, Range, TooLong}
+use Rattle.ckrt_events.specs.Refusals.{line_fault_text, no_line}
 use Rattle.ckrt_machine.specs.declared.event.Answer.{Answer}
 use Rattle.ckrt_machine.specs.declared.event.Answer.TheVariants.{Placed, Ran, Taken, Closed, Ticked}
 use Rattle.ckrt_machine.specs.declared.event.RunEnd.{RunEnd}
 use Rattle.ckrt_machine.specs.declared.event.RunEnd.TheVariants.{On, Off, End}
-use Rattle.ckrt_machine.specs.declared.event.Refusal.{Refusal}
-use Rattle.ckrt_machine.specs.declared.event.Refusal.TheVariants.{Ended, NoSuchHart, NoSuchThread, NotReady, HartIdle, InputClosed, InputFull, ClockEnd, OutputFull}
+use Rattle.ckrt_machine.specs.RefusalTexts.{refusal_text}
 use Rattle.ckrt_recovery.specs.declared.fault.SubmitFault.{SubmitFault}
 use Rattle.ckrt_recovery.specs.declared.fault.SubmitFault.TheVariants as submit
 use Rattle.ckrt_recovery.specs.declared.fault.CommitFault.{CommitFault}
@@ -35,18 +34,6 @@ ok_line k answer = codes "ok " ++ decimal k ++ codes " " ++ answer_text answer +
 abbrev pub ack_line : ℕ → List ℕ
 ack_line k = codes "ack " ++ decimal k ++ codes "\n"
 
--- code and name of a refusal
-abbrev pub refusal_text : Refusal → List ℕ
-refusal_text Ended = codes "1 Ended"
-refusal_text NoSuchHart = codes "2 NoSuchHart"
-refusal_text NoSuchThread = codes "3 NoSuchThread"
-refusal_text NotReady = codes "4 NotReady"
-refusal_text HartIdle = codes "5 HartIdle"
-refusal_text InputClosed = codes "6 InputClosed"
-refusal_text InputFull = codes "7 InputFull"
-refusal_text ClockEnd = codes "8 ClockEnd"
-refusal_text OutputFull = codes "9 OutputFull"
-
 abbrev pub submit_fault_text : SubmitFault → List ℕ
 submit_fault_text submit.Failed = codes "21 Failed"
 submit_fault_text submit.NeedsCheckpoint = codes "27 NeedsCheckpoint"
@@ -59,16 +46,6 @@ abbrev pub commit_fault_text : CommitFault → List ℕ
 commit_fault_text commit.Failed = codes "21 Failed"
 commit_fault_text commit.Device = codes "25 Device"
 commit_fault_text commit.GenerationsUsed = codes "26 GenerationsUsed"
-
-abbrev pub line_fault_text : LineFault → List ℕ
-line_fault_text Unknown = codes "31 Unknown"
-line_fault_text Number = codes "32 Number"
-line_fault_text Hex = codes "33 Hex"
-line_fault_text Range = codes "34 Range"
-line_fault_text TooLong = codes "35 TooLong"
-
-abbrev pub no_line : List ℕ → List ℕ
-no_line text = codes "no " ++ text ++ codes "\n"
 
 -- output from an offset on
 abbrev pub out_line : ℕ → List ℕ → List ℕ

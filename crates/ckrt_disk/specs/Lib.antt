@@ -12,3 +12,5 @@ pub mod Stopping
 pub mod Synced
 pub mod SystemFile
 pub mod Transfer
+pub mod Lists
+pub mod Writing

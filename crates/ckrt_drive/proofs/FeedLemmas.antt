@@ -3,8 +3,8 @@ use Rattle.std.proofs.Common.{◌≡◌, ℕ, ◌≤◌, false, Option, Some, No
 use Rattle.ckrt_disk.specs.Disk.{IsImage, LeavesOnly}
 use Rattle.ckrt_disk.specs.declared.disk.Disk.{Ghosts}
 use Rattle.ckrt_disk.proofs.Moments.{started}
-use Rattle.ckrt_commands.specs.Accepts.{Accepts}
-use Rattle.ckrt_commands.proofs.AcceptLemmas.{accepts_kept}
+use Rattle.ckrt_recovery.specs.Accepts.{Accepts}
+use Rattle.ckrt_recovery.proofs.AcceptLemmas.{accepts_kept}
 use Rattle.ckrt_events.specs.declared.event.Event.{Event}
 use Rattle.ckrt_stored.specs.Programs.{Program}
 use Rattle.ckrt_record.specs.Keeping.{IsCommit, KeepsInput, RecoversFedEither, RepresentsFed, SavesInput}

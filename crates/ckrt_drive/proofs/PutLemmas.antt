@@ -8,12 +8,12 @@ use Rattle.ckrt_disk.specs.declared.disk.Disk.{Ghosts}
 use Rattle.ckrt_events.specs.declared.event.Event.{Event}
 use Rattle.ckrt_stored.specs.Programs.{Program, output_after}
 use Rattle.ckrt_recovery.specs.declared.session.Session.{Session}
-use Rattle.ckrt_recovery.specs.Lists.{IsBeginningOf}
+use Rattle.ckrt_disk.specs.Lists.{IsBeginningOf}
 use Rattle.ckrt_recovery.specs.Represents.{Represents, acknowledged_of}
 use Rattle.ckrt_recovery.specs.View.{View, view_of, released_output}
-use Rattle.ckrt_commands.specs.Accepts.{Accepts}
-use Rattle.ckrt_commands.proofs.AcceptLemmas.{output_begins}
-use Rattle.ckrt_recovery.proofs.ListLemmas.{taken_begins}
+use Rattle.ckrt_recovery.specs.Accepts.{Accepts}
+use Rattle.ckrt_recovery.proofs.AcceptLemmas.{output_begins}
+use Rattle.ckrt_disk.proofs.ListLemmas.{taken_begins}
 use Rattle.ckrt_drive.specs.Output.{acknowledged_output}
 use Rattle.ckrt_disk.specs.Synced.{FailsToWriteSynced, WritesSyncedOrFails}
 use Rattle.ckrt_drive.specs.PutOut.{PutsAllOut, PutsOutput, between}

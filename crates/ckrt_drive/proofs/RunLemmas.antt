@@ -8,8 +8,8 @@ use Rattle.ckrt_disk.proofs.Moments.{weaker, goes_on}
 use Rattle.ckrt_events.specs.declared.event.Event.{Event}
 use Rattle.ckrt_recovery.specs.declared.session.Session.{Session}
 use Rattle.ckrt_recovery.specs.View.{View, view_of}
-use Rattle.ckrt_commands.specs.Accepts.{Accepts}
-use Rattle.ckrt_commands.proofs.AcceptLemmas.{accepts_kept, accepts_more, since_start}
+use Rattle.ckrt_recovery.specs.Accepts.{Accepts}
+use Rattle.ckrt_recovery.proofs.AcceptLemmas.{accepts_kept, accepts_more, since_start}
 use Rattle.ckrt_drive.specs.declared.options.Options.{Options}
 use Rattle.ckrt_drive.specs.declared.fault.DriveFault.{DriveFault}
 use Rattle.ckrt_drive.specs.declared.fault.DriveFault.TheVariants.{Device, Input, NoRecord, Output, OutputFull, GenerationsUsed, Refused}

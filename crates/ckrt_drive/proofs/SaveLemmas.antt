@@ -1,6 +1,6 @@
 -- What commits, checkpoints and events make of a session, as what a drive does.
 use Rattle.std.proofs.Common.{◌≡◌, ◌-◌, ◌^◌, ℕ, nat_eq, Bool, true, false, if◌then◌else◌, Option, Some, None, List, [], ◌∷◌, ◌++◌, Result, Ok, Err, refl, sym, ◌∙◌, ap, subst, arith}
-use Rattle.std.specs.Prelude.{IfErr, OnOk, OnErr, MatchOption}
+use Rattle.std.specs.Prelude.{IfErr, MatchOption}
 use Rattle.std.proofs.lemmas.Bool.Decides.{nat_tests}
 use Rattle.ckrt_disk.specs.Disk.{LeavesOnly}
 use Rattle.ckrt_disk.specs.Frame.{WritesWithin}
@@ -17,7 +17,8 @@ use Rattle.ckrt_recovery.specs.declared.session.Session.{Session}
 use Rattle.ckrt_recovery.specs.Calls.{Checkpoints, Commits, checkpoint_refusal, is_device}
 use Rattle.ckrt_recovery.specs.Represents.{Represents, RecoversToEither}
 use Rattle.ckrt_recovery.specs.View.{View, view_of, refusal_of, refusal_when_running, after_event}
-use Rattle.ckrt_commands.proofs.AcceptLemmas.{accepts_all, accepts_commit, accepts_kept, accepts_still, acknowledges_checkpoint}
+use Rattle.ckrt_recovery.proofs.AcceptLemmas.{accepts_all, accepts_commit, accepts_kept, accepts_still, acknowledges_checkpoint}
+use Rattle.ckrt_recovery.proofs.AnswerLemmas.{at_err, at_ok}
 use Rattle.ckrt_drive.specs.declared.fault.DriveFault.{DriveFault}
 use Rattle.ckrt_drive.specs.declared.fault.DriveFault.TheVariants.{Device, GenerationsUsed, NoRecord, Refused}
 use Rattle.ckrt_drive.specs.declared.step_done.StepDone.{StepDone}
@@ -26,30 +27,6 @@ use Rattle.ckrt_drive.specs.Plan.{make_room, is_shortage, offered}
 use Rattle.ckrt_drive.specs.Feeding.{FeedsIfRecorded, LacksRecord}
 use Rattle.ckrt_drive.specs.Steps.{Advances, aim}
 use Rattle.ckrt_drive.proofs.FeedLemmas.{event_feeds, still_feeds}
-
-pub at_ok : {A E : Type 0} (r : Result A E) (P : Type 0) (x : A) → r ≡ Ok x → OnOk r P → P
-at_ok r P x is h = subst (λ q. OnOk q P) is h
-
-at_err : {A E : Type 0} (r : Result A E) (P : Type 0) (x : E) → r ≡ Err x → OnErr r P → P
-at_err r P x is h = subst (λ q. OnErr q P) is h
-
--- WHAT A SUBMIT ANSWERS
-
-pub taken : (r : Result (ℕ × Answer) SubmitFault) (o : Option SubmitFault) (x y : ℕ × Answer) → r ≡ Ok x → MatchOption o (r ≡ Ok y) (λ f. r ≡ Err f) → o ≡ None
-taken r None x y e h = refl
-taken r (Some f) x y e h = absurd (cc)
-
-pub refused : (r : Result (ℕ × Answer) SubmitFault) (o : Option SubmitFault) (fault : SubmitFault) (y : ℕ × Answer) → r ≡ Err fault → MatchOption o (r ≡ Ok y) (λ f. r ≡ Err f) → o ≡ Some fault
-refused r None fault y e h = cc
-refused r (Some f) fault y e h = cc
-
-pub at_none : (o : Option SubmitFault) (P : Type 0) (Q : SubmitFault → Type 0) → o ≡ None → MatchOption o P Q → P
-at_none None P Q e h = h
-at_none (Some f) P Q e h = absurd (cc)
-
-pub at_some : (o : Option SubmitFault) (P Q : Type 0) (fault : SubmitFault) → o ≡ Some fault → MatchOption o P (λ _. Q) → Q
-at_some None P Q fault e h = absurd (cc)
-at_some (Some f) P Q fault e h = h
 
 -- CHOICES
 

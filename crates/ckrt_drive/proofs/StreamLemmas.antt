@@ -12,9 +12,9 @@ use Rattle.ckrt_recovery.specs.declared.session.Session.{Session}
 use Rattle.ckrt_recovery.specs.Represents.{Represents}
 use Rattle.ckrt_recovery.specs.View.{View, view_of, released_output}
 use Rattle.ckrt_recovery.proofs.SessionLemmas.{held_front}
-use Rattle.ckrt_commands.specs.Writing.{AppendsPart}
-use Rattle.ckrt_commands.specs.Accepts.{Accepts}
-use Rattle.ckrt_commands.proofs.WriteLemmas.{Appends-append, Appends-nothing}
+use Rattle.ckrt_disk.specs.Writing.{AppendsPart}
+use Rattle.ckrt_recovery.specs.Accepts.{Accepts}
+use Rattle.ckrt_disk.proofs.WriteLemmas.{Appends-append, Appends-nothing}
 use Rattle.ckrt_drive.specs.Output.{acknowledged_output}
 use Rattle.ckrt_disk.specs.Synced.{FailsToWriteSynced}
 use Rattle.ckrt_drive.specs.PutOut.{EndsOrFails, PutsAllOut, PutsOutput, between}

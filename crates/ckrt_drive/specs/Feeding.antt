@@ -5,7 +5,7 @@ use Rattle.ckrt_disk.specs.Disk.{LeavesOnly}
 use Rattle.ckrt_disk.specs.declared.disk.Disk.{Ghosts}
 use Rattle.ckrt_events.specs.declared.event.Event.{Event}
 use Rattle.ckrt_stored.specs.Programs.{Program}
-use Rattle.ckrt_input.specs.Taken.{taken_by}
+use Rattle.ckrt_schedule.specs.Taken.{taken_by}
 use Rattle.ckrt_record.specs.Keeping.{RecoversFedEither, RepresentsFed}
 use Rattle.ckrt_record.specs.Slot.{RECORD_BYTES, TAKEN_LIMIT}
 use Rattle.ckrt_recovery.specs.declared.session.Session.{Session}

@@ -1,17 +1,11 @@
 -- What a drive gives its program as input (this project's choice).
-use Rattle.std.specs.Prelude.{◌≡◌, ℕ, List, drop, Option, Some, None, option_map, Result, Ok, Err}
+use Rattle.std.specs.Prelude.{◌≡◌, ℕ, List, Option, option_map, Result, Ok, Err}
 use Rattle.ckrt_disk.specs.Disk.{HasFailed}
-use Rattle.ckrt_events.specs.declared.event.Event.{Event}
-use Rattle.ckrt_input.specs.Next.{next_input}
+use Rattle.ckrt_schedule.specs.Next.{given_in}
 use Rattle.ckrt_state.specs.declared.table.Tables.{Tables}
 use Rattle.ckrt_drive.specs.declared.fault.DriveFault.{DriveFault}
 use Rattle.ckrt_drive.specs.declared.fault.DriveFault.TheVariants.{Input}
 use Rattle.ckrt_drive.specs.declared.supply.Supply.{Supply}
-
--- what a program is given next of a file's bytes, where it has taken that many of them; without a file nothing
-abbrev pub given_in : (file : Option (List ℕ)) → (taken : ℕ) → Tables → Option Event
-given_in None taken s = None
-given_in (Some bytes) taken s = next_input s (drop taken bytes)
 
 -- how many bytes a program has taken, where there is a file, and so a record of it
 abbrev pub record_of : (file : Option (List ℕ)) → (taken : ℕ) → Option ℕ

@@ -2,13 +2,13 @@
 ghost use Rattle.std.specs.Prelude.{◌≡◌, ◌+◌, ◌<◌, ◌≤◌, ◌^◌, ℕ, List, [], ◌∷◌, Option, Some, None, is_some, length, take, drop, IfOk, IfSome};
 ghost use Rattle.ckrt_disk.specs.Disk.{CountsFault};
 ghost use Rattle.ckrt_events.specs.Bytes.{IsInRange};
-ghost use Rattle.ckrt_input.specs.Next.{next_input};
-ghost use Rattle.ckrt_input.specs.Taken.{taken_by};
-ghost use Rattle.ckrt_drive.specs.Given.{given_in};
+ghost use Rattle.ckrt_schedule.specs.Next.{next_input};
+ghost use Rattle.ckrt_schedule.specs.Taken.{taken_by};
+ghost use Rattle.ckrt_schedule.specs.Next.{given_in};
 
 use ckrt_disk::{DeviceFault, Disk};
 use ckrt_events::Event;
-use ckrt_input::{PIECE, next_input};
+use ckrt_schedule::{PIECE, next_input};
 use ckrt_state::Tables;
 
 /// What a drive gives its program as input: the bytes of a file and then its end, or nothing.

@@ -14,6 +14,7 @@ mod steps;
 mod stream;
 mod supply;
 
+pub use ckrt_schedule::Nobody;
 pub use drive::Drive;
 pub use fault::DriveFault;
 pub use feed::{Feed, FromDisk, Nothing};
@@ -21,7 +22,7 @@ pub use laws::{
     checkpoints_find_nothing_pending, no_checkpoint_behind_a_checkpoint, plans_suit_the_version,
     stream_gets_the_output,
 };
-pub use onlooker::{Nobody, Onlooker};
+pub use onlooker::Onlooker;
 pub use options::Options;
 pub use step_done::StepDone;
 pub use stream::StreamOutput;

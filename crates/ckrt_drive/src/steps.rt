@@ -11,7 +11,7 @@ ghost use Rattle.ckrt_drive.specs.Plan.{is_checkpoint_due, is_commit_due, is_fil
 ghost use Rattle.ckrt_drive.specs.Given.{CountsRead, IsSupplied};
 ghost use Rattle.ckrt_drive.specs.Stages.{TakesStep, stage};
 ghost use Rattle.ckrt_drive.specs.Steps.{Advances, Steps, accepted_by, aim, aim_of};
-ghost use Rattle.ckrt_input.specs.Taken as input;
+ghost use Rattle.ckrt_schedule.specs.Taken as input;
 
 use crate::fault::DriveFault;
 use crate::feed::Feed;
@@ -21,12 +21,11 @@ use crate::step_done::StepDone;
 use crate::supply::Supply;
 use ckrt_disk::{DeviceFault, Disk, write_synced};
 use ckrt_events::Event;
-use ckrt_input::taken_by;
 use ckrt_journal::FRAME_LIMIT;
 use ckrt_machine::Refusal;
 use ckrt_record::{RECORD_BYTES, TAKEN_LIMIT};
 use ckrt_recovery::{CommitFault, Session, SubmitFault};
-use ckrt_schedule::Next;
+use ckrt_schedule::{Next, taken_by};
 
 /// Acknowledges the events so far by a commit.
 fn commit<D: Disk>(session: &mut Session<D>, recorded: Option<u64>) -> Result<StepDone, DriveFault>

@@ -2,8 +2,7 @@
 ghost use Rattle.std.specs.Prelude.{◌≡◌, ◌+◌, ◌-◌, ◌^◌, min, [], None, length, drop, false, IsErr};
 ghost use Rattle.ckrt_disk.specs.Stop.{named_none};
 
-use ckrt_commands::write_text;
-use ckrt_disk::{DeviceFault, Disk, History};
+use ckrt_disk::{DeviceFault, Disk, History, write_text};
 use std::io::Write;
 
 /// How many bytes a stream takes: more than any file has.

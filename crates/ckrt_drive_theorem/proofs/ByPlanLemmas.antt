@@ -1,7 +1,8 @@
 -- Lists by plan: there is one, whichever of its beginnings a stop leaves.
 use Rattle.std.proofs.Common.{◌≡◌, ◌⊎◌, inl, inr, ⊎_elim, ℕ, ◌+◌, ◌==◌, ◌&&◌, Bool, true, false, if◌then◌else◌, Option, Some, None, List, [], ◌∷◌, ◌++◌, length, take, Result, Ok, Err, refl, sym, ◌∙◌, ap, subst, arith, append_assoc, append-nil, length-append}
 use Rattle.std.proofs.lemmas.List.{append_cancel_left}
-use Rattle.ckrt_drive.specs.Given.{IsSupplied, given_in}
+use Rattle.ckrt_drive.specs.Given.{IsSupplied}
+use Rattle.ckrt_schedule.specs.Next.{given_in}
 use Rattle.ckrt_schedule.specs.Schedules.{next_event}
 use Rattle.ckrt_drive.specs.Plan.{schedule_of}
 use Rattle.ckrt_disk.specs.declared.disk.Disk.{Ghosts}
@@ -19,16 +20,16 @@ use Rattle.ckrt_drive.specs.declared.supply.Supply.{Supply}
 use Rattle.ckrt_drive.proofs.PlannedLemmas.{planned_event}
 use Rattle.ckrt_events.specs.declared.event.Event.{Event}
 use Rattle.ckrt_stored.specs.Programs.{Program, output_after, state_after}
-use Rattle.ckrt_input.specs.Taken.{taken_by}
+use Rattle.ckrt_schedule.specs.Taken.{taken_by}
 use Rattle.ckrt_record.proofs.FedLemmas.{taken-append}
 use Rattle.ckrt_state.specs.declared.table.Tables.{Tables}
 use Rattle.ckrt_machine.specs.Runs.{is_running}
 use Rattle.ckrt_machine.specs.Steps.{State}
-use Rattle.ckrt_recovery.specs.Lists.{IsBeginningOf}
+use Rattle.ckrt_disk.specs.Lists.{IsBeginningOf}
 use Rattle.ckrt_recovery.specs.Represents.{Represents}
 use Rattle.ckrt_recovery.specs.View.{view_of}
 use Rattle.ckrt_recovery.specs.declared.session.Session.{Session}
-use Rattle.ckrt_recovery.proofs.ListLemmas.{begins_behind, begins_through}
+use Rattle.ckrt_disk.proofs.ListLemmas.{begins_behind, begins_through}
 use Rattle.ckrt_drive_theorem.specs.ByPlan.{AreByPlan, Course, IsByPlanFrom, IsUnbroken, course, next_behind}
 use Rattle.ckrt_drive_theorem.specs.Drives.{AllByPlan, AllKeep, AllOnCourse, AllTold, ComeBehind, HasEnded, IsTold, Keeps, OneDrive, course_of, past_behind}
 use Rattle.ckrt_drive_theorem.specs.Together.{Past}

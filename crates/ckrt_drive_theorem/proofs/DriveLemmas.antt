@@ -12,17 +12,17 @@ use Rattle.ckrt_stored.specs.Progress.{recovered_of}
 use Rattle.ckrt_stored.specs.Recovery.{Recovered, Recovers}
 use Rattle.ckrt_stored.specs.declared.fault.RecoverFault.{RecoverFault}
 use Rattle.ckrt_stored.proofs.RecoverLemmas.{recovers_once}
-use Rattle.ckrt_cli_disk.specs.Driving.{IsRecovered}
+use Rattle.ckrt_recovery.specs.Recovered.{IsRecovered}
 use Rattle.ckrt_record.specs.Fed.{IsFed}
 use Rattle.ckrt_record.specs.Keeping.{KeepsInput}
 use Rattle.ckrt_record.proofs.FedLemmas.{as_recovered}
 use Rattle.ckrt_record.proofs.KeepLemmas.{keeps_content}
-use Rattle.ckrt_recovery.specs.Lists.{IsBeginningOf}
+use Rattle.ckrt_disk.specs.Lists.{IsBeginningOf}
 use Rattle.ckrt_recovery.specs.Represents.{Represents, acknowledged_of}
 use Rattle.ckrt_recovery.specs.View.{View, view_of}
 use Rattle.ckrt_recovery.specs.declared.session.Session.{Session}
-use Rattle.ckrt_recovery.proofs.ListLemmas.{begins_itself, begins_through, taken_begins}
-use Rattle.ckrt_commands.proofs.AcceptLemmas.{output_begins}
+use Rattle.ckrt_disk.proofs.ListLemmas.{begins_itself, begins_through, taken_begins}
+use Rattle.ckrt_recovery.proofs.AcceptLemmas.{output_begins}
 use Rattle.ckrt_drive.specs.Output.{HoldsOutput, acknowledged_output}
 use Rattle.ckrt_drive.specs.Plan.{schedule_of}
 use Rattle.ckrt_drive.specs.Stages.{AreSupplied, GoesThrough, Stage}

@@ -9,16 +9,16 @@ use Rattle.ckrt_events.specs.declared.event.Event.{Event}
 use Rattle.ckrt_stored.specs.Programs.{Program, RecoversTo, RecoversToStart, start_of}
 use Rattle.ckrt_stored.specs.Recovery.{◌>>=◌, events_of_batches}
 use Rattle.ckrt_stored.specs.declared.fault.RecoverFault.{RecoverFault}
-use Rattle.ckrt_input.specs.Next.{AreGiven}
-use Rattle.ckrt_input.specs.Taken.{bytes_of, taken_by}
-use Rattle.ckrt_input.proofs.NextLemmas.{beginning, end_behind, goes_on}
+use Rattle.ckrt_schedule.specs.Next.{AreGiven}
+use Rattle.ckrt_schedule.specs.Taken.{bytes_of, taken_by}
+use Rattle.ckrt_schedule.proofs.NextLemmas.{beginning, end_behind, goes_on}
 use Rattle.ckrt_journal.specs.declared.fault.JournalFault.{JournalFault}
 use Rattle.ckrt_machine.specs.Events.{step}
 use Rattle.ckrt_machine.specs.Steps.{State}
 use Rattle.ckrt_record.specs.Fed.{IsFed}
 use Rattle.ckrt_record.specs.Offset.{journaled, offset_from, or_said, saved_offset, taken_in, with_saved}
 use Rattle.ckrt_record.proofs.FedLemmas.{as_recovered, begins, taken-append}
-use Rattle.ckrt_recovery.specs.Lists.{IsBeginningOf}
+use Rattle.ckrt_disk.specs.Lists.{IsBeginningOf}
 use Rattle.ckrt_drive_theorem.specs.ByPlan.{Course}
 use Rattle.ckrt_drive_theorem.specs.Drives.{AllHaveInput, AllKeep, AllOnCourse, AllTold, AllToldByRecord, ComeBehind, IsTold, IsToldByRecord, Keeps, OneDrive, course_of, past_behind}
 use Rattle.ckrt_drive_theorem.specs.Giving.{AllGiveFile, GiveFile}

@@ -7,14 +7,14 @@ use Rattle.ckrt_disk.specs.Frame.{MayBeLeft}
 use Rattle.ckrt_disk.specs.declared.disk.Disk.{Ghosts}
 use Rattle.ckrt_events.specs.declared.event.Event.{Event}
 use Rattle.ckrt_stored.specs.Programs.{Program}
-use Rattle.ckrt_input.specs.Taken.{taken_by}
+use Rattle.ckrt_schedule.specs.Taken.{taken_by}
 use Rattle.ckrt_record.specs.Fed.{IsFed}
 use Rattle.ckrt_record.specs.Keeping.{KeepsInput, RecoversFedEither}
 use Rattle.ckrt_record.proofs.FedLemmas.{as_recovered}
-use Rattle.ckrt_recovery.specs.Lists.{IsBeginningOf}
+use Rattle.ckrt_disk.specs.Lists.{IsBeginningOf}
 use Rattle.ckrt_recovery.specs.Represents.{RecoversToEither, Represents, acknowledged_of}
 use Rattle.ckrt_recovery.specs.declared.session.Session.{Session}
-use Rattle.ckrt_recovery.proofs.ListLemmas.{begins_itself, begins_through}
+use Rattle.ckrt_disk.proofs.ListLemmas.{begins_itself, begins_through}
 use Rattle.ckrt_drive.specs.Feeding.{Feeds, FeedsIfRecorded}
 use Rattle.ckrt_drive.specs.Given.{record_of}
 use Rattle.ckrt_drive_theorem.specs.Drives.{IsTold}

@@ -5,11 +5,11 @@ use Rattle.ckrt_events.specs.declared.event.Event.{Event}
 use Rattle.ckrt_events.specs.declared.event.Event.TheVariants.{Place, Run, Input, Eof, Tick, RunLong}
 use Rattle.ckrt_stored.specs.Programs.{Program, start_of, state_after}
 use Rattle.ckrt_stored.proofs.ReplayLemmas.{state-append}
-use Rattle.ckrt_input.specs.Next.{AreGiven, IsNext, next_input}
-use Rattle.ckrt_input.specs.Taken.{bytes_of, taken_by}
-use Rattle.ckrt_input.proofs.NextLemmas.{beginning, end_behind}
+use Rattle.ckrt_schedule.specs.Next.{AreGiven, IsNext, next_input}
+use Rattle.ckrt_schedule.specs.Taken.{bytes_of, taken_by}
+use Rattle.ckrt_schedule.proofs.NextLemmas.{beginning, end_behind}
 use Rattle.ckrt_record.proofs.FedLemmas.{taken-append}
-use Rattle.ckrt_drive.specs.Given.{given_in}
+use Rattle.ckrt_schedule.specs.Next.{given_in}
 use Rattle.ckrt_drive.proofs.GivenLemmas.{IsNoInput, given_or_none}
 use Rattle.ckrt_drive_theorem.specs.ByPlan.{AreByPlan, Course, IsByPlan}
 use Rattle.ckrt_drive_theorem.specs.Inputs.{EndBehindAll, GiveBeginning}

@@ -17,7 +17,7 @@ use Rattle.ckrt_checkpoint.proofs.PickLemmas.{area_end}
 use Rattle.ckrt_stored.specs.declared.fault.RecoverFault.{RecoverFault}
 use Rattle.ckrt_stored.specs.declared.fault.RecoverFault.TheVariants.{NotFormatted, Version, Damaged}
 use Rattle.ckrt_drive.specs.Stages.{Stage}
-use Rattle.ckrt_input.specs.Taken.{taken_by}
+use Rattle.ckrt_schedule.specs.Taken.{taken_by}
 use Rattle.ckrt_stored.specs.Programs.{Program, RecoversTo}
 use Rattle.ckrt_stored.specs.Recovery.{Recovered, Recovers, in_use}
 use Rattle.ckrt_stored.specs.Superblock.{MAGIC, superblock_in, superblock_of}

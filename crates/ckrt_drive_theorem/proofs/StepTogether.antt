@@ -7,12 +7,12 @@ use Rattle.ckrt_disk.specs.declared.disk.Disk.{Ghosts}
 use Rattle.ckrt_events.specs.declared.event.Event.{Event}
 use Rattle.ckrt_stored.specs.Programs.{Program, output_after}
 use Rattle.ckrt_recovery.specs.Between.{RecoversBetween}
-use Rattle.ckrt_recovery.specs.Lists.{IsBeginningOf}
+use Rattle.ckrt_disk.specs.Lists.{IsBeginningOf}
 use Rattle.ckrt_recovery.specs.Represents.{RecoversToEither, Represents, acknowledged_of}
 use Rattle.ckrt_recovery.specs.View.{View}
 use Rattle.ckrt_recovery.specs.declared.session.Session.{Session}
-use Rattle.ckrt_commands.proofs.AcceptLemmas.{either_between, since_start}
-use Rattle.ckrt_commands.proofs.AcceptLemmas.{output_begins}
+use Rattle.ckrt_recovery.proofs.AcceptLemmas.{either_between, since_start}
+use Rattle.ckrt_recovery.proofs.AcceptLemmas.{output_begins}
 use Rattle.ckrt_drive.specs.Output.{HasOutput, HoldsOutput, acknowledged_output}
 use Rattle.ckrt_drive.specs.Steps.{Aim, Steps, accepted_in}
 use Rattle.ckrt_drive.specs.declared.fault.DriveFault.{DriveFault}

@@ -17,9 +17,9 @@ use Rattle.ckrt_schedule.specs.declared.schedule.Schedule.{Schedule}
 use Rattle.ckrt_schedule.specs.Schedules.{next_event}
 use Rattle.ckrt_schedule.specs.Turns.{AreScheduled, ClockComes, EachReadyIsPlaced, given_among, is_given, turns_within}
 use Rattle.ckrt_schedule.proofs.TurnLemmas.{of_running, same_event}
-use Rattle.ckrt_input.specs.Taken.{taken_by}
-use Rattle.ckrt_input.specs.Next.{given_by, has_room, next_bytes}
-use Rattle.ckrt_drive.specs.Given.{given_in}
+use Rattle.ckrt_schedule.specs.Taken.{taken_by}
+use Rattle.ckrt_schedule.specs.Next.{given_by, has_room, next_bytes}
+use Rattle.ckrt_schedule.specs.Next.{given_in}
 use Rattle.ckrt_drive_theorem.specs.ByPlan.{AreByPlan, Course, IsByPlanFrom}
 use Rattle.ckrt_drive_theorem.specs.Drives.{AllByPlan, AllKeep, OneDrive, past_behind}
 use Rattle.ckrt_drive_theorem.specs.Together.{Past}

@@ -1,6 +1,6 @@
 -- Lists of events by plan: each event is the one that the plan has next where it stands.
 use Rattle.std.specs.Prelude.{◌≡◌, ◌⊎◌, ℕ, List, [], ◌∷◌, ◌++◌, length, Option}
-use Rattle.ckrt_drive.specs.Given.{given_in}
+use Rattle.ckrt_schedule.specs.Next.{given_in}
 use Rattle.ckrt_schedule.specs.declared.schedule.Schedule.{Schedule}
 use Rattle.ckrt_schedule.specs.Schedules.{next_event}
 use Rattle.ckrt_schedule.specs.declared.next.Next.{Next}
@@ -8,8 +8,8 @@ use Rattle.ckrt_schedule.specs.declared.next.Next.TheVariants.{Submit, End}
 use Rattle.ckrt_schedule.specs.declared.next.ScheduleEnd.{ScheduleEnd}
 use Rattle.ckrt_events.specs.declared.event.Event.{Event}
 use Rattle.ckrt_stored.specs.Programs.{Program, state_after}
-use Rattle.ckrt_input.specs.Taken.{taken_by}
-use Rattle.ckrt_recovery.specs.Lists.{IsBeginningOf}
+use Rattle.ckrt_schedule.specs.Taken.{taken_by}
+use Rattle.ckrt_disk.specs.Lists.{IsBeginningOf}
 
 -- by what the events of drives are chosen: their schedule, and the bytes of their input, where they have one
 pub record Course : Type 0 where

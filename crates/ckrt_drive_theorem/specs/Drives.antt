@@ -10,10 +10,10 @@ use Rattle.ckrt_schedule.specs.declared.next.ScheduleEnd.{ScheduleEnd}
 use Rattle.ckrt_schedule.specs.declared.next.ScheduleEnd.TheVariants.{Enough}
 use Rattle.ckrt_events.specs.declared.event.Event.{Event}
 use Rattle.ckrt_stored.specs.Programs.{RecoversTo, output_after}
-use Rattle.ckrt_input.specs.Taken.{taken_by}
-use Rattle.ckrt_cli_disk.specs.Driving.{IsRecovered}
+use Rattle.ckrt_schedule.specs.Taken.{taken_by}
+use Rattle.ckrt_recovery.specs.Recovered.{IsRecovered}
 use Rattle.ckrt_record.specs.Offset.{offset_from}
-use Rattle.ckrt_recovery.specs.Lists.{IsBeginningOf}
+use Rattle.ckrt_disk.specs.Lists.{IsBeginningOf}
 use Rattle.ckrt_recovery.specs.Represents.{Represents}
 use Rattle.ckrt_recovery.specs.View.{view_of}
 use Rattle.ckrt_drive_theorem.specs.ByPlan.{Course, IsByPlanFrom, IsUnbroken, course}

@@ -4,7 +4,7 @@ use Rattle.ckrt_disk.specs.declared.disk.Disk.{Ghosts}
 use Rattle.ckrt_events.specs.declared.event.Event.{Event}
 use Rattle.ckrt_events.specs.declared.event.Event.TheVariants.{Eof}
 use Rattle.ckrt_stored.specs.Programs.{Program}
-use Rattle.ckrt_input.specs.Taken.{input_of}
+use Rattle.ckrt_schedule.specs.Taken.{input_of}
 use Rattle.ckrt_drive_theorem.specs.Drives.{AllHaveInput, AllKeep, AllToldByRecord, ComeBehind, OneDrive, past_behind}
 use Rattle.ckrt_drive_theorem.specs.Together.{Past, StandsFed, past}
 

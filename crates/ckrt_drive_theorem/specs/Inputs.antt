@@ -3,7 +3,7 @@ use Rattle.std.specs.Prelude.{◌≡◌, ℕ, List, ◌∷◌, ◌++◌, Some}
 use Rattle.ckrt_events.specs.declared.event.Event.{Event}
 use Rattle.ckrt_events.specs.declared.event.Event.TheVariants.{Eof}
 use Rattle.ckrt_stored.specs.Programs.{Program}
-use Rattle.ckrt_input.specs.Taken.{input_of}
+use Rattle.ckrt_schedule.specs.Taken.{input_of}
 use Rattle.ckrt_drive_theorem.specs.ByPlan.{Course, IsByPlan}
 
 -- the Inputs, joined, are a beginning of the file: nothing is given twice, and nothing is left out

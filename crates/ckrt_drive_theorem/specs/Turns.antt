@@ -5,7 +5,7 @@ use Rattle.ckrt_thread.specs.State.{is_ready}
 use Rattle.ckrt_events.specs.declared.event.Event.{Event}
 use Rattle.ckrt_schedule.specs.Turns.{IsPlacedAmong, given_among, turns_within}
 use Rattle.ckrt_stored.specs.Programs.{Program, state_after}
-use Rattle.ckrt_recovery.specs.Lists.{IsBeginningOf}
+use Rattle.ckrt_disk.specs.Lists.{IsBeginningOf}
 use Rattle.ckrt_drive_theorem.specs.ByPlan.{Course, IsByPlanFrom}
 use Rattle.ckrt_drive_theorem.specs.Drives.{AllKeep, AllOnCourse, AllToldByRecord, ComeBehind, OneDrive, past_behind}
 use Rattle.ckrt_drive_theorem.specs.Together.{Past, StandsFed}

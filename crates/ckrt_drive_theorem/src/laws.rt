@@ -1,8 +1,7 @@
 //! Laws of a disk and an output together. Each is the contract of a function with an empty body.
-ghost use Rattle.std.specs.Prelude.{◌≡◌, ◌≤◌, ◌<◌, ℕ, Bool, true, List, [], ◌∷◌, ◌++◌, Option, Result, length};
+ghost use Rattle.std.specs.Prelude.{◌≡◌, ◌≤◌, ◌<◌, ℕ, Bool, List, [], ◌∷◌, ◌++◌, Option, Result, length};
 ghost use Rattle.ckrt_disk.specs.Frame.{MayBeLeft};
 ghost use Rattle.ckrt_drive.specs.Output.{HoldsOutput, acknowledged_output};
-ghost use Rattle.ckrt_drive.specs.Runs.{IsAllSaved};
 ghost use Rattle.ckrt_drive.specs.Stages.{Stage};
 ghost use Rattle.ckrt_drive.specs.Steps.{Aim, Steps, accepted_in};
 ghost use Rattle.ckrt_drive.specs.declared.fault.DriveFault.{DriveFault};
@@ -11,21 +10,15 @@ ghost use Rattle.ckrt_drive_theorem.specs.ByPlan.{AreOfTheUnbroken, AreOneList, 
 ghost use Rattle.ckrt_drive_theorem.specs.Drives.{AllKeep, AreTold, ComeBehind, EndUnbroken, GoByPlan, IsDrive, OneDrive, StopLeaves};
 ghost use Rattle.ckrt_drive_theorem.specs.Giving.{DrivesGiveFile};
 ghost use Rattle.ckrt_drive_theorem.specs.Inputs.{EndBehindAll, GiveBeginning};
-ghost use Rattle.ckrt_drive_theorem.specs.Lengths.{size_after};
-ghost use Rattle.ckrt_drive_theorem.specs.Runs.{ProgramRun, RunsAreDrives, RunsAreTold};
 ghost use Rattle.ckrt_drive_theorem.specs.Together.{HoldTogether, IsLeftSince, IsSpared, Past, StandTogether, StandsFed, past};
 ghost use Rattle.ckrt_drive_theorem.specs.Turns.{DrivesGiveTurns, PlansGiveTurns};
 ghost use Rattle.ckrt_events.specs.declared.event.Event.{Event};
-ghost use Rattle.ckrt_stored.specs.Programs.{Program, RecoversToStart, output_after};
-ghost use Rattle.ckrt_cli_faults.specs.Lengths.{fits, lengths_of};
+ghost use Rattle.ckrt_stored.specs.Programs.{Program, RecoversToStart};
 ghost use Rattle.ckrt_recovery.specs.Opening.{IsSyncedAndRead};
 ghost use Rattle.ckrt_recovery.specs.Represents.{Represents, acknowledged_of};
-ghost use Rattle.ckrt_recovery.specs.View.{view_of};
 
-use ckrt_cli_files::Sources;
 use ckrt_disk::Disk;
 use ckrt_recovery::Session;
-use std::io::Read;
 
 /// What a stop may leave of a device: where a process was killed the device itself, where power was lost one with a single
 /// image.
@@ -56,16 +49,6 @@ pub fn step_holds_together<D: Disk, O: Disk>(
         → HoldTogether
         (past p old (acknowledged_of events before.now) (events ++ accepted_in result))
         image (O.left_since end.now (O.moment output.now)) }
-{}
-
-/// A run of the program is a drive, with an input or without one; and at an end all is saved.
-pub fn runs_are_drives<D: Disk, O: Disk>()
-    ensures { RunsAreDrives D.Disk O.Disk }
-{}
-
-/// A run with an input is told what the record of its disk says, by how the program supplies it: whatever the words say beside.
-pub fn runs_are_told<'a, I: Read, D: Disk, S: Sources<'a, I, D>, O: Disk>(sources: &S)
-    ensures { RunsAreTold D.Disk O.Disk (S.gives sources.now) }
 {}
 
 /// Drives of one disk onto one output, one after another, each but the last stopped at any moment: whatever each leaves of
@@ -138,14 +121,4 @@ pub fn recoveries_leave_the_same<D: Disk, O: Disk>(
         → O.is_honest output.now → IsLeftSince D.Disk start.now end.now left.now
         → IsLeftSince O.Disk output.now output.now left_output.now
         → StopLeaves stages x at left.now left_output.now }
-{}
-
-/// Where all is saved, as at an end, the file of an output has the length of the output, if its length fitted the disk when the
-/// drive began: no byte stands after it.
-pub fn output_has_its_length<D: Disk, O: Disk>()
-    ensures { (r : ProgramRun D.Disk O.Disk) → D.is_honest r.after.disk → (p : Program)
-        (events : List Event) → Represents p events r.before → (size : ℕ)
-        → fits (lengths_of size r.before) ≡ true → IsAllSaved (view_of r.after)
-        → size_after size r.before.progress.confirmed r.drives.runs.puts.pieces
-        ≡ length (output_after p (events ++ r.drives.runs.accepted)) }
 {}

@@ -55,3 +55,22 @@ pub enum LineFault {
     #[error("TooLong")]
     TooLong,
 }
+
+impl LineFault {
+    ghost use Rattle.std.specs.Prelude.{◌≡◌, ◌≤◌, length};
+    ghost use Rattle.ckrt_events.specs.Refusals.{line_fault_text};
+
+    /// Its code and its name, as a session tells them: 20 bytes at most.
+    pub fn text(self) -> &'static [u8]
+        ensures text { result.now ≡ line_fault_text self }
+        ensures short { length result.now ≤ 20 }
+    {
+        match self {
+            LineFault::Unknown => b"31 Unknown".as_slice(),
+            LineFault::Number => b"32 Number".as_slice(),
+            LineFault::Hex => b"33 Hex".as_slice(),
+            LineFault::Range => b"34 Range".as_slice(),
+            LineFault::TooLong => b"35 TooLong".as_slice(),
+        }
+    }
+}

@@ -5,8 +5,8 @@ use Rattle.std.proofs.lemmas.List.{take_min}
 use Rattle.std.specs.Prelude.{IfErr, IfOk, IsErrOf, Result, Ok, Err, codes, is_some}
 use Rattle.std.specs.Result.{IsErrAnd}
 use Rattle.std.specs.Io.KnownBytes.{Appends, Consumes, Keeps}
-use Rattle.ckrt_commands.specs.Writing.{AppendsPart}
-use Rattle.ckrt_commands.proofs.WriteLemmas.{Appends-append, Appends-nothing}
+use Rattle.ckrt_disk.specs.Writing.{AppendsPart}
+use Rattle.ckrt_disk.proofs.WriteLemmas.{Appends-append, Appends-nothing}
 use Rattle.ckrt_gdb_packets.specs.Framing.{frame_of, line_after}
 use Rattle.ckrt_gdb_packets.specs.declared.request.Request.{Request}
 use Rattle.ckrt_gdb_stub.specs.declared.fault.DebugFault.{DebugFault}

@@ -1,7 +1,7 @@
 -- A session with gdb over a line (this project's choice). The frames, and what arrives with a byte, are those of `ckrt_gdb_packets`.
 use Rattle.std.specs.Prelude.{◌≡◌, ◌⊎◌, ℕ, zero, suc, Bool, true, false, if◌then◌else◌, List, [], ◌∷◌, ◌++◌, length, take, drop, codes, Option, Some, None, is_some}
 use Rattle.std.specs.Io.KnownBytes.{Appends, Consumes, IsAtEnd, Keeps}
-use Rattle.ckrt_commands.specs.Writing.{AppendsPart}
+use Rattle.ckrt_disk.specs.Writing.{AppendsPart}
 use Rattle.ckrt_gdb_packets.specs.Framing.{Line as Heard, arrival_of, frame_of, line_after}
 use Rattle.ckrt_gdb_packets.specs.Numbers.{hex_text}
 use Rattle.ckrt_gdb_packets.specs.Requests.{request_of}

@@ -2,7 +2,8 @@
 use Rattle.std.specs.Prelude.{◌≡◌, ℕ, ◌+◌, ◌-◌, ◌^◌, ◌==◌, min, nat_lt, Bool, true, false, if◌then◌else◌, List, [], ◌++◌, length, codes, decimal, Option, Some, None, Result, Ok, Err}
 use Rattle.ckrt_events.specs.declared.command.LineFault.{LineFault}
 use Rattle.ckrt_events.specs.declared.event.Event.{Event}
-use Rattle.ckrt_commands.specs.Replies.{line_fault_text, no_line, refusal_text}
+use Rattle.ckrt_events.specs.Refusals.{line_fault_text, no_line}
+use Rattle.ckrt_machine.specs.RefusalTexts.{refusal_text}
 use Rattle.ckrt_schedule.specs.declared.next.ScheduleEnd.{ScheduleEnd}
 use Rattle.ckrt_schedule.specs.declared.next.ScheduleEnd.TheVariants.{Ended, WaitsForInput, Deadlock, Enough}
 use Rattle.ckrt_gdb_history.specs.declared.forking.AppendFault.{AppendFault}

@@ -1,7 +1,7 @@
 //! The line to gdb.
 ghost use Rattle.std.specs.Prelude.{◌≡◌, ◌∷◌, [], IfErr, IfOk, MatchOption, OnErr, OnOk};
 ghost use Rattle.std.specs.Io.KnownBytes.{Appends, Consumes, IsAtEnd, Keeps};
-ghost use Rattle.ckrt_commands.specs.Writing.{AppendsPart};
+ghost use Rattle.ckrt_disk.specs.Writing.{AppendsPart};
 ghost use Rattle.ckrt_gdb_packets.specs.Framing.{arrival_of, frame_of, line_after};
 ghost use Rattle.ckrt_gdb_packets.specs.Replies.{reply_text};
 ghost use Rattle.ckrt_gdb_stub.specs.declared.stub.Stub.{Stub};
@@ -10,7 +10,7 @@ ghost use Rattle.ckrt_gdb_stub.specs.Conversation.{asked_by, asked_of, begun, co
 
 use crate::fault::DebugFault;
 use arrayvec::ArrayVec;
-use ckrt_commands::write_text;
+use ckrt_disk::write_text;
 use ckrt_gdb_packets::{
     Arrival, FRAME_LIMIT, Payload, Receiver, Reply, Request, parse_request, write_frame,
 };

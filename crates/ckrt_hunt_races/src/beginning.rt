@@ -10,7 +10,7 @@ ghost use Rattle.ckrt_hunt_races.specs.RaceRuns.{IsBegun, IsPutAside, IsSameSize
 use ckrt_hunt_schedules::Shape;
 use ckrt_machine::Machine;
 use ckrt_memory::{Memory, MemoryError};
-use ckrt_restore::{restore_memory, restore_tables};
+use ckrt_stored::{restore_memory, restore_tables};
 use ckrt_state::Tables;
 use std::alloc::Global;
 

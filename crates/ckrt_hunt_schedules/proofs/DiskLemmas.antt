@@ -20,7 +20,7 @@ use Rattle.ckrt_recovery.specs.declared.session.Session.{Session}
 use Rattle.ckrt_recovery.specs.Opening.{IsSyncedAndRead}
 use Rattle.ckrt_recovery.specs.View.{View, opened, view_of}
 use Rattle.ckrt_recovery.specs.Represents.{Represents, RepresentsDisk, acknowledged_of}
-use Rattle.ckrt_commands.specs.Accepts.{Accepts}
+use Rattle.ckrt_recovery.specs.Accepts.{Accepts}
 use Rattle.ckrt_schedule.specs.declared.next.ScheduleEnd.{ScheduleEnd}
 use Rattle.ckrt_hunt_schedules.specs.declared.plan.Plan.{Plan}
 use Rattle.ckrt_hunt_schedules.specs.declared.disks.SeedFault.{SeedFault}

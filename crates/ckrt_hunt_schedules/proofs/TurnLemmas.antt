@@ -10,7 +10,7 @@ use Rattle.ckrt_events.specs.declared.event.Event.TheVariants.{Place, Run, Input
 use Rattle.ckrt_events.specs.Bytes.{RUN_LIMIT}
 use Rattle.ckrt_machine.specs.Steps.{State, hart_of}
 use Rattle.ckrt_machine.specs.Events.{step}
-use Rattle.ckrt_input.specs.Next.{given_by, has_room, next_bytes, next_input}
+use Rattle.ckrt_schedule.specs.Next.{given_by, has_room, next_bytes, next_input}
 use Rattle.ckrt_schedule.specs.Schedules.{idle_until, run_by, ticks_to}
 use Rattle.ckrt_schedule.specs.declared.next.Next.TheVariants.{Submit}
 use Rattle.ckrt_hunt_schedules.specs.declared.plan.Plan.{Plan}

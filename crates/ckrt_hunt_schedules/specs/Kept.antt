@@ -9,7 +9,7 @@ use Rattle.ckrt_recovery.specs.declared.fault.SubmitFault.{SubmitFault}
 use Rattle.ckrt_recovery.specs.declared.fault.SubmitFault.TheVariants as submit
 use Rattle.ckrt_recovery.specs.declared.session.Session.{Session}
 use Rattle.ckrt_recovery.specs.View.{refusal_of, view_of}
-use Rattle.ckrt_commands.specs.Accepts.{Accepts}
+use Rattle.ckrt_recovery.specs.Accepts.{Accepts}
 use Rattle.ckrt_schedule.specs.declared.next.Next.TheVariants.{Submit, End}
 use Rattle.ckrt_schedule.specs.declared.next.ScheduleEnd.{ScheduleEnd}
 use Rattle.ckrt_hunt_schedules.specs.declared.keeping.KeepFault.{KeepFault}

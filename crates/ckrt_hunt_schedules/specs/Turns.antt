@@ -11,7 +11,7 @@ use Rattle.ckrt_events.specs.declared.event.Event.TheVariants.{Place, Run, Tick,
 use Rattle.ckrt_machine.specs.Steps.{hart_of}
 use Rattle.ckrt_machine.specs.Runs.{is_running}
 use Rattle.ckrt_machine.specs.Refusals.{refusal_in}
-use Rattle.ckrt_drive.specs.Given.{given_in}
+use Rattle.ckrt_schedule.specs.Next.{given_in}
 use Rattle.ckrt_schedule.specs.Schedules.{earliest_deadline, idle_until, or_scheduled, run_by}
 use Rattle.ckrt_schedule.specs.declared.next.Next.{Next}
 use Rattle.ckrt_schedule.specs.declared.next.Next.TheVariants.{Submit, End}

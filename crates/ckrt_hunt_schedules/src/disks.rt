@@ -1,7 +1,7 @@
 //! The run of a seed on a disk of its own.
 ghost use Rattle.std.specs.Prelude.{◌≡◌, ◌≤◌, List, IfErr, IfOk, Ok};
 ghost use Rattle.ckrt_events.specs.declared.event.Event.{Event};
-ghost use Rattle.ckrt_commands.specs.Accepts.{Accepts};
+ghost use Rattle.ckrt_recovery.specs.Accepts.{Accepts};
 ghost use Rattle.ckrt_hunt_schedules.specs.Kept.{KeepsRun};
 ghost use Rattle.ckrt_disk.specs.Frame.{IsSameDisk};
 ghost use Rattle.ckrt_stored.specs.Format.{format_refusal};

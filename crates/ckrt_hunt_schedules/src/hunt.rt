@@ -12,8 +12,8 @@ use crate::tally::Tally;
 use crate::turns::Turns;
 use ckrt_machine::Machine;
 use ckrt_memory::{Memory, MemoryError};
-use ckrt_restore::{restore_memory, restore_tables};
 use ckrt_state::Tables;
+use ckrt_stored::{restore_memory, restore_tables};
 use std::alloc::Global;
 use std::marker::Model;
 

@@ -2,7 +2,7 @@
 ghost use Rattle.std.specs.Prelude.{◌≡◌, ◌≤◌, ◌<◌, ◌+◌, true, [], OnOk, OnErr, IfErr, IfOk};
 ghost use Rattle.ckrt_events.specs.Bytes.{IsInRange};
 ghost use Rattle.ckrt_recovery.specs.View.{refusal_of, view_of};
-ghost use Rattle.ckrt_commands.specs.Accepts.{Accepts};
+ghost use Rattle.ckrt_recovery.specs.Accepts.{Accepts};
 ghost use Rattle.ckrt_hunt_schedules.specs.Kept.{GoesOn, IsLeft, IsTaken, KeepsRun, Takes, commit_makes_room};
 ghost use Rattle.ckrt_hunt_schedules.specs.Turns.{IsFit};
 

@@ -2,7 +2,7 @@
 ghost use Rattle.std.specs.Prelude.{◌≡◌, ℕ, Bool, true, false};
 
 use crate::tally::Tally;
-use ckrt_drive::Nobody;
+use ckrt_schedule::Nobody;
 
 /// For how long a hunt takes seeds, and what is told of it meanwhile.
 #[derive(Clone, Copy, Debug, PartialEq, Eq)]

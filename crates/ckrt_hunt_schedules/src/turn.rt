@@ -7,7 +7,7 @@ ghost use Rattle.ckrt_machine.specs.Runs.{is_running};
 ghost use Rattle.ckrt_schedule.specs.Schedules.{IsInRangeNext};
 ghost use Rattle.ckrt_hunt_schedules.specs.declared.made.Made.{Made};
 ghost use Rattle.ckrt_hunt_schedules.specs.declared.plan.Plan.{Plan};
-ghost use Rattle.ckrt_drive.specs.Given.{given_in};
+ghost use Rattle.ckrt_schedule.specs.Next.{given_in};
 ghost use Rattle.ckrt_hunt_schedules.specs.Lots.{lots_of};
 ghost use Rattle.ckrt_hunt_schedules.specs.Turns.{Chooses, IsFitNext, IsNumbered, IsWithin, best_among, better, bytes_of, clock_period, considered, drawn_length, drawn_rank, drawn_tick, drawn_turn, event_for, given_or_next, hart_from, is_clocks, is_enough, length_of, may_run, nearer, next, next_for, next_point, on_or_onto, or_a_tick, or_enough, rank_of, ranked, runner_of, steps_in, steps_of, tick_by, wanted_hart};
 
@@ -16,9 +16,8 @@ use crate::lots::{CLOCK, HART, LENGTH, SCALE, TurnLots, shortest_of};
 use crate::made::Made;
 use crate::plan::Plan;
 use ckrt_events::Event;
-use ckrt_input::next_input;
 use ckrt_machine::Machine;
-use ckrt_schedule::{Next, ScheduleEnd, idle, run_by};
+use ckrt_schedule::{Next, ScheduleEnd, idle, next_input, run_by};
 use ckrt_state::{Status, Tables};
 use ckrt_thread::{Hart, MAX_HARTS, MAX_THREADS, Thread, ThreadId, Threads};
 

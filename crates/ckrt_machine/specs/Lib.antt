@@ -7,3 +7,4 @@ pub mod Events
 pub mod Stores
 pub mod RunsTo
 pub mod Stays
+pub mod RefusalTexts

@@ -60,3 +60,26 @@ pub enum Refusal {
     #[error("OutputFull")]
     OutputFull,
 }
+
+impl Refusal {
+    ghost use Rattle.std.specs.Prelude.{◌≡◌, ◌≤◌, length};
+    ghost use Rattle.ckrt_machine.specs.RefusalTexts.{refusal_text};
+
+    /// Its code and its name, as a session tells them: 20 bytes at most.
+    pub fn text(self) -> &'static [u8]
+        ensures text { result.now ≡ refusal_text self }
+        ensures short { length result.now ≤ 20 }
+    {
+        match self {
+            Refusal::Ended => b"1 Ended".as_slice(),
+            Refusal::NoSuchHart => b"2 NoSuchHart".as_slice(),
+            Refusal::NoSuchThread => b"3 NoSuchThread".as_slice(),
+            Refusal::NotReady => b"4 NotReady".as_slice(),
+            Refusal::HartIdle => b"5 HartIdle".as_slice(),
+            Refusal::InputClosed => b"6 InputClosed".as_slice(),
+            Refusal::InputFull => b"7 InputFull".as_slice(),
+            Refusal::ClockEnd => b"8 ClockEnd".as_slice(),
+            Refusal::OutputFull => b"9 OutputFull".as_slice(),
+        }
+    }
+}

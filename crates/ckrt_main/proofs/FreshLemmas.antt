@@ -16,7 +16,7 @@ use Rattle.ckrt_stored.proofs.RecoverLemmas.{recovered_once, recovers_once}
 use Rattle.ckrt_recovery.specs.View.{View, view_of, opened, fresh}
 use Rattle.ckrt_commands.specs.Transcript.{transcript, view_after}
 use Rattle.ckrt_main.specs.Service.{Processes, Served, ServedPart, Shows}
-use Rattle.ckrt_commands.proofs.WriteLemmas.{Appends-nothing}
+use Rattle.ckrt_disk.proofs.WriteLemmas.{Appends-nothing}
 use Rattle.ckrt_main.proofs.ProcessLemmas.{consumes_nothing}
 
 -- a session that was opened over such a disk

@@ -3,7 +3,7 @@ use Rattle.std.proofs.Common.{◌≡◌, ℕ, ◌+◌, ◌<◌, List, [], ◌∷
 use Rattle.std.specs.Io.KnownBytes.{Appends, Consumes}
 use Rattle.ckrt_commands.specs.Pieces.{TellsPart}
 use Rattle.ckrt_commands.specs.Replies.{Reply, Output, line_of, out_line, outputs}
-use Rattle.ckrt_commands.specs.Writing.{AppendsPart}
+use Rattle.ckrt_disk.specs.Writing.{AppendsPart}
 use Rattle.ckrt_commands.proofs.ReplyLemmas.{outputs-next}
 use Rattle.ckrt_commands.proofs.TellLemmas.{tells_half, tells_more, tells_one}
 use Rattle.ckrt_main.specs.Service.{Writes}

@@ -12,8 +12,8 @@ use Rattle.ckrt_recovery.specs.Represents.{Represents, acknowledged_of}
 use Rattle.ckrt_recovery.specs.View.{view_of}
 use Rattle.ckrt_main.specs.Told.{AcksAreDurable, LinesAgree}
 use Rattle.ckrt_main.specs.Alike.{IsAlike}
-use Rattle.ckrt_commands.proofs.AcceptLemmas.{between_more, since_start}
-use Rattle.ckrt_recovery.proofs.ListLemmas.{begins_itself, fewer_begin}
+use Rattle.ckrt_recovery.proofs.AcceptLemmas.{between_more, since_start}
+use Rattle.ckrt_disk.proofs.ListLemmas.{begins_itself, fewer_begin}
 use Rattle.ckrt_commands.proofs.ReplyLemmas.{all_weaker}
 
 module _ {D : Type 0} {g : Ghosts D} where

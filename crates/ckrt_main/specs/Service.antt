@@ -10,8 +10,9 @@ use Rattle.ckrt_main.specs.declared.fault.ServeFault.TheVariants.{Read, Write, O
 use Rattle.ckrt_recovery.specs.declared.session.Session.{Session}
 use Rattle.ckrt_stored.specs.Programs.{Program}
 use Rattle.ckrt_recovery.specs.Between.{RecoversBetween}
-use Rattle.ckrt_recovery.specs.Lists.{IsBeginningOf}
-use Rattle.ckrt_commands.specs.Accepts.{Accepts, AreOutput}
+use Rattle.ckrt_disk.specs.Lists.{IsBeginningOf}
+use Rattle.ckrt_recovery.specs.Accepts.{Accepts}
+use Rattle.ckrt_commands.specs.Outputs.{AreOutput}
 use Rattle.ckrt_commands.specs.Pieces.{Tells, Responds, Interrupted}
 use Rattle.ckrt_commands.specs.Replies.{Reply, line_of, text_of, oks_of, acks_of, shown_up_to}
 use Rattle.ckrt_recovery.specs.Represents.{Represents, acknowledged_of}

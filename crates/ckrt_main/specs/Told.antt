@@ -9,7 +9,8 @@ use Rattle.ckrt_recovery.specs.Between.{RecoversBetween, StandsIn}
 use Rattle.ckrt_commands.specs.Replies.{acks_of}
 use Rattle.ckrt_recovery.specs.Represents.{Represents}
 use Rattle.ckrt_main.specs.Service.{Processes}
-use Rattle.ckrt_commands.specs.Accepts.{Accepts, AreOutput}
+use Rattle.ckrt_recovery.specs.Accepts.{Accepts}
+use Rattle.ckrt_commands.specs.Outputs.{AreOutput}
 
 -- For each `ack K` that a service wrote, whatever it answered: every image that a stop leaves after the service has ended, while the
 -- session goes on as far as `later`, recovers to a list that begins with the first K of the events represented and accepted.

@@ -1,7 +1,7 @@
 //! The faults of a service.
 ghost use Rattle.std.specs.Prelude.{◌≡◌};
 
-use ckrt_commands::WriteFault;
+use ckrt_disk::WriteFault;
 use thiserror::Error;
 
 /// Why a service ended early.

@@ -5,7 +5,8 @@ ghost use Rattle.ckrt_commands.specs.Replies.{line_of, outputs};
 ghost use Rattle.ckrt_main.specs.Service.{Writes};
 
 use crate::replies::{self, OUTPUT_BYTES};
-use ckrt_commands::{Listener, WriteFault, write_text};
+use ckrt_commands::Listener;
+use ckrt_disk::{WriteFault, write_text};
 use ckrt_machine::Answer;
 use ckrt_recovery::{CommitFault, SubmitFault};
 use std::io::Write;

@@ -2,11 +2,12 @@
 ghost use Rattle.std.specs.Prelude.{◌≡◌, ◌≤◌, ◌+◌, ◌*◌, ◌++◌, [], length, decimal, codes};
 ghost use Rattle.arrayvec.specs.ArrayVec.{array_vec_len};
 ghost use Rattle.hex.specs.Hex.{encode_lower};
-ghost use Rattle.ckrt_commands.specs.Replies.{ok_line, ack_line, no_line, out_line, refusal_text, submit_fault_text, commit_fault_text, line_fault_text, answer_text, run_end_text};
+ghost use Rattle.ckrt_commands.specs.Replies.{ok_line, ack_line, out_line, submit_fault_text, commit_fault_text, answer_text, run_end_text};
+ghost use Rattle.ckrt_events.specs.Refusals.{no_line, line_fault_text};
 
 use arrayvec::ArrayVec;
 use ckrt_events::LineFault;
-use ckrt_machine::{Answer, Refusal, RunEnd};
+use ckrt_machine::{Answer, RunEnd};
 use ckrt_recovery::{CommitFault, SubmitFault};
 
 /// The longest line is one of output: `out `, an offset of at most 20 digits, a space, 128 digits and a line feed.
@@ -132,7 +133,7 @@ pub fn refused_event(fault: SubmitFault) -> Reply
     let text = match fault {
         SubmitFault::Failed => b"21 Failed".as_slice(),
         SubmitFault::NeedsCheckpoint => b"27 NeedsCheckpoint".as_slice(),
-        SubmitFault::Refused(refusal) => refusal_text(refusal),
+        SubmitFault::Refused(refusal) => refusal.text(),
         SubmitFault::BatchFull => b"22 BatchFull".as_slice(),
         SubmitFault::JournalFull => b"23 JournalFull".as_slice(),
         SubmitFault::CountersUsed => b"24 CountersUsed".as_slice(),
@@ -156,32 +157,7 @@ pub fn refused_commit(fault: CommitFault) -> Reply
 pub fn refused_line(fault: LineFault) -> Reply
     ensures { result.items ≡ no_line (line_fault_text fault) }
 {
-    let text = match fault {
-        LineFault::Unknown => b"31 Unknown".as_slice(),
-        LineFault::Number => b"32 Number".as_slice(),
-        LineFault::Hex => b"33 Hex".as_slice(),
-        LineFault::Range => b"34 Range".as_slice(),
-        LineFault::TooLong => b"35 TooLong".as_slice(),
-    };
-    no(text)
-}
-
-/// Code and name of a refusal of the machine.
-fn refusal_text(refusal: Refusal) -> &'static [u8]
-    ensures text { result.now ≡ refusal_text refusal }
-    ensures short { length result.now ≤ 20 }
-{
-    match refusal {
-        Refusal::Ended => b"1 Ended".as_slice(),
-        Refusal::NoSuchHart => b"2 NoSuchHart".as_slice(),
-        Refusal::NoSuchThread => b"3 NoSuchThread".as_slice(),
-        Refusal::NotReady => b"4 NotReady".as_slice(),
-        Refusal::HartIdle => b"5 HartIdle".as_slice(),
-        Refusal::InputClosed => b"6 InputClosed".as_slice(),
-        Refusal::InputFull => b"7 InputFull".as_slice(),
-        Refusal::ClockEnd => b"8 ClockEnd".as_slice(),
-        Refusal::OutputFull => b"9 OutputFull".as_slice(),
-    }
+    no(fault.text())
 }
 
 fn no(text: &[u8]) -> Reply

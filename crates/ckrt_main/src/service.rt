@@ -9,14 +9,14 @@ ghost use Rattle.ckrt_commands.specs.Transcript.{view_after};
 ghost use Rattle.ckrt_recovery.specs.View.{view_of};
 ghost use Rattle.ckrt_main.specs.Service.{is_open, Writes, Processed, ProcessedPart, Processes, Completes, Served};
 ghost use Rattle.ckrt_commands.specs.Pieces.{Answers, BreaksOff};
-ghost use Rattle.ckrt_commands.specs.Writing.{AppendsPart};
+ghost use Rattle.ckrt_disk.specs.Writing.{AppendsPart};
 
 use crate::fault::ServeFault;
 use crate::lines::Lines;
 use crate::replies;
 use arrayvec::ArrayVec;
-use ckrt_commands::{perform, release, write_text};
-use ckrt_disk::Disk;
+use ckrt_commands::{perform, release};
+use ckrt_disk::{Disk, write_text};
 use ckrt_events::{Command, LineFault, parse_command};
 use ckrt_recovery::Session;
 use std::io::{ErrorKind, Read, Write};

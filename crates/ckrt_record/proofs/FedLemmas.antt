@@ -22,7 +22,7 @@ use Rattle.ckrt_stored.specs.Recovery.{◌>>=◌, Recovered, Recovers, events_of
 use Rattle.ckrt_stored.proofs.AreaLemmas.{IsInUse, is_in_use}
 use Rattle.ckrt_stored.proofs.RecoverLemmas.{IsKnown, found, known, same_found}
 use Rattle.ckrt_stored.proofs.GrowthLemmas.{had_chain, kept_area, uses}
-use Rattle.ckrt_input.specs.Taken.{bytes_of, input_of, taken_by}
+use Rattle.ckrt_schedule.specs.Taken.{bytes_of, input_of, taken_by}
 use Rattle.ckrt_record.specs.declared.slot.Slot.{Slot}
 use Rattle.ckrt_record.specs.Slot.{slot_at, slot_of}
 use Rattle.ckrt_record.specs.Offset.{is_first, journaled, recorded_in, saved_offset, taken_in, with_saved}

@@ -25,7 +25,7 @@ use Rattle.ckrt_recovery.specs.Represents.{RecoversToEither, Represents, acknowl
 use Rattle.ckrt_recovery.specs.declared.session.Session.{Session}
 use Rattle.ckrt_recovery.proofs.CommitLemmas.{decoded, now_like}
 use Rattle.ckrt_recovery.proofs.SpareLemmas.{AtRisk, recovers_spared}
-use Rattle.ckrt_input.specs.Taken.{taken_by}
+use Rattle.ckrt_schedule.specs.Taken.{taken_by}
 use Rattle.ckrt_record.specs.declared.slot.Slot.{Slot}
 use Rattle.ckrt_record.specs.Slot.{slot_at, slot_of, slot_offset}
 use Rattle.ckrt_record.specs.Fed.{IsFed}

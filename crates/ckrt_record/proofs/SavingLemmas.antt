@@ -19,7 +19,7 @@ use Rattle.ckrt_recovery.specs.declared.fault.CommitFault.{CommitFault}
 use Rattle.ckrt_recovery.specs.declared.fault.CommitFault.TheVariants.{Failed, Device, GenerationsUsed}
 use Rattle.ckrt_recovery.specs.declared.session.Session.{Session}
 use Rattle.ckrt_recovery.proofs.SessionLemmas.{recovers_either}
-use Rattle.ckrt_input.specs.Taken.{taken_by}
+use Rattle.ckrt_schedule.specs.Taken.{taken_by}
 use Rattle.ckrt_record.specs.declared.slot.Slot.{Slot}
 use Rattle.ckrt_record.specs.Fed.{RecoversFed}
 use Rattle.ckrt_record.specs.Keeping.{KeepsInput, RecordsAt, RecoversFedEither, WritesRecord}

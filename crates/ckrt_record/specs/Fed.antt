@@ -5,7 +5,7 @@ use Rattle.ckrt_checkpoint.specs.declared.area.Area.{Area}
 use Rattle.ckrt_checkpoint.specs.declared.config.Config.{Config}
 use Rattle.ckrt_stored.specs.Programs.{Program, RecoversTo, RecoversToStart}
 use Rattle.ckrt_stored.specs.Recovery.{events_of_batches, in_use}
-use Rattle.ckrt_input.specs.Taken.{taken_by}
+use Rattle.ckrt_schedule.specs.Taken.{taken_by}
 use Rattle.ckrt_record.specs.Offset.{journaled, offset_of, saved_offset}
 
 -- An area has the state after the first of these events, its journal has the others, and it is known how much the first took.

@@ -13,7 +13,7 @@ use Rattle.ckrt_recovery.specs.Represents.{RecoversAtAnyMoment, Represents, Repr
 use Rattle.ckrt_recovery.specs.View.{opened, view_of}
 use Rattle.ckrt_recovery.specs.declared.fault.CommitFault.{CommitFault}
 use Rattle.ckrt_recovery.specs.declared.session.Session.{Session}
-use Rattle.ckrt_input.specs.Taken.{taken_by}
+use Rattle.ckrt_schedule.specs.Taken.{taken_by}
 use Rattle.ckrt_record.specs.Fed.{IsFed, RecoversFed}
 use Rattle.ckrt_record.specs.Slot.{SLOT_BYTES, slot_at}
 

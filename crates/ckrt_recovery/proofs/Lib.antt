@@ -1,4 +1,3 @@
-pub mod ListLemmas
 mod PageLemmas
 mod PendingLemmas
 mod SubmitLemmas
@@ -9,3 +8,5 @@ mod CheckpointLemmas
 pub mod RoomLemmas
 pub mod ReachedLemmas
 pub mod SpareLemmas
+pub mod AcceptLemmas
+pub mod AnswerLemmas

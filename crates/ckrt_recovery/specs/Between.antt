@@ -1,7 +1,7 @@
 -- What a stop leaves between two moments, and what a reader of the output is told of it.
 use Rattle.std.specs.Prelude.{◌≡◌, ℕ, List, ◌++◌, length}
 use Rattle.ckrt_events.specs.declared.event.Event.{Event}
-use Rattle.ckrt_recovery.specs.Lists.{IsBeginningOf}
+use Rattle.ckrt_disk.specs.Lists.{IsBeginningOf}
 use Rattle.ckrt_stored.specs.Programs.{Program, RecoversTo}
 
 -- The image recovers to events that begin with the acknowledged ones and are a beginning of all, with output held from an offset on that is

@@ -3,3 +3,4 @@ mod SearchLemmas
 pub mod TurnLemmas
 pub mod ClockLemmas
 pub mod RunTurnLemmas
+pub mod NextLemmas

@@ -8,3 +8,6 @@ pub mod PastFaultLemmas
 pub mod PageLemmas
 mod SaveLemmas
 mod FormatLemmas
+mod FillLemmas
+pub mod EmptyingLemmas
+pub mod RowLemmas

@@ -7,3 +7,5 @@ pub mod Programs
 pub mod Fields
 pub mod Format
 pub mod Past
+pub mod Filling
+pub mod Emptying

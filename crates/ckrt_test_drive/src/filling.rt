@@ -3,7 +3,7 @@
 
 use crate::expect::{expect_eq_at, filled, memory_disk, stopping_disk};
 use crate::small_disk::{SMALL, format_outcome, recovered};
-use ckrt_blank_disk::fill_up;
+use ckrt_stored::fill_up;
 use ckrt_disk::{Disk, MemoryDisk};
 use ckrt_recovery::FormatFault;
 use ckrt_test_data::{IMAGE, SIZE};

@@ -1,7 +1,7 @@
 //! What is given next, by the machine of a program that doesn't read.
 
 use ckrt_events::Event;
-use ckrt_input::{next_input, taken_by};
+use ckrt_schedule::{next_input, taken_by};
 use ckrt_machine::Machine;
 use std::process::Abort;
 

@@ -20,7 +20,7 @@ use Rattle.ckrt_schedule.specs.declared.schedule.Schedule.{Schedule}
 use Rattle.ckrt_schedule.specs.declared.schedule.Sought.TheVariants.{Busy}
 use Rattle.ckrt_schedule.specs.declared.schedule.Turn.{Turn}
 use Rattle.ckrt_schedule.proofs.TurnLemmas.{of_running, same_event}
-use Rattle.ckrt_cli_disk.specs.Driving.{IsRecovered}
+use Rattle.ckrt_recovery.specs.Recovered.{IsRecovered}
 use Rattle.ckrt_drive.specs.Plan.{schedule_of}
 use Rattle.ckrt_drive.specs.Stages.{Stage, stage}
 use Rattle.ckrt_drive.specs.declared.options.Options.{Options}

@@ -1,7 +1,7 @@
 -- What a disk holds once an event is committed, and what a stop leaves behind a service.
 use Rattle.std.proofs.Common.{◌≡◌, ◌∙◌, ◌<◌, ℕ, true, false, [], ◌∷◌, ◌++◌, List, Option, None, Err, Result, Some, ap, inl, inr, refl, subst, sym, take}
 use Rattle.std.specs.Prelude.{◌≤◌, ◌≢◌, ◌⊎◌, IfSome, is_err}
-use Rattle.ckrt_commands.specs.Accepts.{Accepts}
+use Rattle.ckrt_recovery.specs.Accepts.{Accepts}
 use Rattle.ckrt_disk.specs.Disk.{IsImage}
 use Rattle.ckrt_disk.specs.declared.disk.Disk.{Ghosts}
 use Rattle.ckrt_drive_theorem.proofs.LeftLemmas.{starts_formatted}

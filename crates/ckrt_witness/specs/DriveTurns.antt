@@ -2,7 +2,7 @@
 use Rattle.std.specs.Prelude.{◌≡◌, ◌≤◌, ℕ, true, None, [], ◌∷◌, length}
 use Rattle.ckrt_disk.specs.declared.disk.Disk.{Ghosts}
 use Rattle.ckrt_thread.specs.State.{is_ready}
-use Rattle.ckrt_recovery.specs.Lists.{IsBeginningOf}
+use Rattle.ckrt_disk.specs.Lists.{IsBeginningOf}
 use Rattle.ckrt_schedule.specs.Turns.{given_among, turns_within}
 use Rattle.ckrt_stored.specs.Programs.{Program, RecoversToStart, state_after}
 use Rattle.ckrt_drive_theorem.specs.ByPlan.{Course, IsByPlanFrom}

@@ -2,7 +2,7 @@
 use Rattle.std.specs.Prelude.{◌≡◌, ◌≢◌, ◌<◌, ℕ, List, [], Some, Ok}
 use Rattle.ckrt_disk.specs.Disk.{HasFailed}
 use Rattle.ckrt_disk.specs.declared.disk.Disk.{Ghosts}
-use Rattle.ckrt_commands.specs.Accepts.{Accepts}
+use Rattle.ckrt_recovery.specs.Accepts.{Accepts}
 use Rattle.ckrt_events.specs.declared.event.Event.{Event}
 use Rattle.ckrt_cli_disk.specs.Printing.{HoldsEvents}
 use Rattle.ckrt_cli_disk.specs.Running.{IsUnrecovered, Serves, ServesAll}

@@ -6,7 +6,7 @@ use crate::closed::{SMALL, copied};
 use crate::closed_machine::WAITERS;
 use crate::lives::live_four_times;
 use ckrt_events::{Command, Event};
-use ckrt_lives::Life;
+use ckrt_commands::Life;
 use ckrt_recovery::Config;
 use std::process::Abort;
 

@@ -1,6 +1,6 @@
 //! Runs of a disk and services of lines, as the laws of what was printed and told speak of them.
 ghost use Rattle.std.specs.Prelude.{◌≡◌, ◌≢◌, ◌∷◌, ◌≤◌, ◌<◌, ℕ, List, [], IfSome, true};
-ghost use Rattle.ckrt_commands.specs.Accepts.{Accepts};
+ghost use Rattle.ckrt_recovery.specs.Accepts.{Accepts};
 ghost use Rattle.ckrt_disk.specs.Disk.{HasFailed};
 ghost use Rattle.ckrt_events.specs.Bytes.{IsInRange};
 ghost use Rattle.ckrt_events.specs.declared.event.Event.{Event};

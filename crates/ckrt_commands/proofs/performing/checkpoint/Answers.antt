@@ -3,8 +3,8 @@ use Rattle.ckrt_commands.specs.Pieces.{Tells, ends}
 use Rattle.ckrt_commands.specs.Replies.{Acknowledged, NotSaved}
 use Rattle.ckrt_commands.specs.Transcript.{checkpoint, output}
 use Rattle.ckrt_recovery.specs.View.{view_of}
-use Rattle.ckrt_commands.proofs.AcceptLemmas.{accepts_checkpoint}
-use Rattle.ckrt_commands.proofs.WriteLemmas.{map_err, map_ok, on_err}
+use Rattle.ckrt_recovery.proofs.AcceptLemmas.{accepts_checkpoint}
+use Rattle.ckrt_disk.proofs.WriteLemmas.{map_err, map_ok, on_err}
 use Rattle.ckrt_commands.proofs.ResponseLemmas.{number_at, said, half_said, says_saved, says_unsaved, acknowledged_then, acknowledged_broken}
 use Rattle.ckrt_commands.proofs.performing.checkpoint.Goals as goal
 

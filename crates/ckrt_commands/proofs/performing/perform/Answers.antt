@@ -4,7 +4,7 @@ use Rattle.ckrt_commands.specs.Pieces.{Tells, Answers, BreaksOff, ends}
 use Rattle.ckrt_commands.specs.Transcript.{respond}
 use Rattle.ckrt_recovery.specs.View.{view_of}
 use Rattle.ckrt_commands.proofs.PieceLemmas.{silent}
-use Rattle.ckrt_commands.proofs.WriteLemmas.{on_err}
+use Rattle.ckrt_disk.proofs.WriteLemmas.{on_err}
 use Rattle.ckrt_commands.proofs.performing.perform.Goals as goal
 
 pub returns-in-Quit-clause-ok : goal.returns-in-Quit-clause-ok

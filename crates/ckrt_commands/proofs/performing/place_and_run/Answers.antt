@@ -1,7 +1,7 @@
 use Rattle.std.proofs.Common.{false, sym}
 use Rattle.ckrt_events.specs.declared.event.Event.TheVariants.{Place, Run}
 use Rattle.ckrt_commands.specs.Transcript.{submit}
-use Rattle.ckrt_commands.proofs.WriteLemmas.{on_err}
+use Rattle.ckrt_disk.proofs.WriteLemmas.{on_err}
 use Rattle.ckrt_commands.proofs.ResponseLemmas.{accepted_then, accepted_broken, refused_then, broken_before}
 use Rattle.ckrt_commands.proofs.performing.place_and_run.Goals as goal
 

@@ -2,8 +2,8 @@ use Rattle.std.proofs.Common.{◌≤◌, ◌+◌, ◌∙◌, [], length, ap, sym
 use Rattle.ckrt_recovery.specs.View.{View, view_of, confirmed_to}
 use Rattle.ckrt_commands.specs.Pieces.{Tells, TellsPart}
 use Rattle.ckrt_commands.specs.Replies.{outputs}
-use Rattle.ckrt_commands.proofs.AcceptLemmas.{accepts_confirmed}
-use Rattle.ckrt_commands.proofs.WriteLemmas.{on_err}
+use Rattle.ckrt_recovery.proofs.AcceptLemmas.{accepts_confirmed}
+use Rattle.ckrt_disk.proofs.WriteLemmas.{on_err}
 use Rattle.ckrt_commands.proofs.ResponseLemmas.{answers_output, broken_output}
 use Rattle.ckrt_commands.proofs.performing.release.Goals as goal
 

@@ -4,7 +4,7 @@ use Rattle.ckrt_machine.specs.Events as machine
 use Rattle.ckrt_commands.specs.Transcript.{run_planned}
 use Rattle.ckrt_recovery.specs.View.{view_of}
 use Rattle.ckrt_commands.specs.Pieces.{Tells, Responds, Interrupted, ends}
-use Rattle.ckrt_commands.proofs.WriteLemmas.{on_err}
+use Rattle.ckrt_disk.proofs.WriteLemmas.{on_err}
 use Rattle.ckrt_commands.proofs.performing.run_planned.Goals as goal
 
 pub returns-in-Some-clause-ok : goal.returns-in-Some-clause-ok

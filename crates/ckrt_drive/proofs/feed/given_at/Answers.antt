@@ -1,8 +1,8 @@
 use Rattle.std.proofs.Common.{rules, ◌≡◌, ◌+◌, ◌∙◌, length, take, drop, true, ap, sym, subst, arith}
 use Rattle.std.specs.Prelude.{IfSome, is_none, ◌≤◌, [], ◌∷◌}
 use Rattle.ckrt_events.specs.Bytes.{IsInRange}
-use Rattle.ckrt_input.specs.Next.{next_input}
-use Rattle.ckrt_input.specs.Taken.{taken_by}
+use Rattle.ckrt_schedule.specs.Next.{next_input}
+use Rattle.ckrt_schedule.specs.Taken.{taken_by}
 use Rattle.ckrt_drive.proofs.GivenLemmas.{few_next, in_range, none_window}
 use Rattle.ckrt_drive.proofs.feed.given_at.Goals as goal
 

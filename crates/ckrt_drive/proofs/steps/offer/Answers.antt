@@ -1,7 +1,8 @@
 use Rattle.std.proofs.Common.{rules, ◌≡◌, ◌+◌, ◌∙◌, Ok, sym}
 use Rattle.ckrt_machine.specs.Events as machine
 use Rattle.ckrt_recovery.specs.View.{view_of, refusal_of}
-use Rattle.ckrt_drive.proofs.SaveLemmas.{at_ok, taken, refused, at_none, at_some, advances_taken, advances_short, advances_refused}
+use Rattle.ckrt_drive.proofs.SaveLemmas.{advances_taken, advances_short, advances_refused}
+use Rattle.ckrt_recovery.proofs.AnswerLemmas.{at_ok, taken, refused, at_none, at_some}
 use Rattle.ckrt_drive.proofs.steps.offer.Goals as goal
 
 pub returns-in-Ok : goal.returns-in-Ok

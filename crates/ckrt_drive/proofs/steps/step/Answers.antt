@@ -1,6 +1,7 @@
 use Rattle.std.proofs.Common.{rules, ◌≡◌, Err, refl, sym, subst, arith}
 use Rattle.ckrt_recovery.specs.View.{view_of}
-use Rattle.ckrt_drive.specs.Given.{CountsRead, given_in, record_of}
+use Rattle.ckrt_drive.specs.Given.{CountsRead, record_of}
+use Rattle.ckrt_schedule.specs.Next.{given_in}
 use Rattle.ckrt_drive.specs.Steps.{aim_of}
 use Rattle.ckrt_drive.specs.declared.supply.Supply.{Supply}
 use Rattle.ckrt_drive.proofs.GivenLemmas.{few_taken}

@@ -1,6 +1,6 @@
 use Rattle.std.proofs.Common.{◌≡◌, ◌∙◌, ◌≤◌, ◌+◌, ◌-◌, ◌*◌, ◌++◌, length, take, drop, ap, sym, subst, arith}
 use Rattle.ckrt_memory.specs.Pages.{with_page}
-use Rattle.ckrt_restore.proofs.RowLemmas.{page_more, page_size}
+use Rattle.ckrt_stored.proofs.RowLemmas.{page_more, page_size}
 use Rattle.ckrt_gdb_history.proofs.pages.copy_memory.Goals as goal
 
 pub loop-page-preserved : goal.loop-page-preserved

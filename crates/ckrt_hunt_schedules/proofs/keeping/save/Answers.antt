@@ -1,6 +1,6 @@
 use Rattle.std.proofs.Common.{◌≤◌, ◌∙◌, [], arith}
-use Rattle.ckrt_commands.proofs.AcceptLemmas.{accepts_commit, accepts_confirmed, accepts_more, failed_commit}
-use Rattle.ckrt_drive.proofs.SaveLemmas.{at_ok}
+use Rattle.ckrt_recovery.proofs.AcceptLemmas.{accepts_commit, accepts_confirmed, accepts_more, failed_commit}
+use Rattle.ckrt_recovery.proofs.AnswerLemmas.{at_ok}
 use Rattle.ckrt_hunt_schedules.proofs.KeepLemmas.{all_dropped, all_saved}
 use Rattle.ckrt_hunt_schedules.proofs.keeping.save.Goals as goal
 

@@ -1,7 +1,7 @@
 use Rattle.std.proofs.Common.{rules, ◌≡◌, ◌+◌, Ok}
 use Rattle.ckrt_machine.specs.Events.{step}
 use Rattle.ckrt_recovery.specs.View.{view_of, refusal_of}
-use Rattle.ckrt_drive.proofs.SaveLemmas.{at_ok, at_none, at_some, refused, taken}
+use Rattle.ckrt_recovery.proofs.AnswerLemmas.{at_ok, at_none, at_some, refused, taken}
 use Rattle.ckrt_hunt_schedules.proofs.KeepLemmas.{is_taken}
 use Rattle.ckrt_hunt_schedules.proofs.keeping.submit.Goals as goal
 

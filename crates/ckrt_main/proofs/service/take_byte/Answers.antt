@@ -9,7 +9,7 @@ use Rattle.ckrt_main.specs.Service.{Writes}
 use Rattle.ckrt_commands.specs.Pieces.{Answers, BreaksOff}
 use Rattle.ckrt_main.proofs.LineLemmas.{is_open-more}
 use Rattle.ckrt_main.proofs.ProcessLemmas.{processed_newline, processed_newline_part, processed_byte, processed_full}
-use Rattle.ckrt_commands.proofs.WriteLemmas.{on_err}
+use Rattle.ckrt_disk.proofs.WriteLemmas.{on_err}
 use Rattle.ckrt_main.proofs.service.take_byte.Goals as goal
 
 pub returns-then-byte-eq10-clause-processed : goal.returns-then-byte-eq10-clause-processed

@@ -4,7 +4,7 @@ use Rattle.ckrt_disk.specs.declared.disk.Disk.{Ghosts}
 use Rattle.ckrt_recovery.specs.declared.session.Session.{Session}
 use Rattle.ckrt_main.specs.Service.{Processed, ProcessedPart}
 use Rattle.ckrt_main.proofs.ProcessLemmas.{processed_more, processed_quit, processed_nothing, processed_part_more, processed_part_longer}
-use Rattle.ckrt_commands.proofs.WriteLemmas.{on_err}
+use Rattle.ckrt_disk.proofs.WriteLemmas.{on_err}
 use Rattle.ckrt_main.proofs.service.take_bytes.Goals as goal
 
 module _ {D : Type 0} {g : Ghosts D} where

@@ -7,7 +7,7 @@ use Rattle.ckrt_main.specs.Service.{Writes}
 use Rattle.ckrt_commands.specs.Pieces.{Answers, ends}
 use Rattle.ckrt_commands.proofs.PieceLemmas.{silent}
 use Rattle.ckrt_main.proofs.ProcessLemmas.{answers_last, broken_last}
-use Rattle.ckrt_commands.proofs.WriteLemmas.{on_err}
+use Rattle.ckrt_disk.proofs.WriteLemmas.{on_err}
 use Rattle.ckrt_main.proofs.service.take_end.Goals as goal
 
 pub returns-then-is_empty-clause-ok : goal.returns-then-is_empty-clause-ok

@@ -1,5 +1,5 @@
 use Rattle.std.proofs.Common.{rules, ◌≡◌, ◌-◌, ◌<◌, ◌^◌, ◌∙◌, min, take, drop, ap, sym}
-use Rattle.ckrt_input.specs.Next.{next_input}
+use Rattle.ckrt_schedule.specs.Next.{next_input}
 use Rattle.ckrt_drive.proofs.GivenLemmas.{fewer, sum_small, window_bytes}
 use Rattle.ckrt_drive.proofs.feed.FromDiskFeed.next.Goals as goal
 

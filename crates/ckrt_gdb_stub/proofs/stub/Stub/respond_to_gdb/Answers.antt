@@ -1,7 +1,7 @@
 use Rattle.std.proofs.Common.{◌≡◌, Err, refl, rules}
 use Rattle.ckrt_gdb_packets.specs.Framing.{frame_of}
 use Rattle.ckrt_gdb_stub.specs.Conversation.{RepliesToGdb}
-use Rattle.ckrt_commands.proofs.WriteLemmas.{Appends-nothing}
+use Rattle.ckrt_disk.proofs.WriteLemmas.{Appends-nothing}
 use Rattle.ckrt_gdb_stub.specs.declared.fault.DebugFault.TheVariants.{Refused}
 use Rattle.ckrt_gdb_stub.proofs.ConversationLemmas.{answers_err, no_memory, writer_broke}
 use Rattle.ckrt_gdb_stub.proofs.stub.Stub.respond_to_gdb.Goals as goal

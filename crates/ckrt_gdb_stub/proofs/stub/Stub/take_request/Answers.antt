@@ -1,5 +1,5 @@
 use Rattle.std.proofs.Common.{[], refl}
-use Rattle.ckrt_commands.proofs.WriteLemmas.{Appends-nothing}
+use Rattle.ckrt_disk.proofs.WriteLemmas.{Appends-nothing}
 use Rattle.ckrt_gdb_stub.proofs.stub.Stub.take_request.Goals as goal
 
 pub returns-in_default-clause-whole : goal.returns-in_default-clause-whole

@@ -1,0 +1,5 @@
+pub mod SoundLemmas
+pub mod ServedLemmas
+mod AppendLemmas
+mod InputLemmas
+mod KeepLemmas

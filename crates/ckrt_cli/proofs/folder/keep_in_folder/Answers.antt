@@ -1,0 +1,12 @@
+use Rattle.std.proofs.Common.{inr, subst}
+use Rattle.ckrt_hunt_schedules.specs.Tallies.{Hunted}
+use Rattle.ckrt_cli.specs.Hunting.{KeepsEach, folder_at, reached, sought_in}
+use Rattle.ckrt_cli.proofs.folder.keep_in_folder.Goals as goal
+
+-- there was room
+pub returns : goal.returns
+returns g c =
+    let at = c.args.at.now in
+    let old = reached (g.S.Closes.openings c.args.sources.now) (g.W.Write.contents c.args.writer.now) in
+    let new = reached (g.S.Closes.openings c.keep_rows.new.sources) (g.W.Write.contents c.keep_rows.new.writer) in
+    inr (subst (λ (h : Hunted). KeepsEach g.D.Disk (sought_in h at.told (g.S.Sources.fills c.args.sources.now)) (folder_at at) old new c.keep_rows.result) c.in-Ok.ensures.hunted c.keep_rows.ensures)

@@ -1,0 +1,172 @@
+//! The run of a seed on a disk of a path, by the shortest schedule that is found, or as it was drawn.
+ghost use Rattle.std.specs.Prelude.{◌≡◌, ◌⊎◌, Ok, Result, true};
+ghost use Rattle.ckrt_cli_faults.specs.declared.fault.JobFault.{JobFault};
+ghost use Rattle.ckrt_checkpoint.specs.Layout.{is_valid, size_needed};
+ghost use Rattle.ckrt_stored.specs.Programs.{formatted_program};
+ghost use Rattle.ckrt_hunt_schedules.specs.Short.{IsFound};
+ghost use Rattle.ckrt_hunt_schedules.specs.Table.{kept_text};
+ghost use Rattle.ckrt_hunt_schedules.specs.Tallies.{hunted_of};
+ghost use Rattle.ckrt_cli.specs.Keeping.{Keeps};
+ghost use Rattle.ckrt_cli.specs.Hunting.{IsAsDrawn, KeepsFound, LacksRoom, TellsKept, reached, room_fault_of, sought_by, sought_in};
+
+use crate::keeping::{Kept, keep};
+use ckrt_cli_faults::JobFault;
+use ckrt_cli_files::Sources;
+use ckrt_disk::Disk;
+use ckrt_hunt_schedules::{Found, Hunt, Input, Row, Shape, Tries, as_drawn, room_for, write_kept};
+use ckrt_main::ServeFault;
+use ckrt_memory::MemoryError;
+use ckrt_recovery::{Config, FormatFault};
+use std::alloc::Global;
+use std::io::{Read, Write};
+
+/// A hunt that was told: of which image, with which input, the sizes of disks for its runs, the first seed, the outcomes, and whether
+/// runs are kept as they were drawn.
+#[derive(Clone, Copy)]
+pub(crate) struct ToldHunt<'b, 'i> {
+    pub(crate) config: Config,
+    pub(crate) image: &'b [u8],
+    pub(crate) shape: Shape,
+    pub(crate) input: Input<'i>,
+    pub(crate) first: u64,
+    pub(crate) rows: &'b [Row],
+    pub(crate) as_drawn: bool,
+}
+
+/// A hunt that was told, and the path of the disk or of the folder where runs of it are kept.
+#[derive(Clone, Copy)]
+pub(crate) struct KeptAt<'a, 'b, 'i> {
+    pub(crate) path: &'a str,
+    pub(crate) told: ToldHunt<'b, 'i>,
+}
+
+/// What the job answers where there is no room to look for a shorter schedule.
+pub(crate) fn room_fault_of(fault: MemoryError) -> JobFault
+    ensures { result ≡ room_fault_of fault }
+{
+    match fault {
+        MemoryError::ImageTooLong => JobFault::Format(FormatFault::ImageTooLong),
+        MemoryError::OutOfMemory => JobFault::OutOfMemory,
+    }
+}
+
+/// Says which run was kept, and flushes that.
+#[tactic(auto, using(crate::proofs::AppendLemmas::appends_kept))]
+fn tell_kept<W: Write>(
+    writer: &mut W,
+    seed: u64,
+    path: &str,
+    found: &Found<'_>,
+) -> Result<(), JobFault>
+    ensures { TellsKept (kept_text seed path.now found.now)
+        (W.contents writer.old) (W.contents writer.new) (Ok tt) result }
+{
+    if write_kept(writer, seed, path, found).is_err() {
+        return Err(JobFault::Serve(ServeFault::Write));
+    }
+    match writer.flush() {
+        Ok(()) => Ok(()),
+        Err(_) => Err(JobFault::Serve(ServeFault::Write)),
+    }
+}
+
+/// The plan by which the run of a seed is kept: as it was drawn, or the shortest schedule that is found.
+fn plan_for<'a, 'i: 'a>(
+    hunt: &mut Hunt<'i>,
+    seed: u64,
+    tries: &'a mut Tries,
+    is_drawn: bool,
+) -> Found<'a>
+    ensures found { IsFound hunt.old seed result }
+    ensures drawn { IsAsDrawn hunt.old seed is_drawn result }
+    ensures same { hunt.new ≡ hunt.old }
+{
+    if is_drawn {
+        return as_drawn(hunt, seed);
+    }
+    tries.search(hunt, seed);
+    tries.found(hunt, seed)
+}
+
+/// Keeps the run of the plan that was found for a seed on a disk of a path, and says so.
+fn keep_found<'a, I: Read, D: Disk, S: Sources<'a, I, D>, W: Write>(
+    alloc: Global,
+    seed: u64,
+    found: &Found<'_>,
+    what: &Kept<'a, '_>,
+    sources: &mut S,
+    writer: &mut W,
+) -> Result<(), JobFault>
+    requires { is_valid what.now.config ≡ true }
+    ensures { (kept : Result (Unit {0}) JobFault)
+        × Keeps D.Disk (record {
+          program = formatted_program what.now.config what.now.image.now;
+          plan = found.now.plan;
+          path = what.now.path.now;
+          Fills = S.fills sources.old what.now.path.now (size_needed what.now.config);
+        })
+        (S.openings sources.old) (S.openings sources.new) kept
+        × TellsKept (kept_text seed what.now.path.now found.now)
+        (W.contents writer.old) (W.contents writer.new) kept result }
+{
+    match keep::<I, D, S>(alloc, what, &found.plan, sources) {
+        Ok(()) => tell_kept(writer, seed, what.path, found),
+        Err(fault) => Err(fault),
+    }
+}
+
+/// Keeps the run of a seed on a disk of a path, by the plan that is found, and says so.
+pub(crate) fn keep_run<'a, I: Read, D: Disk, S: Sources<'a, I, D>, W: Write>(
+    alloc: Global,
+    seed: u64,
+    hunt: &mut Hunt<'_>,
+    tries: &mut Tries,
+    what: &Kept<'a, '_>,
+    sources: &mut S,
+    writer: &mut W,
+) -> Result<(), JobFault>
+    requires { is_valid what.now.config ≡ true }
+    ensures kept { KeepsFound D.Disk
+        (sought_by hunt.old seed what.now.as_drawn what.now.config what.now.image.now
+        (λ path. S.fills sources.old path (size_needed what.now.config)))
+        what.now.path.now (reached (S.openings sources.old) (W.contents writer.old))
+        (reached (S.openings sources.new) (W.contents writer.new)) result }
+    ensures same { hunt.new ≡ hunt.old }
+{
+    let found = plan_for(hunt, seed, tries, what.as_drawn);
+    keep_found::<I, D, S, W>(alloc, seed, &found, what, sources, writer)
+}
+
+/// Keeps the run of the first seed on the disk of a path, by the plan that is found.
+pub(crate) fn keep_first<'a, I: Read, D: Disk, S: Sources<'a, I, D>, W: Write>(
+    alloc: Global,
+    at: &KeptAt<'a, '_, '_>,
+    sources: &mut S,
+    writer: &mut W,
+) -> Result<(), JobFault>
+    requires { is_valid at.now.told.config ≡ true }
+    ensures { LacksRoom (reached (S.openings sources.old) (W.contents writer.old))
+        (reached (S.openings sources.new) (W.contents writer.new)) result
+        ⊎ KeepsFound D.Disk
+        (sought_in (hunted_of at.now.told.image.now at.now.told.shape at.now.told.input)
+        at.now.told
+        (S.fills sources.old))
+        at.now.path.now (reached (S.openings sources.old) (W.contents writer.old))
+        (reached (S.openings sources.new) (W.contents writer.new)) result }
+{
+    let told = &at.told;
+    let (hunt, tries) = match room_for(alloc, told.image, told.shape, told.input) {
+        Ok(room) => room,
+        Err(fault) => return Err(room_fault_of(fault)),
+    };
+    let mut hunt = hunt;
+    let mut tries = tries;
+    let what = Kept {
+        path: at.path,
+        config: told.config,
+        image: told.image,
+        as_drawn: told.as_drawn,
+    };
+    let (hunt, tries) = (&mut hunt, &mut tries);
+    keep_run::<I, D, S, W>(alloc, told.first, hunt, tries, &what, sources, writer)
+}

@@ -1,0 +1,121 @@
+//! Looking at a stretch of what a disk has recorded.
+ghost use Rattle.std.specs.Prelude.{◌≡◌, ℕ, List, Option, Result};
+ghost use Rattle.ckrt_disk.specs.Frame.{IsOnlyRead};
+ghost use Rattle.ckrt_inspect.specs.Inspect.{is_device};
+ghost use Rattle.ckrt_look_calls.specs.Stretches.{TellsStretch};
+ghost use Rattle.ckrt_cli_words.specs.Jobs.{disk_stretch_of};
+ghost use Rattle.ckrt_cli_faults.specs.Outside.{outside};
+ghost use Rattle.ckrt_cli.specs.Looking.{LooksOpened, LooksPath, LooksThere, answer_of, ends_before, stretch_of};
+
+use ckrt_cli_faults::JobFault;
+use ckrt_cli_files::{JobFile, Sources};
+use ckrt_cli_words::StretchJob;
+use ckrt_disk::Disk;
+use ckrt_inspect::InspectFault;
+use ckrt_look_calls::{Stretch, Telling, tell_stretch};
+use std::alloc::Global;
+use std::io::{Read, Write};
+
+/// Which events are told.
+fn stretch(job: &StretchJob<'_>) -> Stretch
+    ensures { result ≡ stretch_of (disk_stretch_of job.now) }
+{
+    Stretch {
+        from: job.from,
+        to: job.to,
+    }
+}
+
+/// What the job answers.
+fn answer_of(answer: Result<(), InspectFault>) -> Result<(), JobFault>
+    ensures { result ≡ answer_of answer }
+{
+    match answer {
+        Ok(()) => Ok(()),
+        Err(InspectFault::Range) => Err(JobFault::Unrecorded),
+        Err(fault) => Err(JobFault::Inspect(fault)),
+    }
+}
+
+/// Tells of a disk that was opened, and closes it.
+fn look_opened<'a, I: Read, D: Disk, S: Sources<'a, I, D>, T: Telling, W: Write>(
+    alloc: Global,
+    disk: D,
+    job: &StretchJob<'a>,
+    telling: &T,
+    sources: &mut S,
+    writer: &mut W,
+) -> Result<(), JobFault>
+    ensures looks { (left : Option (List ℕ)) → LooksOpened D.Disk (record {
+      stretch = disk_stretch_of job.now;
+      Opens = λ start. start ≡ disk;
+      Tells = TellsStretch (T.Tells telling.now) (stretch_of (disk_stretch_of job.now));
+    })
+        (outside (S.openings sources.old) (W.contents writer.old) left)
+        (outside (S.openings sources.new) (W.contents writer.new) left) result }
+{
+    let mut disk = disk;
+    let answer = tell_stretch(alloc, &mut disk, stretch(job), telling, writer);
+    sources.close(disk);
+    answer_of(answer)
+}
+
+/// Tells of the disk of a path.
+fn look_there<'a, I: Read, D: Disk, S: Sources<'a, I, D>, T: Telling, W: Write>(
+    alloc: Global,
+    job: &StretchJob<'a>,
+    telling: &T,
+    sources: &mut S,
+    writer: &mut W,
+) -> Result<(), JobFault>
+    ensures looks { (left : Option (List ℕ)) → LooksThere D.Disk (record {
+      stretch = disk_stretch_of job.now;
+      Opens = S.opens sources.old job.now.disk.now;
+      Tells = TellsStretch (T.Tells telling.now) (stretch_of (disk_stretch_of job.now));
+    })
+        (outside (S.openings sources.old) (W.contents writer.old) left)
+        (outside (S.openings sources.new) (W.contents writer.new) left) result }
+{
+    match sources.look_at_disk(job.disk) {
+        Ok(disk) => look_opened::<I, D, S, T, W>(alloc, disk, job, telling, sources, writer),
+        Err(fault) => Err(JobFault::File(JobFile::Disk, fault)),
+    }
+}
+
+/// Whether a stretch would end before it begins.
+fn ends_before(from: Option<u64>, to: Option<u64>) -> bool
+    ensures { result ≡ ends_before from to }
+{
+    match (from, to) {
+        (Some(from), Some(to)) => to < from,
+        _ => false,
+    }
+}
+
+/// Tells of the disk of a path, all that it has recorded, or the events behind so many and up to so many. The disk is only read.
+///
+/// # Errors
+///
+/// The first that applies: `Range` where the stretch would end before it begins, before anything is opened; `File` of the disk;
+/// `Inspect`, where nothing is recovered from it, where the disk failed a read or memory was refused, or where the writer failed;
+/// `Unrecorded` where it hasn't recorded all of the stretch, or no longer has it.
+pub(crate) fn look_path<'a, I: Read, D: Disk, S: Sources<'a, I, D>, T: Telling, W: Write>(
+    alloc: Global,
+    job: &StretchJob<'a>,
+    telling: &T,
+    sources: &mut S,
+    writer: &mut W,
+) -> Result<(), JobFault>
+    ensures looks { (left : Option (List ℕ)) → LooksPath D.Disk (record {
+      stretch = disk_stretch_of job.now;
+      Opens = S.opens sources.old job.now.disk.now;
+      Tells = TellsStretch (T.Tells telling.now) (stretch_of (disk_stretch_of job.now));
+    })
+        (outside (S.openings sources.old) (W.contents writer.old) left)
+        (outside (S.openings sources.new) (W.contents writer.new) left) result }
+{
+    if ends_before(job.from, job.to) {
+        return Err(JobFault::Range);
+    }
+    look_there::<I, D, S, T, W>(alloc, job, telling, sources, writer)
+}

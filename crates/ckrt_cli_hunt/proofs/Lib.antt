@@ -1,3 +1,0 @@
-mod AppendLemmas
-mod InputLemmas
-mod KeepLemmas

@@ -1,3 +1,0 @@
-pub mod Hunting
-pub mod Inputs
-pub mod Keeping

@@ -1,2 +1,0 @@
-pub mod SoundLemmas
-pub mod ServedLemmas

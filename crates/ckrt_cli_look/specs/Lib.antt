@@ -1,5 +1,0 @@
-pub mod Debugging
-pub mod Drawings
-pub mod Looking
-pub mod Profiling
-pub mod Tellings

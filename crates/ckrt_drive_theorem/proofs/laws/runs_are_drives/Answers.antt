@@ -1,5 +1,0 @@
-use Rattle.ckrt_drive_theorem.proofs.RunLemmas.{is_run}
-use Rattle.ckrt_drive_theorem.proofs.laws.runs_are_drives.Goals as goal
-
-pub returns : goal.returns
-returns g c = λ r recovered honest whole read. is_run g.D.Disk g.O.Disk r recovered honest whole read

@@ -1,5 +1,0 @@
-use Rattle.ckrt_input.proofs.NextLemmas.{beginning, end_behind, goes_on}
-use Rattle.ckrt_input.proofs.laws.given_input_is_the_file.Goals as goal
-
-pub returns : goal.returns
-returns c = record { beginning = beginning; end = end_behind; goes_on = goes_on }

@@ -1,2 +1,0 @@
-pub mod EmptyingLemmas
-pub mod RowLemmas

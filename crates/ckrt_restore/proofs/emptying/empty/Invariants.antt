@@ -1,5 +1,0 @@
-use Rattle.ckrt_restore.proofs.EmptyingLemmas.{IsEmptyBelow}
-use Rattle.ckrt_restore.proofs.emptying.empty.Given as goal
-
-abbrev pub invariant-loop-id : goal.invariant-loop-id
-invariant-loop-id l = IsEmptyBelow l.id l.fn.threads l.threads

@@ -1,5 +1,0 @@
-use Rattle.std.proofs.Common.{◌≡◌, take}
-use Rattle.ckrt_restore.proofs.threads.copied_handlers.Given as goal
-
-abbrev pub invariant-loop-handler : goal.invariant-loop-handler
-invariant-loop-handler l = l.copy.items ≡ take l.handler-index l.handlers.items
