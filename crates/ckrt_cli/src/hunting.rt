@@ -17,7 +17,9 @@ use ckrt_cli_files::Sources;
 use ckrt_cli_words::HuntJob;
 use ckrt_disk::Disk;
 use ckrt_hunt_races::{HuntTold, hunt_as_asked};
-use ckrt_hunt_schedules::{Asked, HuntFault, HuntOnlooker, HuntWatch, Input, Seeds, Shape, Verdict};
+use ckrt_hunt_schedules::{
+    Asked, HuntFault, HuntOnlooker, HuntWatch, Input, Seeds, Shape, Verdict,
+};
 use ckrt_main::ServeFault;
 use ckrt_recovery::{Config, FormatFault};
 use std::alloc::Global;

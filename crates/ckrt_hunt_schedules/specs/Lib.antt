@@ -6,6 +6,7 @@ pub mod Outcomes
 pub mod Kinds
 pub mod Runs
 pub mod Tallies
+pub mod Verdicts
 pub mod Short
 pub mod Seeds
 pub mod Table

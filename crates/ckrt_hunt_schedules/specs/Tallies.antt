@@ -1,6 +1,6 @@
 -- What seeds came to, counted (this project's choice): each outcome once, with how often it came, and the first seed that came to it. Each kind of
 -- outcomes has rows of its own.
-use Rattle.std.specs.Prelude.{◌≡◌, ◌≢◌, ◌≤◌, ◌<◌, ℕ, zero, suc, ◌+◌, ◌-◌, ◌&&◌, nat_le, min, if◌then◌else◌, Option, Some, None, List, [], ◌∷◌, ◌++◌, length, slice_get, slice_set, vec_len}
+use Rattle.std.specs.Prelude.{◌≡◌, ◌≢◌, ◌≤◌, ◌<◌, ◌⊎◌, ℕ, zero, suc, ◌+◌, ◌-◌, ◌&&◌, nat_le, min, if◌then◌else◌, Option, Some, None, List, [], ◌∷◌, ◌++◌, length, slice_get, slice_set, vec_len}
 use Rattle.ckrt_memory.specs.Marks.{Memory}
 use Rattle.ckrt_state.specs.declared.table.Tables.{Tables}
 use Rattle.ckrt_machine.specs.Events.{fresh}
@@ -49,19 +49,32 @@ pub record IsEmpty (g : Group) : Type 0 where
   pub rows : g.rows.items ≡ []
   pub others : g.others ≡ 0
 
+-- the outcome has a row, which counts it once more
+pub record CountsAgain (told : Told) (old new : Group) : Type 0 where
+  pub place : ℕ
+  pub row : Row
+  pub is_first : IsFirst told old.rows.items place row
+  pub rows : new.rows.items ≡ slice_set old.rows.items place (record row { count = one_more row.count })
+  pub others : new.others ≡ old.others
+
+-- it has none, and gets one
+pub record GetsRow (seed : ℕ) (told : Told) (old new : Group) : Type 0 where
+  pub none : HasNone told old.rows.items (length old.rows.items)
+  pub room : length old.rows.items < GROUP_ROWS
+  pub rows : new.rows.items ≡ old.rows.items ++ first_row seed told ∷ []
+  pub others : new.others ≡ old.others
+
+-- it has none, and none is left
+pub record LacksRow (told : Told) (old new : Group) : Type 0 where
+  pub none : HasNone told old.rows.items (length old.rows.items)
+  pub full : GROUP_ROWS ≤ length old.rows.items
+  pub rows : new.rows.items ≡ old.rows.items
+  pub others : new.others ≡ one_more old.others
+
 -- one more run was noted, whose seed came to this
-pub record IsNotedIn (seed : ℕ) (told : Told) (old new : Group) : Type 0 where
-  -- where its outcome has a row, the row counts it
-  pub again : (k : ℕ) (r : Row) → IsFirst told old.rows.items k r
-      → (new.rows.items ≡ slice_set old.rows.items k (record r { count = one_more r.count }))
-      × (new.others ≡ old.others)
-  -- where it has none, it gets one, as long as there is one left
-  pub first : HasNone told old.rows.items (length old.rows.items)
-      → length old.rows.items < GROUP_ROWS
-      → (new.rows.items ≡ old.rows.items ++ first_row seed told ∷ []) × (new.others ≡ old.others)
-  pub full : HasNone told old.rows.items (length old.rows.items)
-      → GROUP_ROWS ≤ length old.rows.items
-      → (new.rows.items ≡ old.rows.items) × (new.others ≡ one_more old.others)
+abbrev pub IsNotedIn : (seed : ℕ) → Told → (old new : Group) → Type 0
+IsNotedIn seed told old new =
+    CountsAgain told old new ⊎ GetsRow seed told old new ⊎ LacksRow told old new
 
 -- THOSE OF ALL KINDS
 

@@ -1,8 +1,7 @@
 //! Outcomes of all kinds behind each other, those that harm first.
-ghost use Rattle.std.specs.Prelude.{◌≡◌, ◌≤◌, ◌+◌, ◌++◌, [], vec_capacity, vec_len, IfOk};
-ghost use Rattle.ckrt_hunt_schedules.specs.Tallies.{rows_of};
+ghost use Rattle.std.specs.Prelude.{◌≡◌, ◌≤◌, vec_capacity, IfOk};
 
-use crate::group::Group;
+use crate::joining::append_all;
 use crate::kind::kind_of;
 use crate::row::Row;
 use crate::tally::Tally;
@@ -15,32 +14,6 @@ pub struct Outcomes {
     pub(crate) rows: Vec<Row>,
     pub(crate) others: u64,
     ghost room: { 384 ≤ vec_capacity rows },
-}
-
-/// The rows of a kind go behind the others.
-fn append_group(rows: &mut Vec<Row>, group: &mut Group)
-    requires { vec_len rows.old + 64 ≤ vec_capacity rows.old }
-    ensures items { rows.new.items ≡ rows.old.items ++ group.old.rows.items }
-    ensures len { vec_len rows.new ≤ vec_len rows.old + 64 }
-    ensures capacity { vec_capacity rows.old ≤ vec_capacity rows.new }
-{
-    let _ = rows.append(&mut group.rows);
-}
-
-/// The rows of all kinds go behind each other.
-fn append_all(rows: &mut Vec<Row>, tally: &mut Tally)
-    requires room { 384 ≤ vec_capacity rows.old }
-    requires len { vec_len rows.old ≡ 0 }
-    requires empty { rows.old.items ≡ [] }
-    ensures items { rows.new.items ≡ rows_of tally.old }
-    ensures capacity { 384 ≤ vec_capacity rows.new }
-{
-    append_group(rows, &mut tally.faults);
-    append_group(rows, &mut tally.deadlocks);
-    append_group(rows, &mut tally.other_statuses);
-    append_group(rows, &mut tally.no_ends);
-    append_group(rows, &mut tally.input_waits);
-    append_group(rows, &mut tally.exits);
 }
 
 impl Outcomes {
