@@ -1,5 +1,5 @@
 -- The one outcome of a hunt is that of each of its seeds: no outcome that was noted is lost.
-use Rattle.std.proofs.Common.{◌≡◌, ◌≢◌, ◌∙◌, ◌⊎◌, ◌×◌, ◌==◌, ◌&&◌, ℕ, zero, suc, ◌+◌, ◌-◌, ◌≤◌, ◌<◌, min, true, false, inl, inr, Bool, Some, List, [], ◌∷◌, ◌++◌, length, ap, sym, subst, refl, arith, slice_get, slice_set, cond}
+use Rattle.std.proofs.Common.{◌≡◌, ◌≢◌, ◌∙◌, ◌⊎◌, ◌==◌, ◌&&◌, ℕ, zero, suc, ◌+◌, ◌-◌, ◌≤◌, ◌<◌, min, true, false, inl, inr, Bool, Some, List, [], ◌∷◌, ◌++◌, length, ap, sym, subst, refl, arith, slice_get, slice_set, cond}
 use Rattle.std.proofs.lemmas.Bool.{cases_order}
 use Rattle.std.proofs.lemmas.Bool.Decides.{nat_tests}
 use Rattle.ckrt_hunt_schedules.specs.declared.group.Group.{Group}
@@ -13,7 +13,7 @@ use Rattle.ckrt_hunt_schedules.specs.declared.tally.Tally.{Tally}
 use Rattle.ckrt_hunt_schedules.specs.declared.verdict.Verdict.{Verdict}
 use Rattle.ckrt_hunt_schedules.specs.declared.verdict.Verdict.TheVariants.{Several}
 use Rattle.ckrt_hunt_schedules.specs.Kinds.{kind_of, verdict_by, verdict_of, verdict_of_row}
-use Rattle.ckrt_hunt_schedules.specs.Tallies.{AreNoted, Hunted, IsNoted, IsNotedIn, IsTallyOf, SeedComesTo, first_row, group_of, one_more, others_of, plan_in, plus, rows_of, with_group}
+use Rattle.ckrt_hunt_schedules.specs.Tallies.{AreNoted, Grew, Hunted, IsNoted, IsNotedIn, IsTallyOf, SeedComesTo, first_row, group_of, one_more, others_of, plan_in, plus, rows_of, with_group}
 use Rattle.ckrt_hunt_schedules.specs.Verdicts.{IsOneOfAll}
 use Rattle.ckrt_hunt_schedules.proofs.RunLemmas.{same_told}
 
@@ -100,12 +100,12 @@ parts : (t : Told) (a b c d e f u v w x y z : List Row) → (IsIn t a → IsIn t
 parts t a b c d e f u v w x y z p q r s o n = both t _ f _ z (both t _ e _ y (both t _ d _ x (both t _ c _ w (both t a b u v p q) r) s) o) n
 
 kept : (j : Kind) (t : Told) (g : Group) (it : Tally) → (IsIn t (group_of j it).rows.items → IsIn t g.rows.items) → IsIn t (rows_of it) → IsIn t (rows_of (with_group j g it))
-kept kind.Fault t g it more = parts t _ _ _ _ _ _ _ _ _ _ _ _ more (id t _) (id t _) (id t _) (id t _) (id t _)
-kept kind.Deadlock t g it more = parts t _ _ _ _ _ _ _ _ _ _ _ _ (id t _) more (id t _) (id t _) (id t _) (id t _)
-kept kind.OtherStatus t g it more = parts t _ _ _ _ _ _ _ _ _ _ _ _ (id t _) (id t _) more (id t _) (id t _) (id t _)
-kept kind.NoEnd t g it more = parts t _ _ _ _ _ _ _ _ _ _ _ _ (id t _) (id t _) (id t _) more (id t _) (id t _)
-kept kind.WaitsForInput t g it more = parts t _ _ _ _ _ _ _ _ _ _ _ _ (id t _) (id t _) (id t _) (id t _) more (id t _)
-kept kind.ExitZero t g it more = parts t _ _ _ _ _ _ _ _ _ _ _ _ (id t _) (id t _) (id t _) (id t _) (id t _) more
+kept kind.Fault t g it more = parts t it.faults.rows.items it.deadlocks.rows.items it.other_statuses.rows.items it.no_ends.rows.items it.input_waits.rows.items it.exits.rows.items g.rows.items it.deadlocks.rows.items it.other_statuses.rows.items it.no_ends.rows.items it.input_waits.rows.items it.exits.rows.items more (id t it.deadlocks.rows.items) (id t it.other_statuses.rows.items) (id t it.no_ends.rows.items) (id t it.input_waits.rows.items) (id t it.exits.rows.items)
+kept kind.Deadlock t g it more = parts t it.faults.rows.items it.deadlocks.rows.items it.other_statuses.rows.items it.no_ends.rows.items it.input_waits.rows.items it.exits.rows.items it.faults.rows.items g.rows.items it.other_statuses.rows.items it.no_ends.rows.items it.input_waits.rows.items it.exits.rows.items (id t it.faults.rows.items) more (id t it.other_statuses.rows.items) (id t it.no_ends.rows.items) (id t it.input_waits.rows.items) (id t it.exits.rows.items)
+kept kind.OtherStatus t g it more = parts t it.faults.rows.items it.deadlocks.rows.items it.other_statuses.rows.items it.no_ends.rows.items it.input_waits.rows.items it.exits.rows.items it.faults.rows.items it.deadlocks.rows.items g.rows.items it.no_ends.rows.items it.input_waits.rows.items it.exits.rows.items (id t it.faults.rows.items) (id t it.deadlocks.rows.items) more (id t it.no_ends.rows.items) (id t it.input_waits.rows.items) (id t it.exits.rows.items)
+kept kind.NoEnd t g it more = parts t it.faults.rows.items it.deadlocks.rows.items it.other_statuses.rows.items it.no_ends.rows.items it.input_waits.rows.items it.exits.rows.items it.faults.rows.items it.deadlocks.rows.items it.other_statuses.rows.items g.rows.items it.input_waits.rows.items it.exits.rows.items (id t it.faults.rows.items) (id t it.deadlocks.rows.items) (id t it.other_statuses.rows.items) more (id t it.input_waits.rows.items) (id t it.exits.rows.items)
+kept kind.WaitsForInput t g it more = parts t it.faults.rows.items it.deadlocks.rows.items it.other_statuses.rows.items it.no_ends.rows.items it.input_waits.rows.items it.exits.rows.items it.faults.rows.items it.deadlocks.rows.items it.other_statuses.rows.items it.no_ends.rows.items g.rows.items it.exits.rows.items (id t it.faults.rows.items) (id t it.deadlocks.rows.items) (id t it.other_statuses.rows.items) (id t it.no_ends.rows.items) more (id t it.exits.rows.items)
+kept kind.ExitZero t g it more = parts t it.faults.rows.items it.deadlocks.rows.items it.other_statuses.rows.items it.no_ends.rows.items it.input_waits.rows.items it.exits.rows.items it.faults.rows.items it.deadlocks.rows.items it.other_statuses.rows.items it.no_ends.rows.items it.input_waits.rows.items g.rows.items (id t it.faults.rows.items) (id t it.deadlocks.rows.items) (id t it.other_statuses.rows.items) (id t it.no_ends.rows.items) (id t it.input_waits.rows.items) more
 
 group_with : (j : Kind) (g : Group) (it : Tally) → group_of j (with_group j g it) ≡ g
 group_with kind.Fault g it = refl
@@ -181,17 +181,20 @@ module _ (seed : ℕ) (told : Told) (old new : Tally) (n : IsNoted seed told old
       let k = kind_of told.outcome in
       subst (λ (it : Tally). IsIn t (rows_of it)) (sym n.is) (kept k t n.group old (stays seed told (group_of k old) n.group n.noted t) h)
 
+-- the last seed, and those before it
+last_or_before : (h : Hunted) (first n : ℕ) (old new : Tally) (a : Grew (AreNoted h first n old) h (first + n) new) → others_of new ≡ 0 → (seed : ℕ) (told : Told) → SeedComesTo h seed told
+    → (seed < first + n → IsIn told (rows_of a.before)) → (seed ≡ first + n) ⊎ ((seed < first + n) ⊎ (first + n < seed)) → seed < first + suc n → IsIn told (rows_of new)
+last_or_before h first n old new a z seed told comes before (inl same) high =
+    let own : SeedComesTo h (first + n) told = subst (λ (k : ℕ). SeedComesTo h k told) same comes in
+    subst (λ (t : Told). IsIn t (rows_of new)) (same_told (plan_in h (first + n)) h.start a.told told a.comes own) (has_row (first + n) a.told a.before new a.noted z)
+last_or_before h first n old new a z seed told comes before (inr (inl less)) high = has_stayed (first + n) a.told a.before new a.noted z told (before less)
+last_or_before h first n old new a z seed told comes before (inr (inr more)) high = absurd (omega (arith, high, more))
+
 all_in : (h : Hunted) (first n : ℕ) (old new : Tally) → AreNoted h first n old new → others_of new ≡ 0 → (seed : ℕ) (told : Told) → first ≤ seed → seed < first + n → SeedComesTo h seed told → IsIn told (rows_of new)
 all_in h first zero old new a z seed told low high comes = absurd (omega (arith, low, high))
-all_in h first (suc n) old new a z seed told low high comes = at (cases_order seed (first + n))
-  where
-    at : (seed ≡ first + n) ⊎ ((seed < first + n) ⊎ (first + n < seed)) → IsIn told (rows_of new)
-    at (inl same) =
-        let own : SeedComesTo h (first + n) told = subst (λ (k : ℕ). SeedComesTo h k told) same comes in
-        subst (λ (t : Told). IsIn t (rows_of new)) (same_told (plan_in h (first + n)) h.start a.told told a.comes own) (has_row (first + n) a.told a.before new a.noted z)
-    at (inr (inl less)) = has_stayed (first + n) a.told a.before new a.noted z told
-        (all_in h first n old a.before a.was_so (none_was (first + n) a.told a.before new a.noted z) seed told low less comes)
-    at (inr (inr more)) = absurd (omega (arith, high, more))
+all_in h first (suc n) old new a z seed told low high comes =
+    last_or_before h first n old new a z seed told comes
+    (λ less. all_in h first n old a.before a.was_so (none_was (first + n) a.told a.before new a.noted z) seed told low less comes) (cases_order seed (first + n)) high
 
 -- THE VERDICT
 
