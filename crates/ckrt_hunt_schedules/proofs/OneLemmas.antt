@@ -1,5 +1,5 @@
 -- The one outcome of a hunt is that of each of its seeds: no outcome that was noted is lost.
-use Rattle.std.proofs.Common.{◌≡◌, ◌≢◌, ◌∙◌, ◌⊎◌, ◌==◌, ◌&&◌, ℕ, zero, suc, ◌+◌, ◌-◌, ◌≤◌, ◌<◌, min, true, false, inl, inr, Bool, Some, List, [], ◌∷◌, ◌++◌, length, ap, sym, subst, refl, arith, slice_get, slice_set, cond}
+use Rattle.std.proofs.Common.{◌≡◌, ◌≢◌, ◌∙◌, ◌⊎◌, ◌==◌, ◌&&◌, ℕ, zero, suc, ◌+◌, ◌-◌, ◌≤◌, ◌<◌, false, inl, inr, Some, List, [], ◌∷◌, ◌++◌, length, ap, sym, subst, refl, arith, slice_get, slice_set, cond}
 use Rattle.std.proofs.lemmas.Bool.{cases_order}
 use Rattle.std.proofs.lemmas.Bool.Decides.{nat_tests}
 use Rattle.ckrt_hunt_schedules.specs.declared.group.Group.{Group}
@@ -10,7 +10,6 @@ use Rattle.ckrt_hunt_schedules.specs.declared.row.Row.{Row}
 use Rattle.ckrt_hunt_schedules.specs.declared.runs.Told.{Told}
 use Rattle.ckrt_hunt_schedules.specs.declared.seeds.Seeds.{Seeds}
 use Rattle.ckrt_hunt_schedules.specs.declared.tally.Tally.{Tally}
-use Rattle.ckrt_hunt_schedules.specs.declared.verdict.Verdict.{Verdict}
 use Rattle.ckrt_hunt_schedules.specs.declared.verdict.Verdict.TheVariants.{Several}
 use Rattle.ckrt_hunt_schedules.specs.Kinds.{kind_of, verdict_by, verdict_of, verdict_of_row}
 use Rattle.ckrt_hunt_schedules.specs.Tallies.{AreNoted, Grew, Hunted, IsNoted, IsNotedIn, IsTallyOf, SeedComesTo, first_row, group_of, one_more, others_of, plan_in, plus, rows_of, with_group}
