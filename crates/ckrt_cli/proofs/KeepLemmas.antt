@@ -9,6 +9,7 @@ use Rattle.ckrt_checkpoint.specs.declared.config.Config.{Config}
 use Rattle.ckrt_hunt_schedules.specs.Tallies.{Hunted, hunted_of}
 use Rattle.ckrt_hunt_schedules.specs.declared.plan.Input.{Input}
 use Rattle.ckrt_hunt_schedules.specs.declared.table.Asked.{Asked}
+use Rattle.ckrt_hunt_schedules.specs.declared.verdict.Verdict.{Verdict}
 use Rattle.ckrt_cli.specs.Hunting.{AreKept, EndsHunt, Folder, Hunter, KeepsAt, KeepsEach, KeepsFound, KeptOneMore, LacksPath, NamesRow, Place, Reached, StopsAtRow, config_of, in_folder, nowhere, on_disk, place_of, sought_by, wanted_of}
 use Rattle.ckrt_cli.specs.Keeping.{Keeping, Keeps, KeepsOn}
 
@@ -109,11 +110,11 @@ module _ {D : Type 0} (d : Ghosts D) (h : Hunted) (seed : ℕ) (as_drawn : Bool)
   at_weaker (in_folder folder) old new result more (inl lacks) = inl lacks
   at_weaker (in_folder folder) old new result more (inr k) = inr (each_same folder old new result k)
 
-pub ends_weaker : {D : Type 0} (d : Ghosts D) (it : Hunter D) (More : List ℕ → D → Type 0) (guest : List ℕ) (input : Input) (asked : Asked) (old new : Reached D) (told : Result HuntTold HuntFault) (result : Result Bool JobFault)
+pub ends_weaker : {D : Type 0} (d : Ghosts D) (it : Hunter D) (More : List ℕ → D → Type 0) (guest : List ℕ) (input : Input) (asked : Asked) (old new : Reached D) (told : Result HuntTold HuntFault) (result : Result Verdict JobFault)
     → ((at : List ℕ) (disk : D) → it.Fills at disk → More at disk) → EndsHunt d (wanted_of it guest input asked) old new told result → EndsHunt d (wanted_of (record it { Fills = More }) guest input asked) old new told result
 ends_weaker d it More guest input asked old new (Ok told) result more e = record {
   kept = e.kept;
-  keeps = at_weaker d (hunted_of guest asked.shape input) asked.seeds.first asked.races (config_of it.asked) guest it.Fills More (place_of it.asked.keep told.done.tally.rows.items) old new e.kept more e.keeps;
+  keeps = at_weaker d (hunted_of guest asked.shape input) asked.seeds.first asked.races (config_of it.asked) guest it.Fills More (place_of it.asked.keep told.done.outcomes.rows.items) old new e.kept more e.keeps;
   gives = e.gives;
 }
 ends_weaker d it More guest input asked old new (Err f) result more e = e

@@ -21,7 +21,8 @@ use Rattle.ckrt_hunt_schedules.specs.declared.shorten.Found.{Found}
 use Rattle.ckrt_hunt_schedules.specs.declared.table.Asked.{Asked}
 use Rattle.ckrt_hunt_schedules.specs.declared.telling.HuntFault.{HuntFault}
 use Rattle.ckrt_hunt_schedules.specs.declared.telling.HuntFault.TheVariants as hunt
-use Rattle.ckrt_hunt_races.specs.Hunts.{IsHuntedWith, has_several, told_text}
+use Rattle.ckrt_hunt_schedules.specs.declared.verdict.Verdict.{Verdict}
+use Rattle.ckrt_hunt_races.specs.Hunts.{IsHuntedWith, told_text, verdict_on}
 use Rattle.ckrt_hunt_races.specs.declared.telling.HuntTold.{HuntTold}
 use Rattle.ckrt_cli_words.specs.Jobs.{Hunting}
 use Rattle.ckrt_cli_files.specs.Openings.{Openings, opened, with_image}
@@ -262,20 +263,20 @@ KeepsAt d sought old new result (in_folder folder) =
     LacksRoom old new result ⊎ KeepsEach d sought folder old new result
 
 -- what the job answers where keeping answered so
-abbrev pub answer_of : Result (Unit {0}) JobFault → Bool → Result Bool JobFault
-answer_of (Ok done) several = Ok several
-answer_of (Err f) several = Err f
+abbrev pub answer_of : Result (Unit {0}) JobFault → Verdict → Result Verdict JobFault
+answer_of (Ok done) verdict = Ok verdict
+answer_of (Err f) verdict = Err f
 
 -- a hunt that was told
 pub record EndsTold {D : Type 0} (d : Ghosts D) (wanted : Wanted D) (asked new : Reached D)
-    (told : HuntTold) (result : Result Bool JobFault) : Type 0 where
+    (told : HuntTold) (result : Result Verdict JobFault) : Type 0 where
   pub kept : Result (Unit {0}) JobFault
-  pub keeps : KeepsAt d wanted.sought asked new kept (place_of wanted.path told.done.tally.rows.items)
-  pub gives : result ≡ answer_of kept (has_several told)
+  pub keeps : KeepsAt d wanted.sought asked new kept (place_of wanted.path told.done.outcomes.rows.items)
+  pub gives : result ≡ answer_of kept (verdict_on told)
 
 -- where it wasn't told nothing is kept
 abbrev pub EndsHunt : {D : Type 0} → Ghosts D → Wanted D → (asked new : Reached D)
-    → Result HuntTold HuntFault → Result Bool JobFault → Type 0
+    → Result HuntTold HuntFault → Result Verdict JobFault → Type 0
 EndsHunt d wanted asked new (Ok told) result = EndsTold d wanted asked new told result
 EndsHunt d wanted asked new (Err f) result = (result ≡ Err (fault_of f)) × (new ≡ asked)
 
@@ -283,7 +284,7 @@ EndsHunt d wanted asked new (Err f) result = (result ≡ Err (fault_of f)) × (n
 
 -- pages or harts are out of their ranges, and nothing was asked for
 pub record RefusesSizes {D : Type 0} (it : Hunter D) (old new : Outside D)
-    (result : Result Bool JobFault) : Type 0 where
+    (result : Result Verdict JobFault) : Type 0 where
   pub unfit : (is_valid (config_of it.asked) ≡ false)
       ⊎ (shape_of it.asked.pages it.asked.harts it.asked.steps ≡ None)
   pub is : result ≡ Err (job.Format format.BadConfig)
@@ -291,14 +292,14 @@ pub record RefusesSizes {D : Type 0} (it : Hunter D) (old new : Outside D)
 
 -- the words have a number that is out of its range, or seeds beside seconds, or the text of the seeds is no range; and nothing was asked for
 pub record RefusesRange {D : Type 0} (it : Hunter D) (old new : Outside D)
-    (result : Result Bool JobFault) : Type 0 where
+    (result : Result Verdict JobFault) : Type 0 where
   pub unfit : (is_hunt_in_range it.asked ≡ false) ⊎ (asked_seeds it.asked ≡ None)
   pub is : result ≡ Err job.Range
   pub unasked : new ≡ old
 
 -- the image is unfit
 pub record LacksImage {D : Type 0} (it : Hunter D) (old new : Outside D)
-    (result : Result Bool JobFault) : Type 0 where
+    (result : Result Verdict JobFault) : Type 0 where
   pub why : JobFault
   pub is : result ≡ Err why
   pub unfit : EndsOnImage (config_of it.asked) (it.known it.asked.image) it.asked.image old.openings new.openings why
@@ -307,7 +308,7 @@ pub record LacksImage {D : Type 0} (it : Hunter D) (old new : Outside D)
 
 -- the image was read, and the input wasn't
 pub record LacksInput {D : Type 0} (it : Hunter D) (old new : Outside D)
-    (result : Result Bool JobFault) : Type 0 where
+    (result : Result Verdict JobFault) : Type 0 where
   pub why : JobFault
   pub is : result ≡ Err why
   pub fit : IsFit (config_of it.asked) (it.known it.asked.image)
@@ -328,7 +329,7 @@ pub record IsAsked (h : Hunting) (asked : Asked) : Type 0 where
 
 -- the image and the input were read, and it was hunted: the table and the races were written, and then what is told of a run that was kept
 pub record HuntsImage {D : Type 0} (d : Ghosts D) (it : Hunter D) (old new : Outside D)
-    (result : Result Bool JobFault) : Type 0 where
+    (result : Result Verdict JobFault) : Type 0 where
   pub guest : List ℕ
   pub is_guest : (bytes : List ℕ) → it.known it.asked.image ≡ Some bytes → guest ≡ bytes
   pub fit : IsFit (config_of it.asked) (it.known it.asked.image)
@@ -345,6 +346,6 @@ pub record HuntsImage {D : Type 0} (d : Ghosts D) (it : Hunter D) (old new : Out
   pub unread : new.unread ≡ old.unread
 
 abbrev pub HuntsPath : {D : Type 0} → Ghosts D → Hunter D → (old new : Outside D)
-    → Result Bool JobFault → Type 0
+    → Result Verdict JobFault → Type 0
 HuntsPath d it old new result =
     RefusesSizes it old new result ⊎ RefusesRange it old new result ⊎ LacksImage it old new result ⊎ LacksInput it old new result ⊎ HuntsImage d it old new result

@@ -25,6 +25,8 @@ use Rattle.ckrt_cli_faults.specs.Statuses.{status_of, status_of_words}
 use Rattle.ckrt_cli_reports.specs.Lines.{Reports, ReportsOutcome, SaysLine, formatted_line, version_line}
 use Rattle.ckrt_cli_reports.specs.Reports.{words_report_of}
 use Rattle.ckrt_cli_disk.specs.Showing.{Shows, shown_of}
+use Rattle.ckrt_hunt_schedules.specs.declared.verdict.Verdict.{Verdict}
+use Rattle.ckrt_hunt_schedules.specs.declared.verdict.Verdict.TheVariants as verdict
 use Rattle.ckrt_cli.specs.Drawings.{TimelinePath}
 use Rattle.ckrt_cli.specs.Profiling.{ProfilesPath}
 use Rattle.ckrt_cli.specs.Tellings.{RacesPath, TracesPath}
@@ -192,14 +194,15 @@ Comes Holds outcome =
     (result : Result Driven JobFault) × (outcome ≡ outcome_with_end result) × Holds result
 
 -- what the runs of a hunt came to is its outcome
-abbrev pub outcome_of_hunt : Result Bool JobFault → Result Done JobFault
-outcome_of_hunt (Ok true) = Ok done.Several
-outcome_of_hunt (Ok false) = Ok done.Whole
+abbrev pub outcome_of_hunt : Result Verdict JobFault → Result Done JobFault
+outcome_of_hunt (Ok verdict.Good) = Ok done.Whole
+outcome_of_hunt (Ok verdict.Several) = Ok done.Several
+outcome_of_hunt (Ok verdict.Bad) = Ok done.Bad
 outcome_of_hunt (Err fault) = Err fault
 
-abbrev pub Hunts : (Result Bool JobFault → Type 0) → Result Done JobFault → Type 0
+abbrev pub Hunts : (Result Verdict JobFault → Type 0) → Result Done JobFault → Type 0
 Hunts Holds outcome =
-    (result : Result Bool JobFault) × (outcome ≡ outcome_of_hunt result) × Holds result
+    (result : Result Verdict JobFault) × (outcome ≡ outcome_of_hunt result) × Holds result
 
 -- what the program may reach for the making of a disk
 abbrev pub making_in : {D W : Type 0} {d : Ghosts D} → Reach d W → Formatting → Making D

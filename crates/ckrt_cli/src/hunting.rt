@@ -17,7 +17,9 @@ use ckrt_cli_files::Sources;
 use ckrt_cli_words::HuntJob;
 use ckrt_disk::Disk;
 use ckrt_hunt_races::{HuntTold, hunt_as_asked};
-use ckrt_hunt_schedules::{Asked, HuntFault, HuntOnlooker, HuntWatch, Input, Seeds, Shape};
+use ckrt_hunt_schedules::{
+    Asked, HuntFault, HuntOnlooker, HuntWatch, Input, Seeds, Shape, Verdict,
+};
 use ckrt_main::ServeFault;
 use ckrt_recovery::{Config, FormatFault};
 use std::alloc::Global;
@@ -80,11 +82,11 @@ fn fault_of(fault: HuntFault) -> JobFault
 }
 
 /// What the job answers where keeping answered so.
-fn answer_of(kept: Result<(), JobFault>, several: bool) -> Result<bool, JobFault>
-    ensures { result ≡ answer_of kept several }
+fn answer_of(kept: Result<(), JobFault>, verdict: Verdict) -> Result<Verdict, JobFault>
+    ensures { result ≡ answer_of kept verdict }
 {
     match kept {
-        Ok(()) => Ok(several),
+        Ok(()) => Ok(verdict),
         Err(fault) => Err(fault),
     }
 }
@@ -143,7 +145,7 @@ fn hunt_image<'a, I: Read, D: Disk, S: Sources<'a, I, D>, W: Write, O: HuntOnloo
     sources: &mut S,
     writer: &mut W,
     onlooker: &mut O,
-) -> Result<bool, JobFault>
+) -> Result<Verdict, JobFault>
     requires { is_valid (config_of (hunting_of job.now)) ≡ true }
     ensures hunts { (told : Result HuntTold HuntFault) × (table : Option (List ℕ))
         × Tells hunted.now.image.now hunted.now.input hunted.now.asked
@@ -169,11 +171,11 @@ fn hunt_image<'a, I: Read, D: Disk, S: Sources<'a, I, D>, W: Write, O: HuntOnloo
                 shape: hunted.asked.shape,
                 input,
                 first: hunted.asked.seeds.first,
-                rows: told.done.tally.rows(),
+                rows: told.done.outcomes.rows(),
                 as_drawn: hunted.asked.races,
             };
             let kept = keep_if_asked::<I, D, S, W>(alloc, job.keep, kept_of, sources, writer);
-            answer_of(kept, told.has_several())
+            answer_of(kept, told.verdict())
         }
         Err(fault) => Err(fault_of(fault)),
     }
@@ -181,13 +183,13 @@ fn hunt_image<'a, I: Read, D: Disk, S: Sources<'a, I, D>, W: Write, O: HuntOnloo
 
 /// Runs the image of a path by one schedule after another, each drawn from its seed, and writes the table of what they come to. The
 /// seeds are those of a range, or those from 1 on for which an onlooker has time, one at least: the table is that of the range up to the
-/// last seed that was run. Where the words name an input, each run reads its bytes, and then its end. The answer is whether they came to
-/// several outcomes. Where the words name a disk, the run of the first seed is kept there; where they name a folder, by a path that ends
+/// last seed that was run. Where the words name an input, each run reads its bytes, and then its end. The answer is what they came to
+/// together. Where the words name a disk, the run of the first seed is kept there; where they name a folder, by a path that ends
 /// with `/`, the first run of each outcome is, on a disk of its own. Each is kept by the shortest schedule that is found, and written is
 /// its disk too, and how many switches it has. Of a folder the first run that isn't kept is named as well.
 ///
 /// Where the words ask for races, each run is looked at for them, and those that some run had are written behind the table. Then a run is
-/// kept as it was drawn, since a shorter schedule may have other races, and the answer is also true where a run had a race.
+/// kept as it was drawn, since a shorter schedule may have other races, and where a run had a race, that is told as several outcomes are.
 ///
 /// # Errors
 ///
@@ -202,7 +204,7 @@ pub fn hunt_path<'a, I: Read + Drop, D: Disk, S: Sources<'a, I, D>, W: Write, O:
     sources: &mut S,
     writer: &mut W,
     onlooker: &mut O,
-) -> Result<bool, JobFault>
+) -> Result<Verdict, JobFault>
     ensures hunts { (left : Option (List ℕ))
         → HuntsPath D.Disk (record {
           asked = hunting_of job.now;

@@ -17,7 +17,7 @@ use ckrt_cli_reports::{Reporter, report, report_words, write_formatted, write_ve
 use ckrt_cli_words::{FormatJob, InspectJob, Job, read_words};
 use ckrt_disk::{Disk, Holds};
 use ckrt_drive::StreamOutput;
-use ckrt_hunt_schedules::HuntOnlooker;
+use ckrt_hunt_schedules::{HuntOnlooker, Verdict};
 use ckrt_main::serve_image;
 use ckrt_recovery::Config;
 use std::alloc::Global;
@@ -168,12 +168,13 @@ fn with_end(driven: Result<Driven, JobFault>) -> Result<Done, JobFault>
 }
 
 /// What the runs of a hunt came to, as the outcome of its job.
-fn of_hunt(several: Result<bool, JobFault>) -> Result<Done, JobFault>
-    ensures { result ≡ outcome_of_hunt several }
+fn of_hunt(hunted: Result<Verdict, JobFault>) -> Result<Done, JobFault>
+    ensures { result ≡ outcome_of_hunt hunted }
 {
-    match several {
-        Ok(true) => Ok(Done::Several),
-        Ok(false) => Ok(Done::Whole),
+    match hunted {
+        Ok(Verdict::Good) => Ok(Done::Whole),
+        Ok(Verdict::Several) => Ok(Done::Several),
+        Ok(Verdict::Bad) => Ok(Done::Bad),
         Err(fault) => Err(fault),
     }
 }
@@ -243,7 +244,8 @@ fn perform<
 /// drive is looked on by the meter, and so is a hunt. The answer is the program's status: 0 where all was done, 1 for a fault, 2 for words that
 /// name no job. Of a drive it is 0 where the guest ended by `exit 0` alone, 3 where it waits for input, 4 for a deadlock, 5 where
 /// it made as many events as were asked for, 6 where a fault ended the guest, 7 where the guest ended by another status. Of a hunt
-/// it is 8 where its runs came to several outcomes, or one had a race that was looked for.
+/// it is 0 where each run ended by `exit 0` with one output, 8 where they came to several outcomes, or one had a race that was looked
+/// for, and 9 where all came to one outcome other than that.
 pub fn run_words_with<
     'a,
     I: Read + Drop,
@@ -262,7 +264,7 @@ pub fn run_words_with<
     reporter: &mut E,
     meter: &mut M,
 ) -> u8
-    ensures bound { result ≤ 8 }
+    ensures bound { result ≤ 9 }
     ensures asked { result ≡ 0
         → (r : Request) × (request_of_words (map (λ s. s.now) words.entry.now) ≡ Some r) }
     ensures made { result ≡ 0 → (f : Formatting)
@@ -322,7 +324,7 @@ pub fn run_words<
     reporter: &mut E,
     meter: &mut M,
 ) -> u8
-    ensures bound { result ≤ 8 }
+    ensures bound { result ≤ 9 }
     ensures asked { result ≡ 0
         → (r : Request) × (request_of_words (map (λ s. s.now) words.entry.now) ≡ Some r) }
     ensures made { result ≡ 0 → (f : Formatting)

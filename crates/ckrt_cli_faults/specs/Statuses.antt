@@ -24,11 +24,13 @@ end_status (Some WaitsForInput) status = 3
 end_status (Some Deadlock) status = 4
 end_status (Some Enough) status = 5
 
--- the program's status for a job: 0 where it is done; of a drive, its end's; of a hunt with several outcomes, or a race, 8
+-- the program's status for a job: 0 where it is done; of a drive, its end's; of a hunt with several outcomes, or a race, 8, and 9
+-- of one whose runs all had one outcome other than `exit 0`
 abbrev pub status_of : Result Done JobFault → ℕ
 status_of (Ok done.Whole) = 0
 status_of (Ok (done.Driven driven)) = end_status driven.ending driven.status
 status_of (Ok done.Several) = 8
+status_of (Ok done.Bad) = 9
 status_of (Err fault) = 1
 
 -- and for words that name none

@@ -10,4 +10,6 @@ pub enum Done {
     Driven(Driven),
     /// The runs of a hunt came to several outcomes, or one had a race.
     Several,
+    /// All runs of a hunt came to one outcome, which isn't `exit 0`.
+    Bad,
 }

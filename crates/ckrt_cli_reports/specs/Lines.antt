@@ -33,6 +33,7 @@ abbrev pub ReportsOutcome : Request → Result Done JobFault → (before after :
     → Type 0
 ReportsOutcome q (Ok done.Whole) before after has_failed = after ≡ before
 ReportsOutcome q (Ok done.Several) before after has_failed = after ≡ before
+ReportsOutcome q (Ok done.Bad) before after has_failed = after ≡ before
 ReportsOutcome q (Ok (done.Driven driven)) before after has_failed =
     Reports before after has_failed (end_line driven)
 ReportsOutcome q (Err fault) before after has_failed =

@@ -167,7 +167,7 @@ impl<'a, R: Clock + Eprint + Files<File = File>> SystemMeter<'a, R> {
             self.hunt.runs,
             seed,
             rate,
-            tally.rows().len()
+            tally.count()
         );
         self.lines.last = self.moment();
     }

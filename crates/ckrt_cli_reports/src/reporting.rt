@@ -431,6 +431,7 @@ pub fn report<E: Reporter>(reporter: &mut E, job: &Job<'_>, outcome: Result<Done
     match outcome {
         Ok(Done::Whole) => 0,
         Ok(Done::Several) => 8,
+        Ok(Done::Bad) => 9,
         Ok(Done::Driven(driven)) => {
             let _ = say_end(reporter, driven);
             driven.exit_status()

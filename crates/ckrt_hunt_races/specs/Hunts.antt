@@ -1,11 +1,14 @@
 -- A hunt from its image to its table, with the races of its runs where they are asked for.
-use Rattle.std.specs.Prelude.{ℕ, nat_lt, Bool, true, false, ◌||◌, List, [], ◌++◌, length, Option, Some, None}
+use Rattle.std.specs.Prelude.{ℕ, nat_lt, Bool, true, false, if◌then◌else◌, List, [], ◌++◌, length, Option, Some, None}
+use Rattle.ckrt_hunt_schedules.specs.Kinds.{verdict_of}
 use Rattle.ckrt_hunt_schedules.specs.Table.{done_text}
 use Rattle.ckrt_hunt_schedules.specs.Seeds.{IsBeginning}
 use Rattle.ckrt_hunt_schedules.specs.Tallies.{Hunted, IsHunted, IsTallyOf, hunted_of}
 use Rattle.ckrt_hunt_schedules.specs.declared.plan.Input.{Input}
 use Rattle.ckrt_hunt_schedules.specs.declared.seeds.Seeds.{Seeds}
 use Rattle.ckrt_hunt_schedules.specs.declared.table.Asked.{Asked}
+use Rattle.ckrt_hunt_schedules.specs.declared.verdict.Verdict.{Verdict}
+use Rattle.ckrt_hunt_schedules.specs.declared.verdict.Verdict.TheVariants.{Several}
 use Rattle.ckrt_hunt_races.specs.declared.tally.RaceTally.{RaceTally}
 use Rattle.ckrt_hunt_races.specs.declared.telling.HuntTold.{HuntTold}
 use Rattle.ckrt_hunt_races.specs.Races.{raced_in}
@@ -22,7 +25,7 @@ AreAskedRaces h seeds false None = Unit {0}
 -- the seeds of a program that is hunted were run as it was asked for, and each run was looked at for races
 pub record IsCounted (h : Hunted) (asked : Asked) (told : HuntTold) : Type 0 where
   pub begins : IsBeginning asked.seeds asked.may_end told.done.seeds
-  pub tally : IsTallyOf h told.done.seeds told.done.tally
+  pub tally : IsTallyOf h told.done.seeds told.done.outcomes
   pub looked : AreAskedRaces h told.done.seeds true told.races
 
 -- the program with this image and this input was hunted as it was asked for, with a look at races or without one
@@ -40,10 +43,11 @@ abbrev pub told_text : Asked → HuntTold → List ℕ
 told_text a told =
     done_text a told.done ++ races_behind (record a { seeds = told.done.seeds }) told.races
 
--- WHAT IT CAME TO: several outcomes, or a race
+-- WHAT IT CAME TO: a run with a race is told apart, whatever the outcomes are
 abbrev pub has_race : Option RaceTally → Bool
 has_race None = false
 has_race (Some races) = nat_lt 0 (length races.rows.items)
 
-abbrev pub has_several : HuntTold → Bool
-has_several told = nat_lt 1 (length told.done.tally.rows.items) || has_race told.races
+abbrev pub verdict_on : HuntTold → Verdict
+verdict_on told =
+    if has_race told.races then Several else verdict_of told.done.outcomes.rows.items told.done.outcomes.others

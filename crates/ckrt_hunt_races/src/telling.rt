@@ -1,19 +1,20 @@
 //! A hunt from its image to its table, with the races of its runs where they are asked for.
-ghost use Rattle.std.specs.Prelude.{◌≡◌, ◌≢◌, ◌*◌, ◌-◌, ◌<◌, ◌↔◌, ◌++◌, [], length, true, IfErr, IfOk, IsErrOf, OnOk};
+ghost use Rattle.std.specs.Prelude.{◌≡◌, ◌≢◌, ◌*◌, ◌-◌, ◌<◌, ◌↔◌, ◌++◌, length, true, IfErr, IfOk, IsErrOf, OnOk};
 ghost use Rattle.std.specs.Io.KnownBytes.{Appends};
 ghost use Rattle.ckrt_memory.specs.declared.MemoryError.TheVariants as memory;
 ghost use Rattle.ckrt_hunt_schedules.specs.Seeds.{IsEndedBy};
 ghost use Rattle.ckrt_hunt_schedules.specs.declared.telling.HuntFault.TheVariants as hunt;
 ghost use Rattle.ckrt_hunt_schedules.specs.Table.{table_text};
+ghost use Rattle.ckrt_hunt_schedules.specs.Tallies.{AreEmpty, IsRoom};
 ghost use Rattle.ckrt_hunt_races.specs.Races.{no_races, raced_in};
-ghost use Rattle.ckrt_hunt_races.specs.Hunts.{IsCounted, IsHuntedWith, has_race, has_several, races_behind, told_text};
+ghost use Rattle.ckrt_hunt_races.specs.Hunts.{IsCounted, IsHuntedWith, has_race, races_behind, told_text, verdict_on};
 
 use crate::hunt::RaceHunt;
 use crate::table::write_races;
 use crate::tally::RaceTally;
 use ckrt_hunt_schedules::{
-    Asked, HuntDone, HuntFault, HuntOnlooker, Input, Tally, hunt_and_tell, hunt_fault_of,
-    write_table,
+    Asked, HuntDone, HuntFault, HuntOnlooker, Input, Outcomes, Tally, Verdict, hunt_and_tell,
+    hunt_fault_of, write_table,
 };
 use ckrt_memory::MemoryError;
 use std::alloc::{AllocError, Global};
@@ -40,23 +41,28 @@ fn has_race(races: &Option<RaceTally>) -> bool
 }
 
 impl HuntTold {
-    /// Whether runs came to several outcomes, or one had a race.
-    pub fn has_several(&self) -> bool
-        ensures { result ≡ has_several self.now }
+    /// What the runs came to together.
+    pub fn verdict(&self) -> Verdict
+        ensures { result ≡ verdict_on self.now }
     {
-        self.done.tally.has_several() || has_race(&self.races)
+        if has_race(&self.races) {
+            Verdict::Several
+        } else {
+            self.done.outcomes.verdict()
+        }
     }
 }
 
 /// What is counted of a hunt's runs, before the first of them.
-fn nothing_counted(alloc: Global) -> Result<(Tally, RaceTally), AllocError>
-    ensures rows { IfOk result (λ both. both.0.rows.items ≡ []) }
-    ensures others { IfOk result (λ both. both.0.others ≡ 0) }
-    ensures races { IfOk result (λ both. raced_in both.1 ≡ no_races) }
+fn nothing_counted(alloc: Global) -> Result<(Tally, Outcomes, RaceTally), AllocError>
+    ensures nothing { IfOk result (λ all. AreEmpty all.0) }
+    ensures room { IfOk result (λ all. IsRoom all.1) }
+    ensures races { IfOk result (λ all. raced_in all.2 ≡ no_races) }
 {
     let tally = Tally::new(alloc)?;
+    let outcomes = Outcomes::new(alloc)?;
     let races = RaceTally::new(alloc)?;
-    Ok((tally, races))
+    Ok((tally, outcomes, races))
 }
 
 /// Runs the seeds of a program, and looks at each run for races.
@@ -70,10 +76,11 @@ fn count_runs<O: HuntOnlooker>(
     ensures ended { IfOk result
         (λ told. IsEndedBy O.Answers asked.now.seeds asked.now.may_end told.done.seeds) }
 {
-    let (mut tally, mut races) = nothing_counted(alloc)?;
+    let (mut tally, mut outcomes, mut races) = nothing_counted(alloc)?;
     let seeds = hunt.note_seeds(&mut tally, &mut races, asked.seeds, asked.may_end, onlooker);
+    outcomes.take(&mut tally);
     Ok(HuntTold {
-        done: HuntDone { seeds, tally },
+        done: HuntDone { seeds, outcomes },
         races: Some(races),
     })
 }
@@ -145,9 +152,9 @@ fn write_races_behind<W: Write>(
 fn write_told<W: Write>(out: &mut W, asked: &Asked<'_>, told: &HuntTold) -> io::Result<()>
     ensures { OnOk result
         (Appends (W.contents out.old) (W.contents out.new)
-        (table_text asked.now told.now.done.tally ++ races_behind asked.now told.now.races)) }
+        (table_text asked.now told.now.done.outcomes ++ races_behind asked.now told.now.races)) }
 {
-    write_table(out, asked, &told.done.tally)?;
+    write_table(out, asked, &told.done.outcomes)?;
     write_races_behind(out, asked, &told.races)
 }
 

@@ -2,6 +2,7 @@ pub mod TurnLemmas
 pub mod RunLemmas
 mod ShortLemmas
 pub mod TallyLemmas
+mod OneLemmas
 pub mod SameLemmas
 pub mod KeepLemmas
 pub mod AppendLemmas

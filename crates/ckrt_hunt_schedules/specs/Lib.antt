@@ -3,8 +3,10 @@ pub mod Plans
 pub mod Given
 pub mod Turns
 pub mod Outcomes
+pub mod Kinds
 pub mod Runs
 pub mod Tallies
+pub mod Verdicts
 pub mod Short
 pub mod Seeds
 pub mod Table

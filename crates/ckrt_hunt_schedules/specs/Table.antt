@@ -1,7 +1,7 @@
 -- The table of a hunt (this project's own format): for each outcome a line that says how often it came, by which seed first, and what it is, and a
--- line with the command that repeats it. An outcome has the number of its row, from 1 on.
+-- line with the command that repeats it. They stand by their kinds, those that harm first. An outcome has the number of its row, from 1 on.
 --
---     outcome 2: 3 of 200 runs, first by seed 17: deadlock, thread 2 waits for mutex 00002c58 (thread 3 has it)
+--     outcome 1: 3 of 200 runs, first by seed 17: deadlock, thread 2 waits for mutex 00002c58 (thread 3 has it)
 --         ckrt hunt race.bin --seeds 17-17 --pages 64 --harts 2 --steps 10000000 --keep seed-17.disk
 use Rattle.std.specs.Prelude.{ℕ, zero, suc, ◌+◌, ◌-◌, ◌==◌, Bool, if◌then◌else◌, List, [], ◌∷◌, ◌++◌, length, take, slice_get, codes, decimal, Option, Some, None, option_map}
 use Rattle.std.specs.List.{flat_map}
@@ -17,7 +17,7 @@ use Rattle.ckrt_hunt_schedules.specs.declared.row.Row.{Row}
 use Rattle.ckrt_hunt_schedules.specs.declared.shape.Shape.{Shape}
 use Rattle.ckrt_hunt_schedules.specs.declared.shorten.Found.{Found}
 use Rattle.ckrt_hunt_schedules.specs.declared.table.Asked.{Asked}
-use Rattle.ckrt_hunt_schedules.specs.declared.tally.Tally.{Tally}
+use Rattle.ckrt_hunt_schedules.specs.declared.outcomes.Outcomes.{Outcomes}
 use Rattle.ckrt_hunt_schedules.specs.declared.telling.HuntDone.{HuntDone}
 
 -- WHAT A RUN CAME TO
@@ -118,12 +118,12 @@ abbrev pub others_line : Asked → (others : ℕ) → List ℕ
 others_line a others =
     if others == 0 then [] else codes "other outcomes: " ++ decimal others ++ runs_text a ++ 10 ∷ []
 
-abbrev pub table_text : Asked → Tally → List ℕ
-table_text a t = rows_text a t.rows.items (length t.rows.items) ++ others_line a t.others
+abbrev pub table_text : Asked → Outcomes → List ℕ
+table_text a o = rows_text a o.rows.items (length o.rows.items) ++ others_line a o.others
 
 -- of the seeds that were run
 abbrev pub done_text : Asked → HuntDone → List ℕ
-done_text a done = table_text (record a { seeds = done.seeds }) done.tally
+done_text a done = table_text (record a { seeds = done.seeds }) done.outcomes
 
 -- A RUN THAT IS KEPT
 --

@@ -1,19 +1,25 @@
--- What seeds came to, counted (this project's choice): each outcome once, with how often it came, and the first seed that came to it.
-use Rattle.std.specs.Prelude.{◌≡◌, ◌≢◌, ◌≤◌, ◌<◌, ℕ, zero, suc, ◌+◌, ◌-◌, ◌&&◌, nat_le, min, if◌then◌else◌, Option, Some, None, List, [], ◌∷◌, ◌++◌, length, slice_get, slice_set}
+-- What seeds came to, counted (this project's choice): each outcome once, with how often it came, and the first seed that came to it. Each kind of
+-- outcomes has rows of its own.
+use Rattle.std.specs.Prelude.{◌≡◌, ◌≢◌, ◌≤◌, ◌<◌, ◌⊎◌, ℕ, zero, suc, ◌+◌, ◌-◌, ◌&&◌, nat_le, min, if◌then◌else◌, Option, Some, None, List, [], ◌∷◌, ◌++◌, length, slice_get, slice_set, vec_len}
 use Rattle.ckrt_memory.specs.Marks.{Memory}
 use Rattle.ckrt_state.specs.declared.table.Tables.{Tables}
 use Rattle.ckrt_machine.specs.Events.{fresh}
 use Rattle.ckrt_machine.specs.Steps.{State}
 use Rattle.ckrt_hunt_schedules.specs.declared.plan.Input.{Input}
 use Rattle.ckrt_hunt_schedules.specs.declared.plan.Plan.{Plan}
+use Rattle.ckrt_hunt_schedules.specs.declared.group.Group.{Group}
+use Rattle.ckrt_hunt_schedules.specs.declared.group.TheConstants.{GROUP_ROWS}
+use Rattle.ckrt_hunt_schedules.specs.declared.kind.Kind.{Kind}
+use Rattle.ckrt_hunt_schedules.specs.declared.kind.Kind.TheVariants as kind
+use Rattle.ckrt_hunt_schedules.specs.declared.outcomes.Outcomes.{Outcomes}
 use Rattle.ckrt_hunt_schedules.specs.declared.runs.Told.{Told}
 use Rattle.ckrt_hunt_schedules.specs.declared.row.Row.{Row}
 use Rattle.ckrt_hunt_schedules.specs.declared.seeds.Seeds.{Seeds}
 use Rattle.ckrt_hunt_schedules.specs.declared.table.Asked.{Asked}
 use Rattle.ckrt_hunt_schedules.specs.declared.shape.Shape.{Shape}
 use Rattle.ckrt_hunt_schedules.specs.declared.tally.Tally.{Tally}
-use Rattle.ckrt_hunt_schedules.specs.declared.tally.TheConstants.{TALLY_ROWS}
 use Rattle.ckrt_hunt_schedules.specs.declared.telling.HuntDone.{HuntDone}
+use Rattle.ckrt_hunt_schedules.specs.Kinds.{kind_of}
 use Rattle.ckrt_hunt_schedules.specs.Plans.{plan_of}
 use Rattle.ckrt_hunt_schedules.specs.Runs.{ComesTo}
 use Rattle.ckrt_hunt_schedules.specs.Seeds.{IsBeginning}
@@ -36,19 +42,92 @@ pub record IsFirst (told : Told) (rows : List Row) (k : ℕ) (r : Row) : Type 0 
   pub same : r.told ≡ told
   pub before : HasNone told rows k
 
+-- THE OUTCOMES OF ONE KIND
+
+-- no run yet
+pub record IsEmpty (g : Group) : Type 0 where
+  pub rows : g.rows.items ≡ []
+  pub others : g.others ≡ 0
+
+-- the outcome has a row, which counts it once more
+pub record CountsAgain (told : Told) (old new : Group) : Type 0 where
+  pub place : ℕ
+  pub row : Row
+  pub is_first : IsFirst told old.rows.items place row
+  pub rows : new.rows.items ≡ slice_set old.rows.items place (record row { count = one_more row.count })
+  pub others : new.others ≡ old.others
+
+-- it has none, and gets one
+pub record GetsRow (seed : ℕ) (told : Told) (old new : Group) : Type 0 where
+  pub none : HasNone told old.rows.items (length old.rows.items)
+  pub room : length old.rows.items < GROUP_ROWS
+  pub rows : new.rows.items ≡ old.rows.items ++ first_row seed told ∷ []
+  pub others : new.others ≡ old.others
+
+-- it has none, and none is left
+pub record LacksRow (told : Told) (old new : Group) : Type 0 where
+  pub none : HasNone told old.rows.items (length old.rows.items)
+  pub full : GROUP_ROWS ≤ length old.rows.items
+  pub rows : new.rows.items ≡ old.rows.items
+  pub others : new.others ≡ one_more old.others
+
 -- one more run was noted, whose seed came to this
+abbrev pub IsNotedIn : (seed : ℕ) → Told → (old new : Group) → Type 0
+IsNotedIn seed told old new =
+    CountsAgain told old new ⊎ GetsRow seed told old new ⊎ LacksRow told old new
+
+-- THOSE OF ALL KINDS
+
+abbrev pub group_of : Kind → Tally → Group
+group_of kind.Fault t = t.faults
+group_of kind.Deadlock t = t.deadlocks
+group_of kind.OtherStatus t = t.other_statuses
+group_of kind.NoEnd t = t.no_ends
+group_of kind.WaitsForInput t = t.input_waits
+group_of kind.ExitZero t = t.exits
+
+abbrev pub with_group : Kind → Group → Tally → Tally
+with_group kind.Fault g t = record t { faults = g }
+with_group kind.Deadlock g t = record t { deadlocks = g }
+with_group kind.OtherStatus g t = record t { other_statuses = g }
+with_group kind.NoEnd g t = record t { no_ends = g }
+with_group kind.WaitsForInput g t = record t { input_waits = g }
+with_group kind.ExitZero g t = record t { exits = g }
+
+-- no run yet
+abbrev pub AreEmpty : Tally → Type 0
+AreEmpty t = (k : Kind) → IsEmpty (group_of k t)
+
+-- one more run was noted, among those of its kind alone
 pub record IsNoted (seed : ℕ) (told : Told) (old new : Tally) : Type 0 where
-  -- where its outcome has a row, the row counts it
-  pub again : (k : ℕ) (r : Row) → IsFirst told old.rows.items k r
-      → (new.rows.items ≡ slice_set old.rows.items k (record r { count = one_more r.count }))
-      × (new.others ≡ old.others)
-  -- where it has none, it gets one, as long as there is one left
-  pub first : HasNone told old.rows.items (length old.rows.items)
-      → length old.rows.items < TALLY_ROWS
-      → (new.rows.items ≡ old.rows.items ++ first_row seed told ∷ []) × (new.others ≡ old.others)
-  pub full : HasNone told old.rows.items (length old.rows.items)
-      → TALLY_ROWS ≤ length old.rows.items
-      → (new.rows.items ≡ old.rows.items) × (new.others ≡ one_more old.others)
+  pub group : Group
+  pub noted : IsNotedIn seed told (group_of (kind_of told.outcome) old) group
+  pub is : new ≡ with_group (kind_of told.outcome) group old
+
+-- the rows of all kinds, those that harm first
+abbrev pub rows_of : Tally → List Row
+rows_of t =
+    t.faults.rows.items ++ t.deadlocks.rows.items ++ t.other_statuses.rows.items ++ t.no_ends.rows.items
+    ++ t.input_waits.rows.items
+    ++ t.exits.rows.items
+
+abbrev pub plus : ℕ → ℕ → ℕ
+plus a b = min (a + b) 18446744073709551615
+
+-- the runs for whose outcomes there was no row left, as far as 64 bits count
+abbrev pub others_of : Tally → ℕ
+others_of t =
+    plus (plus (plus (plus (plus t.faults.others t.deadlocks.others) t.other_statuses.others) t.no_ends.others) t.input_waits.others) t.exits.others
+
+-- the room for the rows of a tally
+pub record IsRoom (o : Outcomes) : Type 0 where
+  pub rows : o.rows.items ≡ []
+  pub len : vec_len o.rows ≡ 0
+
+-- what was counted
+pub record AreOutcomesOf (t : Tally) (o : Outcomes) : Type 0 where
+  pub rows : o.rows.items ≡ rows_of t
+  pub others : o.others ≡ others_of t
 
 -- what a program is run with: its pages, its harts, and how many steps and events a run has at most
 abbrev pub numbers_of : Shape → ℕ × ℕ × ℕ
@@ -94,11 +173,12 @@ AreNoted h first zero old new = new ≡ old
 AreNoted h first (suc n) old new = Grew (AreNoted h first n old) h (first + n) new
 
 -- what all seeds of a range came to: each was noted in its turn, from no outcome on
-pub record IsTallyOf (h : Hunted) (seeds : Seeds) (tally : Tally) : Type 0 where
+pub record IsTallyOf (h : Hunted) (seeds : Seeds) (outcomes : Outcomes) : Type 0 where
   pub begun : Tally
-  pub no_rows : begun.rows.items ≡ []
-  pub no_others : begun.others ≡ 0
-  pub noted : AreNoted h seeds.first (seeds.last - seeds.first + 1) begun tally
+  pub nothing : AreEmpty begun
+  pub counted : Tally
+  pub noted : AreNoted h seeds.first (seeds.last - seeds.first + 1) begun counted
+  pub told : AreOutcomesOf counted outcomes
 
 -- the program with this image, as it is run with a shape and an input
 abbrev pub hunted_of : (image : List ℕ) → Shape → Input → Hunted
@@ -107,4 +187,4 @@ hunted_of image s input = record { limit = s.limit; start = fresh s.pages s.hart
 -- the program with this image and this input was hunted as it was asked for: by the first seeds of its range, or by all of them
 pub record IsHunted (image : List ℕ) (input : Input) (asked : Asked) (done : HuntDone) : Type 0 where
   pub begins : IsBeginning asked.seeds asked.may_end done.seeds
-  pub tally : IsTallyOf (hunted_of image asked.shape input) done.seeds done.tally
+  pub tally : IsTallyOf (hunted_of image asked.shape input) done.seeds done.outcomes

@@ -1,5 +1,5 @@
-//! That what is told of a seed is what it does again, in memory or on a disk. Each law is the contract of a function with an
-//! empty body.
+//! That what is told of a seed is what it does again, in memory or on a disk, and what is told of all seeds each of them does.
+//! Each law is the contract of a function with an empty body.
 ghost use Rattle.std.specs.Prelude.{◌≡◌, ℕ};
 ghost use Rattle.ckrt_machine.specs.Steps.{State};
 ghost use Rattle.ckrt_hunt_schedules.specs.declared.plan.Plan.{Plan};
@@ -10,6 +10,7 @@ ghost use Rattle.ckrt_hunt_schedules.specs.KeptDisks.{HasRun, IsToldOf};
 ghost use Rattle.ckrt_hunt_schedules.specs.Runs.{ComesTo};
 ghost use Rattle.ckrt_hunt_schedules.specs.Short.{Repeats};
 ghost use Rattle.ckrt_hunt_schedules.specs.Tallies.{Hunted, SeedComesTo};
+ghost use Rattle.ckrt_hunt_schedules.specs.Verdicts.{OneOutcomeIsOfAll};
 
 use ckrt_disk::Disk;
 
@@ -34,4 +35,9 @@ pub fn told_is_kept_short<D: Disk>()
         (told : Told) → h.start ≡ start_of program → Repeats h seed p
         → (has : HasRun D.Disk program p disk ending) → SeedComesTo h seed told
         → IsToldOf has told }
+{}
+
+/// Where a hunt isn't told to have several outcomes, each of its seeds comes to the one that it has: to `exit 0` where the verdict is good.
+pub fn one_outcome_is_of_all()
+    ensures { OneOutcomeIsOfAll }
 {}

@@ -3,11 +3,11 @@ ghost use Rattle.std.specs.Prelude.{◌≡◌, ◌+◌, ◌≤◌, ◌++◌, ◌
 ghost use Rattle.std.specs.Io.KnownBytes.{Appends};
 ghost use Rattle.ckrt_hunt_schedules.specs.Table.{command_line, drawn_text, head_text, input_text, kept_text, outcome_line, others_line, placed_text, races_word, row_text, rows_text, runs_text, seed_text, shape_text, table_text, unkept_text};
 
+use crate::outcomes::Outcomes;
 use crate::row::Row;
 use crate::seeds::Seeds;
 use crate::shape::Shape;
 use crate::shorten::Found;
-use crate::tally::Tally;
 use crate::texts::{write_counted, write_digest, write_outcome};
 use std::io::{Result, Write};
 
@@ -182,16 +182,15 @@ fn write_others<W: Write>(out: &mut W, asked: &Asked<'_>, others: u64) -> Result
     }
 }
 
-/// Writes what a hunt came to: for each outcome, in the order in which they came first, how often it came, the first seed
-/// that came to it, what it is, and the command that repeats it. A number of the outcome stands before it, from 1 on. It
-/// takes no memory.
+/// Writes what a hunt came to: for each outcome, those that harm first, how often it came, the first seed that came to it, what
+/// it is, and the command that repeats it. A number of the outcome stands before it, from 1 on. It takes no memory.
 #[tactic(auto, using(crate::proofs::AppendLemmas::appends_both))]
-pub fn write_table<W: Write>(out: &mut W, asked: &Asked<'_>, tally: &Tally) -> Result<()>
+pub fn write_table<W: Write>(out: &mut W, asked: &Asked<'_>, outcomes: &Outcomes) -> Result<()>
     ensures { OnOk result
-        (Appends (W.contents out.old) (W.contents out.new) (table_text asked.now tally.now)) }
+        (Appends (W.contents out.old) (W.contents out.new) (table_text asked.now outcomes.now)) }
 {
-    write_rows(out, asked, tally.rows())?;
-    write_others(out, asked, tally.others())
+    write_rows(out, asked, outcomes.rows())?;
+    write_others(out, asked, outcomes.others())
 }
 
 /// A number of switches after a word.

@@ -1,73 +1,81 @@
-//! Outcomes, counted.
-ghost use Rattle.std.specs.Prelude.{◌≡◌, ◌≤◌, [], length, nat_lt, vec_capacity, IfOk};
-ghost use Rattle.ckrt_hunt_schedules.specs.declared.tally.TheConstants.{TALLY_ROWS};
+//! Outcomes, counted by their kinds.
+ghost use Rattle.std.specs.Prelude.{◌≡◌, length, IfOk};
 
-use crate::row::{Row, count_again, place_of};
+use crate::group::Group;
+use crate::kind::{Kind, kind_of};
 use crate::runs::Told;
 use std::alloc::{AllocError, Global};
 
-/// How many outcomes a tally tells apart.
-pub const TALLY_ROWS: usize = 64;
-
-/// What seeds came to: each outcome once, with how often it came, and how many runs had an outcome for which there was no
-/// row left.
+/// What seeds came to. Each kind of outcomes has rows of its own, so none takes the row of another kind's.
 #[derive(Drop)]
 pub struct Tally {
-    pub(crate) rows: Vec<Row>,
-    pub(crate) others: u64,
-    ghost room: { TALLY_ROWS ≤ vec_capacity rows },
+    pub(crate) faults: Group,
+    pub(crate) deadlocks: Group,
+    pub(crate) other_statuses: Group,
+    pub(crate) no_ends: Group,
+    pub(crate) input_waits: Group,
+    pub(crate) exits: Group,
 }
 
 impl Tally {
-    ghost use Rattle.ckrt_hunt_schedules.specs.Tallies.{IsNoted};
+    ghost use Rattle.ckrt_hunt_schedules.specs.Tallies.{AreEmpty, IsNoted, others_of, rows_of};
 
-    /// No outcome yet, and room for [`TALLY_ROWS`] of them.
+    /// No outcome yet, and room for [`GROUP_ROWS`](crate::GROUP_ROWS) of each kind.
     pub fn new(alloc: Global) -> Result<Tally, AllocError>
-        ensures rows { IfOk result (λ tally. tally.rows.items ≡ []) }
-        ensures others { IfOk result (λ tally. tally.others ≡ 0) }
+        ensures { IfOk result AreEmpty }
     {
+        let faults = Group::new(alloc)?;
+        let deadlocks = Group::new(alloc)?;
+        let other_statuses = Group::new(alloc)?;
+        let no_ends = Group::new(alloc)?;
+        let input_waits = Group::new(alloc)?;
+        let exits = Group::new(alloc)?;
         Ok(Tally {
-            rows: Vec::with_capacity(alloc, TALLY_ROWS)?,
-            others: 0,
+            faults,
+            deadlocks,
+            other_statuses,
+            no_ends,
+            input_waits,
+            exits,
         })
     }
 
-    /// The outcomes, in the order in which they came first.
-    pub fn rows(&self) -> &[Row]
-        ensures { result.now ≡ self.now.rows.items }
+    /// How many outcomes have a row.
+    pub fn count(&self) -> usize
+        ensures { result ≡ length (rows_of self.now) }
     {
-        self.rows.as_slice()
+        self.faults.rows.len()
+            + self.deadlocks.rows.len()
+            + self.other_statuses.rows.len()
+            + self.no_ends.rows.len()
+            + self.input_waits.rows.len()
+            + self.exits.rows.len()
     }
 
     /// How many runs had an outcome for which there was no row left.
     pub fn others(&self) -> u64
-        ensures { result ≡ self.now.others }
+        ensures { result ≡ others_of self.now }
     {
-        self.others
-    }
-
-    /// Whether runs came to several outcomes.
-    pub fn has_several(&self) -> bool
-        ensures { result ≡ nat_lt 1 (length self.now.rows.items) }
-    {
-        1 < self.rows.len()
+        self.faults
+            .others
+            .saturating_add(self.deadlocks.others)
+            .saturating_add(self.other_statuses.others)
+            .saturating_add(self.no_ends.others)
+            .saturating_add(self.input_waits.others)
+            .saturating_add(self.exits.others)
     }
 
     /// One more run: a seed came to this. It takes no memory.
     pub fn note(&mut self, seed: u64, told: Told)
         ensures { IsNoted seed told self.old self.new }
     {
-        match place_of(self.rows.as_slice(), &told) {
-            Some(place) => count_again(self.rows.as_mut_slice(), place),
-            None if self.rows.len() < TALLY_ROWS => {
-                let row = Row {
-                    told,
-                    count: 1,
-                    first: seed,
-                };
-                let _ = self.rows.push(row);
-            }
-            None => self.others = self.others.saturating_add(1),
+        match kind_of(&told.outcome) {
+            Kind::Fault => self.faults.note(seed, told),
+            Kind::Deadlock => self.deadlocks.note(seed, told),
+            Kind::OtherStatus => self.other_statuses.note(seed, told),
+            Kind::NoEnd => self.no_ends.note(seed, told),
+            Kind::WaitsForInput => self.input_waits.note(seed, told),
+            Kind::ExitZero => self.exits.note(seed, told),
         }
     }
 }

@@ -8,6 +8,7 @@ ghost use Rattle.ckrt_hunt_schedules.specs.Tallies.{IsHunted};
 
 use crate::hunt::Hunt;
 use crate::onlooker::HuntOnlooker;
+use crate::outcomes::Outcomes;
 use crate::plan::Input;
 use crate::seeds::Seeds;
 use crate::table::{Asked, write_table};
@@ -37,7 +38,7 @@ pub struct HuntDone {
     /// The seeds that were run.
     pub seeds: Seeds,
     /// What they came to.
-    pub tally: Tally,
+    pub outcomes: Outcomes,
 }
 
 /// Runs the seeds.
@@ -56,8 +57,10 @@ fn hunt_seeds<O: HuntOnlooker>(
 {
     let mut hunt = Hunt::new(alloc, image, asked.shape, input)?;
     let mut tally = Tally::new(alloc)?;
+    let mut outcomes = Outcomes::new(alloc)?;
     let seeds = hunt.note_seeds(&mut tally, asked.seeds, asked.may_end, onlooker);
-    Ok(HuntDone { seeds, tally })
+    outcomes.take(&mut tally);
+    Ok(HuntDone { seeds, outcomes })
 }
 
 /// The fault that comes of a machine's.
@@ -104,7 +107,7 @@ pub fn hunt_and_tell<O: HuntOnlooker, W: Write>(
         seeds: done.seeds,
         ..*asked
     };
-    match write_table(out, &told, &done.tally) {
+    match write_table(out, &told, &done.outcomes) {
         Ok(()) => Ok(done),
         Err(_) => Err(HuntFault::Write),
     }

@@ -4,7 +4,7 @@ ghost use Rattle.std.specs.Prelude.{◌≤◌};
 
 use crate::expect::{expect_eq, image_of};
 use ckrt_drive::Nobody;
-use ckrt_hunt_schedules::{Hunt, Input, Outcome, Row, Seeds, Shape, Tally, Waiting};
+use ckrt_hunt_schedules::{Hunt, Input, Outcome, Outcomes, Row, Seeds, Shape, Tally, Waiting};
 use ckrt_rv32i::Cause;
 use std::process::Abort;
 
@@ -35,8 +35,20 @@ fn hunt_of<R: Abort + AllocGlobal>(rt: &R, words: &[u32]) -> Hunt<'static> {
     }
 }
 
+/// The outcomes of a tally.
+pub fn outcomes_in<R: Abort + AllocGlobal>(rt: &R, tally: &mut Tally) -> Outcomes {
+    match Outcomes::new(rt.alloc()) {
+        Ok(outcomes) => {
+            let mut outcomes = outcomes;
+            outcomes.take(tally);
+            outcomes
+        }
+        Err(_) => panic!(rt; "memory for outcomes"),
+    }
+}
+
 /// What so many seeds of a program come to, from seed 0 on.
-pub fn tally_of<R: Abort + AllocGlobal>(rt: &R, words: &[u32], seeds: u64) -> Tally
+pub fn outcomes_of<R: Abort + AllocGlobal>(rt: &R, words: &[u32], seeds: u64) -> Outcomes
     requires some { 1 ≤ seeds }
 {
     let seeds = Seeds {
@@ -47,7 +59,7 @@ pub fn tally_of<R: Abort + AllocGlobal>(rt: &R, words: &[u32], seeds: u64) -> Ta
         Ok(tally) => {
             let mut tally = tally;
             hunt_of(rt, words).note_seeds(&mut tally, seeds, false, &mut Nobody);
-            tally
+            outcomes_in(rt, &mut tally)
         }
         Err(_) => panic!(rt; "memory for a tally"),
     }

@@ -1,7 +1,7 @@
 //! Runs that are kept on disks in memory.
 
 use crate::expect::{expect_eq, image_of};
-use crate::hunts::{SHAPE, tally_of};
+use crate::hunts::{SHAPE, outcomes_of};
 use crate::outcomes::RACES;
 use ckrt_disk::{Disk, MemoryDisk};
 use ckrt_hunt_schedules::{KeptDisk, Outcome, Plan, Row, SeedFault, keep_seed};
@@ -63,8 +63,8 @@ fn expect_kept<R: Abort + AllocGlobal>(rt: &R, words: &[u32], row: &Row) {
 
 #[test]
 fn kept_runs_recover_to_their_outcomes(rt: HostRuntime) {
-    let tally = tally_of(&rt, &RACES, 100);
-    for row in tally.rows() {
+    let outcomes = outcomes_of(&rt, &RACES, 100);
+    for row in outcomes.rows() {
         expect_kept(&rt, &RACES, row);
     }
 }

@@ -1,8 +1,8 @@
 //! What programs come to under each schedule. The digests are those of `sha256sum`.
 
 use crate::expect::expect_eq;
-use crate::hunts::{Wanted, expect_outcome, tally_of};
-use ckrt_hunt_schedules::{Awaited, Tally, Waiting};
+use crate::hunts::{Wanted, expect_outcome, outcomes_of};
+use ckrt_hunt_schedules::{Awaited, Outcomes, Waiting};
 use ckrt_rv32i::Cause;
 use std::process::Abort;
 
@@ -154,10 +154,10 @@ const CASES: [Case; 7] = [
 
 /// All of ten seeds come to the outcome.
 fn expect_case<R: Abort + AllocGlobal>(rt: &R, case: &Case) {
-    let tally = tally_of(rt, case.words, 10);
-    expect_eq(rt, tally.rows().len(), 1);
-    expect_eq(rt, tally.others(), 0);
-    for row in tally.rows() {
+    let outcomes = outcomes_of(rt, case.words, 10);
+    expect_eq(rt, outcomes.rows().len(), 1);
+    expect_eq(rt, outcomes.others(), 0);
+    for row in outcomes.rows() {
         expect_eq(rt, row.count, 10);
         expect_eq(rt, row.first, 0);
         expect_eq(rt, row.told.digest, case.digest);
@@ -172,10 +172,10 @@ fn programs_with_one_outcome(rt: HostRuntime) {
     }
 }
 
-/// How many runs a tally has counted with the outcomes of its rows.
-fn count_of(tally: &Tally) -> u64 {
+/// How many runs came to the outcomes that have a row.
+fn count_of(outcomes: &Outcomes) -> u64 {
     let mut count: u64 = 0;
-    for row in tally.rows() {
+    for row in outcomes.rows() {
         count = count.saturating_add(row.count);
     }
     count
@@ -183,7 +183,7 @@ fn count_of(tally: &Tally) -> u64 {
 
 #[test]
 fn race_has_two_outcomes(rt: HostRuntime) {
-    let tally = tally_of(&rt, &RACES, 100);
-    expect_eq(&rt, tally.rows().len(), 2);
-    expect_eq(&rt, count_of(&tally), 100);
+    let outcomes = outcomes_of(&rt, &RACES, 100);
+    expect_eq(&rt, outcomes.rows().len(), 2);
+    expect_eq(&rt, count_of(&outcomes), 100);
 }

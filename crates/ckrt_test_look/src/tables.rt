@@ -3,12 +3,12 @@
 ghost use Rattle.std.specs.Prelude.{◌≤◌, ◌<◌};
 
 use crate::expect::{expect_eq, image_of};
-use crate::hunts::SHAPE;
+use crate::hunts::{SHAPE, outcomes_in};
 use arrayvec::ArrayVec;
 use ckrt_drive::Nobody;
 use ckrt_hunt_schedules::{
-    Asked, Awaited, HuntFault, HuntOnlooker, HuntWatch, Input, Outcome, Seeds, Shape, Tally, Told,
-    Waiting, hunt_and_tell, write_table,
+    Asked, Awaited, HuntFault, HuntOnlooker, HuntWatch, Input, Outcome, Outcomes, Seeds, Shape,
+    Tally, Told, Verdict, Waiting, hunt_and_tell, write_table,
 };
 use ckrt_rv32i::Cause;
 use std::process::Abort;
@@ -145,7 +145,7 @@ fn circle_of_two() -> ArrayVec<Waiting, 64> {
     circle
 }
 
-/// A tally with each kind of outcome, the first one twice.
+/// A tally with each kind of outcome, one of them twice.
 fn tally_of_each<R: Abort + AllocGlobal>(rt: &R) -> Tally {
     let mut tally = empty_tally(rt);
     let mut waitings = ArrayVec::new();
@@ -163,6 +163,7 @@ fn tally_of_each<R: Abort + AllocGlobal>(rt: &R) -> Tally {
     note(&mut tally, 5, Outcome::WaitsForInput, None);
     note(&mut tally, 6, Outcome::NoEnd(ArrayVec::new()), None);
     note(&mut tally, 7, Outcome::NoEnd(circle_of_two()), None);
+    note(&mut tally, 8, Outcome::Exited(0), Some(OF_A));
     tally
 }
 
@@ -181,54 +182,135 @@ fn asked_for(first: u64, last: u64) -> Asked<'static>
     }
 }
 
-/// What is printed of a tally of 200 runs.
-fn table_of<R: Abort + AllocGlobal>(rt: &R, tally: &Tally) -> Vec<u8> {
+/// What is printed of outcomes of 200 runs.
+fn table_of<R: Abort + AllocGlobal>(rt: &R, outcomes: &Outcomes) -> Vec<u8> {
     let mut writer = Vec::new(rt.alloc());
-    let written = write_table(&mut writer, &asked_for(1, 200), tally);
+    let written = write_table(&mut writer, &asked_for(1, 200), outcomes);
     assert!(rt; written.is_ok());
     writer
 }
 
 const TABLE: &[u8] = b"\
-outcome 1: 2 of 200 runs, first by seed 1: exit 7, output 559aead0
-    ckrt hunt race.bin --seeds 1-1 --pages 16 --harts 2 --steps 10000 --keep seed-1.disk
-outcome 2: 1 of 200 runs, first by seed 2: fault of thread 2 at 00001234, LoadRange
+outcome 1: 1 of 200 runs, first by seed 2: fault of thread 2 at 00001234, LoadRange
     ckrt hunt race.bin --seeds 2-2 --pages 16 --harts 2 --steps 10000 --keep seed-2.disk
-outcome 3: 1 of 200 runs, first by seed 4: deadlock, thread 1 waits for the end of thread 2, \
+outcome 2: 1 of 200 runs, first by seed 4: deadlock, thread 1 waits for the end of thread 2, \
 thread 2 waits for mutex 00002c58 (thread 3 has it), thread 3 waits for condition 00000040, \
 thread 4 waits for barrier 0000fffc, thread 5 waits for read lock 10000000, \
 thread 6 waits for write lock fffffffc, thread 7 waits for mutex 00002c5c, thread 63 waits for input, thread 64 waits for its deadline
     ckrt hunt race.bin --seeds 4-4 --pages 16 --harts 2 --steps 10000 --keep seed-4.disk
-outcome 4: 1 of 200 runs, first by seed 5: waits for input
-    ckrt hunt race.bin --seeds 5-5 --pages 16 --harts 2 --steps 10000 --keep seed-5.disk
-outcome 5: 1 of 200 runs, first by seed 6: no end within 10000 steps or events
+outcome 3: 2 of 200 runs, first by seed 1: exit 7, output 559aead0
+    ckrt hunt race.bin --seeds 1-1 --pages 16 --harts 2 --steps 10000 --keep seed-1.disk
+outcome 4: 1 of 200 runs, first by seed 6: no end within 10000 steps or events
     ckrt hunt race.bin --seeds 6-6 --pages 16 --harts 2 --steps 10000 --keep seed-6.disk
-outcome 6: 1 of 200 runs, first by seed 7: no end within 10000 steps or events, thread 2 waits for mutex 00002c58 (thread 3 has it), thread 3 waits for the end of thread 2
+outcome 5: 1 of 200 runs, first by seed 7: no end within 10000 steps or events, thread 2 waits for mutex 00002c58 (thread 3 has it), thread 3 waits for the end of thread 2
     ckrt hunt race.bin --seeds 7-7 --pages 16 --harts 2 --steps 10000 --keep seed-7.disk
+outcome 6: 1 of 200 runs, first by seed 5: waits for input
+    ckrt hunt race.bin --seeds 5-5 --pages 16 --harts 2 --steps 10000 --keep seed-5.disk
+outcome 7: 1 of 200 runs, first by seed 8: exit 0, output 559aead0
+    ckrt hunt race.bin --seeds 8-8 --pages 16 --harts 2 --steps 10000 --keep seed-8.disk
 ";
 
 #[test]
 fn each_outcome_is_told(rt: HostRuntime) {
-    let tally = tally_of_each(&rt);
-    expect_eq(&rt, tally.has_several(), true);
-    let table = table_of(&rt, &tally);
+    let mut tally = tally_of_each(&rt);
+    expect_eq(&rt, tally.count(), 7);
+    let outcomes = outcomes_in(&rt, &mut tally);
+    expect_eq(&rt, outcomes.verdict(), Verdict::Several);
+    let table = table_of(&rt, &outcomes);
     expect_eq(&rt, table.as_slice(), TABLE);
 }
 
-/// The end of a table with more outcomes than rows.
+/// The end of a table with more outcomes of a kind than rows.
 const OTHERS: &[u8] = b" --seeds 64-64 --pages 16 --harts 2 --steps 10000 --keep seed-64.disk
 other outcomes: 2 of 200 runs
 ";
 
-#[test]
-fn outcomes_without_a_row_are_told(rt: HostRuntime) {
-    let mut tally = empty_tally(&rt);
-    expect_eq(&rt, tally.has_several(), false);
+/// A tally of exits with 66 statuses.
+fn crowded_tally<R: Abort + AllocGlobal>(rt: &R) -> Tally {
+    let mut tally = empty_tally(rt);
     for seed in 1..67 {
         note(&mut tally, u64::from(seed), Outcome::Exited(seed), None);
     }
-    let table = table_of(&rt, &tally);
+    tally
+}
+
+#[test]
+fn outcomes_without_a_row_are_told(rt: HostRuntime) {
+    let outcomes = outcomes_in(&rt, &mut crowded_tally(&rt));
+    expect_eq(&rt, outcomes.others(), 2);
+    let table = table_of(&rt, &outcomes);
     expect_eq(&rt, table.as_slice().ends_with(OTHERS), true);
+}
+
+/// The beginning of a table with a deadlock behind more outcomes of other kinds than rows.
+const LATE: &[u8] = b"outcome 1: 1 of 200 runs, first by seed 67: deadlock
+    ckrt hunt race.bin --seeds 67-67 ";
+
+#[test]
+fn each_kind_has_rows_of_its_own(rt: HostRuntime) {
+    let mut tally = crowded_tally(&rt);
+    note(&mut tally, 67, Outcome::Deadlock(ArrayVec::new()), None);
+    let outcomes = outcomes_in(&rt, &mut tally);
+    expect_eq(&rt, outcomes.rows().len(), 65);
+    let table = table_of(&rt, &outcomes);
+    expect_eq(&rt, table.as_slice().starts_with(LATE), true);
+}
+
+/// What two runs come to together.
+fn verdict_of<R: Abort + AllocGlobal>(rt: &R, first: Told, second: Told) -> Verdict {
+    let mut tally = empty_tally(rt);
+    tally.note(1, first);
+    tally.note(2, second);
+    outcomes_in(rt, &mut tally).verdict()
+}
+
+/// An exit with this status, behind the output `A`.
+fn exit(status: u32) -> Told {
+    Told {
+        outcome: Outcome::Exited(status),
+        digest: Some(OF_A),
+    }
+}
+
+/// What is told of a run that didn't exit.
+fn cut(outcome: Outcome) -> Told {
+    Told {
+        outcome,
+        digest: None,
+    }
+}
+
+fn fault() -> Told {
+    cut(Outcome::Faulted(2, 0x1234, Cause::LoadRange))
+}
+
+fn deadlock() -> Told {
+    cut(Outcome::Deadlock(circle_of_two()))
+}
+
+fn no_end() -> Told {
+    cut(Outcome::NoEnd(ArrayVec::new()))
+}
+
+fn waits() -> Told {
+    cut(Outcome::WaitsForInput)
+}
+
+#[test]
+fn outcomes_have_a_verdict(rt: HostRuntime) {
+    let other = Told {
+        outcome: Outcome::Exited(0),
+        digest: Some([0; 32]),
+    };
+    expect_eq(&rt, verdict_of(&rt, exit(0), exit(0)), Verdict::Good);
+    expect_eq(&rt, verdict_of(&rt, exit(0), other), Verdict::Several);
+    expect_eq(&rt, verdict_of(&rt, exit(0), exit(7)), Verdict::Several);
+    expect_eq(&rt, verdict_of(&rt, fault(), deadlock()), Verdict::Several);
+    expect_eq(&rt, verdict_of(&rt, exit(7), exit(7)), Verdict::Bad);
+    expect_eq(&rt, verdict_of(&rt, fault(), fault()), Verdict::Bad);
+    expect_eq(&rt, verdict_of(&rt, deadlock(), deadlock()), Verdict::Bad);
+    expect_eq(&rt, verdict_of(&rt, no_end(), no_end()), Verdict::Bad);
+    expect_eq(&rt, verdict_of(&rt, waits(), waits()), Verdict::Bad);
 }
 
 /// Puts `A`, and exits with status 7.

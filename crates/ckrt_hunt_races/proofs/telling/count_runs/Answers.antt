@@ -19,9 +19,10 @@ returns-clause-counted g c =
       begins = ensures.begins;
       tally = record {
         begun = old;
-        no_rows = c.in_ok-tally.ensures.rows;
-        no_others = c.in_ok-tally.ensures.others;
+        nothing = c.in_ok-tally.ensures.nothing;
+        counted = new;
         noted = subst (λ n. AreNoted h n (some.last - n + 1) old new) first ensures.noted;
+        told = c.take.ensures;
       };
       looked = subst (λ n. AreLookedAt h n (some.last - n + 1) no_races races) first
           (subst (λ (r : Raced). AreLookedAt h all.first (some.last - all.first + 1) r races) c.in_ok-tally.ensures.races ensures.looked_at);

@@ -11,7 +11,7 @@ returns-in-Ok-clause-hunted g c =
     IfOk-weaker c.count_all.result _ _ (λ (told : HuntTold) counted. record {
       hunted = record {
         begins = counted.begins;
-        tally = subst (λ (h : Hunted). IsTallyOf h told.done.seeds told.done.tally) c.in-Ok.ensures.hunted counted.tally;
+        tally = subst (λ (h : Hunted). IsTallyOf h told.done.seeds told.done.outcomes) c.in-Ok.ensures.hunted counted.tally;
       };
       looked = subst (λ (h : Hunted). AreAskedRaces h told.done.seeds true told.races) c.in-Ok.ensures.hunted counted.looked;
     }) c.count_all.ensures.counted

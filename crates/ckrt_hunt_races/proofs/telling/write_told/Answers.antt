@@ -9,4 +9,4 @@ pub returns : goal.returns
 returns g c =
     let has = g.W.Write.contents in
     on_ok_weaker c.write_races_behind.result (λ last.
-    appends_both (has c.args.out.now) (has c.write_table.new.out) (has c.write_races_behind.new.out) (table_text c.args.asked.now c.args.told.now.done.tally) (races_behind c.args.asked.now c.args.told.now.races) c.in_ok-write_table.ensures last) c.write_races_behind.ensures
+    appends_both (has c.args.out.now) (has c.write_table.new.out) (has c.write_races_behind.new.out) (table_text c.args.asked.now c.args.told.now.done.outcomes) (races_behind c.args.asked.now c.args.told.now.races) c.in_ok-write_table.ensures last) c.write_races_behind.ensures

@@ -13,8 +13,8 @@ returns g c =
     let b = has c.write_rows.new.out in
     let z = has c.write_others.new.out in
     let asked = c.args.asked.now in
-    let rows = c.args.tally.now.rows.items in
-    let others = c.args.tally.now.others in
+    let rows = c.args.outcomes.now.rows.items in
+    let others = c.args.outcomes.now.others in
     let first : Appends a b (rows_text asked rows (length rows)) = subst (λ rows. Appends a b (rows_text asked rows (length rows))) c.rows.ensures c.in_ok-write_rows.ensures in
     on_ok_weaker c.write_others.result (λ last.
     appends_both a b z (rows_text asked rows (length rows)) (others_line asked others) first (subst (λ n. Appends b z (others_line asked n)) c.others.ensures last)) c.write_others.ensures

@@ -14,9 +14,10 @@ returns-clause-hunted g c =
       begins = c.note_seeds-seeds.ensures.begins;
       tally = record {
         begun = old;
-        no_rows = c.in_ok-tally.ensures.rows;
-        no_others = c.in_ok-tally.ensures.others;
+        nothing = c.in_ok-tally.ensures;
+        counted = new;
         noted = subst (λ (h : Hunted). AreNoted h some.first (some.last - some.first + 1) old new) c.in_ok-hunt.ensures.hunted
             (subst (λ n. AreNoted c.in_ok-hunt.hunt n (some.last - n + 1) old new) first c.note_seeds-seeds.ensures.noted);
+        told = c.take.ensures;
       };
     }

@@ -1,26 +1,22 @@
-use Rattle.std.proofs.Common.{◌≡◌, ◌∙◌, ◌++◌, length, take, drop, slice_get, slice_set, refl, ap, subst, arith, rules}
-use Rattle.std.proofs.Math.Seq.{take-append_seam}
-use Rattle.ckrt_hunt_schedules.specs.Tallies.{HasNone, IsFirst, one_more}
-use Rattle.ckrt_hunt_schedules.proofs.TallyLemmas.{noted_again, noted_first, noted_full}
+use Rattle.std.proofs.Common.{refl}
+use Rattle.ckrt_hunt_schedules.specs.declared.kind.Kind.TheVariants as kind
+use Rattle.ckrt_hunt_schedules.proofs.TallyLemmas.{noted_as}
 use Rattle.ckrt_hunt_schedules.proofs.tally.Tally.note.Goals as goal
 
-pub returns-in-Some : goal.returns-in-Some
-returns-in-Some c =
-    let found = c.in-Some.ensures.found in
-    let first : IsFirst c.args.told c.args.self.now.rows.items c.in-Some.place found.0 = subst (λ rows. IsFirst c.args.told rows c.in-Some.place found.0) c.as_slice.ensures.value found.1 in
-    let xs = c.count_again.new.rows in
-    let row = ap (λ rows. slice_get rows c.in-Some.place) c.as_mut_slice.ensures.value ∙ first.row in
-    let set : xs ≡ slice_set c.args.self.now.rows.items c.in-Some.place (record found.0 { count = one_more found.0.count }) = c.count_again.ensures found.0 row ∙ ap (λ rows. slice_set rows c.in-Some.place (record found.0 { count = one_more found.0.count })) c.as_mut_slice.ensures.value in
-    let n : length xs ≡ c.args.self.now.rows.len = grind (arith, c.count_again.auto.rows, c.as_mut_slice.ensures.len, ap length c.as_mut_slice.ensures.value) in
-    let taken : take c.args.self.now.rows.len (xs ++ drop (length xs) c.args.self.now.rows.items) ≡ xs = subst (λ k. take k (xs ++ drop (length xs) c.args.self.now.rows.items) ≡ xs) n (take-append_seam xs (drop (length xs) c.args.self.now.rows.items)) in
-    noted_again c.args.seed c.args.told c.args.self.now _ c.in-Some.place found.0 first (taken ∙ set) refl
+pub returns-in-Fault : goal.returns-in-Fault
+returns-in-Fault c = noted_as c.args.seed c.args.told kind.Fault c.note.new.self c.args.self.now _ c.in-Fault.ensures c.note.ensures refl
 
-pub returns-in-None : goal.returns-in-None
-returns-in-None c =
-    let none : HasNone c.args.told c.args.self.now.rows.items (length c.args.self.now.rows.items) = subst (λ rows. HasNone c.args.told rows (length rows)) c.as_slice.ensures.value (c.in-None.ensures.none refl) in
-    noted_first c.args.seed c.args.told c.args.self.now _ none (omega (arith, c.len.ensures, c.if-len-lt-TALLY_ROWS.true)) (let h = c.push.ensures in search rules) refl
+pub returns-in-Deadlock : goal.returns-in-Deadlock
+returns-in-Deadlock c = noted_as c.args.seed c.args.told kind.Deadlock c.note-in-Deadlock.new.self c.args.self.now _ c.in-Deadlock.ensures c.note-in-Deadlock.ensures refl
 
-pub returns-in-None-2 : goal.returns-in-None-2
-returns-in-None-2 c =
-    let none : HasNone c.args.told c.args.self.now.rows.items (length c.args.self.now.rows.items) = subst (λ rows. HasNone c.args.told rows (length rows)) c.as_slice.ensures.value (c.in-None-2.ensures.none refl) in
-    noted_full c.args.seed c.args.told c.args.self.now _ none (omega (arith, c.len.ensures, c.if-len-lt-TALLY_ROWS.false)) refl (search rules)
+pub returns-in-OtherStatus : goal.returns-in-OtherStatus
+returns-in-OtherStatus c = noted_as c.args.seed c.args.told kind.OtherStatus c.note-in-OtherStatus.new.self c.args.self.now _ c.in-OtherStatus.ensures c.note-in-OtherStatus.ensures refl
+
+pub returns-in-NoEnd : goal.returns-in-NoEnd
+returns-in-NoEnd c = noted_as c.args.seed c.args.told kind.NoEnd c.note-in-NoEnd.new.self c.args.self.now _ c.in-NoEnd.ensures c.note-in-NoEnd.ensures refl
+
+pub returns-in-WaitsForInput : goal.returns-in-WaitsForInput
+returns-in-WaitsForInput c = noted_as c.args.seed c.args.told kind.WaitsForInput c.note-in-WaitsForInput.new.self c.args.self.now _ c.in-WaitsForInput.ensures c.note-in-WaitsForInput.ensures refl
+
+pub returns-in-ExitZero : goal.returns-in-ExitZero
+returns-in-ExitZero c = noted_as c.args.seed c.args.told kind.ExitZero c.note-in-ExitZero.new.self c.args.self.now _ c.in-ExitZero.ensures c.note-in-ExitZero.ensures refl
