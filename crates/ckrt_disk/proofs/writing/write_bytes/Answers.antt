@@ -1,7 +1,7 @@
 use Rattle.std.proofs.Common.{◌≡◌, drop, rules}
 use Rattle.ckrt_disk.proofs.WriteLemmas.{bytes_kept, bytes_more}
-use Rattle.ckrt_commands.proofs.writing.write_bytes.Goals as goal
-use Rattle.ckrt_commands.proofs.writing.write_bytes.Goals.{in-Ok, in-Err+else-ne}
+use Rattle.ckrt_disk.proofs.writing.write_bytes.Goals as goal
+use Rattle.ckrt_disk.proofs.writing.write_bytes.Goals.{in-Ok, in-Err+else-ne}
 
 pub loop-preserved : goal.loop-preserved
 loop-preserved g c =
