@@ -36,8 +36,16 @@ pub struct NamedWriter<W: Write> {
 }
 
 impl<W: Write> NamedWriter<W> {
-    /// Over a writer.
+    ghost use Rattle.ckrt_cli_names.specs.Writers.{inner_of, line_of, put_by, start_of, waiting_of};
+    ghost use Rattle.ckrt_cli_names.specs.Rows.{HasNone};
+
+    /// One over a writer, with these names. What it takes is what that one has so far.
+    #[tactic(auto, using(crate::proofs::PutLemmas::nothing_taken))]
     pub fn new(alloc: Global, names: Names, inner: W) -> NamedWriter<W>
+        ensures start { start_of result ≡ inner ∷ [] }
+        ensures put { put_by result ≡ [] }
+        ensures names { result.names ≡ names }
+        ensures contents { Keeps (W.contents inner) (⟦<NamedWriter<W> as Write>⟧.contents result) }
     {
         let start = History::new().with(&inner);
         NamedWriter {
@@ -51,6 +59,21 @@ impl<W: Write> NamedWriter<W> {
             start,
             put: Calls::new(),
         }
+    }
+
+    /// What always holds of it. What it has taken are the pieces that were put and aren't notes, and the line that isn't put yet. What the
+    /// writer below has been given since the begin are all pieces in their order, but for what waits: nothing twice, nothing left
+    /// out. Without names no piece is a note.
+    pub fn known(&self)
+        ensures taken { ⟦<NamedWriter<W> as Write>⟧.contents self.now
+            ≡ append_known (contents_at_first W.contents (start_of self.now))
+            (taken_with (put_by self.now) (line_of self.now)) }
+        ensures shown { HasShown (contents_at_first W.contents (start_of self.now))
+            (W.contents (inner_of self.now)) (waiting_of self.now) (put_by self.now) }
+        ensures plain { HasNone self.now.names
+            → shown_of (put_by self.now) ≡ taken_of (put_by self.now) }
+    {
+        let _ = &self.inner;
     }
 
     /// Puts bytes that were taken behind what waits.
@@ -128,8 +151,9 @@ impl<W: Write> NamedWriter<W> {
         ensures start { self.new.start ≡ self.old.start }
         ensures put { self.new.put.made ≡ self.old.put.made }
     {
-        self.note.clear();
-        if !self.is_begun {
+        if self.is_begun {
+            self.note.clear();
+        } else {
             self.names.push_note(&self.line, &mut self.note);
         }
     }
