@@ -1,5 +1,6 @@
 //! The names of a guest's source.
-ghost use Rattle.std.specs.Prelude.{◌≡◌, ◌↔◌, [], IsTrue, IfOk};
+ghost use Rattle.std.specs.Prelude.{◌≡◌, ◌<◌, ◌↔◌, [], IsTrue, IfOk, IfSome, Err, Contains, vec_len};
+ghost use Rattle.ckrt_cli_names.specs.Rows.{HasNone, IsInOrder, LiesIn, bytes_of, rows_of};
 
 use crate::fault::NamesFault;
 use crate::rows::{Head, Row, read_head, read_rows};
@@ -23,7 +24,7 @@ const NOTE_LIMIT: usize = 4_096;
 impl Names {
     /// No names.
     pub fn none(alloc: Global) -> Names
-        ensures { result.rows.items ≡ [] }
+        ensures { HasNone result }
     {
         Names {
             bytes: Vec::new(alloc),
@@ -35,8 +36,12 @@ impl Names {
         }
     }
 
-    /// The names that a file has.
-    pub fn parse(alloc: Global, bytes: Vec<u8>) -> Result<Names, NamesFault> {
+    /// The names that a file has, whose bytes they keep.
+    pub fn parse(alloc: Global, bytes: Vec<u8>) -> Result<Names, NamesFault>
+        ensures bytes { IfOk result (λ names. bytes_of names ≡ bytes.items) }
+        ensures order { IfOk result (λ names. IsInOrder (rows_of names)) }
+        ensures large { SIZE_LIMIT < vec_len bytes → result ≡ Err NamesFault.TooLarge }
+    {
         if bytes.len() > SIZE_LIMIT {
             return Err(NamesFault::TooLarge);
         }
@@ -69,13 +74,20 @@ impl Names {
     }
 
     /// The row that an address lies in.
-    fn row_of(&self, address: u32) -> Option<Row> {
+    fn row_of(&self, address: u32) -> Option<Row>
+        ensures inside { IfSome result (λ row. LiesIn address row) }
+        ensures known { IfSome result (λ row. Contains (rows_of self.now) row) }
+    {
         let count = self.rows.partition_point(|row| row.begin <= address);
         if count == 0 {
             return None;
         }
         let row = self.rows[count - 1];
-        if address < row.end { Some(row) } else { None }
+        if row.begin <= address && address < row.end {
+            Some(row)
+        } else {
+            None
+        }
     }
 
     /// Puts the text of an address behind those of a note.

@@ -1,5 +1,6 @@
 //! The rows of a file of names.
-ghost use Rattle.std.specs.Prelude.{◌≤◌, ◌<◌, ◌+◌, ◌^◌, length, IfSome};
+ghost use Rattle.std.specs.Prelude.{◌≤◌, ◌<◌, ◌+◌, ◌^◌, length, IfSome, IfOk};
+ghost use Rattle.ckrt_cli_names.specs.Rows.{IsInOrder};
 
 use crate::fault::NamesFault;
 use crate::scan::hex_word;
@@ -67,6 +68,7 @@ fn kind(line: &[u8]) -> Option<bool> {
 /// The row of a line that stands there in the file.
 fn read_row(line: &[u8], at: usize) -> Option<Row>
     requires { at + length line.now < 2 ^ 64 }
+    ensures { IfSome result (λ row. row.begin ≤ row.end) }
 {
     if line.len() <= TEXT_AT || line[11] != b' ' || line[20] != b' ' {
         return None;
@@ -94,7 +96,9 @@ fn line_length(bytes: &[u8], at: usize) -> Option<usize>
 }
 
 /// The rows from there on.
+#[tactic(auto, using(crate::proofs::RowLemmas::order_more, crate::proofs::RowLemmas::ends_more))]
 pub(crate) fn read_rows(alloc: Global, bytes: &[u8]) -> Result<Vec<Row>, NamesFault>
+    ensures { IfOk result (λ rows. IsInOrder rows.items) }
 {
     let mut rows = Vec::new(alloc);
     let mut at = HEAD.min(bytes.len());
