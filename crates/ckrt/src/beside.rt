@@ -143,7 +143,7 @@ fn give<R: Files<File = File>>(rt: &R, alloc: Global, image: &str, disk: &str) {
 
 /// Takes them away again, where no disk was made.
 fn take_back<R: Files<File = File>>(rt: &R, alloc: Global, disk: &str) {
-    if rt.metadata(disk).is_err() {
+    if !is_there(rt, disk) {
         if let Ok(path) = names_path(alloc, disk) {
             let _ = rt.remove_file(path.as_str());
         }
@@ -198,7 +198,7 @@ fn of_drive<'a, R: Files<File = File>>(
         None => None,
     };
     if let (Some(image), Some(_)) = (job.image, &of_image) {
-        if rt.metadata(job.disk).is_err() {
+        if !is_there(rt, job.disk) {
             give(rt, alloc, image, job.disk);
         }
     }
@@ -243,20 +243,34 @@ pub fn before<'a, R: Files<File = File>>(
 /// How many disks a hunt may leave in a folder.
 const MOST_DISKS: u32 = 64;
 
+/// Whether there is a file of this path.
+fn is_there<R: Files<File = File>>(rt: &R, path: &str) -> bool {
+    rt.metadata(path).is_ok()
+}
+
+/// Gives a disk that a hunt has kept the names of its image, unless it has some.
+fn give_if_kept<R: Files<File = File>>(rt: &R, alloc: Global, image: &str, disk: &str) {
+    if let Ok(path) = names_path(alloc, disk) {
+        if is_there(rt, disk) && !is_there(rt, path.as_str()) {
+            give(rt, alloc, image, disk);
+        }
+    }
+}
+
 /// Gives the disks of a hunt the names of its image.
 fn give_kept<R: Files<File = File>>(rt: &R, alloc: Global, job: &HuntJob<'_>) {
     let Some(keep) = job.keep else {
         return;
     };
     if !keep.ends_with("/") {
-        give(rt, alloc, job.image, keep);
-        take_back(rt, alloc, keep);
+        if is_there(rt, keep) {
+            give(rt, alloc, job.image, keep);
+        }
         return;
     }
     for number in 1..=MOST_DISKS {
         if let Ok(disk) = format!(in alloc; "{keep}outcome-{number}.disk") {
-            give(rt, alloc, job.image, disk.as_str());
-            take_back(rt, alloc, disk.as_str());
+            give_if_kept(rt, alloc, job.image, disk.as_str());
         }
     }
 }

@@ -46,17 +46,17 @@ fn run<'a>(
 fn refuse(rt: &HostRuntime, refusal: Refusal<'_>) -> u8 {
     let Refusal { path, trouble } = refusal;
     let text = trouble.text();
-    let name = if trouble == Trouble::OutOfMemory { "OutOfMemory" } else { "Names" };
+    let name = if trouble == Trouble::OutOfMemory {
+        "OutOfMemory"
+    } else {
+        "Names"
+    };
     let _ = eprintln!(rt; "the names {path}.names: {text}\nckrt: {name}");
     1
 }
 
 /// The job of these words, with the names beside its files, which what it makes gets too.
-fn run_named<'a>(
-    rt: &'a HostRuntime,
-    words: &'a [&'a str],
-    why: &'a Cell<OutputReason>,
-) -> u8 {
+fn run_named<'a>(rt: &'a HostRuntime, words: &'a [&'a str], why: &'a Cell<OutputReason>) -> u8 {
     let Ok(job) = read_words(rt.alloc(), words) else {
         return run(rt, words, why, beside::none(rt.alloc()));
     };

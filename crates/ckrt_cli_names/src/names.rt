@@ -101,7 +101,11 @@ impl Names {
         if note.len() >= NOTE_LIMIT || text.len() > NOTE_LIMIT {
             return Ok(());
         }
-        note.extend_from_slice(if note.is_empty() { b"    # ".as_slice() } else { b"; ".as_slice() })?;
+        note.extend_from_slice(if note.is_empty() {
+            b"    # ".as_slice()
+        } else {
+            b"; ".as_slice()
+        })?;
         note.extend_from_slice(text)?;
         if row.tells_offset && address > row.begin {
             let mut digits = itoa::Buffer::new();
