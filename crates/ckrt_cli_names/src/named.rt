@@ -76,6 +76,13 @@ impl<W: Write> NamedWriter<W> {
         let _ = &self.inner;
     }
 
+    /// The writer below, with what it has been given by now.
+    pub fn into_inner(self) -> W
+        ensures { result ≡ inner_of self }
+    {
+        self.inner
+    }
+
     /// Puts bytes that were taken behind what waits.
     fn put_taken(&mut self, bytes: &[u8]) -> Result<(), AllocError>
         ensures line { self.new.line ≡ self.old.line }

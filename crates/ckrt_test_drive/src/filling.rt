@@ -3,9 +3,9 @@
 
 use crate::expect::{expect_eq_at, filled, memory_disk, stopping_disk};
 use crate::small_disk::{SMALL, format_outcome, recovered};
-use ckrt_stored::fill_up;
 use ckrt_disk::{Disk, MemoryDisk};
 use ckrt_recovery::FormatFault;
+use ckrt_stored::fill_up;
 use ckrt_test_data::{IMAGE, SIZE};
 use std::process::Abort;
 
