@@ -1,4 +1,4 @@
-use Rattle.std.proofs.Common.{◌≡◌, ◌≤◌, ◌∷◌, [], ◌++◌, rules, arith, sym, subst, List}
+use Rattle.std.proofs.Common.{◌≡◌, ◌≤◌, ◌∷◌, [], ◌++◌, rules, sym, subst, List}
 use Rattle.ckrt_cli_names.specs.declared.rows.Row.{Row}
 use Rattle.ckrt_cli_names.specs.Rows.{IsInOrder}
 use Rattle.ckrt_cli_names.proofs.RowLemmas.{EndBy, ends_more, order_more}

@@ -1,4 +1,3 @@
-use Rattle.std.proofs.Common.{◌≤◌}
 use Rattle.ckrt_cli_names.specs.Rows.{IsInOrder}
 use Rattle.ckrt_cli_names.proofs.RowLemmas.{EndBy}
 use Rattle.ckrt_cli_names.proofs.rows.read_rows.Given as goal

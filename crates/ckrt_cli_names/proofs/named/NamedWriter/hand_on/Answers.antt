@@ -1,4 +1,4 @@
-use Rattle.std.proofs.Common.{◌≡◌, ◌∷◌, [], List, ℕ, Bool, false, drop, take, rules, subst, sym}
+use Rattle.std.proofs.Common.{◌≡◌, ◌∷◌, [], List, ℕ, Bool, false, drop, rules, subst, sym}
 use Rattle.std.specs.Io.KnownBytes.{Appends}
 use Rattle.ckrt_cli_names.specs.Put.{HasShown, contents_at_first}
 use Rattle.ckrt_cli_names.proofs.PutLemmas.{shown_at_once}
