@@ -1,22 +1,27 @@
-"""What guest/where and guest/names know of a linked program: functions, lines, and variables with their parts.
+"""What guest/where, guest/names and guest/image know of a linked program: functions, lines, and variables with their parts.
 
-They read it by the cross compiler's own readers, addr2line, nm and objdump.
+They read it by the cross compiler's own readers, addr2line, nm and objdump. `rows` is all of it as stretches of addresses, which a file
+of names beside an image has (docs/NAMES.md).
 """
+import hashlib
 import re
 import subprocess
 import sys
 from bisect import bisect_right
 from dataclasses import dataclass, field
+from itertools import groupby
 
 TOOL = "riscv64-unknown-elf-"
 PAGE = 4_096  # the first one has no memory
+MOST_PARTS = 4_096  # of a variable, that have rows of their own
+MOST_TEXT = 1_000  # bytes of a row's text
 HEADER = re.compile(r"^ *<([0-9a-f]+)><([0-9a-f]+)>: Abbrev Number: \d+(?: \((\w+)\))?")
 ATTRIBUTE = re.compile(r"^ *<[0-9a-f]+> +(DW_AT_\w+) *: (.*)$")
 
 
-def output_of(name, *words):
+def output_of(name, *words, given=None):
     try:
-        return subprocess.run([TOOL + name, *words], capture_output=True, text=True, check=True).stdout
+        return subprocess.run([TOOL + name, *words], input=given, capture_output=True, text=True, check=True).stdout
     except FileNotFoundError:
         sys.exit(f"{TOOL}{name} is missing: apt-get install binutils-riscv64-unknown-elf")
     except subprocess.CalledProcessError as error:
@@ -61,6 +66,7 @@ class Program:
         self.entries = entries_of(path)
         self.variables = dict(self.placed_variables())
         self.symbols = sorted(self.sized_symbols())
+        self.made = None
 
     def sized_symbols(self):
         for line in output_of("nm", "-S", "--defined-only", self.path).splitlines():
@@ -103,28 +109,6 @@ class Program:
             return product
         return kind.number("DW_AT_byte_size") or 0
 
-    def part(self, kind, offset):
-        """The text behind a variable's name for the part of it at an offset: [2].lock."""
-        kind = self.bare(kind)
-        if kind and kind.tag == "DW_TAG_array_type":
-            size, text = self.size(self.referred(kind)), ""
-            for at in range(len(self.counts(kind))):
-                row = size
-                for count in self.counts(kind)[at + 1:]:
-                    row *= count
-                if not row:
-                    return ""
-                text += f"[{offset // row}]"
-                offset %= row
-            return text + self.part(self.referred(kind), offset)
-        members = kind.children if kind and kind.tag in ("DW_TAG_structure_type", "DW_TAG_class_type") else []
-        for member in members:
-            begin = member.number("DW_AT_data_member_location") or 0
-            if member.tag == "DW_TAG_member" and begin <= offset < begin + max(1, self.size(self.referred(member))):
-                name = member.name()
-                return (f".{name}" if name not in ("only_a_name", "clock") else "") + self.part(self.referred(member), offset - begin)
-        return f" + {offset}" if offset else ""
-
     def symbol_at(self, address):
         """The symbol that an address lies in, and how far."""
         at = bisect_right(self.symbols, (address, 1 << 32, "", True)) - 1
@@ -138,27 +122,111 @@ class Program:
         found = self.symbol_at(address)
         return found[2] if found and found[3] else None
 
-    def places(self, addresses):
-        """For each address the text of what lies there: a function and its line, or a variable and its part."""
-        return {address: self.place(address) for address in addresses}
-
     def place(self, address):
-        if address < PAGE:
-            return "the null page"
-        found = self.symbol_at(address)
-        if not found:
+        """The text of what lies at an address: a function and its line, or a variable and its part."""
+        at = bisect_right(self.rows(), (address, 1 << 32, "", True)) - 1
+        if at < 0:
             return None
-        begin, offset, name, is_code = found
-        if is_code:
-            return self.line(address, name)
-        variable = self.variables.get(begin)
-        return name + (self.part(self.referred(variable), offset) if variable else f" + {offset}" if offset else "")
+        begin, end, text, tells_offset = self.rows()[at]
+        if address >= end:
+            return None
+        return text + (f" + {address - begin}" if tells_offset and address > begin else "")
 
-    def line(self, address, name):
+    def rows(self):
+        """Stretches of addresses in their order, as (begin, end, text, whether it is told how far from the begin an address is)."""
+        if self.made is None:
+            self.made = [(0, PAGE, "the null page", False)]
+            code = self.code_lines([symbol for symbol in self.symbols if symbol[3]])
+            for at, (begin, size, name, is_code) in enumerate(self.symbols):
+                begin = max(begin, self.made[-1][1])  # of two symbols of one place the first is told
+                following = self.symbols[at + 1][0] if at + 1 < len(self.symbols) else 1 << 32
+                end = min(self.symbols[at][0] + size, following if following > self.symbols[at][0] else 1 << 32)
+                if begin < end:
+                    self.made += self.code_rows(code, begin, end, name) if is_code else self.variable_rows(self.symbols[at][0], begin, end, name)
+        return self.made
+
+    def code_lines(self, symbols):
+        """For each instruction of these functions its text, where the program has lines for it."""
+        addresses = sorted({address for begin, size, _, _ in symbols for address in range(begin, begin + size, 4)})
+        said = output_of("addr2line", "-a", "-f", "-i", "-e", self.path, given="".join(f"{address:x}\n" for address in addresses))
+        lines, address = {}, None
+        for line in said.splitlines():
+            if found := re.match(r"0x([0-9a-f]{8})$", line):
+                address = int(found[1], 16)
+                lines[address] = []
+            else:
+                lines[address].append(line)
+        return {address: self.line(texts) for address, texts in lines.items()}
+
+    def line(self, texts):
         """A function with its file and line; what was drawn into another function is named with that."""
-        texts = output_of("addr2line", "-f", "-i", "-e", self.path, hex(address)).split("\n")
         pairs = [(function, re.sub(r" \(discriminator \d+\)", "", line)) for function, line in zip(texts[::2], texts[1::2])]
         known = [(function, line) for function, line in pairs if not line.startswith("??") and "source/calls.h" not in line]
-        if not known:
-            return name
         return ", in ".join(f"{function} at {re.sub(r'^([.]/)+', '', line)}" for function, line in known)
+
+    def code_rows(self, code, begin, end, name):
+        """The rows of a function: one for as many instructions in a row as have one text."""
+        for text, group in groupby(range(begin, end, 4), lambda address: code.get(address) or name):
+            group = list(group)
+            yield group[0], min(group[-1] + 4, end), text, False
+
+    def variable_rows(self, place, begin, end, name):
+        """The rows of a variable: one for each of its parts, or one for all where it has very many."""
+        variable = self.variables.get(place)
+        kind = self.referred(variable) if variable else None
+        parts = list(self.parts(kind, 0, name)) if kind and self.part_count(kind) <= MOST_PARTS else []
+        offset = begin
+        for at, size, text in parts:
+            first, last = max(place + at, offset), min(place + at + size, end)
+            if first < last:
+                if offset < first:
+                    yield offset, first, name, True
+                yield first, last, text, True
+                offset = last
+        if offset < end:
+            yield offset, end, name, True
+
+    def part_count(self, kind):
+        """How many parts a type has, in the sense of `parts`."""
+        kind = self.bare(kind)
+        if kind and kind.tag == "DW_TAG_array_type":
+            count = self.part_count(self.referred(kind))
+            for dimension in self.counts(kind):
+                count *= dimension
+            return count
+        return sum(self.part_count(self.referred(member)) for member in self.members(kind)) if self.members(kind) else 1
+
+    def members(self, kind):
+        members = kind.children if kind and kind.tag in ("DW_TAG_structure_type", "DW_TAG_class_type") else []
+        return [member for member in members if member.tag == "DW_TAG_member"]
+
+    def parts(self, kind, offset, text):
+        """The parts of a variable of this type, each as (offset, size, text): elements of arrays and members of records, to the last."""
+        kind = self.bare(kind)
+        size = self.size(kind)
+        if kind and kind.tag == "DW_TAG_array_type":
+            element = self.referred(kind)
+            each, counts = self.size(element), self.counts(kind)
+            for number in range(size // each if each else 0):
+                indices, rest = "", number
+                for at in range(len(counts)):
+                    row = 1
+                    for count in counts[at + 1:]:
+                        row *= count
+                    indices += f"[{rest // row}]"
+                    rest %= row
+                yield from self.parts(element, offset + number * each, text + indices)
+        elif self.members(kind):
+            for member in self.members(kind):
+                begin, name = member.number("DW_AT_data_member_location") or 0, member.name()
+                yield from self.parts(self.referred(member), offset + begin, text + (f".{name}" if name not in ("only_a_name", "clock") else ""))
+        else:
+            yield offset, max(1, size), text
+
+    def names(self, image):
+        """The bytes of the file of names of this image."""
+        lines = [f"ckrt-names 1 {hashlib.sha256(image).hexdigest()} {len(image):08x}"]
+        for begin, end, text, tells_offset in self.rows():
+            shown = "".join(letter if letter.isprintable() else "?" for letter in text).encode()[:MOST_TEXT].decode(errors="ignore")
+            lines.append(f"{'in' if tells_offset else 'at'} {begin:08x} {end - begin:08x} {shown}")
+        return "".join(f"{line}\n" for line in lines).encode()

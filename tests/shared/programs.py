@@ -6,6 +6,7 @@ from pathlib import Path
 
 TOP = Path(__file__).resolve().parent.parent.parent
 EXAMPLES = TOP / "guest/examples"  # guests in C, each with its image beside it
+os.environ.setdefault("CKRT_KEEP_NAMES", "no")  # so that what a test builds is printed of without names; tests/look/named tries these
 
 
 def found(name="ckrt"):

@@ -1,27 +1,73 @@
-//! Checkpoint and restart of pthread programs: does what its words ask for, on standard input, output and error.
+//! Checkpoint and restart of pthread programs: does what its words ask for, on standard input, output and error. Where there are names
+//! beside an image or a disk, the lines of listings and reports have them behind their addresses.
 #![tactic(auto)]
 
+mod beside;
+
+use beside::{Beside, Refusal, Trouble};
 use ckrt_cli::run_words;
 use ckrt_cli_files::{OutputReason, SystemSources, ToldWriter};
+use ckrt_cli_names::{NamedWriter, Unflushed};
 use ckrt_cli_reports::{SystemMeter, WrittenReport};
+use ckrt_cli_words::read_words;
 use ckrt_disk::Calls;
 use std::cell::Cell;
 use std::env;
-use std::io::{self, ErrorKind};
+use std::io::{self, ErrorKind, Write};
 use std::marker::Brand;
 use std::process::ExitCode;
 
 /// The job of these words on the standard streams, with a place for why an output failed; the answer is the program's status.
-fn run<'a>(rt: &'a HostRuntime, words: &'a [&'a str], why: &'a Cell<OutputReason>) -> u8 {
-    run_words::<HostRuntime, Brand, _, _, _, _>(
+fn run<'a>(
+    rt: &'a HostRuntime,
+    words: &'a [&'a str],
+    why: &'a Cell<OutputReason>,
+    names: Beside,
+) -> u8 {
+    let Beside { printed, reported } = names;
+    let mut writer = NamedWriter::new(rt.alloc(), printed, ToldWriter::new(io::writer(rt), why));
+    let report = NamedWriter::new(rt.alloc(), reported, rt.stderr());
+    let mut reporter = WrittenReport::new(Unflushed::new(report));
+    let status = run_words::<HostRuntime, Brand, _, _, _, _>(
         rt.alloc(),
         words,
         &mut SystemSources::new(rt, why, Calls::new()),
         &mut rt.reader(),
-        &mut ToldWriter::new(io::writer(rt), why),
-        &mut WrittenReport::new(rt.stderr()),
+        &mut writer,
+        &mut reporter,
         &mut SystemMeter::new(rt),
-    )
+    );
+    let _ = writer.flush();
+    let _ = reporter.into_writer().into_inner().flush();
+    status
+}
+
+/// Says why names can't be used; the answer is the program's status.
+fn refuse(rt: &HostRuntime, refusal: Refusal<'_>) -> u8 {
+    let Refusal { path, trouble } = refusal;
+    let text = trouble.text();
+    let name = if trouble == Trouble::OutOfMemory {
+        "OutOfMemory"
+    } else {
+        "Names"
+    };
+    let _ = eprintln!(rt; "the names {path}.names: {text}\nckrt: {name}");
+    1
+}
+
+/// The job of these words, with the names beside its files, which what it makes gets too.
+fn run_named<'a>(rt: &'a HostRuntime, words: &'a [&'a str], why: &'a Cell<OutputReason>) -> u8 {
+    let Ok(job) = read_words(rt.alloc(), words) else {
+        return run(rt, words, why, beside::none(rt.alloc()));
+    };
+    match beside::before(rt, rt.alloc(), &job) {
+        Ok(names) => {
+            let status = run(rt, words, why, names);
+            beside::after(rt, rt.alloc(), &job, status);
+            status
+        }
+        Err(refusal) => refuse(rt, refusal),
+    }
 }
 
 /// The job of the arguments after the program's name.
@@ -33,7 +79,7 @@ fn run_arguments(rt: &HostRuntime) -> io::Result<u8> {
         .map(|word| word.as_str())
         .collect(rt.alloc())?;
     let why = Cell::new(OutputReason::Other);
-    Ok(run(rt, &words, &why))
+    Ok(run_named(rt, &words, &why))
 }
 
 fn main(rt: HostRuntime) -> ExitCode {
@@ -46,7 +92,8 @@ fn main(rt: HostRuntime) -> ExitCode {
         Err(_) => {
             let _ = eprintln!(rt; "error: an argument isn't text\n");
             let why = Cell::new(OutputReason::Other);
-            ExitCode::from(run(&rt, &["--help"], &why))
+            let names = beside::none(rt.alloc());
+            ExitCode::from(run(&rt, &["--help"], &why, names))
         }
     }
 }

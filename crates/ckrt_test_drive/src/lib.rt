@@ -16,6 +16,8 @@ mod jobs;
 #[cfg(test)]
 mod making;
 #[cfg(test)]
+mod noted;
+#[cfg(test)]
 mod program;
 #[cfg(test)]
 mod second_format;

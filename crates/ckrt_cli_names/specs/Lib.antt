@@ -1,0 +1,3 @@
+pub mod Put
+pub mod Writers
+pub mod Rows

@@ -1,0 +1,146 @@
+//! The names of a guest's source.
+ghost use Rattle.std.specs.Prelude.{◌≡◌, ◌<◌, ◌↔◌, [], IsTrue, IfOk, IfSome, Err, Contains, vec_len};
+ghost use Rattle.ckrt_cli_names.specs.Rows.{HasNone, IsInOrder, LiesIn, bytes_of, rows_of};
+
+use crate::fault::NamesFault;
+use crate::rows::{Head, Row, read_head, read_rows};
+use crate::scan::{MOST, Scan, most_of};
+use std::alloc::{AllocError, Global};
+
+/// The names of a program's addresses.
+#[derive(Drop)]
+pub struct Names {
+    bytes: Vec<u8>,
+    head: Head,
+    pub(crate) rows: Vec<Row>,
+}
+
+/// How many bytes of a file of names are taken.
+pub const SIZE_LIMIT: usize = 67_108_864;
+
+/// How many bytes a note has at most.
+const NOTE_LIMIT: usize = 4_096;
+
+impl Names {
+    /// No names.
+    pub fn none(alloc: Global) -> Names
+        ensures { HasNone result }
+    {
+        Names {
+            bytes: Vec::new(alloc),
+            head: Head {
+                digest: [0; 32],
+                length: 0,
+            },
+            rows: Vec::new(alloc),
+        }
+    }
+
+    /// The names that a file has, whose bytes they keep.
+    pub fn parse(alloc: Global, bytes: Vec<u8>) -> Result<Names, NamesFault>
+        ensures bytes { IfOk result (λ names. bytes_of names ≡ bytes.items) }
+        ensures order { IfOk result (λ names. IsInOrder (rows_of names)) }
+        ensures large { SIZE_LIMIT < vec_len bytes → result ≡ Err NamesFault.TooLarge }
+    {
+        if bytes.len() > SIZE_LIMIT {
+            return Err(NamesFault::TooLarge);
+        }
+        let Some(head) = read_head(&bytes) else {
+            return Err(NamesFault::NoNames);
+        };
+        let rows = read_rows(alloc, &bytes)?;
+        Ok(Names { bytes, head, rows })
+    }
+
+    /// The SHA-256 digest of the image that they are of.
+    pub fn digest(&self) -> [u8; 32]
+        ensures { result ≡ self.now.head.digest }
+    {
+        self.head.digest
+    }
+
+    /// How many bytes that image has.
+    pub fn length(&self) -> u32
+        ensures { result ≡ self.now.head.length }
+    {
+        self.head.length
+    }
+
+    /// Whether there are none.
+    pub(crate) fn is_empty(&self) -> bool
+        ensures { IsTrue result ↔ (self.now.rows.items ≡ []) }
+    {
+        self.rows.is_empty()
+    }
+
+    /// The row that an address lies in.
+    fn row_of(&self, address: u32) -> Option<Row>
+        ensures inside { IfSome result (λ row. LiesIn address row) }
+        ensures known { IfSome result (λ row. Contains (rows_of self.now) row) }
+    {
+        let count = self.rows.partition_point(|row| row.begin <= address);
+        if count == 0 {
+            return None;
+        }
+        let row = self.rows[count - 1];
+        if row.begin <= address && address < row.end {
+            Some(row)
+        } else {
+            None
+        }
+    }
+
+    /// Puts the text of an address behind those of a note.
+    fn push_place(&self, address: u32, note: &mut Vec<u8>) -> Result<(), AllocError> {
+        let Some(row) = self.row_of(address) else {
+            return Ok(());
+        };
+        let Some(text) = self.bytes.as_slice().get(row.text_at..row.text_end) else {
+            return Ok(());
+        };
+        if note.len() >= NOTE_LIMIT || text.len() > NOTE_LIMIT {
+            return Ok(());
+        }
+        note.extend_from_slice(if note.is_empty() {
+            b"    # ".as_slice()
+        } else {
+            b"; ".as_slice()
+        })?;
+        note.extend_from_slice(text)?;
+        if row.tells_offset && address > row.begin {
+            let mut digits = itoa::Buffer::new();
+            note.extend_from_slice(b" + ")?;
+            note.extend_from_slice(digits.format(address - row.begin).as_bytes())?;
+        }
+        Ok(())
+    }
+
+    /// Puts the texts of a line's addresses into a note.
+    fn push_places(&self, line: &[u8], note: &mut Vec<u8>) -> Result<(), AllocError> {
+        let mut scan = Scan::new(line);
+        let mut seen = [0u32; MOST];
+        for index in 0..most_of(line) {
+            let Some(address) = scan.next_address() else {
+                return Ok(());
+            };
+            if !seen[..index].contains(&address) {
+                self.push_place(address, note)?;
+            }
+            seen[index] = address;
+        }
+        Ok(())
+    }
+
+    /// Makes the note of a line: the texts of its addresses, each once. Where memory is refused it has none.
+    pub(crate) fn push_note(&self, line: &[u8], note: &mut Vec<u8>)
+        ensures none { self.now.rows.items ≡ [] → note.new.items ≡ [] }
+    {
+        note.clear();
+        if self.rows.is_empty() {
+            return;
+        }
+        if self.push_places(line, note).is_err() {
+            note.clear();
+        }
+    }
+}
