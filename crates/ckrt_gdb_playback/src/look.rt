@@ -205,7 +205,10 @@ fn look_threads(request: &Request, view: &View, tables: &Tables, out: &mut Paylo
     match request {
         Request::LastStop => put_last(view, out),
         Request::Registers => put_registers(threads, view.examined, out),
-        Request::IsAlive(choice) => put_done(is_listed(threads, view.known, meant(*choice, view)), out),
+        Request::IsAlive(choice) => put_done(
+            is_listed(threads, view.known, meant(*choice, view)),
+            out,
+        ),
         Request::FirstThreads => put_ids(threads, view.known, out),
         Request::ThreadText(choice) => put_thread(tables, view.known, meant(*choice, view), out),
         _ => return false,
