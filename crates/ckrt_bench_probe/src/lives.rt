@@ -5,8 +5,8 @@ ghost use Rattle.std.specs.Prelude.{IsTrue, All};
 ghost use Rattle.ckrt_commands.specs.Lives.{IsInRangeLife};
 
 use crate::growth::{CONFIG, IMAGE};
-use ckrt_events::Event;
 use ckrt_commands::{Command, Life, LivesFault, lives};
+use ckrt_events::Event;
 use std::alloc::{AllocError, Global};
 
 /// A life of these commands that is stopped at a call, or never.

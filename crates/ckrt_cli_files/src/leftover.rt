@@ -3,10 +3,10 @@ ghost use Rattle.std.specs.Prelude.{◌≡◌, ◌↔◌, ◌≤◌, ◌+◌, fa
 ghost use Rattle.ckrt_disk.specs.Frame.{IsOnlyRead, IsSameDisk};
 ghost use Rattle.ckrt_cli_files.specs.Leftovers.{HasNotBegun, IsInMaking, IsOfContent, has_disk, is_free, is_marked, is_unfinished, is_unnamed, is_zero, kind_of};
 
-use ckrt_stored::SMALLEST_DISK;
 use ckrt_checkpoint::{FIELDS_AT, OPEN, number_64};
 use ckrt_disk::{DeviceFault, Disk};
 use ckrt_recovery::{RecoverFault, Session, recover};
+use ckrt_stored::SMALLEST_DISK;
 use std::alloc::Global;
 
 /// What a file is that is to become a disk.

@@ -10,8 +10,8 @@ ghost use Rattle.ckrt_hunt_races.specs.RaceRuns.{IsBegun, IsPutAside, IsSameSize
 use ckrt_hunt_schedules::Shape;
 use ckrt_machine::Machine;
 use ckrt_memory::{Memory, MemoryError};
-use ckrt_stored::{restore_memory, restore_tables};
 use ckrt_state::Tables;
+use ckrt_stored::{restore_memory, restore_tables};
 use std::alloc::Global;
 
 /// A machine at the beginning of a program between two runs, and the room for that beginning.

@@ -1,8 +1,8 @@
 //! What is given next, by the machine of a program that doesn't read.
 
 use ckrt_events::Event;
-use ckrt_schedule::{next_input, taken_by};
 use ckrt_machine::Machine;
+use ckrt_schedule::{next_input, taken_by};
 use std::process::Abort;
 
 /// How many bytes the pieces have in which 130 bytes are given; then comes the end, as 0, and nothing more.

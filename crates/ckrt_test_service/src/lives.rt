@@ -5,8 +5,8 @@ ghost use Rattle.ckrt_commands.specs.Lives.{IsInRangeLife};
 
 use crate::expect::{copied, expect_bytes, expect_eq, expect_eq_at};
 use crate::small_disk::{SMALL, recovered_in_memory};
-use ckrt_events::{Command, Event};
 use ckrt_commands::{Life, LifeReport, LivesFault, lives};
+use ckrt_events::{Command, Event};
 use ckrt_recovery::Config;
 use ckrt_test_data::IMAGE;
 use std::process::Abort;

@@ -1,5 +1,5 @@
 use Rattle.ckrt_cli_theorem.proofs.DriveRunLemmas.{is_run}
-use Rattle.ckrt_drive_theorem.proofs.laws.runs_are_drives.Goals as goal
+use Rattle.ckrt_cli_theorem.proofs.runs.runs_are_drives.Goals as goal
 
 pub returns : goal.returns
 returns g c = λ r recovered honest whole read. is_run g.D.Disk g.O.Disk r recovered honest whole read
