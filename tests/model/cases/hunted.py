@@ -99,7 +99,8 @@ def difference_of_kept(ckrt, case, folder, seed):
         return None, f"{switches} switches: {kept.lines[-1]}"
     expected = [*lines_of_table("image", {seed: kept.outcome}, case.options), line_of_kept(seed, "kept", switches, drawn[1])]
     shown = kept.status, kept.lines
-    return kept.outcome, None if shown == (0, expected) else f"model {expected}, program {shown}"
+    wanted = status_of([kept.outcome]), expected
+    return kept.outcome, None if shown == wanted else f"model {wanted}, program {shown}"
 
 
 def difference_of_hunts(ckrt, case, folder, tally):

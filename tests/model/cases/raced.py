@@ -6,7 +6,7 @@ from cases.glances import Glance, glance_of_program, kind_of_race
 from cases.hunted import HuntsCase, hunt, hunts_case, kept_run
 from model.abi import Call
 from model.assembler import Label, Program, call_words, image_of, immediate_form, load_number, store_form
-from model.hunts import line_of_kept, lines_of_table, status_of
+from model.hunts import line_of_kept, lines_of_table, status_of, told_of
 from model.race_rows import lines_of_races
 from model.races import Readings
 
@@ -113,7 +113,7 @@ def difference_of_drawn(ckrt, case, folder, seed):
 def difference_of_folder(ckrt, case, folder, runs):
     """Each outcome gets a disk, with the drawn run of the first seed that came to it. The folder is taken away."""
     first = {run.outcome: seed for seed, run in reversed(runs.items())}
-    wanted = {f"folder/outcome-{number}.disk": seed for number, seed in enumerate(sorted(first.values(), key=list(runs).index), 1)}
+    wanted = {f"folder/outcome-{number}.disk": seed for number, seed in enumerate(map(first.get, told_of(first)), 1)}
     (folder / "folder").mkdir()
     told = [line_of_kept(seed, path, runs[seed].switches, None) for path, seed in wanted.items()]
     difference = difference_of_told(hunt(ckrt, folder, case.seeds, case.options, "--keep", "folder/"), runs, case.options, told)

@@ -3,10 +3,11 @@ has its races."""
 import re
 import subprocess
 import time
+from collections import Counter
 from dataclasses import dataclass, replace
 
 from cases.hunted import TIME_LIMIT, Hunted
-from model.hunts import MOST_OUTCOMES, SEVERAL, Options, command_of, fold, line_of_kept, text_of_outcome
+from model.hunts import MOST_OUTCOMES, SEVERAL, Options, command_of, fold, kind_of, line_of_kept, status_of, text_of_outcome, told_of
 from model.race_rows import difference_of_rows, rows_of_races, split_table
 from model.races import Readings
 from model.stretches import Recording
@@ -48,8 +49,9 @@ def timed_case(chance, seed):
 
 
 def outcomes_of(lines, options):
-    """What a table tells, with the number of all runs; None where it is none: each outcome has a number, a count, a seed that is later
-    than the one before, another text, and its command. Only behind as many as may be there is a line of all others."""
+    """What a table tells, with the number of all runs; None where it is none: each outcome has a number, a count, a seed, another text, and its
+    command, and they come by kinds, each by a later seed than the one of its kind before. Only behind as many as may be of one kind there is
+    a line of all others."""
     found, total, last = [], None, OTHERS.fullmatch(lines[-1]) if lines[2 * MOST_OUTCOMES:] else None
     lines = lines[:-1] if last else lines
     for number, (told, command) in enumerate(zip(lines[::2], lines[1::2]), 1):
@@ -61,9 +63,11 @@ def outcomes_of(lines, options):
         if command != "    " + command_of("image", found[-1].first, options):
             return None
     firsts, texts = [one.first for one in found], [one.text for one in found]
-    others = [int(last[1])] if last and int(last[2]) == total else []
-    is_whole = len(lines) == 2 * len(found) <= 2 * MOST_OUTCOMES and sum([one.count for one in found] + others) == total
-    return (found, total) if is_whole and sorted(set(firsts)) == firsts and len(set(texts)) == len(texts) else None
+    is_full = MOST_OUTCOMES in Counter(kind_of(text) for text in texts).values()
+    others = [int(last[1])] if last and is_full and int(last[2]) == total else []
+    is_whole = len(lines) == 2 * len(found) and sum([one.count for one in found] + others) == total
+    is_ordered = len(set(firsts)) == len(firsts) and told_of(dict(zip(texts, firsts))) == texts
+    return (found, total) if is_whole and is_ordered else None
 
 
 def rows_of(table, options):
@@ -120,7 +124,7 @@ def difference_of_timed(ckrt, case, folder, tally):
     tally["hunt by time", "several" if len(found) > 1 else "one outcome"] += 1
     tally["hunt by time", "line of progress"] += len(errors)
     tally["hunt by time", "row of a race"] += len(races)
-    if took < SECONDS or status != (SEVERAL if len(found) > 1 or races else 0):
+    if took < SECONDS or status != (SEVERAL if races else status_of(one.text for one in found)):
         return f"{took:.2f} seconds, status {status} with {len(found)} outcomes and {len(races)} races"
     return (difference_of_refused(ckrt, case, folder) or difference_of_progress(errors, found, 1, total, took)
             or difference_of_disks(case, kept, found, races, lines[len(table):]) or difference_of_range(ckrt, case, folder, (status, table), total))
@@ -132,7 +136,8 @@ def difference_of_disks(case, kept, found, races, told):
     if case.keep is None:
         return None if not told else f"nothing is kept: {told}"
     is_folder = case.keep.endswith("/")
-    wanted = [(one, kept / f"outcome-{number}.disk" if is_folder else kept) for number, one in enumerate(found, 1)][:None if is_folder else 1]
+    wanted = [(one, kept / f"outcome-{number}.disk") for number, one in enumerate(found, 1)]
+    wanted = wanted if is_folder else [(min(found, key=lambda one: one.first), kept)]
     names = [f"{case.keep}{path.name}" if is_folder else case.keep for _, path in wanted]
     if len(told) != len(wanted) or is_folder and len(list(kept.iterdir())) != len(wanted):
         return f"{len(wanted)} disks of the model, kept {told}"

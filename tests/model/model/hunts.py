@@ -12,8 +12,10 @@ from model.processor import Cause
 from model.threads import Status, WaitKind
 
 DIGITS = 8  # of a digest
-MOST_OUTCOMES = 64  # that have lines of their own
+MOST_OUTCOMES = 64  # of a kind, that have lines of their own
+KINDS = "fault", "deadlock", "exit ", "no end", "waits for input", "exit 0,"  # by what an outcome's text begins with, in the order of a table
 SEVERAL = 8  # the status where there are several outcomes, or a race
+BAD = 9  # that where all runs had one outcome, which isn't `exit 0`
 AWAITED = {WaitKind.JOIN: "the end of thread {}", WaitKind.LOCK: "mutex {}", WaitKind.RETAKE: "mutex {}", WaitKind.CONDITION: "condition {}",
            WaitKind.BARRIER: "barrier {}", WaitKind.READ: "read lock {}", WaitKind.WRITE: "write lock {}"}
 MUTEX_WAITS = {WaitKind.LOCK, WaitKind.RETAKE}
@@ -127,12 +129,24 @@ def command_of(image, seed, options):
     return f"ckrt hunt {image} --seeds {seed}-{seed} {options.words()} --keep seed-{seed}.disk"
 
 
+def kind_of(outcome):
+    """Its place among the kinds."""
+    return max(number for number, begin in enumerate(KINDS) if outcome.startswith(begin))
+
+
+def told_of(first):
+    """The outcomes that have lines of their own, in their order, of each of which the first seed is given: by kinds, and of a kind those that
+    came first."""
+    kinds = [sorted((outcome for outcome in first if kind_of(outcome) == kind), key=first.get) for kind in range(len(KINDS))]
+    return [outcome for kind in kinds for outcome in kind[:MOST_OUTCOMES]]
+
+
 def lines_of_table(image, outcomes, options):
     """Of the outcomes by seed, in the order of the seeds: each outcome once, with how often it came and by which seed first; then how many
     runs all others have."""
     first = {outcome: seed for seed, outcome in reversed(outcomes.items())}
     counts, lines = Counter(outcomes.values()), []
-    told = sorted(first, key=first.get)[:MOST_OUTCOMES]
+    told = told_of(first)
     for number, outcome in enumerate(told, 1):
         seed = first[outcome]
         lines += [f"outcome {number}: {counts[outcome]} of {len(outcomes)} runs, first by seed {seed}: {outcome}",
@@ -143,7 +157,10 @@ def lines_of_table(image, outcomes, options):
 
 def status_of(outcomes, found=()):
     """Of the outcomes of all runs, and of their races."""
-    return SEVERAL if len(set(outcomes)) > 1 or any(races.pairs for races in found) else 0
+    kinds = {KINDS[kind_of(outcome)] for outcome in outcomes}
+    if len(set(outcomes)) > 1 or any(races.pairs for races in found):
+        return SEVERAL
+    return 0 if kinds == {"exit 0,"} else BAD
 
 
 def line_of_kept(seed, path, switches, drawn):

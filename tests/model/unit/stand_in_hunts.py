@@ -9,7 +9,7 @@ from cases.glances import Glance
 from model.devices import MemoryDisk
 from model.events import Place, Run
 from model.feeding import next_input, taken_by
-from model.hunts import command_of, fold, line_of_kept, lines_of_table, text_of_outcome
+from model.hunts import command_of, fold, line_of_kept, lines_of_table, text_of_outcome, told_of
 from model.layout import Geometry, format_disk
 from model.plans import Options as Plan, next_event
 from model.races import PAIRS, Races, Readings, text_of_access, text_of_pair
@@ -110,7 +110,8 @@ class Hunts:
         races = self.races(disks, outcomes, options) if options.is_raced else []
         kept = self.keep(folder, more[-1], disks, outcomes) if more else []
         lines = self.arranged(lines_of_table("image", outcomes, self.told(options)), races, kept)
-        return 8 if len(set(outcomes.values())) > 1 or self.counts(races) else 0, lines
+        is_good = {outcome[:7] for outcome in outcomes.values()} == {"exit 0,"}
+        return 8 if len(set(outcomes.values())) > 1 or self.counts(races) else 0 if is_good else 9, lines
 
     def arranged(self, table, races, kept):
         return [*table, *races, *kept]
@@ -136,7 +137,7 @@ class Hunts:
 
     def keep(self, folder, path, disks, outcomes):
         first = {outcome: seed for seed, outcome in reversed(outcomes.items())}
-        seeds = sorted(first.values(), key=list(disks).index) if path.endswith("/") else list(disks)[:1]
+        seeds = list(map(first.get, told_of(first))) if path.endswith("/") else list(disks)[:1]
         paths = [f"{path}outcome-{number}.disk" if path.endswith("/") else path for number in range(1, len(seeds) + 1)]
         for seed, name in zip(seeds, paths):
             (folder / name).write_bytes(self.kept_of(seed, disks))

@@ -105,22 +105,31 @@ class Tables(unittest.TestCase):
     def test_order_and_counts(self):
         outcomes = dict(zip(range(8, 13), ["exit 0, output 1", "deadlock", "exit 0, output 1", "exit 1, output 1", "deadlock"]))
         self.assertEqual(lines_of_table("a.bin", outcomes, Options(16, 2, 99)), [
-            "outcome 1: 2 of 5 runs, first by seed 8: exit 0, output 1",
-            "    ckrt hunt a.bin --seeds 8-8 --pages 16 --harts 2 --steps 99 --keep seed-8.disk",
-            "outcome 2: 2 of 5 runs, first by seed 9: deadlock",
+            "outcome 1: 2 of 5 runs, first by seed 9: deadlock",
             "    ckrt hunt a.bin --seeds 9-9 --pages 16 --harts 2 --steps 99 --keep seed-9.disk",
-            "outcome 3: 1 of 5 runs, first by seed 11: exit 1, output 1",
-            "    ckrt hunt a.bin --seeds 11-11 --pages 16 --harts 2 --steps 99 --keep seed-11.disk"])
+            "outcome 2: 1 of 5 runs, first by seed 11: exit 1, output 1",
+            "    ckrt hunt a.bin --seeds 11-11 --pages 16 --harts 2 --steps 99 --keep seed-11.disk",
+            "outcome 3: 2 of 5 runs, first by seed 8: exit 0, output 1",
+            "    ckrt hunt a.bin --seeds 8-8 --pages 16 --harts 2 --steps 99 --keep seed-8.disk"])
         self.assertEqual(lines_of_table("a.bin", {8: "deadlock"}, Options(16, 2, 99, "b.txt"))[1],
                          "    ckrt hunt a.bin --seeds 8-8 --pages 16 --harts 2 --steps 99 --input b.txt --keep seed-8.disk")
 
+    def test_kinds(self):
+        """What harms comes first, and of one kind what came first."""
+        kinds = ["fault of thread 2 at 00001000, misaligned", "deadlock, thread 1 waits for the end of thread 2", "exit 3, output 1", "exit 1, output 1",
+                 "no end within 9 steps or events", "waits for input", "exit 0, output 2", "exit 0, output 1"]
+        outcomes = dict(zip([7, 6, 4, 5, 3, 2, 0, 1], kinds))
+        told = lines_of_table("a.bin", dict(sorted(outcomes.items())), Options(16, 2, 99))[::2]
+        self.assertEqual([line.partition(": ")[2].partition(": ")[2] for line in told], kinds)
+
     def test_others(self):
-        """64 have lines of their own."""
+        """64 of a kind have lines of their own, and no other kind takes them."""
         for count in (64, 65):
-            outcomes = {seed: f"exit {seed % count}, output 1" for seed in range(1, 131)}
+            outcomes = {seed: f"exit 0, output {seed % count}" for seed in range(1, 131)} | {131: "deadlock", 132: "exit 1, output 0"}
             lines = lines_of_table("a.bin", outcomes, Options(16, 2, 99))
-            others = [] if count == 64 else ["other outcomes: 2 of 130 runs"]
-            self.assertEqual((lines[128:], lines[126][:12]), (others, "outcome 64: "), count)
+            others = [] if count == 64 else ["other outcomes: 2 of 132 runs"]
+            self.assertEqual((lines[132:], lines[130][:12]), (others, "outcome 66: "), count)
+            self.assertEqual(lines[0], "outcome 1: 1 of 132 runs, first by seed 131: deadlock")
 
     def test_races_asked_for(self):
         """Behind the input, and before what is kept."""
@@ -129,12 +138,15 @@ class Tables(unittest.TestCase):
         self.assertEqual(Options(16, 2, 99, is_raced=True).words(), "--pages 16 --harts 2 --steps 99 --races")
 
     def test_status(self):
-        """Another one where there are several outcomes, or one of the runs raced."""
+        """8 where there are several outcomes, or one of the runs raced; 9 where there is one, and not `exit 0`."""
         quiet, raced = Races(False), Races(False)
         raced.pairs[frozenset([4, 8])] = Pair(None, None)
-        for outcomes, found, status in [(["a"], [], 0), (["a", "a"], [quiet, quiet], 0), (["a", "b"], [quiet, quiet], 8), (["a", "b"], [], 8),
-                                        (["a", "a"], [quiet, raced], 8), (["a"], [raced], 8), (["a", "b", "a"], [raced, raced, quiet], 8)]:
-            self.assertEqual(status_of(outcomes, found), status)
+        a, b, c = "exit 0, output 1", "exit 0, output 2", "deadlock"
+        for outcomes, found, status in [([a], [], 0), ([a, a], [quiet, quiet], 0), ([a, b], [quiet, quiet], 8), ([a, b], [], 8),
+                                        ([a, a], [quiet, raced], 8), ([a], [raced], 8), ([a, b, a], [raced, raced, quiet], 8), ([c], [], 9),
+                                        ([c, c], [quiet, quiet], 9), ([c, a], [], 8), ([c], [raced], 8), (["exit 1, output 1"], [], 9),
+                                        (["fault of thread 1 at 00001000, x"], [], 9), (["no end within 9 steps or events"], [], 9), (["waits for input"], [], 9)]:
+            self.assertEqual(status_of(outcomes, found), status, (outcomes, found))
 
     def test_kept(self):
         self.assertEqual(line_of_kept(3, "seed-3.disk", 17, 19), "kept: the run of seed 3 on seed-3.disk, switches: 17, drawn with 19")

@@ -5,7 +5,7 @@ from cases.timed import LONGEST, REFUSED, Outcome, difference_of_progress, fault
 from model.hunts import Options, command_of
 
 OPTIONS = Options(16, 1, 99)
-FOUND = [Outcome(7, 1, "exit 0, output 1"), Outcome(2, 4, "deadlock")]
+FOUND = [Outcome(2, 4, "deadlock"), Outcome(7, 1, "exit 0, output 1")]
 
 
 def table(*outcomes, total, commands=None):
@@ -18,24 +18,28 @@ def table(*outcomes, total, commands=None):
 
 class Tables(unittest.TestCase):
     def test_read(self):
-        rows = (7, 1, "exit 0, output 1"), (2, 4, "deadlock")
+        rows = (2, 4, "deadlock"), (7, 1, "exit 0, output 1")
         self.assertEqual(outcomes_of(table(*rows, total=9), OPTIONS), (FOUND, 9))
-        for wrong in [table(*rows, total=8), table(*rows[::-1], total=9), table(rows[0], (2, 4, rows[0][2]), total=9), table(*rows, total=9)[:-1],
-                      table(*rows, total=9, commands={2: 5}), table(rows[0], total=7) + table(rows[1], total=2), ["no table", "x"],
-                      table(rows[0], total=7) + table(rows[0], rows[1], total=7)[2:], [*table(*rows, total=9), "others"],
-                      table(rows[0], (2, 1, "deadlock"), total=9), table(rows[0], total=8) + table(*rows, total=9)[2:],
+        for wrong in [table(*rows, total=8), table(*rows[::-1], total=9), table(rows[0], (7, 1, rows[0][2]), total=9), table(*rows, total=9)[:-1],
+                      table(*rows, total=9, commands={2: 5}), table(rows[0], total=2) + table(rows[1], total=7), ["no table", "x"],
+                      table(rows[0], total=2) + table(rows[0], rows[1], total=2)[2:], [*table(*rows, total=9), "others"],
+                      table((2, 1, "deadlock"), rows[1], total=9), table(rows[0], total=8) + table(*rows, total=9)[2:],
+                      table((2, 4, "exit 0, output 2"), rows[1], total=9),
                       [line.replace("outcome 2", "outcome 3") for line in table(*rows, total=9)]]:
             self.assertIsNone(outcomes_of(wrong, OPTIONS), wrong)
         self.assertIsNone(outcomes_of(table(*rows, total=9), Options(17, 1, 99)))
 
     def test_others(self):
-        """Behind 64 outcomes, and only there."""
+        """Behind 64 outcomes of a kind, and only there."""
         rows = [(1, seed, f"exit {seed}, output 1") for seed in range(1, 67)]
         for count, last, is_right in [(64, [], True), (64, ["other outcomes: 3 of 67 runs"], True), (64, ["others: 3 of 67 runs"], False), (64, ["other outcomes: 3 of 68 runs"], False),
                                       (64, ["other outcomes: 2 of 67 runs"], False), (63, ["other outcomes: 3 of 66 runs"], False),
                                       (65, [], False), (64, ["other outcomes: 3 of 67 runs"] * 2, False)]:
             told = [*table(*rows[:count], total=count + 3 * bool(last)), *last]
             self.assertEqual(outcomes_of(told, OPTIONS) is not None, is_right, (count, last))
+        for first, last, is_right in [(64, [], True), (64, ["other outcomes: 3 of 68 runs"], True), (63, ["other outcomes: 3 of 67 runs"], False)]:
+            told = table(*rows[:first], (1, 70, "exit 0, output 1"), total=first + 1 + 3 * bool(last))
+            self.assertEqual(outcomes_of([*told, *last], OPTIONS) is not None, is_right, (first, last))
 
 
 class Progress(unittest.TestCase):
