@@ -124,7 +124,7 @@ def difference_of_timed(ckrt, case, folder, tally):
     tally["hunt by time", "several" if len(found) > 1 else "one outcome"] += 1
     tally["hunt by time", "line of progress"] += len(errors)
     tally["hunt by time", "row of a race"] += len(races)
-    if took < SECONDS or status != (SEVERAL if races else status_of(one.text for one in found)):
+    if took < SECONDS or status != (SEVERAL if races else status_of([one.text for one in found])):
         return f"{took:.2f} seconds, status {status} with {len(found)} outcomes and {len(races)} races"
     return (difference_of_refused(ckrt, case, folder) or difference_of_progress(errors, found, 1, total, took)
             or difference_of_disks(case, kept, found, races, lines[len(table):]) or difference_of_range(ckrt, case, folder, (status, table), total))
