@@ -1,4 +1,4 @@
-"""A picture of `ckrt timeline`, read back: its width and heading, the pieces of each row, and the numbers of events below."""
+"""A picture of `ckrt timeline`, read back: its width and heading, the pieces of each row, and the lines of events with their numbers."""
 from xml.etree import ElementTree
 
 from model.columns import difference_of_columns, is_dense, steps_of_columns
@@ -6,7 +6,8 @@ from model.timelines import title_of
 
 SVG = "{http://www.w3.org/2000/svg}"
 ROUNDING = 1  # pixel
-NUMBERED = 20  # events, from which on not each has its number
+NUMBERED = 20  # events, from which on not each has its line
+DIGIT, BESIDE = 4, 2  # pixels that a number takes to either side of its middle, for each digit and in all
 
 
 def read_row(row):
@@ -41,20 +42,42 @@ def heading_of(timeline):
     return f"events {first} to {last}: {timeline.steps} steps{columns}"
 
 
-def difference_of_ticks(picture, rows, timeline):
-    """Of many events every so-manyth has its number, from the first one on: where it begins, to a pixel; without rows all at one place."""
-    ticks = [(int(tick.text), float(tick.get("x"))) for tick in picture.findall(f"{SVG}text") if tick.get("text-anchor") == "middle"]
-    steps = dict(timeline.events[::1 + len(timeline.events) // NUMBERED])
-    if [number for number, _ in ticks] != list(steps):
-        return f"numbers {[number for number, _ in ticks]}, model {list(steps)}"
+def difference_of_lines(lines, rows, timeline):
+    """Of many events every so-manyth has a line, from the first one on: where it begins, to a pixel; without rows all at one place."""
+    steps = [step for _, step in shown_events(timeline)]
+    if len(lines) != len(steps):
+        return f"{len(lines)} lines of events, model {len(steps)}"
     if not rows:
-        return None if len({at for _, at in ticks}) <= 1 else f"numbers at {ticks}, where nothing has a length"
-    for number, at in ticks:
-        length = float(rows[0].get("width")) / timeline.steps
-        place = float(rows[0].get("x")) + steps[number] * length
+        return None if len(set(lines)) <= 1 else f"lines at {lines}, where nothing has a length"
+    for step, at in zip(steps, lines):
+        place = float(rows[0].get("x")) + step * float(rows[0].get("width")) / timeline.steps
         if abs(at - place) > ROUNDING:
-            return f"event {number} at {at}, model {place}"
+            return f"the line of step {step} at {at}, model {place}"
     return None
+
+
+def shown_events(timeline):
+    return timeline.events[::1 + len(timeline.events) // NUMBERED]
+
+
+def told_numbers(numbers, lines, width):
+    """Where the numbers of events stand whose lines stand there: each below its line, or where the picture ends; without those that would
+    begin before the last one ends."""
+    told, end = [], None
+    for number, line in zip(numbers, lines):
+        half = DIGIT * len(str(number)) + BESIDE
+        middle = min(line, width - half)
+        if end is None or middle - half >= end:
+            told.append((number, middle))
+            end = middle + half
+    return told
+
+
+def difference_of_ticks(picture, rows, timeline):
+    lines = [float(line.get("x1")) for line in picture.findall(f"{SVG}line") if line.get("class") == "tick"]
+    ticks = [(int(tick.text), float(tick.get("x"))) for tick in picture.findall(f"{SVG}text") if tick.get("text-anchor") == "middle"]
+    wanted = told_numbers([number for number, _ in shown_events(timeline)], lines, float(picture.get("width")))
+    return difference_of_lines(lines, rows, timeline) or (None if ticks == wanted else f"numbers {ticks}, model {wanted}")
 
 
 def difference_of_picture(text, width, timeline):

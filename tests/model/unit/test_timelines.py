@@ -132,10 +132,15 @@ class Pictures(unittest.TestCase):
     def tick(self, number, at):
         return f'<text text-anchor="middle" x="{at}">{number}</text>'
 
-    def differs(self, ticks=((4, 80), (5, 280)), steps=40, width=500, title=None, heading="events 4 to 6: 40 steps", **changed):
+    def line(self, at):
+        return f'<line class="tick" x1="{at}" x2="{at}"/>'
+
+    def differs(self, ticks=((4, 80), (5, 280)), steps=40, width=500, title=None, heading="events 4 to 6: 40 steps", lines=None, **changed):
+        """The lines stand where the numbers do, if none are named."""
         piece = {"class": "running", "x": 0, "width": 40, "y": 0, "height": 16, **changed}
         drawn = " ".join(f'{name}="{value}"' for name, value in piece.items())
-        told = "".join(self.tick(*tick) for tick in ticks)
+        lines = [at for _, at in ticks] if lines is None else lines
+        told = "".join([*(self.tick(*tick) for tick in ticks), *map(self.line, lines)])
         text = PICTURE.format(heading, told, steps, f"<rect {drawn}><title>{title or title_of(1, self.piece)}</title></rect>")
         return difference_of_picture(text, width, self.timeline) is not None
 
@@ -154,6 +159,20 @@ class Pictures(unittest.TestCase):
         for ticks in (((4, 80), (5, 300)), ((4, 80), (6, 280)), ((4, 80), (4, 80)), ((4, 80),), ((5, 280),), (), ((5, 280), (4, 80)),
                       ((4, 80), (5, 280), (6, 480))):
             self.assertTrue(self.differs(ticks=ticks), ticks)
+        for ticks in (((4, 80),), ((5, 280),), (), ((4, 80), (6, 280)), ((4, 80), (5, 280), (6, 300)), ((4, 80), (5, 279))):
+            self.assertTrue(self.differs(ticks=ticks, lines=(80, 280)), ticks)
+        for lines in ((80,), (80, 282), (80, 280, 280), ()):
+            self.assertTrue(self.differs(lines=lines), lines)
+
+    def test_room_of_numbers(self):
+        """4 pixels a digit and 2 more to either side; none begins before the last one that is told ends, nor ends behind the picture."""
+        for events, ticks in [([(4, 0), (5, 1)], [(4, 80)]), ([(4, 0), (5, 2)], [(4, 80), (5, 100)]), ([(100, 0), (101, 2)], [(100, 80)]),
+                              ([(100, 0), (101, 3)], [(100, 80), (101, 110)]), ([(4, 0), (5, 1), (6, 2)], [(4, 80), (6, 100)]),
+                              ([(1000, 0), (1001, 40)], [(1000, 80), (1001, 480)]), ([(10000, 0), (10001, 40)], [(10000, 80), (10001, 478)])]:
+            self.timeline.events = events
+            lines = [80 + 10 * step for _, step in events]
+            self.assertFalse(self.differs(ticks=ticks, lines=lines), events)
+            self.assertTrue(self.differs(ticks=[*zip([number for number, _ in events], lines)], lines=lines) or len(ticks) == len(events))
 
     def test_heading(self):
         for heading in ("events 4 to 5: 40 steps", "events 0 to 6: 40 steps", "events 4 to 6: 41 steps", "events 4 to 6: 40 steps, 1 in each column", ""):
@@ -163,21 +182,21 @@ class Pictures(unittest.TestCase):
                          ["events 0 to 12: 29 steps", "events 4 to 8: 6 steps", "events 5 to 5: 0 steps"])
 
     def test_many_events(self):
-        """Up to 19 each has its number, from 20 on every second, from 40 on every third."""
+        """Up to 19 each has its line, from 20 on every second, from 40 on every third; at one place the first has its number."""
         for count, every in [(19, 1), (20, 2), (21, 2), (39, 2), (40, 3), (60, 4)]:
             self.timeline.events = [(number, 0) for number in range(count)]
             for shown in (1, 2, 3, 4):
-                ticks = [(number, 80) for number in range(0, count, shown)]
-                self.assertEqual(self.differs(ticks=ticks), shown != every, (count, shown))
-            self.assertTrue(self.differs(ticks=[(number, 80) for number in range(every - 1, count, every)]) or every == 1)
+                self.assertEqual(self.differs(ticks=[(0, 80)], lines=[80] * len(range(0, count, shown))), shown != every, (count, shown))
+            self.assertTrue(self.differs(ticks=[(every - 1, 80)], lines=[80] * len(range(0, count, every))) or every == 1)
 
     def test_without_steps(self):
-        """There are no rows, and all numbers stand at one place."""
+        """There are no rows, and all lines stand at one place."""
         self.timeline.pieces, self.timeline.steps, self.timeline.events = {}, 0, [(4, 0), (5, 0)]
         picture = '<svg xmlns="http://www.w3.org/2000/svg" width="500"><text>events 4 to 6: 0 steps</text>{}</svg>'
-        for ticks, is_right in [(((4, 80), (5, 80)), True), (((4, 80), (5, 81)), False), (((4, 80),), False), ((), False)]:
-            drawn = picture.format("".join(self.tick(*tick) for tick in ticks))
-            self.assertEqual(difference_of_picture(drawn, 500, self.timeline) is None, is_right, ticks)
+        for lines, ticks, is_right in [((80, 80), ((4, 80),), True), ((80, 81), ((4, 80),), False), ((80,), ((4, 80),), False), ((), (), False),
+                                       ((80, 80), ((4, 80), (5, 80)), False), ((80, 80), (), False)]:
+            drawn = picture.format("".join([*(self.tick(*tick) for tick in ticks), *map(self.line, lines)]))
+            self.assertEqual(difference_of_picture(drawn, 500, self.timeline) is None, is_right, (lines, ticks))
 
     def test_width(self):
         self.assertTrue(difference_of_picture('<svg xmlns="http://www.w3.org/2000/svg" width="499"/>', 500, self.timeline))
