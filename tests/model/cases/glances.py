@@ -15,6 +15,7 @@ from model.timelines import Timeline, trace_events
 
 TIME_LIMIT = 60
 WIDTH, WIDTHS = 1200, range(400, 4001)
+LAST = 1, 2, 5, 1 << 62  # how many of the last events of a stretch are asked for
 
 
 @dataclass
@@ -124,11 +125,22 @@ def difference_of_timelines(ckrt, case, path, tally):
             difference = compare(ckrt, path, stretch, case.width, timeline, fault)
             if difference:
                 return f"timeline (from, to {stretch}): {difference}"
+        for count in LAST:
+            narrow = None if fault else recording.show(Timeline(), *last_of(recording, stretch, count))
+            difference = difference_of_events(ckrt, path, stretch, case.width, narrow, fault, "--last", str(count))
+            if difference:
+                return f"timeline (from, to {stretch}), last {count}: {difference}"
     return None if path.read_bytes() == case.contents else "timeline changed the disk's bytes"
 
 
-def difference_of_events(ckrt, path, stretch, width, timeline, fault):
-    got = glance_of_program(ckrt, "timeline", path, stretch, "--json")
+def last_of(recording, stretch, count):
+    """The ends of so many events at the end of a stretch, or of all of it where it has fewer."""
+    first, last = recording.ends(*stretch)
+    return max(first, last - count), last
+
+
+def difference_of_events(ckrt, path, stretch, width, timeline, fault, *options):
+    got = glance_of_program(ckrt, "timeline", path, stretch, "--json", *options)
     if fault or got.status:
         return None if got == fault else f"json: model {fault}, program {got}"
     wanted, there = trace_events(timeline), json.loads(got.text)["traceEvents"]

@@ -11,7 +11,7 @@ from unit.test_races import load, recording_of
 RUNS, WAITS, ENDED = Activity("running", "runs on hart 0"), Activity("mutex", "waits for mutex 00002000"), Activity("ended", "has ended")
 LEGEND = ["running", "mutex", "ended"]
 SHAPE = ('<svg xmlns="http://www.w3.org/2000/svg" width="500"><rect width="100%"/><text>events 0 to 0: 2001 steps, {} in each column</text>'
-         '{}<text text-anchor="middle" x="80">0</text>{}</svg>')
+         '{}<line class="tick" x1="80" x2="80"/><text text-anchor="middle" x="80">0</text>{}</svg>')
 ROW = '<svg x="80" y="9" width="400" height="16" viewBox="0 0 2001 {}">{}</svg>'
 COLUMN = "<g><title>thread 1: {1} steps from step {0}, {2} {1}</title><rect class=\"{2}\" x=\"{0}\" width=\"{1}\" y=\"0\" height=\"1600\"/></g>"
 
