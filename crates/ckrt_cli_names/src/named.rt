@@ -30,7 +30,8 @@ pub struct NamedWriter<W: Write> {
     start: History<W>,
     put: Calls<bool>,
     ghost within: { written ≤ vec_len waiting },
-    ghost shown: { HasShown (contents_at_first W.contents start.states) (W.contents inner) (drop written waiting.items) put.made },
+    ghost shown: { HasShown (contents_at_first W.contents start.states) (W.contents inner)
+        (drop written waiting.items) put.made },
     ghost noted: { names.rows.items ≡ [] → note.items ≡ [] },
     ghost plain: { names.rows.items ≡ [] → shown_of put.made ≡ taken_of put.made },
 }
@@ -247,7 +248,8 @@ impl<W: Write> NamedWriter<W> {
 }
 
 impl<W: Write> Write for NamedWriter<W> {
-    ghost contents = { λ w. append_known (contents_at_first W.contents w.start.states) (taken_with w.put.made w.line.items) };
+    ghost contents = { λ w. append_known (contents_at_first W.contents w.start.states)
+        (taken_with w.put.made w.line.items) };
 
     #[tactic(auto, using(crate::proofs::PutLemmas::taken_more))]
     fn write(&mut self, buf: &[u8]) -> io::Result<usize> {
