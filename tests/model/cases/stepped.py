@@ -15,6 +15,7 @@ from model.stubs import answers_in, frame, is_answered, line_of_events, monitor,
 
 LIMITS = [1, 1, 3, 20, 100, 4_294_967_295]
 UNTIL, LIMIT, PLAIN = "T00", "T02", "T05"
+LIMITED = "ended by the limit of steps, 2000000000 at first: the same command goes on, and monitor limit N sets another\n"
 ANY, ALL = 0, -1
 STEPPING = {"step": ["vCont;s:{}", "vCont;s:{};c", "vCont;c;s:{}", "vCont;S05:{};c:-1"], "range": ["vCont;r1000,2000:{}"],
             "bs": ["bs"], "bc": ["bc"], "vCont;c": ["vCont;c", "vCont;C05", "vCont;c:-1"]}
@@ -102,7 +103,8 @@ class Way:
         self.place, answer = self.motion(kind, self.meant(thread))
         self.named = thread_of_stop(answer)
         self.asked += [(f"Hc{'-1' if thread == ALL else f'{thread:x}'}", ("", "OK"))] * (kind == "bs")
-        self.asked += [(packet, ("", answer)), (monitor("events"), (self.place_text() + "\n", "OK")), ("?", ("", answer))]
+        told = LIMITED if answer.startswith(LIMIT) else ""
+        self.asked += [(packet, (told, answer)), (monitor("events"), (self.place_text() + "\n", "OK")), ("?", ("", answer))]
 
     def motion(self, kind, thread):
         """Where it comes to, and what is told of it. A range is stepped as one step is."""
