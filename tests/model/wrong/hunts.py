@@ -68,7 +68,6 @@ WRONG = {
         ("recording.show(Readings())) if case.options.is_raced else None", "recording.show(Readings()))"),
         ("difference_of_rows(races, one.first,", "difference_of_rows(races, 0,"),
         ("(SEVERAL if races else status_of([one.text for one in found]))", "status_of([one.text for one in found])"),
-        ("min(found, key=lambda one: one.first)", "found[0]"),
         ("not 1 <= seconds <= LONGEST", "not 0 <= seconds <= LONGEST"),
         ("re.compile(r\"other outcomes: (", "re.compile(r\"[^:\\d]+: ("),
     ],
