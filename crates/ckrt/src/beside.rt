@@ -1,6 +1,9 @@
 //! The names that lie beside an image or a disk: those of FILE are in FILE.names.
+//!
+//! Names of an image have to be of that very image. Those of a disk only help to read: where they can't be used, that is said, and the job
+//! is done without them.
 use ckrt_cli_names::{Names, NamesFault, SIZE_LIMIT};
-use ckrt_cli_words::{DriveJob, HuntJob, Job, ProfileForm};
+use ckrt_cli_words::{DriveJob, Job, ProfileForm};
 use sha2::{Digest, Sha256};
 use std::alloc::{AllocError, Global};
 use std::fs::{File, Files, OpenOptions};
@@ -51,40 +54,55 @@ impl From<AllocError> for Trouble {
 /// Names that can't be used: of the image or the disk of this path.
 #[derive(Clone, Copy)]
 pub struct Refusal<'a> {
+    /// The path of the image or the disk.
     pub path: &'a str,
+    /// Why they can't.
     pub trouble: Trouble,
 }
 
-/// The names for what is printed, and those for what is reported.
+/// The names for a job.
 #[derive(Drop)]
-pub struct Beside {
+pub struct Beside<'a> {
+    /// Those for what is printed.
     pub printed: Names,
+    /// Those for what is reported.
     pub reported: Names,
+    /// Those of a disk that can't be used.
+    pub unused: Option<Refusal<'a>>,
+    /// The bytes of those that each disk gets which the job makes, none where its image has no names. It isn't there where it makes none.
+    pub gift: Option<Vec<u8>>,
 }
 
 /// The path of the names of a file.
-fn names_path(alloc: Global, path: &str) -> Result<String, AllocError> {
+pub fn names_path(alloc: Global, path: &str) -> Result<String, AllocError> {
     format!(in alloc; "{path}.names")
 }
 
-/// The first bytes of a file, at most so many and one more; none where there is no such file.
-fn read_front<R: Files<File = File>>(
+/// Whether nothing has this path.
+pub fn is_missing<R: Files<File = File>>(rt: &R, path: &str) -> bool {
+    match rt.metadata(path) {
+        Ok(_) => false,
+        Err(error) => error.kind() == ErrorKind::NotFound,
+    }
+}
+
+/// The first bytes of a file, at most so many and one more. A pipe isn't waited for.
+pub fn read_front<R: Files<File = File>>(
     rt: &R,
     alloc: Global,
     path: &str,
     most: u64,
-) -> io::Result<Option<Vec<u8>>> {
-    let file = match OpenOptions::new().read(true).open(rt, path) {
-        Ok(file) => file,
-        Err(error) if error.kind() == ErrorKind::NotFound => return Ok(None),
-        Err(error) => return Err(error),
-    };
+) -> io::Result<Vec<u8>> {
+    if !rt.metadata(path)?.is_file() {
+        return Err(io::Error::from(ErrorKind::InvalidInput));
+    }
+    let file = OpenOptions::new().read(true).open(rt, path)?;
     let mut bytes = Vec::new(alloc);
     file.take(most.saturating_add(1)).read_to_end(&mut bytes)?;
-    Ok(Some(bytes))
+    Ok(bytes)
 }
 
-/// Those bytes, or why there are none.
+/// Those bytes, where there is such a file, or why there are none.
 fn read_or_refuse<R: Files<File = File>>(
     rt: &R,
     alloc: Global,
@@ -92,9 +110,13 @@ fn read_or_refuse<R: Files<File = File>>(
     most: u64,
 ) -> Result<Option<Vec<u8>>, Trouble> {
     match read_front(rt, alloc, path, most) {
-        Ok(bytes) => Ok(bytes),
-        Err(error) if error.kind() == ErrorKind::OutOfMemory => Err(Trouble::OutOfMemory),
-        Err(_) => Err(Trouble::Unreadable),
+        Ok(bytes) => Ok(Some(bytes)),
+        Err(error) => match error.kind() {
+            ErrorKind::NotFound => Ok(None),
+            ErrorKind::OutOfMemory => Err(Trouble::OutOfMemory),
+            ErrorKind::InvalidInput => Err(Trouble::Malformed),
+            _ => Err(Trouble::Unreadable),
+        },
     }
 }
 
@@ -119,100 +141,109 @@ fn are_of(names: &Names, image: &[u8]) -> bool {
     image.len() == names.length() as usize && digest == names.digest()
 }
 
-/// The names of an image, where it has some.
+/// The names of an image, none where it has none.
 fn names_of_image<R: Files<File = File>>(
     rt: &R,
     alloc: Global,
     path: &str,
-) -> Result<Option<Names>, Trouble> {
+) -> Result<Names, Trouble> {
     let Some(names) = names_of(rt, alloc, path)? else {
-        return Ok(None);
+        return Ok(Names::none(alloc));
     };
     match read_or_refuse(rt, alloc, path, names.length() as u64)? {
-        Some(image) if are_of(&names, &image) => Ok(Some(names)),
+        Some(image) if are_of(&names, &image) => Ok(names),
         _ => Err(Trouble::OtherImage),
     }
 }
 
-/// Gives a disk the names of its image. Where that can't be it has none.
-fn give<R: Files<File = File>>(rt: &R, alloc: Global, image: &str, disk: &str) {
-    if let (Ok(from), Ok(to)) = (names_path(alloc, image), names_path(alloc, disk)) {
-        let _ = rt.copy(from.as_str(), to.as_str());
-    }
-}
-
-/// Takes them away again, where no disk was made.
-fn take_back<R: Files<File = File>>(rt: &R, alloc: Global, disk: &str) {
-    if !is_there(rt, disk) {
-        if let Ok(path) = names_path(alloc, disk) {
-            let _ = rt.remove_file(path.as_str());
-        }
-    }
-}
-
-/// What stands behind the names of a path.
-fn of_path<T>(path: &str, answer: Result<T, Trouble>) -> Result<T, Refusal<'_>> {
-    match answer {
-        Ok(value) => Ok(value),
-        Err(trouble) => Err(Refusal { path, trouble }),
-    }
+/// The names of an image, and their bytes once more.
+fn names_with_bytes<R: Files<File = File>>(
+    rt: &R,
+    alloc: Global,
+    path: &str,
+) -> Result<(Names, Vec<u8>), Trouble> {
+    let names = names_of_image(rt, alloc, path)?;
+    let mut bytes = Vec::new(alloc);
+    bytes.extend_from_slice(names.bytes())?;
+    Ok((names, bytes))
 }
 
 /// No names.
-pub fn none(alloc: Global) -> Beside {
+pub fn none<'a>(alloc: Global) -> Beside<'a> {
     Beside {
         printed: Names::none(alloc),
         reported: Names::none(alloc),
+        unused: None,
+        gift: None,
     }
 }
 
-/// Names for what is printed.
-fn printed(alloc: Global, names: Option<Names>) -> Beside {
-    match names {
-        Some(names) => Beside {
-            printed: names,
+/// The names of an image of which a job makes disks, for what is printed. An image that is missing has none, as the job itself will say.
+fn of_image<'a, R: Files<File = File>>(
+    rt: &R,
+    alloc: Global,
+    image: &'a str,
+) -> Result<Beside<'a>, Refusal<'a>> {
+    if is_missing(rt, image) {
+        return Ok(none(alloc));
+    }
+    match names_with_bytes(rt, alloc, image) {
+        Ok((printed, bytes)) => Ok(Beside {
+            printed,
             reported: Names::none(alloc),
-        },
-        None => none(alloc),
+            unused: None,
+            gift: Some(bytes),
+        }),
+        Err(trouble) => Err(Refusal {
+            path: image,
+            trouble,
+        }),
     }
 }
 
 /// The names of a disk, for what is printed.
-fn of_disk<'a, R: Files<File = File>>(
-    rt: &R,
-    alloc: Global,
-    disk: &'a str,
-) -> Result<Beside, Refusal<'a>> {
-    let names = of_path(disk, names_of(rt, alloc, disk))?;
-    Ok(printed(alloc, names))
+fn of_disk<'a, R: Files<File = File>>(rt: &R, alloc: Global, disk: &'a str) -> Beside<'a> {
+    let mut beside = none(alloc);
+    match names_of(rt, alloc, disk) {
+        Ok(Some(names)) => beside.printed = names,
+        Ok(None) => {}
+        Err(trouble) => {
+            beside.unused = Some(Refusal {
+                path: disk,
+                trouble,
+            })
+        }
+    }
+    beside
 }
 
-/// The names for a drive, whose end is reported: those of its image, which a disk gets that is made of it, or those of its disk.
+/// The same names, for what is reported.
+fn reported(alloc: Global, beside: Beside<'_>) -> Beside<'_> {
+    let Beside {
+        printed,
+        unused,
+        gift,
+        ..
+    } = beside;
+    Beside {
+        printed: Names::none(alloc),
+        reported: printed,
+        unused,
+        gift,
+    }
+}
+
+/// The names for a drive, whose end is reported: those of its disk, or of the image that a missing one is made of.
 fn of_drive<'a, R: Files<File = File>>(
     rt: &R,
     alloc: Global,
     job: &DriveJob<'a>,
-) -> Result<Beside, Refusal<'a>> {
-    let of_image = match job.image {
-        Some(image) => of_path(image, names_of_image(rt, alloc, image))?,
-        None => None,
+) -> Result<Beside<'a>, Refusal<'a>> {
+    let beside = match job.image {
+        Some(image) if is_missing(rt, job.disk) => of_image(rt, alloc, image)?,
+        _ => of_disk(rt, alloc, job.disk),
     };
-    if let (Some(image), Some(_)) = (job.image, &of_image) {
-        if !is_there(rt, job.disk) {
-            give(rt, alloc, image, job.disk);
-        }
-    }
-    let names = match of_image {
-        Some(names) => Some(names),
-        None => of_path(job.disk, names_of(rt, alloc, job.disk))?,
-    };
-    match names {
-        Some(names) => Ok(Beside {
-            printed: Names::none(alloc),
-            reported: names,
-        }),
-        None => Ok(none(alloc)),
-    }
+    Ok(reported(alloc, beside))
 }
 
 /// The names for a job, before it is done.
@@ -220,67 +251,16 @@ pub fn before<'a, R: Files<File = File>>(
     rt: &R,
     alloc: Global,
     job: &Job<'a>,
-) -> Result<Beside, Refusal<'a>> {
+) -> Result<Beside<'a>, Refusal<'a>> {
     match job {
-        Job::Inspect(job) => of_disk(rt, alloc, job.disk),
-        Job::Calls(job) | Job::Races(job) => of_disk(rt, alloc, job.disk),
+        Job::Inspect(job) => Ok(of_disk(rt, alloc, job.disk)),
+        Job::Calls(job) | Job::Races(job) => Ok(of_disk(rt, alloc, job.disk)),
         Job::Profile(job) if job.form == ProfileForm::Table => {
-            of_disk(rt, alloc, job.stretch.disk)
+            Ok(of_disk(rt, alloc, job.stretch.disk))
         }
-        Job::Hunt(job) => {
-            let names = of_path(job.image, names_of_image(rt, alloc, job.image))?;
-            Ok(printed(alloc, names))
-        }
-        Job::Format(job) => {
-            of_path(job.image, names_of_image(rt, alloc, job.image))?;
-            Ok(none(alloc))
-        }
+        Job::Hunt(job) => of_image(rt, alloc, job.image),
+        Job::Format(job) => Ok(reported(alloc, of_image(rt, alloc, job.image)?)),
         Job::Drive(job) => of_drive(rt, alloc, job),
         _ => Ok(none(alloc)),
-    }
-}
-
-/// How many disks a hunt may leave in a folder.
-const MOST_DISKS: u32 = 64;
-
-/// Whether there is a file of this path.
-fn is_there<R: Files<File = File>>(rt: &R, path: &str) -> bool {
-    rt.metadata(path).is_ok()
-}
-
-/// Gives a disk that a hunt has kept the names of its image, unless it has some.
-fn give_if_kept<R: Files<File = File>>(rt: &R, alloc: Global, image: &str, disk: &str) {
-    if let Ok(path) = names_path(alloc, disk) {
-        if is_there(rt, disk) && !is_there(rt, path.as_str()) {
-            give(rt, alloc, image, disk);
-        }
-    }
-}
-
-/// Gives the disks of a hunt the names of its image.
-fn give_kept<R: Files<File = File>>(rt: &R, alloc: Global, job: &HuntJob<'_>) {
-    let Some(keep) = job.keep else {
-        return;
-    };
-    if !keep.ends_with("/") {
-        if is_there(rt, keep) {
-            give(rt, alloc, job.image, keep);
-        }
-        return;
-    }
-    for number in 1..=MOST_DISKS {
-        if let Ok(disk) = format!(in alloc; "{keep}outcome-{number}.disk") {
-            give_if_kept(rt, alloc, job.image, disk.as_str());
-        }
-    }
-}
-
-/// Gives what a job has made the names of its image. A drive has given its disk its names already.
-pub fn after<R: Files<File = File>>(rt: &R, alloc: Global, job: &Job<'_>, status: u8) {
-    match job {
-        Job::Format(job) if status == 0 => give(rt, alloc, job.image, job.disk),
-        Job::Hunt(job) if status == 0 || status == 8 => give_kept(rt, alloc, job),
-        Job::Drive(job) if job.image.is_some() => take_back(rt, alloc, job.disk),
-        _ => {}
     }
 }

@@ -3,14 +3,16 @@
 #![tactic(auto)]
 
 mod beside;
+mod giving;
 
 use beside::{Beside, Refusal, Trouble};
 use ckrt_cli::run_words;
 use ckrt_cli_files::{OutputReason, SystemSources, ToldWriter};
-use ckrt_cli_names::{NamedWriter, Unflushed};
+use ckrt_cli_names::{NamedWriter, Names, Unflushed};
 use ckrt_cli_reports::{SystemMeter, WrittenReport};
-use ckrt_cli_words::read_words;
+use ckrt_cli_words::{Job, read_words};
 use ckrt_disk::Calls;
+use giving::Giving;
 use std::cell::Cell;
 use std::env;
 use std::io::{self, ErrorKind, Write};
@@ -22,9 +24,9 @@ fn run<'a>(
     rt: &'a HostRuntime,
     words: &'a [&'a str],
     why: &'a Cell<OutputReason>,
-    names: Beside,
+    printed: Names,
+    reported: Names,
 ) -> u8 {
-    let Beside { printed, reported } = names;
     let mut writer = NamedWriter::new(rt.alloc(), printed, ToldWriter::new(io::writer(rt), why));
     let report = NamedWriter::new(rt.alloc(), reported, rt.stderr());
     let mut reporter = WrittenReport::new(Unflushed::new(report));
@@ -42,6 +44,12 @@ fn run<'a>(
     status
 }
 
+/// The job of these words, without names.
+fn run_plain<'a>(rt: &'a HostRuntime, words: &'a [&'a str], why: &'a Cell<OutputReason>) -> u8 {
+    let alloc = rt.alloc();
+    run(rt, words, why, Names::none(alloc), Names::none(alloc))
+}
+
 /// Says why names can't be used; the answer is the program's status.
 fn refuse(rt: &HostRuntime, refusal: Refusal<'_>) -> u8 {
     let Refusal { path, trouble } = refusal;
@@ -55,17 +63,42 @@ fn refuse(rt: &HostRuntime, refusal: Refusal<'_>) -> u8 {
     1
 }
 
-/// The job of these words, with the names beside its files, which what it makes gets too.
+/// The job of these words, with the names beside its files, which what it makes gets too. Where memory is refused it makes none.
+fn run_with<'a>(
+    rt: &'a HostRuntime,
+    words: &'a [&'a str],
+    why: &'a Cell<OutputReason>,
+    job: &Job<'a>,
+    names: Beside<'a>,
+) -> u8 {
+    let Beside {
+        printed,
+        reported,
+        unused,
+        gift,
+    } = names;
+    if let Some(Refusal { path, trouble }) = unused {
+        let text = trouble.text();
+        let _ = eprintln!(rt; "the names {path}.names: {text}; this goes on without them");
+    }
+    let giving = match gift {
+        Some(bytes) => Giving::begin(rt, rt.alloc(), job, bytes).ok(),
+        None => None,
+    };
+    let status = run(rt, words, why, printed, reported);
+    if let Some(giving) = giving {
+        let _ = giving.end(rt, job, status);
+    }
+    status
+}
+
+/// The job of these words, where its names can be used.
 fn run_named<'a>(rt: &'a HostRuntime, words: &'a [&'a str], why: &'a Cell<OutputReason>) -> u8 {
     let Ok(job) = read_words(rt.alloc(), words) else {
-        return run(rt, words, why, beside::none(rt.alloc()));
+        return run_plain(rt, words, why);
     };
     match beside::before(rt, rt.alloc(), &job) {
-        Ok(names) => {
-            let status = run(rt, words, why, names);
-            beside::after(rt, rt.alloc(), &job, status);
-            status
-        }
+        Ok(names) => run_with(rt, words, why, &job, names),
         Err(refusal) => refuse(rt, refusal),
     }
 }
@@ -92,8 +125,7 @@ fn main(rt: HostRuntime) -> ExitCode {
         Err(_) => {
             let _ = eprintln!(rt; "error: an argument isn't text\n");
             let why = Cell::new(OutputReason::Other);
-            let names = beside::none(rt.alloc());
-            ExitCode::from(run(&rt, &["--help"], &why, names))
+            ExitCode::from(run_plain(&rt, &["--help"], &why))
         }
     }
 }

@@ -52,6 +52,13 @@ impl Names {
         Ok(Names { bytes, head, rows })
     }
 
+    /// The bytes of their file, none where there are no names.
+    pub fn bytes(&self) -> &[u8]
+        ensures { result.now ≡ bytes_of self.now }
+    {
+        self.bytes.as_slice()
+    }
+
     /// The SHA-256 digest of the image that they are of.
     pub fn digest(&self) -> [u8; 32]
         ensures { result ≡ self.now.head.digest }

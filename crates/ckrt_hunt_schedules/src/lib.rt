@@ -41,7 +41,7 @@ pub use laws::{one_outcome_is_of_all, seed_repeats, told_is_kept, told_is_kept_s
 pub use made::{Lowered, Made};
 pub use onlooker::{HuntOnlooker, HuntWatch, is_over};
 pub use outcome::{Awaited, Outcome, Waiting};
-pub use outcomes::Outcomes;
+pub use outcomes::{MOST_OUTCOMES, Outcomes};
 pub use plan::{Input, Plan};
 pub use row::Row;
 pub use runs::{Finished, Told, run};

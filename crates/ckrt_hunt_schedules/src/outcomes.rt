@@ -1,6 +1,8 @@
 //! Outcomes of all kinds behind each other, those that harm first.
 ghost use Rattle.std.specs.Prelude.{◌≡◌, ◌≤◌, vec_capacity, IfOk};
+ghost use Rattle.ckrt_hunt_schedules.specs.declared.outcomes.TheConstants.{MOST_OUTCOMES};
 
+use crate::group::GROUP_ROWS;
 use crate::joining::append_all;
 use crate::kind::kind_of;
 use crate::row::Row;
@@ -8,12 +10,15 @@ use crate::tally::Tally;
 use crate::verdict::{Verdict, verdict_by};
 use std::alloc::{AllocError, Global};
 
+/// How many outcomes of all six kinds are told apart.
+pub const MOST_OUTCOMES: usize = 6 * GROUP_ROWS;
+
 /// What a hunt came to: each outcome once, by its kind, and within a kind in the order in which they came first.
 #[derive(Drop)]
 pub struct Outcomes {
     pub(crate) rows: Vec<Row>,
     pub(crate) others: u64,
-    ghost room: { 384 ≤ vec_capacity rows },
+    ghost room: { MOST_OUTCOMES ≤ vec_capacity rows },
 }
 
 impl Outcomes {
@@ -25,7 +30,7 @@ impl Outcomes {
         ensures { IfOk result IsRoom }
     {
         Ok(Outcomes {
-            rows: Vec::with_capacity(alloc, 384)?,
+            rows: Vec::with_capacity(alloc, MOST_OUTCOMES)?,
             others: 0,
         })
     }

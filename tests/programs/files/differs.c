@@ -4,6 +4,8 @@
 #include <sys/stat.h>
 #include <unistd.h>
 
+#define OTHER_FOLDER "/tmp" /* the second one of the two that each guest begins with */
+
 int main(void) {
     char to[16];
     int number = open("file", O_RDWR | O_CREAT, 0666);
@@ -20,10 +22,10 @@ int main(void) {
     TELL(lchown("file", 0, 0));
     TELL(fchown(number, 1000, 1000));
     TELL(fchown(number, 1000, 0));
-    TELL(rename("file", "/tmp/file"));
-    TELL(rename("/tmp", "/other"));
+    TELL(rename("file", OTHER_FOLDER "/file"));
+    TELL(rename(OTHER_FOLDER, "/other"));
     TELL(rmdir("/guest"));
-    TELL(rmdir("/tmp"));
+    TELL(rmdir(OTHER_FOLDER));
     TELL(rmdir("/dev"));
     TELL(rename(".", "other"));
     TELL(open("stdout", O_WRONLY | O_CREAT, 0666));

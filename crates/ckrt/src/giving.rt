@@ -1,0 +1,253 @@
+//! Names that a disk gets with its image. What has their path and isn't a file of names stays, and so does each other file of the job.
+use crate::beside::{is_missing, names_path, read_front};
+use ckrt_cli_words::{DriveJob, HuntJob, Job};
+use ckrt_hunt_schedules::MOST_OUTCOMES;
+use std::alloc::{AllocError, Global};
+use std::fs::{File, Files, OpenFile, OpenOptions};
+use std::io::{self, ErrorKind, Write};
+use std::os::unix::fs::MetadataExt;
+
+/// How each file of names begins.
+const BEGIN: &[u8] = b"ckrt-names 1 ";
+
+/// The names of a disk, what they shall be, and which files of the job they may not be.
+#[derive(Clone, Copy)]
+struct Place<'a, 'b> {
+    alloc: Global,
+    disk: &'b str,
+    names: &'b str,
+    bytes: &'b [u8],
+    others: [Option<&'a str>; 4],
+}
+
+/// What became of them.
+#[derive(Clone, Copy, Debug, PartialEq, Eq)]
+pub enum Given {
+    /// They were made.
+    Made,
+    /// They are as they shall be already, or there are none to be made.
+    AsTheyWere,
+    /// Another file has their path, or they can't be made there.
+    Refused,
+}
+
+/// Whether two paths lead to one file.
+fn is_one_file<R: Files<File = File>>(rt: &R, first: &str, second: &str) -> bool {
+    match (rt.metadata(first), rt.metadata(second)) {
+        (Ok(first), Ok(second)) => first.dev() == second.dev() && first.ino() == second.ino(),
+        _ => false,
+    }
+}
+
+impl Place<'_, '_> {
+    /// Whether the path of the names leads to another file of the job.
+    fn is_other<R: Files<File = File>>(&self, rt: &R) -> bool {
+        is_one_file(rt, self.names, self.disk)
+            || self.others.iter().flatten().any(|other| *other == self.names
+                || is_one_file(rt, self.names, other))
+    }
+
+    /// Whether what is there may go: a file of names, or the begin of one.
+    fn may_go<R: Files<File = File>>(&self, rt: &R) -> bool {
+        match rt.symlink_metadata(self.names) {
+            Ok(found) if found.is_file() => {}
+            _ => return false,
+        }
+        match read_front(
+            rt,
+            self.alloc,
+            self.names,
+            (BEGIN.len() as u64).saturating_sub(1),
+        ) {
+            Ok(front) => BEGIN.starts_with(front.as_slice()),
+            Err(_) => false,
+        }
+    }
+
+    /// Whether the names are there as they shall be.
+    fn is_right<R: Files<File = File>>(&self, rt: &R) -> bool {
+        match read_front(rt, self.alloc, self.names, self.bytes.len() as u64) {
+            Ok(found) => found.as_slice() == self.bytes,
+            Err(_) => false,
+        }
+    }
+
+    /// Makes the names where nothing is, and has them on the device.
+    fn make<R: Files<File = File>>(&self, rt: &R) -> io::Result<()> {
+        let mut file = OpenOptions::new()
+            .write(true)
+            .create_new(true)
+            .open(rt, self.names)?;
+        let written = file.write_all(self.bytes);
+        let synced = written.and_then(|()| file.sync_all());
+        if synced.is_err() || self.is_other(rt) {
+            rt.remove_file(self.names)?;
+            return Err(io::Error::from(ErrorKind::AlreadyExists));
+        }
+        Ok(())
+    }
+
+    /// Removes names of another image, or what is left of such.
+    fn clear<R: Files<File = File>>(&self, rt: &R) -> io::Result<()> {
+        if is_missing(rt, self.names) {
+            return Ok(());
+        }
+        if self.is_other(rt) || !self.may_go(rt) {
+            return Err(io::Error::from(ErrorKind::AlreadyExists));
+        }
+        rt.remove_file(self.names)
+    }
+
+    /// Gives the disk its names, in place of older ones. Where its image has none it has none then.
+    fn give<R: Files<File = File>>(&self, rt: &R) -> Given {
+        if self.bytes.is_empty() {
+            let _ = self.clear(rt);
+            return Given::AsTheyWere;
+        }
+        if self.is_right(rt) {
+            return Given::AsTheyWere;
+        }
+        if self.is_other(rt) {
+            return Given::Refused;
+        }
+        match self.clear(rt).and_then(|()| self.make(rt)) {
+            Ok(()) => Given::Made,
+            Err(_) => Given::Refused,
+        }
+    }
+}
+
+/// The names that the disks of a job get.
+#[derive(Drop)]
+pub struct Giving {
+    alloc: Global,
+    bytes: Vec<u8>,
+    /// Which disks of a hunt were there before, by their numbers from 1 on, or the one.
+    there: Vec<bool>,
+    is_made: bool,
+}
+
+/// Says that a disk has no names, since another file has their path.
+fn tell_refused(rt: &HostRuntime, disk: &str) {
+    let _ = eprintln!(rt;
+        "the names {disk}.names: another file is there, or none can be made, so {disk} has no names"
+    );
+}
+
+/// The path of the disk of an outcome.
+fn outcome_path(alloc: Global, keep: &str, number: usize) -> Result<String, AllocError> {
+    if keep.ends_with("/") {
+        format!(in alloc; "{keep}outcome-{number}.disk")
+    } else {
+        format!(in alloc; "{keep}")
+    }
+}
+
+/// How many disks a hunt may leave.
+fn most_kept(keep: &str) -> usize {
+    if keep.ends_with("/") {
+        MOST_OUTCOMES
+    } else {
+        1
+    }
+}
+
+/// Which disks of a hunt are there.
+fn those_there(rt: &HostRuntime, alloc: Global, keep: &str) -> Result<Vec<bool>, AllocError> {
+    let mut there = Vec::new(alloc);
+    for number in 1..=most_kept(keep) {
+        let disk = outcome_path(alloc, keep, number)?;
+        there.push(!is_missing(rt, disk.as_str()))?;
+    }
+    Ok(there)
+}
+
+impl Giving {
+    /// Before a job is done: a drive gives a missing disk its names, so that one which is killed has them too.
+    pub fn begin(
+        rt: &HostRuntime,
+        alloc: Global,
+        job: &Job<'_>,
+        bytes: Vec<u8>,
+    ) -> Result<Giving, AllocError> {
+        let there = match job {
+            Job::Hunt(
+                HuntJob {
+                    keep: Some(keep),
+                    ..
+                },
+            ) => those_there(rt, alloc, keep)?,
+            _ => Vec::new(alloc),
+        };
+        let mut giving = Giving {
+            alloc,
+            bytes,
+            there,
+            is_made: false,
+        };
+        if let Job::Drive(job) = job {
+            let others = [job.image, job.input, job.output, job.status];
+            giving.is_made = giving.give(rt, job.disk, others)? == Given::Made;
+        }
+        Ok(giving)
+    }
+
+    /// Gives a disk its names.
+    fn give(
+        &self,
+        rt: &HostRuntime,
+        disk: &str,
+        others: [Option<&str>; 4],
+    ) -> Result<Given, AllocError> {
+        let names = names_path(self.alloc, disk)?;
+        let place = Place {
+            alloc: self.alloc,
+            disk,
+            names: names.as_str(),
+            bytes: self.bytes.as_slice(),
+            others,
+        };
+        let given = place.give(rt);
+        if given == Given::Refused {
+            tell_refused(rt, disk);
+        }
+        Ok(given)
+    }
+
+    /// Gives the disks that a hunt has made their names.
+    fn give_kept(&self, rt: &HostRuntime, keep: &str, job: &HuntJob<'_>) -> Result<(), AllocError> {
+        for (before, was_there) in self.there.iter().enumerate() {
+            let disk = outcome_path(self.alloc, keep, before.saturating_add(1))?;
+            if !was_there && !is_missing(rt, disk.as_str()) {
+                let others = [Some(job.image), job.input, None, None];
+                self.give(rt, disk.as_str(), others)?;
+            }
+        }
+        Ok(())
+    }
+
+    /// Takes the names of a drive away again, where it has made no disk.
+    fn take_back(&self, rt: &HostRuntime, job: &DriveJob<'_>) -> Result<(), AllocError> {
+        if self.is_made && is_missing(rt, job.disk) {
+            let names = names_path(self.alloc, job.disk)?;
+            let _ = rt.remove_file(names.as_str());
+        }
+        Ok(())
+    }
+
+    /// After a job is done with a status: gives what it has made the names of its image.
+    pub fn end(&self, rt: &HostRuntime, job: &Job<'_>, status: u8) -> Result<(), AllocError> {
+        match job {
+            Job::Format(job) if status == 0 => {
+                self.give(rt, job.disk, [Some(job.image), None, None, None])?;
+                Ok(())
+            }
+            Job::Hunt(job) => match job.keep {
+                Some(keep) => self.give_kept(rt, keep, job),
+                None => Ok(()),
+            },
+            Job::Drive(job) => self.take_back(rt, job),
+            _ => Ok(()),
+        }
+    }
+}
