@@ -11,18 +11,31 @@
 #include <stdint.h>
 #include <string.h>
 
-static void lock(void) { pthread_mutex_lock(&__guest_atomic_lock.mutex); }
-static void unlock(void) { pthread_mutex_unlock(&__guest_atomic_lock.mutex); }
+static void lock(void) { __guest_take_lock(&__guest_atomic_lock); }
+static void unlock(void) { __guest_leave_lock(&__guest_atomic_lock); }
 
-/* Where an atomic load or store is a single step it stands beside a fence: see fenced.h. */
+/* Each step of an atomic load or store stands beside a fence: see fenced.h. So the object itself orders what threads do, and not the
+   lock. Of eight bytes there are two. */
+static uint64_t get_double(const volatile uint64_t *place) {
+    const volatile uint32_t *words = (const volatile uint32_t *)place;
+    uint32_t low = load_word(&words[0]);
+    return low | (uint64_t)load_word(&words[1]) << 32;
+}
+
+static void put_double(volatile uint64_t *place, uint64_t value) {
+    volatile uint32_t *words = (volatile uint32_t *)place;
+    store_word(&words[0], (uint32_t)value);
+    store_word(&words[1], (uint32_t)(value >> 32));
+}
+
 #define GET_1(place) load_byte(place)
 #define GET_2(place) load_half(place)
 #define GET_4(place) load_word(place)
-#define GET_8(place) (*(place))
+#define GET_8(place) get_double(place)
 #define PUT_1(place, value) store_byte((place), (value))
 #define PUT_2(place, value) store_half((place), (value))
 #define PUT_4(place, value) store_word((place), (value))
-#define PUT_8(place, value) (void)(*(place) = (value))
+#define PUT_8(place, value) put_double((place), (value))
 
 /* One function under the name of the compiler's call, which C knows with another type. */
 #define CALL(name) __asm__(#name)
@@ -109,7 +122,7 @@ static void unlock(void) { pthread_mutex_unlock(&__guest_atomic_lock.mutex); }
 #define FENCED_WORD return load_word(place);
 #define UNDER_THE_LOCK                                                                                                \
     lock();                                                                                                           \
-    uint64_t value = *place;                                                                                          \
+    uint64_t value = GET_8(place);                                                                                    \
     unlock();                                                                                                         \
     return value;
 
@@ -120,11 +133,24 @@ OPERATIONS(8, uint64_t, UNDER_THE_LOCK)
 
 /* --- Objects of any size ------------------------------------------------------------------------------------------ */
 
+/* The first byte stands beside a fence, and the others are told by no lock. */
+static void get(void *to, const void *place, size_t size) {
+    if (size == 0) return;
+    *(uint8_t *)to = load_byte(place);
+    memcpy((char *)to + 1, (const char *)place + 1, size - 1);
+}
+
+static void put(void *place, const void *from, size_t size) {
+    if (size == 0) return;
+    memcpy((char *)place + 1, (const char *)from + 1, size - 1);
+    store_byte(place, *(const uint8_t *)from);
+}
+
 void load_any(size_t size, const void *place, void *to, int order) CALL(__atomic_load);
 void load_any(size_t size, const void *place, void *to, int order) {
     (void)order;
     lock();
-    memcpy(to, place, size);
+    get(to, place, size);
     unlock();
 }
 
@@ -132,7 +158,7 @@ void store_any(size_t size, void *place, const void *from, int order) CALL(__ato
 void store_any(size_t size, void *place, const void *from, int order) {
     (void)order;
     lock();
-    memcpy(place, from, size);
+    put(place, from, size);
     unlock();
 }
 
@@ -140,8 +166,8 @@ void exchange_any(size_t size, void *place, const void *from, void *to, int orde
 void exchange_any(size_t size, void *place, const void *from, void *to, int order) {
     (void)order;
     lock();
-    memcpy(to, place, size);
-    memcpy(place, from, size);
+    get(to, place, size);
+    put(place, from, size);
     unlock();
 }
 
@@ -150,8 +176,8 @@ bool compare_any(size_t size, void *place, void *expected, const void *from, int
 bool compare_any(size_t size, void *place, void *expected, const void *from, int order, int other) {
     (void)order, (void)other;
     lock();
-    bool is_equal = memcmp(place, expected, size) == 0;
-    if (is_equal) memcpy(place, from, size);
+    bool is_equal = size == 0 || (load_byte(place) == *(uint8_t *)expected && memcmp(place, expected, size) == 0);
+    if (is_equal) put(place, from, size);
     else memcpy(expected, place, size);
     unlock();
     return is_equal;

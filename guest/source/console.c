@@ -7,6 +7,7 @@
  * input's lock, which a clean-up handler gives up where the thread is cancelled as it waits for input. The library's other calls are made of these.
  */
 #include "calls.h"
+#include "fenced.h"
 #include "locks.h"
 #include <stdarg.h>
 #include <stdbool.h>
@@ -54,21 +55,35 @@ static void __guest_end_of_call(FILE *stream) { (void)stream; }
 /* How many times the thread holds locks of streams: then no writing call is a cancellation point. */
 static _Thread_local unsigned held;
 
-void flockfile(FILE *stream) {
+static int take(FILE *stream, uint32_t call) {
     pthread_mutex_t *lock = lock_of(stream);
-    if (lock && pthread_mutex_lock(lock) == 0) held++;
-}
-
-int ftrylockfile(FILE *stream) {
-    pthread_mutex_t *lock = lock_of(stream);
-    int error = lock ? pthread_mutex_trylock(lock) : 0;
+    int error = lock ? object_call(call, lock, 0, 0, 0) : 0;
     if (lock && !error) held++;
     return error;
 }
 
-void funlockfile(FILE *stream) {
+static void leave(FILE *stream) {
     pthread_mutex_t *lock = lock_of(stream);
-    if (lock && pthread_mutex_unlock(lock) == 0) held--;
+    if (lock && object_call(CALL_MUTEX_UNLOCK, lock, 0, 0, 0) == 0) held--;
+}
+
+/* What a program does between these calls is in an order, as under any lock, though the output's own lock orders no prints. */
+static volatile uint32_t handed_on;
+
+static bool is_output(FILE *stream) { return lock_of(stream) == &__guest_output_lock.mutex; }
+
+static int taken(FILE *stream, int error) {
+    if (!error && is_output(stream)) (void)load_word(&handed_on);
+    return error;
+}
+
+void flockfile(FILE *stream) { taken(stream, take(stream, CALL_MUTEX_LOCK)); }
+
+int ftrylockfile(FILE *stream) { return taken(stream, take(stream, CALL_MUTEX_TRYLOCK)); }
+
+void funlockfile(FILE *stream) {
+    if (is_output(stream)) store_word(&handed_on, 0);
+    leave(stream);
 }
 
 /* --- Writing ------------------------------------------------------------------------------------------------------ */
@@ -78,14 +93,14 @@ static int begin_writing(FILE *stream) {
     int state;
     if (!held && lock_of(stream)) pthread_testcancel();
     pthread_setcancelstate(PTHREAD_CANCEL_DISABLE, &state);
-    flockfile(stream);
+    take(stream, CALL_MUTEX_LOCK);
     __guest_begin_of_call(stream, __SWR);
     return state;
 }
 
 static void end_writing(FILE *stream, int state) {
     __guest_end_of_call(stream);
-    funlockfile(stream);
+    leave(stream);
     pthread_setcancelstate(state, NULL);
 }
 
@@ -108,7 +123,7 @@ WRITING(int, vfprintf, to, (FILE *to, const char *format, va_list values), (to, 
 
 /* --- Reading ------------------------------------------------------------------------------------------------------ */
 
-static void unlock(void *stream) { funlockfile(stream); }
+static void unlock(void *stream) { leave(stream); }
 
 /* The library reads no long double: of such a format this tells. */
 static const char *checked(const char *format) {
@@ -128,7 +143,7 @@ static const char *checked(const char *format) {
     type __real_##name parameters;                         \
     type __wrap_##name parameters {                        \
         type result;                                       \
-        flockfile(stream);                                 \
+        take(stream, CALL_MUTEX_LOCK);                     \
         pthread_cleanup_push(unlock, stream);              \
         __guest_begin_of_call(stream, __SRD);              \
         result = __real_##name arguments;                  \

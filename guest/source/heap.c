@@ -1,6 +1,5 @@
 /* What malloc takes its memory from. The C library calls it under its lock. */
 #include "heap.h"
-#include "fenced.h"
 #include <errno.h>
 #include <malloc.h>
 #include <stddef.h>
@@ -13,9 +12,9 @@ void __guest_set_heap(char *begin, char *end) {
     heap_end = end;
 }
 
-/* Atomic, since who asks how much is free holds no lock. */
-static char *top_now(void) { return (char *)load_word((const volatile uint32_t *)&heap_top); }
-static void set_top(char *top) { store_word((volatile uint32_t *)&heap_top, (uint32_t)top); }
+/* Who asks how much is free holds no lock: a word is loaded at once. */
+static char *top_now(void) { return *(char *volatile *)&heap_top; }
+static void set_top(char *top) { *(char *volatile *)&heap_top = top; }
 
 size_t __guest_free_bytes(void) { return mallinfo().fordblks + (size_t)(heap_end - top_now()); }
 

@@ -21,8 +21,8 @@ struct named {
 
 static struct named *first;
 
-static void lock(void) { pthread_mutex_lock(&__guest_queue_lock.mutex); }
-static void unlock(void) { pthread_mutex_unlock(&__guest_queue_lock.mutex); }
+static void lock(void) { __guest_take_lock(&__guest_queue_lock); }
+static void unlock(void) { __guest_leave_lock(&__guest_queue_lock); }
 
 static struct named *with_name(const char *name) {
     struct named *at = first;

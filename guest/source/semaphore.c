@@ -4,14 +4,15 @@
 #include "locks.h"
 #include <errno.h>
 
-static pthread_mutex_t *mutex(void) { return &__guest_queue_lock.mutex; }
+static void lock(void) { __guest_take_lock(&__guest_queue_lock); }
+static void unlock(void) { __guest_leave_lock(&__guest_queue_lock); }
+static void unlock_at_end(void *unused) { (void)unused, unlock(); }
 
 static pthread_cond_t *condition(sem_t *semaphore) { return (pthread_cond_t *)semaphore; }
 
-/* Atomic, since who asks for the count holds no lock. */
+/* Atomic: who asks for the count holds no lock, and a post is before the wait that it ends. */
+static unsigned count_of(const sem_t *semaphore) { return load_word((const volatile uint32_t *)&semaphore->count); }
 static void set_count(sem_t *semaphore, unsigned count) { store_word((volatile uint32_t *)&semaphore->count, count); }
-
-static void unlock(void *locked) { pthread_mutex_unlock(locked); }
 
 static int answer(int error) {
     if (!error) return 0;
@@ -29,26 +30,26 @@ int sem_init(sem_t *semaphore, int is_shared, unsigned count) {
 int sem_destroy(sem_t *semaphore) { return answer(pthread_cond_destroy(condition(semaphore))); }
 
 int sem_post(sem_t *semaphore) {
-    pthread_mutex_lock(mutex());
+    lock();
     int error = semaphore->count == SEM_VALUE_MAX ? EOVERFLOW : 0;
     if (!error) {
         set_count(semaphore, semaphore->count + 1);
         pthread_cond_signal(condition(semaphore));
     }
-    pthread_mutex_unlock(mutex());
+    unlock();
     return answer(error);
 }
 
 int sem_trywait(sem_t *semaphore) {
-    pthread_mutex_lock(mutex());
-    int error = semaphore->count == 0 ? EAGAIN : 0;
+    lock();
+    int error = count_of(semaphore) == 0 ? EAGAIN : 0;
     if (!error) set_count(semaphore, semaphore->count - 1);
-    pthread_mutex_unlock(mutex());
+    unlock();
     return answer(error);
 }
 
 int sem_getvalue(sem_t *semaphore, int *count) {
-    *count = (int)load_word((volatile uint32_t *)&semaphore->count);
+    *count = (int)count_of(semaphore);
     return 0;
 }
 
@@ -56,13 +57,13 @@ int sem_getvalue(sem_t *semaphore, int *count) {
 static int wait(sem_t *semaphore, const struct timespec *deadline) {
     int error = 0;
     pthread_testcancel();
-    pthread_mutex_lock(mutex());
-    pthread_cleanup_push(unlock, mutex());
-    while (semaphore->count == 0 && !error) {
-        error = deadline ? pthread_cond_timedwait(condition(semaphore), mutex(), deadline)
-                         : pthread_cond_wait(condition(semaphore), mutex());
+    lock();
+    pthread_cleanup_push(unlock_at_end, NULL);
+    while (count_of(semaphore) == 0 && !error) {
+        error = deadline ? pthread_cond_timedwait(condition(semaphore), &__guest_queue_lock.mutex, deadline)
+                         : pthread_cond_wait(condition(semaphore), &__guest_queue_lock.mutex);
     }
-    if (semaphore->count > 0) {
+    if (count_of(semaphore) > 0) {
         set_count(semaphore, semaphore->count - 1);
         error = 0;
     }

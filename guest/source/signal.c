@@ -35,8 +35,8 @@ static uint32_t discards[NSIG];
 /* What the thread has raised while it was blocked, and the count of discards then: where that has grown, it isn't pending any more. */
 static _Thread_local uint32_t raised, discards_then[NSIG];
 
-static void lock(void) { pthread_mutex_lock(&__guest_queue_lock.mutex); }
-static void unlock(void) { pthread_mutex_unlock(&__guest_queue_lock.mutex); }
+static void lock(void) { __guest_take_lock(&__guest_queue_lock); }
+static void unlock(void) { __guest_leave_lock(&__guest_queue_lock); }
 
 static bool is_signal(int number) { return number > 0 && number < NSIG && (signals & BIT(number)); }
 

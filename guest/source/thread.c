@@ -8,14 +8,13 @@
 #include "thread.h"
 #include "calls.h"
 #include "heap.h"
+#include "locks.h"
 #include <stdlib.h>
 #include <string.h>
 
 enum { LEAST_STACK = 8192, USUAL_STACK = 0 };
 
 static size_t usual_stack(void) { return __guest_usual_stack(__guest_free_bytes(), LEAST_STACK); }
-
-pthread_mutex_t __guest_threads_lock;
 
 static struct thread first_thread;
 static struct thread *threads[PTHREAD_THREADS_MAX + 1] = {[1] = &first_thread};
@@ -151,9 +150,6 @@ void __guest_enter_first_thread(uint32_t *guard, const char *stack_end) {
     first_thread.guard = guard;
     first_thread.stack = (char *)guard + GUARD_BYTES;
     first_thread.stack_size = (size_t)(stack_end - (char *)first_thread.stack);
-    /* Of this type a mutex is in use for good, so that no lock of it finds all 256 in use by others. */
-    pthread_mutexattr_t attributes = {.type = PTHREAD_MUTEX_RECURSIVE};
-    pthread_mutex_init(&__guest_threads_lock, &attributes);
     __guest_cleanup_push(__guest_thread_end, &first_thread);
 }
 
@@ -166,8 +162,8 @@ static void begin(struct thread *thread) {
     set_guard(thread);
     __guest_cleanup_push(__guest_thread_end, thread);
     /* Waits for who created it, so that its id is stored and its place in the table is filled. */
-    pthread_mutex_lock(&__guest_threads_lock);
-    pthread_mutex_unlock(&__guest_threads_lock);
+    __guest_take_lock(&__guest_threads_lock);
+    __guest_leave_lock(&__guest_threads_lock);
     pthread_exit(thread->start(thread->argument));
 }
 
@@ -184,7 +180,7 @@ int pthread_create(pthread_t *restrict id, const pthread_attr_t *restrict attrib
     thread->is_detached = attributes && attributes->detach_state == PTHREAD_CREATE_DETACHED;
     thread->blocked = __guest_self()->blocked;
 
-    pthread_mutex_lock(&__guest_threads_lock);
+    __guest_take_lock(&__guest_threads_lock);
     struct answer made =
         runtime(CALL_CREATE, (uint32_t)begin, (uint32_t)thread, (uint32_t)thread->stack_end, thread->is_detached);
     if (made.result == 0) {
@@ -192,7 +188,7 @@ int pthread_create(pthread_t *restrict id, const pthread_attr_t *restrict attrib
         thread_count++;
         *id = made.value;
     }
-    pthread_mutex_unlock(&__guest_threads_lock);
+    __guest_leave_lock(&__guest_threads_lock);
 
     if (made.result != 0) free(thread->memory);
     return error_of(made.result);
@@ -206,10 +202,10 @@ struct thread *__guest_self(void) { return threads[pthread_self()]; }
 
 /* Does something with the record of a thread that the runtime knows and that hasn't left, under the lock. */
 static int with_record(pthread_t id, int (*act)(struct thread *thread, void *with), void *with) {
-    pthread_mutex_lock(&__guest_threads_lock);
+    __guest_take_lock(&__guest_threads_lock);
     struct thread *thread = thread_of(id);
     int error = thread && !thread->has_left ? act(thread, with) : ESRCH;
-    pthread_mutex_unlock(&__guest_threads_lock);
+    __guest_leave_lock(&__guest_threads_lock);
     return error;
 }
 
@@ -245,16 +241,16 @@ int pthread_getattr_np(pthread_t id, pthread_attr_t *attributes) {
 
 /* Takes the record of a thread that was joined out of the table, where its id isn't a new thread's yet. */
 static void forget(pthread_t id, const struct thread *thread) {
-    pthread_mutex_lock(&__guest_threads_lock);
+    __guest_take_lock(&__guest_threads_lock);
     if (threads[id] == thread) threads[id] = NULL;
-    pthread_mutex_unlock(&__guest_threads_lock);
+    __guest_leave_lock(&__guest_threads_lock);
 }
 
 /* The record is looked up before the join, since afterwards the id may be a new thread's. */
 int pthread_join(pthread_t id, void **value) {
-    pthread_mutex_lock(&__guest_threads_lock);
+    __guest_take_lock(&__guest_threads_lock);
     struct thread *thread = thread_of(id);
-    pthread_mutex_unlock(&__guest_threads_lock);
+    __guest_leave_lock(&__guest_threads_lock);
 
     struct answer joined = runtime(CALL_JOIN, id, 0, 0, 0);
     if (joined.result != 0) return error_of(joined.result);
@@ -266,7 +262,7 @@ int pthread_join(pthread_t id, void **value) {
 
 int pthread_detach(pthread_t id) {
     void *left_memory = NULL;
-    pthread_mutex_lock(&__guest_threads_lock);
+    __guest_take_lock(&__guest_threads_lock);
     uint32_t result = runtime(CALL_DETACH, id, 0, 0, 0).result;
     if (result == 0) {
         struct thread *thread = thread_of(id);
@@ -276,8 +272,8 @@ int pthread_detach(pthread_t id) {
             threads[id] = NULL;
         }
     }
-    pthread_mutex_unlock(&__guest_threads_lock);
-    free(left_memory);
+    free(left_memory); /* under the lock, as its own thread would free it */
+    __guest_leave_lock(&__guest_threads_lock);
     return error_of(result);
 }
 
@@ -286,7 +282,7 @@ int pthread_detach(pthread_t id) {
 void *__guest_thread_leave(struct thread *thread) {
     __guest_check_stack();
     if (thread_count == 1) {
-        pthread_mutex_unlock(&__guest_threads_lock);
+        __guest_leave_lock(&__guest_threads_lock);
         exit(0);
     }
     thread_count--;
@@ -312,9 +308,9 @@ void __guest_set_locals(void *locals) {
 
 /* One that has ended and wasn't joined yet is there still. */
 enum stage __guest_stage_of(pthread_t id) {
-    pthread_mutex_lock(&__guest_threads_lock);
+    __guest_take_lock(&__guest_threads_lock);
     const struct thread *thread = thread_of(id);
     enum stage stage = !thread ? NO_THREAD : thread->has_left ? HAS_LEFT : thread->is_detached ? IS_DETACHED : GOES_ON;
-    pthread_mutex_unlock(&__guest_threads_lock);
+    __guest_leave_lock(&__guest_threads_lock);
     return stage;
 }

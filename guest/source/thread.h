@@ -50,7 +50,7 @@ void __guest_thread_end(void *thread);
 /* Calls the destructors of a thread's values, in rounds. */
 void __guest_run_destructors(struct thread *thread);
 
-/* Makes the lock of the table of threads, and gives the first thread its last handler, as every other thread has it.
+/* Gives the first thread its last handler, as every other thread has it.
    Its stack lies between its guard and `stack_end`. */
 void __guest_enter_first_thread(uint32_t *guard, const char *stack_end);
 

@@ -1,5 +1,6 @@
 # The end of a thread, and the end of a clean-up handler's turn: what can't be said in C.
 #include "calls.h"
+#include "locks.h"
 #include "stack.h"
 #include "thread.h"
 
@@ -16,7 +17,7 @@
 __guest_thread_end:
     mv      s0, a0
     call    __guest_run_destructors
-    la      s1, __guest_threads_lock
+    li      s1, THREADS_LOCK
     mv      a0, s1
     li      a7, CALL_MUTEX_LOCK
     ecall

@@ -11,10 +11,12 @@
  */
 #include "calls.h"
 #include "clock.h"
-#include "fenced.h"
 #include "locks.h"
 #include <pthread.h>
 #include <stdbool.h>
+
+/* A count that is stored under the kit's lock, which tells of no access: so it is looked at plainly, and puts nothing in an order. */
+static uint32_t now(const volatile uint32_t *count) { return *count; }
 
 /* How many threads stand in queues of all locks: an unlock looks at this, since the lock's memory may be gone by then. */
 static uint32_t all_queued;
@@ -23,27 +25,25 @@ static uint32_t all_queued;
    it goes straight to the runtime. */
 static _Thread_local unsigned held;
 
-static pthread_mutex_t *mutex(void) { return &__guest_queue_lock.mutex; }
-
 static pthread_cond_t *condition(pthread_rwlock_t *lock) { return (pthread_cond_t *)lock; }
 
 static void add_queued(pthread_rwlock_t *lock, uint32_t number) {
-    pthread_mutex_lock(mutex());
-    store_word(&lock->queued, lock->queued + number);
-    store_word(&all_queued, all_queued + number);
-    pthread_mutex_unlock(mutex());
+    __guest_take_lock(&__guest_queue_lock);
+    lock->queued += number;
+    all_queued += number;
+    __guest_leave_lock(&__guest_queue_lock);
 }
 
-static bool has_to_queue(const pthread_rwlock_t *lock) { return held == 0 && load_word(&lock->queued) != 0; }
+static bool has_to_queue(const pthread_rwlock_t *lock) { return held == 0 && now(&lock->queued) != 0; }
 
 /* At the head of the queue, by the call that tries. */
 static int try_until(uint32_t call, pthread_rwlock_t *lock, const struct timespec *deadline) {
     int error, ended = 0;
-    pthread_mutex_lock(mutex());
+    __guest_take_lock(&__guest_queue_lock);
     while ((error = object_call(call, lock, 0, 0, 0)) == EBUSY && !ended) {
-        ended = pthread_cond_timedwait(condition(lock), mutex(), deadline);
+        ended = pthread_cond_timedwait(condition(lock), &__guest_queue_lock.mutex, deadline);
     }
-    pthread_mutex_unlock(mutex());
+    __guest_leave_lock(&__guest_queue_lock);
     return error == EBUSY ? ended : error;
 }
 
@@ -71,10 +71,10 @@ static int take_in_queue(uint32_t call, pthread_rwlock_t *lock, const struct tim
 /* Only a thread that sees somebody in a queue takes the lock of all queues. Who is first in the queue has tried under that lock:
    so it sees the unlock, or its wait is ended. */
 static void wake_first(pthread_rwlock_t *lock) {
-    if (!load_word(&all_queued)) return;
-    pthread_mutex_lock(mutex());
+    if (!now(&all_queued)) return;
+    __guest_take_lock(&__guest_queue_lock);
     pthread_cond_signal(condition(lock));
-    pthread_mutex_unlock(mutex());
+    __guest_leave_lock(&__guest_queue_lock);
 }
 
 /* --- The calls ---------------------------------------------------------------------------------------------------- */

@@ -1,5 +1,5 @@
 -- Only races are found.
-use Rattle.std.proofs.Common.{◌≡◌, ◌≤◌, ◌<◌, ℕ, zero, suc, nat_lt, ◌==◌, ◌&&◌, not, Bool, true, false, List, [], ◌∷◌, ◌++◌, length, slice_get, slice_set, replicate, Option, Some, None, refl, sym, ap, ◌∙◌, subst, arith}
+use Rattle.std.proofs.Common.{◌≡◌, ◌≤◌, ◌<◌, ℕ, zero, suc, ◌+◌, nat_lt, ◌==◌, ◌&&◌, not, Bool, true, false, List, [], ◌∷◌, ◌++◌, length, slice_get, slice_set, replicate, Option, Some, None, refl, sym, ap, ◌∙◌, subst, arith}
 use Rattle.std.proofs.lemmas.Bool.Decides.{nat_tests}
 use Rattle.std.specs.List.{AllByRecursion, list_any}
 use Rattle.ckrt_look_clocks.specs.declared.operation.Access.{Access}
@@ -10,7 +10,7 @@ use Rattle.ckrt_look_clocks.specs.declared.shadow.Cell.{Cell}
 use Rattle.ckrt_look_clocks.specs.declared.pair.Pair.{Pair}
 use Rattle.ckrt_look_clocks.specs.declared.pair.TheConstants.{PAIRS}
 use Rattle.ckrt_look_clocks.specs.Histories.{History, IsRace, conflict, op_at}
-use Rattle.ckrt_look_clocks.specs.Detection.{Found, access_at, compared, compared_all, counted, first_pair, is_at, is_by, kept, knows, no_accesses, noted, one_more, races, watched, with_load, with_pair, word_of}
+use Rattle.ckrt_look_clocks.specs.Detection.{Found, access_at, compared, compared_all, counted, few_words, first_pair, is_at, is_by, kept, knows, no_accesses, noted, one_more, races, renewed, watched, with_load, with_pair, word_of}
 use Rattle.ckrt_look_clocks.specs.Laws.{ClocksAreExact, IsOrderly, IsRaceOf, OnlyRacesAreFound}
 use Rattle.ckrt_look_clocks.proofs.ListLemmas.{chosen, passed_over}
 use Rattle.ckrt_look_clocks.proofs.SeenLemmas.{Tell, op_stays, tells}
@@ -149,6 +149,11 @@ pub record AreRaces (n words : ℕ) (past : History) : Type 0 where
   pub shadow : AllByRecursion (AreAccesses past) (watched past n words).shadow
   pub pairs : AllByRecursion (IsRaceOf past) (watched past n words).found.pairs
 
+all_renewed : (past : History) (count first : ℕ) (shadow : List Cell) → AllByRecursion (AreAccesses past) shadow → AllByRecursion (AreAccesses past) (renewed count first shadow)
+all_renewed past zero first shadow all = all
+all_renewed past (suc n) first shadow all =
+    all_set (AreAccesses past) (renewed n first shadow) (first + n) no_accesses (all_renewed past n first shadow all) (record { store = tt; load = tt; other = tt })
+
 none_kept : (words : ℕ) → AllByRecursion (AreAccesses []) (replicate words no_accesses)
 none_kept zero = tt
 none_kept (suc words) = (record { store = tt; load = tt; other = tt }, none_kept words)
@@ -176,6 +181,14 @@ are_races n words (operation.Pass from to p ∷ past) all orderly =
     record {
       shadow = all_stay past (operation.Pass from to p) (watched past n words).shadow are.shadow;
       pairs = all_go_on past (operation.Pass from to p) (watched past n words).found.pairs are.pairs;
+    }
+are_races n words (operation.Renew first count p ∷ past) all orderly =
+    let are = are_races n words past all orderly.0 in
+    let q = operation.Renew first count p in
+    let shadow = (watched past n words).shadow in
+    record {
+      shadow = all_renewed (q ∷ past) (few_words first count shadow) first shadow (all_stay past q shadow are.shadow);
+      pairs = all_go_on past q (watched past n words).found.pairs are.pairs;
     }
 
 pub only_races : OnlyRacesAreFound

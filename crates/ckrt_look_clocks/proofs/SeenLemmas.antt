@@ -65,6 +65,7 @@ pub seen_below : (past : History) (h i : ℕ) → seen past h i ≡ true → i <
 seen_below [] h i is = absurd (cc)
 seen_below (operation.Access a ∷ past) h i is = below_access (h == a.thread) (i == length past) (seen past h i) i (length past) (is_same i (length past)) (seen_below past h i) is
 seen_below (operation.Pass from to p ∷ past) h i is = below_pass (seen past h i) (h == to) (seen past from i) i (length past) (seen_below past h i) (seen_below past from i) is
+seen_below (operation.Renew first count p ∷ past) h i is = omega (arith, seen_below past h i is)
 
 unseen_yet : (past : History) (h i : ℕ) → i ≡ length past → seen past h i ≡ false
 unseen_yet past h i is = go (seen past h i) refl
@@ -215,7 +216,22 @@ module _ (n words : ℕ) (past : History) (from to : ℕ) (p : Place) (told : Te
     exact = λ h i a l is. exact_pass h i a l (before i a is);
   }
 
+-- memory that is given anew
+module _ (n words : ℕ) (past : History) (first count : ℕ) (p : Place) (told : Tell n words past) (rises : next_moment past ≤ moment p) where
+  earlier_than : (i : ℕ) (a : Access) → op_at (operation.Renew first count p ∷ past) i ≡ Some (operation.Access a) → op_at past i ≡ Some (operation.Access a)
+  earlier_than i a is = op_case past (operation.Renew first count p) (operation.Access a) i is (λ e same. absurd (cc)) (λ e rest. rest)
+
+  tell_renewal : Tell n words (operation.Renew first count p ∷ past)
+  tell_renewal = record {
+    clocks = told.clocks;
+    low = λ h u. omega (arith, told.low h u, rises);
+    earlier = λ i a is. omega (arith, told.earlier i a (earlier_than i a is), rises);
+    threads = λ i a is. told.threads i a (earlier_than i a is);
+    exact = λ h i a l is. told.exact h i a l (earlier_than i a is);
+  }
+
 pub tells : (n words : ℕ) (past : History) → IsOrderly n past → Tell n words past
 tells n words [] orderly = tell_nothing n words
 tells n words (operation.Access b ∷ past) orderly = tell_access n words past b (tells n words past orderly.0) orderly.1 orderly.2
 tells n words (operation.Pass from to p ∷ past) orderly = tell_pass n words past from to p (tells n words past orderly.0) orderly.1.0 orderly.1.1 orderly.2
+tells n words (operation.Renew first count p ∷ past) orderly = tell_renewal n words past first count p (tells n words past orderly.0) orderly.2

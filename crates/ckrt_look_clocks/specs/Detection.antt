@@ -1,6 +1,6 @@
 -- How races are found, operation by operation: vector clocks (Mattern 1989; Fidge 1988) tell what each holder has seen, and a
 -- shadow of each word of memory has the accesses that a later one is compared with (this project's choice).
-use Rattle.std.specs.Prelude.{ℕ, ◌+◌, ◌/◌, ◌==◌, nat_lt, min, Bool, false, ◌&&◌, ◌||◌, not, if◌then◌else◌, List, [], ◌∷◌, ◌++◌, length, get_or, slice_get, slice_set, replicate, Option, Some, None}
+use Rattle.std.specs.Prelude.{ℕ, zero, suc, ◌+◌, ◌-◌, ◌/◌, ◌==◌, nat_lt, min, Bool, false, ◌&&◌, ◌||◌, not, if◌then◌else◌, List, [], ◌∷◌, ◌++◌, length, get_or, slice_get, slice_set, replicate, Option, Some, None}
 use Rattle.std.specs.List.{list_any}
 use Rattle.ckrt_look_clocks.specs.declared.operation.Place.{Place}
 use Rattle.ckrt_look_clocks.specs.declared.operation.Access.{Access}
@@ -138,17 +138,32 @@ access_at a (Some c) w = record {
   found = compared_all w.clocks a c w.found;
 }
 
+abbrev pub no_accesses : Cell
+no_accesses = record { store = None; load = None; other = None }
+
+-- so many words from one on have a shadow without an access
+abbrev pub renewed : (count first : ℕ) → List Cell → List Cell
+renewed zero first shadow = shadow
+renewed (suc n) first shadow = slice_set (renewed n first shadow) (first + n) no_accesses
+
+-- as many of these as the memory has
+abbrev pub few_words : (first count : ℕ) → List Cell → ℕ
+few_words first count shadow = min count (length shadow - first)
+
+-- so many words from one on are given anew
+abbrev pub given_anew : (first count : ℕ) → Watched → Watched
+given_anew first count w =
+    record w { shadow = renewed (few_words first count w.shadow) first w.shadow }
+
 abbrev pub behind : Operation → Watched → Watched
 behind (operation.Access a) w = access_at a (slice_get w.shadow (word_of a)) w
 behind (operation.Pass from to p) w = record w { clocks = passed from to p w.clocks }
+behind (operation.Renew first count p) w = given_anew first count w
 
 -- these operations in order
 abbrev pub behind_all : List Operation → Watched → Watched
 behind_all [] w = w
 behind_all (o ∷ os) w = behind_all os (behind o w)
-
-abbrev pub no_accesses : Cell
-no_accesses = record { store = None; load = None; other = None }
 
 -- nothing was done yet by so many holders to so many words
 abbrev pub fresh : (holders words : ℕ) → Watched

@@ -1,6 +1,6 @@
 //! Operation by operation.
-ghost use Rattle.std.specs.Prelude.{◌≡◌, length, replicate, IfOk};
-ghost use Rattle.ckrt_look_clocks.specs.Detection.{compared, compared_all, found_in, no_accesses, no_clock};
+ghost use Rattle.std.specs.Prelude.{◌≡◌, ◌≤◌, ◌+◌, length, replicate, IfOk};
+ghost use Rattle.ckrt_look_clocks.specs.Detection.{compared, compared_all, found_in, few_words, no_accesses, no_clock, renewed};
 
 use crate::clock::{Clock, knows, no_clock, pass};
 use crate::found::Findings;
@@ -91,8 +91,32 @@ fn compare_all(clocks: &[Clock], access: &Access, cell: &Cell, found: &mut Findi
     compare(clocks, access, &cell.other, found);
 }
 
+/// How many of so many words from one on a shadow has.
+fn few_words(shadow: &[Cell], first: u32, count: u32) -> usize
+    ensures { result ≡ few_words first count shadow.now }
+{
+    let from = first as usize;
+    let all = shadow.len();
+    if all <= from {
+        return 0;
+    }
+    let left = all - from;
+    let count = count as usize;
+    if count < left { count } else { left }
+}
+
+/// Nothing accessed so many words from one on any more.
+fn renew(shadow: &mut [Cell], first: usize, count: usize)
+    requires { first + count ≤ length shadow.old }
+    ensures { shadow.new ≡ renewed count first shadow.old }
+{
+    for done in 0..count {
+        shadow[first + done] = no_accesses();
+    }
+}
+
 impl Detector {
-    ghost use Rattle.ckrt_look_clocks.specs.Detection.{access_at, behind, fresh, passed, word_of};
+    ghost use Rattle.ckrt_look_clocks.specs.Detection.{access_at, behind, fresh, given_anew, passed, word_of};
     ghost use Rattle.std.specs.Prelude.{slice_get};
 
     /// Nothing was done yet, by so many holders, of which the first 65 are threads, to a memory of so many words. It takes 1,040
@@ -131,6 +155,17 @@ impl Detector {
         self.shadow[word] = cell;
     }
 
+    /// So many words of memory from one on are given anew: what was done to them before is compared with nothing. Words that the
+    /// memory doesn't have are passed over.
+    pub fn renew(&mut self, first: u32, count: u32)
+        ensures { self.new ≡ given_anew first count self.old }
+    {
+        let few = few_words(self.shadow.as_slice(), first, count);
+        if few > 0 {
+            renew(self.shadow.as_mut_slice(), first as usize, few);
+        }
+    }
+
     /// The next operation.
     pub fn note(&mut self, operation: &Operation)
         ensures { self.new ≡ behind operation.now self.old }
@@ -145,6 +180,7 @@ impl Detector {
                     *place,
                 );
             }
+            Operation::Renew(first, count, _) => self.renew(*first, *count),
         }
     }
 

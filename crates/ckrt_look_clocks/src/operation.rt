@@ -35,6 +35,8 @@ pub enum Operation {
     Access(Access),
     /// All that the first has seen the second has seen from here on.
     Pass(u16, u16, Place),
+    /// Memory is given anew: so many words from this one on. What was done to them before is compared with nothing.
+    Renew(u32, u32, Place),
 }
 
 /// Whether a place is before another.

@@ -34,6 +34,7 @@ use Rattle.ckrt_look_races.specs.declared.looking.Before.{Before}
 use Rattle.ckrt_look_races.specs.declared.holders.Lock.{Lock}
 use Rattle.ckrt_look_races.specs.declared.holders.Lock.TheVariants as lock
 use Rattle.ckrt_look_races.specs.Holders.{HOLDERS, acquired, lock_holder, ordered, released, thread_holder}
+use Rattle.ckrt_look_races.specs.Kit.{is_of_kit, unless_of_kit}
 use Rattle.ckrt_look_races.specs.Orders as orders
 
 -- NUMBERS
@@ -55,6 +56,7 @@ lock_number (lock.Request t) = omega (arith, thread_number t)
 -- a pass at a place
 abbrev pub IsPassAt : Place → Operation → Type 0
 IsPassAt p (operation.Access a) = ⊥
+IsPassAt p (operation.Renew first count q) = ⊥
 IsPassAt p (operation.Pass from to q) = (from < HOLDERS) × (to < HOLDERS) × (q ≡ p)
 
 abbrev pub ArePassesAt : Place → List Operation → Type 0
@@ -79,6 +81,9 @@ if_not : (p : Place) (b : Bool) (os : List Operation) → ArePassesAt p os → A
 if_not p true os are = tt
 if_not p false os are = are
 
+unless_kit : (p : Place) (a : ℕ) (os : List Operation) → ArePassesAt p os → ArePassesAt p (unless_of_kit a os)
+unless_kit p a os are = if_not p (is_of_kit a) os are
+
 both : (p : Place) (xs ys : List Operation) → ArePassesAt p xs → ArePassesAt p ys → ArePassesAt p (xs ++ ys)
 both p [] ys are also = also
 both p (x ∷ xs) ys are also = (are.0, both p xs ys are.1 also)
@@ -89,14 +94,16 @@ each p f (w ∷ ws) are = both p (f w) (flat_map f ws) (are w) (each p f ws are)
 
 module _ (p : Place) where
   mutex_passes : (t a : ℕ) (after : Tables) → ArePassesAt p (orders.taken_mutex p t a after)
-  mutex_passes t a after = if_so p (is_owner t (mutex_at a after.mutexes)) (acquired t (lock.Mutex a) p ∷ []) (is_acquisition t (lock.Mutex a) p, tt)
+  mutex_passes t a after = if_so p (is_owner t (mutex_at a after.mutexes)) (unless_of_kit a (acquired t (lock.Mutex a) p ∷ []))
+      (unless_kit p a (acquired t (lock.Mutex a) p ∷ []) (is_acquisition t (lock.Mutex a) p, tt))
 
   read_passes : (t a : ℕ) (after : Tables) → ArePassesAt p (orders.taken_to_read p t a after)
-  read_passes t a after = if_so p (is_reader t (lock_at a after.rwlocks)) (acquired t (lock.Writers a) p ∷ []) (is_acquisition t (lock.Writers a) p, tt)
+  read_passes t a after = if_so p (is_reader t (lock_at a after.rwlocks)) (unless_of_kit a (acquired t (lock.Writers a) p ∷ []))
+      (unless_kit p a (acquired t (lock.Writers a) p ∷ []) (is_acquisition t (lock.Writers a) p, tt))
 
   write_passes : (t a : ℕ) (after : Tables) → ArePassesAt p (orders.taken_to_write p t a after)
-  write_passes t a after = if_so p (is_writer t (lock_at a after.rwlocks)) (acquired t (lock.Writers a) p ∷ acquired t (lock.Readers a) p ∷ [])
-      (is_acquisition t (lock.Writers a) p, (is_acquisition t (lock.Readers a) p, tt))
+  write_passes t a after = if_so p (is_writer t (lock_at a after.rwlocks)) (unless_of_kit a (acquired t (lock.Writers a) p ∷ acquired t (lock.Readers a) p ∷ []))
+      (unless_kit p a (acquired t (lock.Writers a) p ∷ acquired t (lock.Readers a) p ∷ []) (is_acquisition t (lock.Writers a) p, (is_acquisition t (lock.Readers a) p, tt)))
 
   request_passes : (t : ℕ) (after : Tables) → ArePassesAt p (orders.taken_request p t after)
   request_passes t after = if_so p (orders.is_cancelled (threads.thread_of after.threads t)) (acquired t (lock.Request t) p ∷ []) (is_acquisition t (lock.Request t) p, tt)
@@ -104,16 +111,22 @@ module _ (p : Place) where
   answered_passes : (v : ℕ) (c : Caller) (after : Tables) (os : List Operation) → ArePassesAt p os → ArePassesAt p (orders.if_answered v c after os)
   answered_passes v c after os are = if_so p (orders.is_answered v c after) os are
 
+  mutex_given_up : (t a : ℕ) → ArePassesAt p (orders.given_up_mutex p t a)
+  mutex_given_up t a = unless_kit p a (released t (lock.Mutex a) p ∷ []) (is_release t (lock.Mutex a) p, tt)
+
+  lock_given_up : (t a : ℕ) (w : Bool) → ArePassesAt p (orders.given_up_lock p t a w)
+  lock_given_up t a w = unless_kit p a (released t (orders.given_up w a) p ∷ []) (is_release t (orders.given_up w a) p, tt)
+
   mutex_call_passes : (m : MutexCall) (c : Caller) (after : Tables) → ArePassesAt p (orders.of_mutex_call p m c after)
   mutex_call_passes mutex_call.Lock c after = mutex_passes c.thread (get c.regs 10) after
   mutex_call_passes mutex_call.TryLock c after = mutex_passes c.thread (get c.regs 10) after
   mutex_call_passes mutex_call.TimedLock c after = mutex_passes c.thread (get c.regs 10) after
-  mutex_call_passes mutex_call.Unlock c after = answered_passes 0 c after (released c.thread (lock.Mutex (get c.regs 10)) p ∷ []) (is_release c.thread (lock.Mutex (get c.regs 10)) p, tt)
+  mutex_call_passes mutex_call.Unlock c after = answered_passes 0 c after (orders.given_up_mutex p c.thread (get c.regs 10)) (mutex_given_up c.thread (get c.regs 10))
   mutex_call_passes mutex_call.Init c after = tt
   mutex_call_passes mutex_call.Destroy c after = tt
 
   begun_passes : (c : Caller) (after : Tables) → ArePassesAt p (orders.begun_wait p c after)
-  begun_passes c after = if_so p (orders.waits_now c.thread after) (released c.thread (lock.Mutex (get c.regs 11)) p ∷ []) (is_release c.thread (lock.Mutex (get c.regs 11)) p, tt)
+  begun_passes c after = if_so p (orders.waits_now c.thread after) (orders.given_up_mutex p c.thread (get c.regs 11)) (mutex_given_up c.thread (get c.regs 11))
 
   condition_call_passes : (m : ConditionCall) (c : Caller) (after : Tables) → ArePassesAt p (orders.of_condition_call p m c after)
   condition_call_passes condition_call.Wait c after = begun_passes c after
@@ -140,7 +153,7 @@ module _ (p : Place) where
   rwlock_call_passes rwlock_call.WrLock c w after = write_passes c.thread (get c.regs 10) after
   rwlock_call_passes rwlock_call.TryWrLock c w after = write_passes c.thread (get c.regs 10) after
   rwlock_call_passes rwlock_call.Unlock c w after =
-      answered_passes 0 c after (released c.thread (orders.given_up w (get c.regs 10)) p ∷ []) (is_release c.thread (orders.given_up w (get c.regs 10)) p, tt)
+      answered_passes 0 c after (orders.given_up_lock p c.thread (get c.regs 10) w) (lock_given_up c.thread (get c.regs 10) w)
   rwlock_call_passes rwlock_call.Init c w after = tt
   rwlock_call_passes rwlock_call.Destroy c w after = tt
 

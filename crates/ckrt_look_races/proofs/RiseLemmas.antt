@@ -25,8 +25,9 @@ use Rattle.ckrt_look_clocks.specs.Laws.{HasNumbers, IsOrderly, IsRaceOf, moment_
 use Rattle.ckrt_look_clocks.proofs.RaceLemmas.{only_races}
 use Rattle.ckrt_look_races.specs.declared.accesses.Stepping.{Stepping}
 use Rattle.ckrt_look_races.specs.declared.holders.Lock.TheVariants as lock
-use Rattle.ckrt_look_races.specs.Accesses.{access_of, accesses, place_behind, fetched, is_atomic_load, is_atomic_store, load_at, load_operations, may_access, of_instruction, of_registers, store_at, store_operations}
+use Rattle.ckrt_look_races.specs.Accesses.{access_of, accesses, place_behind, fetched, is_atomic_load, is_atomic_store, is_renewal, load_at, load_operations, may_access, of_instruction, of_registers, renewal, store_at, store_operations}
 use Rattle.ckrt_look_races.specs.Holders.{HOLDERS}
+use Rattle.ckrt_look_races.specs.Kit.{is_in_kit}
 use Rattle.ckrt_look_races.specs.Orders.{between}
 use Rattle.ckrt_look_races.specs.Steps.{at, before_step, of_event, of_events, of_other, of_run, of_step, unless_ended}
 use Rattle.ckrt_look_races.specs.Recorded.{words_of}
@@ -37,6 +38,7 @@ use Rattle.ckrt_look_races.proofs.NumberLemmas.{ArePassesAt, between_passes, loc
 abbrev pub next_of : Operation → ℕ
 next_of (operation.Access a) = moment a.place + 1
 next_of (operation.Pass from to p) = moment p
+next_of (operation.Renew first count p) = moment p
 
 -- in order, from a moment on, to another
 abbrev pub Rises : (m : ℕ) → List Operation → (e : ℕ) → Type 0
@@ -60,6 +62,7 @@ both m (x ∷ xs) ys e f up also = (up.0, up.1, both (next_of x) xs ys e f up.2 
 passes_rise : (p : Place) (m : ℕ) (os : List Operation) → m ≤ moment p → ArePassesAt p os → Rises m os (moment p + 1)
 passes_rise p m [] le are = omega (arith, le)
 passes_rise p m (operation.Access a ∷ os) le are = absurd are.0
+passes_rise p m (operation.Renew first count q ∷ os) le are = absurd are.0
 passes_rise p m (operation.Pass from to q ∷ os) le are =
     let same : moment q ≡ moment p = ap moment are.0.2 in
     ((are.0.0, are.0.1), omega (arith, same, le), passes_rise p (moment q) os (omega (arith, same)) are.1)
@@ -76,12 +79,16 @@ if_so : (p : Place) (b : Bool) (os : List Operation) → IsAtMostOne p os → Is
 if_so p true os up = up
 if_so p false os up = nothing_rises p
 
+told_rises : (s : Stepping) (b : Bool) (o : Operation) → IsAtMostOne s.place (o ∷ []) → IsAtMostOne s.place (if b then [] else o ∷ [])
+told_rises s true o up = nothing_rises s.place
+told_rises s false o up = up
+
 loads_rise : (s : Stepping) (is_atomic : Bool) (a : ℕ) (z : Size) → IsAtMostOne s.place (load_operations s is_atomic a z)
-loads_rise s false a z = (thread_number s.thread, omega arith, omega arith)
+loads_rise s false a z = told_rises s s.is_in_kit (operation.Access (access_of s false false a z)) (thread_number s.thread, omega arith, omega arith)
 loads_rise s true a z = ((lock_number (lock.Word a), omega (arith, thread_number s.thread)), omega arith, (thread_number s.thread, omega arith, omega arith))
 
 stores_rise : (s : Stepping) (is_atomic : Bool) (a : ℕ) (z : Size) → IsAtMostOne s.place (store_operations s is_atomic a z)
-stores_rise s false a z = (thread_number s.thread, omega arith, omega arith)
+stores_rise s false a z = told_rises s s.is_in_kit (operation.Access (access_of s true false a z)) (thread_number s.thread, omega arith, omega arith)
 stores_rise s true a z = (thread_number s.thread, omega arith, ((omega (arith, thread_number s.thread), lock_number (lock.Word a)), omega arith, omega arith))
 
 load_rises : (bytes : List ℕ) (s : Stepping) (a : ℕ) (z : Size) → IsAtMostOne s.place (load_at bytes s a z)
@@ -100,19 +107,20 @@ instruction_rises bytes s (Some (instr.Jalr rd rs1 offset)) = nothing_rises s.pl
 instruction_rises bytes s (Some (instr.Branch c rs1 rs2 offset)) = nothing_rises s.place
 instruction_rises bytes s (Some (instr.AluImm op rd rs1 imm)) = nothing_rises s.place
 instruction_rises bytes s (Some (instr.Shift op rd rs1 shamt)) = nothing_rises s.place
-instruction_rises bytes s (Some (instr.Alu op rd rs1 rs2)) = nothing_rises s.place
+instruction_rises bytes s (Some (instr.Alu op rd rs1 rs2)) =
+    if_so s.place (is_renewal op rd) (renewal s (get s.regs rs1) (get s.regs rs2)) (tt, omega arith, omega arith)
 instruction_rises bytes s (Some (instr.Fence rd rs1 imm)) = nothing_rises s.place
 instruction_rises bytes s (Some instr.Ecall) = nothing_rises s.place
 instruction_rises bytes s (Some instr.Ebreak) = nothing_rises s.place
 instruction_rises bytes s None = nothing_rises s.place
 
-registers_rise : (t : ℕ) (p : Place) (bytes : List ℕ) (o : Option Registers) → IsAtMostOne p (of_registers t p bytes o)
-registers_rise t p bytes None = nothing_rises p
-registers_rise t p bytes (Some r) = instruction_rises bytes (record { thread = t; place = p; regs = r }) (fetched bytes r.pc)
+registers_rise : (t : ℕ) (k : Bool) (p : Place) (bytes : List ℕ) (o : Option Registers) → IsAtMostOne p (of_registers t k p bytes o)
+registers_rise t k p bytes None = nothing_rises p
+registers_rise t k p bytes (Some r) = instruction_rises bytes (record { thread = t; is_in_kit = k; place = p; regs = r }) (fetched bytes r.pc)
 
 accesses_rise : (p : Place) (o : Option ℕ) (s : State) → IsAtMostOne p (accesses p o s)
 accesses_rise p None s = nothing_rises p
-accesses_rise p (Some t) s = registers_rise t p s.bytes (threads.regs_of (threads.thread_of s.tables.threads t))
+accesses_rise p (Some t) s = registers_rise t (is_in_kit t s.tables) p s.bytes (threads.regs_of (threads.thread_of s.tables.threads t))
 
 -- A STEP
 
@@ -175,6 +183,7 @@ events_rise k (e ∷ es) s fit =
 next_is : (o : Operation) (past : History) → next_moment (o ∷ past) ≡ next_of o
 next_is (operation.Access a) past = refl
 next_is (operation.Pass from to p) past = refl
+next_is (operation.Renew first count p) past = refl
 
 orderly : (past : History) (os : List Operation) (m e : ℕ) → IsOrderly HOLDERS past → next_moment past ≤ m → Rises m os e → IsOrderly HOLDERS (latest_first os past)
 orderly past [] m e is le up = is

@@ -1,5 +1,5 @@
--- What a step that is no call loads or stores. Fetches are no accesses.
-use Rattle.std.specs.Prelude.{ℕ, ◌+◌, ◌-◌, ◌==◌, ◌&&◌, Bool, true, false, if◌then◌else◌, List, [], ◌∷◌, Option, Some, None}
+-- What a step that is no call loads or stores, or gives anew. Fetches are no accesses.
+use Rattle.std.specs.Prelude.{ℕ, ◌+◌, ◌-◌, ◌/◌, ◌==◌, ◌&&◌, Bool, true, false, if◌then◌else◌, List, [], ◌∷◌, Option, Some, None}
 use Rattle.ckrt_registers.specs.Registers.{Registers, get}
 use Rattle.ckrt_rv32i.specs.Decoding.{instruction_of}
 use Rattle.ckrt_rv32i.specs.Effect.{following, load_size}
@@ -7,6 +7,8 @@ use Rattle.ckrt_rv32i.specs.Memory.{byte_count, is_aligned, is_valid, loaded}
 use Rattle.ckrt_rv32i.specs.Words.{word_add_signed}
 use Rattle.ckrt_rv32i.specs.declared.instruction.Instr.{Instr}
 use Rattle.ckrt_rv32i.specs.declared.instruction.Instr.TheVariants as instr
+use Rattle.ckrt_rv32i.specs.declared.instruction.AluOp.{AluOp}
+use Rattle.ckrt_rv32i.specs.declared.instruction.AluOp.TheVariants as alu
 use Rattle.ckrt_rv32i.specs.declared.memory_bus.Size.{Size}
 use Rattle.ckrt_rv32i.specs.declared.memory_bus.Size.TheVariants as size
 use Rattle.ckrt_thread.specs.State as threads
@@ -18,6 +20,7 @@ use Rattle.ckrt_look_clocks.specs.declared.operation.Operation.TheVariants as op
 use Rattle.ckrt_look_races.specs.declared.accesses.Stepping.{Stepping}
 use Rattle.ckrt_look_races.specs.declared.holders.Lock.TheVariants as lock
 use Rattle.ckrt_look_races.specs.Holders.{acquired, released, thread_holder}
+use Rattle.ckrt_look_races.specs.Kit.{is_in_kit}
 
 -- ATOMIC OPERATIONS stand beside a fence, as the RISC-V psABI maps those of C11 (unprivileged manual, table A.6): a load that acquires
 -- is followed by FENCE R,RW, and a store that releases follows FENCE RW,W
@@ -51,9 +54,13 @@ access_of s is_store is_atomic a z = record {
   place = s.place;
 }
 
+-- a plain access is told unless its thread is in a kit
+abbrev pub told : Stepping → Operation → List Operation
+told s o = if s.is_in_kit then [] else o ∷ []
+
 -- a load; before an atomic one what those have given up is taken who stored so to the word, so that all they did is before it
 abbrev pub load_operations : Stepping → (is_atomic : Bool) → (address : ℕ) → Size → List Operation
-load_operations s false a z = operation.Access (access_of s false false a z) ∷ []
+load_operations s false a z = told s (operation.Access (access_of s false false a z))
 load_operations s true a z =
     acquired s.thread (lock.Word a) s.place ∷ operation.Access (access_of s false true a z) ∷ []
 
@@ -63,7 +70,7 @@ place_behind p = record { event = p.event; step = p.step + 1 }
 
 -- a store; behind an atomic one all is given up that its thread has done, this store too
 abbrev pub store_operations : Stepping → (is_atomic : Bool) → (address : ℕ) → Size → List Operation
-store_operations s false a z = operation.Access (access_of s true false a z) ∷ []
+store_operations s false a z = told s (operation.Access (access_of s true false a z))
 store_operations s true a z =
     operation.Access (access_of s true true a z)
     ∷ released s.thread (lock.Word a) (place_behind s.place) ∷ []
@@ -80,11 +87,25 @@ abbrev pub store_at : List ℕ → Stepping → (address : ℕ) → Size → Lis
 store_at bytes s a z =
     if may_access bytes a z then store_operations s (is_atomic_store bytes s) a z else []
 
+-- MEMORY THAT IS GIVEN ANEW, as a block of the heap, is told by SLT with rd x0, an instruction that does nothing, and which the manual
+-- leaves to custom use (RV32I, HINT Instructions): so many bytes as rs2 says from the address in rs1 on, as whole words
+abbrev pub is_renewal : AluOp → (rd : ℕ) → Bool
+is_renewal alu.Slt rd = rd == 0
+is_renewal _ rd = false
+
+abbrev pub renewal : Stepping → (address bytes : ℕ) → List Operation
+renewal s a n = operation.Renew (a / 4) (n / 4) s.place ∷ []
+
+abbrev pub renewal_by : Stepping → AluOp → (rd rs1 rs2 : ℕ) → List Operation
+renewal_by s op rd rs1 rs2 =
+    if is_renewal op rd then renewal s (get s.regs rs1) (get s.regs rs2) else []
+
 abbrev pub of_instruction : List ℕ → Stepping → Option Instr → List Operation
 of_instruction bytes s (Some (instr.Load k rd rs1 offset)) =
     load_at bytes s (word_add_signed (get s.regs rs1) offset) (load_size k)
 of_instruction bytes s (Some (instr.Store z rs1 rs2 offset)) =
     store_at bytes s (word_add_signed (get s.regs rs1) offset) z
+of_instruction bytes s (Some (instr.Alu op rd rs1 rs2)) = renewal_by s op rd rs1 rs2
 of_instruction bytes s _ = []
 
 -- the instruction at an address
@@ -92,13 +113,15 @@ abbrev pub fetched : List ℕ → (pc : ℕ) → Option Instr
 fetched bytes pc =
     if is_valid bytes pc size.Word then instruction_of (loaded bytes pc size.Word) else None
 
-abbrev pub of_registers : (t : ℕ) → Place → List ℕ → Option Registers → List Operation
-of_registers t p bytes None = []
-of_registers t p bytes (Some r) =
-    of_instruction bytes (record { thread = t; place = p; regs = r }) (fetched bytes r.pc)
+abbrev pub of_registers : (t : ℕ) → (is_in_kit : Bool) → Place → List ℕ → Option Registers → List Operation
+of_registers t k p bytes None = []
+of_registers t k p bytes (Some r) =
+    of_instruction bytes (record { thread = t; is_in_kit = k; place = p; regs = r })
+    (fetched bytes r.pc)
 
 -- what the next step of the thread on a hart accesses, if that is an instruction
 abbrev pub accesses : Place → Option ℕ → State → List Operation
 accesses p None s = []
 accesses p (Some t) s =
-    of_registers t p s.bytes (threads.regs_of (threads.thread_of s.tables.threads t))
+    of_registers t (is_in_kit t s.tables) p s.bytes
+    (threads.regs_of (threads.thread_of s.tables.threads t))

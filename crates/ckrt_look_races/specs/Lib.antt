@@ -1,4 +1,5 @@
 pub mod Holders
+pub mod Kit
 pub mod Accesses
 pub mod Acting
 pub mod Writers

@@ -38,6 +38,7 @@ use Rattle.ckrt_look_races.specs.declared.looking.Before.{Before}
 use Rattle.ckrt_look_races.specs.declared.holders.Lock.{Lock}
 use Rattle.ckrt_look_races.specs.declared.holders.Lock.TheVariants as lock
 use Rattle.ckrt_look_races.specs.Holders.{acquired, ordered, released}
+use Rattle.ckrt_look_races.specs.Kit.{unless_of_kit}
 
 -- WHAT BECAME OF A CALL, by the tables behind it
 
@@ -57,20 +58,23 @@ waits_now t after = is_some (find (is_of t) after.threads.waits)
 abbrev pub if_answered : (v : ℕ) → Caller → Tables → List Operation → List Operation
 if_answered v c after os = if is_answered v c after then os else []
 
--- WHO HAS A LOCK behind a step has taken what was given up before
+-- WHO HAS A LOCK behind a step has taken what was given up before, unless it is one of a kit
 
 abbrev pub taken_mutex : Place → (t a : ℕ) → Tables → List Operation
 taken_mutex p t a after =
-    if is_owner t (mutex_at a after.mutexes) then acquired t (lock.Mutex a) p ∷ [] else []
+    if is_owner t (mutex_at a after.mutexes) then unless_of_kit a (acquired t (lock.Mutex a) p ∷ [])
+    else []
 
 -- readers don't order readers: a reader takes what writers gave up, a writer what both did
 abbrev pub taken_to_read : Place → (t a : ℕ) → Tables → List Operation
 taken_to_read p t a after =
-    if is_reader t (lock_at a after.rwlocks) then acquired t (lock.Writers a) p ∷ [] else []
+    if is_reader t (lock_at a after.rwlocks) then unless_of_kit a (acquired t (lock.Writers a) p ∷ [])
+    else []
 
 abbrev pub taken_to_write : Place → (t a : ℕ) → Tables → List Operation
 taken_to_write p t a after =
-    if is_writer t (lock_at a after.rwlocks) then acquired t (lock.Writers a) p ∷ acquired t (lock.Readers a) p ∷ []
+    if is_writer t (lock_at a after.rwlocks) then
+    unless_of_kit a (acquired t (lock.Writers a) p ∷ acquired t (lock.Readers a) p ∷ [])
     else []
 
 -- a thread that waited unwinds as a cancelled one, and acted on each request; or it has ended as such, or is gone: somebody joined it, or it was
@@ -115,18 +119,24 @@ second_answer (Some r) = get r 11
 abbrev pub created : Caller → Tables → ℕ
 created c after = second_answer (threads.regs_of (threads.thread_of after.threads c.thread))
 
+abbrev pub given_up_mutex : Place → (t a : ℕ) → List Operation
+given_up_mutex p t a = unless_of_kit a (released t (lock.Mutex a) p ∷ [])
+
+abbrev pub given_up_lock : Place → (t a : ℕ) → (to_write : Bool) → List Operation
+given_up_lock p t a w = unless_of_kit a (released t (given_up w a) p ∷ [])
+
 abbrev pub of_mutex_call : Place → MutexCall → Caller → Tables → List Operation
 of_mutex_call p mutex_call.Lock c after = taken_mutex p c.thread (get c.regs 10) after
 of_mutex_call p mutex_call.TryLock c after = taken_mutex p c.thread (get c.regs 10) after
 of_mutex_call p mutex_call.TimedLock c after = taken_mutex p c.thread (get c.regs 10) after
 of_mutex_call p mutex_call.Unlock c after =
-    if_answered 0 c after (released c.thread (lock.Mutex (get c.regs 10)) p ∷ [])
+    if_answered 0 c after (given_up_mutex p c.thread (get c.regs 10))
 of_mutex_call p _ c after = []
 
 -- who waits at a condition has given up its mutex
 abbrev pub begun_wait : Place → Caller → Tables → List Operation
 begun_wait p c after =
-    if waits_now c.thread after then released c.thread (lock.Mutex (get c.regs 11)) p ∷ [] else []
+    if waits_now c.thread after then given_up_mutex p c.thread (get c.regs 11) else []
 
 abbrev pub of_condition_call : Place → ConditionCall → Caller → Tables → List Operation
 of_condition_call p condition_call.Wait c after = begun_wait p c after
@@ -146,7 +156,7 @@ of_rwlock_call p rwlock_call.TryRdLock c w after = taken_to_read p c.thread (get
 of_rwlock_call p rwlock_call.WrLock c w after = taken_to_write p c.thread (get c.regs 10) after
 of_rwlock_call p rwlock_call.TryWrLock c w after = taken_to_write p c.thread (get c.regs 10) after
 of_rwlock_call p rwlock_call.Unlock c w after =
-    if_answered 0 c after (released c.thread (given_up w (get c.regs 10)) p ∷ [])
+    if_answered 0 c after (given_up_lock p c.thread (get c.regs 10) w)
 of_rwlock_call p _ c w after = []
 
 abbrev pub of_thread_call : Place → ThreadCall → Caller → Tables → List Operation

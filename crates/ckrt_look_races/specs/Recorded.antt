@@ -17,7 +17,7 @@ found_by k es s = (behind_all (of_events k es s) (fresh HOLDERS (words_of s))).f
 
 -- what is written of them
 abbrev pub races_text : ℕ → List Event → State → List ℕ
-races_text k es s = found_text (found_by k es s)
+races_text k es s = found_text k (k + length es) (found_by k es s)
 
 -- this is that text
 abbrev pub IsRacesText : (k : ℕ) → List Event → State → List ℕ → Type 0

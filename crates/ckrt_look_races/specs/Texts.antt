@@ -42,12 +42,22 @@ others_text n = codes "and " ++ times_text n ++ codes " at other places\n"
 abbrev pub others_line : ℕ → List ℕ
 others_line n = if n == 0 then [] else others_text n
 
-abbrev pub NO_RACES : List ℕ
-NO_RACES = codes "no races in this schedule; another one may have some\n"
+-- where it was looked: from behind so many events up to behind so many
+abbrev pub stretch_text : (begin end : ℕ) → List ℕ
+stretch_text k l = codes "no races in events " ++ decimal k ++ (codes " to " ++ decimal l)
 
-abbrev pub text_of : List Pair → ℕ → List ℕ
-text_of [] n = NO_RACES
-text_of (p ∷ ps) n = flat_map pair_line (p ∷ ps) ++ others_line n
+-- where there may be others
+abbrev pub elsewhere : (begin : ℕ) → List ℕ
+elsewhere k =
+    if k == 0 then codes "another one may have some\n"
+    else codes "events before these were not looked at, and another schedule may have some\n"
 
-abbrev pub found_text : Found → List ℕ
-found_text f = text_of f.pairs f.others
+abbrev pub none_text : (begin end : ℕ) → List ℕ
+none_text k l = stretch_text k l ++ codes " of this schedule; " ++ elsewhere k
+
+abbrev pub text_of : (begin end : ℕ) → List Pair → ℕ → List ℕ
+text_of k l [] n = none_text k l
+text_of k l (p ∷ ps) n = flat_map pair_line (p ∷ ps) ++ others_line n
+
+abbrev pub found_text : (begin end : ℕ) → Found → List ℕ
+found_text k l f = text_of k l f.pairs f.others

@@ -1,17 +1,19 @@
-//! Loads and stores.
+//! Loads and stores, and memory that is given anew.
 ghost use Rattle.std.specs.Prelude.{◌≡◌, ◌<◌, ◌%◌, IfSome};
 ghost use Rattle.ckrt_machine.specs.Steps.{hart_of};
 ghost use Rattle.ckrt_rv32i.specs.Memory.{byte_count};
 ghost use Rattle.ckrt_rv32i.specs.Table.{IsInRange};
+ghost use Rattle.ckrt_look_clocks.specs.declared.operation.Operation.TheVariants as operation;
 ghost use Rattle.ckrt_look_clocks.specs.Detection.{behind_all};
-ghost use Rattle.ckrt_look_races.specs.Accesses.{access_of, accesses, place_behind, fetched, is_atomic_load, is_atomic_store, is_word_at, load_at, load_operations, may_access, of_instruction, store_at, store_operations};
+ghost use Rattle.ckrt_look_races.specs.Accesses.{access_of, accesses, place_behind, fetched, is_atomic_load, is_atomic_store, is_renewal, is_word_at, load_at, load_operations, may_access, of_instruction, renewal_by, store_at, store_operations, told};
 
 use crate::holders::{Lock, acquired, released, thread_holder};
+use crate::kit::is_in_kit;
 use ckrt_look_clocks::{Access, Detector, Place};
 use ckrt_machine::Machine;
 use ckrt_memory::Memory;
 use ckrt_registers::Regs;
-use ckrt_rv32i::{Bus, Instr, Size, decode};
+use ckrt_rv32i::{AluOp, Bus, Instr, Size, decode};
 
 /// FENCE R,RW stands behind an atomic load.
 const FENCE_R_RW: u32 = 0x0230_000F;
@@ -19,10 +21,11 @@ const FENCE_R_RW: u32 = 0x0230_000F;
 /// FENCE RW,W stands before an atomic store.
 const FENCE_RW_W: u32 = 0x0310_000F;
 
-/// Who makes a step, where, and with which registers.
+/// Who makes a step, whether under a lock of a kit, where, and with which registers.
 #[derive(Clone, Copy)]
 pub(crate) struct Stepping {
     pub(crate) thread: u8,
+    pub(crate) is_in_kit: bool,
     pub(crate) place: Place,
     pub(crate) regs: Regs,
 }
@@ -77,15 +80,27 @@ fn access_of(step: &Stepping, is_store: bool, is_atomic: bool, address: u32, siz
     }
 }
 
+/// A plain access is told unless its thread is in a kit.
+fn tell(step: &Stepping, access: &Access, detector: &mut Detector)
+    ensures { detector.new
+        ≡ behind_all (told step.now (operation.Access access.now)) detector.old }
+{
+    if !step.is_in_kit {
+        detector.access(access);
+    }
+}
+
 /// A load. Before an atomic one its thread takes what those have given up who stored so to the word.
 fn note_load(step: &Stepping, is_atomic: bool, address: u32, size: Size, detector: &mut Detector)
     ensures { detector.new
         ≡ behind_all (load_operations step.now is_atomic address size) detector.old }
 {
-    if is_atomic {
-        detector.note(&acquired(step.thread, Lock::Word(address), step.place));
+    let access = access_of(step, false, is_atomic, address, size);
+    if !is_atomic {
+        return tell(step, &access, detector);
     }
-    detector.access(&access_of(step, false, is_atomic, address, size));
+    detector.note(&acquired(step.thread, Lock::Word(address), step.place));
+    detector.access(&access);
 }
 
 /// The place behind a step.
@@ -105,11 +120,13 @@ fn note_store(step: &Stepping, is_atomic: bool, address: u32, size: Size, detect
     ensures { detector.new
         ≡ behind_all (store_operations step.now is_atomic address size) detector.old }
 {
-    detector.access(&access_of(step, true, is_atomic, address, size));
-    if is_atomic {
-        let behind = place_behind(step.place);
-        detector.note(&released(step.thread, Lock::Word(address), behind));
+    let access = access_of(step, true, is_atomic, address, size);
+    if !is_atomic {
+        return tell(step, &access, detector);
     }
+    detector.access(&access);
+    let behind = place_behind(step.place);
+    detector.note(&released(step.thread, Lock::Word(address), behind));
 }
 
 /// Whether so many bytes from an address on are in the memory, and aligned.
@@ -141,6 +158,27 @@ fn watch_store(memory: &Memory, step: &Stepping, address: u32, size: Size, detec
     if may_access(memory, address, size) {
         let is_atomic = is_atomic_store(memory, step);
         note_store(step, is_atomic, address, size, detector);
+    }
+}
+
+/// Whether an instruction tells of memory that is given anew.
+fn is_renewal(op: AluOp, rd: u8) -> bool
+    ensures { result ≡ is_renewal op rd }
+{
+    match op {
+        AluOp::Slt => rd == 0,
+        _ => false,
+    }
+}
+
+/// Memory that is given anew, if an instruction tells of some.
+fn watch_renewal(step: &Stepping, op: AluOp, rd: u8, rs1: u8, rs2: u8, detector: &mut Detector)
+    requires first { rs1 < 32 }
+    requires second { rs2 < 32 }
+    ensures { detector.new ≡ behind_all (renewal_by step.now op rd rs1 rs2) detector.old }
+{
+    if is_renewal(op, rd) {
+        detector.renew(step.regs.get(rs1) / 4, step.regs.get(rs2) / 4);
     }
 }
 
@@ -184,6 +222,9 @@ fn watch_instruction(memory: &Memory, step: &Stepping, detector: &mut Detector)
             let address = step.regs.get(rs1).wrapping_add_signed(offset);
             watch_store(memory, step, address, size, detector);
         }
+        Some(Instr::Alu { op, rd, rs1, rs2 }) => {
+            watch_renewal(step, op, rd, rs1, rs2, detector);
+        }
         _ => {}
     }
 }
@@ -203,6 +244,7 @@ pub(crate) fn watch_accesses(machine: &Machine, place: Place, hart: u8, detector
     if let Some(regs) = threads.regs(thread) {
         let step = Stepping {
             thread,
+            is_in_kit: is_in_kit(machine.tables(), thread),
             place,
             regs,
         };

@@ -4,9 +4,10 @@ ghost use Rattle.std.specs.List.{flat_map};
 ghost use Rattle.ckrt_registers.specs.Registers.{get};
 ghost use Rattle.ckrt_calls.specs.Table.{call_of};
 ghost use Rattle.ckrt_look_clocks.specs.Detection.{behind_all};
-ghost use Rattle.ckrt_look_races.specs.Orders.{arrived, at_barrier, begun_wait, created, given_up, is_answered, is_at_barrier, leaves, of_barrier_call, of_call, of_caller, of_cancellation_call, of_condition_call, of_mutex_call, of_rwlock_call, of_thread_call};
+ghost use Rattle.ckrt_look_races.specs.Orders.{arrived, at_barrier, begun_wait, created, given_up, given_up_lock, given_up_mutex, is_answered, is_at_barrier, leaves, of_barrier_call, of_call, of_caller, of_cancellation_call, of_condition_call, of_mutex_call, of_rwlock_call, of_thread_call};
 
 use crate::holders::{Lock, ordered, released};
+use crate::kit::is_of_kit;
 use crate::orders::{take_mutex, take_to_read, take_to_write, waits_now};
 use ckrt_barrier::SERIAL_THREAD;
 use ckrt_calls::{
@@ -37,6 +38,15 @@ fn created(caller: &Caller, after: &Tables) -> u32
     }
 }
 
+/// A thread gives up a mutex, which passes nothing on if it is one of a kit.
+fn give_up_mutex(place: Place, thread: ThreadId, address: u32, detector: &mut Detector)
+    ensures { detector.new ≡ behind_all (given_up_mutex place thread address) detector.old }
+{
+    if !is_of_kit(address) {
+        detector.note(&released(thread, Lock::Mutex(address), place));
+    }
+}
+
 /// A call on a mutex.
 fn watch_mutex_call(
     place: Place,
@@ -55,7 +65,7 @@ fn watch_mutex_call(
         }
         MutexCall::Unlock => {
             if is_answered(0, caller, after) {
-                detector.note(&released(caller.thread, Lock::Mutex(mutex), place));
+                give_up_mutex(place, caller.thread, mutex, detector);
             }
         }
         MutexCall::Init | MutexCall::Destroy => {}
@@ -67,8 +77,7 @@ fn begin_wait(place: Place, caller: &Caller, after: &Tables, detector: &mut Dete
     ensures { detector.new ≡ behind_all (begun_wait place caller.now after.now) detector.old }
 {
     if waits_now(caller.thread, after) {
-        let mutex = Lock::Mutex(caller.regs.get(11));
-        detector.note(&released(caller.thread, mutex, place));
+        give_up_mutex(place, caller.thread, caller.regs.get(11), detector);
     }
 }
 
@@ -205,6 +214,22 @@ fn given_up(is_writer: bool, address: u32) -> Lock
     }
 }
 
+/// A thread gives up a read-write lock, which passes nothing on if it is one of a kit.
+fn give_up_lock(
+    place: Place,
+    thread: ThreadId,
+    address: u32,
+    is_writer: bool,
+    detector: &mut Detector,
+)
+    ensures { detector.new
+        ≡ behind_all (given_up_lock place thread address is_writer) detector.old }
+{
+    if !is_of_kit(address) {
+        detector.note(&released(thread, given_up(is_writer, address), place));
+    }
+}
+
 /// A call on a read-write lock, of which the thread was the writer before or not.
 fn watch_rwlock_call(
     place: Place,
@@ -227,7 +252,7 @@ fn watch_rwlock_call(
         }
         RwLockCall::Unlock => {
             if is_answered(0, caller, after) {
-                detector.note(&released(caller.thread, given_up(is_writer, lock), place));
+                give_up_lock(place, caller.thread, lock, is_writer, detector);
             }
         }
         RwLockCall::Init | RwLockCall::Destroy => {}

@@ -7,6 +7,7 @@
 mod accesses;
 mod calls;
 mod holders;
+mod kit;
 mod laws;
 mod looking;
 mod orders;

@@ -7,6 +7,7 @@ ghost use Rattle.ckrt_look_clocks.specs.Detection.{behind_all};
 ghost use Rattle.ckrt_look_races.specs.Orders.{is_cancelled, is_retake, of_acting, of_reason, of_request, of_wait, of_waits, taken_mutex, taken_request, taken_to_read, taken_to_write, waits_now};
 
 use crate::holders::{Lock, acquired, ordered};
+use crate::kit::is_of_kit;
 use ckrt_look_clocks::{Detector, Place};
 use ckrt_state::Tables;
 use ckrt_thread::{CANCELED, Reason, Thread, ThreadId, Threads, Wait};
@@ -18,7 +19,7 @@ pub(crate) fn waits_now(thread: ThreadId, after: &Tables) -> bool
     after.threads.wait_of(thread).is_some()
 }
 
-/// A thread that owns a mutex has taken it.
+/// A thread that owns a mutex has taken it, unless it is one of a kit.
 pub(crate) fn take_mutex(
     place: Place,
     thread: ThreadId,
@@ -29,12 +30,12 @@ pub(crate) fn take_mutex(
     ensures { detector.new
         ≡ behind_all (taken_mutex place thread address after.now) detector.old }
 {
-    if after.mutexes.mutex(address).is_owned_by(thread) {
+    if after.mutexes.mutex(address).is_owned_by(thread) && !is_of_kit(address) {
         detector.note(&acquired(thread, Lock::Mutex(address), place));
     }
 }
 
-/// A thread that reads under a read-write lock has taken what writers gave up.
+/// A thread that reads under a read-write lock has taken what writers gave up, unless it is one of a kit.
 pub(crate) fn take_to_read(
     place: Place,
     thread: ThreadId,
@@ -45,12 +46,12 @@ pub(crate) fn take_to_read(
     ensures { detector.new
         ≡ behind_all (taken_to_read place thread address after.now) detector.old }
 {
-    if after.rwlocks.lock(address).is_reader(thread) {
+    if after.rwlocks.lock(address).is_reader(thread) && !is_of_kit(address) {
         detector.note(&acquired(thread, Lock::Writers(address), place));
     }
 }
 
-/// A thread that writes under a read-write lock has taken what writers and readers gave up.
+/// A thread that writes under a read-write lock has taken what writers and readers gave up, unless it is one of a kit.
 pub(crate) fn take_to_write(
     place: Place,
     thread: ThreadId,
@@ -61,7 +62,7 @@ pub(crate) fn take_to_write(
     ensures { detector.new
         ≡ behind_all (taken_to_write place thread address after.now) detector.old }
 {
-    if after.rwlocks.lock(address).is_writer(thread) {
+    if after.rwlocks.lock(address).is_writer(thread) && !is_of_kit(address) {
         detector.note(&acquired(thread, Lock::Writers(address), place));
         detector.note(&acquired(thread, Lock::Readers(address), place));
     }

@@ -60,20 +60,26 @@ pub fn detector_for(alloc: Global, machine: &Machine) -> Result<Detector, AllocE
     Detector::new(alloc, HOLDERS, words_of(machine))
 }
 
-/// Writes what was found.
-fn write_detected<W: Write>(out: &mut W, detector: &Detector) -> Result<(), InspectFault>
+/// Writes what was found behind the first events, up to behind these.
+fn write_detected<W: Write>(
+    out: &mut W,
+    begin: u64,
+    end: u64,
+    detector: &Detector,
+) -> Result<(), InspectFault>
     ensures found { OnOk result
-        (Appends (W.contents out.old) (W.contents out.new) (found_text detector.now.found)) }
+        (Appends (W.contents out.old) (W.contents out.new)
+        (found_text begin end detector.now.found)) }
     ensures fault { IfErr result (λ e. e ≡ InspectFault.Write) }
 {
-    match write_found(out, detector) {
+    match write_found(out, begin, end, detector) {
         Ok(()) => Ok(()),
         Err(_) => Err(InspectFault::Write),
     }
 }
 
 /// Makes events, each of which is to be accepted at its turn, and writes their races: each pair of places in them once, with the first two
-/// accesses there that race, and how often, or that there were none. The first event is behind `count` others, and what was done
+/// accesses there that race, and how often, or where there were none. The first event is behind `count` others, and what was done
 /// before it is taken as ordered. It takes 14 MB, and 30 bytes for each of the guest's memory.
 ///
 /// # Errors
@@ -99,5 +105,6 @@ pub fn write_races<W: Write>(
     if !watch_events(machine, count, events, &mut detector) {
         return Err(InspectFault::Damaged);
     }
-    write_detected(out, &detector)
+    let end = count + events.len() as u64;
+    write_detected(out, count, end, &detector)
 }

@@ -2,7 +2,7 @@
 ghost use Rattle.std.specs.Prelude.{◌≡◌, [], OnOk};
 ghost use Rattle.std.specs.List.{flat_map};
 ghost use Rattle.std.specs.Io.KnownBytes.{Appends};
-ghost use Rattle.ckrt_look_races.specs.Texts.{access_text, both_text, found_text, others_line, others_text, pair_line, place_text, times_text, verb, what_text};
+ghost use Rattle.ckrt_look_races.specs.Texts.{access_text, both_text, elsewhere, found_text, none_text, others_line, others_text, pair_line, place_text, stretch_text, times_text, verb, what_text};
 
 use ckrt_look_calls::{write_counted, write_hex, write_number};
 use ckrt_look_clocks::{Access, Detector, Pair};
@@ -124,15 +124,54 @@ fn write_others_line<W: Write>(out: &mut W, others: u64) -> Result<()>
     }
 }
 
-/// What was found.
+/// Where it was looked.
 #[tactic(auto, using(ckrt_look_calls::proofs::AppendLemmas::appends_both))]
-pub(crate) fn write_found<W: Write>(out: &mut W, detector: &Detector) -> Result<()>
+fn write_stretch<W: Write>(out: &mut W, begin: u64, end: u64) -> Result<()>
     ensures { OnOk result
-        (Appends (W.contents out.old) (W.contents out.new) (found_text detector.now.found)) }
+        (Appends (W.contents out.old) (W.contents out.new) (stretch_text begin end)) }
+{
+    write_counted(out, b"no races in events ", begin)?;
+    write_counted(out, b" to ", end)
+}
+
+/// Where there may be others.
+fn elsewhere(begin: u64) -> &'static [u8]
+    ensures { result.now ≡ elsewhere begin }
+{
+    match begin {
+        0 => b"another one may have some\n".as_slice(),
+        _ => {
+            b"events before these were not looked at, and another schedule may have some\n".as_slice()
+        }
+    }
+}
+
+/// Where there were none.
+#[tactic(auto, using(ckrt_look_calls::proofs::AppendLemmas::appends_both))]
+fn write_none<W: Write>(out: &mut W, begin: u64, end: u64) -> Result<()>
+    ensures { OnOk result
+        (Appends (W.contents out.old) (W.contents out.new) (none_text begin end)) }
+{
+    write_stretch(out, begin, end)?;
+    out.write_all(b" of this schedule; ")?;
+    out.write_all(elsewhere(begin))
+}
+
+/// What was found behind the first events, up to behind these.
+#[tactic(auto, using(ckrt_look_calls::proofs::AppendLemmas::appends_both))]
+pub(crate) fn write_found<W: Write>(
+    out: &mut W,
+    begin: u64,
+    end: u64,
+    detector: &Detector,
+) -> Result<()>
+    ensures { OnOk result
+        (Appends (W.contents out.old) (W.contents out.new)
+        (found_text begin end detector.now.found)) }
 {
     let pairs = detector.pairs();
     if pairs.is_empty() {
-        return out.write_all(b"no races in this schedule; another one may have some\n");
+        return write_none(out, begin, end);
     }
     write_pairs(out, pairs)?;
     write_others_line(out, detector.others())

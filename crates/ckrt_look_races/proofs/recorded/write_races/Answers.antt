@@ -1,4 +1,4 @@
-use Rattle.std.proofs.Common.{◌≡◌, ◌∙◌, ap, subst}
+use Rattle.std.proofs.Common.{◌≡◌, ◌+◌, ◌∙◌, ap, length, subst}
 use Rattle.std.proofs.lemmas.Result.{on_ok_weaker}
 use Rattle.std.specs.Io.KnownBytes.{Appends}
 use Rattle.ckrt_look_clocks.specs.Detection.{Watched, behind_all, fresh}
@@ -15,4 +15,4 @@ returns-clause-races g c =
     let begun : c.in-Ok.detector ≡ fresh HOLDERS (words_of s) = c.in-Ok.ensures in
     let all : c.watch_events.new.detector ≡ behind_all os (fresh HOLDERS (words_of s)) = c.if-not-watch_events.ensures.watched ∙ ap (λ (w : Watched). behind_all os w) begun in
     let a = g.W.Write.contents c.args.out.now in let z = g.W.Write.contents c.write_detected.new.out in
-    on_ok_weaker c.write_detected.result (λ written. subst (λ (w : Watched). Appends a z (found_text w.found)) all written) c.write_detected.ensures.found
+    on_ok_weaker c.write_detected.result (λ written. subst (λ (w : Watched). Appends a z (found_text c.args.count (c.args.count + length c.args.events.now) w.found)) all written) c.write_detected.ensures.found
