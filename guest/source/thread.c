@@ -20,6 +20,10 @@ static struct thread first_thread;
 static struct thread *threads[PTHREAD_THREADS_MAX + 1] = {[1] = &first_thread};
 static unsigned thread_count = 1;
 
+/* The same table by a name that no program has: by it tools find the records and the names in them, without debugging
+   material (docs/ABI.md). */
+extern struct thread *__guest_threads[PTHREAD_THREADS_MAX + 1] __attribute__((alias("threads")));
+
 int pthread_attr_init(pthread_attr_t *attributes) {
     *attributes = (pthread_attr_t){.detach_state = PTHREAD_CREATE_JOINABLE, .stack_size = USUAL_STACK};
     return 0;

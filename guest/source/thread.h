@@ -9,6 +9,7 @@
 
 #include <pthread.h>
 #include <stdbool.h>
+#include <stddef.h>
 #include <stdint.h>
 
 /* A new thread's memory is one block of the heap: a guard, its stack, this record, and its thread-local variables. Where the
@@ -30,6 +31,9 @@ struct thread {
     unsigned char rounds; /* of destructors, that are over */
     unsigned char next_key; /* with which the round goes on */
 };
+
+/* Where tools find it (docs/ABI.md). */
+_Static_assert(offsetof(struct thread, name) == 24, "the name's place in a record");
 
 /* The size of thread-local variables and their alignment, as addresses of these symbols. */
 extern char __guest_locals_size[], __guest_locals_align[];

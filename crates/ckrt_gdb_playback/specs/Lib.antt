@@ -1,6 +1,7 @@
 pub mod Recorded
 pub mod Stages
 pub mod Playback
+pub mod Known
 pub mod Limits
 pub mod Look
 pub mod Marks

@@ -1,9 +1,10 @@
 -- What is told of a state, where nobody moves: registers, memory and threads, as a stub of gdb's remote protocol tells them.
-use Rattle.std.specs.Prelude.{ℕ, zero, suc, ◌+◌, ◌==◌, ◌&&◌, ◌||◌, not, nat_le, min, Bool, if◌then◌else◌, List, [], ◌∷◌, ◌++◌, length, replicate, codes, Option, Some, None, unwrap_or}
+use Rattle.std.specs.Prelude.{ℕ, zero, suc, ◌+◌, ◌==◌, ◌&&◌, ◌||◌, not, nat_le, nat_lt, min, Bool, if◌then◌else◌, List, [], ◌∷◌, ◌++◌, length, replicate, codes, Option, Some, None, unwrap_or}
 use Rattle.std.specs.List.{flat_map}
 use Rattle.std.specs.Int.{w32, to_le_bytes}
 use Rattle.ckrt_registers.specs.Registers.{Registers}
 use Rattle.ckrt_thread.specs.declared.records.Thread.{Thread}
+use Rattle.ckrt_thread.specs.declared.records.Thread.TheVariants as thread
 use Rattle.ckrt_thread.specs.State as threads
 use Rattle.ckrt_rv32i.specs.Memory.{byte_at, is_valid}
 use Rattle.ckrt_rv32i.specs.declared.memory_bus.Size.TheVariants as size
@@ -77,8 +78,28 @@ shown_ids s = if threads.is_any_live s then ids_from 0 s.threads else 1 ∷ []
 abbrev pub is_shown : ℕ → threads.State → Bool
 is_shown t s = threads.is_live s t || (not (threads.is_any_live s) && t == 1)
 
-abbrev pub ids_text : threads.State → List ℕ
-ids_text s = threads_text (shown_ids s)
+-- AND THOSE THAT GDB KNOWS from the first stop on, up to a number, so that its own numbers of them are theirs: also where they aren't there
+
+abbrev pub is_known : (known t : ℕ) → Bool
+is_known known t = nat_lt 0 t && nat_le t known
+
+abbrev pub is_listed : (known t : ℕ) → threads.State → Bool
+is_listed known t s = is_known known t || is_shown t s
+
+abbrev pub listed_of : (known id : ℕ) → Option Thread → List ℕ
+listed_of known id slot = if is_known known id || threads.is_live_thread slot then id ∷ [] else []
+
+abbrev pub listed_from : (known id : ℕ) → List (Option Thread) → List ℕ
+listed_from known id [] = []
+listed_from known id (slot ∷ slots) = listed_of known id slot ++ listed_from known (suc id) slots
+
+abbrev pub ids_text : (known : ℕ) → threads.State → List ℕ
+ids_text known s = threads_text (listed_from known 0 s.threads)
+
+-- of one that isn't there
+abbrev pub absent_text : Option Thread → List ℕ
+absent_text (Some (thread.Ended v)) = codes "has ended"
+absent_text _ = codes "isn't there"
 
 abbrev pub done_text : Bool → List ℕ
 done_text is_done = if is_done then codes "OK" else failed_text 1

@@ -15,7 +15,7 @@ use Rattle.ckrt_gdb_playback.specs.declared.description.TheConstants.{DESCRIPTIO
 use Rattle.ckrt_gdb_playback.specs.declared.going.Way.{Way}
 use Rattle.ckrt_gdb_playback.specs.declared.going.Way.TheVariants as way
 use Rattle.ckrt_gdb_playback.specs.declared.view.View.{View}
-use Rattle.ckrt_gdb_playback.specs.Look.{done_text, failed_text, ids_text, is_shown, memory_text, registers_text}
+use Rattle.ckrt_gdb_playback.specs.Look.{absent_text, done_text, failed_text, ids_text, is_known, is_listed, is_shown, memory_text, registers_text}
 use Rattle.ckrt_gdb_playback.specs.Standing.{standing_text}
 
 -- the thread that is meant: of any, that of the last stop
@@ -24,10 +24,12 @@ meant (One t) v = t
 meant Any v = v.last.thread
 meant All v = v.last.thread
 
--- what is told of a thread, where it is shown
-abbrev pub thread_text : ℕ → Tables → List ℕ
-thread_text t s =
-    if is_shown t s.threads then hex_text (standing_text t s) else failed_text 1
+-- what is told of a thread, where it is listed
+abbrev pub thread_text : (known t : ℕ) → Tables → List ℕ
+thread_text known t s =
+    if is_shown t s.threads then hex_text (standing_text t s)
+    else if is_known known t then hex_text (absent_text (threads.thread_of s.threads t))
+    else failed_text 1
 
 abbrev pub last_text : View → List ℕ
 last_text v = stop_text v.last.signal v.last.cause v.last.thread
@@ -56,9 +58,9 @@ constant_of _ = None
 abbrev pub threads_look_of : Request → View → Tables → Option (List ℕ)
 threads_look_of LastStop v s = Some (last_text v)
 threads_look_of Registers v s = Some (registers_text v.examined s.threads)
-threads_look_of (IsAlive choice) v s = Some (done_text (is_shown (meant choice v) s.threads))
-threads_look_of FirstThreads v s = Some (ids_text s.threads)
-threads_look_of (ThreadText choice) v s = Some (thread_text (meant choice v) s)
+threads_look_of (IsAlive choice) v s = Some (done_text (is_listed v.known (meant choice v) s.threads))
+threads_look_of FirstThreads v s = Some (ids_text v.known s.threads)
+threads_look_of (ThreadText choice) v s = Some (thread_text v.known (meant choice v) s)
 threads_look_of _ v s = None
 
 abbrev pub memory_look_of : Request → List ℕ → Option (List ℕ)

@@ -9,13 +9,13 @@ use Rattle.ckrt_gdb_packets.specs.declared.request.Request.TheVariants.{Examine,
 use Rattle.ckrt_gdb_playback.specs.declared.marks.Marked.{Marked}
 use Rattle.ckrt_gdb_playback.specs.declared.marks.Marked.TheVariants.{Done, Full, Unsupported}
 use Rattle.ckrt_gdb_playback.specs.declared.view.View.{View}
-use Rattle.ckrt_gdb_playback.specs.Look.{done_text, failed_text, is_shown}
+use Rattle.ckrt_gdb_playback.specs.Look.{done_text, failed_text, is_listed}
 use Rattle.ckrt_gdb_playback.specs.Marks.{HasInserted, HasRemoved, inserted, removed}
 
--- THE VIEW: of any thread, that of the last stop is examined; who isn't shown isn't
+-- THE VIEW: of any thread, that of the last stop is examined; who isn't listed isn't
 
 abbrev pub examined : Choice → View → threads.State → View
-examined (One t) v s = if is_shown t s then record v { examined = t } else v
+examined (One t) v s = if is_listed v.known t s then record v { examined = t } else v
 examined Any v s = record v { examined = v.last.thread }
 examined All v s = record v { examined = v.last.thread }
 
@@ -33,21 +33,21 @@ HasSetStops _ old new = new ≡ old
 
 -- THE REPLY
 
-abbrev pub examined_text : Choice → threads.State → List ℕ
-examined_text (One t) s = done_text (is_shown t s)
-examined_text Any s = done_text true
-examined_text All s = done_text true
+abbrev pub examined_text : Choice → (known : ℕ) → threads.State → List ℕ
+examined_text (One t) known s = done_text (is_listed known t s)
+examined_text Any known s = done_text true
+examined_text All known s = done_text true
 
 abbrev pub marked_text : Marked → List ℕ
 marked_text Done = codes "OK"
 marked_text Full = failed_text 1
 marked_text Unsupported = []
 
-abbrev pub set_text : Request → Stops → threads.State → List ℕ
-set_text (Examine choice) stops s = examined_text choice s
-set_text (Choose choice) stops s = done_text true
-set_text (Insert mark) stops s = marked_text (inserted mark stops)
-set_text (Remove mark) stops s = marked_text (removed mark)
-set_text Detach stops s = codes "OK"
-set_text Kill stops s = codes "OK"
-set_text _ stops s = []
+abbrev pub set_text : Request → Stops → (known : ℕ) → threads.State → List ℕ
+set_text (Examine choice) stops known s = examined_text choice known s
+set_text (Choose choice) stops known s = done_text true
+set_text (Insert mark) stops known s = marked_text (inserted mark stops)
+set_text (Remove mark) stops known s = marked_text (removed mark)
+set_text Detach stops known s = codes "OK"
+set_text Kill stops known s = codes "OK"
+set_text _ stops known s = []

@@ -96,12 +96,12 @@ abbrev pub trap : Reason → ℕ → Stopped
 trap reason t = record { signal = 5; cause = reason; thread = t }
 
 -- of a thread that stands, where gdb has said nothing of threads
-abbrev pub first_view : ℕ → View
-first_view t = record { examined = t; chosen = Any; last = trap cause.Stopped t }
+abbrev pub first_view : (known t : ℕ) → View
+first_view known t = record { examined = t; chosen = Any; last = trap cause.Stopped t; known = known }
 
 -- of one that stands where somebody went: its registers are told
 abbrev pub standing_in : View → ℕ → View
-standing_in v t = record { examined = t; chosen = v.chosen; last = trap cause.Stopped t }
+standing_in v t = record { examined = t; chosen = v.chosen; last = trap cause.Stopped t; known = v.known }
 
 -- at the position that was named (gdb's number of no signal), or at the limit of steps
 abbrev pub reached : ℕ → Stopped

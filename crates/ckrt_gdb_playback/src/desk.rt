@@ -19,14 +19,14 @@ use crate::going::{Way, go};
 use crate::limits::{Bounds, begin_of};
 use crate::look::{FAILED, put_done, put_last, put_reply};
 use crate::marks::{Marked, insert, remove};
-use crate::threads::is_shown;
+use crate::threads::is_listed;
 use crate::told::{ender_or, first_view, next_or, shown, standing_in};
 use crate::view::View;
 use ckrt_events::Event;
 use ckrt_gdb_history::{AppendFault, History, Position, Stops};
 use ckrt_gdb_packets::{Choice, Payload, Reply, Request};
 use ckrt_schedule::{Schedule, ScheduleEnd};
-use ckrt_thread::Threads;
+use ckrt_thread::{ThreadId, Threads};
 
 /// How many steps a turn has in a run that goes on by itself: as many as in a drive that is given no other number.
 const TURN: u32 = 1_000_000;
@@ -55,13 +55,13 @@ fn put_marked(marked: Marked, out: &mut Payload)
     }
 }
 
-/// The thread whose registers are told from now on: of any, that of the last stop. Nothing changes where it isn't shown.
+/// The thread whose registers are told from now on: of any, that of the last stop. Nothing changes where it isn't listed.
 fn examine(view: &mut View, choice: Choice, threads: &Threads, out: &mut Payload)
     ensures view { view.new ≡ examined choice view.old threads.now }
-    ensures payload { out.new.items ≡ fitting (examined_text choice threads.now) }
+    ensures payload { out.new.items ≡ fitting (examined_text choice view.old.known threads.now) }
 {
     match choice {
-        Choice::One(thread) if is_shown(threads, thread) => {
+        Choice::One(thread) if is_listed(threads, view.known, thread) => {
             view.examined = thread as u8;
             put_done(true, out);
         }
@@ -105,9 +105,9 @@ fn view_behind(end: &Result<ScheduleEnd, AppendFault>, view: &View, history: &Hi
 
 impl Desk {
     /// A session that begins: thread 1 is shown, or whoever is left, and there is no stop. Before the first event of the run `first`
-    /// were done, and so many are recorded.
-    pub fn new(first: u64, recorded: usize, threads: &Threads) -> Desk
-        ensures view { result.view ≡ first_view (shown 1 threads.now) }
+    /// were done, so many are recorded, and gdb knows the threads up to a number.
+    pub fn new(first: u64, recorded: usize, threads: &Threads, known: ThreadId) -> Desk
+        ensures view { result.view ≡ first_view known (shown 1 threads.now) }
         ensures stops { IsWithoutStops result.stops }
         ensures bounds { result.bounds ≡ unbounded }
         ensures first { result.first ≡ first }
@@ -116,7 +116,7 @@ impl Desk {
         Desk {
             first,
             recorded,
-            view: first_view(shown(threads, 1)),
+            view: first_view(known, shown(threads, 1)),
             stops: Stops::new(),
             bounds: Bounds::new(),
         }
@@ -129,7 +129,7 @@ impl Desk {
         ensures kept { (self.new.bounds ≡ self.old.bounds) × (self.new.first ≡ self.old.first)
             × (self.new.recorded ≡ self.old.recorded) }
         ensures payload { out.new.items
-            ≡ fitting (set_text request.now self.old.stops threads.now) }
+            ≡ fitting (set_text request.now self.old.stops self.old.view.known threads.now) }
     {
         match request {
             Request::Examine(choice) => examine(&mut self.view, *choice, threads, out),
@@ -149,7 +149,8 @@ impl Desk {
         ensures stops { self.new.stops ≡ self.old.stops }
         ensures kept { (self.new.bounds ≡ self.old.bounds) × (self.new.first ≡ self.old.first)
             × (self.new.recorded ≡ self.old.recorded)
-            × (self.new.view.chosen ≡ self.old.view.chosen) }
+            × (self.new.view.chosen ≡ self.old.view.chosen)
+            × (self.new.view.known ≡ self.old.view.known) }
         ensures moved { (found : Found)
             × Moved self.old.bounds way self.old.stops history.old history.new found
             × (self.new.view.last

@@ -1,9 +1,10 @@
 //! What is answered while nobody moves.
 ghost use Rattle.std.specs.Prelude.{◌≡◌, ◌+◌, ◌≤◌, ◌++◌, ◌⊎◌, [], IsOk, IfSome, OnOk, is_some, length};
 ghost use Rattle.arrayvec.specs.ArrayVec.{array_vec_len};
+ghost use Rattle.ckrt_thread.specs.State.{thread_of};
 ghost use Rattle.ckrt_gdb_packets.specs.Numbers.{hex_text};
 ghost use Rattle.ckrt_gdb_packets.specs.Replies.{reply_text};
-ghost use Rattle.ckrt_gdb_playback.specs.Look.{done_text, fitting, ids_text, memory_text, registers_bytes, registers_of, registers_text};
+ghost use Rattle.ckrt_gdb_playback.specs.Look.{absent_text, done_text, fitting, ids_text, memory_text, registers_bytes, registers_of, registers_text};
 ghost use Rattle.ckrt_gdb_playback.specs.Standing.{standing_text};
 ghost use Rattle.ckrt_gdb_playback.specs.Requests.{constant_of, description_text, last_text, look_of, meant, memory_look_of, thread_text, threads_look_of};
 
@@ -11,7 +12,7 @@ use crate::bytes::{Bytes, push_words};
 use crate::description::DESCRIPTION;
 use crate::memory::memory_bytes;
 use crate::standing::push_standing;
-use crate::threads::{is_shown, shown_ids};
+use crate::threads::{is_known, is_listed, is_shown, listed_ids};
 use crate::view::View;
 use arrayvec::ArrayVec;
 use ckrt_gdb_packets::{Choice, Full, Payload, Reply, Request, write_reply};
@@ -19,7 +20,7 @@ use ckrt_machine::Machine;
 use ckrt_memory::Memory;
 use ckrt_registers::Regs;
 use ckrt_state::Tables;
-use ckrt_thread::{ThreadId, Threads};
+use ckrt_thread::{Thread, ThreadId, Threads};
 
 /// The number of a failure: no such thread, or no such place to stop.
 pub const FAILED: u8 = 1;
@@ -104,12 +105,24 @@ fn put_standing(tables: &Tables, thread: ThreadId, out: &mut Payload)
     put_bytes(&bytes, written, out);
 }
 
-/// What is told of a thread, where it is shown.
-fn put_thread(tables: &Tables, thread: u32, out: &mut Payload)
-    ensures { out.new.items ≡ fitting (thread_text thread tables.now) }
+/// What is told of a thread that isn't there.
+fn absent_text(threads: &Threads, thread: u32) -> &'static [u8]
+    ensures { result.now ≡ absent_text (thread_of threads.now thread) }
+{
+    match threads.thread(thread) {
+        Some(Thread::Ended(_)) => b"has ended".as_slice(),
+        _ => b"isn't there".as_slice(),
+    }
+}
+
+/// What is told of a thread, where it is listed.
+fn put_thread(tables: &Tables, known: u8, thread: u32, out: &mut Payload)
+    ensures { out.new.items ≡ fitting (thread_text known thread tables.now) }
 {
     if is_shown(&tables.threads, thread) {
         put_standing(tables, thread as u8, out);
+    } else if is_known(known, thread) {
+        put_reply(&Reply::Bytes(absent_text(&tables.threads, thread)), out);
     } else {
         put_reply(&Reply::Failed(FAILED), out);
     }
@@ -127,10 +140,10 @@ pub fn put_done(is_done: bool, out: &mut Payload)
 }
 
 /// The ids of threads.
-fn put_ids(threads: &Threads, out: &mut Payload)
-    ensures { out.new.items ≡ fitting (ids_text threads.now) }
+fn put_ids(threads: &Threads, known: u8, out: &mut Payload)
+    ensures { out.new.items ≡ fitting (ids_text known threads.now) }
 {
-    let ids = shown_ids(threads);
+    let ids = listed_ids(threads, known);
     put_reply(&Reply::Threads(ids.as_slice()), out);
 }
 
@@ -192,9 +205,12 @@ fn look_threads(request: &Request, view: &View, tables: &Tables, out: &mut Paylo
     match request {
         Request::LastStop => put_last(view, out),
         Request::Registers => put_registers(threads, view.examined, out),
-        Request::IsAlive(choice) => put_done(is_shown(threads, meant(*choice, view)), out),
-        Request::FirstThreads => put_ids(threads, out),
-        Request::ThreadText(choice) => put_thread(tables, meant(*choice, view), out),
+        Request::IsAlive(choice) => put_done(
+            is_listed(threads, view.known, meant(*choice, view)),
+            out,
+        ),
+        Request::FirstThreads => put_ids(threads, view.known, out),
+        Request::ThreadText(choice) => put_thread(tables, view.known, meant(*choice, view), out),
         _ => return false,
     }
     true

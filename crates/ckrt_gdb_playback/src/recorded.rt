@@ -1,13 +1,16 @@
 //! A run that nobody has replayed.
 ghost use Rattle.std.specs.Prelude.{◌≡◌, ◌≤◌, ◌++◌, ◌↔◌, IfErr, IfOk, IsTrue, length, None, Some};
+ghost use Rattle.ckrt_gdb_playback.specs.Known.{greatest, known_of, placed, placed_in};
 ghost use Rattle.ckrt_gdb_playback.specs.Recorded.{ComesThrough, IsSound, run_of};
 ghost use Rattle.ckrt_gdb_playback.specs.Stages.{IsWithin, stage_of};
 
 use crate::limits::begin_of;
+use crate::threads::shown_ids;
 use ckrt_events::Event;
 use ckrt_gdb_history::{History, HistoryFault, Room};
 use ckrt_look_recording::{Comparison, append};
 use ckrt_machine::Machine;
+use ckrt_thread::ThreadId;
 use std::alloc::{AllocError, Global};
 use std::marker::Model;
 
@@ -60,6 +63,38 @@ impl Model for Recorded {
     ghost invariant = { λ r.
         IsRoomFor (length r.events.items) (vec_capacity r.events) r.machine.state r.room
         × IsWithin r.stage (length r.events.items) };
+}
+
+/// The greatest of these numbers of threads, or 1.
+fn greatest(ids: &[ThreadId]) -> ThreadId
+    ensures { result ≡ greatest 1 ids.now }
+{
+    let mut known = 1;
+    for id in ids {
+        known = known.max(*id);
+    }
+    known
+}
+
+/// The number of the thread that an event places, or 0.
+fn placed_in(event: &Event) -> ThreadId
+    ensures { result ≡ placed_in event.now }
+{
+    match event {
+        Event::Place(_, thread) => *thread,
+        _ => 0,
+    }
+}
+
+/// The greatest number of a thread that is placed, or this one.
+fn placed(least: ThreadId, events: &[Event]) -> ThreadId
+    ensures { result ≡ placed least events.now }
+{
+    let mut known = least;
+    for event in events {
+        known = known.max(placed_in(event));
+    }
+    known
 }
 
 /// Goes to a stage of a history, and says whether the machine is there as it was saved.
@@ -149,6 +184,14 @@ impl Recorded {
         ensures { result ≡ length self.now.events }
     {
         self.events.len()
+    }
+
+    /// Up to which number gdb knows threads from the first stop on.
+    pub fn known_threads(&self) -> ThreadId
+        ensures { result ≡ known_of self.now }
+    {
+        let there = shown_ids(&self.machine.tables().threads);
+        placed(greatest(there.as_slice()), self.events.as_slice())
     }
 
     /// Its history, which stands at its beginning.

@@ -71,14 +71,15 @@ pub fn trap(cause: Cause, thread: ThreadId) -> Stopped
     }
 }
 
-/// A thread that stands, where gdb has said nothing of threads.
-pub fn first_view(thread: ThreadId) -> View
-    ensures { result ≡ first_view thread }
+/// A thread that stands, where gdb has said nothing of threads, and knows those up to a number.
+pub fn first_view(known: ThreadId, thread: ThreadId) -> View
+    ensures { result ≡ first_view known thread }
 {
     View {
         examined: thread,
         chosen: Choice::Any,
         last: trap(Cause::Stopped, thread),
+        known,
     }
 }
 
@@ -90,6 +91,7 @@ pub fn standing_in(view: &View, thread: ThreadId) -> View
         examined: thread,
         chosen: view.chosen,
         last: trap(Cause::Stopped, thread),
+        known: view.known,
     }
 }
 

@@ -20,4 +20,6 @@ pub struct View {
     /// Who steps back.
     pub chosen: Choice,
     pub last: Stopped,
+    /// Up to which number gdb knows threads from the first stop on.
+    pub known: u8,
 }

@@ -12,6 +12,7 @@ use Rattle.ckrt_gdb_playback.specs.declared.limits.Bounds.{Bounds}
 use Rattle.ckrt_gdb_playback.specs.declared.motion.Found.{Found}
 use Rattle.ckrt_gdb_stub.specs.declared.stub.Stub.{Stub}
 use Rattle.ckrt_gdb_playback.specs.Extending.{going_on, view_behind}
+use Rattle.ckrt_gdb_playback.specs.Known.{known_of}
 use Rattle.ckrt_gdb_playback.specs.Limits.{unbounded}
 use Rattle.ckrt_gdb_playback.specs.Look.{fitting}
 use Rattle.ckrt_gdb_playback.specs.Marks.{IsWithoutStops}
@@ -49,7 +50,7 @@ shown_at (Some k) r z = next_or (shown 1 r.start.tables.threads) z
 -- A session of a run that begins with its first event, or once so many events of all are done; before the run there were `first`.
 pub record BeginsAt (begin : Option ℕ) (first : ℕ) (r : Run) (s : Stub) : Type 0 where
   pub begun : IsBegun begin first r s.playback
-  pub view : s.desk.view ≡ first_view (shown_at begin r (history_of s.playback))
+  pub view : s.desk.view ≡ first_view (known_of r) (shown_at begin r (history_of s.playback))
   pub stops : IsWithoutStops s.desk.stops
   pub bounds : s.desk.bounds ≡ unbounded
   pub first_is : s.desk.first ≡ first
@@ -82,6 +83,7 @@ pub record HasMoved (way : Way) (old new : Stub) : Type 0 where
   pub last : new.desk.view.last ≡ told old.desk.bounds way found old.desk.view.last.thread (history_of old.playback) (history_of new.playback)
   pub examined : new.desk.view.examined ≡ new.desk.view.last.thread
   pub chosen : new.desk.view.chosen ≡ old.desk.view.chosen
+  pub known : new.desk.view.known ≡ old.desk.view.known
   pub stops : new.desk.stops ≡ old.desk.stops
   pub bounds : new.desk.bounds ≡ old.desk.bounds
   pub first : new.desk.first ≡ old.desk.first
@@ -187,7 +189,7 @@ abbrev pub way_in : Request → Stub → Option Way
 way_in request s = way_of request s.desk.view (state_of s.playback).tables.threads
 
 abbrev pub set_text_in : Request → Stub → List ℕ
-set_text_in request s = set_text request s.desk.stops (state_of s.playback).tables.threads
+set_text_in request s = set_text request s.desk.stops s.desk.view.known (state_of s.playback).tables.threads
 
 -- a look, or else a motion, or else a setting, with the payload of its reply
 abbrev pub AnswersBy : Option (List ℕ) → Option Way → Request → (old new : Stub) → (payload : List ℕ)

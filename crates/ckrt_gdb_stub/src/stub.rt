@@ -62,6 +62,7 @@ impl Stub {
             first,
             recorded.event_count(),
             &recorded.machine().tables().threads,
+            recorded.known_threads(),
         );
         let stub = Stub {
             alloc,

@@ -12,7 +12,7 @@ from cases.older_areas import fits_older, mislead
 from model.begun import LINES, Begun, makes_events
 from model.mistyped import HELP, LIST, kinds_of_mistakes, text_of_packet, with_lists
 from model.recovery import Unrecovered
-from model.stubs import Look, Visits, answers_in, frame, is_answered, line_of_events, live_threads, monitor, shown_at_first
+from model.stubs import Look, Visits, answers_in, frame, is_answered, known_threads, line_of_events, monitor, shown_at_first, told_threads
 
 TIME_LIMIT = 60
 NOWHERE = "no such position\n"
@@ -128,11 +128,11 @@ def packets_of(case):
 
 
 def expected_at_first(case, machine, ends, shown):
-    """Before anybody has moved. Whom the stop names is examined first, and then whom gdb has named last of those that are there."""
+    """Before anybody has moved. Whom the stop names is examined first, and then whom gdb has named last of those that are told."""
     answers, examined = [], shown
     for look in case.first_looks:
         answers += look.first_answers(machine, ends, shown, examined)
-        examined = next((number for number in reversed(look.threads) if number in live_threads(machine)), examined)
+        examined = next((number for number in reversed(look.threads) if number in told_threads(machine, look.known)), examined)
     return answers + [(told, payload) for _, told, payload in case.settings] + [(LIST, "OK")]
 
 
@@ -178,6 +178,7 @@ def outcome_of_model(case):
     if case.at is not None:
         return outcome_at(case)
     shown = shown_at_first(begun.machine)
+    know(case, begun.machine, begun.events)
     answers = [*([] if case.is_acknowledged else [("", "OK")]), *expected_at_first(case, begun.machine, (begun.first, begun.whole), shown)]
     if begun.fault is None:
         return left(case, [*answers, *expected_visits(case, recording_of(case.contents)[0], (begun.first, 0), shown)])
@@ -193,8 +194,15 @@ def outcome_at(case):
         return none_begun(fault.fault if fault else "ckrt: Range")
     machine = recording.made_up_to(Visits([], (recording.first, case.at)), None, case.at)
     shown = shown_at_first(machine, recording.events[case.at - recording.first:])
+    know(case, recording.machine, recording.events)
     answers = [*([] if case.is_acknowledged else [("", "OK")]), *expected_at_first(case, machine, (recording.first, recording.whole), shown)]
     return left(case, [*answers, *expected_visits(case, recording, (case.at, 0), shown)])
+
+
+def know(case, begin, events):
+    """Which threads gdb knows from the first stop on, at each look."""
+    for look in case.first_looks + case.looks:
+        look.known = known_threads(begin, events)
 
 
 def none_begun(fault):

@@ -136,10 +136,10 @@ class Script:
     def look(self):
         """At threads and memory."""
         machine = self.story.machine_at(self.story.position)
-        self.ask("qfThreadInfo", ("", "m" + ",".join(f"{number:x}" for number in told_threads(machine))))
-        for number in live_threads(machine)[:4]:
+        self.ask("qfThreadInfo", ("", "m" + ",".join(f"{number:x}" for number in told_threads(machine, self.story.known))))
+        for number in told_threads(machine, self.story.known)[:4]:
             packets = f"T{number:x}", f"qThreadExtraInfo,{number:x}", f"Hg{number:x}", "g"
-            for packet, answer in zip(packets, answers_of_thread(machine, number, number)):
+            for packet, answer in zip(packets, answers_of_thread(machine, number, number, self.story.known)):
                 self.ask(packet, answer)
         address = self.chance.choice([0x2000, 0x1000, 0xF000])
         self.ask(f"m{address:x},800", ("", memory_text(machine.memory, address, 0x800)))

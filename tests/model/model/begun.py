@@ -8,7 +8,7 @@ from copy import deepcopy
 from model.devices import MemoryDisk
 from model.mistyped import answer_to
 from model.recorded import fitting_older, has_older, leads_to
-from model.recovery import Unrecovered, recover, unmade
+from model.recovery import Unrecovered, events_of_journal, recover, unmade
 
 LOW = 1 << 61  # from counts below it no journal leads to one that is too high; where one isn't, all events are made before
 DAMAGED, DIFFERS = "Damaged", "OlderDiffers"
@@ -18,7 +18,7 @@ TELLING = [b"events", b"inspect", b"limit"]  # the commands of `monitor`, beside
 
 
 class Begun:
-    """The machine of the older area, where one fits, or of the checkpoint; how many events led to it, to the checkpoint and to the end; whether
+    """The machine of the older area, where one fits, or of the checkpoint, and the events from there on; how many led to it, to the checkpoint and to the end; whether
     one in use is refused, and the fault that ends the session once they are made, if any. Raises Unrecovered where none begins."""
 
     def __init__(self, contents):
@@ -30,6 +30,7 @@ class Begun:
             older = None
         self.machine, self.checkpoint, self.whole = deepcopy((older or newer).machine), newer.events, newer.events + len(events)
         self.first = older.events if older else self.checkpoint
+        self.events = [*(events_of_journal(disk, older)[0] if older else []), *events]
         self.fault = fault_of_events(self.is_refused or older is not None and not leads_to(disk, older, newer), older is not None)
 
 

@@ -7,7 +7,7 @@ from model.machine import OUTPUT_OF_RUN
 from model.motions import Steps, named
 from model.plans import Options, next_event
 from model.stretches import next_thread, show_event
-from model.stubs import live_threads, position_text, shown_at_first
+from model.stubs import known_threads, live_threads, position_text, shown_at_first
 
 ROOM = 65_536  # events more than are recorded
 NOT_AT_END = "not at the end of the history: monitor fork ends it here"
@@ -59,7 +59,7 @@ class Story:
     """The machine as it was before the first event, the events, where one stands, and how far the disk has them too.
 
     `positions` has of each event how many there are before the next one; `named`
-    is the thread of the last stop.
+    is the thread of the last stop, and `known` up to which number gdb knows threads.
     """
 
     def __init__(self, recording, at=None):
@@ -68,7 +68,7 @@ class Story:
         self.end = deepcopy(self.begin)
         for event in recording.events:
             self.append(event)
-        self.recorded = self.whole
+        self.recorded, self.known = self.whole, known_threads(self.begin, self.events)
         self.position = (self.first if at is None else at), 0
         self.named = shown_at_first(self.begin) if at is None else shown_at_first(self.machine_at(self.position), self.events[at - self.first:])
 

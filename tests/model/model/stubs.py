@@ -4,12 +4,14 @@ from copy import deepcopy
 from dataclasses import dataclass, field
 
 from model.abi import PAGE
+from model.events import Place
 from model.listing import lines_of_state
 from model.motions import named, text_of_stop
 from model.stretches import next_thread
 from model.threads import WaitKind
 
 MOST_BYTES = 2048  # of memory, in an answer
+MOST_THREADS = 64
 REGISTERS = 33  # with the pc
 OUTSIDE, NO_THREAD = "E14", "E01"
 
@@ -67,8 +69,14 @@ def shown_at_first(machine, events=()):
     return named(next_thread(machine, events), live_threads(machine), 1)
 
 
+def known_threads(begin, events):
+    """Up to which number gdb knows threads from the first stop on: the greatest that is there at the history's begin, or that a recorded event
+    places."""
+    return max([1, *live_threads(begin), *[event.thread for event in events if isinstance(event, Place)]])
+
+
 def registers_text(machine, number):
-    """x0 to x31 and the pc, the lowest byte first; zeros of one that has ended."""
+    """x0 to x31 and the pc, the lowest byte first; zeros of one that isn't there."""
     if number not in live_threads(machine):
         return bytes(4 * REGISTERS).hex()
     thread = machine.threads[number]
@@ -88,11 +96,12 @@ def line_of_events(position, ends):
 @dataclass
 class Look:
     """What is asked at a position, of threads, by their numbers, and of memory, by address and length; and where nobody has moved yet.
-    Before all that something is mistyped at times: packets of which nothing comes, and their answers."""
+    Before all that something is mistyped at times: packets of which nothing comes, and their answers. gdb knows threads up to a number."""
     position: tuple
     threads: list
     reads: list
     mistyped: list = field(default_factory=list)
+    known: int = 1
 
     def packets(self):
         """It is asked why the session stands, too."""
@@ -120,26 +129,34 @@ class Look:
         """To the questions alone."""
         listing = "".join(line + "\n" for line in lines_of_state(self.position[0], machine, machine.hart_count))
         answers = [*[answer for _, answer in self.mistyped], (line_of_events(self.position, ends), "OK"), (listing, "OK"),
-                   ("", "m" + ",".join(f"{number:x}" for number in told_threads(machine)))]
+                   ("", "m" + ",".join(f"{number:x}" for number in told_threads(machine, self.known)))]
         for number in self.threads:
-            examined = number if number in told_threads(machine) else examined
-            answers += answers_of_thread(machine, number, examined)
+            examined = number if number in told_threads(machine, self.known) else examined
+            answers += answers_of_thread(machine, number, examined, self.known)
         return answers + [("", memory_text(machine.memory, address, length)) for address, length in self.reads]
 
 
-def told_threads(machine):
-    """Those that haven't ended; thread 1 where none is left."""
-    return live_threads(machine) or [1]
+def told_threads(machine, known=1):
+    """Those that gdb knows, there or not, and those that haven't ended."""
+    return sorted({*range(1, min(known, MOST_THREADS) + 1), *live_threads(machine)})
 
 
-def answers_of_thread(machine, number, examined):
+def text_of_told(machine, number):
+    """Of one that is there, which thread 1 is where none is left; else what has become of it, as far as nobody has joined it."""
+    if number in live_threads(machine):
+        return text_of_thread(machine, number)
+    if number == 1 and not live_threads(machine):
+        return "ready"
+    return "has ended" if number in machine.threads else "isn't there"
+
+
+def answers_of_thread(machine, number, examined, known=1):
     """Whether it is alive, what is to say of it, whether it may be examined, and the registers of the one that is then: the same as before
-    where it isn't there."""
-    is_alive, registers = ("", "OK" if number in told_threads(machine) else NO_THREAD), ("", registers_text(machine, examined))
-    if number not in told_threads(machine):
+    where it isn't told."""
+    is_alive, registers = ("", "OK" if number in told_threads(machine, known) else NO_THREAD), ("", registers_text(machine, examined))
+    if number not in told_threads(machine, known):
         return [is_alive, ("", NO_THREAD), ("", NO_THREAD), registers]
-    text = text_of_thread(machine, number) if number in live_threads(machine) else "ready"
-    return [is_alive, ("", text.encode().hex()), ("", "OK"), registers]
+    return [is_alive, ("", text_of_told(machine, number).encode().hex()), ("", "OK"), registers]
 
 
 class Visits:

@@ -349,9 +349,9 @@ class Recovered(WithKeys):
         disk = of_two_areas(JOINS, "place 0 1", "run 0 99", behind=["place 0 2", "run 0 9"])
         without = MemoryDisk(bytearray(disk))
         without.write(SMALL.area_at(0), [0])
-        for contents, told in ((disk, "m1"), (bytes(without.bytes), "m1,2")):
-            answers = outcome_of_model(DebuggedCase(contents, first_looks=[Look((0, 0), [], [])])).answers
-            self.assertEqual((answers[1], answers[5]), (("", "T05thread:1;"), ("", told)))
+        for contents, text in ((disk, "isn't there"), (bytes(without.bytes), "ready")):
+            answers = outcome_of_model(DebuggedCase(contents, first_looks=[Look((0, 0), [2], [])])).answers
+            self.assertEqual((answers[1], answers[5], answers[7]), (("", "T05thread:1;"), ("", "m1,2"), ("", text.encode().hex())))
 
     def test_two_threads(self):
         """Whom gdb has chosen is examined, and the first stop still names thread 1; so does one behind it where nobody's step is next."""
@@ -372,7 +372,7 @@ class Recovered(WithKeys):
         case = DebuggedCase(disk, [Look((3, 0), [], [])], [], [Look((2, 0), [], [])])
         answers = outcome_of_model(case).answers
         self.assertEqual(answers[1:3], [("", "T05thread:2;"), ("", registers_text(recording.machine, 2))])
-        self.assertEqual((answers[5], answers[8]), (("", "m2"), ("", "T05thread:2;")))
+        self.assertEqual((answers[5], answers[8]), (("", "m1,2"), ("", "T05thread:2;")))
 
     def test_at(self):
         """Before the checkpoint too, where the older area leads there; else only from there on, and what it has is no fault."""
@@ -414,7 +414,7 @@ class Recovered(WithKeys):
         disk = of_two_areas(words, "place 0 1", "run 0 99", "commit", "checkpoint", "tick 1", behind=["place 0 2", "run 0 1"])
         for at in (2, 3, 4, 5):
             answers = outcome_of_model(DebuggedCase(disk, first_looks=[Look((at, 0), [], [])], at=at)).answers
-            self.assertEqual((answers[1], answers[5]), (("", "T05thread:2;"), ("", "m2")))
+            self.assertEqual((answers[1], answers[5]), (("", "T05thread:2;"), ("", "m1,2")))
 
 
 class WhatIsDrawn(WithKeys):

@@ -4,8 +4,8 @@ from copy import deepcopy
 
 from cases.debugged import NOWHERE, unlike
 from model.abi import Call
-from model.events import Run, Tick
-from model.stubs import (Look, Visits, answers_in, answers_of_thread, frame, is_answered, memory_text, monitor, position_text, registers_text,
+from model.events import Place, Run, Tick
+from model.stubs import (Look, Visits, answers_in, answers_of_thread, frame, is_answered, known_threads, memory_text, monitor, position_text, registers_text,
                          shown_at_first, text_of_thread)
 from model.switches import switched
 from unit.test_races import call, load, recording_of
@@ -63,6 +63,24 @@ class Texts(WithKeys):
         self.assertEqual(answers_of_thread(machine, 1, 1), [("", "OK"), ("", b"ready".hex()), ("", "OK"), ("", "00" * 132)])
         self.assertEqual(answers_of_thread(machine, 2, 1)[0], ("", "E01"))
         self.assertIn(("", "m1"), Look((0, 0), [], []).told(machine, (0, 0), 1))
+
+    def test_known(self):
+        """gdb knows five threads: of these 2 has ended, and 4 and 5 were never made. It meets 6 only once it is there."""
+        machine = self.machine_behind((2, call(Call.THREAD_EXIT, 0)), threads=2)
+        texts = [answers_of_thread(machine, number, 1, 5)[1][1] for number in range(1, 7)]
+        self.assertEqual(texts, [*[text.encode().hex() for text in ("ready", "has ended", "ready", "isn't there", "isn't there")], "E01"])
+        self.assertEqual([answers_of_thread(machine, number, 1, 5)[0][1] for number in (5, 6)], ["OK", "E01"])
+        for known, told in [(1, "m1,3"), (2, "m1,2,3"), (5, "m1,2,3,4,5"), (200, "m" + ",".join(f"{number:x}" for number in range(1, 65)))]:
+            look = Look((0, 0), [], [])
+            look.known = known
+            self.assertIn(("", told), look.told(machine, (0, 0), 1))
+
+    def test_known_at_first(self):
+        """Those that are there where the history begins, and those that are placed."""
+        machine = self.machine_behind((2, call(Call.THREAD_EXIT, 0)), threads=2)
+        for events, known in [([], 3), ([Place(1, 2), Tick(7)], 3), ([Place(0, 7), Place(1, 5)], 7), ([Run(9, 9)], 3)]:
+            self.assertEqual(known_threads(machine, events), known)
+        self.assertEqual(known_threads(self.machine_behind((1, [*call(Call.DETACH, 1), *call(Call.THREAD_EXIT, 0)]), threads=0), []), 1)
 
     def test_memory(self):
         memory = self.machine_behind().memory
