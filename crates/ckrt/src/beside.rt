@@ -1,6 +1,6 @@
 //! The names that lie beside an image or a disk: those of FILE are in FILE.names.
 use ckrt_cli_names::{Names, NamesFault, SIZE_LIMIT};
-use ckrt_cli_words::{DriveJob, HuntJob, Job, ProfileForm};
+use ckrt_cli_words::{DriveJob, HuntJob, Job};
 use sha2::{Digest, Sha256};
 use std::alloc::{AllocError, Global};
 use std::fs::{File, Files, OpenOptions};
@@ -11,6 +11,8 @@ use std::io::{self, ErrorKind, Read};
 pub enum Trouble {
     /// The system refused memory.
     OutOfMemory,
+    /// There is no such file.
+    Missing,
     /// The file can't be read.
     Unreadable,
     /// It isn't a file of names.
@@ -24,6 +26,7 @@ impl Trouble {
     pub fn text(self) -> &'static str {
         match self {
             Trouble::OutOfMemory => "the system refused memory",
+            Trouble::Missing => "there is no such file",
             Trouble::Unreadable => "it can't be read; remove it, or let it be read",
             Trouble::Malformed => "it isn't a file of names; make it again by guest/image",
             Trouble::OtherImage => {
@@ -85,7 +88,7 @@ fn read_front<R: Files<File = File>>(
 }
 
 /// Those bytes, or why there are none.
-fn read_or_refuse<R: Files<File = File>>(
+pub(crate) fn read_or_refuse<R: Files<File = File>>(
     rt: &R,
     alloc: Global,
     path: &str,
@@ -112,7 +115,7 @@ fn names_of<R: Files<File = File>>(
 }
 
 /// Whether names are of these bytes.
-fn are_of(names: &Names, image: &[u8]) -> bool {
+pub(crate) fn are_of(names: &Names, image: &[u8]) -> bool {
     let mut hasher = Sha256::new();
     hasher.update(image);
     let digest: [u8; 32] = hasher.finalize();
@@ -224,9 +227,8 @@ pub fn before<'a, R: Files<File = File>>(
     match job {
         Job::Inspect(job) => of_disk(rt, alloc, job.disk),
         Job::Calls(job) | Job::Races(job) => of_disk(rt, alloc, job.disk),
-        Job::Profile(job) if job.form == ProfileForm::Table => {
-            of_disk(rt, alloc, job.stretch.disk)
-        }
+        Job::Profile(job) => of_disk(rt, alloc, job.stretch.disk),
+        Job::Timeline(job) => of_disk(rt, alloc, job.stretch.disk),
         Job::Hunt(job) => {
             let names = of_path(job.image, names_of_image(rt, alloc, job.image))?;
             Ok(printed(alloc, names))
@@ -244,7 +246,7 @@ pub fn before<'a, R: Files<File = File>>(
 const MOST_DISKS: u32 = 64;
 
 /// Whether there is a file of this path.
-fn is_there<R: Files<File = File>>(rt: &R, path: &str) -> bool {
+pub(crate) fn is_there<R: Files<File = File>>(rt: &R, path: &str) -> bool {
     rt.metadata(path).is_ok()
 }
 

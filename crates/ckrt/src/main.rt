@@ -2,14 +2,16 @@
 //! beside an image or a disk, the lines of listings and reports have them behind their addresses.
 #![tactic(auto)]
 
+mod asked;
 mod beside;
 
+use asked::{form_of, names_asked};
 use beside::{Beside, Refusal, Trouble};
 use ckrt_cli::run_words;
 use ckrt_cli_files::{OutputReason, SystemSources, ToldWriter};
-use ckrt_cli_names::{NamedWriter, Unflushed};
+use ckrt_cli_names::{Form, NamedWriter, Unflushed};
 use ckrt_cli_reports::{SystemMeter, WrittenReport};
-use ckrt_cli_words::read_words;
+use ckrt_cli_words::{Job, read_names, read_words};
 use ckrt_disk::Calls;
 use std::cell::Cell;
 use std::env;
@@ -23,9 +25,11 @@ fn run<'a>(
     words: &'a [&'a str],
     why: &'a Cell<OutputReason>,
     names: Beside,
+    form: Form,
 ) -> u8 {
     let Beside { printed, reported } = names;
-    let mut writer = NamedWriter::new(rt.alloc(), printed, ToldWriter::new(io::writer(rt), why));
+    let told = ToldWriter::new(io::writer(rt), why);
+    let mut writer = NamedWriter::in_form(rt.alloc(), printed, form, told);
     let report = NamedWriter::new(rt.alloc(), reported, rt.stderr());
     let mut reporter = WrittenReport::new(Unflushed::new(report));
     let status = run_words::<HostRuntime, Brand, _, _, _, _>(
@@ -55,14 +59,45 @@ fn refuse(rt: &HostRuntime, refusal: Refusal<'_>) -> u8 {
     1
 }
 
+/// Says that the names of `--names` can't be used; the answer is the program's status.
+fn refuse_asked(rt: &HostRuntime, path: &str, trouble: Trouble) -> u8 {
+    let text = trouble.text();
+    let name = if trouble == Trouble::OutOfMemory {
+        "OutOfMemory"
+    } else {
+        "Names"
+    };
+    let _ = eprintln!(rt; "the names {path}: {text}\nckrt: {name}");
+    1
+}
+
+/// The job of these words, with the names of a file in place of those beside its files.
+fn run_asked<'a>(
+    rt: &'a HostRuntime,
+    words: &'a [&'a str],
+    why: &'a Cell<OutputReason>,
+    job: &Job<'_>,
+    path: &str,
+) -> u8 {
+    match names_asked(rt, rt.alloc(), job, path) {
+        Ok(names) => run(rt, words, why, names, form_of(job)),
+        Err(trouble) => refuse_asked(rt, path, trouble),
+    }
+}
+
 /// The job of these words, with the names beside its files, which what it makes gets too.
 fn run_named<'a>(rt: &'a HostRuntime, words: &'a [&'a str], why: &'a Cell<OutputReason>) -> u8 {
     let Ok(job) = read_words(rt.alloc(), words) else {
-        return run(rt, words, why, beside::none(rt.alloc()));
+        return run(rt, words, why, beside::none(rt.alloc()), Form::Notes);
     };
+    match read_names(rt.alloc(), words) {
+        Ok(Some(path)) => return run_asked(rt, words, why, &job, path),
+        Ok(None) => {}
+        Err(_) => return refuse_asked(rt, "FILE", Trouble::OutOfMemory),
+    }
     match beside::before(rt, rt.alloc(), &job) {
         Ok(names) => {
-            let status = run(rt, words, why, names);
+            let status = run(rt, words, why, names, form_of(&job));
             beside::after(rt, rt.alloc(), &job, status);
             status
         }
@@ -93,7 +128,7 @@ fn main(rt: HostRuntime) -> ExitCode {
             let _ = eprintln!(rt; "error: an argument isn't text\n");
             let why = Cell::new(OutputReason::Other);
             let names = beside::none(rt.alloc());
-            ExitCode::from(run(&rt, &["--help"], &why, names))
+            ExitCode::from(run(&rt, &["--help"], &why, names, Form::Notes))
         }
     }
 }
