@@ -3,7 +3,7 @@
 //! Names of an image have to be of that very image. Those of a disk only help to read: where they can't be used, that is said, and the job
 //! is done without them.
 use ckrt_cli_names::{Names, NamesFault, SIZE_LIMIT};
-use ckrt_cli_words::{DriveJob, Job, ProfileForm};
+use ckrt_cli_words::{DriveJob, Job};
 use sha2::{Digest, Sha256};
 use std::alloc::{AllocError, Global};
 use std::fs::{File, Files, OpenOptions};
@@ -14,6 +14,8 @@ use std::io::{self, ErrorKind, Read};
 pub enum Trouble {
     /// The system refused memory.
     OutOfMemory,
+    /// There is no such file.
+    Missing,
     /// The file can't be read.
     Unreadable,
     /// It isn't a file of names.
@@ -27,11 +29,22 @@ impl Trouble {
     pub fn text(self) -> &'static str {
         match self {
             Trouble::OutOfMemory => "the system refused memory",
+            Trouble::Missing => "there is no such file",
             Trouble::Unreadable => "it can't be read; remove it, or let it be read",
             Trouble::Malformed => "it isn't a file of names; make it again by guest/image",
             Trouble::OtherImage => {
                 "it is of another image; make both by guest/build or guest/image"
             }
+        }
+    }
+}
+
+impl Trouble {
+    /// The name of the fault.
+    pub fn name(self) -> &'static str {
+        match self {
+            Trouble::OutOfMemory => "OutOfMemory",
+            _ => "Names",
         }
     }
 }
@@ -103,7 +116,7 @@ pub fn read_front<R: Files<File = File>>(
 }
 
 /// Those bytes, where there is such a file, or why there are none.
-fn read_or_refuse<R: Files<File = File>>(
+pub fn read_or_refuse<R: Files<File = File>>(
     rt: &R,
     alloc: Global,
     path: &str,
@@ -134,7 +147,7 @@ fn names_of<R: Files<File = File>>(
 }
 
 /// Whether names are of these bytes.
-fn are_of(names: &Names, image: &[u8]) -> bool {
+pub fn are_of(names: &Names, image: &[u8]) -> bool {
     let mut hasher = Sha256::new();
     hasher.update(image);
     let digest: [u8; 32] = hasher.finalize();
@@ -156,6 +169,13 @@ fn names_of_image<R: Files<File = File>>(
     }
 }
 
+/// The bytes of names once more.
+pub fn copy_of(alloc: Global, names: &Names) -> Result<Vec<u8>, AllocError> {
+    let mut bytes = Vec::new(alloc);
+    bytes.extend_from_slice(names.bytes())?;
+    Ok(bytes)
+}
+
 /// The names of an image, and their bytes once more.
 fn names_with_bytes<R: Files<File = File>>(
     rt: &R,
@@ -163,8 +183,7 @@ fn names_with_bytes<R: Files<File = File>>(
     path: &str,
 ) -> Result<(Names, Vec<u8>), Trouble> {
     let names = names_of_image(rt, alloc, path)?;
-    let mut bytes = Vec::new(alloc);
-    bytes.extend_from_slice(names.bytes())?;
+    let bytes = copy_of(alloc, &names)?;
     Ok((names, bytes))
 }
 
@@ -218,7 +237,7 @@ fn of_disk<'a, R: Files<File = File>>(rt: &R, alloc: Global, disk: &'a str) -> B
 }
 
 /// The same names, for what is reported.
-fn reported(alloc: Global, beside: Beside<'_>) -> Beside<'_> {
+pub fn reported(alloc: Global, beside: Beside<'_>) -> Beside<'_> {
     let Beside {
         printed,
         unused,
@@ -255,9 +274,8 @@ pub fn before<'a, R: Files<File = File>>(
     match job {
         Job::Inspect(job) => Ok(of_disk(rt, alloc, job.disk)),
         Job::Calls(job) | Job::Races(job) => Ok(of_disk(rt, alloc, job.disk)),
-        Job::Profile(job) if job.form == ProfileForm::Table => {
-            Ok(of_disk(rt, alloc, job.stretch.disk))
-        }
+        Job::Profile(job) => Ok(of_disk(rt, alloc, job.stretch.disk)),
+        Job::Timeline(job) => Ok(of_disk(rt, alloc, job.stretch.disk)),
         Job::Hunt(job) => of_image(rt, alloc, job.image),
         Job::Format(job) => Ok(reported(alloc, of_image(rt, alloc, job.image)?)),
         Job::Drive(job) => of_drive(rt, alloc, job),

@@ -2,15 +2,17 @@
 //! beside an image or a disk, the lines of listings and reports have them behind their addresses.
 #![tactic(auto)]
 
+mod asked;
 mod beside;
 mod giving;
 
+use asked::{form_of, names_asked};
 use beside::{Beside, Refusal, Trouble};
 use ckrt_cli::run_words;
 use ckrt_cli_files::{OutputReason, SystemSources, ToldWriter};
-use ckrt_cli_names::{NamedWriter, Names, Unflushed};
+use ckrt_cli_names::{Form, NamedWriter, Names, Unflushed};
 use ckrt_cli_reports::{SystemMeter, WrittenReport};
-use ckrt_cli_words::{Job, read_words};
+use ckrt_cli_words::{Job, read_names, read_words};
 use ckrt_disk::Calls;
 use giving::Giving;
 use std::cell::Cell;
@@ -24,10 +26,11 @@ fn run<'a>(
     rt: &'a HostRuntime,
     words: &'a [&'a str],
     why: &'a Cell<OutputReason>,
-    printed: Names,
+    (printed, form): (Names, Form),
     reported: Names,
 ) -> u8 {
-    let mut writer = NamedWriter::new(rt.alloc(), printed, ToldWriter::new(io::writer(rt), why));
+    let told = ToldWriter::new(io::writer(rt), why);
+    let mut writer = NamedWriter::in_form(rt.alloc(), printed, form, told);
     let report = NamedWriter::new(rt.alloc(), reported, rt.stderr());
     let mut reporter = WrittenReport::new(Unflushed::new(report));
     let status = run_words::<HostRuntime, Brand, _, _, _, _>(
@@ -47,18 +50,15 @@ fn run<'a>(
 /// The job of these words, without names.
 fn run_plain<'a>(rt: &'a HostRuntime, words: &'a [&'a str], why: &'a Cell<OutputReason>) -> u8 {
     let alloc = rt.alloc();
-    run(rt, words, why, Names::none(alloc), Names::none(alloc))
+    let printed = (Names::none(alloc), Form::Notes);
+    run(rt, words, why, printed, Names::none(alloc))
 }
 
 /// Says why names can't be used; the answer is the program's status.
 fn refuse(rt: &HostRuntime, refusal: Refusal<'_>) -> u8 {
     let Refusal { path, trouble } = refusal;
     let text = trouble.text();
-    let name = if trouble == Trouble::OutOfMemory {
-        "OutOfMemory"
-    } else {
-        "Names"
-    };
+    let name = trouble.name();
     let _ = eprintln!(rt; "the names {path}.names: {text}\nckrt: {name}");
     1
 }
@@ -85,11 +85,33 @@ fn run_with<'a>(
         Some(bytes) => Giving::begin(rt, rt.alloc(), job, bytes).ok(),
         None => None,
     };
-    let status = run(rt, words, why, printed, reported);
+    let status = run(rt, words, why, (printed, form_of(job)), reported);
     if let Some(giving) = giving {
         let _ = giving.end(rt, job, status);
     }
     status
+}
+
+/// Says that the names of `--names` can't be used; the answer is the program's status.
+fn refuse_asked(rt: &HostRuntime, path: &str, trouble: Trouble) -> u8 {
+    let text = trouble.text();
+    let name = trouble.name();
+    let _ = eprintln!(rt; "the names {path}: {text}\nckrt: {name}");
+    1
+}
+
+/// The job of these words, with the names of a file in place of those beside its files.
+fn run_asked<'a>(
+    rt: &'a HostRuntime,
+    words: &'a [&'a str],
+    why: &'a Cell<OutputReason>,
+    job: &Job<'a>,
+    path: &str,
+) -> u8 {
+    match names_asked(rt, rt.alloc(), job, path) {
+        Ok(names) => run_with(rt, words, why, job, names),
+        Err(trouble) => refuse_asked(rt, path, trouble),
+    }
 }
 
 /// The job of these words, where its names can be used.
@@ -97,6 +119,11 @@ fn run_named<'a>(rt: &'a HostRuntime, words: &'a [&'a str], why: &'a Cell<Output
     let Ok(job) = read_words(rt.alloc(), words) else {
         return run_plain(rt, words, why);
     };
+    match read_names(rt.alloc(), words) {
+        Ok(Some(path)) => return run_asked(rt, words, why, &job, path),
+        Ok(None) => {}
+        Err(_) => return refuse_asked(rt, "FILE", Trouble::OutOfMemory),
+    }
     match beside::before(rt, rt.alloc(), &job) {
         Ok(names) => run_with(rt, words, why, &job, names),
         Err(refusal) => refuse(rt, refusal),

@@ -1,9 +1,12 @@
-//! Names of a guest's source beside the addresses in lines that are printed.
+//! Names of a guest's source beside the addresses in lines that are printed, or in their place.
 #![tactic(auto)]
 
 mod fault;
+mod labels;
 mod named;
 mod names;
+mod piece;
+mod renamed;
 mod rows;
 mod scan;
 mod unflushed;
@@ -11,4 +14,5 @@ mod unflushed;
 pub use fault::NamesFault;
 pub use named::NamedWriter;
 pub use names::{Names, SIZE_LIMIT};
+pub use piece::{Form, Piece};
 pub use unflushed::Unflushed;

@@ -1,9 +1,11 @@
-//! A writer that puts notes behind lines.
-ghost use Rattle.std.specs.Prelude.{◌≡◌, ◌++◌, ◌∷◌, [], ◌≤◌, drop, true, false, length, take, ℕ, List, IfErr, OnOk, OnErr, IfOk, vec_len};
+//! A writer that puts names behind lines, or in the place of addresses.
+ghost use Rattle.std.specs.Prelude.{◌≡◌, ◌++◌, ◌∷◌, [], ◌≤◌, drop, length, take, ℕ, List, IfErr, OnOk, OnErr, IfOk, vec_len};
 ghost use Rattle.std.specs.Io.KnownBytes.{append_known, Appends, Keeps};
-ghost use Rattle.ckrt_cli_names.specs.Put.{HasShown, contents_at_first, shown_of, taken_of, taken_with};
+ghost use Rattle.ckrt_cli_names.specs.Put.{HasShown, KeepsMarks, contents_at_first, shown_of, taken_of, taken_with};
 
+use crate::labels::Labels;
 use crate::names::Names;
+use crate::piece::{Form, Piece};
 use ckrt_disk::{Calls, History};
 use std::alloc::{AllocError, Global};
 use std::io::{self, ErrorKind, Write};
@@ -14,10 +16,13 @@ const LINE_LIMIT: usize = 4_096;
 /// How many bytes wait before they are written.
 const BATCH: usize = 8_192;
 
-/// A writer that puts notes behind lines.
+/// A writer that puts names behind lines, or in the place of addresses.
 #[derive(Drop)]
 pub struct NamedWriter<W: Write> {
     names: Names,
+    form: Form,
+    /// What a picture is labelled with.
+    labels: Labels,
     inner: W,
     /// The line that isn't finished yet.
     line: Vec<u8>,
@@ -28,29 +33,43 @@ pub struct NamedWriter<W: Write> {
     waiting: Vec<u8>,
     written: usize,
     start: History<W>,
-    put: Calls<bool>,
+    put: Calls<Piece>,
     ghost within: { written ≤ vec_len waiting },
     ghost shown: { HasShown (contents_at_first W.contents start.states) (W.contents inner)
         (drop written waiting.items) put.made },
     ghost noted: { names.rows.items ≡ [] → note.items ≡ [] },
     ghost plain: { names.rows.items ≡ [] → shown_of put.made ≡ taken_of put.made },
+    ghost marked: { KeepsMarks form put.made },
 }
 
 impl<W: Write> NamedWriter<W> {
     ghost use Rattle.ckrt_cli_names.specs.Writers.{inner_of, line_of, put_by, start_of, waiting_of};
     ghost use Rattle.ckrt_cli_names.specs.Rows.{HasNone};
 
-    /// One over a writer, with these names. What it takes is what that one has so far.
-    #[tactic(auto, using(crate::proofs::PutLemmas::nothing_taken))]
+    /// One over a writer, with these names behind its lines. What it takes is what that one has so far.
     pub fn new(alloc: Global, names: Names, inner: W) -> NamedWriter<W>
         ensures start { start_of result ≡ inner ∷ [] }
         ensures put { put_by result ≡ [] }
         ensures names { result.names ≡ names }
         ensures contents { Keeps (W.contents inner) (⟦<NamedWriter<W> as Write>⟧.contents result) }
     {
+        NamedWriter::in_form(alloc, names, Form::Notes, inner)
+    }
+
+    /// The same, with names in this form.
+    #[tactic(auto, using(crate::proofs::PutLemmas::nothing_taken))]
+    pub fn in_form(alloc: Global, names: Names, form: Form, inner: W) -> NamedWriter<W>
+        ensures start { start_of result ≡ inner ∷ [] }
+        ensures put { put_by result ≡ [] }
+        ensures names { result.names ≡ names }
+        ensures form { result.form ≡ form }
+        ensures contents { Keeps (W.contents inner) (⟦<NamedWriter<W> as Write>⟧.contents result) }
+    {
         let start = History::new().with(&inner);
         NamedWriter {
             names,
+            form,
+            labels: Labels::new(alloc),
             inner,
             line: Vec::new(alloc),
             is_begun: false,
@@ -63,8 +82,9 @@ impl<W: Write> NamedWriter<W> {
     }
 
     /// What always holds of it. What it has taken are the pieces that were put and aren't notes, and the line that isn't put yet. What the
-    /// writer below has been given since the begin are all pieces in their order, but for what waits: nothing twice, nothing left
-    /// out. Without names no piece is a note.
+    /// writer below has been given since the begin are all pieces in their order, but for lines in whose place a note stands and for what
+    /// waits: nothing twice, nothing left out. Without names both are the same. In frames what is shown has just as many line feeds,
+    /// semicolons and blanks as what was taken, in the same order.
     pub fn known(&self)
         ensures taken { ⟦<NamedWriter<W> as Write>⟧.contents self.now
             ≡ append_known (contents_at_first W.contents (start_of self.now))
@@ -73,6 +93,7 @@ impl<W: Write> NamedWriter<W> {
             (W.contents (inner_of self.now)) (waiting_of self.now) (put_by self.now) }
         ensures plain { HasNone self.now.names
             → shown_of (put_by self.now) ≡ taken_of (put_by self.now) }
+        ensures marked { KeepsMarks self.now.form (put_by self.now) }
     {
         let _ = &self.inner;
     }
@@ -88,11 +109,11 @@ impl<W: Write> NamedWriter<W> {
     fn put_taken(&mut self, bytes: &[u8]) -> Result<(), AllocError>
         ensures line { self.new.line ≡ self.old.line }
         ensures start { self.new.start ≡ self.old.start }
-        ensures ok { OnOk result (self.new.put.made ≡ (false, bytes.now) ∷ self.old.put.made) }
+        ensures ok { OnOk result (self.new.put.made ≡ (Piece.Taken, bytes.now) ∷ self.old.put.made) }
         ensures err { OnErr result (self.new.put.made ≡ self.old.put.made) }
     {
         self.waiting.extend_from_slice(bytes)?;
-        self.put = self.put.with(&false, bytes);
+        self.put = self.put.with(&Piece::Taken, bytes);
         Ok(())
     }
 
@@ -147,7 +168,7 @@ impl<W: Write> NamedWriter<W> {
             return Ok(());
         }
         self.waiting.extend_from_slice(&self.line)?;
-        self.put = self.put.with(&false, &self.line);
+        self.put = self.put.with(&Piece::Taken, &self.line);
         self.line.clear();
         self.is_begun = true;
         Ok(())
@@ -166,18 +187,81 @@ impl<W: Write> NamedWriter<W> {
         }
     }
 
-    /// Puts the note behind what waits, where there is room for it.
+    /// Puts the note behind what waits, where there is room for it. Frames have none.
     fn put_note(&mut self)
         ensures line { self.new.line ≡ self.old.line }
         ensures start { self.new.start ≡ self.old.start }
         ensures same { taken_of self.new.put.made ≡ taken_of self.old.put.made }
     {
+        if matches!(self.form, Form::Frames) {
+            return;
+        }
         if self.waiting.extend_from_slice(&self.note).is_ok() {
-            self.put = self.put.with(&true, &self.note);
+            self.put = self.put.with(&Piece::Note, &self.note);
         }
     }
 
-    /// Puts the line behind what waits, then its note, and its end.
+    /// Puts the line behind what waits, with names in the place of its addresses, where its beginning hasn't gone through already.
+    fn put_renamed(&mut self) -> Result<(), AllocError>
+        ensures start { self.new.start ≡ self.old.start }
+        ensures same { taken_with self.new.put.made self.new.line.items
+            ≡ taken_with self.old.put.made self.old.line.items }
+        ensures ok { OnOk result (self.new.line.items ≡ []) }
+    {
+        if self.is_begun || self.names.is_empty() {
+            return self.put_line();
+        }
+        self.names
+            .push_renamed(self.form, &self.line, &mut self.note)?;
+        self.waiting.extend_from_slice(&self.note)?;
+        let replaced = self.put.with(&Piece::Replaced, &self.line);
+        self.put = replaced.with(&Piece::Note, &self.note);
+        self.line.clear();
+        Ok(())
+    }
+
+    /// Makes the note behind a line of a picture: the labels of a row, where it ends.
+    fn make_labels(&mut self)
+        ensures line { self.new.line ≡ self.old.line }
+        ensures start { self.new.start ≡ self.old.start }
+        ensures put { self.new.put.made ≡ self.old.put.made }
+    {
+        self.note.clear();
+        if !self.names.is_empty() && matches!(self.form, Form::Picture) {
+            self.labels.take(&mut self.note);
+        }
+    }
+
+    /// Puts the line behind what waits, with names in the place of its addresses, and labels behind it.
+    fn put_with_labels(&mut self) -> Result<(), AllocError>
+        ensures start { self.new.start ≡ self.old.start }
+        ensures same { taken_with self.new.put.made self.new.line.items
+            ≡ taken_with self.old.put.made self.old.line.items }
+        ensures ok { OnOk result (self.new.line.items ≡ []) }
+    {
+        if matches!(self.form, Form::Picture) {
+            self.labels.watch(&self.names, &self.line);
+        }
+        self.put_renamed()?;
+        self.make_labels();
+        self.put_note();
+        Ok(())
+    }
+
+    /// Puts the line behind what waits, and its note.
+    fn put_with_note(&mut self) -> Result<(), AllocError>
+        ensures start { self.new.start ≡ self.old.start }
+        ensures same { taken_with self.new.put.made self.new.line.items
+            ≡ taken_with self.old.put.made self.old.line.items }
+        ensures ok { OnOk result (self.new.line.items ≡ []) }
+    {
+        self.make_note();
+        self.put_line()?;
+        self.put_note();
+        Ok(())
+    }
+
+    /// Puts the line behind what waits, with its names, and its end.
     fn end_line(&mut self) -> Result<(), AllocError>
         ensures start { self.new.start ≡ self.old.start }
         ensures ok { OnOk result (taken_with self.new.put.made self.new.line.items
@@ -185,9 +269,11 @@ impl<W: Write> NamedWriter<W> {
         ensures err { OnErr result (taken_with self.new.put.made self.new.line.items
             ≡ taken_with self.old.put.made self.old.line.items) }
     {
-        self.make_note();
-        self.put_line()?;
-        self.put_note();
+        if matches!(self.form, Form::Notes) {
+            self.put_with_note()?;
+        } else {
+            self.put_with_labels()?;
+        }
         self.put_taken(b"\n")?;
         self.is_begun = false;
         Ok(())
@@ -242,7 +328,7 @@ impl<W: Write> NamedWriter<W> {
         self.write_waiting()?;
         let count = self.inner.write(bytes)?;
         let (taken, _) = bytes.split_at(count);
-        self.put = self.put.with(&false, taken);
+        self.put = self.put.with(&Piece::Taken, taken);
         Ok(count)
     }
 }

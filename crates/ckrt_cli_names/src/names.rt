@@ -3,6 +3,7 @@ ghost use Rattle.std.specs.Prelude.{◌≡◌, ◌<◌, ◌↔◌, [], IsTrue, I
 ghost use Rattle.ckrt_cli_names.specs.Rows.{HasNone, IsInOrder, LiesIn, bytes_of, rows_of};
 
 use crate::fault::NamesFault;
+use crate::renamed::push_offset;
 use crate::rows::{Head, Row, read_head, read_rows};
 use crate::scan::{MOST, Scan, most_of};
 use std::alloc::{AllocError, Global};
@@ -13,6 +14,16 @@ pub struct Names {
     bytes: Vec<u8>,
     head: Head,
     pub(crate) rows: Vec<Row>,
+}
+
+/// What is named of an address.
+#[derive(Clone, Copy)]
+pub(crate) struct Place<'a> {
+    pub(crate) text: &'a [u8],
+    /// How far from the begin of its row the address is, where that is told; else 0.
+    pub(crate) offset: u32,
+    /// Whether it is a variable, or a part of one.
+    pub(crate) is_data: bool,
 }
 
 /// How many bytes of a file of names are taken.
@@ -97,15 +108,28 @@ impl Names {
         }
     }
 
+    /// What is named of an address.
+    pub(crate) fn place_of(&self, address: u32) -> Option<Place<'_>> {
+        let row = self.row_of(address)?;
+        let text = self.bytes.as_slice().get(row.text_at..row.text_end)?;
+        let offset = if row.tells_offset {
+            address.saturating_sub(row.begin)
+        } else {
+            0
+        };
+        Some(Place {
+            text,
+            offset,
+            is_data: row.tells_offset,
+        })
+    }
+
     /// Puts the text of an address behind those of a note.
     fn push_place(&self, address: u32, note: &mut Vec<u8>) -> Result<(), AllocError> {
-        let Some(row) = self.row_of(address) else {
+        let Some(place) = self.place_of(address) else {
             return Ok(());
         };
-        let Some(text) = self.bytes.as_slice().get(row.text_at..row.text_end) else {
-            return Ok(());
-        };
-        if note.len() >= NOTE_LIMIT || text.len() > NOTE_LIMIT {
+        if note.len() >= NOTE_LIMIT || place.text.len() > NOTE_LIMIT {
             return Ok(());
         }
         note.extend_from_slice(if note.is_empty() {
@@ -113,13 +137,8 @@ impl Names {
         } else {
             b"; ".as_slice()
         })?;
-        note.extend_from_slice(text)?;
-        if row.tells_offset && address > row.begin {
-            let mut digits = itoa::Buffer::new();
-            note.extend_from_slice(b" + ")?;
-            note.extend_from_slice(digits.format(address - row.begin).as_bytes())?;
-        }
-        Ok(())
+        note.extend_from_slice(place.text)?;
+        push_offset(place.offset, note)
     }
 
     /// Puts the texts of a line's addresses into a note.

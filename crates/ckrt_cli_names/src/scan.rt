@@ -10,7 +10,7 @@ fn is_word_byte(byte: u8) -> bool {
 }
 
 /// Where the next word begins, or the end of the line.
-fn word_begin(line: &[u8], from: usize) -> usize
+pub(crate) fn word_begin(line: &[u8], from: usize) -> usize
     requires { from ≤ length line.now }
     ensures from { from ≤ result }
     ensures within { result ≤ length line.now }
@@ -23,7 +23,7 @@ fn word_begin(line: &[u8], from: usize) -> usize
 }
 
 /// Where a word ends.
-fn word_end(line: &[u8], from: usize) -> usize
+pub(crate) fn word_end(line: &[u8], from: usize) -> usize
     requires { from ≤ length line.now }
     ensures from { from ≤ result }
     ensures within { result ≤ length line.now }

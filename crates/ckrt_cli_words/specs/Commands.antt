@@ -1,10 +1,12 @@
 -- The program's command line, as `clap` sees it: `format DISK IMAGE [--pages P] [--harts H] [--journal J]`, `run DISK`,
--- `inspect DISK [--at K] [--code]`, `core DISK FILE [--at K]`, `calls DISK [--from K] [--to K] [--last N]`, `debug DISK [--at K]`,
--- `races DISK [--from K] [--to K] [--last N]`, `timeline DISK [--from K] [--to K] [--last N] [--width W] [--json]`,
--- `profile DISK [--from K] [--to K] [--last N] [--folded | --callgrind]`,
--- `hunt IMAGE [--seeds A-B | --seconds S] [--pages P] [--harts H] [--input FILE] [--steps N] [--races] [--keep DISK | FOLDER/] [--progress SECONDS]` and
+-- `inspect DISK [--at K] [--code] [--names FILE]`, `core DISK FILE [--at K]`, `calls DISK [--from K] [--to K] [--last N] [--names FILE]`,
+-- `debug DISK [--at K]`, `races DISK [--from K] [--to K] [--last N] [--names FILE]`,
+-- `timeline DISK [--from K] [--to K] [--last N] [--names FILE] [--width W] [--json]`,
+-- `profile DISK [--from K] [--to K] [--last N] [--names FILE] [--folded | --callgrind]`,
+-- `hunt IMAGE [--seeds A-B | --seconds S] [--pages P] [--harts H] [--input FILE] [--steps N] [--races] [--keep DISK | FOLDER/] [--progress SECONDS]
+-- [--names FILE]` and
 -- `drive DISK [--image IMAGE] [--pages P] [--harts H] [--journal J] [--input FILE] [--input-from OFFSET] [--output FILE] [--turn N] [--rounds-per-commit R] [--events N] [--seed S]
--- [--progress SECONDS] [--status FILE] [--from OFFSET]`.
+-- [--progress SECONDS] [--status FILE] [--from OFFSET] [--names FILE]`.
 use Rattle.std.specs.Prelude.{pos, codes, fold, Some, true, List, [], ◌∷◌}
 use Rattle.clap.specs.Words.{App, Rule, Text, new_app, new_rule, with_rule, with_subcommand}
 use Rattle.clap.specs.declared.builder.value_parser.ValueParser.TheVariants.{Signed, Unsigned}
@@ -61,10 +63,11 @@ run_app = with_rule (new_app (codes "run")) (needed_rule (codes "disk"))
 
 abbrev pub inspect_app : App
 inspect_app =
-    with_rule (with_rule (with_rule (new_app (codes "inspect"))
+    with_rule (with_rule (with_rule (with_rule (new_app (codes "inspect"))
     (needed_rule (codes "disk")))
     (place_rule (codes "at")))
-    (flag_rule (codes "code"))
+    (flag_rule (codes "code")))
+    (option_rule (codes "names"))
 
 abbrev pub core_app : App
 core_app =
@@ -76,11 +79,12 @@ core_app =
 -- the words of a stretch of what a disk has recorded, behind the name of a command
 abbrev pub stretch_app : App → App
 stretch_app named =
-    with_rule (with_rule (with_rule (with_rule named
+    with_rule (with_rule (with_rule (with_rule (with_rule named
     (needed_rule (codes "disk")))
     (place_rule (codes "from")))
     (place_rule (codes "to")))
-    (place_rule (codes "last"))
+    (place_rule (codes "last")))
+    (option_rule (codes "names"))
 
 abbrev pub calls_app : App
 calls_app = stretch_app (new_app (codes "calls"))
@@ -108,7 +112,7 @@ profile_app =
 
 abbrev pub hunt_app : App
 hunt_app =
-    with_rule (with_rule (with_rule (with_rule (with_rule (with_rule (with_rule (with_rule (with_rule (with_rule (new_app (codes "hunt"))
+    with_rule (with_rule (with_rule (with_rule (with_rule (with_rule (with_rule (with_rule (with_rule (with_rule (with_rule (new_app (codes "hunt"))
     (needed_rule (codes "image")))
     (option_rule (codes "seeds")))
     (place_rule (codes "seconds")))
@@ -118,12 +122,13 @@ hunt_app =
     (number_rule (codes "steps") (codes "10000000")))
     (flag_rule (codes "races")))
     (option_rule (codes "keep")))
-    (place_rule (codes "progress"))
+    (place_rule (codes "progress")))
+    (option_rule (codes "names"))
 
 abbrev pub drive_app : App
 drive_app =
     with_rule (with_rule (with_rule (with_rule (with_rule (with_rule (with_rule (with_rule (with_rule (with_rule (with_rule (with_rule
-    (with_rule (with_rule (with_rule (new_app (codes "drive"))
+    (with_rule (with_rule (with_rule (with_rule (new_app (codes "drive"))
     (needed_rule (codes "disk")))
     (option_rule (codes "image")))
     (size_rule (codes "pages")))
@@ -138,7 +143,8 @@ drive_app =
     (place_rule (codes "seed")))
     (place_rule (codes "progress")))
     (option_rule (codes "status")))
-    (place_rule (codes "from"))
+    (place_rule (codes "from")))
+    (option_rule (codes "names"))
 
 -- the program without a command: its words don't begin with its name, and `help` is no command
 abbrev pub bare_app : App

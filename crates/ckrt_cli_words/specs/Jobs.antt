@@ -351,3 +351,14 @@ request_of_words [] = Some stored
 request_of_words (w ∷ ws) =
     if asks_version (w ∷ ws) then Some version
     else option_and_then request_in (subcommand_of ckrt_app (w ∷ ws))
+
+-- the file of names that a command with these matches was given
+abbrev pub names_in : Text × List Row → Option Text
+names_in p = first_of (codes "names") p.1
+
+-- the file of names that the words after the program's name give
+abbrev pub names_of_words : List Text → Option Text
+names_of_words [] = None
+names_of_words (w ∷ ws) =
+    if asks_version (w ∷ ws) then None
+    else option_and_then names_in (subcommand_of ckrt_app (w ∷ ws))

@@ -62,6 +62,19 @@ fn flag<'a>(alloc: Global, id: &'a str, help: &'a str) -> Arg<'a>
         .help(help)
 }
 
+/// Where names are taken from.
+fn names<'a>(alloc: Global) -> Arg<'a>
+    ensures rule { rule_of result ≡ option_rule (codes "names") }
+    ensures local { result.global ≡ false }
+{
+    option(
+        alloc,
+        "names",
+        "FILE",
+        "Take names from FILE, not from the file of names beside the disk or the image",
+    )
+}
+
 /// `format DISK IMAGE [--pages P] [--harts H] [--journal J]`.
 fn format_command<'a>(alloc: Global) -> Result<Command<'a>, AllocError>
     ensures app { IfOk result (λ c. app_of c ≡ format_app) }
@@ -115,7 +128,7 @@ fn run_command<'a>(alloc: Global) -> Result<Command<'a>, AllocError>
         .arg(disk)
 }
 
-/// `inspect DISK [--at K] [--code]`.
+/// `inspect DISK [--at K] [--code] [--names FILE]`.
 fn inspect_command<'a>(alloc: Global) -> Result<Command<'a>, AllocError>
     ensures app { IfOk result (λ c. app_of c ≡ inspect_app) }
     ensures local { IfOk result (λ c. (out-Command c).has_globals ≡ false) }
@@ -142,6 +155,7 @@ fn inspect_arguments<'a>(alloc: Global) -> Result<Vec<Arg<'a>>, AllocError>
             "Show it after K events, not after the last one"
         ),
         flag(alloc, "code", "Show each thread's next instructions"),
+        names(alloc),
     ]?;
     Ok(arguments)
 }
@@ -183,7 +197,7 @@ fn core_arguments<'a>(alloc: Global) -> Result<Vec<Arg<'a>>, AllocError>
     Ok(arguments)
 }
 
-/// `calls DISK [--from K] [--to K]`.
+/// `calls DISK` with the options of a stretch.
 fn calls_command<'a>(alloc: Global) -> Result<Command<'a>, AllocError>
     ensures app { IfOk result (λ c. app_of c ≡ calls_app) }
     ensures local { IfOk result (λ c. (out-Command c).has_globals ≡ false) }
@@ -236,6 +250,7 @@ fn stretch_arguments<'a>(alloc: Global) -> Result<Vec<Arg<'a>>, AllocError>
         beginning(alloc),
         end(alloc),
         latest(alloc),
+        names(alloc),
     ]?;
     Ok(arguments)
 }
@@ -271,7 +286,7 @@ fn debug_arguments<'a>(alloc: Global) -> Result<Vec<Arg<'a>>, AllocError>
     Ok(arguments)
 }
 
-/// `races DISK [--from K] [--to K]`.
+/// `races DISK` with the options of a stretch.
 fn races_command<'a>(alloc: Global) -> Result<Command<'a>, AllocError>
     ensures app { IfOk result (λ c. app_of c ≡ races_app) }
     ensures local { IfOk result (λ c. (out-Command c).has_globals ≡ false) }
@@ -309,6 +324,7 @@ fn timeline_arguments<'a>(alloc: Global) -> Result<Vec<Arg<'a>>, AllocError>
         beginning(alloc),
         end(alloc),
         latest(alloc),
+        names(alloc),
         number(
             alloc,
             "width",
@@ -332,7 +348,7 @@ fn profile_command<'a>(alloc: Global) -> Result<Command<'a>, AllocError>
     let arguments = profile_arguments(alloc)?;
     Command::new(alloc, "profile")
         .about(
-            "Counts where the steps and waits of a stopped guest went, and changes nothing, as `ckrt profile pi.disk | guest/names pi.elf`",
+            "Counts where the steps and waits of a stopped guest went, and changes nothing, as `ckrt profile pi.disk`",
         )
         .args(arguments)
 }
@@ -349,6 +365,7 @@ fn profile_arguments<'a>(alloc: Global) -> Result<Vec<Arg<'a>>, AllocError>
         beginning(alloc),
         end(alloc),
         latest(alloc),
+        names(alloc),
         flag(
             alloc,
             "folded",
@@ -363,7 +380,7 @@ fn profile_arguments<'a>(alloc: Global) -> Result<Vec<Arg<'a>>, AllocError>
     Ok(arguments)
 }
 
-/// `hunt IMAGE` with its options: which seeds, on what machine, with what input, how long a run is, whether it is looked at for races, where runs are kept, and how often it tells how far it is.
+/// `hunt IMAGE` with its options: which seeds, on what machine, with what input, how long a run is, whether it is looked at for races, where runs are kept, how often it tells how far it is, and where names are.
 fn hunt_command<'a>(alloc: Global) -> Result<Command<'a>, AllocError>
     ensures app { IfOk result (λ c. app_of c ≡ hunt_app) }
     ensures local { IfOk result (λ c. (out-Command c).has_globals ≡ false) }
@@ -437,11 +454,12 @@ fn hunt_arguments<'a>(alloc: Global) -> Result<Vec<Arg<'a>>, AllocError>
             "SECONDS",
             "Tell how far it is, at most once in so many seconds, 1 or more"
         ),
+        names(alloc),
     ]?;
     Ok(arguments)
 }
 
-/// `drive DISK` with its options: how a missing disk is made, where the input comes from and the output goes, how it goes on.
+/// `drive DISK` with its options: how a missing disk is made, where the input comes from and the output goes, how it goes on, and where names are.
 fn drive_command<'a>(alloc: Global) -> Result<Command<'a>, AllocError>
     ensures app { IfOk result (λ c. app_of c ≡ drive_app) }
     ensures local { IfOk result (λ c. (out-Command c).has_globals ≡ false) }
@@ -540,6 +558,7 @@ fn drive_arguments<'a>(alloc: Global) -> Result<Vec<Arg<'a>>, AllocError>
             "OFFSET",
             "Leave out the output below this offset, on the standard output"
         ),
+        names(alloc),
     ]?;
     Ok(arguments)
 }

@@ -1,10 +1,11 @@
 //! The words of the program: what they ask for, read by `clap`.
 //!
-//! [`read_words`] gives the [`Job`] that the words name, or the text to print where they name none. It opens nothing.
+//! [`read_words`] gives the [`Job`] that the words name, or the text to print where they name none, and [`read_names`] the file of names
+//! that they give. Nothing is opened.
 //!
 //! Proved: where it answers Ok its job is the stored guest exactly for no words, the version for the one word `--version`,
 //! else what the command line's meaning in `clap` gives for the words: the command, DISK, IMAGE, each option's value or
-//! default. Usage is never answered for no words, nor for words that `clap` takes, but for `profile` with both of its forms. The texts on usage are tested only.
+//! default. Usage is never answered for no words, nor for words that `clap` takes, but for `profile` with both of its forms. The file of names is the value of `--names`. The texts on usage are tested only.
 #![tactic(auto)]
 
 mod command;
@@ -16,4 +17,4 @@ pub use job::{
     CoreJob, DebugJob, DriveJob, FormatJob, HuntJob, InspectJob, Job, ProfileForm, ProfileJob,
     Sizes, StretchJob, TimelineJob, WordsFault,
 };
-pub use read::read_words;
+pub use read::{read_names, read_words};

@@ -1,7 +1,7 @@
 //! What the matches of a command line name.
 ghost use Rattle.std.specs.Prelude.{◌≡◌, codes, option_and_then, option_map};
 ghost use Rattle.clap.specs.Words.{first_of, found_of, rows_of, subcommand_rows_of};
-ghost use Rattle.ckrt_cli_words.specs.Jobs.{calls, core, core_making_in, core_making_of, debug, debugging_in, debugging_of, disk_stretch_in, disk_stretch_of, drawing_in, drawing_of, drive, driving_in, driving_of, flag_in, form_of, format, formatting_in, formatting_of, hunt, hunting_in, hunting_of, inspect, inspection_in, inspection_of, number_in, place_in, profile, profiling_in, profiling_of, races, request_in, request_of, run, sizes_in, timeline};
+ghost use Rattle.ckrt_cli_words.specs.Jobs.{calls, core, core_making_in, core_making_of, debug, debugging_in, debugging_of, disk_stretch_in, disk_stretch_of, drawing_in, drawing_of, drive, driving_in, driving_of, flag_in, form_of, format, formatting_in, formatting_of, hunt, hunting_in, hunting_of, inspect, inspection_in, inspection_of, names_in, number_in, place_in, profile, profiling_in, profiling_of, races, request_in, request_of, run, sizes_in, timeline};
 
 use crate::job::{
     CoreJob, DebugJob, DriveJob, FormatJob, HuntJob, InspectJob, Job, ProfileForm, ProfileJob,
@@ -327,4 +327,13 @@ pub(crate) fn job_named<'a>(matches: &ArgMatches<'a>) -> Option<Job<'a>>
 {
     let (name, given) = command_named(matches)?;
     job_of(name, given)
+}
+
+/// The file of names that was given to the command that the matches name.
+pub(crate) fn names_file<'a>(matches: &ArgMatches<'a>) -> Option<&'a str>
+    ensures { option_map (λ s. s.now) result
+        ≡ option_and_then names_in (subcommand_rows_of matches.now) }
+{
+    let (_, given) = command_named(matches)?;
+    text(given, "names")
 }

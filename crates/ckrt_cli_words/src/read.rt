@@ -2,7 +2,7 @@
 ghost use Rattle.std.specs.Prelude.{◌≡◌, ◌≢◌, [], IfOk, IfErr, IsErrOf, Some, false, map, option_and_then, option_map, true};
 ghost use Rattle.clap.specs.Words.{fault_of, kind_of, subcommand_of, subcommand_rows_of, takes};
 ghost use Rattle.ckrt_cli_words.specs.Commands.{ckrt_app};
-ghost use Rattle.ckrt_cli_words.specs.Jobs.{asks_both_forms, asks_version, request_in, request_of, request_of_words};
+ghost use Rattle.ckrt_cli_words.specs.Jobs.{asks_both_forms, asks_version, names_of_words, request_in, request_of, request_of_words};
 
 use crate::job::{Job, WordsFault};
 use crate::{command, matches};
@@ -30,40 +30,41 @@ const FORMAT_USAGE: &str =
     "Usage: ckrt format <DISK> <IMAGE> [--pages 16 to 1024] [--harts 1 to 8] [--journal 4096 to 1048576 by 4096]";
 
 /// What follows a number of `inspect` that isn't one.
-const INSPECT_USAGE: &str = "Usage: ckrt inspect <DISK> [--at NUMBER OF EVENTS] [--code]";
+const INSPECT_USAGE: &str =
+    "Usage: ckrt inspect <DISK> [--at NUMBER OF EVENTS] [--code] [--names <FILE>]";
 
 /// What follows a number of `core` that isn't one.
 const CORE_USAGE: &str = "Usage: ckrt core <DISK> <FILE> [--at NUMBER OF EVENTS]";
 
 /// What follows a number of `calls` that isn't one.
 const CALLS_USAGE: &str =
-    "Usage: ckrt calls <DISK> [--from NUMBER OF EVENTS] [--to NUMBER OF EVENTS] [--last NUMBER OF EVENTS]";
+    "Usage: ckrt calls <DISK> [--from NUMBER OF EVENTS] [--to NUMBER OF EVENTS] [--last NUMBER OF EVENTS] [--names <FILE>]";
 
 /// What follows a number of `debug` that isn't one.
 const DEBUG_USAGE: &str = "Usage: ckrt debug <DISK> [--at NUMBER OF EVENTS]";
 
 /// What follows a number of `races` that isn't one.
 const RACES_USAGE: &str =
-    "Usage: ckrt races <DISK> [--from NUMBER OF EVENTS] [--to NUMBER OF EVENTS] [--last NUMBER OF EVENTS]";
+    "Usage: ckrt races <DISK> [--from NUMBER OF EVENTS] [--to NUMBER OF EVENTS] [--last NUMBER OF EVENTS] [--names <FILE>]";
 
 /// What follows a number of `timeline` that isn't one.
 const TIMELINE_USAGE: &str =
-    "Usage: ckrt timeline <DISK> [--from NUMBER OF EVENTS] [--to NUMBER OF EVENTS] [--last NUMBER OF EVENTS] [--width 400 to 4000] [--json]";
+    "Usage: ckrt timeline <DISK> [--from NUMBER OF EVENTS] [--to NUMBER OF EVENTS] [--last NUMBER OF EVENTS] [--names <FILE>] [--width 400 to 4000] [--json]";
 
 /// What follows a number of `profile` that isn't one.
 const PROFILE_USAGE: &str =
-    "Usage: ckrt profile <DISK> [--from NUMBER OF EVENTS] [--to NUMBER OF EVENTS] [--last NUMBER OF EVENTS] [--folded | --callgrind]";
+    "Usage: ckrt profile <DISK> [--from NUMBER OF EVENTS] [--to NUMBER OF EVENTS] [--last NUMBER OF EVENTS] [--names <FILE>] [--folded | --callgrind]";
 
 /// What is wrong with `profile` with both of its forms.
 const BOTH_FORMS: &str = "error: the argument '--folded' cannot be used with '--callgrind'";
 
 /// What follows a number of `hunt` that isn't one.
 const HUNT_USAGE: &str =
-    "Usage: ckrt hunt <IMAGE> [--seeds FIRST-LAST | --seconds 1 to 31536000] [--pages 16 to 1024] [--harts 1 to 8] [--input <FILE>] [--steps NUMBER OF STEPS] [--races] [--keep <DISK>] [--progress SECONDS]";
+    "Usage: ckrt hunt <IMAGE> [--seeds FIRST-LAST | --seconds 1 to 31536000] [--pages 16 to 1024] [--harts 1 to 8] [--input <FILE>] [--steps NUMBER OF STEPS] [--races] [--keep <DISK>] [--progress SECONDS] [--names <FILE>]";
 
 /// What follows a number of `drive` that isn't one.
 const DRIVE_USAGE: &str =
-    "Usage: ckrt drive <DISK> [--image <IMAGE>] [--pages 16 to 1024] [--harts 1 to 8] [--journal 4096 to 1048576 by 4096] [--input <FILE>] [--input-from OFFSET] [--output <FILE>] [--turn 1 to 1000000] [--rounds-per-commit NUMBER OF ROUNDS] [--events NUMBER OF EVENTS] [--seed NUMBER] [--progress SECONDS] [--status <FILE>] [--from OFFSET]";
+    "Usage: ckrt drive <DISK> [--image <IMAGE>] [--pages 16 to 1024] [--harts 1 to 8] [--journal 4096 to 1048576 by 4096] [--input <FILE>] [--input-from OFFSET] [--output <FILE>] [--turn 1 to 1000000] [--rounds-per-commit NUMBER OF ROUNDS] [--events NUMBER OF EVENTS] [--seed NUMBER] [--progress SECONDS] [--status <FILE>] [--from OFFSET] [--names <FILE>]";
 
 /// What follows a number that isn't one, by the command.
 fn number_usage(words: &[&str]) -> &'static str {
@@ -177,5 +178,27 @@ pub fn read_words<'a>(alloc: Global, words: &'a [&'a str]) -> Result<Job<'a>, Wo
         Ok(Some(job)) => Ok(job),
         Ok(None) => Err(no_job(alloc)),
         Err(fault) => Err(fault),
+    }
+}
+
+/// The file of names that the words after the program's name give by `--names`; none where they give none, and for no words and `--version`.
+/// The job that [`read_words`] makes of the words is the same with it and without it.
+///
+/// # Errors
+///
+/// Those of [`read_words`], but for both forms of a profile.
+pub fn read_names<'a>(alloc: Global, words: &'a [&'a str]) -> Result<Option<&'a str>, WordsFault>
+    ensures file { IfOk result (λ file.
+        option_map (λ s. s.now) file ≡ names_of_words (map (λ s. s.now) words.entry.now)) }
+    ensures taken { IfErr result (λ e.
+        takes ckrt_app (map (λ s. s.now) words.entry.now) ≡ true
+        → e ≡ WordsFault.OutOfMemory) }
+{
+    if words.is_empty() || is_version(words) {
+        return Ok(None);
+    }
+    match matches_of(alloc, words) {
+        Ok(matches) => Ok(matches::names_file(&matches)),
+        Err(error) => Err(fault(alloc, words, &error)),
     }
 }
