@@ -1,5 +1,5 @@
 -- The places of operations rise, from step to step and from event to event.
-use Rattle.std.proofs.Common.{◌≡◌, ◌≤◌, ℕ, zero, suc, ◌+◌, ◌-◌, ◌*◌, ◌^◌, Bool, true, false, if◌then◌else◌, List, [], ◌∷◌, ◌++◌, length, Option, Some, None, refl, sym, ap, subst, arith}
+use Rattle.std.proofs.Common.{◌≡◌, ◌≤◌, ℕ, zero, suc, ◌+◌, ◌*◌, ◌^◌, Bool, true, false, if◌then◌else◌, List, [], ◌∷◌, ◌++◌, length, Option, Some, None, refl, sym, ap, subst, arith}
 use Rattle.std.specs.List.{AllByRecursion}
 use Rattle.ckrt_registers.specs.Registers.{Registers, get}
 use Rattle.ckrt_rv32i.specs.declared.instruction.Instr.{Instr}
@@ -25,7 +25,7 @@ use Rattle.ckrt_look_clocks.specs.Laws.{HasNumbers, IsOrderly, IsRaceOf, moment_
 use Rattle.ckrt_look_clocks.proofs.RaceLemmas.{only_races}
 use Rattle.ckrt_look_races.specs.declared.accesses.Stepping.{Stepping}
 use Rattle.ckrt_look_races.specs.declared.holders.Lock.TheVariants as lock
-use Rattle.ckrt_look_races.specs.Accesses.{access_of, accesses, place_behind, fetched, is_atomic_load, is_atomic_store, is_renewal, load_at, load_operations, may_access, of_instruction, of_registers, renewal, store_at, store_operations}
+use Rattle.ckrt_look_races.specs.Accesses.{access_of, accesses, fetched, is_atomic_load, is_atomic_store, is_renewal, load_at, load_operations, may_access, of_instruction, of_registers, renewal, store_at, store_operations}
 use Rattle.ckrt_look_races.specs.Holders.{HOLDERS}
 use Rattle.ckrt_look_races.specs.Kit.{is_in_kit}
 use Rattle.ckrt_look_races.specs.Orders.{between}
