@@ -22,8 +22,7 @@ use Rattle.ckrt_cli_faults.specs.Outside.{IsRefused, Outside, asked_for}
 use Rattle.ckrt_cli_files.specs.Openings.{opened, with_closed, with_disk}
 use Rattle.ckrt_cli_disk.specs.Running.{disk_of, RunsDisk}
 use Rattle.ckrt_cli_faults.specs.Statuses.{status_of, status_of_words}
-use Rattle.ckrt_cli_reports.specs.Lines.{Reports, ReportsOutcome, SaysLine, formatted_line, version_line}
-use Rattle.ckrt_cli_reports.specs.Reports.{words_report_of}
+use Rattle.ckrt_cli_reports.specs.Lines.{ReportsOutcome, ReportsWords, SaysLine, formatted_line, version_line}
 use Rattle.ckrt_cli_disk.specs.Showing.{Shows, shown_of}
 use Rattle.ckrt_hunt_schedules.specs.declared.verdict.Verdict.{Verdict}
 use Rattle.ckrt_hunt_schedules.specs.declared.verdict.Verdict.TheVariants as verdict
@@ -264,14 +263,14 @@ pub record RunsRequest {D W : Type 0} {d : Ghosts D} (it : Reach d W) (q : Reque
     (old new : Outside D) (said : Said) (status : ℕ) : Type 0 where
   pub outcome : Result Done JobFault
   pub performs : Performs it q old new outcome
-  pub reports : ReportsOutcome q outcome said.before said.behind said.has_failed
+  pub reports : ReportsOutcome outcome said.before said.behind said.has_failed
   pub gives : status ≡ status_of outcome
 
 -- they ask for nothing, or couldn't be read for want of memory: nothing was opened, written or read
 pub record RefusesWords {D : Type 0} (ws : List (List ℕ)) (old new : Outside D) (said : Said)
     (status : ℕ) : Type 0 where
   pub fault : WordsFault
-  pub reports : Reports said.before said.behind said.has_failed (words_report_of fault)
+  pub reports : ReportsWords fault said.before said.behind said.has_failed
   pub same : new ≡ old
   pub some : ws ≢ []
   pub taken : takes ckrt_app ws ≡ true → asks_both_forms ws ≡ false → fault ≡ words.OutOfMemory
