@@ -79,7 +79,10 @@ module _ {D : Type 0} (d : Ghosts D) (h : Hunted) (seed : ℕ) (as_drawn : Bool)
   stops_same folder place before new result (inr (named, is)) = inr (
     record {
       failed = named.failed;
-      row_fails = record { row = named.row_fails.row; is_row = named.row_fails.is_row; why = named.row_fails.why; fails = named.row_fails.fails };
+      row = named.row;
+      is_row = named.is_row;
+      why = named.why;
+      fails = named.fails;
       result = named.result;
       unasked = named.unasked;
       tells = named.tells;

@@ -19,10 +19,9 @@ use Rattle.ckrt_gdb_stub.specs.declared.fault.DebugFault.TheVariants as debug
 use Rattle.ckrt_gdb_stub.specs.declared.stub.Stub.{Stub}
 use Rattle.ckrt_main.specs.declared.fault.ServeFault.TheVariants as serve
 use Rattle.ckrt_cli_words.specs.Jobs.{Debugging}
-use Rattle.ckrt_cli_files.specs.Openings.{Openings, opened, refused, with_closed, with_disk}
-use Rattle.ckrt_cli_files.specs.declared.file.FileFault.{FileFault}
+use Rattle.ckrt_cli_files.specs.Openings.{Openings, opened, with_closed, with_disk}
 use Rattle.ckrt_cli_files.specs.declared.file.JobFile.TheVariants as file
-use Rattle.ckrt_cli_faults.specs.Outside.{Outside}
+use Rattle.ckrt_cli_faults.specs.Outside.{Lacks, Outside}
 use Rattle.ckrt_cli_faults.specs.declared.fault.JobFault.{JobFault}
 use Rattle.ckrt_cli_faults.specs.declared.fault.JobFault.TheVariants as job
 
@@ -52,18 +51,11 @@ pub record ReadsOpened {D : Type 0} (d : Ghosts D) (at : Option ℕ) (Opens : D 
   pub is_read : IsRead at answer
   pub closes : new ≡ with_closed asked end
 
--- the disk of this path was asked for and can't be opened
-pub record IsUnread {D : Type 0} (path : List ℕ) (old new : Openings D)
-    (result : Result Parts JobFault) : Type 0 where
-  pub why : FileFault
-  pub is : result ≡ Err (job.File file.Disk why)
-  pub refuses : new ≡ with_disk old (refused path why)
-
 -- what the disk of this path has recorded was read, or that can't be opened
 abbrev pub ReadsPath : {D : Type 0} → Ghosts D → (D → Type 0) → Debugging
     → (old new : Openings D) → Result Parts JobFault → Type 0
 ReadsPath d Opens j old new result =
-    IsUnread j.disk old new result
+    Lacks file.Disk j.disk (with_disk old) new result
     ⊎ ReadsOpened d j.at Opens (with_disk old (opened j.disk)) new result
 
 -- THE SESSION

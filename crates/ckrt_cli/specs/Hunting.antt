@@ -124,11 +124,9 @@ room_fault_of memory.ImageTooLong = job.Format format.ImageTooLong
 room_fault_of memory.OutOfMemory = job.OutOfMemory
 
 -- there is none, and nothing was asked for
-pub record LacksRoom {D : Type 0} (old new : Reached D) (result : Result (Unit {0}) JobFault)
-    : Type 0 where
-  pub why : MemoryError
-  pub is : result ≡ Err (room_fault_of why)
-  pub unasked : new ≡ old
+abbrev pub LacksRoom : {D : Type 0} → (old new : Reached D) → Result (Unit {0}) JobFault → Type 0
+LacksRoom old new result =
+    (why : MemoryError) × (result ≡ Err (room_fault_of why)) × (new ≡ old)
 
 -- a run that is kept is told, or the writer failed; of one that isn't, nothing is
 abbrev pub TellsKept : (told : List ℕ) → (a b : Option (List ℕ))
@@ -189,28 +187,23 @@ AreKept d sought folder zero old new = new ≡ old
 AreKept d sought folder (suc n) old new =
     KeptOneMore d sought folder n (AreKept d sought folder n old) new
 
--- the run of the outcome at this place wasn't kept, and why
-pub record FailsAtRow {D : Type 0} (d : Ghosts D) (sought : Sought D) (folder : Folder) (place : ℕ)
-    (before failed : Reached D) : Type 0 where
-  pub row : Row
-  pub is_row : slice_get folder.rows place ≡ Some row
-  pub why : JobFault
-  pub fails : KeepsFound d (sought_of sought row) (outcome_path folder.path (place + 1)) before failed (Err why)
-
--- such a run is named, or the writer failed
+-- a run that wasn't kept is named, or the writer failed
 abbrev pub TellsUnkept : (told : List ℕ) → JobFault → (a b : Option (List ℕ))
     → Result (Unit {0}) JobFault → Type 0
 TellsUnkept told why a b result =
     ((result ≡ Err why) × Appends a b told) ⊎ (result ≡ Err (job.Serve serve.Write))
 
--- an outcome whose run wasn't kept
+-- the run of the outcome at this place wasn't kept, and why
 pub record NamesRow {D : Type 0} (d : Ghosts D) (sought : Sought D) (folder : Folder) (place : ℕ)
     (before new : Reached D) : Type 0 where
   pub failed : Reached D
-  pub row_fails : FailsAtRow d sought folder place before failed
+  pub row : Row
+  pub is_row : slice_get folder.rows place ≡ Some row
+  pub why : JobFault
+  pub fails : KeepsFound d (sought_of sought row) (outcome_path folder.path (place + 1)) before failed (Err why)
   pub result : Result (Unit {0}) JobFault
   pub unasked : new.openings ≡ failed.openings
-  pub tells : TellsUnkept (unkept_text row_fails.row.first (outcome_path folder.path (place + 1))) row_fails.why
+  pub tells : TellsUnkept (unkept_text row.first (outcome_path folder.path (place + 1))) why
       failed.written new.written result
 
 -- there was no memory for the path of its disk
@@ -283,19 +276,19 @@ EndsHunt d wanted asked new (Err f) result = (result ≡ Err (fault_of f)) × (n
 -- WHAT BECOMES OF THE WORDS
 
 -- pages or harts are out of their ranges, and nothing was asked for
-pub record RefusesSizes {D : Type 0} (it : Hunter D) (old new : Outside D)
-    (result : Result Verdict JobFault) : Type 0 where
-  pub unfit : (is_valid (config_of it.asked) ≡ false)
-      ⊎ (shape_of it.asked.pages it.asked.harts it.asked.steps ≡ None)
-  pub is : result ≡ Err (job.Format format.BadConfig)
-  pub unasked : new ≡ old
+abbrev pub RefusesSizes : {D : Type 0} → Hunter D → (old new : Outside D)
+    → Result Verdict JobFault → Type 0
+RefusesSizes it old new result =
+    ((is_valid (config_of it.asked) ≡ false)
+    ⊎ (shape_of it.asked.pages it.asked.harts it.asked.steps ≡ None))
+    × (result ≡ Err (job.Format format.BadConfig)) × (new ≡ old)
 
 -- the words have a number that is out of its range, or seeds beside seconds, or the text of the seeds is no range; and nothing was asked for
-pub record RefusesRange {D : Type 0} (it : Hunter D) (old new : Outside D)
-    (result : Result Verdict JobFault) : Type 0 where
-  pub unfit : (is_hunt_in_range it.asked ≡ false) ⊎ (asked_seeds it.asked ≡ None)
-  pub is : result ≡ Err job.Range
-  pub unasked : new ≡ old
+abbrev pub RefusesRange : {D : Type 0} → Hunter D → (old new : Outside D)
+    → Result Verdict JobFault → Type 0
+RefusesRange it old new result =
+    ((is_hunt_in_range it.asked ≡ false) ⊎ (asked_seeds it.asked ≡ None))
+    × (result ≡ Err job.Range) × (new ≡ old)
 
 -- the image is unfit
 pub record LacksImage {D : Type 0} (it : Hunter D) (old new : Outside D)

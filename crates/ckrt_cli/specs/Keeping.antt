@@ -12,9 +12,9 @@ use Rattle.ckrt_hunt_schedules.specs.declared.disks.SeedFault.TheVariants as fau
 use Rattle.ckrt_hunt_schedules.specs.declared.keeping.KeepFault.{KeepFault}
 use Rattle.ckrt_hunt_schedules.specs.declared.keeping.KeepFault.TheVariants as keep
 use Rattle.ckrt_hunt_schedules.specs.declared.plan.Plan.{Plan}
-use Rattle.ckrt_cli_files.specs.Openings.{Openings, opened, refused, with_abandoned, with_closed, with_making, with_named}
-use Rattle.ckrt_cli_files.specs.declared.file.FileFault.{FileFault}
+use Rattle.ckrt_cli_files.specs.Openings.{Openings, opened, with_abandoned, with_closed, with_making, with_named}
 use Rattle.ckrt_cli_files.specs.declared.file.JobFile.TheVariants as file
+use Rattle.ckrt_cli_faults.specs.Outside.{Lacks}
 use Rattle.ckrt_cli_faults.specs.declared.fault.JobFault.{JobFault}
 use Rattle.ckrt_cli_faults.specs.declared.fault.JobFault.TheVariants as job
 
@@ -28,24 +28,12 @@ fault_of (fault.Format f) = job.Format f
 fault_of (fault.Recover f) = job.Recover f
 fault_of (fault.Keep f) = keep_fault_of f
 
--- the disk got the name of the path, and was closed
-pub record GetsName {D : Type 0} (path : List ℕ) (end : D) (asked new : Openings D)
-    (result : Result (Unit {0}) JobFault) : Type 0 where
-  pub is : result ≡ Ok tt
-  pub names : new ≡ with_closed (with_named asked (opened path) end) end
-
--- the name was refused, and the disk given up
-pub record LacksName {D : Type 0} (path : List ℕ) (end : D) (asked new : Openings D)
-    (result : Result (Unit {0}) JobFault) : Type 0 where
-  pub why : FileFault
-  pub is : result ≡ Err (job.File file.Making why)
-  pub gives_up : new ≡ with_abandoned (with_named asked (refused path why) end) end
-
 -- only a disk that has the whole run gets a name, and any other is given up
 abbrev pub EndsKeeping : {D : Type 0} → (path : List ℕ) → (end : D) → (asked new : Openings D)
     → Result ScheduleEnd SeedFault → Result (Unit {0}) JobFault → Type 0
 EndsKeeping path end asked new (Ok ending) result =
-    GetsName path end asked new result ⊎ LacksName path end asked new result
+    ((result ≡ Ok tt) × (new ≡ with_closed (with_named asked (opened path) end) end))
+    ⊎ Lacks file.Making path (λ x. with_abandoned (with_named asked x end) end) new result
 EndsKeeping path end asked new (Err f) result =
     (result ≡ Err (fault_of f)) × (new ≡ with_abandoned asked end)
 
@@ -55,13 +43,6 @@ pub record Keeping (D : Type 0) : Type 1 where
   pub plan : Plan
   pub path : List ℕ
   pub Fills : D → Type 0
-
--- no disk can be made for the path
-pub record LacksDisk {D : Type 0} (path : List ℕ) (old new : Openings D)
-    (result : Result (Unit {0}) JobFault) : Type 0 where
-  pub why : FileFault
-  pub is : result ≡ Err (job.File file.Making why)
-  pub refuses : new ≡ with_making old (refused path why)
 
 -- the run was kept on a disk that was made
 pub record KeepsOn {D : Type 0} (d : Ghosts D) (it : Keeping D) (asked new : Openings D)
@@ -76,4 +57,5 @@ pub record KeepsOn {D : Type 0} (d : Ghosts D) (it : Keeping D) (asked new : Ope
 abbrev pub Keeps : {D : Type 0} → Ghosts D → Keeping D → (old new : Openings D)
     → Result (Unit {0}) JobFault → Type 0
 Keeps d it old new result =
-    LacksDisk it.path old new result ⊎ KeepsOn d it (with_making old (opened it.path)) new result
+    Lacks file.Making it.path (with_making old) new result
+    ⊎ KeepsOn d it (with_making old (opened it.path)) new result

@@ -1,9 +1,6 @@
 pub mod Performing
 pub mod Debugging
-pub mod Drawings
 pub mod Looking
-pub mod Profiling
-pub mod Tellings
 pub mod Hunting
 pub mod Inputs
 pub mod Keeping

@@ -1,27 +1,38 @@
 -- Looking at a stretch of what a disk has recorded: what is told of it is written as a text.
-use Rattle.std.specs.Prelude.{◌≡◌, ◌⊎◌, ℕ, nat_lt, Bool, true, false, List, Option, Some, Result, Ok, Err}
+use Rattle.std.specs.Prelude.{◌≡◌, ◌⊎◌, ℕ, nat_lt, Bool, true, false, Option, Some, Result, Ok, Err}
 use Rattle.ckrt_disk.specs.Frame.{IsOnlyRead}
 use Rattle.ckrt_disk.specs.declared.disk.Disk.{Ghosts}
 use Rattle.ckrt_inspect.specs.Inspect.{is_device}
 use Rattle.ckrt_inspect.specs.declared.fault.InspectFault.{InspectFault}
 use Rattle.ckrt_inspect.specs.declared.fault.InspectFault.TheVariants.{Range}
+use Rattle.ckrt_look_calls.specs.Recorded.{AreLines}
+use Rattle.ckrt_look_calls.specs.Stretches.{Account, TellsStretch}
 use Rattle.ckrt_look_calls.specs.declared.stretch.Stretch.{Stretch}
-use Rattle.ckrt_cli_words.specs.Jobs.{DiskStretch}
+use Rattle.ckrt_look_profile.specs.Recorded.{IsProfileText}
+use Rattle.ckrt_look_profile.specs.declared.form.Form.{Form as ProfileTextForm}
+use Rattle.ckrt_look_profile.specs.declared.form.Form.TheVariants as profile
+use Rattle.ckrt_look_races.specs.Recorded.{IsRacesText}
+use Rattle.ckrt_look_timeline.specs.Recorded.{IsDrawing}
+use Rattle.ckrt_look_timeline.specs.Widths.{is_width}
+use Rattle.ckrt_look_timeline.specs.declared.recorded.Style.{Style}
+use Rattle.ckrt_look_timeline.specs.declared.words.Form.{Form}
+use Rattle.ckrt_look_timeline.specs.declared.words.Form.TheVariants as form
+use Rattle.ckrt_cli_words.specs.Jobs.{DiskStretch, Drawing, Profiling}
+use Rattle.ckrt_cli_words.specs.declared.job.ProfileForm.{ProfileForm}
+use Rattle.ckrt_cli_words.specs.declared.job.ProfileForm.TheVariants as asked
 use Rattle.ckrt_cli_files.specs.Openings.{opened, with_closed, with_disk}
-use Rattle.ckrt_cli_faults.specs.declared.fault.JobFault.{JobFault}
 use Rattle.ckrt_cli_faults.specs.Outside.{IsRefused, Outside, asked_for}
+use Rattle.ckrt_cli_faults.specs.declared.fault.JobFault.{JobFault}
 use Rattle.ckrt_cli_faults.specs.declared.fault.JobFault.TheVariants as job
 
--- what is told of a content: what had been written before it and what has been behind it, where these are known, and the answer
-abbrev pub Telling : Type 1
-Telling =
-    (content : List ℕ) → (old new : Option (List ℕ)) → Result (Unit {0}) InspectFault → Type 0
-
--- What a job looks at: a stretch, the disks that its path may stand for, and what is told of a content.
+-- What a job looks at: a stretch, the disks that its path may stand for, and what is told of its events.
 pub record Sight (D : Type 0) : Type 1 where
   pub stretch : DiskStretch
   pub Opens : D → Type 0
-  pub Tells : Telling
+  pub Tells : Account
+
+abbrev pub sight : {D : Type 0} → DiskStretch → (D → Type 0) → Account → Sight D
+sight s Opens Tells = record { stretch = s; Opens = Opens; Tells = Tells }
 
 -- behind how many events the stretch begins, behind how many it ends, and how many of its last ones are told
 abbrev pub stretch_of : DiskStretch → Stretch
@@ -35,24 +46,26 @@ answer_of (Err f) = Err (job.Inspect f)
 
 -- A disk that was opened to be looked at was only read, and closed as it was then. What is told of it was written, if it was honest to that end, or
 -- the fault is what it says.
-pub record LooksOpened {D : Type 0} (d : Ghosts D) (sight : Sight D) (asked new : Outside D)
+pub record LooksOpened {D : Type 0} (d : Ghosts D) (it : Sight D) (asked new : Outside D)
     (result : Result (Unit {0}) JobFault) : Type 0 where
   pub start : D
-  pub is_opened : sight.Opens start
+  pub is_opened : it.Opens start
   pub end : D
   pub answer : Result (Unit {0}) InspectFault
   pub gives : result ≡ answer_of answer
   pub read : IsOnlyRead d start end (is_device answer)
-  pub tells : d.is_honest end → sight.Tells (d.content start) asked.written new.written answer
+  pub tells : d.is_honest end
+      → TellsStretch it.Tells (stretch_of it.stretch) (d.content start) asked.written
+      new.written answer
   pub closes : new.openings ≡ with_closed asked.openings end
   pub unread : new.unread ≡ asked.unread
 
 -- the disk of the stretch was looked at, or that can't be opened
 abbrev pub LooksThere : {D : Type 0} → Ghosts D → Sight D → (old new : Outside D)
     → Result (Unit {0}) JobFault → Type 0
-LooksThere d sight old new result =
-    IsRefused sight.stretch.disk old new result
-    ⊎ LooksOpened d sight (asked_for old (with_disk old.openings (opened sight.stretch.disk))) new
+LooksThere d it old new result =
+    IsRefused it.stretch.disk old new result
+    ⊎ LooksOpened d it (asked_for old (with_disk old.openings (opened it.stretch.disk))) new
     result
 
 -- a stretch that would end before it begins
@@ -60,21 +73,46 @@ abbrev pub ends_before : (from to : Option ℕ) → Bool
 ends_before (Some from) (Some to) = nat_lt to from
 ends_before from to = false
 
--- it does, and nothing was asked for
-pub record RefusesStretch {D : Type 0} (s : DiskStretch) (old new : Outside D)
-    (result : Result (Unit {0}) JobFault) : Type 0 where
-  pub turned : ends_before s.from s.to ≡ true
-  pub is : result ≡ Err job.Range
-  pub unasked : new ≡ old
-
--- it doesn't
-pub record LooksStretch {D : Type 0} (d : Ghosts D) (sight : Sight D) (old new : Outside D)
-    (result : Result (Unit {0}) JobFault) : Type 0 where
-  pub ordered : ends_before sight.stretch.from sight.stretch.to ≡ false
-  pub looks : LooksThere d sight old new result
-
--- what the disk of the job's path has recorded was told, or why it wasn't
+-- What the disk of the job's path has recorded was told, or why it wasn't. Of a stretch that would end before it begins nothing was asked for.
 abbrev pub LooksPath : {D : Type 0} → Ghosts D → Sight D → (old new : Outside D)
     → Result (Unit {0}) JobFault → Type 0
-LooksPath d sight old new result =
-    RefusesStretch sight.stretch old new result ⊎ LooksStretch d sight old new result
+LooksPath d it old new result =
+    ((ends_before it.stretch.from it.stretch.to ≡ true) × (result ≡ Err job.Range) × (new ≡ old))
+    ⊎ ((ends_before it.stretch.from it.stretch.to ≡ false) × LooksThere d it old new result)
+
+-- `calls`: its calls, a line each
+abbrev pub TracesPath : {D : Type 0} → Ghosts D → (D → Type 0) → DiskStretch
+    → (old new : Outside D) → Result (Unit {0}) JobFault → Type 0
+TracesPath d Opens s old new result = LooksPath d (sight s Opens AreLines) old new result
+
+-- `races`: its data races, a line for each pair of places
+abbrev pub RacesPath : {D : Type 0} → Ghosts D → (D → Type 0) → DiskStretch
+    → (old new : Outside D) → Result (Unit {0}) JobFault → Type 0
+RacesPath d Opens s old new result = LooksPath d (sight s Opens IsRacesText) old new result
+
+-- `timeline`: what its threads did, as trace events with `--json`, else as a picture
+abbrev pub form_of : Bool → Form
+form_of true = form.Events
+form_of false = form.Picture
+
+abbrev pub style_of : Drawing → Style
+style_of j = record { form = form_of j.json; width = j.width }
+
+-- where the width is out of its range nothing was asked for
+abbrev pub TimelinePath : {D : Type 0} → Ghosts D → (D → Type 0) → Drawing → (old new : Outside D)
+    → Result (Unit {0}) JobFault → Type 0
+TimelinePath d Opens j old new result =
+    ((is_width j.width ≡ false) × (result ≡ Err job.Range) × (new ≡ old))
+    ⊎ ((is_width j.width ≡ true)
+    × LooksPath d (sight j.stretch Opens (IsDrawing (style_of j))) old new result)
+
+-- `profile`: where its steps went, in the form that the words ask for
+abbrev pub profile_form_of : ProfileForm → ProfileTextForm
+profile_form_of asked.Table = profile.Table
+profile_form_of asked.Folded = profile.Folded
+profile_form_of asked.Callgrind = profile.Callgrind
+
+abbrev pub ProfilesPath : {D : Type 0} → Ghosts D → (D → Type 0) → Profiling
+    → (old new : Outside D) → Result (Unit {0}) JobFault → Type 0
+ProfilesPath d Opens p old new result =
+    LooksPath d (sight p.stretch Opens (IsProfileText (profile_form_of p.form))) old new result

@@ -22,14 +22,11 @@ use Rattle.ckrt_cli_faults.specs.Outside.{IsRefused, Outside, asked_for}
 use Rattle.ckrt_cli_files.specs.Openings.{opened, with_closed, with_disk}
 use Rattle.ckrt_cli_disk.specs.Running.{disk_of, RunsDisk}
 use Rattle.ckrt_cli_faults.specs.Statuses.{status_of, status_of_words}
-use Rattle.ckrt_cli_reports.specs.Lines.{Reports, ReportsOutcome, SaysLine, formatted_line, version_line}
-use Rattle.ckrt_cli_reports.specs.Reports.{words_report_of}
+use Rattle.ckrt_cli_reports.specs.Lines.{ReportsOutcome, ReportsWords, SaysLine, formatted_line, version_line}
 use Rattle.ckrt_cli_disk.specs.Showing.{Shows, shown_of}
 use Rattle.ckrt_hunt_schedules.specs.declared.verdict.Verdict.{Verdict}
 use Rattle.ckrt_hunt_schedules.specs.declared.verdict.Verdict.TheVariants as verdict
-use Rattle.ckrt_cli.specs.Drawings.{TimelinePath}
-use Rattle.ckrt_cli.specs.Profiling.{ProfilesPath}
-use Rattle.ckrt_cli.specs.Tellings.{RacesPath, TracesPath}
+use Rattle.ckrt_cli.specs.Looking.{ProfilesPath, RacesPath, TimelinePath, TracesPath}
 use Rattle.ckrt_cli.specs.Debugging.{DebugsPath}
 use Rattle.ckrt_cli.specs.Hunting.{Hunter, HuntsPath, kept_size}
 use Rattle.ckrt_cli_files.specs.Real.{IsDiskOf, IsFilledOf, RealFile, real_gives}
@@ -118,20 +115,13 @@ abbrev pub SaysMade : (a b : Option (List ℕ)) → List ℕ → (made result : 
 SaysMade a b line (Ok done) result = SaysLine a b line result
 SaysMade a b line (Err e) result = (result ≡ Err e) × (b ≡ a)
 
--- What a disk is made of: what was asked for, the bytes of its image, where they are known, and the disks that its path may stand for once it is
--- filled.
-pub record Making (D : Type 0) : Type 1 where
-  pub asked : Formatting
-  pub known : Option (List ℕ)
-  pub Fills : D → Type 0
-
 -- the disk of the job's path was made with the image of the job's path, or why it wasn't
-pub record MakesPath {D : Type 0} (d : Ghosts D) (it : Making D) (old new : Outside D)
-    (result : Result (Unit {0}) JobFault) : Type 0 where
+pub record MakesPath {D : Type 0} (d : Ghosts D) (f : Formatting) (known : Option (List ℕ))
+    (Fills : D → Type 0) (old new : Outside D) (result : Result (Unit {0}) JobFault)
+    : Type 0 where
   pub made : Result (Unit {0}) JobFault
-  pub makes : Makes d (config_of it.asked) it.known it.Fills it.asked.image it.asked.disk
-      old.openings new.openings made
-  pub says : SaysMade old.written new.written (made_line it.asked) made result
+  pub makes : Makes d (config_of f) known Fills f.image f.disk old.openings new.openings made
+  pub says : SaysMade old.written new.written (made_line f) made result
   pub unread : new.unread ≡ old.unread
 
 -- what a run answers
@@ -179,19 +169,10 @@ abbrev pub outcome_without_end : Result (Unit {0}) JobFault → Result Done JobF
 outcome_without_end (Ok it) = Ok done.Whole
 outcome_without_end (Err fault) = Err fault
 
--- such a job was done, or why it wasn't
-abbrev pub Does : (Result (Unit {0}) JobFault → Type 0) → Result Done JobFault → Type 0
-Does Holds outcome =
-    (result : Result (Unit {0}) JobFault) × (outcome ≡ outcome_without_end result) × Holds result
-
 -- what a drive came to is its outcome
 abbrev pub outcome_with_end : Result Driven JobFault → Result Done JobFault
 outcome_with_end (Ok driven) = Ok (done.Driven driven)
 outcome_with_end (Err fault) = Err fault
-
-abbrev pub Comes : (Result Driven JobFault → Type 0) → Result Done JobFault → Type 0
-Comes Holds outcome =
-    (result : Result Driven JobFault) × (outcome ≡ outcome_with_end result) × Holds result
 
 -- what the runs of a hunt came to is its outcome
 abbrev pub outcome_of_hunt : Result Verdict JobFault → Result Done JobFault
@@ -200,19 +181,13 @@ outcome_of_hunt (Ok verdict.Several) = Ok done.Several
 outcome_of_hunt (Ok verdict.Bad) = Ok done.Bad
 outcome_of_hunt (Err fault) = Err fault
 
-abbrev pub Hunts : (Result Verdict JobFault → Type 0) → Result Done JobFault → Type 0
-Hunts Holds outcome =
-    (result : Result Verdict JobFault) × (outcome ≡ outcome_of_hunt result) × Holds result
+-- a job was done that has such outcomes, or why it wasn't
+abbrev pub Does : {A : Type 0} → (Result A JobFault → Result Done JobFault)
+    → (Result A JobFault → Type 0) → Result Done JobFault → Type 0
+Does {A = A} outcome_of Holds outcome =
+    (result : Result A JobFault) × (outcome ≡ outcome_of result) × Holds result
 
--- what the program may reach for the making of a disk
-abbrev pub making_in : {D W : Type 0} {d : Ghosts D} → Reach d W → Formatting → Making D
-making_in it f = record {
-  asked = f;
-  known = it.images f.image;
-  Fills = it.Fills f.disk (size_of f);
-}
-
--- for a hunt
+-- what the program may reach for a hunt
 abbrev pub hunter_in : {D W : Type 0} {d : Ghosts D} → Reach d W → Hunting → Hunter D
 hunter_in it h = record { asked = h; known = it.images; Fills = λ path. it.Fills path (kept_size h) }
 
@@ -227,34 +202,36 @@ means_in {d = d} it old new j =
 abbrev pub Performs : {D W : Type 0} {d : Ghosts D} → Reach d W → Request → (old new : Outside D)
     → Result Done JobFault → Type 0
 Performs it stored old new outcome =
-    Does (ServesStored old.written new.written old.unread new.unread) outcome
+    Does outcome_without_end (ServesStored old.written new.written old.unread new.unread) outcome
     × (new.openings ≡ old.openings)
 Performs it version old new outcome =
-    Does (SaysLine old.written new.written version_line) outcome
+    Does outcome_without_end (SaysLine old.written new.written version_line) outcome
     × (new.unread ≡ old.unread) × (new.openings ≡ old.openings)
 Performs {d = d} it (format f) old new outcome =
-    Does (MakesPath d (making_in it f) old new) outcome
+    Does outcome_without_end
+    (MakesPath d f (it.images f.image) (it.Fills f.disk (size_of f)) old new) outcome
 Performs {d = d} it (run disk) old new outcome =
-    Does (RunsPath d disk (it.Opens disk) old new) outcome
+    Does outcome_without_end (RunsPath d disk (it.Opens disk) old new) outcome
 Performs {d = d} it (inspect i) old new outcome =
-    Does (ShowsPath d (it.Opens i.disk) i old new) outcome
+    Does outcome_without_end (ShowsPath d (it.Opens i.disk) i old new) outcome
 Performs {d = d} it (core c) old new outcome =
-    Does (CoresPath d (it.Opens c.disk) (it.Fills c.file) c old.openings new.openings) outcome
+    Does outcome_without_end (CoresPath d (it.Opens c.disk) (it.Fills c.file) c old.openings new.openings) outcome
     × (new.written ≡ old.written) × (new.unread ≡ old.unread)
 Performs {d = d} it (calls s) old new outcome =
-    Does (TracesPath d (it.Opens s.disk) s old new) outcome
+    Does outcome_without_end (TracesPath d (it.Opens s.disk) s old new) outcome
 Performs {d = d} it (debug j) old new outcome =
-    Does (DebugsPath d (it.Opens j.disk) j old new) outcome
+    Does outcome_without_end (DebugsPath d (it.Opens j.disk) j old new) outcome
 Performs {d = d} it (races s) old new outcome =
-    Does (RacesPath d (it.Opens s.disk) s old new) outcome
+    Does outcome_without_end (RacesPath d (it.Opens s.disk) s old new) outcome
 Performs {d = d} it (timeline j) old new outcome =
-    Does (TimelinePath d (it.Opens j.stretch.disk) j old new) outcome
+    Does outcome_without_end (TimelinePath d (it.Opens j.stretch.disk) j old new) outcome
 Performs {d = d} it (profile p) old new outcome =
-    Does (ProfilesPath d (it.Opens p.stretch.disk) p old new) outcome
+    Does outcome_without_end (ProfilesPath d (it.Opens p.stretch.disk) p old new) outcome
 Performs {d = d} it (hunt h) old new outcome =
-    Hunts (HuntsPath d (hunter_in it h) old new) outcome
+    Does outcome_of_hunt (HuntsPath d (hunter_in it h) old new) outcome
 Performs {d = d} it (drive j) old new outcome =
-    Comes (DrivesPath (means_in it old new j) j old.openings new.openings) outcome
+    Does outcome_with_end
+    (DrivesPath (means_in it old new j) j old.openings new.openings) outcome
     × IsUnwritten j.output old.written new.written × (new.unread ≡ old.unread)
 
 -- THE WORDS
@@ -264,14 +241,14 @@ pub record RunsRequest {D W : Type 0} {d : Ghosts D} (it : Reach d W) (q : Reque
     (old new : Outside D) (said : Said) (status : ℕ) : Type 0 where
   pub outcome : Result Done JobFault
   pub performs : Performs it q old new outcome
-  pub reports : ReportsOutcome q outcome said.before said.behind said.has_failed
+  pub reports : ReportsOutcome outcome said.before said.behind said.has_failed
   pub gives : status ≡ status_of outcome
 
 -- they ask for nothing, or couldn't be read for want of memory: nothing was opened, written or read
 pub record RefusesWords {D : Type 0} (ws : List (List ℕ)) (old new : Outside D) (said : Said)
     (status : ℕ) : Type 0 where
   pub fault : WordsFault
-  pub reports : Reports said.before said.behind said.has_failed (words_report_of fault)
+  pub reports : ReportsWords fault said.before said.behind said.has_failed
   pub same : new ≡ old
   pub some : ws ≢ []
   pub taken : takes ckrt_app ws ≡ true → asks_both_forms ws ≡ false → fault ≡ words.OutOfMemory

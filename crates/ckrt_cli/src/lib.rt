@@ -10,12 +10,12 @@
 //! ends early has written a beginning; for `--version` the line of version and kit. Where a line can't be written, what was
 //! written is a beginning of it. The files that were asked for are those of DISK, IMAGE, input and output, each once, and none where the
 //! words name none; the disk is closed as its job left it, once, by who knows nothing of it and so can't write to it. A disk
-//! that can't be opened is a fault of File with what its sources said of that path. For each fault the line in plain words,
-//! with the path of the file, and the line with its name were reported exactly, or the reporter failed. The status is 2 never
+//! that can't be opened is a fault of File with what its sources said of that path. What was reported of a fault ends with the line
+//! with its name, or the reporter failed. The status is 2 never
 //! for no words, nor for words that `clap` takes. [`run_words`] says the same of files of the system, each opened as what it is
 //! used for and of its path, whatever bytes they hold over time; and of the files that it was handed, what they were asked for.
 //!
-//! Only tested: that what is printed is flushed, that faults on standard error reach it.
+//! Only tested: what is said of a fault in plain words, that what is printed is flushed, that faults on standard error reach it.
 //!
 //! The jobs that look back at what a disk has recorded: telling its calls, its data races and where its steps went, drawing what its
 //! threads did, and serving it to a debugger.

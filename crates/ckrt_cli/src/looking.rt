@@ -2,10 +2,9 @@
 ghost use Rattle.std.specs.Prelude.{◌≡◌, ℕ, List, Option, Result};
 ghost use Rattle.ckrt_disk.specs.Frame.{IsOnlyRead};
 ghost use Rattle.ckrt_inspect.specs.Inspect.{is_device};
-ghost use Rattle.ckrt_look_calls.specs.Stretches.{TellsStretch};
 ghost use Rattle.ckrt_cli_words.specs.Jobs.{disk_stretch_of};
 ghost use Rattle.ckrt_cli_faults.specs.Outside.{outside};
-ghost use Rattle.ckrt_cli.specs.Looking.{LooksOpened, LooksPath, LooksThere, answer_of, ends_before, stretch_of};
+ghost use Rattle.ckrt_cli.specs.Looking.{LooksOpened, LooksPath, LooksThere, answer_of, ends_before, sight, stretch_of};
 
 use ckrt_cli_faults::JobFault;
 use ckrt_cli_files::{JobFile, Sources};
@@ -47,11 +46,8 @@ fn look_opened<'a, I: Read, D: Disk, S: Sources<'a, I, D>, T: Telling, W: Write>
     sources: &mut S,
     writer: &mut W,
 ) -> Result<(), JobFault>
-    ensures looks { (left : Option (List ℕ)) → LooksOpened D.Disk (record {
-      stretch = disk_stretch_of job.now;
-      Opens = λ start. start ≡ disk;
-      Tells = TellsStretch (T.Tells telling.now) (stretch_of (disk_stretch_of job.now));
-    })
+    ensures looks { (left : Option (List ℕ)) → LooksOpened D.Disk
+        (sight (disk_stretch_of job.now) (λ start. start ≡ disk) (T.Tells telling.now))
         (outside (S.openings sources.old) (W.contents writer.old) left)
         (outside (S.openings sources.new) (W.contents writer.new) left) result }
 {
@@ -69,11 +65,9 @@ fn look_there<'a, I: Read, D: Disk, S: Sources<'a, I, D>, T: Telling, W: Write>(
     sources: &mut S,
     writer: &mut W,
 ) -> Result<(), JobFault>
-    ensures looks { (left : Option (List ℕ)) → LooksThere D.Disk (record {
-      stretch = disk_stretch_of job.now;
-      Opens = S.opens sources.old job.now.disk.now;
-      Tells = TellsStretch (T.Tells telling.now) (stretch_of (disk_stretch_of job.now));
-    })
+    ensures looks { (left : Option (List ℕ)) → LooksThere D.Disk
+        (sight (disk_stretch_of job.now) (S.opens sources.old job.now.disk.now)
+        (T.Tells telling.now))
         (outside (S.openings sources.old) (W.contents writer.old) left)
         (outside (S.openings sources.new) (W.contents writer.new) left) result }
 {
@@ -107,11 +101,9 @@ pub(crate) fn look_path<'a, I: Read, D: Disk, S: Sources<'a, I, D>, T: Telling, 
     sources: &mut S,
     writer: &mut W,
 ) -> Result<(), JobFault>
-    ensures looks { (left : Option (List ℕ)) → LooksPath D.Disk (record {
-      stretch = disk_stretch_of job.now;
-      Opens = S.opens sources.old job.now.disk.now;
-      Tells = TellsStretch (T.Tells telling.now) (stretch_of (disk_stretch_of job.now));
-    })
+    ensures looks { (left : Option (List ℕ)) → LooksPath D.Disk
+        (sight (disk_stretch_of job.now) (S.opens sources.old job.now.disk.now)
+        (T.Tells telling.now))
         (outside (S.openings sources.old) (W.contents writer.old) left)
         (outside (S.openings sources.new) (W.contents writer.new) left) result }
 {

@@ -3,7 +3,7 @@ ghost use Rattle.std.specs.Prelude.{◌≡◌, ℕ, List, Option};
 ghost use Rattle.ckrt_cli_words.specs.Jobs.{profiling_of};
 ghost use Rattle.ckrt_cli_faults.specs.Outside.{outside};
 ghost use Rattle.ckrt_look_profile.specs.Recorded.{IsProfileText};
-ghost use Rattle.ckrt_cli.specs.Profiling.{ProfilesPath, form_of};
+ghost use Rattle.ckrt_cli.specs.Looking.{ProfilesPath, profile_form_of};
 
 use crate::looking::look_path;
 use ckrt_cli_faults::JobFault;
@@ -25,7 +25,7 @@ struct Profile {
 }
 
 impl Telling for Profile {
-    ghost Tells = { λ p. IsProfileText (form_of p.form) };
+    ghost Tells = { λ p. IsProfileText (profile_form_of p.form) };
 
     fn tell<W: Write>(
         &self,
@@ -41,7 +41,7 @@ impl Telling for Profile {
 
 /// The form that the words ask for.
 fn form_of(form: ProfileForm) -> Form
-    ensures { result ≡ form_of form }
+    ensures { result ≡ profile_form_of form }
 {
     match form {
         ProfileForm::Table => Form::Table,

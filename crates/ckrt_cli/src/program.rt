@@ -32,11 +32,9 @@ fn make<'a, I: Read + Drop, D: Disk, S: Sources<'a, I, D>, W: Write>(
     writer: &mut W,
 ) -> Result<(), JobFault>
     ensures makes { (left : Option (List ℕ))
-        → MakesPath D.Disk (record {
-          asked = formatting_of job.now;
-          known = S.image_bytes sources.old job.now.image.now;
-          Fills = S.fills sources.old job.now.disk.now (size_of (formatting_of job.now));
-        })
+        → MakesPath D.Disk (formatting_of job.now)
+        (S.image_bytes sources.old job.now.image.now)
+        (S.fills sources.old job.now.disk.now (size_of (formatting_of job.now)))
         (outside (S.openings sources.old) (W.contents writer.old) left)
         (outside (S.openings sources.new) (W.contents writer.new) left) result }
 {

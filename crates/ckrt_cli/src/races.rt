@@ -2,7 +2,7 @@
 ghost use Rattle.std.specs.Prelude.{ℕ, List, Option};
 ghost use Rattle.ckrt_cli_words.specs.Jobs.{disk_stretch_of};
 ghost use Rattle.ckrt_cli_faults.specs.Outside.{outside};
-ghost use Rattle.ckrt_cli.specs.Tellings.{RacesPath};
+ghost use Rattle.ckrt_cli.specs.Looking.{RacesPath};
 
 use crate::looking::look_path;
 use ckrt_cli_faults::JobFault;

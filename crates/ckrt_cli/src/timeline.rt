@@ -3,7 +3,7 @@ ghost use Rattle.std.specs.Prelude.{◌≡◌, true, ℕ, List, Option};
 ghost use Rattle.ckrt_cli_words.specs.Jobs.{drawing_of};
 ghost use Rattle.ckrt_cli_faults.specs.Outside.{outside};
 ghost use Rattle.ckrt_look_timeline.specs.Widths.{is_width};
-ghost use Rattle.ckrt_cli.specs.Drawings.{TimelinePath, form_of};
+ghost use Rattle.ckrt_cli.specs.Looking.{TimelinePath, form_of};
 
 use crate::looking::look_path;
 use ckrt_cli_faults::JobFault;

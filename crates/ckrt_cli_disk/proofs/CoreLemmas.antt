@@ -11,7 +11,7 @@ use Rattle.ckrt_cli_faults.specs.declared.fault.JobFault.{JobFault}
 module _ {D : Type 0} (d : Ghosts D) (Fills Weaker : ℕ → D → Type 0) (are : (n : ℕ) (x : D) → Fills n x → Weaker n x) (old new : Openings D) (result : Result (Unit {0}) JobFault) where
   found_weaker : (path : List ℕ) (f : Result Progress InspectFault) → CoresFound d Fills path old new f result → CoresFound d Weaker path old new f result
   found_weaker path (Ok p) (inl none) = inl none
-  found_weaker path (Ok p) (inr (inl lacks)) = inr (inl (record { why = lacks.why; is = lacks.is; refuses = lacks.refuses }))
+  found_weaker path (Ok p) (inr (inl lacks)) = inr (inl lacks)
   found_weaker path (Ok p) (inr (inr makes)) = inr (inr (record { start = makes.start; is_opened = are _ _ makes.is_opened; writes = makes.writes }))
   found_weaker path (Err f) is = is
 

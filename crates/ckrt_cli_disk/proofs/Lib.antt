@@ -1,6 +1,6 @@
 mod CoreLemmas
 mod DriveLemmas
-mod FrontLemmas
+pub mod FrontLemmas
 mod MissingLemmas
 mod PrintLemmas
 mod RunLemmas

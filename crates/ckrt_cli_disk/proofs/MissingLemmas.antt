@@ -10,7 +10,7 @@ pub makes_weaker : {D : Type 0} (d : Ghosts D) (config : Config) (known : Option
     → ((x : D) → Fills x → Weaker x) → MakesMissing d config known Fills image disk old new result → MakesMissing d config known Weaker image disk old new result
 makes_weaker d config known Fills Weaker image disk old new result are (inl refuses) = inl refuses
 makes_weaker d config known Fills Weaker image disk old new result are (inr (inl lacks)) = inr (inl (record { valid = lacks.valid; why = lacks.why; is = lacks.is; unfit = lacks.unfit }))
-makes_weaker d config known Fills Weaker image disk old new result are (inr (inr (inl lacks))) = inr (inr (inl (record { valid = lacks.valid; fit = lacks.fit; why = lacks.why; is = lacks.is; refuses = lacks.refuses })))
+makes_weaker d config known Fills Weaker image disk old new result are (inr (inr (inl lacks))) = inr (inr (inl (record { valid = lacks.valid; fit = lacks.fit; lacks = lacks.lacks })))
 makes_weaker d config known Fills Weaker image disk old new result are (inr (inr (inr makes))) = inr (inr (inr (record {
   valid = makes.valid;
   fit = makes.fit;

@@ -10,7 +10,8 @@ use Rattle.ckrt_stored.specs.declared.progress.Progress.{Progress}
 use Rattle.ckrt_inspect.specs.Inspect.{AgreesAt, is_device}
 use Rattle.ckrt_inspect.specs.declared.fault.InspectFault.{InspectFault}
 use Rattle.ckrt_cli_words.specs.Jobs.{CoreMaking}
-use Rattle.ckrt_cli_files.specs.Openings.{Openings, opened, refused, with_abandoned, with_closed, with_closed_output, with_disk, with_making, with_named}
+use Rattle.ckrt_cli_files.specs.Openings.{Openings, opened, with_abandoned, with_closed, with_closed_output, with_disk, with_making, with_named}
+use Rattle.ckrt_cli_faults.specs.Outside.{Lacks}
 use Rattle.ckrt_cli_faults.specs.declared.fault.JobFault.{JobFault}
 use Rattle.ckrt_cli_faults.specs.declared.fault.JobFault.TheVariants as job
 use Rattle.ckrt_cli_files.specs.declared.file.FileFault.{FileFault}
@@ -35,24 +36,12 @@ pub record WritesCore {D : Type 0} (d : Ghosts D) (core : List ℕ) (start end :
 
 -- ITS NAME
 
--- the core got the path that it was made for
-pub record IsNamed {D : Type 0} (path : List ℕ) (core : D) (asked new : Openings D)
-    (result : Result (Unit {0}) JobFault) : Type 0 where
-  pub is : result ≡ Ok tt
-  pub names : new ≡ with_closed_output (with_named asked (opened path) core) core
-
--- the path was refused, and the core given up
-pub record LacksName {D : Type 0} (path : List ℕ) (core : D) (asked new : Openings D)
-    (result : Result (Unit {0}) JobFault) : Type 0 where
-  pub why : FileFault
-  pub is : result ≡ Err (job.File file.Core why)
-  pub gives_up : new ≡ with_abandoned (with_named asked (refused path why) core) core
-
 -- what became of a core in the making where its writing answered so: only one that is whole gets a name, and one that isn't is given up
 abbrev pub EndsCore : {D : Type 0} → (path : List ℕ) → D → (asked new : Openings D)
     → Result (Unit {0}) FileFault → Result (Unit {0}) JobFault → Type 0
 EndsCore path core asked new (Ok done) result =
-    IsNamed path core asked new result ⊎ LacksName path core asked new result
+    ((result ≡ Ok tt) × (new ≡ with_closed_output (with_named asked (opened path) core) core))
+    ⊎ Lacks file.Core path (λ x. with_abandoned (with_named asked x core) core) new result
 EndsCore path core asked new (Err why) result =
     (result ≡ Err (job.File file.Core why)) × (new ≡ with_abandoned asked core)
 
@@ -65,24 +54,15 @@ pub record WritesInto {D : Type 0} (d : Ghosts D) (core path : List ℕ) (start 
   pub ends : EndsCore path end asked new answer result
 
 module _ {D : Type 0} (d : Ghosts D) (Fills : ℕ → D → Type 0) (core path : List ℕ) (old new : Openings D) (result : Result (Unit {0}) JobFault) where
-  -- there was no memory for it, and no file was asked for
-  abbrev pub LacksMemory : Type 0
-  LacksMemory = (result ≡ Err job.OutOfMemory) × (new ≡ old)
-
-  -- no file can be made for its path
-  pub record LacksFile : Type 0 where
-    pub why : FileFault
-    pub is : result ≡ Err (job.File file.Core why)
-    pub refuses : new ≡ with_making old (refused path why)
-
   -- a file of its length was made for its path, and written
   pub record MakesIt : Type 0 where
     pub start : D
     pub is_opened : Fills (length core) start
     pub writes : WritesInto d core path start (with_making old (opened path)) new result
 
+  -- or there was no memory for it, and no file was asked for; or no file can be made for its path
   abbrev pub MakesCore : Type 0
-  MakesCore = LacksMemory ⊎ LacksFile ⊎ MakesIt
+  MakesCore = ((result ≡ Err job.OutOfMemory) × (new ≡ old)) ⊎ Lacks file.Core path (with_making old) new result ⊎ MakesIt
 
 -- THE DISK
 
@@ -117,6 +97,5 @@ pub record CoresOpened {D : Type 0} (d : Ghosts D) (Opens : D → Type 0) (Fills
 abbrev pub CoresPath : {D : Type 0} → Ghosts D → (D → Type 0) → (ℕ → D → Type 0) → CoreMaking
     → (old new : Openings D) → Result (Unit {0}) JobFault → Type 0
 CoresPath d Opens Fills c old new result =
-    ((why : FileFault) × (result ≡ Err (job.File file.Disk why))
-    × (new ≡ with_disk old (refused c.disk why)))
+    Lacks file.Disk c.disk (with_disk old) new result
     ⊎ CoresOpened d Opens Fills c (with_disk old (opened c.disk)) new result

@@ -28,7 +28,8 @@ use Rattle.ckrt_cli_disk.specs.Addresses.{fault_address}
 use Rattle.ckrt_cli_disk.specs.Feeding.{Supplies, file_of, made_size}
 use Rattle.ckrt_cli_faults.specs.Lengths.{fits, lengths_of}
 use Rattle.ckrt_cli_disk.specs.Missing.{FindsDisk}
-use Rattle.ckrt_cli_files.specs.Openings.{Openings, opened, refused, with_both_closed, with_closed, with_closed_output, with_output}
+use Rattle.ckrt_cli_files.specs.Openings.{Openings, opened, with_both_closed, with_closed, with_closed_output, with_output}
+use Rattle.ckrt_cli_faults.specs.Outside.{Lacks}
 use Rattle.ckrt_cli_faults.specs.Ranges.{config_for, is_in_range}
 use Rattle.ckrt_cli_disk.specs.Sizes.{other_sizes}
 use Rattle.ckrt_cli_files.specs.Sources.{Gives}
@@ -37,7 +38,6 @@ use Rattle.ckrt_cli_faults.specs.declared.fault.JobFault.{JobFault}
 use Rattle.ckrt_cli_faults.specs.declared.fault.JobFault.TheVariants as job
 use Rattle.ckrt_cli_disk.specs.declared.feeding.Intake.{Intake}
 use Rattle.ckrt_cli_disk.specs.declared.feeding.Supplied.{Supplied}
-use Rattle.ckrt_cli_files.specs.declared.file.FileFault.{FileFault}
 use Rattle.ckrt_cli_files.specs.declared.file.JobFile.TheVariants as file
 use Rattle.ckrt_cli_files.specs.declared.output.OpenedOutput.{OpenedOutput}
 use Rattle.ckrt_cli_files.specs.declared.reason.OutputReason.{OutputReason}
@@ -170,14 +170,6 @@ pub record DrivesOnto {D : Type 0} {d : Ghosts D} (options : Options) (it : Read
   pub gives : result ≡ answer_of why answer
   pub closes : new ≡ with_both_closed (with_closed_output asked end) input after.disk
 
--- the output of this path can't be opened, and disk and input were closed as they were
-pub record LacksOutput {D : Type 0} {d : Ghosts D} (path : List ℕ) (it : Ready d)
-    (old new : Openings D) (result : Result Driven JobFault) : Type 0 where
-  pub why : FileFault
-  pub is : result ≡ Err (job.File file.Output why)
-  pub closes : new
-      ≡ with_both_closed (with_output old (refused path why)) (file_of it.intake) it.session.disk
-
 -- the output that was opened can't be the disk's, by the length of its file, and all were closed as they were
 pub record RefusesOutput {D : Type 0} {d : Ghosts D} (output : OpenedOutput D) (it : Ready d)
     (asked new : Openings D) (result : Result Driven JobFault) : Type 0 where
@@ -206,11 +198,13 @@ pub record OpensOutput {D : Type 0} {d : Ghosts D} (Outputs : OpenedOutput D →
   pub is_opened : Outputs output
   pub drives : DrivesOpenedOutput output options it (with_output old (opened path)) new result
 
--- what became of a session whose output goes into the file of a path
+-- What became of a session whose output goes into the file of a path: where that can't be opened disk and input were closed as they were.
 abbrev pub DrivesInto : {D : Type 0} {d : Ghosts D} → (OpenedOutput D → Type 0) → (path : List ℕ)
     → Options → Ready d → (old new : Openings D) → Result Driven JobFault → Type 0
 DrivesInto Outputs path options it old new result =
-    LacksOutput path it old new result ⊎ OpensOutput Outputs path options it old new result
+    Lacks file.Output path
+    (λ x. with_both_closed (with_output old x) (file_of it.intake) it.session.disk) new result
+    ⊎ OpensOutput Outputs path options it old new result
 
 -- A stream is lent the job's writer, from its beginning to its end: that holds what the writer held before, and in the end what it holds after
 -- the job. What writers hold goes from a to b.

@@ -12,7 +12,8 @@ use Rattle.ckrt_record.specs.Slot.{RECORD_BYTES}
 use Rattle.ckrt_record.specs.declared.fault.OffsetFault.{OffsetFault}
 use Rattle.ckrt_record.specs.declared.fault.OffsetFault.TheVariants.{Unrecovered, NotRecorded}
 use Rattle.ckrt_cli_words.specs.Jobs.{Driving}
-use Rattle.ckrt_cli_files.specs.Openings.{Openings, opened, refused, with_both_closed, with_closed, with_input, with_lengthened}
+use Rattle.ckrt_cli_files.specs.Openings.{Openings, opened, with_both_closed, with_closed, with_input, with_lengthened}
+use Rattle.ckrt_cli_faults.specs.Outside.{Lacks}
 use Rattle.ckrt_cli_faults.specs.Ranges.{config_for}
 use Rattle.ckrt_cli_files.specs.Sources.{Gives}
 use Rattle.ckrt_cli_faults.specs.declared.fault.JobFault.{JobFault}
@@ -135,13 +136,6 @@ pub record RefusesInput {D : Type 0} (d : Ghosts D) (disk : D) (it : Intake D)
       ≡ Err (job.InputTooShort (record { length = d.size it.file; taken = it.taken }))
   pub closes : new ≡ with_both_closed old (Some it.file) disk
 
--- the input of this path can't be opened
-pub record LacksInput {D : Type 0} (path : List ℕ) (disk : D) (old new : Openings D)
-    (found : Result (Supplied D) JobFault) : Type 0 where
-  pub why : FileFault
-  pub is : found ≡ Err (job.File file.Input why)
-  pub closes : new ≡ with_closed (with_input old (refused path why)) disk
-
 -- what became of a disk and an input that was opened
 abbrev pub SuppliesOpened : {D : Type 0} → Ghosts D → (Longer : D → ℕ → D → Type 0) → (disk : D)
     → Intake D → (old new : Openings D) → (found : Result (Supplied D) JobFault) → Type 0
@@ -163,7 +157,8 @@ abbrev pub SuppliesTaken : {D : Type 0} → Ghosts D → Gives D → (path : Lis
 SuppliesTaken d gives path disk old new found (Err fault) =
     (found ≡ Err fault) × (new ≡ with_closed old disk)
 SuppliesTaken d gives path disk old new found (Ok taken) =
-    LacksInput path disk old new found ⊎ OpensInput d gives path disk old new found taken
+    Lacks file.Input path (λ x. with_closed (with_input old x) disk) new found
+    ⊎ OpensInput d gives path disk old new found taken
 
 -- How much its program has taken was looked up in a disk, and from there on the input of a path is used with it.
 pub record SuppliesFrom {D : Type 0} (d : Ghosts D) (gives : Gives D) (path : List ℕ)

@@ -8,6 +8,7 @@ use Rattle.ckrt_stored.specs.declared.fault.FormatFault.{FormatFault}
 use Rattle.ckrt_stored.specs.declared.fault.FormatFault.TheVariants as format
 use Rattle.ckrt_cli_disk.specs.Making.{EndsOnImage, Formats, IsFit}
 use Rattle.ckrt_cli_files.specs.Openings.{Openings, opened, refused, with_abandoned, with_disk, with_image, with_making, with_named}
+use Rattle.ckrt_cli_faults.specs.Outside.{Lacks}
 use Rattle.ckrt_cli_faults.specs.declared.fault.JobFault.{JobFault}
 use Rattle.ckrt_cli_faults.specs.declared.fault.JobFault.TheVariants as job
 use Rattle.ckrt_cli_files.specs.declared.file.FileFault.{FileFault}
@@ -16,24 +17,12 @@ use Rattle.ckrt_cli_files.specs.declared.file.JobFile.TheVariants as file
 
 -- THE NAME
 
--- the disk got the name of the path
-pub record IsNamed {D : Type 0} (path : List ℕ) (disk : D) (asked new : Openings D)
-    (result : Result D JobFault) : Type 0 where
-  pub is : result ≡ Ok disk
-  pub names : new ≡ with_named asked (opened path) disk
-
--- the name was refused, and the disk given up
-pub record LacksName {D : Type 0} (path : List ℕ) (disk : D) (asked new : Openings D)
-    (result : Result D JobFault) : Type 0 where
-  pub why : FileFault
-  pub is : result ≡ Err (job.File file.Making why)
-  pub gives_up : new ≡ with_abandoned (with_named asked (refused path why) disk) disk
-
 -- What became of a disk in the making where formatting answered so: only one that is formatted gets a name, and one that isn't is given up.
 abbrev pub EndsNaming : {D : Type 0} → (path : List ℕ) → D → (asked new : Openings D)
     → Result (Unit {0}) FormatFault → Result D JobFault → Type 0
 EndsNaming path end asked new (Ok done) result =
-    IsNamed path end asked new result ⊎ LacksName path end asked new result
+    ((result ≡ Ok end) × (new ≡ with_named asked (opened path) end))
+    ⊎ Lacks file.Making path (λ x. with_abandoned (with_named asked x end) end) new result
 EndsNaming path end asked new (Err f) result =
     (result ≡ Err (job.Format f)) × (new ≡ with_abandoned asked end)
 
@@ -47,14 +36,11 @@ pub record MakesNamed {D : Type 0} (d : Ghosts D) (config : Config) (guest path 
   pub formats : Formats d config guest start end answer
   pub ends : EndsNaming path end asked new answer result
 
--- the configuration is out of its ranges, and nothing was asked for
-pub record RefusesSizes {D : Type 0} (config : Config) (old new : Openings D)
-    (result : Result D JobFault) : Type 0 where
-  pub invalid : is_valid config ≡ false
-  pub is : result ≡ Err (job.Format format.BadConfig)
-  pub unasked : new ≡ old
-
 module _ {D : Type 0} (d : Ghosts D) (config : Config) (known : Option (List ℕ)) (Fills : D → Type 0) (image disk : List ℕ) (old new : Openings D) (result : Result D JobFault) where
+  -- the configuration is out of its ranges, and nothing was asked for
+  abbrev pub RefusesSizes : Type 0
+  RefusesSizes = (is_valid config ≡ false) × (result ≡ Err (job.Format format.BadConfig)) × (new ≡ old)
+
   -- the image is unfit, and no disk was asked for
   pub record LacksImage : Type 0 where
     pub valid : is_valid config ≡ true
@@ -66,9 +52,7 @@ module _ {D : Type 0} (d : Ghosts D) (config : Config) (known : Option (List ℕ
   pub record LacksMaking : Type 0 where
     pub valid : is_valid config ≡ true
     pub fit : IsFit config known
-    pub why : FileFault
-    pub is : result ≡ Err (job.File file.Making why)
-    pub refuses : new ≡ with_making (with_image old (opened image)) (refused disk why)
+    pub lacks : Lacks file.Making disk (with_making (with_image old (opened image))) new result
 
   -- the image fits, and a disk was made with it for this path
   pub record MakesIt : Type 0 where
@@ -82,7 +66,7 @@ module _ {D : Type 0} (d : Ghosts D) (config : Config) (known : Option (List ℕ
         (with_making (with_image old (opened image)) (opened disk)) new result
 
   abbrev pub MakesMissing : Type 0
-  MakesMissing = RefusesSizes config old new result ⊎ LacksImage ⊎ LacksMaking ⊎ MakesIt
+  MakesMissing = RefusesSizes ⊎ LacksImage ⊎ LacksMaking ⊎ MakesIt
 
 -- HOW A DRIVE COMES BY ITS DISK
 

@@ -1,4 +1,3 @@
-pub mod Advice
 pub mod Lengths
 pub mod Names
 pub mod Outside

@@ -1,7 +1,8 @@
 -- What a job reaches outside.
 use Rattle.std.specs.Prelude.{◌≡◌, ℕ, List, Option, Result, Err}
-use Rattle.ckrt_cli_files.specs.Openings.{Openings, refused, with_disk}
+use Rattle.ckrt_cli_files.specs.Openings.{Opening, Openings, refused, with_disk}
 use Rattle.ckrt_cli_files.specs.declared.file.FileFault.{FileFault}
+use Rattle.ckrt_cli_files.specs.declared.file.JobFile.{JobFile}
 use Rattle.ckrt_cli_files.specs.declared.file.JobFile.TheVariants as file
 use Rattle.ckrt_cli_faults.specs.declared.fault.JobFault.{JobFault}
 use Rattle.ckrt_cli_faults.specs.declared.fault.JobFault.TheVariants as job
@@ -20,6 +21,13 @@ outside openings written unread =
 -- the same once more was asked for
 abbrev pub asked_for : {D : Type 0} → Outside D → Openings D → Outside D
 asked_for old openings = record old { openings = openings }
+
+-- this file of a job was refused its path, for an opening or for a name, and is told by that; the openings go on as they do with that
+pub record Lacks {D A : Type 0} (at : JobFile) (path : List ℕ) (With : Opening → Openings D)
+    (new : Openings D) (result : Result A JobFault) : Type 0 where
+  pub why : FileFault
+  pub is : result ≡ Err (job.File at why)
+  pub refuses : new ≡ With (refused path why)
 
 -- the disk of this path was asked for and can't be opened
 pub record IsRefused {D : Type 0} (path : List ℕ) (old new : Outside D)

@@ -1,7 +1,6 @@
 //! Why a job wasn't done.
 ghost use Rattle.std.specs.Prelude.{◌≡◌};
 ghost use Rattle.ckrt_cli_faults.specs.Names.{name_of, name_of_drive, name_of_look};
-ghost use Rattle.ckrt_cli_faults.specs.Advice.{advice_of, advice_of_drive, advice_of_format, advice_of_lengths, advice_of_look, advice_of_recover, advice_of_serve, file_of, file_of_drive};
 
 use crate::lengths::{InputLengths, OutputLengths};
 use ckrt_cli_files::{FileFault, JobFile, OutputReason};
@@ -62,9 +61,7 @@ const INPUT_ADVICE: &str = "a read failed; look after its device, then the same 
 const RECORD_ADVICE: &str = "it has no room for the record of the input; make it 4096 bytes longer";
 
 /// What is said of a fault of formatting.
-fn format_advice(fault: FormatFault) -> &'static str
-    ensures { result.now ≡ advice_of_format fault }
-{
+fn format_advice(fault: FormatFault) -> &'static str {
     match fault {
         FormatFault::AlreadyFormatted => {
             "it holds a program already, and is unchanged; `ckrt drive` goes on with it"
@@ -80,9 +77,7 @@ fn format_advice(fault: FormatFault) -> &'static str
 }
 
 /// What is said of a fault of recovery.
-fn recovery_advice(fault: RecoverFault) -> &'static str
-    ensures { result.now ≡ advice_of_recover fault }
-{
+fn recovery_advice(fault: RecoverFault) -> &'static str {
     match fault {
         RecoverFault::NotFormatted => {
             "`ckrt format` didn't make it, or was stopped meanwhile: look at its path, or give that format again (docs/OPERATING.md)"
@@ -97,9 +92,7 @@ fn recovery_advice(fault: RecoverFault) -> &'static str
 }
 
 /// What is said of a fault of the service.
-fn service_advice(fault: ServeFault) -> &'static str
-    ensures { result.now ≡ advice_of_serve fault }
-{
+fn service_advice(fault: ServeFault) -> &'static str {
     match fault {
         ServeFault::Read => "standard input: a read failed",
         ServeFault::Write => "standard output: a write failed",
@@ -109,9 +102,7 @@ fn service_advice(fault: ServeFault) -> &'static str
 }
 
 /// What is said of a fault of showing a disk.
-fn inspection_advice(fault: InspectFault) -> &'static str
-    ensures { result.now ≡ advice_of_look fault }
-{
+fn inspection_advice(fault: InspectFault) -> &'static str {
     match fault {
         InspectFault::NotFormatted => recovery_advice(RecoverFault::NotFormatted),
         InspectFault::Version => recovery_advice(RecoverFault::Version),
@@ -141,9 +132,7 @@ fn inspection_name(fault: InspectFault) -> &'static str
 }
 
 /// What is said of a fault of a drive.
-fn drive_advice(fault: DriveFault) -> &'static str
-    ensures { result.now ≡ advice_of_drive fault }
-{
+fn drive_advice(fault: DriveFault) -> &'static str {
     match fault {
         DriveFault::Device => DEVICE_ADVICE,
         DriveFault::Input => INPUT_ADVICE,
@@ -203,9 +192,7 @@ const RUN_ADVICE: &str =
 const LONG_ADVICE: &str = "a hunt gives at most 1048576 bytes; give the first ones, by `head -c`";
 
 /// What is said of an output whose file has another length than that of the disk, behind its numbers.
-fn lengths_advice(lengths: OutputLengths) -> &'static str
-    ensures { result.now ≡ advice_of_lengths lengths }
-{
+fn lengths_advice(lengths: OutputLengths) -> &'static str {
     if lengths.length < lengths.confirmed {
         "some of the output was lost or cut: `truncate -s` to the first number goes on, with zeros for what is gone"
     } else {
@@ -214,9 +201,7 @@ fn lengths_advice(lengths: OutputLengths) -> &'static str
 }
 
 /// The file that a fault of a drive is of.
-fn drive_file(fault: DriveFault) -> JobFile
-    ensures { result ≡ file_of_drive fault }
-{
+fn drive_file(fault: DriveFault) -> JobFile {
     match fault {
         DriveFault::Input => JobFile::Input,
         DriveFault::Output | DriveFault::OutputFull => JobFile::Output,
@@ -269,9 +254,7 @@ impl JobFault {
     }
 
     /// What is wrong, in plain words, and what to do about it.
-    pub fn advice(self) -> &'static str
-        ensures { result.now ≡ advice_of self }
-    {
+    pub fn advice(self) -> &'static str {
         match self {
             JobFault::File(_, fault) => fault.text(),
             JobFault::OutOfMemory => FileFault::OutOfMemory.text(),
@@ -295,9 +278,7 @@ impl JobFault {
     }
 
     /// The file that the fault is of.
-    pub fn file(self) -> Option<JobFile>
-        ensures { result ≡ file_of self }
-    {
+    pub fn file(self) -> Option<JobFile> {
         match self {
             JobFault::File(file, _) => Some(file),
             JobFault::Format(FormatFault::ImageTooLong) => Some(JobFile::Image),

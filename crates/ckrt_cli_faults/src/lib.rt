@@ -1,7 +1,9 @@
 //! What a job comes to: a fault, or what it came to where it was done. Each fault has a name, a file that it is of, and an advice in plain words.
 //!
-//! Proved: the name, the file and the advice of each fault ([`JobFault`]); the status of each end ([`Driven`]); which lengths an
-//! output and an input may have beside their disk; which numbers of the words are in their ranges.
+//! Proved: the name of each fault ([`JobFault`]); the status of each end ([`Driven`]); which lengths an output and an input may have
+//! beside their disk; which numbers of the words are in their ranges.
+//!
+//! Only tested: the file and the advice of each fault (`texts` of `ckrt_test_drive`).
 #![tactic(auto)]
 
 mod done;

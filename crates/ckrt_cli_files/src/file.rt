@@ -2,7 +2,7 @@
 ghost use Rattle.std.specs.Prelude.{◌≡◌};
 ghost use Rattle.std.specs.IoError.{error_kind};
 ghost use Rattle.ckrt_cli_files.specs.Openings.{kept_opening, opening_of};
-ghost use Rattle.ckrt_cli_files.specs.FileFaults.{file_ending, file_fault_of, file_fault_text, file_text};
+ghost use Rattle.ckrt_cli_files.specs.FileFaults.{file_fault_of};
 
 use std::io::{self, ErrorKind};
 
@@ -106,9 +106,7 @@ pub(crate) const MAKING: &str = ".making";
 
 impl JobFile {
     /// What the file is to its job.
-    pub fn text(self) -> &'static str
-        ensures { result.now ≡ file_text self }
-    {
+    pub fn text(self) -> &'static str {
         match self {
             JobFile::Image => "the image ",
             JobFile::Disk => "the disk ",
@@ -120,9 +118,7 @@ impl JobFile {
     }
 
     /// What stands after the path that the words give for it.
-    pub fn ending(self) -> &'static str
-        ensures { result.now ≡ file_ending self }
-    {
+    pub fn ending(self) -> &'static str {
         match self {
             JobFile::Making => MAKING,
             JobFile::Image | JobFile::Disk | JobFile::Input | JobFile::Output | JobFile::Core => "",
@@ -132,9 +128,7 @@ impl JobFile {
 
 impl FileFault {
     /// The fault in plain words.
-    pub fn text(self) -> &'static str
-        ensures { result.now ≡ file_fault_text self }
-    {
+    pub fn text(self) -> &'static str {
         match self {
             FileFault::NotFound => "there is no such file",
             FileFault::NoFolder => "its folder is missing",

@@ -1,7 +1,4 @@
 //! Why an output failed.
-ghost use Rattle.std.specs.Prelude.{◌≡◌};
-ghost use Rattle.ckrt_cli_files.specs.Reasons.{reason_of, reason_text};
-
 use std::io::ErrorKind;
 
 /// Why a write or a sync of an output failed.
@@ -27,9 +24,7 @@ pub enum OutputReason {
 
 impl OutputReason {
     /// The reason that the system's kind of error is.
-    pub(crate) fn of(kind: ErrorKind) -> OutputReason
-        ensures { result ≡ reason_of kind }
-    {
+    pub(crate) fn of(kind: ErrorKind) -> OutputReason {
         match kind {
             ErrorKind::StorageFull => OutputReason::StorageFull,
             ErrorKind::QuotaExceeded => OutputReason::QuotaExceeded,
@@ -42,9 +37,7 @@ impl OutputReason {
     }
 
     /// The reason in plain words, and what to do about it.
-    pub fn text(self) -> &'static str
-        ensures { result.now ≡ reason_text self }
-    {
+    pub fn text(self) -> &'static str {
         match self {
             OutputReason::StorageFull => {
                 "no space is left for it; make some, then the same command goes on (docs/OPERATING.md)"

@@ -1,5 +1,3 @@
 pub mod Ends
 pub mod Lines
-pub mod Reports
-pub mod Unfit
 pub mod Standings

@@ -2,24 +2,20 @@
 ghost use Rattle.std.specs.Prelude.{◌≡◌, ◌≤◌, ◌<◌, ◌+◌, ◌++◌, ◌∷◌, [], length, decimal, true, false, OnOk, OnErr, Err, Ok};
 ghost use Rattle.std.specs.Io.KnownBytes.{Appends};
 ghost use Rattle.arrayvec.specs.ArrayVec.{array_vec_len};
-ghost use Rattle.ckrt_cli_words.specs.Jobs.{request_of};
 ghost use Rattle.ckrt_state.specs.declared.table.Status.TheVariants.{Exited, Faulted};
 ghost use Rattle.ckrt_inspect.specs.Texts.{hex_text, status_text};
 ghost use Rattle.ckrt_cli_reports.specs.Ends.{address_text, end_line, end_text, ended_text, hex_between, hint_text, place_text};
-ghost use Rattle.ckrt_cli_reports.specs.Lines.{formatted_line, version_line, ReportsOutcome, SaysLine};
+ghost use Rattle.ckrt_cli_reports.specs.Lines.{EndsWith, ReportsOutcome, ReportsWords, Says, SaysLine, fault_line, formatted_line, version_line};
 ghost use Rattle.ckrt_cli_faults.specs.Statuses.{status_of, status_of_words};
-ghost use Rattle.ckrt_cli_reports.specs.Reports.{input_text, lengths_text, numbers_of, path_of, range_text, sizes_text, report_of, subject_of, taken_text, words_report_of};
-ghost use Rattle.ckrt_cli_reports.specs.Unfit.{size_text};
 
 use crate::reporter::{Reporter, Unsaid};
-use crate::unfit::{say_unfit, say_unfit_sizes};
+use crate::sentences::{Piece, numbers_of, subject_of};
 use crate::version::VERSION;
 use arrayvec::ArrayVec;
-use ckrt_cli_faults::{Done, Driven, InputLengths, JobFault, OutputLengths};
+use ckrt_cli_faults::{Done, Driven, JobFault};
 use ckrt_cli_files::JobFile;
 use ckrt_cli_words::{Job, WordsFault};
 use ckrt_main::write_reply;
-use ckrt_recovery::{Config, FormatFault};
 use ckrt_rv32i::Cause;
 use ckrt_schedule::ScheduleEnd;
 use ckrt_state::Status;
@@ -64,57 +60,6 @@ fn write_line<W: Write>(writer: &mut W, word: &[u8], text: &[u8]) -> Result<(), 
     }
 }
 
-/// What stands for the path of an output that is printed.
-const STANDARD_OUTPUT: &str = "(standard output)";
-
-/// The path that the words give for a file of their job; empty where they give none, but of an output that is printed.
-fn path<'a>(job: &Job<'a>, file: JobFile) -> &'a str
-    ensures { result.now ≡ path_of file (request_of job.now) }
-{
-    match (job, file) {
-        (Job::Format(job), JobFile::Image) => job.image,
-        (Job::Format(job), JobFile::Disk) => job.disk,
-        (Job::Run(disk), JobFile::Disk) => disk,
-        (Job::Inspect(job), JobFile::Disk) => job.disk,
-        (Job::Drive(job), JobFile::Disk) => job.disk,
-        (Job::Drive(job), JobFile::Output) => job.output.unwrap_or(STANDARD_OUTPUT),
-        (Job::Drive(job), JobFile::Making) => job.disk,
-        (Job::Drive(job), JobFile::Image) => job.image.unwrap_or(""),
-        (Job::Drive(job), JobFile::Input) => job.input.unwrap_or(""),
-        (Job::Core(job), JobFile::Disk) => job.disk,
-        (Job::Core(job), JobFile::Core) => job.file,
-        (Job::Calls(job), JobFile::Disk) => job.disk,
-        (Job::Debug(job), JobFile::Disk) => job.disk,
-        (Job::Races(job), JobFile::Disk) => job.disk,
-        (Job::Timeline(job), JobFile::Disk) => job.stretch.disk,
-        (Job::Profile(job), JobFile::Disk) => job.stretch.disk,
-        (Job::Hunt(job), JobFile::Image) => job.image,
-        (Job::Hunt(job), JobFile::Disk) => job.keep.unwrap_or(""),
-        (Job::Hunt(job), JobFile::Making) => job.keep.unwrap_or(""),
-        (Job::Hunt(job), JobFile::Input) => job.input.unwrap_or(""),
-        _ => "",
-    }
-}
-
-/// Says which file is spoken of, and its path.
-fn say_subject<E: Reporter>(
-    reporter: &mut E,
-    job: &Job<'_>,
-    file: Option<JobFile>,
-) -> Result<(), Unsaid>
-    ensures said { OnOk result (Appends (E.said reporter.old) (E.said reporter.new)
-        (subject_of file (request_of job.now))) }
-    ensures failed { OnErr result (E.has_failed reporter.new ≡ true) }
-{
-    let Some(file) = file else {
-        return Ok(());
-    };
-    reporter.say(file.text().as_bytes())?;
-    reporter.say(path(job, file).as_bytes())?;
-    reporter.say(file.ending().as_bytes())?;
-    reporter.say(b": ")
-}
-
 /// Says a word with its text behind it and a line feed.
 fn say_line<E: Reporter>(reporter: &mut E, word: &[u8], text: &[u8]) -> Result<(), Unsaid>
     ensures said { OnOk result (Appends (E.said reporter.old) (E.said reporter.new)
@@ -126,119 +71,70 @@ fn say_line<E: Reporter>(reporter: &mut E, word: &[u8], text: &[u8]) -> Result<(
     reporter.say(b"\n")
 }
 
-/// Says two ends of a range, and a colon.
-fn say_range<E: Reporter>(reporter: &mut E, from: u64, to: u64) -> Result<(), Unsaid>
-    ensures said { OnOk result
-        (Appends (E.said reporter.old) (E.said reporter.new) (range_text from to)) }
+/// Says a piece.
+fn say_piece<E: Reporter>(reporter: &mut E, piece: Piece<'_>) -> Result<(), Unsaid>
+    ensures said { OnOk result (Says (E.said reporter.old) (E.said reporter.new)) }
     ensures failed { OnErr result (E.has_failed reporter.new ≡ true) }
 {
-    say_number(reporter, from)?;
-    reporter.say(b" to ")?;
-    say_number(reporter, to)?;
-    reporter.say(b": ")
-}
-
-/// Says how many bytes an output has, and how many its disk wants there.
-fn say_lengths<E: Reporter>(reporter: &mut E, lengths: OutputLengths) -> Result<(), Unsaid>
-    ensures said { OnOk result
-        (Appends (E.said reporter.old) (E.said reporter.new) (lengths_text lengths)) }
-    ensures failed { OnErr result (E.has_failed reporter.new ≡ true) }
-{
-    reporter.say(b"it has ")?;
-    say_number(reporter, lengths.length)?;
-    reporter.say(b" bytes, and this disk wants ")?;
-    say_range(reporter, lengths.confirmed, lengths.released)
-}
-
-/// Says a number between two texts.
-fn say_number_between<E: Reporter>(
-    reporter: &mut E,
-    before: &[u8],
-    number: u64,
-    behind: &[u8],
-) -> Result<(), Unsaid>
-    ensures said { OnOk result (Appends (E.said reporter.old) (E.said reporter.new)
-        (size_text before.now number behind.now)) }
-    ensures failed { OnErr result (E.has_failed reporter.new ≡ true) }
-{
-    reporter.say(before)?;
-    say_number(reporter, number)?;
-    reporter.say(behind)
-}
-
-/// Says a size between two texts.
-pub(crate) fn say_size<E: Reporter>(
-    reporter: &mut E,
-    before: &[u8],
-    size: u32,
-    behind: &[u8],
-) -> Result<(), Unsaid>
-    ensures said { OnOk result (Appends (E.said reporter.old) (E.said reporter.new)
-        (size_text before.now size behind.now)) }
-    ensures failed { OnErr result (E.has_failed reporter.new ≡ true) }
-{
-    say_number_between(reporter, before, u64::from(size), behind)
-}
-
-/// Says the sizes of a disk.
-fn say_sizes<E: Reporter>(reporter: &mut E, sizes: Config) -> Result<(), Unsaid>
-    ensures said { OnOk result
-        (Appends (E.said reporter.old) (E.said reporter.new) (sizes_text sizes)) }
-    ensures failed { OnErr result (E.has_failed reporter.new ≡ true) }
-{
-    say_size(reporter, b"it has --pages ", sizes.pages, b"")?;
-    say_size(reporter, b" --harts ", sizes.harts, b"")?;
-    say_size(reporter, b" --journal ", sizes.journal, b": ")
-}
-
-/// Says how many bytes of its input a program has taken.
-fn say_taken<E: Reporter>(reporter: &mut E, taken: u64) -> Result<(), Unsaid>
-    ensures said { OnOk result
-        (Appends (E.said reporter.old) (E.said reporter.new) (taken_text taken)) }
-    ensures failed { OnErr result (E.has_failed reporter.new ≡ true) }
-{
-    let before = b"its program has taken ";
-    say_number_between(reporter, before, taken, b" bytes of the input: ")
-}
-
-/// Says how many bytes an input has, and how many of them the program has taken.
-fn say_input<E: Reporter>(reporter: &mut E, lengths: InputLengths) -> Result<(), Unsaid>
-    ensures said { OnOk result
-        (Appends (E.said reporter.old) (E.said reporter.new) (input_text lengths)) }
-    ensures failed { OnErr result (E.has_failed reporter.new ≡ true) }
-{
-    let taken = b" bytes, and the program has taken ";
-    say_number_between(reporter, b"it has ", lengths.length, b"")?;
-    say_number_between(reporter, taken, lengths.taken, b": ")
-}
-
-/// Says the numbers of a fault, where it has some.
-fn say_numbers<E: Reporter>(reporter: &mut E, job: &Job<'_>, fault: JobFault) -> Result<(), Unsaid>
-    ensures said { OnOk result (Appends (E.said reporter.old) (E.said reporter.new)
-        (numbers_of (request_of job.now) fault)) }
-    ensures failed { OnErr result (E.has_failed reporter.new ≡ true) }
-{
-    match fault {
-        JobFault::Format(FormatFault::BadConfig) => say_unfit_sizes(reporter, job),
-        JobFault::Range => say_unfit(reporter, job),
-        JobFault::SizesDiffer(sizes) => say_sizes(reporter, sizes),
-        JobFault::OutputDiffers(lengths) => say_lengths(reporter, lengths),
-        JobFault::OffsetDiffers(taken) => say_taken(reporter, taken),
-        JobFault::InputTooShort(lengths) => say_input(reporter, lengths),
-        _ => reporter.say(b""),
+    match piece {
+        Piece::Text(text) => reporter.say(text.as_bytes()),
+        Piece::Number(number) => say_number(reporter, number),
     }
+}
+
+/// Says pieces, one behind another.
+fn say_pieces<E: Reporter>(reporter: &mut E, pieces: &[Piece<'_>]) -> Result<(), Unsaid>
+    ensures said { OnOk result (Says (E.said reporter.old) (E.said reporter.new)) }
+    ensures failed { OnErr result (E.has_failed reporter.new ≡ true) }
+{
+    for piece in pieces {
+        say_piece(reporter, *piece)?;
+    }
+    Ok(())
+}
+
+/// Says of which file a fault is, where it is of one.
+fn say_file<E: Reporter>(
+    reporter: &mut E,
+    job: &Job<'_>,
+    file: Option<JobFile>,
+) -> Result<(), Unsaid>
+    ensures said { OnOk result (Says (E.said reporter.old) (E.said reporter.new)) }
+    ensures failed { OnErr result (E.has_failed reporter.new ≡ true) }
+{
+    match file {
+        Some(file) => say_pieces(reporter, &subject_of(job, file)),
+        None => say_pieces(reporter, &[]),
+    }
+}
+
+/// Says of which file a fault is, and its numbers.
+fn say_subject<E: Reporter>(reporter: &mut E, job: &Job<'_>, fault: JobFault) -> Result<(), Unsaid>
+    ensures said { OnOk result (Says (E.said reporter.old) (E.said reporter.new)) }
+    ensures failed { OnErr result (E.has_failed reporter.new ≡ true) }
+{
+    say_file(reporter, job, fault.file())?;
+    say_pieces(reporter, &numbers_of(job, fault))
+}
+
+/// Says the line with a fault's name.
+fn say_name<E: Reporter>(reporter: &mut E, fault: JobFault) -> Result<(), Unsaid>
+    ensures said { OnOk result
+        (Appends (E.said reporter.old) (E.said reporter.new) (fault_line fault)) }
+    ensures failed { OnErr result (E.has_failed reporter.new ≡ true) }
+{
+    say_line(reporter, b"ckrt: ", fault.name().as_bytes())
 }
 
 /// Says what is wrong in plain words, and then the line with the fault's name.
 fn say_fault<E: Reporter>(reporter: &mut E, job: &Job<'_>, fault: JobFault) -> Result<(), Unsaid>
-    ensures said { OnOk result (Appends (E.said reporter.old) (E.said reporter.new)
-        (report_of (request_of job.now) fault)) }
+    ensures said { OnOk result
+        (EndsWith (E.said reporter.old) (E.said reporter.new) (fault_line fault)) }
     ensures failed { OnErr result (E.has_failed reporter.new ≡ true) }
 {
-    say_subject(reporter, job, fault.file())?;
-    say_numbers(reporter, job, fault)?;
+    say_subject(reporter, job, fault)?;
     say_line(reporter, fault.advice().as_bytes(), b"")?;
-    say_line(reporter, b"ckrt: ", fault.name().as_bytes())
+    say_name(reporter, fault)
 }
 
 /// Says a number in decimal.
@@ -425,8 +321,8 @@ pub fn write_version<W: Write>(writer: &mut W) -> Result<(), JobFault>
 /// Says what a drive came to, or why a job wasn't done, if it wasn't. The answer is the program's status.
 pub fn report<E: Reporter>(reporter: &mut E, job: &Job<'_>, outcome: Result<Done, JobFault>) -> u8
     ensures status { result ≡ status_of outcome }
-    ensures reports { ReportsOutcome (request_of job.now) outcome (E.said reporter.old)
-        (E.said reporter.new) (E.has_failed reporter.new) }
+    ensures reports { ReportsOutcome outcome (E.said reporter.old) (E.said reporter.new)
+        (E.has_failed reporter.new) }
 {
     match outcome {
         Ok(Done::Whole) => 0,
@@ -446,8 +342,8 @@ pub fn report<E: Reporter>(reporter: &mut E, job: &Job<'_>, outcome: Result<Done
 /// Says why words name no job: the text on usage as it is, or that memory was refused. The answer is the program's status.
 pub fn report_words<E: Reporter>(reporter: &mut E, fault: WordsFault) -> u8
     ensures status { result ≡ status_of_words fault }
-    ensures said { E.has_failed reporter.new ≡ false
-        → Appends (E.said reporter.old) (E.said reporter.new) (words_report_of fault) }
+    ensures said { ReportsWords fault (E.said reporter.old) (E.said reporter.new)
+        (E.has_failed reporter.new) }
 {
     match fault {
         WordsFault::Usage(text) => {

@@ -28,4 +28,6 @@ mod small_disk;
 #[cfg(test)]
 mod stops;
 #[cfg(test)]
+mod texts;
+#[cfg(test)]
 mod words;

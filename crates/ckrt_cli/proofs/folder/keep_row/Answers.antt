@@ -41,13 +41,11 @@ returns-in-Err-keep_run-clause-stops g c =
     inr (
       record {
         failed = failed;
-        row_fails = record {
-          row = row;
-          is_row = there;
-          why = why;
-          fails = subst (λ p. KeepsFound g.D.Disk (sought_of (sought_in c.args.hunt.now told fills) row) p old failed (Err why)) c.in-Ok.ensures
-              (found_weaker g.D.Disk c.args.hunt.now row.first told.as_drawn told.config told.image.now (λ p. fills p (size_needed told.config)) (λ p disk. Unit {0}) c.in-Ok.path.now old failed (Err why) (λ p disk is. tt) c.in-Err-keep_run.ensures.kept);
-        };
+        row = row;
+        is_row = there;
+        why = why;
+        fails = subst (λ p. KeepsFound g.D.Disk (sought_of (sought_in c.args.hunt.now told fills) row) p old failed (Err why)) c.in-Ok.ensures
+            (found_weaker g.D.Disk c.args.hunt.now row.first told.as_drawn told.config told.image.now (λ p. fills p (size_needed told.config)) (λ p disk. Unit {0}) c.in-Ok.path.now old failed (Err why) (λ p disk is. tt) c.in-Err-keep_run.ensures.kept);
         result = Err c.tell_unkept.result;
         unasked = refl;
         tells = subst (λ p. TellsUnkept (unkept_text row.first p) why (has c.keep_run.new.writer) (has c.tell_unkept.new.writer) (Err c.tell_unkept.result)) c.in-Ok.ensures c.tell_unkept.ensures;

@@ -1,5 +1,5 @@
 use Rattle.std.proofs.Common.{rules, ◌∙◌}
-use Rattle.ckrt_cli.proofs.InputLemmas.{front_longer, front_whole}
+use Rattle.ckrt_cli_disk.proofs.FrontLemmas.{front_longer, front_whole}
 use Rattle.ckrt_cli.proofs.input.whole_input.Goals as goal
 
 -- one byte more than the limit was asked for

@@ -1,0 +1,231 @@
+//! What is said of a fault: of its file, of its numbers, and of numbers in the words that are out of their ranges.
+use ckrt_cli_faults::{JobFault, config_for, is_choice, is_target, is_time};
+use ckrt_cli_files::JobFile;
+use ckrt_cli_words::{DriveJob, HuntJob, Job, TimelineJob};
+use ckrt_events::LONG_RUN_LIMIT;
+use ckrt_recovery::{Config, FormatFault};
+
+/// A piece of what is said: a text, or a number in decimal.
+#[derive(Clone, Copy)]
+pub(crate) enum Piece<'a> {
+    /// This text.
+    Text(&'a str),
+    /// This number.
+    Number(u64),
+}
+
+/// At most three numbers, with texts before, between and after them.
+pub(crate) type Sentence<'a> = [Piece<'a>; 7];
+
+/// No text.
+const NOTHING: Piece<'static> = Piece::Text("");
+
+/// What is said of a stretch that would end before it begins.
+const TURNED: &str = "--from is above --to: ";
+
+/// What is said of no time between two lines that tell how far something is.
+const NO_PROGRESS: &str = "--progress 0 isn't 1 or more: ";
+
+/// A text without numbers.
+fn plain(text: &'static str) -> Sentence<'static> {
+    one(text, NOTHING, "")
+}
+
+/// A piece between two texts.
+fn one(before: &'static str, piece: Piece<'static>, after: &'static str) -> Sentence<'static> {
+    two(before, piece, after, NOTHING, "")
+}
+
+/// Two pieces between texts.
+fn two(
+    before: &'static str,
+    first: Piece<'static>,
+    between: &'static str,
+    second: Piece<'static>,
+    after: &'static str,
+) -> Sentence<'static> {
+    [
+        Piece::Text(before),
+        first,
+        Piece::Text(between),
+        second,
+        Piece::Text(after),
+        NOTHING,
+        NOTHING,
+    ]
+}
+
+/// A size between two texts.
+fn size(before: &'static str, number: u32, after: &'static str) -> Sentence<'static> {
+    one(before, Piece::Number(u64::from(number)), after)
+}
+
+fn is_outside(least: u32, most: u32, number: u32) -> bool {
+    number < least || most < number
+}
+
+/// Which of these sizes no disk has.
+fn sizes_of_no_disk(sizes: Config) -> Sentence<'static> {
+    if is_outside(16, 1_024, sizes.pages) {
+        return size("--pages ", sizes.pages, " isn't 16 to 1024: ");
+    }
+    if is_outside(1, 8, sizes.harts) {
+        return size("--harts ", sizes.harts, " isn't 1 to 8: ");
+    }
+    let range = " isn't a multiple of 4096 from 4096 to 1048576: ";
+    size("--journal ", sizes.journal, range)
+}
+
+/// Which number of the words no drive goes by.
+fn unfit_drive(job: &DriveJob<'_>) -> Sentence<'static> {
+    if is_outside(1, LONG_RUN_LIMIT, job.turn) {
+        return size("--turn ", job.turn, " isn't 1 to 1000000: ");
+    }
+    if job.rounds < 1 {
+        return plain("--rounds-per-commit 0 isn't 1 or more: ");
+    }
+    if job.progress == Some(0) {
+        return plain(NO_PROGRESS);
+    }
+    if !is_target(job.output, job.from) {
+        return plain("--from doesn't go with --output: ");
+    }
+    plain("--input-from is below 2^62, and goes with --input: ")
+}
+
+/// Which number of a timeline is out of its range.
+fn unfit_drawing(job: &TimelineJob<'_>) -> Sentence<'static> {
+    if is_outside(400, 4000, job.width) {
+        return size("--width ", job.width, " isn't 400 to 4000: ");
+    }
+    plain(TURNED)
+}
+
+/// Which number of the words no hunt goes by, or that there is one too many.
+fn unfit_hunt(job: &HuntJob<'_>) -> Sentence<'static> {
+    if !is_choice(job.seeds, job.seconds) {
+        return plain("--seconds doesn't go with --seeds: ");
+    }
+    if !is_time(job.seconds) {
+        return plain("--seconds isn't 1 to 31536000: ");
+    }
+    if job.progress == Some(0) {
+        return plain(NO_PROGRESS);
+    }
+    plain(
+        "--seeds isn't FIRST-LAST, two numbers below 2^64 - 1, the first one not above the last: ",
+    )
+}
+
+/// Which number of the words is the fault Range, where they ask for a drive, for a stretch, for a timeline or for a hunt.
+fn unfit(job: &Job<'_>) -> Sentence<'static> {
+    match job {
+        Job::Drive(job) => unfit_drive(job),
+        Job::Calls(_) | Job::Races(_) | Job::Profile(_) => plain(TURNED),
+        Job::Timeline(job) => unfit_drawing(job),
+        Job::Hunt(job) => unfit_hunt(job),
+        _ => plain(""),
+    }
+}
+
+/// Which size of the words is the fault BadConfig, where they ask for a disk to be made.
+fn unfit_sizes(job: &Job<'_>) -> Sentence<'static> {
+    match job {
+        Job::Format(job) => sizes_of_no_disk(Config {
+            pages: job.pages,
+            harts: job.harts,
+            journal: job.journal,
+        }),
+        Job::Drive(job) => sizes_of_no_disk(config_for(&job.sizes)),
+        Job::Hunt(job) => sizes_of_no_disk(Config {
+            pages: job.pages,
+            harts: job.harts,
+            journal: 1_048_576,
+        }),
+        _ => plain(""),
+    }
+}
+
+/// The sizes that a disk has.
+fn sizes_of_disk(sizes: Config) -> Sentence<'static> {
+    [
+        Piece::Text("it has --pages "),
+        Piece::Number(u64::from(sizes.pages)),
+        Piece::Text(" --harts "),
+        Piece::Number(u64::from(sizes.harts)),
+        Piece::Text(" --journal "),
+        Piece::Number(u64::from(sizes.journal)),
+        Piece::Text(": "),
+    ]
+}
+
+/// The numbers of a fault, where it has some.
+pub(crate) fn numbers_of(job: &Job<'_>, fault: JobFault) -> Sentence<'static> {
+    match fault {
+        JobFault::Format(FormatFault::BadConfig) => unfit_sizes(job),
+        JobFault::Range => unfit(job),
+        JobFault::SizesDiffer(sizes) => sizes_of_disk(sizes),
+        JobFault::OutputDiffers(lengths) => [
+            Piece::Text("it has "),
+            Piece::Number(lengths.length),
+            Piece::Text(" bytes, and this disk wants "),
+            Piece::Number(lengths.confirmed),
+            Piece::Text(" to "),
+            Piece::Number(lengths.released),
+            Piece::Text(": "),
+        ],
+        JobFault::OffsetDiffers(taken) => one(
+            "its program has taken ",
+            Piece::Number(taken),
+            " bytes of the input: ",
+        ),
+        JobFault::InputTooShort(lengths) => two(
+            "it has ",
+            Piece::Number(lengths.length),
+            " bytes, and the program has taken ",
+            Piece::Number(lengths.taken),
+            ": ",
+        ),
+        _ => plain(""),
+    }
+}
+
+/// What stands for the path of an output that is printed.
+const STANDARD_OUTPUT: &str = "(standard output)";
+
+/// The path that the words give for a file of their job; empty where they give none, but of an output that is printed.
+fn path<'a>(job: &Job<'a>, file: JobFile) -> &'a str {
+    match (job, file) {
+        (Job::Format(job), JobFile::Image) => job.image,
+        (Job::Format(job), JobFile::Disk) => job.disk,
+        (Job::Run(disk), JobFile::Disk) => disk,
+        (Job::Inspect(job), JobFile::Disk) => job.disk,
+        (Job::Drive(job), JobFile::Disk) => job.disk,
+        (Job::Drive(job), JobFile::Output) => job.output.unwrap_or(STANDARD_OUTPUT),
+        (Job::Drive(job), JobFile::Making) => job.disk,
+        (Job::Drive(job), JobFile::Image) => job.image.unwrap_or(""),
+        (Job::Drive(job), JobFile::Input) => job.input.unwrap_or(""),
+        (Job::Core(job), JobFile::Disk) => job.disk,
+        (Job::Core(job), JobFile::Core) => job.file,
+        (Job::Calls(job), JobFile::Disk) => job.disk,
+        (Job::Debug(job), JobFile::Disk) => job.disk,
+        (Job::Races(job), JobFile::Disk) => job.disk,
+        (Job::Timeline(job), JobFile::Disk) => job.stretch.disk,
+        (Job::Profile(job), JobFile::Disk) => job.stretch.disk,
+        (Job::Hunt(job), JobFile::Image) => job.image,
+        (Job::Hunt(job), JobFile::Disk) => job.keep.unwrap_or(""),
+        (Job::Hunt(job), JobFile::Making) => job.keep.unwrap_or(""),
+        (Job::Hunt(job), JobFile::Input) => job.input.unwrap_or(""),
+        _ => "",
+    }
+}
+
+/// What the file of a fault is, its path, and what stands behind that.
+pub(crate) fn subject_of<'a>(job: &Job<'a>, file: JobFile) -> [Piece<'a>; 4] {
+    [
+        Piece::Text(file.text()),
+        Piece::Text(path(job, file)),
+        Piece::Text(file.ending()),
+        Piece::Text(": "),
+    ]
+}
