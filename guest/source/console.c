@@ -55,14 +55,14 @@ static void __guest_end_of_call(FILE *stream) { (void)stream; }
 /* How many times the thread holds locks of streams: then no writing call is a cancellation point. */
 static _Thread_local unsigned held;
 
-static int take(FILE *stream, uint32_t call) {
+static int hold_stream(FILE *stream, uint32_t call) {
     pthread_mutex_t *lock = lock_of(stream);
     int error = lock ? object_call(call, lock, 0, 0, 0) : 0;
     if (lock && !error) held++;
     return error;
 }
 
-static void leave(FILE *stream) {
+static void leave_stream(FILE *stream) {
     pthread_mutex_t *lock = lock_of(stream);
     if (lock && object_call(CALL_MUTEX_UNLOCK, lock, 0, 0, 0) == 0) held--;
 }
@@ -77,13 +77,13 @@ static int taken(FILE *stream, int error) {
     return error;
 }
 
-void flockfile(FILE *stream) { taken(stream, take(stream, CALL_MUTEX_LOCK)); }
+void flockfile(FILE *stream) { taken(stream, hold_stream(stream, CALL_MUTEX_LOCK)); }
 
-int ftrylockfile(FILE *stream) { return taken(stream, take(stream, CALL_MUTEX_TRYLOCK)); }
+int ftrylockfile(FILE *stream) { return taken(stream, hold_stream(stream, CALL_MUTEX_TRYLOCK)); }
 
 void funlockfile(FILE *stream) {
     if (is_output(stream)) store_word(&handed_on, 0);
-    leave(stream);
+    leave_stream(stream);
 }
 
 /* --- Writing ------------------------------------------------------------------------------------------------------ */
@@ -93,14 +93,14 @@ static int begin_writing(FILE *stream) {
     int state;
     if (!held && lock_of(stream)) pthread_testcancel();
     pthread_setcancelstate(PTHREAD_CANCEL_DISABLE, &state);
-    take(stream, CALL_MUTEX_LOCK);
+    hold_stream(stream, CALL_MUTEX_LOCK);
     __guest_begin_of_call(stream, __SWR);
     return state;
 }
 
 static void end_writing(FILE *stream, int state) {
     __guest_end_of_call(stream);
-    leave(stream);
+    leave_stream(stream);
     pthread_setcancelstate(state, NULL);
 }
 
@@ -123,7 +123,7 @@ WRITING(int, vfprintf, to, (FILE *to, const char *format, va_list values), (to, 
 
 /* --- Reading ------------------------------------------------------------------------------------------------------ */
 
-static void unlock(void *stream) { leave(stream); }
+static void unlock(void *stream) { leave_stream(stream); }
 
 /* The library reads no long double: of such a format this tells. */
 static const char *checked(const char *format) {
@@ -143,7 +143,7 @@ static const char *checked(const char *format) {
     type __real_##name parameters;                         \
     type __wrap_##name parameters {                        \
         type result;                                       \
-        take(stream, CALL_MUTEX_LOCK);                     \
+        hold_stream(stream, CALL_MUTEX_LOCK);              \
         pthread_cleanup_push(unlock, stream);              \
         __guest_begin_of_call(stream, __SRD);              \
         result = __real_##name arguments;                  \
