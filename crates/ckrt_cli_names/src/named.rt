@@ -109,7 +109,8 @@ impl<W: Write> NamedWriter<W> {
     fn put_taken(&mut self, bytes: &[u8]) -> Result<(), AllocError>
         ensures line { self.new.line ≡ self.old.line }
         ensures start { self.new.start ≡ self.old.start }
-        ensures ok { OnOk result (self.new.put.made ≡ (Piece.Taken, bytes.now) ∷ self.old.put.made) }
+        ensures ok { OnOk result (self.new.put.made
+            ≡ (Piece.Taken, bytes.now) ∷ self.old.put.made) }
         ensures err { OnErr result (self.new.put.made ≡ self.old.put.made) }
     {
         self.waiting.extend_from_slice(bytes)?;
