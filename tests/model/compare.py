@@ -13,12 +13,13 @@ from random import Random
 from cases.debugged import DebuggedCase, difference_of_debugged
 from cases.drives import DrivesCase, difference_of_drives
 from cases.formats import FormatCase
-from cases.glances import RacesCase, TimelinesCase, difference_of_races, difference_of_timelines
+from cases.glances import RacesCase, TimelinesCase, difference_of_races, difference_of_timelines, rules_not_met
 from cases.halts import HaltsCase, difference_of_halts
 from cases.histories import HistoriesCase, is_turned
 from cases.hunted import HuntsCase, difference_of_hunts
 from cases.inputs import InputsCase, difference_of_inputs
 from cases.kinds import KINDS, Case, case_of
+from cases.kitted import CASES
 from cases.lived import LivedCase, difference_of_lived
 from cases.mixed import MixedCase, difference_of_mixed
 from cases.moved import MovedCase, difference_of_moved
@@ -29,13 +30,15 @@ from cases.streams import joined
 from cases.timed import TimedCase, difference_of_timed
 from cases.traced import CutCase, ListingsCase, LivesCase, TracedCase
 from cases.traced_runs import difference_of_cut, difference_of_lists, difference_of_traced
-from cases.words import WordsCase
+from cases.words import NAMED, NAMES, WordsCase
 from model.abi import KEY_CALLS, Call
 from model.call_lines import History, kind_of_line, lines_before_refused
 from model.layout import Geometry, format_disk
 from model.lines import serve_disk
 from model.listing import OutOfRange, listing
+from model.races import Readings
 from model.recovery import Unrecovered
+from model.stretches import Recording
 from model.switches import SWITCHES
 
 TIME_LIMIT = 60
@@ -209,6 +212,8 @@ def expected_of_words(case, contents, image):
     """The status, what is printed, and the name of the fault; the disk that is there has these contents."""
     if case.command is None:
         return 2, b"", None
+    if case.are_names_refused():
+        return 1, b"", "Names"
     if case.command == "format":
         fault = case.fault_of_format(image)
         return (1, b"", fault) if fault else (0, b"formatted %d\n" % case.geometry().size, None)
@@ -218,6 +223,8 @@ def expected_of_words(case, contents, image):
         return 1, b"", "File"
     if case.command == "run":
         return 0, b"", None
+    if case.command == "races":
+        return 0, "".join(line + "\n" for line in Recording(bytearray(contents)).show(Readings()).lines()).encode(), None
     if case.command == "calls":
         shown = calls_of_model(History(bytearray(contents)), (case.options["from"], case.options["to"]))
     else:
@@ -229,7 +236,7 @@ def difference_of_words(ckrt, case, folder, tally):
     """In a folder with a disk, a fitting image, one that is too long, and a folder; nothing is read from standard input."""
     contents, image = bytes(format_disk(Geometry(16, 1, 4096), b"")), bytes(4)
     long = bytes(4096 * 1024)
-    for name, data in (("disk", contents), ("image", image), ("long", long)):
+    for name, data in (("disk", contents), ("image", image), ("long", long), (NAMES[0], NAMES[1].encode())):
         (folder / name).write_bytes(data)
     (folder / "missing").unlink(missing_ok=True)
     (folder / "folder").mkdir(exist_ok=True)
@@ -240,6 +247,15 @@ def difference_of_words(ckrt, case, folder, tally):
     tally["words", expected[2] or f"status {expected[0]}"] += 1
     if (done.returncode, done.stdout, fault) != expected or bool(done.stderr) != bool(done.returncode):
         return f"{case.words}: model {expected}, program {done.returncode, done.stdout[:100], done.stderr[-100:]}"
+    return difference_of_names(case, done.stderr.decode(errors="replace").splitlines())
+
+
+def difference_of_names(case, told):
+    """None, or what of that about names isn't on standard error: where the file is missing, and in a usage."""
+    if case.asks_for_usage() and any("--names <FILE>" in line for line in told) != (case.words[0] in NAMED):
+        return f"{case.words}: names in its usage"
+    if case.names == "missing" and told[-2:-1] != ["the names missing: there is no such file"]:
+        return f"{case.words}: {told}"
     return None
 
 
@@ -390,6 +406,14 @@ def print_totals(totals):
     print(f"{totals.cases.total()} cases, {len(totals.differences)} differences")
 
 
+def print_rules_not_met(totals):
+    """Whether there are any, though there were enough cases to meet each."""
+    missed = rules_not_met(totals.answers) if totals.cases["kit"] >= CASES else []
+    for rule in missed:
+        print(f"NEVER MET: {rule}")
+    return bool(missed)
+
+
 def words():
     parser = argparse.ArgumentParser(description=__doc__)
     parser.add_argument("ckrt", type=os.path.abspath, help="the built program")
@@ -420,9 +444,10 @@ def main():
             if len(totals.differences) < chosen.stop_after:
                 run_case(chosen.ckrt, kind, seed, folder, totals)
     print_totals(totals)
+    is_missed = print_rules_not_met(totals)
     if not chosen.folder and not totals.differences:
         folder.rmdir()
-    sys.exit(1 if totals.differences else 0)
+    sys.exit(1 if totals.differences or is_missed else 0)
 
 
 if __name__ == "__main__":

@@ -16,6 +16,13 @@ from model.timelines import Timeline, trace_events
 TIME_LIMIT = 60
 WIDTH, WIDTHS = 1200, range(400, 4001)
 LAST = 1, 2, 5, 1 << 62  # how many of the last events of a stretch are asked for
+RULES = {
+    "a kit's lock taken behind another thread": "locks of a kit order nothing",
+    "an access of a kit": "accesses of a kit under its locks aren't told",
+    "a word given anew": "memory given anew",
+    "none, from the begin": "what was looked at is said, from the begin on",
+    "none, from later on": "what was looked at is said, from later on",
+}
 
 
 @dataclass
@@ -89,11 +96,26 @@ def difference_of_races(ckrt, case, path, tally):
         if lines is None:
             continue
         tally.update(("line of races", kind_of_race(line)) for line in lines)
+        if readings:
+            tell_met(readings, lines, tally)
         expected = fault or Glance(0, "".join(line + "\n" for line in lines))
         got = glance_of_program(ckrt, "races", path, stretch)
         if got != expected:
             return f"races (from, to {stretch}): {place_of_difference(expected, got)}"
     return None if path.read_bytes() == case.contents else "races changed the disk's bytes"
+
+
+def tell_met(readings, lines, tally):
+    """How often each rule made a difference."""
+    tally["rule about a kit", "a kit's lock taken behind another thread"] += readings.narrow.orders.untaken
+    for what, count in readings.met.items():
+        tally["rule about a kit", what] += count
+    if lines[0].startswith("no races"):
+        tally["rule about a kit", "none, from later on" if readings.narrow.stretch[0] else "none, from the begin"] += 1
+
+
+def rules_not_met(tally):
+    return [rule for what, rule in RULES.items() if not tally["rule about a kit", what]]
 
 
 def kind_of_race(line):

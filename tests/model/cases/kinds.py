@@ -16,6 +16,7 @@ from cases.halts import halts_case
 from cases.histories import histories_case
 from cases.hunted import hunts_case
 from cases.inputs import inputs_case
+from cases.kitted import Kitted, kit_case
 from cases.limits import limit_case
 from cases.lived import Living, lived_case
 from cases.mixed import mixed_case
@@ -232,6 +233,11 @@ def of_sharers(kind, share):
     return of_guests(Sharer, kind, share)
 
 
+def kitted_case(chance, seed):
+    """Every other one is plain."""
+    return kit_case(chance, turns_case(chance, Kitted(chance)), seed % 2 == 0)
+
+
 def of_guest(kind):
     """A kind whose cases are made of a guest's case."""
     return lambda chance, seed: kind(chance, guest_case(chance, seed))
@@ -242,7 +248,8 @@ KINDS = {
     "disks": disks_case, "killed": killed_case, "limits": limits_case, "saved": saved_case, "tables": tables_case,
     "stopped": stopped_case, "checkpoints": checkpoints_case, "formats": format_case, "lists": of_guest(lists_case),
     "fates": of_guest(fates_case), "parts": of_guest(parts_case), "listings": of_guest(listings_case), "cuts": cuts_case,
-    "histories": of_guest(histories_case), "races": of_sharers(races_case, 0.9), "timelines": of_sharers(timelines_case, 0.4),
+    "histories": of_guest(histories_case), "races": of_sharers(races_case, 0.9), "kit": kitted_case,
+    "timelines": of_sharers(timelines_case, 0.4),
     "hunts": hunts_case, "debugged": of_sharers(debugged_case, 0.4), "moved": of_sharers(moved_case, 0.6),
     "stepped": of_sharers(stepped_case, 0.6),
     "profiles": profiled_case, "dense": of_guests(Weaver, dense_case, 1),

@@ -14,15 +14,30 @@ NO_NUMBERS = ["", "x", "-1", "1.5", "0x10", "1_000", " 1", "1 ", "\uff11", b"\xf
 NO_COMMANDS = [[""], ["Run", "disk"], ["runs", "disk"], ["help"], ["--help"], ["-h"], ["version"], ["-"], [b"\xff"],
                ["--version", "run"], ["format", "--help"], ["run", "--help"], ["inspect", "--help"],
                ["calls", "--help"]]
+# What takes names, with the words in front of them; which words of no other command know the option.
+NAMED = {"inspect": ["disk"], "calls": ["disk"], "races": ["disk"], "timeline": ["disk"], "profile": ["disk"],
+         "hunt": ["image", "--seeds", "1-1"], "drive": ["disk"]}
+NAMELESS = {"format": ["disk", "image"], "run": ["disk"], "debug": ["disk"]}
+NAMES = "names", "ckrt-names 1 " + 64 * "0" + " 00000004\n"  # a file without a row, of another image than the one that is there
+NO_NAMES = ["missing", "missing", "folder", "image"]
 
 
 @dataclass
 class WordsCase:
-    """`files` are the words in the places of files, `options` the values; neither where the words are no command."""
+    """`files` are the words in the places of files, `options` the values; neither where the words are no command. `names` is the file
+    that names are taken from, if any is said."""
     words: list
     command: str | None = None
     files: tuple = ()
     options: dict | None = None
+    names: str | None = None
+
+    def are_names_refused(self):
+        """Of a disk any will do; of an image its own."""
+        return self.names in NO_NAMES or (self.names is not None and self.command == "hunt")
+
+    def asks_for_usage(self):
+        return self.words[1:] == ["--help"]
 
     def geometry(self):
         return Geometry(*(self.options[name] for name in DEFAULTS))
@@ -77,7 +92,25 @@ def spoiled(chance, case, texts):
     return shuffled(chance, case.command, case.files, option_words(chance, name, text))
 
 
+def named_words(chance):
+    """Mostly with a file that is none of names; or words that are no command."""
+    kind = chance.random()
+    if kind < 0.1:
+        return WordsCase([chance.choice([*NAMED, *NAMELESS]), "--help"])
+    if kind < 0.2:
+        command = chance.choice(list(NAMELESS))
+        return WordsCase(shuffled(chance, command, NAMELESS[command], [["--names", NAMES[0]]]))
+    command = chance.choice(list(NAMED))
+    if kind < 0.3:
+        return WordsCase([command, *NAMED[command], "--names"])
+    names = chance.choice([*NO_NAMES, *[NAMES[0]] * (2 if command in ("inspect", "calls", "races", "hunt") else 0)])
+    words = [command, *NAMED[command], *chance.choice([["--names", names], [f"--names={names}"]])]
+    return WordsCase(words, command, tuple(NAMED[command][:1]), dict(OPTIONS.get(command, {})), names)
+
+
 def words_case(chance, seed):
+    if chance.random() < 0.2:
+        return named_words(chance)
     if chance.random() < 0.15:
         return WordsCase(chance.choice(NO_COMMANDS))
     command = chance.choice(["format", "format", "run", "inspect", "inspect", "calls"])

@@ -1,4 +1,5 @@
-"""What a step loads or stores, whether that is atomic, and which accesses of each word are kept to be compared with later ones."""
+"""What a step loads or stores, whether that is atomic, and which accesses of each word are kept to be compared with later ones; what a kit
+accesses for itself, and where it tells that memory is given anew."""
 from dataclasses import dataclass
 
 from model.abi import ALL_ONES
@@ -9,6 +10,8 @@ LOAD, STORE = 0b0000011, 0b0100011
 WIDTHS = {LOAD: (0, 1, 2, 4, 5), STORE: (0, 1, 2)}  # by opcode, each funct3
 FENCE_BEFORE_STORE = 0x0310000F  # fence rw,w
 FENCE_BEHIND_LOAD = 0x0230000F  # fence r,rw
+OWN_LOCKS = 1, 2, 3, 4  # a kit's mutexes under which nothing of a program is accessed
+GIVEN_ANEW, REGISTERS = 0x00002033, 31 << 15 | 31 << 20  # slt x0, and the bits of the word that say which registers it compares
 
 
 @dataclass(frozen=True)
@@ -51,6 +54,21 @@ def access_of(machine, thread_id, position):
     return Access(position, thread_id, is_store, address, length, thread.pc, is_fence(memory, *fence))
 
 
+def is_of_kit(machine, access):
+    """Whether it is a plain one of a thread that owns one of a kit's mutexes: then it is told nowhere."""
+    owners = [machine.mutexes[name].owner for name in OWN_LOCKS if name in machine.mutexes]
+    return not access.is_atomic and access.thread in owners
+
+
+def given_anew(machine, thread_id):
+    """The addresses of the words that the thread's next step tells to be given anew; None where it is no such step."""
+    word, registers = next_word(machine, thread_id), machine.threads[thread_id].registers
+    if word & ~REGISTERS != GIVEN_ANEW:
+        return None
+    first, count = registers[word >> 15 & 31] // 4, registers[word >> 20 & 31] // 4
+    return range(4 * first, 4 * (first + count), 4)
+
+
 class Shadow:
     """Of each word the last store, and the last loads of the two threads that loaded it last, the later one first; each with the
     epoch of its thread."""
@@ -67,3 +85,11 @@ class Shadow:
         else:
             others = [kept for kept in self.loads.get(access.word, []) if kept[0].thread != access.thread]
             self.loads[access.word] = [(access, epoch), *others][:2]
+
+    def forget(self, words):
+        """Returns how many words of these had an access."""
+        found = {word for word in [*self.stores, *self.loads] if word in words}
+        for word in found:
+            self.stores.pop(word, None)
+            self.loads.pop(word, None)
+        return len(found)

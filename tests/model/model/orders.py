@@ -9,6 +9,7 @@ from model.stretches import acts_at_once, next_word
 from model.threads import WaitKind
 
 PLACES = 4096  # locks of one kind count as one where their addresses differ by a multiple of it
+VARIABLES = 4096  # no variable of a program is below it, so mutexes and read-write locks with names there are a kit's own
 MUTEX_LOCKS = (Call.MUTEX_LOCK, Call.MUTEX_TRYLOCK, Call.MUTEX_TIMEDLOCK)
 LOCKS = (Call.RWLOCK_RDLOCK, Call.RWLOCK_TRYRDLOCK, Call.RWLOCK_WRLOCK, Call.RWLOCK_TRYWRLOCK)
 
@@ -42,10 +43,11 @@ def holders_of_locks(machine):
 
 
 class Orders:
-    """Hands on what steps order."""
+    """Hands on what steps order. A kit's own locks order nothing: `untaken` counts how often one came to a thread from another one."""
 
     def __init__(self, clocks, is_wide):
         self.clocks, self.is_wide = clocks, is_wide
+        self.left, self.untaken = {}, 0
 
     def place(self, kind, address):
         """Locks of one kind that count as one have one holder; those at other bytes of one word are other locks. So have words of atomic
@@ -74,7 +76,10 @@ class Orders:
         if self.is_wide and before.call in (Call.COND_WAIT, Call.COND_TIMEDWAIT):
             given |= {lock for lock in before.holders if lock == ("mutex", before.words[1], before.caller)}
         for kind, address, number in given:
-            self.clocks.give(number, self.place(kind, address))
+            if address < VARIABLES:
+                self.left[address] = number
+            else:
+                self.clocks.give(number, self.place(kind, address))
 
     def take_locks(self, before, machine):
         """Who writes takes what readers and writers gave up, who reads what writers did. In the wide reading who has a lock behind
@@ -85,7 +90,9 @@ class Orders:
             taken |= {lock for lock in held if lock[1:] == (before.words[0], before.caller)}
         if self.is_wide:
             taken |= {lock for lock in held for wait in machine.ended_waits if lock == ("mutex", wait.mutex, wait.thread)}
-        for kind, address, number in taken:
+        for _, address, number in (lock for lock in taken if lock[1] < VARIABLES):
+            self.untaken += self.left.get(address, number) != number
+        for kind, address, number in (lock for lock in taken if lock[1] >= VARIABLES):
             for given in {"mutex": ["mutex"], "write": ["write", "read"], "read": ["write"]}[kind]:
                 self.clocks.take(number, self.place(given, address))
 

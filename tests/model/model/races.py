@@ -1,14 +1,15 @@
 """The lines of `ckrt races`: pairs of places whose accesses no chain orders, as the recorded events are made again."""
+from collections import Counter
 from dataclasses import dataclass
 
-from model.accesses import Access, Shadow, access_of
+from model.accesses import Access, Shadow, access_of, given_anew, is_of_kit
 from model.clocks import Clocks
 from model.listing import address_text
 from model.orders import Before, Orders
 from model.stretches import is_plain
 
 PAIRS = 64  # that have lines of their own
-NO_RACES = "no races in this schedule; another one may have some"
+NOT_BEFORE = "events before these were not looked at, and another schedule may have some"
 
 
 @dataclass
@@ -26,6 +27,7 @@ class Races:
         self.clocks, self.shadow = Clocks(), Shadow()
         self.orders = Orders(self.clocks, is_wide)
         self.pairs, self.others = {}, 0
+        self.stretch = 0, 0
 
     def note(self, access):
         """What a thread did up to an atomic store, that too, is before each later atomic load of the word."""
@@ -56,7 +58,12 @@ class Races:
     def lines(self):
         """In the order in which the pairs were found."""
         lines = [f"{text_of_pair(pair)}, {times(pair.count)}" for pair in self.pairs.values()]
-        return lines + ([f"and {times(self.others)} at other places"] if self.others else []) or [NO_RACES]
+        return lines + ([f"and {times(self.others)} at other places"] if self.others else []) or [text_of_none(*self.stretch)]
+
+
+def text_of_none(first, last):
+    """Where no pair was found: which events were looked at."""
+    return f"no races in events {first} to {last} of this schedule; {NOT_BEFORE if first else 'another one may have some'}"
 
 
 def times(count):
@@ -74,11 +81,14 @@ def text_of_access(access):
 
 
 class Readings:
-    """Looks on, and finds the races by the narrow reading and by the wide one."""
+    """Looks on, and finds the races by the narrow reading and by the wide one. `met` counts what the rules about a kit leave out."""
 
     def __init__(self):
         self.narrow, self.wide = Races(False), Races(True)
-        self.event = 0
+        self.event, self.met = 0, Counter()
+
+    def begin(self, machine, stretch):
+        self.narrow.stretch = self.wide.stretch = stretch
 
     def begin_event(self, number):
         self.event = number
@@ -87,15 +97,30 @@ class Readings:
         """A plain step has an access at most; any other one, and an event that is no run, may hand something on."""
         thread_id = None if hart is None else machine.harts[hart]
         if thread_id is not None and is_plain(machine, thread_id):
-            access = access_of(machine, thread_id, (self.event, step))
-            for races in (self.narrow, self.wide) if access else ():
-                races.note(access)
+            self.look_at_plain(machine, thread_id, (self.event, step))
             return make()
         before = Before(machine, thread_id)
         made = make()
         for races in (self.narrow, self.wide):
             races.orders.hand_on(before, machine)
         return made
+
+    def look_at_plain(self, machine, thread_id, position):
+        access = access_of(machine, thread_id, position)
+        if access is None:
+            return self.give_anew(given_anew(machine, thread_id))
+        if is_of_kit(machine, access):
+            self.met["an access of a kit"] += 1
+            return None
+        for races in (self.narrow, self.wide):
+            races.note(access)
+        return None
+
+    def give_anew(self, words):
+        """What was done to these words before is compared with nothing."""
+        if words:
+            self.met["a word given anew"] += self.narrow.shadow.forget(words)
+            self.wide.shadow.forget(words)
 
     def lines(self):
         """None where the two readings differ."""

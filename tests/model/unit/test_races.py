@@ -1,13 +1,16 @@
 """Data races: what orders accesses and what doesn't, by small guests; which accesses are kept; the text; and clocks beside chains."""
 import unittest
+from collections import Counter
 from random import Random
 
+from cases.glances import RULES, rules_not_met, tell_met
+from cases.kinds import case_of
 from model.abi import ALL_ONES, Call
-from model.assembler import STOP, Jump, Label, Program, call_words, image_of, immediate_form, length_of, load_number, store_form
+from model.assembler import STOP, Jump, Label, Program, call_words, image_of, immediate_form, length_of, load_number, register_form, store_form
 from model.clocks import Clocks
 from model.layout import Geometry, format_disk
 from model.lines import serve_disk
-from model.races import NO_RACES, Readings
+from model.races import Readings
 from model.stretches import Recording
 from model.switches import switched
 
@@ -71,7 +74,7 @@ def told(*turns, **what):
 
 def short(line):
     """Without positions, addresses and pcs."""
-    if line == NO_RACES:
+    if line.startswith("no races in events"):
         return "none"
     first, second, times = line.split(", ")
     return ", ".join([*(" ".join(access.split()[2:-3]) for access in (first, second)), times])
@@ -326,7 +329,186 @@ class Stretches(WithKeys):
         self.assertEqual([short(line) for line in whole], ["2 stores, 3 loads, once", "2 stores, 3 stores, once", "2 loads, 3 stores, once"])
         self.assertEqual(recording.show(Readings(), 6).lines(), [whole[2]])
         self.assertEqual(recording.show(Readings(), None, 6).lines(), [whole[0]])
-        self.assertEqual(recording.show(Readings(), 4, 4).lines(), [NO_RACES])
+        self.assertEqual([short(line) for line in recording.show(Readings(), 4, 4).lines()], ["none"])
+
+    def test_what_was_looked_at(self):
+        """Its ends are told where there is no race; and that others came before, where they did."""
+        recording = recording_of([(2, store()), (3, load())])
+        from_begin = "no races in events {} to {} of this schedule; another one may have some"
+        later = "no races in events {} to {} of this schedule; events before these were not looked at, and another schedule may have some"
+        for ends, text, told_ends in [((None, None), None, None), ((None, 5), from_begin, (0, 5)), ((0, 0), from_begin, (0, 0)),
+                                      ((1, 5), later, (1, 5)), ((4, None), later, (4, 6)), ((6, 6), later, (6, 6))]:
+            lines = recording.show(Readings(), *ends).lines()
+            self.assertEqual(lines == [text.format(*told_ends)] if text else short(lines[0]) == "2 stores, 3 loads, once", True, lines)
+
+
+class Kits(WithKeys):
+    """What a kit does for itself."""
+
+    def held(self, lock, items, taken=Call.RWLOCK_WRLOCK):
+        return [*call(taken, lock), *items, *call(Call.RWLOCK_UNLOCK, lock)]
+
+    def test_mutexes(self):
+        """Below 4,096 they pass on nothing, however they are taken."""
+        for lock in (0, 5, 6, 2048, 4095):
+            self.race((2, locked(store(), lock)), (3, locked(load(), lock)))
+            for taken in (call(Call.MUTEX_TRYLOCK, lock), call(Call.MUTEX_TIMEDLOCK, lock, 9, 0)):
+                self.race((2, locked(store(), lock)), (3, [*taken, *load()]))
+            self.race((2, [*call(Call.MUTEX_LOCK, lock), *store()]), (3, call(Call.MUTEX_LOCK, lock)), (2, call(Call.MUTEX_UNLOCK, lock)), (3, load()))
+        for lock in (4096, 4097, 8191, 8192 + 5, ALL_ONES):
+            self.no_race((2, locked(store(), lock)), (3, locked(load(), lock)))
+
+    def test_beside_those_that_count_as_one(self):
+        """A kit's lock passes nothing to one whose place it would have, and takes nothing from that."""
+        for one, other in [(5, 4096 + 5), (4096 + 5, 5)]:
+            self.race((2, locked(store(), one)), (3, locked(load(), other)))
+            self.race((2, self.held(one, store())), (3, self.held(other, load())))
+
+    def test_recursive(self):
+        """Nor does one of some levels, in either reading."""
+        twice = [*call(Call.MUTEX_INIT, 5, 1), *call(Call.MUTEX_LOCK, 5), *call(Call.MUTEX_LOCK, 5), *store(), *call(Call.MUTEX_UNLOCK, 5)]
+        self.race((2, twice), (3, locked(load(), 4096 + 5)))
+        self.race((2, [*twice, *call(Call.MUTEX_UNLOCK, 5)]), (3, locked(load(), 5)))
+
+    def test_read_write_locks(self):
+        for lock in (1, 4095):
+            for taken in (Call.RWLOCK_RDLOCK, Call.RWLOCK_TRYRDLOCK, Call.RWLOCK_WRLOCK, Call.RWLOCK_TRYWRLOCK):
+                self.race((2, self.held(lock, store())), (3, self.held(lock, load(), taken)))
+                self.race((2, self.held(lock, store(), taken)), (3, self.held(lock, load())))
+        self.no_race((2, self.held(4096, store())), (3, self.held(4096, load())))
+
+    def test_waits(self):
+        """The mutex of a wait at a condition is given up and taken again without passing on."""
+        wait = [*call(Call.MUTEX_LOCK, 5), *store(), *call(Call.COND_WAIT, 0x3000, 5)]
+        self.race((2, wait), (3, locked(load(), 5)))
+        wait = [*call(Call.MUTEX_LOCK, 5), *call(Call.COND_WAIT, 0x3000, 5)]
+        self.race((3, wait), (2, [*locked(store(), 5), *call(Call.COND_SIGNAL, 0x3000)]), (3, load()))
+
+    def test_what_orders_nevertheless(self):
+        """Barriers of such names, atomic operations under a kit's lock, and the program's lock around it."""
+        wait = call(Call.BARRIER_WAIT, 7)
+        self.no_race((1, call(Call.BARRIER_INIT, 7, 2)), (2, [*store(), *wait]), (3, [*wait, *load()]))
+        for lock in (3, 5):
+            self.no_race((2, [*store(), *locked(published(), lock)]), (3, [*locked(looked_at(), lock), *load()]))
+        self.no_race((2, locked([*store(), *locked([], 5)])), (3, locked([*locked([], 5), *load()])))
+
+    def test_accesses_of_a_kit(self):
+        """Plain ones of who owns one of the first four are told nowhere, on whichever side."""
+        for lock in (1, 2, 3, 4):
+            self.no_race((2, locked(store(), lock)), (3, load()))
+            self.no_race((2, store()), (3, locked(load(), lock)))
+            self.race((2, [*locked([], lock), *store()]), (3, load()))
+            self.race((2, [*call(Call.MUTEX_LOCK, lock)]), (3, store()), (4, load()), threads=3, races=["3 stores, 4 loads, once"])
+        for lock in (0, 5, 6, 4096 + 1):
+            self.race((2, locked(store(), lock)), (3, load()))
+        self.no_race((2, locked(locked(store(), 5), 2)), (3, load()))
+        self.race((2, self.held(2, store())), (3, load()))
+
+    def test_they_take_no_place(self):
+        """What was kept before stays."""
+        self.race((2, store()), (2, locked(store(), 2)), (3, load()))
+        self.race((2, [*store(), *locked(store(), 2)]), (4, locked(store(), 1)), (3, load()), threads=3)
+        self.race((2, load()), (3, locked(load(), 2)), (4, load()), (5, store()), threads=4, races=["4 loads, 5 stores, once", "2 loads, 5 stores, once"])
+
+    def test_atomic_under_locks_of_a_kit(self):
+        self.race((2, locked(published(), 3)), (3, load(8)), races=["2 stores atomically, 3 loads, once"])
+        self.race((3, store(8)), (2, locked(looked_at(), 3)), races=["3 stores, 2 loads atomically, once"])
+
+    def test_waiter_owns_none(self):
+        """Behind the wait it does."""
+        wait = [*call(Call.MUTEX_LOCK, 2), *call(Call.COND_WAIT, 0x3000, 2)]
+        self.no_race((3, wait), (2, [*store(), *call(Call.COND_SIGNAL, 0x3000)]), (3, load()))
+        self.race((3, wait), (2, [*store(), *call(Call.COND_SIGNAL, 0x3000)]), (3, [*call(Call.MUTEX_UNLOCK, 2), *load()]))
+
+
+def anew(offset, length, compare=register_form(0, 2, 0, 5, 6)):
+    """That so many bytes from there on are given anew."""
+    return [*load_number(5, SHARED + offset & ALL_ONES), *load_number(6, length), compare]
+
+
+class GivenAnew(WithKeys):
+    def test_forgotten(self):
+        """Stores and loads, plain and atomic; whoever tells it; and not what comes behind it."""
+        self.no_race((2, [*store(), *anew(0, 4)]), (3, load()))
+        self.no_race((2, store()), (1, anew(0, 4)), (3, load()))
+        self.no_race((2, load()), (3, [*anew(0, 4), *store()]))
+        self.no_race((2, load()), (3, load()), (4, [*anew(0, 4), *store()]), threads=3)
+        self.no_race((2, published()), (3, [*anew(8, 4), *load(8)]))
+        self.no_race((2, looked_at()), (3, [*anew(8, 4), *store(8)]))
+        self.race((2, [*anew(0, 4), *store()]), (3, load()))
+        self.race((2, [*store(), *anew(0, 4), *store()]), (3, load()))
+
+    def test_words(self):
+        """Just those from the first on, so many."""
+        for offset, length in [(0, 0), (0, 3), (-4, 4), (4, 4), (4, 400), (-400, 400), (-8, 8), (-8, 11), (-5, 7), (-3, 4), (8, ALL_ONES - 7)]:
+            self.race((2, store()), (3, [*anew(offset, length), *load()]))
+        for offset, length in [(0, 4), (0, 7), (-4, 8), (-400, 404), (0, 400), (-8, 12), (3, 4), (1, 7), (-3, 8), (0, ALL_ONES), (-SHARED, SHARED + 4)]:
+            self.no_race((2, store()), (3, [*anew(offset, length), *load()]))
+
+    def test_whole_words(self):
+        self.no_race((2, store(3, BYTE)), (3, [*anew(0, 4), *load(3, BYTE)]))
+        self.no_race((2, store(2, HALF)), (3, [*anew(2, 4), *load(2, HALF)]))
+
+    def test_outside_memory(self):
+        """Words that aren't there are passed over, and no address comes round."""
+        self.race((2, store()), (3, [*anew(0x4000000, ALL_ONES), *load()]))
+        self.race((2, store()), (3, [*anew(-16 - SHARED, SHARED + 400), *load()]))
+        self.no_race((2, store()), (3, [*anew(-SHARED, ALL_ONES), *load()]))
+
+    def test_other_instructions(self):
+        """Of another register, unsigned, or with a number in it; another operation of no register."""
+        for compare in [register_form(0, 2, 4, 5, 6), register_form(0, 3, 0, 5, 6), immediate_form(0x13, 2, 0, 5, 6), register_form(0, 0, 0, 5, 6)]:
+            self.race((2, store()), (3, [*anew(0, 4, compare), *load()]))
+
+    def test_as_an_instruction(self):
+        """It changes no register: the load behind it is that of x5."""
+        loads = immediate_form(0x03, 2, 4, 5, 0)
+        self.race((2, store()), (3, [*anew(0, 0), loads]))
+
+    def test_orders_stay(self):
+        """What was passed on by the word is passed on nevertheless."""
+        self.no_race((2, [*store(), *published()]), (3, [*anew(8, 4), *looked_at(), *load()]))
+
+
+class Met(WithKeys):
+    """How often the rules about a kit were met."""
+
+    def met(self, *turns, stretch=(None, None), **what):
+        readings, tally = recording_of(turns, **what).show(Readings(), *stretch), Counter()
+        tell_met(readings, readings.lines(), tally)
+        return {what: count for (_, what), count in tally.items() if count}
+
+    def test_each(self):
+        none = {"none, from the begin": 1}
+        self.assertEqual(self.met((2, load())), none)
+        self.assertEqual(self.met((2, load()), stretch=(2, None)), {"none, from later on": 1})
+        self.assertEqual(self.met((2, store()), (3, load())), {})
+        self.assertEqual(self.met((2, locked(store(), 2))), {**none, "an access of a kit": 1})
+        self.assertEqual(self.met((2, [*store(), *load(4), *anew(0, 8)])), {**none, "a word given anew": 2})
+        self.assertEqual(self.met((2, anew(0, 8))), none)
+
+    def test_locks(self):
+        """Only where one comes to a thread from another one."""
+        taken = {"none, from the begin": 1, "a kit's lock taken behind another thread": 1}
+        for lock, turns in [(5, [2, 2]), (4096 + 5, [2, 3])]:
+            self.assertEqual(self.met(*((number, locked([], lock)) for number in turns)), {"none, from the begin": 1})
+        self.assertEqual(self.met((2, locked([], 5)), (3, locked([], 5))), taken)
+        self.assertEqual(self.met((2, locked([], 5)), (3, locked([], 6)), (3, locked([], 5))), taken)
+        self.assertEqual(self.met(*((number, locked([], 5)) for number in (2, 3, 2))), {**taken, "a kit's lock taken behind another thread": 2})
+
+    def test_not_met(self):
+        tally = Counter({("rule about a kit", what): 1 for what in RULES})
+        self.assertEqual(rules_not_met(tally), [])
+        for what, rule in RULES.items():
+            self.assertEqual(rules_not_met(Counter({**tally, ("rule about a kit", what): 0})), [rule])
+
+    def test_drawn(self):
+        """A plain case meets each."""
+        case, tally = case_of("kit", 2), Counter()
+        for stretch in [(None, None), *case.stretches[-2:]]:
+            readings = Recording(bytearray(case.contents)).show(Readings(), *stretch)
+            tell_met(readings, readings.narrow.lines(), tally)
+        self.assertEqual(rules_not_met(tally), [])
 
 
 class Chains:

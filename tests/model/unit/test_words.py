@@ -3,7 +3,9 @@ import unittest
 from collections import Counter
 from random import Random
 
-from cases.words import WordsCase, words_case
+from cases.words import NAMED, NAMELESS, NAMES, NO_NAMES, WordsCase, words_case
+from compare import difference_of_names, expected_of_words
+from model.layout import Geometry, format_disk
 
 FITS, TOO_LONG = bytes(61440), bytes(61441)
 
@@ -24,11 +26,59 @@ class Order(unittest.TestCase):
         self.assertEqual(format_words().geometry().size, 348160)
 
 
+class Names(unittest.TestCase):
+    """A file of names that is refused, and one that isn't."""
+    DISK = bytes(format_disk(Geometry(16, 1, 4096), b""))
+    ALL = {"inspect", "calls", "races", "timeline", "profile", "hunt", "drive"}
+
+    def expected(self, command, names):
+        return expected_of_words(WordsCase([], command, tuple(NAMED[command][:1]), {"at": None, "code": None, "from": None, "to": None}, names), self.DISK, b"")
+
+    def test_commands(self):
+        self.assertEqual((set(NAMED), set(NAMELESS)), (self.ALL, {"format", "run", "debug"}))
+
+    def test_refused(self):
+        for command in NAMED:
+            for names in ("missing", "folder", "image"):
+                self.assertEqual(self.expected(command, names), (1, b"", "Names"))
+        self.assertEqual(set(NO_NAMES), {"missing", "folder", "image"})
+
+    def test_right(self):
+        """Of a disk those of any image."""
+        lines = b"no races in events 0 to 0 of this schedule; another one may have some\n"
+        self.assertEqual(self.expected("races", NAMES[0]), (0, lines, None))
+        for command in ("inspect", "calls"):
+            self.assertEqual(self.expected(command, NAMES[0]), self.expected(command, None))
+            self.assertEqual(self.expected(command, None)[::2], (0, None))
+        self.assertEqual(self.expected("hunt", NAMES[0]), (1, b"", "Names"))
+        self.assertFalse(WordsCase([], "hunt", ("image",), {}).are_names_refused())
+
+    def test_told(self):
+        usage, missing = ["      --names <FILE>  Take names"], ["the names missing: there is no such file", "ckrt: Names"]
+        for command in [*NAMED, *NAMELESS]:
+            asked = WordsCase([command, "--help"])
+            self.assertEqual(difference_of_names(asked, usage) is None, command in self.ALL)
+            self.assertEqual(difference_of_names(asked, []) is None, command not in self.ALL)
+        case = WordsCase(["calls", "disk", "--names", "missing"], "calls", ("disk",), {}, "missing")
+        self.assertIsNone(difference_of_names(case, missing))
+        for told in (missing[1:], missing[:1], ["the names disk: there is no such file", "ckrt: Names"], [*missing, "ckrt: Names"]):
+            self.assertIsNotNone(difference_of_names(case, told))
+        self.assertIsNone(difference_of_names(WordsCase(["calls", "disk"], "calls", ("disk",), {}), []))
+
+
 class Chosen(unittest.TestCase):
     def test_each_kind(self):
         cases = [words_case(Random(seed), seed) for seed in range(400)]
         commands = Counter(case.command for case in cases)
         self.assertTrue(all(commands[name] > 20 for name in (None, "format", "run", "inspect", "calls")), commands)
+
+    def test_names(self):
+        """Each command with names that are refused, some with others, and each usage."""
+        cases = [words_case(Random(seed), seed) for seed in range(2000)]
+        self.assertEqual({(case.command, case.names) for case in cases if case.names and case.are_names_refused()},
+                         {(command, names) for command in NAMED for names in ("missing", "folder", "image")} | {("hunt", "names")})
+        self.assertEqual({case.command for case in cases if case.names and not case.are_names_refused()}, {"inspect", "calls", "races"})
+        self.assertEqual({case.words[0] for case in cases if case.asks_for_usage()} - {"version"}, {*NAMED, *NAMELESS})
 
     def test_values(self):
         """A command's words have the values that the case says, whatever their order."""

@@ -2,10 +2,10 @@
 
 A subject's `WRONG` has for each file the texts that are changed there, and what each is changed to.
 """
-from wrong import answers, calls, disks, drives, histories, hunts, motions, profiles, races, tables, timelines
+from wrong import answers, calls, disks, drives, histories, hunts, motions, profiles, races, tables, timelines, words
 
 SUBJECTS = {"drives": drives, "tables": tables, "disks": disks, "calls": calls, "histories": histories, "races": races, "timelines": timelines,
-            "profiles": profiles, "hunts": hunts, "answers": answers, "motions": motions}
+            "profiles": profiles, "hunts": hunts, "answers": answers, "motions": motions, "words": words}
 
 
 def wrong_models(*subjects):

@@ -25,10 +25,10 @@ FIRST = {
     **dict.fromkeys(["begun", "debugged", "damage", "histories", "older_areas"], "begun"),
     **dict.fromkeys(["motions", "moved", "stepped"], "motions"), **dict.fromkeys(["profiles", "profiled"], "profiles"),
     **dict.fromkeys(["columns", "crowded"], "columns"), **dict.fromkeys(["stories", "lived"], "stories"), "timed": "timed",
-    **dict.fromkeys(["mistyped", "mistakes"], "mistyped"),
+    **dict.fromkeys(["mistyped", "mistakes"], "mistyped"), "words": "words", "glances": "races",
 }
 TESTS = ["plans", "rounds", "feeding", "calls", "call_lines", "races", "timelines", "hunts", "stubs", "mistyped", "begun", "motions", "profiles",
-         "columns", "stories", "timed", "raced", "keys", "long_runs", "listings", "rows", "tables", "texts", "fates", "lives", "stops"]
+         "columns", "stories", "timed", "raced", "keys", "words", "long_runs", "listings", "rows", "tables", "texts", "fates", "lives", "stops"]
 
 
 def fails(folder, test):

@@ -1,0 +1,87 @@
+"""Random programs in C for the kit: threads that access words they share, plainly or in an order, between calls of the C library."""
+THREADS = range(2, 4)
+WORDS = 3
+HEAD = """#include <pthread.h>
+#include <semaphore.h>
+#include <stdatomic.h>
+#include <stdio.h>
+#include <stdlib.h>
+#include <string.h>
+
+static volatile int shared[{words}];
+static atomic_int atomic[{words}];
+static volatile char text[8] = "text";
+static pthread_mutex_t mutex = PTHREAD_MUTEX_INITIALIZER;
+static pthread_rwlock_t lock = PTHREAD_RWLOCK_INITIALIZER;
+static pthread_barrier_t barrier;
+static sem_t semaphore;
+static int *volatile handed;
+
+"""
+MAIN = """int main(void) {{
+    pthread_t threads[{threads}];
+    pthread_barrier_init(&barrier, NULL, {threads});
+    sem_init(&semaphore, 0, {posted});
+{before}{creates}{joins}{behind}    return 0;
+}}
+"""
+
+
+class Source:
+    """`text` is the program. It ends by itself: each thread comes to the barrier as often as the others, and the semaphore is posted before."""
+
+    def __init__(self, chance):
+        self.chance, self.count, self.names = chance, chance.choice(THREADS), 0
+        self.rounds = chance.choice([0, 1, 1, 2])
+        routines = "".join(self.routine(number) for number in range(self.count))
+        creates = "".join(f"    pthread_create(&threads[{number}], NULL, work_{number}, NULL);\n" for number in range(self.count))
+        joins = "".join(f"    pthread_join(threads[{number}], NULL);\n" for number in range(self.count))
+        main = MAIN.format(threads=self.count, posted=self.count, before=self.block(1), creates=creates, joins=joins, behind=self.block(1))
+        self.text = HEAD.format(words=WORDS) + routines + main
+
+    def routine(self, number):
+        """The barrier lies between its blocks."""
+        blocks = (4 * " " + "pthread_barrier_wait(&barrier);\n").join(self.block(self.chance.choice([2, 3, 5])) for _ in range(self.rounds + 1))
+        return f"static void *work_{number}(void *unused) {{\n{blocks}    return unused;\n}}\n\n"
+
+    def block(self, count):
+        return "".join(f"    {line}\n" for _ in range(count) for line in self.chance.choice([self.access, self.between, self.guarded])())
+
+    def word(self):
+        return self.chance.randrange(WORDS)
+
+    def access(self):
+        word, chance = self.word(), self.chance
+        return [chance.choice([f"shared[{word}]++;", f"shared[{word}] = {chance.randrange(9)};", f"if (shared[{word}] > 99) exit(1);",
+                               f"atomic_fetch_add(&atomic[{word}], 1);", f"atomic_store(&atomic[{word}], shared[{word}]);",
+                               f"if (atomic_load(&atomic[{word}]) > 99) shared[{word}] = 0;", f"*(volatile int *)&atomic[{word}] = 1;"])]
+
+    def between(self):
+        """What takes the kit's locks, of which none orders the accesses on both sides."""
+        kinds = [self.printed, self.printed, self.own_block, self.own_block, self.handed_block, self.text_changed]
+        return self.chance.choice(kinds)()
+
+    def printed(self):
+        return [self.chance.choice(['puts("a");', "putchar('b');", 'puts((const char *)text);', 'fputs("", stdout);'])]
+
+    def own_block(self):
+        """A block that the thread alone has: where it was another's before, that is of no account."""
+        self.names += 1
+        name, size = f"own_{self.names}", self.chance.choice([1, 2, 5])
+        made = self.chance.choice([f"malloc({4 * size})", f"calloc({size}, 4)"])
+        return [f"int *volatile {name} = {made};", f"if ({name}) {name}[{size - 1}] = 1;", *self.access(), f"free({name});"]
+
+    def handed_block(self):
+        """One that any thread may have."""
+        return [self.chance.choice(["if (!handed) handed = calloc(1, 4);", "if (handed) handed[0]++;", "if (handed) shared[0] += handed[0];"])]
+
+    def text_changed(self):
+        return ["text[0] = 't';"]
+
+    def guarded(self):
+        """Of these each but the semaphore's orders what is between; that has room for all."""
+        ways = [("pthread_mutex_lock(&mutex);", "pthread_mutex_unlock(&mutex);"), ("pthread_rwlock_wrlock(&lock);", "pthread_rwlock_unlock(&lock);"),
+                ("pthread_rwlock_rdlock(&lock);", "pthread_rwlock_unlock(&lock);"), ("sem_wait(&semaphore);", "sem_post(&semaphore);")]
+        begin, end = self.chance.choice(ways)
+        inner = [line for _ in range(self.chance.choice([1, 2])) for line in self.chance.choice([self.access, self.between])()]
+        return [begin, *inner, end]
