@@ -1,5 +1,5 @@
 -- Only races are found.
-use Rattle.std.proofs.Common.{◌≡◌, ◌≤◌, ◌<◌, ℕ, zero, suc, ◌+◌, nat_lt, ◌==◌, ◌&&◌, not, Bool, true, false, List, [], ◌∷◌, ◌++◌, length, slice_get, slice_set, replicate, Option, Some, None, refl, sym, ap, ◌∙◌, subst, arith}
+use Rattle.std.proofs.Common.{◌≡◌, ◌≤◌, ◌<◌, ℕ, zero, suc, ◌+◌, ◌%◌, nat_lt, ◌==◌, ◌&&◌, not, Bool, true, false, List, [], ◌∷◌, ◌++◌, length, get_or, slice_get, slice_set, replicate, Option, Some, None, refl, sym, ap, ◌∙◌, subst, arith}
 use Rattle.std.proofs.lemmas.Bool.Decides.{nat_tests}
 use Rattle.std.specs.List.{AllByRecursion, list_any}
 use Rattle.ckrt_look_clocks.specs.declared.operation.Access.{Access}
@@ -10,7 +10,7 @@ use Rattle.ckrt_look_clocks.specs.declared.shadow.Cell.{Cell}
 use Rattle.ckrt_look_clocks.specs.declared.pair.Pair.{Pair}
 use Rattle.ckrt_look_clocks.specs.declared.pair.TheConstants.{PAIRS}
 use Rattle.ckrt_look_clocks.specs.Histories.{History, IsRace, conflict, op_at}
-use Rattle.ckrt_look_clocks.specs.Detection.{Found, access_at, compared, compared_all, counted, few_words, first_pair, is_at, is_by, kept, knows, no_accesses, noted, one_more, races, renewed, watched, with_load, with_pair, word_of}
+use Rattle.ckrt_look_clocks.specs.Detection.{Found, access_at, compared, compared_all, compared_stores, counted, few_words, first_pair, is_at, is_by, is_repeated, kept, knows, no_accesses, noted, one_more, races, renewed, stored, watched, with_load, with_pair, word_of}
 use Rattle.ckrt_look_clocks.specs.Laws.{ClocksAreExact, IsOrderly, IsRaceOf, OnlyRacesAreFound}
 use Rattle.ckrt_look_clocks.proofs.ListLemmas.{chosen, passed_over}
 use Rattle.ckrt_look_clocks.proofs.SeenLemmas.{Tell, op_stays, tells}
@@ -27,7 +27,7 @@ WasAccess past None = Unit {0}
 WasAccess past (Some a) = (i : ℕ) × (op_at past i ≡ Some (operation.Access a))
 
 pub record AreAccesses (past : History) (c : Cell) : Type 0 where
-  pub store : WasAccess past c.store
+  pub stores : AllByRecursion (WasAccess past) c.stores
   pub load : WasAccess past c.load
   pub other : WasAccess past c.other
 
@@ -35,8 +35,12 @@ stays : (past : History) (q : Operation) (o : Option Access) → WasAccess past 
 stays past q None was = tt
 stays past q (Some a) was = (was.0, op_stays past was.0 (operation.Access a) q was.1)
 
+stores_stay : (past : History) (q : Operation) (os : List (Option Access)) → AllByRecursion (WasAccess past) os → AllByRecursion (WasAccess (q ∷ past)) os
+stores_stay past q [] all = tt
+stores_stay past q (o ∷ os) all = (stays past q o all.0, stores_stay past q os all.1)
+
 stay : (past : History) (q : Operation) (c : Cell) → AreAccesses past c → AreAccesses (q ∷ past) c
-stay past q c are = record { store = stays past q c.store are.store; load = stays past q c.load are.load; other = stays past q c.other are.other }
+stay past q c are = record { stores = stores_stay past q c.stores are.stores; load = stays past q c.load are.load; other = stays past q c.other are.other }
 
 all_stay : (past : History) (q : Operation) (cs : List Cell) → AllByRecursion (AreAccesses past) cs → AllByRecursion (AreAccesses (q ∷ past)) cs
 all_stay past q [] all = tt
@@ -51,22 +55,35 @@ is_last past a = (length past, chosen (length past == length past) (Some (operat
 
 kept_load : (past : History) (a : Access) (c : Cell) (t : Bool) → is_by a.thread c.load ≡ t → AreAccesses (operation.Access a ∷ past) c → AreAccesses (operation.Access a ∷ past) (with_load a c)
 kept_load past a c true is are = subst (AreAccesses (operation.Access a ∷ past)) (sym (chosen (is_by a.thread c.load) (record c { load = Some a }) (record c { load = Some a; other = c.load }) is))
-    (record { store = are.store; load = is_last past a; other = are.other })
+    (record { stores = are.stores; load = is_last past a; other = are.other })
 kept_load past a c false is are = subst (AreAccesses (operation.Access a ∷ past)) (sym (passed_over (is_by a.thread c.load) (record c { load = Some a }) (record c { load = Some a; other = c.load }) is))
-    (record { store = are.store; load = is_last past a; other = are.load })
-
-is_kept : (past : History) (a : Access) (c : Cell) (t : Bool) → a.is_store ≡ t → AreAccesses past c → AreAccesses (operation.Access a ∷ past) (kept a c)
-is_kept past a c true is are = (let still = stay past (operation.Access a) c are in
-    subst (AreAccesses (operation.Access a ∷ past)) (sym (chosen a.is_store (record c { store = Some a }) (with_load a c) is)) (record { store = is_last past a; load = still.load; other = still.other }))
-is_kept past a c false is are = (let still = stay past (operation.Access a) c are in
-    subst (AreAccesses (operation.Access a ∷ past)) (sym (passed_over a.is_store (record c { store = Some a }) (with_load a c) is)) (kept_load past a c (is_by a.thread c.load) refl still))
+    (record { stores = are.stores; load = is_last past a; other = are.load })
 
 all_set : {X : Type 0} (P : X → Type 0) (xs : List X) (i : ℕ) (x : X) → AllByRecursion P xs → P x → AllByRecursion P (slice_set xs i x)
 all_set P [] i x all p = tt
 all_set P (y ∷ ys) zero x all p = (p, all.1)
 all_set P (y ∷ ys) (suc i) x all p = (all.0, all_set P ys i x all.1 p)
 
-at_place : {X : Type 0} (P : X → Type 0) (xs : List X) (i : ℕ) (x : X) → AllByRecursion P xs → slice_get xs i ≡ Some x → P x
+all_stored : (past : History) (a : Access) (n first : ℕ) (os : List (Option Access)) → AllByRecursion (WasAccess (operation.Access a ∷ past)) os
+    → AllByRecursion (WasAccess (operation.Access a ∷ past)) (stored n first a os)
+all_stored past a zero first os all = all
+all_stored past a (suc n) first os all =
+    all_set (WasAccess (operation.Access a ∷ past)) (stored n first a os) (first + n) (Some a) (all_stored past a n first os all) (is_last past a)
+
+pub was_at : (past : History) (os : List (Option Access)) (i : ℕ) → AllByRecursion (WasAccess past) os → WasAccess past (get_or os i None)
+was_at past [] i all = tt
+was_at past (o ∷ os) zero all = all.0
+was_at past (o ∷ os) (suc i) all = was_at past os i all.1
+
+is_kept : (past : History) (a : Access) (c : Cell) (t : Bool) → a.is_store ≡ t → AreAccesses past c → AreAccesses (operation.Access a ∷ past) (kept a c)
+is_kept past a c true is are = (let still = stay past (operation.Access a) c are in
+    subst (AreAccesses (operation.Access a ∷ past)) (sym (chosen a.is_store (record c { stores = stored a.size (a.address % 4) a c.stores }) (with_load a c) is))
+    (record { stores = all_stored past a a.size (a.address % 4) c.stores still.stores; load = still.load; other = still.other }))
+is_kept past a c false is are = (let still = stay past (operation.Access a) c are in
+    subst (AreAccesses (operation.Access a ∷ past)) (sym (passed_over a.is_store (record c { stores = stored a.size (a.address % 4) a c.stores }) (with_load a c) is))
+    (kept_load past a c (is_by a.thread c.load) refl still))
+
+pub at_place : {X : Type 0} (P : X → Type 0) (xs : List X) (i : ℕ) (x : X) → AllByRecursion P xs → slice_get xs i ≡ Some x → P x
 at_place P [] i x all is = absurd (cc)
 at_place P (y ∷ ys) zero x all is = (let same : y ≡ x = cc in subst P same all.0)
 at_place P (y ∷ ys) (suc i) x all is = at_place P ys i x all.1 is
@@ -136,12 +153,29 @@ module _ (n words : ℕ) (past : History) (b : Access) (told : Tell n words past
   all_compared None f was all = all
   all_compared (Some a) f was all = all_compared_by a f (races (watched past n words).clocks b a) refl was all
 
+  all_by_repeats : (k : ℕ) (stores : List (Option Access)) (f : Found) (t : Bool) → is_repeated k stores ≡ t → AllByRecursion (WasAccess past) stores
+      → AllByRecursion (IsRaceOf (operation.Access b ∷ past)) (compared_stores k (watched past n words).clocks b stores f).pairs
+      → AllByRecursion (IsRaceOf (operation.Access b ∷ past)) (compared_stores (suc k) (watched past n words).clocks b stores f).pairs
+  all_by_repeats k stores f true e were all = (let clocks = (watched past n words).clocks in
+      subst (λ (g : Found). AllByRecursion (IsRaceOf (operation.Access b ∷ past)) g.pairs)
+      (sym (chosen (is_repeated k stores) (compared_stores k clocks b stores f) (compared clocks b (get_or stores k None) (compared_stores k clocks b stores f)) e)) all)
+  all_by_repeats k stores f false e were all = (let clocks = (watched past n words).clocks in
+      subst (λ (g : Found). AllByRecursion (IsRaceOf (operation.Access b ∷ past)) g.pairs)
+      (sym (passed_over (is_repeated k stores) (compared_stores k clocks b stores f) (compared clocks b (get_or stores k None) (compared_stores k clocks b stores f)) e))
+      (all_compared (get_or stores k None) (compared_stores k clocks b stores f) (was_at past stores k were) all))
+
+  all_of_stores : (k : ℕ) (stores : List (Option Access)) (f : Found) → AllByRecursion (WasAccess past) stores → AllByRecursion (IsRaceOf (operation.Access b ∷ past)) f.pairs
+      → AllByRecursion (IsRaceOf (operation.Access b ∷ past)) (compared_stores k (watched past n words).clocks b stores f).pairs
+  all_of_stores zero stores f were all = all
+  all_of_stores (suc k) stores f were all = all_by_repeats k stores f (is_repeated k stores) refl were (all_of_stores k stores f were all)
+
   all_of_cell : (c : Cell) (f : Found) → AreAccesses past c → AllByRecursion (IsRaceOf (operation.Access b ∷ past)) f.pairs
       → AllByRecursion (IsRaceOf (operation.Access b ∷ past)) (compared_all (watched past n words).clocks b c f).pairs
   all_of_cell c f are all =
       let clocks = (watched past n words).clocks in
-      all_compared c.other (compared clocks b c.load (compared clocks b c.store f)) are.other
-      (all_compared c.load (compared clocks b c.store f) are.load (all_compared c.store f are.store all))
+      let behind_stores = compared_stores (length c.stores) clocks b c.stores f in
+      all_compared c.other (compared clocks b c.load behind_stores) are.other
+      (all_compared c.load behind_stores are.load (all_of_stores (length c.stores) c.stores f are.stores all))
 
 -- OPERATION BY OPERATION
 
@@ -149,14 +183,17 @@ pub record AreRaces (n words : ℕ) (past : History) : Type 0 where
   pub shadow : AllByRecursion (AreAccesses past) (watched past n words).shadow
   pub pairs : AllByRecursion (IsRaceOf past) (watched past n words).found.pairs
 
+nothing_kept : (past : History) → AreAccesses past no_accesses
+nothing_kept past = record { stores = (tt, (tt, (tt, (tt, tt)))); load = tt; other = tt }
+
 all_renewed : (past : History) (count first : ℕ) (shadow : List Cell) → AllByRecursion (AreAccesses past) shadow → AllByRecursion (AreAccesses past) (renewed count first shadow)
 all_renewed past zero first shadow all = all
 all_renewed past (suc n) first shadow all =
-    all_set (AreAccesses past) (renewed n first shadow) (first + n) no_accesses (all_renewed past n first shadow all) (record { store = tt; load = tt; other = tt })
+    all_set (AreAccesses past) (renewed n first shadow) (first + n) no_accesses (all_renewed past n first shadow all) (nothing_kept past)
 
 none_kept : (words : ℕ) → AllByRecursion (AreAccesses []) (replicate words no_accesses)
 none_kept zero = tt
-none_kept (suc words) = (record { store = tt; load = tt; other = tt }, none_kept words)
+none_kept (suc words) = (nothing_kept [], none_kept words)
 
 access_races : (n words : ℕ) (past : History) (b : Access) (o : Option Cell) → slice_get (watched past n words).shadow (word_of b) ≡ o → Tell n words past → b.thread < n → AreRaces n words past
     → AllByRecursion (AreAccesses (operation.Access b ∷ past)) (access_at b o (watched past n words)).shadow × AllByRecursion (IsRaceOf (operation.Access b ∷ past)) (access_at b o (watched past n words)).found.pairs
@@ -171,7 +208,7 @@ access_races n words past b (Some c) is told thread are = (
       (all_go_on past (operation.Access b) (watched past n words).found.pairs are.pairs),
 )
 
-are_races : (n words : ℕ) (past : History) → THREADS ≤ n → IsOrderly n past → AreRaces n words past
+pub are_races : (n words : ℕ) (past : History) → THREADS ≤ n → IsOrderly n past → AreRaces n words past
 are_races n words [] all orderly = record { shadow = none_kept words; pairs = tt }
 are_races n words (operation.Access b ∷ past) all orderly =
     let both = access_races n words past b (slice_get (watched past n words).shadow (word_of b)) refl (tells n words past orderly.0) (omega (arith, all, orderly.1)) (are_races n words past all orderly.0) in

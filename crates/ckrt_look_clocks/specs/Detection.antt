@@ -1,6 +1,6 @@
 -- How races are found, operation by operation: vector clocks (Mattern 1989; Fidge 1988) tell what each holder has seen, and a
 -- shadow of each word of memory has the accesses that a later one is compared with (this project's choice).
-use Rattle.std.specs.Prelude.{ℕ, zero, suc, ◌+◌, ◌-◌, ◌/◌, ◌==◌, nat_lt, min, Bool, false, ◌&&◌, ◌||◌, not, if◌then◌else◌, List, [], ◌∷◌, ◌++◌, length, get_or, slice_get, slice_set, replicate, Option, Some, None}
+use Rattle.std.specs.Prelude.{ℕ, zero, suc, ◌+◌, ◌-◌, ◌/◌, ◌%◌, ◌==◌, nat_lt, min, Bool, false, ◌&&◌, ◌||◌, not, if◌then◌else◌, List, [], ◌∷◌, ◌++◌, length, get_or, slice_get, slice_set, replicate, take, Option, Some, None}
 use Rattle.std.specs.List.{list_any}
 use Rattle.ckrt_look_clocks.specs.declared.operation.Place.{Place}
 use Rattle.ckrt_look_clocks.specs.declared.operation.Access.{Access}
@@ -51,7 +51,12 @@ abbrev pub knows : List Clock → ℕ → Access → Bool
 knows clocks t a =
     t == a.thread || is_before a.place (get_or (clock_of t clocks).seen a.thread nothing)
 
--- THE SHADOW of a word of memory: its last store, and the last loads of the two threads that loaded it last
+-- THE SHADOW of a word of memory: the last store to each of its bytes, and the last loads of the two threads that loaded it last
+
+-- n bytes of a word, from this one on, have this as their last store; bytes that the word hasn't got are passed over
+abbrev pub stored : (n first : ℕ) → Access → List (Option Access) → List (Option Access)
+stored zero first a stores = stores
+stored (suc n) first a stores = slice_set (stored n first a stores) (first + n) (Some a)
 
 abbrev pub is_by : ℕ → Option Access → Bool
 is_by t None = false
@@ -63,7 +68,9 @@ with_load a c =
     else record c { load = Some a; other = c.load }
 
 abbrev pub kept : Access → Cell → Cell
-kept a c = if a.is_store then record c { store = Some a } else with_load a c
+kept a c =
+    if a.is_store then record c { stores = stored a.size (a.address % 4) a c.stores }
+    else with_load a c
 
 -- WHAT WAS FOUND: pairs of places in the program, each with the first two accesses there that race, and how often
 
@@ -114,9 +121,28 @@ abbrev pub compared : List Clock → Access → Option Access → Found → Foun
 compared clocks b None f = f
 compared clocks b (Some a) f = if races clocks b a then noted a b f else f
 
+-- two bytes have the same last store: an access has its place alone
+abbrev pub is_same : Option Access → Option Access → Bool
+is_same None t = false
+is_same (Some a) None = false
+is_same (Some a) (Some b) = a.place.event == b.place.event && a.place.step == b.place.step
+
+-- a byte's last store is that of an earlier byte, too
+abbrev pub is_repeated : (byte : ℕ) → List (Option Access) → Bool
+is_repeated k stores = list_any (is_same (get_or stores k None)) (take k stores)
+
+-- an access is compared with the last stores of the first n bytes by rising address, with each store once
+abbrev pub compared_stores : ℕ → List Clock → Access → List (Option Access) → Found → Found
+compared_stores zero clocks b stores f = f
+compared_stores (suc k) clocks b stores f =
+    if is_repeated k stores then compared_stores k clocks b stores f
+    else compared clocks b (get_or stores k None) (compared_stores k clocks b stores f)
+
+-- with the stores first, then with the last load, then with the other one
 abbrev pub compared_all : List Clock → Access → Cell → Found → Found
 compared_all clocks b c f =
-    compared clocks b c.other (compared clocks b c.load (compared clocks b c.store f))
+    compared clocks b c.other
+    (compared clocks b c.load (compared_stores (length c.stores) clocks b c.stores f))
 
 -- OPERATION BY OPERATION
 
@@ -139,7 +165,7 @@ access_at a (Some c) w = record {
 }
 
 abbrev pub no_accesses : Cell
-no_accesses = record { store = None; load = None; other = None }
+no_accesses = record { stores = replicate 4 None; load = None; other = None }
 
 -- so many words from one on have a shadow without an access
 abbrev pub renewed : (count first : ℕ) → List Cell → List Cell

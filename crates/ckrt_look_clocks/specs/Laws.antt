@@ -1,5 +1,5 @@
 -- What the clocks tell, and what is found.
-use Rattle.std.specs.Prelude.{◌≡◌, ◌⊎◌, ◌↔◌, ◌≤◌, ◌<◌, ℕ, ◌+◌, true, false, List, length, [], ◌∷◌, ◌++◌, slice_get, Some}
+use Rattle.std.specs.Prelude.{◌≡◌, ◌⊎◌, ◌↔◌, ◌≤◌, ◌<◌, ℕ, ◌+◌, true, false, List, length, [], ◌∷◌, ◌++◌, get_or, slice_get, None, Some}
 use Rattle.std.specs.List.{AllByRecursion, list_any}
 use Rattle.ckrt_look_clocks.specs.declared.operation.Access.{Access}
 use Rattle.ckrt_look_clocks.specs.declared.operation.Operation.{Operation}
@@ -66,9 +66,11 @@ OnlyRacesAreFound =
 
 -- EACH RACE WITH AN ACCESS THAT IS KEPT IS FOUND, and stays found
 
--- an access is one of those that the shadow keeps
+-- an access is one of those that the shadow keeps: the last store to some byte, or one of the loads
 abbrev pub IsKept : Access → Cell → Type 0
-IsKept a c = (c.store ≡ Some a) ⊎ ((c.load ≡ Some a) ⊎ (c.other ≡ Some a))
+IsKept a c =
+    ((byte : ℕ) × (get_or c.stores byte None ≡ Some a))
+    ⊎ ((c.load ≡ Some a) ⊎ (c.other ≡ Some a))
 
 -- their places have a row, or some places found none left
 abbrev pub AreFound : Access → Access → Found → Type 0

@@ -1,12 +1,12 @@
 //! Operation by operation.
 ghost use Rattle.std.specs.Prelude.{◌≡◌, ◌≤◌, ◌+◌, length, replicate, IfOk};
-ghost use Rattle.ckrt_look_clocks.specs.Detection.{compared, compared_all, found_in, few_words, no_accesses, no_clock, renewed};
+ghost use Rattle.ckrt_look_clocks.specs.Detection.{compared, compared_all, compared_stores, found_in, few_words, no_accesses, no_clock, renewed};
 
 use crate::clock::{Clock, knows, no_clock, pass};
 use crate::found::Findings;
 use crate::operation::{Access, Operation, conflict};
 use crate::pair::Pair;
-use crate::shadow::{Cell, keep, no_accesses};
+use crate::shadow::{Cell, is_repeated, keep, no_accesses};
 use std::alloc::{AllocError, Global};
 use std::marker::Model;
 
@@ -81,12 +81,29 @@ fn compare(clocks: &[Clock], access: &Access, kept: &Option<Access>, found: &mut
     }
 }
 
+/// An access is compared with the last stores to the bytes of its word, with each once.
+fn compare_stores(
+    clocks: &[Clock],
+    access: &Access,
+    stores: &[Option<Access>; 4],
+    found: &mut Findings,
+)
+    ensures { found_in found.new ≡
+        compared_stores (length stores.now) clocks.now access.now stores.now (found_in found.old) }
+{
+    for byte in 0..4 {
+        if !is_repeated(stores, byte) {
+            compare(clocks, access, &stores[byte], found);
+        }
+    }
+}
+
 /// An access is compared with those that were kept of its word.
 fn compare_all(clocks: &[Clock], access: &Access, cell: &Cell, found: &mut Findings)
     ensures { found_in found.new
         ≡ compared_all clocks.now access.now cell.now (found_in found.old) }
 {
-    compare(clocks, access, &cell.store, found);
+    compare_stores(clocks, access, &cell.stores, found);
     compare(clocks, access, &cell.load, found);
     compare(clocks, access, &cell.other, found);
 }
@@ -120,7 +137,7 @@ impl Detector {
     ghost use Rattle.std.specs.Prelude.{slice_get};
 
     /// Nothing was done yet, by so many holders, of which the first 65 are threads, to a memory of so many words. It takes 1,040
-    /// bytes a holder and 120 bytes a word.
+    /// bytes a holder and 240 bytes a word.
     pub fn new(alloc: Global, holders: usize, words: usize) -> Result<Detector, AllocError>
         ensures { IfOk result (λ detector. detector ≡ fresh holders words) }
     {
@@ -149,10 +166,9 @@ impl Detector {
         if word >= self.shadow.len() {
             return;
         }
-        let mut cell = self.shadow[word];
-        compare_all(self.clocks.as_slice(), access, &cell, &mut self.found);
-        keep(&mut cell, access);
-        self.shadow[word] = cell;
+        let clocks = self.clocks.as_slice();
+        compare_all(clocks, access, &self.shadow[word], &mut self.found);
+        keep(&mut self.shadow[word], access);
     }
 
     /// So many words of memory from one on are given anew: what was done to them before is compared with nothing. Words that the

@@ -51,7 +51,7 @@ fn words_of(machine: &Machine) -> usize
     1024 * machine.memory().pages() as usize
 }
 
-/// A detector for what a machine does from here on: what was done before is taken as ordered. It takes 14 MB, and 30 bytes for each of
+/// A detector for what a machine does from here on: what was done before is taken as ordered. It takes 14 MB, and 60 bytes for each of
 /// the guest's memory.
 pub fn detector_for(alloc: Global, machine: &Machine) -> Result<Detector, AllocError>
     ensures { IfOk result (λ detector.
@@ -80,7 +80,7 @@ fn write_detected<W: Write>(
 
 /// Makes events, each of which is to be accepted at its turn, and writes their races: each pair of places in them once, with the first two
 /// accesses there that race, and how often, or where there were none. The first event is behind `count` others, and what was done
-/// before it is taken as ordered. It takes 14 MB, and 30 bytes for each of the guest's memory.
+/// before it is taken as ordered. It takes 14 MB, and 60 bytes for each of the guest's memory.
 ///
 /// # Errors
 ///
