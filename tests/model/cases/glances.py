@@ -8,7 +8,7 @@ from cases.histories import disk_with_stretches, is_turned
 from model.columns import is_dense
 from model.listing import OutOfRange
 from model.pictures import difference_of_picture
-from model.races import Readings
+from model.races import EARLIER, ELSEWHERE, ONE_AROUND, SEVERAL, Readings
 from model.recovery import Unrecovered
 from model.stretches import Recording
 from model.timelines import Timeline, trace_events
@@ -16,12 +16,21 @@ from model.timelines import Timeline, trace_events
 TIME_LIMIT = 60
 WIDTH, WIDTHS = 1200, range(400, 4001)
 LAST = 1, 2, 5, 1 << 62  # how many of the last events of a stretch are asked for
+OF_KIT, OF_BYTES = "rule about a kit", "rule about bytes"
 RULES = {
-    "a kit's lock taken behind another thread": "locks of a kit order nothing",
-    "an access of a kit": "accesses of a kit under its locks aren't told",
-    "a word given anew": "memory given anew",
-    "none, from the begin": "what was looked at is said, from the begin on",
-    "none, from later on": "what was looked at is said, from later on",
+    OF_KIT: {
+        "a kit's lock taken behind another thread": "locks of a kit order nothing",
+        "an access of a kit": "accesses of a kit under its locks aren't told",
+        "a word given anew": "memory given anew",
+        "none, from the begin": "what was looked at is said, from the begin on",
+        "none, from later on": "what was looked at is said, from later on",
+    },
+    OF_BYTES: {
+        EARLIER: "the last store to each byte is kept, and not the word's alone",
+        ELSEWHERE: "all four bytes' stores are compared, whichever are accessed",
+        ONE_AROUND: "a store is compared once, and not once for each byte",
+        SEVERAL: "stores are compared by rising byte",
+    },
 }
 
 
@@ -107,15 +116,18 @@ def difference_of_races(ckrt, case, path, tally):
 
 def tell_met(readings, lines, tally):
     """How often each rule made a difference."""
-    tally["rule about a kit", "a kit's lock taken behind another thread"] += readings.narrow.orders.untaken
+    tally[OF_KIT, "a kit's lock taken behind another thread"] += readings.narrow.orders.untaken
     for what, count in readings.met.items():
-        tally["rule about a kit", what] += count
+        tally[OF_KIT, what] += count
+    for what, count in readings.narrow.met.items():
+        tally[OF_BYTES, what] += count
     if lines[0].startswith("no races"):
-        tally["rule about a kit", "none, from later on" if readings.narrow.stretch[0] else "none, from the begin"] += 1
+        tally[OF_KIT, "none, from later on" if readings.narrow.stretch[0] else "none, from the begin"] += 1
 
 
-def rules_not_met(tally):
-    return [rule for what, rule in RULES.items() if not tally["rule about a kit", what]]
+def rules_not_met(tally, subjects=tuple(RULES)):
+    """Of these subjects."""
+    return [rule for subject in subjects for what, rule in RULES[subject].items() if not tally[subject, what]]
 
 
 def kind_of_race(line):

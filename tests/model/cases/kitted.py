@@ -2,10 +2,10 @@
 is given anew."""
 from cases.glances import RacesCase
 from cases.histories import disk_with_stretches, drawn_stretches
-from cases.sharers import SHARED, Sharer
+from cases.sharers import SHARED, PartSharer
 from cases.streams import joined
 from model.abi import Call
-from model.assembler import add_immediate, call_words, immediate_form, register_form, store_word
+from model.assembler import add_immediate, call_words, immediate_form, register_form, store_form, store_word
 from model.lines import serve_disk
 
 KIT_LOCKS = [1, 2, 3, 4, 5, 0, 6, 4095]
@@ -16,15 +16,17 @@ DISTANCES = [0, 0, 0, 4, 4, 8, 1, 2, 3, -1, -4]  # of a shared word from where m
 FIRST, COUNT, ARGUMENT = 5, 6, 7  # registers that nobody else uses
 BEGIN = [line for steps in (50, 20, 40) for line in (b"place 0 1", b"run 0 %d" % steps, b"place 0 3", b"run 0 40")]  # until both have begun
 CASES = 6  # so many of the kind meet each rule
+IN_PARTS = -512  # a word of which each thread loads a byte before it stores the word and that byte
 
 
-class Kitted(Sharer):
-    """Each thread begins with what a kit does: an access under a lock that all take, and a word given anew."""
+class Kitted(PartSharer):
+    """Each thread begins with what a kit does: an access under a lock that all take, and a word given anew; and with a word in parts. The first
+    one comes to these parts once it has made the others."""
 
     def __init__(self, chance):
         self.kit_share = chance.choice([0.3, 0.6, 0.9])
         self.anew_share = chance.choice([0, 0.1, 0.3])
-        self.begin_lock = chance.choice([1, 2, 3, 4])
+        self.begin_lock, self.has_operations = chance.choice([1, 2, 3, 4]), False
         super().__init__(chance)
 
     def add_calls(self, calls):
@@ -45,7 +47,19 @@ class Kitted(Sharer):
         """The argument, which handlers put, is kept meanwhile."""
         under = store_word(4, self.chance.choice(SHARED), 3)
         locked = [*call_words(Call.MUTEX_LOCK, self.begin_lock), under, *call_words(Call.MUTEX_UNLOCK, self.begin_lock)]
-        super().begin(name, [*words, add_immediate(ARGUMENT, 10, 0), *self.one_anew(), *locked, add_immediate(10, ARGUMENT, 0)])
+        parts = [] if name == "main" else self.parts()
+        super().begin(name, [*words, add_immediate(ARGUMENT, 10, 0), *parts, *self.one_anew(), *locked, add_immediate(10, ARGUMENT, 0)])
+
+    def add_operations(self, count):
+        """The first ones are the first thread's."""
+        if not self.has_operations:
+            self.program.add(self.parts())
+        self.has_operations = True
+        super().add_operations(count)
+
+    def parts(self):
+        """Where another thread did the same before, the load races with the word's store around the byte's."""
+        return [immediate_form(0x03, 0, 4, 3, IN_PARTS + 1), store_word(4, IN_PARTS, 3), store_form(0, 4, IN_PARTS + 1, 3)]
 
     def one_anew(self):
         offset = self.chance.choice(SHARED)

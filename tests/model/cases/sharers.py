@@ -5,6 +5,7 @@ from model.assembler import call_words, immediate_form, store_form
 
 SHARED = [-2048, -2044, -2040, -1024]  # from the address that each routine has in x3
 LOADS, STORES = [2, 2, 2, 0, 1, 4, 5], [2, 2, 2, 0, 1]  # by funct3
+LOADS_OF_PARTS, STORES_OF_PARTS = [0, 4, 1, 5], [0, 0, 1]  # of bytes and halfwords
 FENCE_RW_W, FENCE_R_RW = 0x0310000F, 0x0230000F
 OTHER_FENCES = [0x0330000F, 0x0FF0000F, 0x0120000F, 0x0310008F, 0x0230800F, 0x8330000F, 0x0130000F, 0x0320000F, 0x0210000F]
 WEIGHTS = {"mutex": 8, "condition": 5, "barrier": 4, "lock": 6, "thread": 6, "cancel": 6, "stream": 1, "odd": 0.1}
@@ -22,10 +23,14 @@ class Sharer(Guest):
     """
 
     def __init__(self, chance):
-        self.words = chance.sample(SHARED, chance.choice([1, 2, 2, 4]))
+        self.words, self.parts_share = self.drawn_words(chance)
         self.atomic_share = chance.choice([0, 0.1, 0.5])
         self.has_locks_as_one = chance.random() < 0.3
         super().__init__(chance)
+
+    def drawn_words(self, chance):
+        """And how many accesses are to parts of a word alone, besides those that are drawn so anyhow."""
+        return chance.sample(SHARED, chance.choice([1, 2, 2, 4])), 0
 
     def theme_weights(self):
         return {**theme_weights(), **WEIGHTS}
@@ -62,7 +67,10 @@ class Sharer(Guest):
 
     def access(self):
         chance, is_store = self.chance, self.chance.random() < 0.5
-        kind = chance.choice(STORES if is_store else LOADS)
+        if self.parts_share and chance.random() < self.parts_share:
+            kind = chance.choice(STORES_OF_PARTS if is_store else LOADS_OF_PARTS)
+        else:
+            kind = chance.choice(STORES if is_store else LOADS)
         length = 1 << (kind & 3)
         offset = chance.choice(self.words) + (chance.randrange(4) & -length)
         words = [store_form(kind, 4, offset, 3) if is_store else immediate_form(0x03, kind, 4, 3, offset)]
@@ -70,3 +78,11 @@ class Sharer(Guest):
         if chance.random() < self.atomic_share:
             words.insert(0 if chance.random() < (0.9 if is_store else 0.1) else 1, chance.choice(fences))
         return words
+
+
+class PartSharer(Sharer):
+    """Two of three access mostly bytes and halfwords, and of one word or two."""
+
+    def drawn_words(self, chance):
+        share = chance.choice([0, 0.6, 0.9])
+        return (chance.sample(SHARED, chance.choice([1, 1, 2])), share) if share else super().drawn_words(chance)

@@ -70,18 +70,24 @@ def given_anew(machine, thread_id):
 
 
 class Shadow:
-    """Of each word the last store, and the last loads of the two threads that loaded it last, the later one first; each with the
-    epoch of its thread."""
+    """Of each word the last store to each of its bytes, and the last loads of the two threads that loaded it last, the later one first;
+    each with the epoch of its thread."""
 
     def __init__(self):
-        self.stores, self.loads = {}, {}
+        self.stores, self.loads = {}, {}  # by the word; of the stores one for each byte, None where it has none
 
     def kept(self, word):
-        return self.stores.get(word, []) + self.loads.get(word, [])
+        """The stores by rising byte, each where its first byte is; then the loads."""
+        stores = dict.fromkeys(store for store in self.stores.get(word, []) if store)
+        return [*stores, *self.loads.get(word, [])]
+
+    def stores_by_byte(self, word):
+        return [store and store[0] for store in self.stores.get(word, [])]
 
     def keep(self, access, epoch):
         if access.is_store:
-            self.stores[access.word] = [(access, epoch)]
+            stores, first = self.stores.setdefault(access.word, [None] * 4), access.address % 4
+            stores[first:first + access.length] = [(access, epoch)] * access.length
         else:
             others = [kept for kept in self.loads.get(access.word, []) if kept[0].thread != access.thread]
             self.loads[access.word] = [(access, epoch), *others][:2]

@@ -9,6 +9,10 @@ from model.orders import Before, Orders
 from model.stretches import is_plain
 
 PAIRS = 64  # that have lines of their own
+ONE_AROUND = "a store on both sides of another one, counted once"
+EARLIER = "a store behind which another one came to its word"
+ELSEWHERE = "a store that is the last one of no byte accessed"
+SEVERAL = "several stores at once, by rising byte"
 NOT_BEFORE = "events before these were not looked at, and another schedule may have some"
 
 
@@ -26,7 +30,7 @@ class Races:
     def __init__(self, is_wide):
         self.clocks, self.shadow = Clocks(), Shadow()
         self.orders = Orders(self.clocks, is_wide)
-        self.pairs, self.others = {}, 0
+        self.pairs, self.others, self.met = {}, 0, Counter()
         self.stretch = 0, 0
 
     def note(self, access):
@@ -40,9 +44,11 @@ class Races:
 
     def compare(self, access):
         """With those that are kept of its word; then it is kept itself."""
-        for kept, epoch in self.shadow.kept(access.word):
-            if kept.conflicts(access) and not self.clocks.has_seen(access.thread, kept.thread, epoch):
-                self.count(kept, access)
+        raced = [kept for kept, epoch in self.shadow.kept(access.word)
+                 if kept.conflicts(access) and not self.clocks.has_seen(access.thread, kept.thread, epoch)]
+        for kept in raced:
+            self.count(kept, access)
+        self.met.update(met_by(access, [kept for kept in raced if kept.is_store], self.shadow.stores_by_byte(access.word)))
         self.shadow.keep(access, self.clocks.epoch(access.thread))
 
     def count(self, first, second):
@@ -59,6 +65,18 @@ class Races:
         """In the order in which the pairs were found."""
         lines = [f"{text_of_pair(pair)}, {times(pair.count)}" for pair in self.pairs.values()]
         return lines + ([f"and {times(self.others)} at other places"] if self.others else []) or [text_of_none(*self.stretch)]
+
+
+def met_by(access, raced, stores):
+    """How often each rule about bytes made a difference, where an access raced with some of its word's last stores, given byte by byte."""
+    met = Counter()
+    for store in raced:
+        at = [number for number, other in enumerate(stores) if other == store]
+        met[EARLIER] += any(other and other.position > store.position for other in stores)
+        met[ELSEWHERE] += not set(at) & set(range(access.address % 4, access.address % 4 + access.length))
+        met[ONE_AROUND] += len(at) <= at[-1] - at[0]
+    met[SEVERAL] += len(raced) > 1
+    return met
 
 
 def text_of_none(first, last):

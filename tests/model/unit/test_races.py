@@ -3,14 +3,15 @@ import unittest
 from collections import Counter
 from random import Random
 
-from cases.glances import RULES, rules_not_met, tell_met
+from cases.glances import OF_KIT, RULES, rules_not_met, tell_met
 from cases.kinds import case_of
 from model.abi import ALL_ONES, Call
+from model.accesses import Access, Shadow
 from model.assembler import STOP, Jump, Label, Program, call_words, image_of, immediate_form, length_of, load_number, register_form, store_form
 from model.clocks import Clocks
 from model.layout import Geometry, format_disk
 from model.lines import serve_disk
-from model.races import Readings
+from model.races import EARLIER, ELSEWHERE, ONE_AROUND, SEVERAL, Readings
 from model.stretches import Recording
 from model.switches import switched
 
@@ -129,7 +130,7 @@ class Accesses(WithKeys):
 
     def test_kept_stores(self):
         """The last one alone, and it stays behind loads."""
-        self.race((2, store(0, BYTE)), (2, store(1, BYTE)), (3, load(0, BYTE)), races=["none"])
+        self.race((2, store()), (4, store()), (3, load()), threads=3, races=["2 stores, 4 stores, once", "4 stores, 3 loads, once"])
         self.race((2, store()), (3, load()), (4, load()), threads=3, races=["2 stores, 3 loads, once", "2 stores, 4 loads, once"])
         self.race((2, load()), (2, store()), (3, store()), races=["2 stores, 3 stores, once", "2 loads, 3 stores, once"])
 
@@ -146,6 +147,126 @@ class Accesses(WithKeys):
         self.assertEqual([short(line) for line in lines], ["2 stores, 3 stores, once"])
         lines = told((2, [item for at in range(70) for item in store(4 * at)]), (3, [item for at in range(70) for item in store(4 * at)]))
         self.assertEqual((len(lines), lines[-1]), (65, "and 6 times at other places"))
+
+
+def others_of(*pairs):
+    """Lines by pairs that raced once each."""
+    return [f"{first}, {second}, once" for first, second in pairs]
+
+
+class Parts(WithKeys):
+    """Of each byte the last store to it."""
+
+    def raced(self, *turns, behind):
+        """Stores that one lock orders, and then what thread 3 does without it: `behind` has that, and with whose stores it races, in order."""
+        does, with_whom = behind
+        ordered = [(number, locked(items)) for number, items in turns]
+        self.race(*ordered, (3, does), threads=6, races=[f"{number} stores, 3 loads, once" for number in with_whom] or ["none"])
+
+    def test_each_byte_has_its_own(self):
+        stores = [(number, store(at, BYTE)) for at, number in enumerate([2, 4, 5, 6])]
+        self.raced(*stores, behind=(load(), [2, 4, 5, 6]))
+        for at, (number, _) in enumerate(stores):
+            self.raced(*stores, behind=(load(at, BYTE), [number]))
+        self.raced(*stores, behind=(load(0, HALF), [2, 4]))
+        self.raced(*stores, behind=(load(2, HALF), [5, 6]))
+
+    def test_bytes_of_a_store(self):
+        """As many as it has, from its first one on; of no others."""
+        word = (2, store())
+        for at in range(4):
+            self.raced(word, (4, store(at, BYTE)), behind=(load(), sorted([2, 4], reverse=at == 0)))
+            self.raced((2, store(at, BYTE)), (4, store()), behind=(load(), [4]))
+            self.raced((2, store(at, BYTE)), (4, store(at, BYTE)), behind=(load(), [4]))
+            self.raced((2, store(at, BYTE)), (4, store(at & 2, HALF)), behind=(load(), [4]))
+            self.raced((2, store(at, BYTE)), (4, store(2 - (at & 2), HALF)), behind=(load(), [2, 4] if at < 2 else [4, 2]))
+            self.raced((2, store(at & 2, HALF)), (4, store(at, BYTE)), behind=(load(), [2, 4] if at & 1 else [4, 2]))
+        self.raced(word, (4, store(0, HALF)), (5, store(2, HALF)), behind=(load(), [4, 5]))
+        self.raced(word, (4, store(2, HALF)), (5, store(0, HALF)), behind=(load(), [5, 4]))
+
+    def test_overwritten(self):
+        """A word's store is kept till the last of its bytes is stored to."""
+        pieces = [(number, store(at, BYTE)) for at, number in enumerate([4, 5, 6])]
+        self.raced((2, store()), *pieces, behind=(load(), [4, 5, 6, 2]))
+        self.raced((2, store()), *pieces, (7, store(3, BYTE)), behind=(load(), [4, 5, 6, 7]))
+        self.raced((2, store(2, HALF)), (4, store(3, BYTE)), (5, store(2, BYTE)), behind=(load(), [5, 4]))
+
+    def test_order_is_by_byte(self):
+        """Whichever came first."""
+        for order in ([0, 1, 2, 3], [3, 2, 1, 0], [2, 0, 3, 1], [1, 3, 0, 2]):
+            self.raced(*((4 + at, store(at, BYTE)) for at in order), behind=(load(), [4, 5, 6, 7]))
+
+    def test_each_store_once(self):
+        """At its first byte, also with another one between; counted once."""
+        self.raced((2, store()), (4, store(1, BYTE)), behind=(load(), [2, 4]))
+        self.raced((2, store()), (4, store(2, BYTE)), (5, store(1, BYTE)), behind=(load(), [2, 5, 4]))
+        self.raced((2, store()), (4, store(0, BYTE)), (5, store(2, BYTE)), behind=(load(), [4, 2, 5]))
+        self.race((2, store()), (3, store()), races=["2 stores, 3 stores, once"])
+
+    def test_then_loads(self):
+        """The later one first."""
+        stores = [(2, locked(store(2, HALF))), (4, locked(store(0, BYTE)))]
+        loads = [(5, [*locked([]), *load(3, BYTE)]), (6, [*locked([]), *load(0, HALF)])]
+        self.race(*stores, *loads, (3, store()), threads=5,
+                  races=others_of(("4 stores", "3 stores"), ("2 stores", "3 stores"), ("6 loads", "3 stores"), ("5 loads", "3 stores")))
+
+    def test_bytes_not_accessed(self):
+        """A store that is the last one of other bytes alone races by what it stored to."""
+        for at in range(4):
+            self.raced((2, store()), (4, store(at, BYTE)), behind=(load(at, BYTE), [4, 2] if at == 0 else [2, 4]))
+        self.raced((2, store()), (4, store(2, HALF)), behind=(load(2, HALF), [2, 4]))
+        self.raced((2, store(2, HALF)), (4, store(2, BYTE)), behind=(load(2, BYTE), [4, 2]))
+        self.raced((2, store(2, HALF)), (4, store(0, BYTE)), behind=(load(1, BYTE), []))
+        self.race((2, locked(store())), (4, locked(store(1, BYTE))), (3, locked(load(1, BYTE))), threads=3, races=["none"])
+
+    def test_ordered_behind_the_later_one_alone(self):
+        """The earlier one races with the later store, and with the load behind that."""
+        self.race((2, store()), (4, locked(store(1, BYTE))), (3, locked(load(1, BYTE))), threads=3,
+                  races=others_of(("2 stores", "4 stores"), ("2 stores", "3 loads")))
+        self.race((2, store()), (3, store(1, BYTE)), (3, load(1, BYTE)), races=others_of(("2 stores", "3 stores"), ("2 stores", "3 loads")))
+
+    def test_stores_beside_stores(self):
+        self.race((2, store(0, BYTE)), (4, store(1, BYTE)), (3, store(2, HALF)), threads=3, races=["none"])
+        self.race((2, store(0, BYTE)), (4, store(3, BYTE)), (3, store()), threads=3, races=others_of(("2 stores", "3 stores"), ("4 stores", "3 stores")))
+
+    def test_atomic_ones(self):
+        """They are kept as plain ones are."""
+        atomic = [*base(1), FENCE_RW_W, store_form(BYTE, 4, 0, 3)]
+        self.race((2, [*store(), *atomic]), (3, load()), races=others_of(("2 stores", "3 loads"), ("2 stores atomically", "3 loads")))
+        self.race((2, [*published(0), *store(1, BYTE)]), (3, load(1, BYTE)), races=others_of(("2 stores atomically", "3 loads"), ("2 stores", "3 loads")))
+        self.race((2, [*store(1, BYTE), *published(0)]), (3, load()), races=["2 stores atomically, 3 loads, once"])
+
+    def test_loads_are_kept_by_the_word(self):
+        """That of a thread takes the place of its last one, and two others that of any, whichever byte they load."""
+        first, second, third = ((number, load(at, BYTE)) for number, at in [(2, 0), (4, 1), (5, 2)])
+        self.race(first, second, third, (3, store(0, BYTE)), threads=4, races=["none"])
+        self.race(first, second, third, (3, store()), threads=4, races=others_of(("5 loads", "3 stores"), ("4 loads", "3 stores")))
+        self.race(first, (2, load(3, BYTE)), (3, store(0, BYTE)), races=["none"])
+        self.race(first, second, (3, store(0, BYTE)), threads=3, races=["2 loads, 3 stores, once"])
+        self.race(first, (2, load(3, BYTE)), second, (3, store()), threads=3, races=others_of(("4 loads", "3 stores"), ("2 loads", "3 stores")))
+
+    def test_counted_by_pairs(self):
+        """Each store once for an access: in a line's number, and in that of other places."""
+        routines = [("left", [*store(), *store(1, BYTE), Jump("left")]), ("right", [*load(), Jump("right")])]
+        made = [(2, call(Call.CREATE, Label(name), 0, 0, 0)) for name in ("left", "right")]
+        times = [f"4 stores, 5 loads, {count} times" for count in (3, 3)]
+        self.race(*made, (4, 6), (5, 12), routines=routines, races=times)
+        words = range(70)
+        stores = [item for at in words for item in [*store(4 * at), *store(4 * at + 1, BYTE)]]
+        lines = told((2, stores), (3, [item for at in words for item in load(4 * at)]))
+        self.assertEqual((len(lines), lines[-1]), (65, "and 76 times at other places"))
+        self.assertEqual({short(line) for line in lines[:-1]}, {"2 stores, 3 loads, once"})
+
+    def test_given_anew(self):
+        """All bytes' stores are forgotten, and the word counts once."""
+        stores = [(2, [item for at in range(4) for item in store(at, BYTE)])]
+        self.no_race(*stores, (3, [*anew(0, 4), *load()]))
+        readings = recording_of([*stores, (3, anew(0, 4))]).show(Readings())
+        self.assertEqual(readings.met, {"a word given anew": 1})
+
+    def test_under_locks_of_a_kit(self):
+        """They take no byte's place."""
+        self.race((2, store()), (2, locked(store(1, BYTE), 2)), (3, load()))
 
 
 class Locks(WithKeys):
@@ -478,6 +599,20 @@ class Met(WithKeys):
         tell_met(readings, readings.lines(), tally)
         return {what: count for (_, what), count in tally.items() if count}
 
+    def test_bytes(self):
+        """Where a store around another one raced, where one of other bytes did, and where several did."""
+        both = [(2, [*store(), *store(1, BYTE)])]
+        each = {ONE_AROUND: 1, EARLIER: 1, SEVERAL: 1}
+        self.assertEqual(self.met(*both, (3, load())), each)
+        self.assertEqual(self.met(*both, (3, load(0, HALF))), each)
+        self.assertEqual(self.met(*both, (3, load(1, BYTE))), {**each, ELSEWHERE: 1})
+        self.assertEqual(self.met(*both, (3, load(2, HALF))), {ONE_AROUND: 1, EARLIER: 1})
+        self.assertEqual(self.met(*both, (3, load(1, BYTE)), (3, load(1, BYTE))), {ONE_AROUND: 2, EARLIER: 2, SEVERAL: 2, ELSEWHERE: 2})
+        self.assertEqual(self.met((2, [*store(), *store(2, HALF)]), (3, load(0, HALF))), {EARLIER: 1})
+        self.assertEqual(self.met((2, [*store(), *store(0, BYTE)]), (3, load(0, BYTE))), {EARLIER: 1, SEVERAL: 1, ELSEWHERE: 1})
+        self.assertEqual(self.met((2, [*store(0, BYTE), *store(1, BYTE)]), (3, load(1, BYTE))), {})
+        self.assertEqual(self.met((2, load()), (3, store())), {})
+
     def test_each(self):
         none = {"none, from the begin": 1}
         self.assertEqual(self.met((2, load())), none)
@@ -497,10 +632,13 @@ class Met(WithKeys):
         self.assertEqual(self.met(*((number, locked([], 5)) for number in (2, 3, 2))), {**taken, "a kit's lock taken behind another thread": 2})
 
     def test_not_met(self):
-        tally = Counter({("rule about a kit", what): 1 for what in RULES})
-        self.assertEqual(rules_not_met(tally), [])
-        for what, rule in RULES.items():
-            self.assertEqual(rules_not_met(Counter({**tally, ("rule about a kit", what): 0})), [rule])
+        tally = Counter({(subject, what): 1 for subject, rules in RULES.items() for what in rules})
+        self.assertEqual((rules_not_met(tally), len(tally)), ([], 9))
+        for subject, rules in RULES.items():
+            for what, rule in rules.items():
+                missed = Counter({**tally, (subject, what): 0})
+                self.assertEqual(rules_not_met(missed), [rule])
+                self.assertEqual(rules_not_met(missed, [OF_KIT]), [rule] if subject == OF_KIT else [])
 
     def test_drawn(self):
         """A plain case meets each."""
@@ -509,6 +647,48 @@ class Met(WithKeys):
             readings = Recording(bytearray(case.contents)).show(Readings(), *stretch)
             tell_met(readings, readings.narrow.lines(), tally)
         self.assertEqual(rules_not_met(tally), [])
+
+
+class AllAccesses:
+    """The second way: every access is kept, and what is compared is looked up from the last one back."""
+
+    def __init__(self):
+        self.accesses = []
+
+    def keep(self, access, epoch):
+        self.accesses.append((access, epoch))
+
+    def forget(self, words):
+        self.accesses = [kept for kept in self.accesses if kept[0].address // 4 * 4 not in words]
+
+    def last(self, is_one):
+        return next((kept for kept in reversed(self.accesses) if is_one(kept[0])), None)
+
+    def kept(self, word):
+        found = []
+        for byte in range(word, word + 4):
+            store = self.last(lambda access: access.is_store and access.address <= byte < access.address + access.length)
+            found += [store] if store and store not in found else []
+        load = self.last(lambda access: not access.is_store and access.address // 4 == word // 4)
+        other = load and self.last(lambda access: not access.is_store and access.address // 4 == word // 4 and access.thread != load[0].thread)
+        return found + [kept for kept in (load, other) if kept]
+
+
+class ShadowAndAllAccesses(unittest.TestCase):
+    def test_drawn_accesses(self):
+        for seed in range(200):
+            chance, ways = Random(seed), (Shadow(), AllAccesses())
+            for number in range(40):
+                length = chance.choice([1, 1, 2, 4])
+                address = chance.randrange(SHARED, SHARED + 8) & -length
+                access = Access((number, 0), chance.randrange(2, 6), chance.random() < 0.6, address, length, chance.randrange(4), chance.random() < 0.2)
+                anew = range(SHARED, SHARED + chance.choice([4, 8]), 4) if chance.random() < 0.03 else None
+                for way in ways:
+                    way.keep(access, number)
+                    if anew:
+                        way.forget(anew)
+                for word in (SHARED, SHARED + 4):
+                    self.assertEqual(ways[0].kept(word), ways[1].kept(word), seed)
 
 
 class Chains:

@@ -1,5 +1,11 @@
 """Wrong models of what orders accesses, which are kept, and the lines of `ckrt races`."""
 
+# Lines of the model that are changed in several ways.
+STORES = "dict.fromkeys(store for store in self.stores.get(word, []) if store)"
+TAKES = "stores[first:first + access.length] = [(access, epoch)] * access.length"
+KEEPS_LOAD = "[(access, epoch), *others][:2]"
+COMPARED = "        raced = [kept for kept, epoch in self.shadow.kept(access.word)\n"
+
 WRONG = {
     "model/clocks.py": [
         ("max(clock.get(number, 0), epoch)", "epoch"),
@@ -28,11 +34,31 @@ WRONG = {
         ("STORE: (0, 1, 2)}", "STORE: (0, 1, 2, 3)}"),
         ("LOAD: (0, 1, 2, 4, 5)", "LOAD: (0, 1, 2, 3, 4, 5)"),
         ("1 << (word >> 12 & 3)", "4"),
-        ("[(access, epoch), *others][:2]", "[(access, epoch), *others][:3]"),
-        ("[(access, epoch), *others][:2]", "[(access, epoch)]"),
-        ("[(access, epoch), *others][:2]", "[*others, (access, epoch)][-2:]"),
+        (KEEPS_LOAD, "[(access, epoch), *others][:3]"),
+        (KEEPS_LOAD, "[(access, epoch)]"),
+        (KEEPS_LOAD, "[*others, (access, epoch)][-2:]"),
         (" if kept[0].thread != access.thread]", "]"),
-        ("self.stores.get(word, []) + self.loads.get(word, [])", "self.loads.get(word, []) + self.stores.get(word, [])"),
+        ("[*stores, *self.loads.get(word, [])]", "[*self.loads.get(word, []), *stores]"),
+        # One last store a word; a store once a byte, or once a run of bytes; by falling byte, or by time; a store at its last byte.
+        (TAKES, "stores[:] = [(access, epoch)] * 4"),
+        (STORES, "[store for store in self.stores.get(word, []) if store]"),
+        (STORES, "[one for one, last in zip(self.stores.get(word, []), [None, *self.stores.get(word, [])]) if one and one != last]"),
+        (STORES, "dict.fromkeys(store for store in reversed(self.stores.get(word, [])) if store)"),
+        (STORES, "sorted(set(self.stores.get(word, [])) - {None}, key=lambda store: store[0].position)"),
+        (STORES, "sorted(set(self.stores.get(word, [])) - {None}, key=lambda store: store[0].position, reverse=True)"),
+        (STORES, "reversed(dict.fromkeys(store for store in reversed(self.stores.get(word, [])) if store))"),
+        # Of a halfword the first byte alone, of a word three; an atomic store all bytes; the bytes from elsewhere on.
+        (TAKES, "stores[first:first + access.length - (access.length == 2)] = [(access, epoch)] * (access.length - (access.length == 2))"),
+        (TAKES, "stores[first:first + min(access.length, 3)] = [(access, epoch)] * min(access.length, 3)"),
+        (TAKES, "stores[first & -2:(first & -2) + max(access.length, 2)] = [(access, epoch)] * max(access.length, 2)"),
+        (TAKES, "stores[:] = [(access, epoch)] * 4 if access.is_atomic else [*stores[:first], *[(access, epoch)] * access.length, "
+         "*stores[first + access.length:]]"),
+        ("setdefault(access.word, [None] * 4), access.address % 4", "setdefault(access.word, [None] * 4), 0"),
+        ("setdefault(access.word, [None] * 4), access.address % 4", "setdefault(access.word, [None] * 4), 4 - access.length - access.address % 4"),
+        # Loads by the byte: those of a thread, and those of two others.
+        (" if kept[0].thread != access.thread]", " if (kept[0].thread, kept[0].address) != (access.thread, access.address)]"),
+        (KEEPS_LOAD, "[(access, epoch), *[kept for kept in others if kept[0].address == access.address][:1], "
+         "*[kept for kept in others if kept[0].address != access.address]]"),
         ("OWN_LOCKS = 1, 2, 3, 4", "OWN_LOCKS = 2, 3, 4"),
         ("OWN_LOCKS = 1, 2, 3, 4", "OWN_LOCKS = 1, 2, 3"),
         ("OWN_LOCKS = 1, 2, 3, 4", "OWN_LOCKS = 1, 2, 3, 4, 5"),
@@ -53,8 +79,10 @@ WRONG = {
         ("range(4 * first, 4 * (first + count), 4)", "range(4 * first + 4, 4 * (first + count), 4)"),
         ("range(4 * first, 4 * (first + count), 4)", "[at % 2 ** 32 for at in range(4 * first, 4 * (first + min(count, 1 << 16)), 4)]"),
         ("            self.stores.pop(word, None)\n", ""),
+        ("            self.stores.pop(word, None)\n", "            self.stores.get(word, [None])[0] = None\n"),
+        ("            self.stores.pop(word, None)\n", "            self.stores.get(word, [None])[1:] = []\n"),
         ("            self.loads.pop(word, None)\n", ""),
-        ("            self.stores[access.word] = [(access, epoch)]", "            self.stores[access.word], self.loads[access.word] = [(access, epoch)], []"),
+        (TAKES, f"{TAKES}\n            self.loads[access.word] = []"),
     ],
     "model/orders.py": [
         ("PLACES = 4096", "PLACES = 8192"),
@@ -96,6 +124,21 @@ WRONG = {
     "model/races.py": [
         ("places = frozenset([first.place, second.place])", "places = first.place, second.place"),
         ("self.count(kept, access)\n        self", "self.count(access, kept)\n        self"),
+        # The stores to the bytes that are accessed alone; the first one alone; counts by bytes.
+        (COMPARED, "        first = access.address % 4\n        touched = self.shadow.stores.get(access.word, [])[first:first + access.length]\n"
+         "        raced = [kept for kept, epoch in self.shadow.kept(access.word) if not kept.is_store or (kept, epoch) in touched\n"),
+        ("        for kept in raced:\n", "        for kept in raced[:1]:\n"),
+        ("        for kept in raced:\n", "        for kept in [kept for kept in raced for _ in range(kept.length)]:\n"),
+        ("        for kept in raced:\n", "        for kept in [kept for kept in raced for _ in range(min(kept.length, access.length))]:\n"),
+        ("other.position > store.position", "other.position >= store.position"),
+        ("other and other.position > store.position", "other and other != store"),
+        ("met[ELSEWHERE] += not set(at) &", "met[ELSEWHERE] += not set(at) ^"),
+        ("access.address % 4 + access.length))", "access.address % 4 + 1))"),
+        ("len(at) <= at[-1] - at[0]", "len(at) > 1"),
+        ("len(at) <= at[-1] - at[0]", "len(at) < at[-1] - at[0]"),
+        ("met[SEVERAL] += len(raced) > 1", "met[SEVERAL] += len(raced) > 0"),
+        ("met[SEVERAL] += len(raced) > 1", "met[SEVERAL] += len(raced) > 2"),
+        ("[kept for kept in raced if kept.is_store]", "raced"),
         ("PAIRS = 64", "PAIRS = 65"),
         ('return "once" if count == 1 else', 'return "1 times" if count == 1 else'),
         ('self.orders.place("word", access.word)', '("word", access.word)'),
@@ -124,10 +167,14 @@ WRONG = {
         ("{NOT_BEFORE if first else", "{NOT_BEFORE if False else"),
     ],
     "cases/glances.py": [
-        ('["rule about a kit", what] += count', '["rule about a kit", what] += 1'),
+        ("[OF_KIT, what] += count", "[OF_KIT, what] += 1"),
+        ("[OF_BYTES, what] += count", "[OF_BYTES, what] += 1"),
+        ("[OF_BYTES, what] += count", "[OF_KIT, what] += count"),
+        ("subjects=tuple(RULES)", "subjects=(OF_KIT,)"),
+        ("for subject in subjects for", "for subject in RULES for"),
         ('"none, from later on" if readings.narrow.stretch[0] else', '"none, from later on" if False else'),
-        ('if not tally["rule about a kit", what]]', 'if not tally["rule about a kit", rule]]'),
-        ('if not tally["rule about a kit", what]]', "if not tally]"),
+        ("if not tally[subject, what]]", "if not tally[subject, rule]]"),
+        ("if not tally[subject, what]]", "if not tally]"),
         ('+= readings.narrow.orders.untaken', '+= readings.narrow.orders.untaken > 1'),
     ],
 }
