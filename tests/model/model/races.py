@@ -48,7 +48,9 @@ class Races:
                  if kept.conflicts(access) and not self.clocks.has_seen(access.thread, kept.thread, epoch)]
         for kept in raced:
             self.count(kept, access)
-        self.met.update(met_by(access, [kept for kept in raced if kept.is_store], self.shadow.stores_by_byte(access.word)))
+        stores = [kept for kept in raced if kept.is_store]
+        if stores:
+            self.met.update(met_by(access, stores, self.shadow.stores_by_byte(access.word)))
         self.shadow.keep(access, self.clocks.epoch(access.thread))
 
     def count(self, first, second):

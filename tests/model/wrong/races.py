@@ -123,7 +123,7 @@ WRONG = {
     ],
     "model/races.py": [
         ("places = frozenset([first.place, second.place])", "places = first.place, second.place"),
-        ("self.count(kept, access)\n        self", "self.count(access, kept)\n        self"),
+        ("self.count(kept, access)\n", "self.count(access, kept)\n"),
         # The stores to the bytes that are accessed alone; the first one alone; counts by bytes.
         (COMPARED, "        first = access.address % 4\n        touched = self.shadow.stores.get(access.word, [])[first:first + access.length]\n"
          "        raced = [kept for kept, epoch in self.shadow.kept(access.word) if not kept.is_store or (kept, epoch) in touched\n"),
