@@ -14,9 +14,10 @@ use Rattle.ckrt_look_races.specs.Laws.{history_of}
 use Rattle.ckrt_look_races.specs.Recorded.{found_by, words_of}
 use Rattle.ckrt_look_races.specs.Steps.{of_events}
 use Rattle.ckrt_hunt_schedules.specs.Runs.{AreScheduled, Point, beginning, behind, next_at}
-use Rattle.ckrt_hunt_schedules.specs.Tallies.{Hunted, IsNoted, IsRoomFor, SeedComesTo, plan_in}
+use Rattle.ckrt_hunt_schedules.specs.Tallies.{Hunted, IsNoted, IsRoomFor, SeedComesTo, SeedEndsWith, plan_in}
 use Rattle.ckrt_hunt_schedules.specs.declared.made.Made.{Made}
 use Rattle.ckrt_hunt_schedules.specs.declared.plan.Plan.{Plan}
+use Rattle.ckrt_hunt_schedules.specs.declared.runs.Finished.{Finished}
 use Rattle.ckrt_hunt_schedules.specs.declared.runs.Told.{Told}
 use Rattle.ckrt_hunt_schedules.specs.declared.seeds.Seeds.{Seeds}
 use Rattle.ckrt_hunt_schedules.specs.declared.tally.Tally.{Tally}
@@ -64,11 +65,11 @@ abbrev pub IsRacesOf : Hunted → Seeds → RaceTally → Type 0
 IsRacesOf h seeds races =
     AreLookedAt h seeds.first (seeds.last - seeds.first + 1) no_races (raced_in races)
 
--- what a seed comes to was noted too
+-- the run of a seed was noted too
 pub record IsSeedNoted (h : Hunted) (seed : ℕ) (old new : Tally) : Type 0 where
-  pub told : Told
-  pub comes : SeedComesTo h seed told
-  pub noted : IsNoted seed told old new
+  pub run : Finished
+  pub ends : SeedEndsWith h seed run
+  pub noted : IsNoted seed run old new
 
 -- THE WALK of a run, by two machines side by side
 

@@ -1,5 +1,6 @@
 pub mod TurnLemmas
 pub mod RunLemmas
+mod LineLemmas
 mod ShortLemmas
 pub mod TallyLemmas
 mod OneLemmas

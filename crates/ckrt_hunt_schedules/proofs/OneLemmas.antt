@@ -7,6 +7,7 @@ use Rattle.ckrt_hunt_schedules.specs.declared.kind.Kind.{Kind}
 use Rattle.ckrt_hunt_schedules.specs.declared.kind.Kind.TheVariants as kind
 use Rattle.ckrt_hunt_schedules.specs.declared.outcomes.Outcomes.{Outcomes}
 use Rattle.ckrt_hunt_schedules.specs.declared.row.Row.{Row}
+use Rattle.ckrt_hunt_schedules.specs.declared.runs.Finished.{Finished}
 use Rattle.ckrt_hunt_schedules.specs.declared.runs.Told.{Told}
 use Rattle.ckrt_hunt_schedules.specs.declared.seeds.Seeds.{Seeds}
 use Rattle.ckrt_hunt_schedules.specs.declared.tally.Tally.{Tally}
@@ -53,21 +54,21 @@ at_set t [] k r s g e = absurd (cc)
 at_set t (x ∷ xs) zero r s g e = inl e
 at_set t (x ∷ xs) (suc k) r s g e = inr (at_set t xs k r s g e)
 
-module _ (seed : ℕ) (told : Told) (old new : Group) where
+module _ (seed : ℕ) (run : Finished) (old new : Group) where
   -- what was noted has a row, or there was none for it
-  noted_here : IsNotedIn seed told old new → new.others ≡ 0 → IsIn told new.rows.items
-  noted_here (inl a) z = subst (IsIn told) (sym a.rows) (at_set told old.rows.items a.place a.row (record a.row { count = one_more a.row.count }) a.is_first.row a.is_first.same)
-  noted_here (inr (inl g)) z = subst (IsIn told) (sym g.rows) (in_behind told old.rows.items (first_row seed told ∷ []) (inl refl))
+  noted_here : IsNotedIn seed run old new → new.others ≡ 0 → IsIn run.told new.rows.items
+  noted_here (inl a) z = subst (IsIn run.told) (sym a.rows) (at_set run.told old.rows.items a.place a.row (record a.row { count = one_more a.row.count }) a.is_first.row a.is_first.same)
+  noted_here (inr (inl g)) z = subst (IsIn run.told) (sym g.rows) (in_behind run.told old.rows.items (first_row seed run ∷ []) (inl refl))
   noted_here (inr (inr l)) z = let none : one_more old.others ≡ 0 = sym l.others ∙ z in absurd (grind (arith, none))
 
   -- and what had one has it
-  stays : IsNotedIn seed told old new → (t : Told) → IsIn t old.rows.items → IsIn t new.rows.items
+  stays : IsNotedIn seed run old new → (t : Told) → IsIn t old.rows.items → IsIn t new.rows.items
   stays (inl a) t h = subst (IsIn t) (sym a.rows) (in_set t old.rows.items a.place a.row (record a.row { count = one_more a.row.count }) a.is_first.row refl h)
-  stays (inr (inl g)) t h = subst (IsIn t) (sym g.rows) (in_front t old.rows.items (first_row seed told ∷ []) h)
+  stays (inr (inl g)) t h = subst (IsIn t) (sym g.rows) (in_front t old.rows.items (first_row seed run ∷ []) h)
   stays (inr (inr l)) t h = subst (IsIn t) (sym l.rows) h
 
   -- where none is without a row, none was
-  were_none : IsNotedIn seed told old new → new.others ≡ 0 → old.others ≡ 0
+  were_none : IsNotedIn seed run old new → new.others ≡ 0 → old.others ≡ 0
   were_none (inl a) z = sym a.others ∙ z
   were_none (inr (inl g)) z = sym g.others ∙ z
   were_none (inr (inr l)) z = let none : one_more old.others ≡ 0 = sym l.others ∙ z in absurd (grind (arith, none))
@@ -160,40 +161,40 @@ none_before kind.ExitZero g it n z = let p = zeros_of (with_group kind.ExitZero 
 
 -- ONE SEED AFTER ANOTHER
 
-module _ (seed : ℕ) (told : Told) (old new : Tally) (n : IsNoted seed told old new) (z : others_of new ≡ 0) where
+module _ (seed : ℕ) (run : Finished) (old new : Tally) (n : IsNoted seed run old new) (z : others_of new ≡ 0) where
   own : n.group.others ≡ 0
   own =
-      let k = kind_of told.outcome in
+      let k = kind_of run.told.outcome in
       ap (λ (g : Group). g.others) (sym (group_with k n.group old)) ∙ ap (λ (t : Tally). (group_of k t).others) (sym n.is) ∙ none_in k new z
 
   none_was : others_of old ≡ 0
-  none_was = none_before (kind_of told.outcome) n.group old (were_none seed told (group_of (kind_of told.outcome) old) n.group n.noted own) (ap others_of (sym n.is) ∙ z)
+  none_was = none_before (kind_of run.told.outcome) n.group old (were_none seed run (group_of (kind_of run.told.outcome) old) n.group n.noted own) (ap others_of (sym n.is) ∙ z)
 
-  has_row : IsIn told (rows_of new)
+  has_row : IsIn run.told (rows_of new)
   has_row =
-      let k = kind_of told.outcome in
-      let here = noted_here seed told (group_of k old) n.group n.noted own in
-      subst (λ (t : Tally). IsIn told (rows_of t)) (sym n.is) (in_group k told (with_group k n.group old) (subst (λ (g : Group). IsIn told g.rows.items) (sym (group_with k n.group old)) here))
+      let k = kind_of run.told.outcome in
+      let here = noted_here seed run (group_of k old) n.group n.noted own in
+      subst (λ (t : Tally). IsIn run.told (rows_of t)) (sym n.is) (in_group k run.told (with_group k n.group old) (subst (λ (g : Group). IsIn run.told g.rows.items) (sym (group_with k n.group old)) here))
 
   has_stayed : (t : Told) → IsIn t (rows_of old) → IsIn t (rows_of new)
   has_stayed t h =
-      let k = kind_of told.outcome in
-      subst (λ (it : Tally). IsIn t (rows_of it)) (sym n.is) (kept k t n.group old (stays seed told (group_of k old) n.group n.noted t) h)
+      let k = kind_of run.told.outcome in
+      subst (λ (it : Tally). IsIn t (rows_of it)) (sym n.is) (kept k t n.group old (stays seed run (group_of k old) n.group n.noted t) h)
 
 -- the last seed, and those before it
 last_or_before : (h : Hunted) (first n : ℕ) (old new : Tally) (a : Grew (AreNoted h first n old) h (first + n) new) → others_of new ≡ 0 → (seed : ℕ) (told : Told) → SeedComesTo h seed told
     → (seed < first + n → IsIn told (rows_of a.before)) → (seed ≡ first + n) ⊎ ((seed < first + n) ⊎ (first + n < seed)) → seed < first + suc n → IsIn told (rows_of new)
 last_or_before h first n old new a z seed told comes before (inl same) high =
     let own : SeedComesTo h (first + n) told = subst (λ (k : ℕ). SeedComesTo h k told) same comes in
-    subst (λ (t : Told). IsIn t (rows_of new)) (same_told (plan_in h (first + n)) h.start a.told told a.comes own) (has_row (first + n) a.told a.before new a.noted z)
-last_or_before h first n old new a z seed told comes before (inr (inl less)) high = has_stayed (first + n) a.told a.before new a.noted z told (before less)
+    subst (λ (t : Told). IsIn t (rows_of new)) (same_told (plan_in h (first + n)) h.start a.run.told told a.ends.comes own) (has_row (first + n) a.run a.before new a.noted z)
+last_or_before h first n old new a z seed told comes before (inr (inl less)) high = has_stayed (first + n) a.run a.before new a.noted z told (before less)
 last_or_before h first n old new a z seed told comes before (inr (inr more)) high = absurd (omega (arith, high, more))
 
 all_in : (h : Hunted) (first n : ℕ) (old new : Tally) → AreNoted h first n old new → others_of new ≡ 0 → (seed : ℕ) (told : Told) → first ≤ seed → seed < first + n → SeedComesTo h seed told → IsIn told (rows_of new)
 all_in h first zero old new a z seed told low high comes = absurd (omega (arith, low, high))
 all_in h first (suc n) old new a z seed told low high comes =
     last_or_before h first n old new a z seed told comes
-    (λ less. all_in h first n old a.before a.was_so (none_was (first + n) a.told a.before new a.noted z) seed told low less comes) (cases_order seed (first + n)) high
+    (λ less. all_in h first n old a.before a.was_so (none_was (first + n) a.run a.before new a.noted z) seed told low less comes) (cases_order seed (first + n)) high
 
 -- THE VERDICT
 

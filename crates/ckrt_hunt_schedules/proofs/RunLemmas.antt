@@ -1,7 +1,5 @@
 -- Runs go on event by event, and a plan has one from each state.
 use Rattle.std.proofs.Common.{◌≡◌, ◌∙◌, ℕ, Option, List, [], ◌∷◌, ◌++◌, ap, sym, subst, refl}
-use Rattle.sha2.specs.Hashers.{Holds256}
-use Rattle.sha2.specs.declared.Sha256.{Sha256}
 use Rattle.ckrt_events.specs.declared.event.Event.{Event}
 use Rattle.ckrt_machine.specs.Steps.{State}
 use Rattle.ckrt_machine.specs.declared.event.Answer.{Answer}
@@ -12,11 +10,14 @@ use Rattle.ckrt_schedule.specs.declared.next.ScheduleEnd.{ScheduleEnd}
 use Rattle.ckrt_hunt_schedules.specs.declared.plan.Plan.{Plan}
 use Rattle.ckrt_hunt_schedules.specs.declared.made.Made.{Made}
 use Rattle.ckrt_hunt_schedules.specs.declared.outcome.Outcome.{Outcome}
+use Rattle.ckrt_hunt_schedules.specs.declared.heard.Heard.{Heard}
+use Rattle.ckrt_hunt_schedules.specs.declared.runs.Finished.{Finished}
 use Rattle.ckrt_hunt_schedules.specs.declared.runs.Told.{Told}
+use Rattle.ckrt_hunt_schedules.specs.LastLines.{last_line}
 use Rattle.ckrt_hunt_schedules.specs.Plans.{made_with, nothing_made}
 use Rattle.ckrt_hunt_schedules.specs.Turns.{next, runner_of}
 use Rattle.ckrt_hunt_schedules.specs.Outcomes.{digest_of, outcome_of}
-use Rattle.ckrt_hunt_schedules.specs.Runs.{AreScheduled, ComesTo, EndsWith, HasComeTo, Point, beginning, behind, next_at, on}
+use Rattle.ckrt_hunt_schedules.specs.Runs.{AreScheduled, ComesTo, EndsWith, HasComeTo, Hears, Point, beginning, behind, next_at, on}
 
 module _ (p : Plan) where
   pub scheduled_on : (es : List Event) (e : Event) (x : Point) → AreScheduled p es x → next_at p (behind p es x) ≡ Submit e → AreScheduled p (es ++ e ∷ []) x
@@ -28,8 +29,8 @@ module _ (p : Plan) where
   behind_on (f ∷ es) e x = behind_on es e (on p f x)
 
   -- one event on
-  pub come_on : (start : State) (m : Made) (s : State) (e : Event) (hasher hasher' : Sha256) → HasComeTo p start m s hasher → next p m s.tables ≡ Submit e → IsAccepted e s → ((out : List ℕ) → Holds256 hasher out → Holds256 hasher' (out ++ (step e s).output)) → HasComeTo p start (made_with p (runner_of e s.tables) (step e s).answer m) (step e s).state hasher'
-  come_on start m s e hasher hasher' h n a more =
+  pub come_on : (start : State) (m : Made) (s : State) (e : Event) (heard heard' : Heard) → HasComeTo p start m s heard → next p m s.tables ≡ Submit e → IsAccepted e s → ((out : List ℕ) → Hears heard out → Hears heard' (out ++ (step e s).output)) → HasComeTo p start (made_with p (runner_of e s.tables) (step e s).answer m) (step e s).state heard'
+  come_on start m s e heard heard' h n a more =
       let es = h.events in
       let c = h.come in
       record {
@@ -39,29 +40,29 @@ module _ (p : Plan) where
           accepted = accepted_on es e start c.accepted (subst (λ (t : State). IsAccepted e t) c.folded a);
           point = ap (λ (x : Point). on p e x) c.point ∙ sym (behind_on es e (beginning start));
           folded = ap (λ (t : State). (step e t).state) c.folded ∙ sym (state_on es e start);
-          output = subst (λ (out : List ℕ). Holds256 hasher' out) (ap (λ (t : State). output_of es start ++ (step e t).output) c.folded ∙ sym (output_on es e start)) (more (output_of es start) c.output);
+          output = subst (λ (out : List ℕ). Hears heard' out) (ap (λ (t : State). output_of es start ++ (step e t).output) c.folded ∙ sym (output_on es e start)) (more (output_of es start) c.output);
         };
       }
 
   -- the same of what the code has at hand
-  pub gone_on : (start : State) (m m' : Made) (s s' : State) (e : Event) (who : Option ℕ) (answer : Answer) (out : List ℕ) (hasher hasher' : Sha256) → who ≡ runner_of e s.tables → m' ≡ made_with p who answer m → (let a : After = record { state = s'; answer = answer; output = out } in a) ≡ step e s → next p m s.tables ≡ Submit e → IsAccepted e s → ((o : List ℕ) → Holds256 hasher o → Holds256 hasher' (o ++ out)) → HasComeTo p start m s hasher → HasComeTo p start m' s' hasher'
-  gone_on start m m' s s' e who answer out hasher hasher' w f r n a more h =
+  pub gone_on : (start : State) (m m' : Made) (s s' : State) (e : Event) (who : Option ℕ) (answer : Answer) (out : List ℕ) (heard heard' : Heard) → who ≡ runner_of e s.tables → m' ≡ made_with p who answer m → (let a : After = record { state = s'; answer = answer; output = out } in a) ≡ step e s → next p m s.tables ≡ Submit e → IsAccepted e s → ((o : List ℕ) → Hears heard o → Hears heard' (o ++ out)) → HasComeTo p start m s heard → HasComeTo p start m' s' heard'
+  gone_on start m m' s s' e who answer out heard heard' w f r n a more h =
       let answers : answer ≡ (step e s).answer = ap (λ (a : After). a.answer) r in
       let states : s' ≡ (step e s).state = ap (λ (a : After). a.state) r in
       let outputs : out ≡ (step e s).output = ap (λ (a : After). a.output) r in
       let made : m' ≡ made_with p (runner_of e s.tables) (step e s).answer m = f ∙ ap (λ (o : Option ℕ). made_with p o answer m) w ∙ ap (λ (b : Answer). made_with p (runner_of e s.tables) b m) answers in
-      rw (made, states) (come_on start m s e hasher hasher' h n a (subst (λ (out : List ℕ). (o : List ℕ) → Holds256 hasher o → Holds256 hasher' (o ++ out)) outputs more))
+      rw (made, states) (come_on start m s e heard heard' h n a (subst (λ (out : List ℕ). (o : List ℕ) → Hears heard o → Hears heard' (o ++ out)) outputs more))
 
   -- a run that begins
-  pub comes_from : (s : State) (hasher : Sha256) → Holds256 hasher [] → HasComeTo p s nothing_made s hasher
-  comes_from s hasher h = record {
+  pub comes_from : (s : State) (heard : Heard) → Hears heard [] → HasComeTo p s nothing_made s heard
+  comes_from s heard h = record {
     events = [];
     come = record { scheduled = tt; accepted = tt; point = refl; folded = refl; output = h };
   }
 
   -- a run that has come to its end
-  pub comes_to : (start : State) (m : Made) (s : State) (hasher : Sha256) (ending : ScheduleEnd) (told : Told) → HasComeTo p start m s hasher → next p m s.tables ≡ End ending → told.outcome ≡ outcome_of ending s.tables → ((o : List ℕ) → Holds256 hasher o → told.digest ≡ digest_of told.outcome o) → ComesTo p start told
-  comes_to start m s hasher ending told h n o d =
+  pub comes_to : (start : State) (m : Made) (s : State) (heard : Heard) (ending : ScheduleEnd) (told : Told) → HasComeTo p start m s heard → next p m s.tables ≡ End ending → told.outcome ≡ outcome_of ending s.tables → ((o : List ℕ) → Hears heard o → told.digest ≡ digest_of told.outcome o) → ComesTo p start told
+  comes_to start m s heard ending told h n o d =
       let es = h.events in
       let c = h.come in
       record {
@@ -74,12 +75,13 @@ module _ (p : Plan) where
         digest = d (output_of es start) c.output;
       }
 
-  -- and what it has made by then
-  pub ends_with : (start : State) (m : Made) (s : State) (hasher : Sha256) (ending : ScheduleEnd) (told : Told) → HasComeTo p start m s hasher → next p m s.tables ≡ End ending → told.outcome ≡ outcome_of ending s.tables → ((o : List ℕ) → Holds256 hasher o → told.digest ≡ digest_of told.outcome o) → EndsWith p start told m
+  -- what it has made by then, and the last line that it has put
+  pub ends_with : (start : State) (m : Made) (s : State) (heard : Heard) (ending : ScheduleEnd) (run : Finished) → HasComeTo p start m s heard → next p m s.tables ≡ End ending → run.told.outcome ≡ outcome_of ending s.tables → ((o : List ℕ) → Hears heard o → run.told.digest ≡ digest_of run.told.outcome o) → run.made ≡ m → ((o : List ℕ) → Hears heard o → run.said ≡ last_line o) → EndsWith p start run
   unfolding comes_to
-  ends_with start m s hasher ending told h n o d = record {
-    comes = comes_to start m s hasher ending told h n o d;
-    has_made = ap (λ (x : Point). x.made) h.come.point;
+  ends_with start m s heard ending run h n o d made said = record {
+    comes = comes_to start m s heard ending run.told h n o d;
+    has_made = made ∙ ap (λ (x : Point). x.made) h.come.point;
+    said = said (output_of h.events start) h.come.output;
   }
 
   -- a run has one list of events

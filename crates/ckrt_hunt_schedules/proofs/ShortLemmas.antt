@@ -7,6 +7,7 @@ use Rattle.ckrt_machine.specs.declared.event.Answer.{Answer}
 use Rattle.ckrt_machine.specs.declared.event.Answer.TheVariants.{Placed, Ran, Taken, Closed, Ticked}
 use Rattle.ckrt_hunt_schedules.specs.declared.made.Made.{Made}
 use Rattle.ckrt_hunt_schedules.specs.declared.plan.Plan.{Plan}
+use Rattle.ckrt_hunt_schedules.specs.declared.runs.Finished.{Finished}
 use Rattle.ckrt_hunt_schedules.specs.declared.runs.Told.{Told}
 use Rattle.ckrt_hunt_schedules.specs.Plans.{made_with}
 use Rattle.ckrt_hunt_schedules.specs.Runs.{ComesTo, EndsWith, Point, beginning, behind, on}
@@ -35,27 +36,27 @@ module _ (p : Plan) (start : State) where
   same a b c d = same_events p c.events d.events (beginning start) c.ending d.ending c.scheduled c.ended d.scheduled d.ended
 
   -- the events of any run by the plan are those that were counted
-  events_of : (told other : Told) (m : Made) (e : EndsWith p start told m) (c : ComesTo p start other) → m.events ≡ length c.events
-  events_of told other m e c =
+  events_of : (run : Finished) (other : Told) (e : EndsWith p start run) (c : ComesTo p start other) → run.made.events ≡ length c.events
+  events_of run other e c =
       let es = e.comes.events in
-      let its : m.events ≡ (behind p es (beginning start)).made.events = ap (λ (x : Made). x.events) e.has_made in
+      let its : run.made.events ≡ (behind p es (beginning start)).made.events = ap (λ (x : Made). x.events) e.has_made in
       let all : (behind p es (beginning start)).made.events ≡ 0 + length es = all_counted p es (beginning start) in
-      let one : length es ≡ length c.events = ap (λ (es : List Event). length es) (same told other e.comes c) in
+      let one : length es ≡ length c.events = ap (λ (es : List Event). length es) (same run.told other e.comes c) in
       omega (arith, its, all, one)
 
-  pub switches_of : (told : Told) (m : Made) → EndsWith p start told m → HasSwitches p start m.switches
-  switches_of told m e = λ other c.
-      ap (λ (es : List Event). (behind p es (beginning start)).made.switches) (same other told c e.comes) ∙ sym (ap (λ (x : Made). x.switches) e.has_made)
+  pub switches_of : (run : Finished) → EndsWith p start run → HasSwitches p start run.made.switches
+  switches_of run e = λ other c.
+      ap (λ (es : List Event). (behind p es (beginning start)).made.switches) (same other run.told c e.comes) ∙ sym (ap (λ (x : Made). x.switches) e.has_made)
 
 -- a run that comes to what the seed comes to, in no more events
-pub repeats : (h : Hunted) (seed : ℕ) (p : Plan) (told other : Told) (m n : Made) → EndsWith (plan_in h seed) h.start told m → EndsWith p h.start other n → other ≡ told → n.events ≤ m.events → Repeats h seed p
-repeats h seed p told other m n e f is few =
+pub repeats : (h : Hunted) (seed : ℕ) (p : Plan) (run other : Finished) → EndsWith (plan_in h seed) h.start run → EndsWith p h.start other → other.told ≡ run.told → other.made.events ≤ run.made.events → Repeats h seed p
+repeats h seed p run other e f is few =
     let drawn = plan_in h seed in
     record {
-      same = λ t c. subst (λ (u : Told). ComesTo p h.start u) (is ∙ same_told drawn h.start told t e.comes c) f.comes;
+      same = λ t c. subst (λ (u : Told). ComesTo p h.start u) (is ∙ same_told drawn h.start run.told t e.comes c) f.comes;
       few = λ t u a b.
-          let ours = events_of p h.start other u n f b in
-          let its = events_of drawn h.start told t m e a in
+          let ours = events_of p h.start other u f b in
+          let its = events_of drawn h.start run t e a in
           omega (arith, ours, its, few);
     }
 

@@ -3,9 +3,10 @@ use Rattle.std.proofs.Common.{◌≡◌, ◌≢◌, ◌∙◌, ℕ, suc, ◌+◌
 use Rattle.ckrt_hunt_schedules.specs.declared.group.Group.{Group}
 use Rattle.ckrt_hunt_schedules.specs.declared.kind.Kind.{Kind}
 use Rattle.ckrt_hunt_schedules.specs.declared.row.Row.{Row}
+use Rattle.ckrt_hunt_schedules.specs.declared.runs.Finished.{Finished}
 use Rattle.ckrt_hunt_schedules.specs.declared.runs.Told.{Told}
 use Rattle.ckrt_hunt_schedules.specs.declared.tally.Tally.{Tally}
-use Rattle.ckrt_hunt_schedules.specs.Tallies.{AreNoted, HasNone, Hunted, IsNoted, IsNotedIn, SeedComesTo, group_of, with_group}
+use Rattle.ckrt_hunt_schedules.specs.Tallies.{AreNoted, HasNone, Hunted, IsNoted, IsNotedIn, SeedEndsWith, group_of, with_group}
 use Rattle.ckrt_hunt_schedules.specs.Kinds.{kind_of}
 
 -- one row more has another outcome
@@ -15,22 +16,22 @@ none_on told rows k r e n h =
     (λ s g t. let same : r ≡ s = cc in n (ap (λ (x : Row). x.told) same ∙ t))
 
 -- a run of this kind was noted
-pub noted_as : (seed : ℕ) (told : Told) (k : Kind) (g : Group) (old new : Tally) → k ≡ kind_of told.outcome → IsNotedIn seed told (group_of k old) g → new ≡ with_group k g old → IsNoted seed told old new
-noted_as seed told k g old new e n is = record {
+pub noted_as : (seed : ℕ) (run : Finished) (k : Kind) (g : Group) (old new : Tally) → k ≡ kind_of run.told.outcome → IsNotedIn seed run (group_of k old) g → new ≡ with_group k g old → IsNoted seed run old new
+noted_as seed run k g old new e n is = record {
   group = g;
-  noted = subst (λ (j : Kind). IsNotedIn seed told (group_of j old) g) e n;
+  noted = subst (λ (j : Kind). IsNotedIn seed run (group_of j old) g) e n;
   is = is ∙ ap (λ (j : Kind). with_group j g old) e;
 }
 
 -- one seed more
-pub noted_on : (h : Hunted) (first seed : ℕ) (told : Told) (old before tally : Tally) → first ≤ seed → AreNoted h first (seed - first) old before → SeedComesTo h seed told → IsNoted seed told before tally → AreNoted h first (seed + 1 - first) old tally
-noted_on h first seed told old before tally l i c n =
+pub noted_on : (h : Hunted) (first seed : ℕ) (run : Finished) (old before tally : Tally) → first ≤ seed → AreNoted h first (seed - first) old before → SeedEndsWith h seed run → IsNoted seed run before tally → AreNoted h first (seed + 1 - first) old tally
+noted_on h first seed run old before tally l i c n =
     let more : seed + 1 - first ≡ suc (seed - first) = omega arith in
     let same : seed ≡ first + (seed - first) = omega arith in
     rw more (record {
       before = before;
       was_so = i;
-      told = told;
-      comes = subst (λ (k : ℕ). SeedComesTo h k told) same c;
-      noted = subst (λ (k : ℕ). IsNoted k told before tally) same n;
+      run = run;
+      ends = subst (λ (k : ℕ). SeedEndsWith h k run) same c;
+      noted = subst (λ (k : ℕ). IsNoted k run before tally) same n;
     })

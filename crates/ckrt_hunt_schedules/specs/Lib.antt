@@ -3,6 +3,7 @@ pub mod Plans
 pub mod Given
 pub mod Turns
 pub mod Outcomes
+pub mod LastLines
 pub mod Kinds
 pub mod Runs
 pub mod Tallies

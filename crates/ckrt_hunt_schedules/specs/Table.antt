@@ -1,13 +1,19 @@
--- The table of a hunt (this project's own format): for each outcome a line that says how often it came, by which seed first, and what it is, and a
--- line with the command that repeats it. They stand by their kinds, those that harm first. An outcome has the number of its row, from 1 on.
+-- The table of a hunt (this project's own format): for each outcome a line that says how often it came, by which seed first, and what it is; one with
+-- the last line that the first seed's run put, but for `exit 0`; and one with the command that repeats it. They stand by their kinds, those that harm
+-- first. An outcome has the number of its row, from 1 on.
 --
 --     outcome 1: 3 of 200 runs, first by seed 17: deadlock, thread 2 waits for mutex 00002c58 (thread 3 has it)
+--         said: 2 of 3 are done
 --         ckrt hunt race.bin --seeds 17-17 --pages 64 --harts 2 --steps 10000000 --keep seed-17.disk
-use Rattle.std.specs.Prelude.{ℕ, zero, suc, ◌+◌, ◌-◌, ◌==◌, Bool, if◌then◌else◌, List, [], ◌∷◌, ◌++◌, length, take, slice_get, codes, decimal, Option, Some, None, option_map}
+use Rattle.std.specs.Prelude.{ℕ, zero, suc, ◌+◌, ◌-◌, ◌==◌, ◌&&◌, nat_le, nat_lt, Bool, true, if◌then◌else◌, List, [], ◌∷◌, ◌++◌, length, take, slice_get, codes, decimal, Option, Some, None, option_map}
 use Rattle.std.specs.List.{flat_map}
 use Rattle.hex.specs.Hex.{encode_lower}
 use Rattle.ckrt_rv32i.specs.Names.{cause_name}
 use Rattle.ckrt_inspect.specs.Texts.{hex_text}
+use Rattle.ckrt_hunt_schedules.specs.Kinds.{kind_of}
+use Rattle.ckrt_hunt_schedules.specs.declared.kind.Kind.{Kind}
+use Rattle.ckrt_hunt_schedules.specs.declared.kind.Kind.TheVariants as kind
+use Rattle.ckrt_hunt_schedules.specs.declared.last_line.LastLine.{LastLine}
 use Rattle.ckrt_hunt_schedules.specs.declared.outcome.Awaited.{Awaited}
 use Rattle.ckrt_hunt_schedules.specs.declared.outcome.Awaited.TheVariants as awaited
 use Rattle.ckrt_hunt_schedules.specs.declared.outcome.Outcome.{Outcome}
@@ -56,7 +62,31 @@ abbrev pub digest_text : Option (List ℕ) → List ℕ
 digest_text None = []
 digest_text (Some digest) = codes ", output " ++ encode_lower (take 4 digest)
 
--- ITS TWO LINES
+-- WHAT IT SAID, by the last line that it put
+
+-- a byte that isn't printable ASCII by its two hexadecimal digits
+abbrev pub byte_text : ℕ → List ℕ
+byte_text b = if nat_le 32 b && nat_lt b 127 then b ∷ [] else codes "\\x" ++ encode_lower (b ∷ [])
+
+abbrev pub rest_text : (is_longer : Bool) → List ℕ
+rest_text is_longer = if is_longer then codes ".." else []
+
+abbrev pub line_text : LastLine → List ℕ
+line_text l = codes "    said: " ++ flat_map byte_text l.bytes.items ++ rest_text l.is_longer ++ 10 ∷ []
+
+-- where no line was put, and of `exit 0`, there is none
+abbrev pub is_silent : Kind → LastLine → Bool
+is_silent kind.Fault l = length l.bytes.items == 0
+is_silent kind.Deadlock l = length l.bytes.items == 0
+is_silent kind.OtherStatus l = length l.bytes.items == 0
+is_silent kind.NoEnd l = length l.bytes.items == 0
+is_silent kind.WaitsForInput l = length l.bytes.items == 0
+is_silent kind.ExitZero l = true
+
+abbrev pub said_line : Row → List ℕ
+said_line r = if is_silent (kind_of r.told.outcome) r.said then [] else line_text r.said
+
+-- ITS LINES
 
 -- the second number of how many runs of how many
 abbrev pub runs_text : Asked → List ℕ
@@ -100,7 +130,7 @@ command_line a seed =
     ++ codes ".disk\n"
 
 abbrev pub row_text : Asked → (number : ℕ) → Row → List ℕ
-row_text a number r = outcome_line a number r ++ command_line a r.first
+row_text a number r = outcome_line a number r ++ said_line r ++ command_line a r.first
 
 -- THE TABLE
 

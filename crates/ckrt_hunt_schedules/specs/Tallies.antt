@@ -12,6 +12,7 @@ use Rattle.ckrt_hunt_schedules.specs.declared.group.TheConstants.{GROUP_ROWS}
 use Rattle.ckrt_hunt_schedules.specs.declared.kind.Kind.{Kind}
 use Rattle.ckrt_hunt_schedules.specs.declared.kind.Kind.TheVariants as kind
 use Rattle.ckrt_hunt_schedules.specs.declared.outcomes.Outcomes.{Outcomes}
+use Rattle.ckrt_hunt_schedules.specs.declared.runs.Finished.{Finished}
 use Rattle.ckrt_hunt_schedules.specs.declared.runs.Told.{Told}
 use Rattle.ckrt_hunt_schedules.specs.declared.row.Row.{Row}
 use Rattle.ckrt_hunt_schedules.specs.declared.seeds.Seeds.{Seeds}
@@ -21,16 +22,16 @@ use Rattle.ckrt_hunt_schedules.specs.declared.tally.Tally.{Tally}
 use Rattle.ckrt_hunt_schedules.specs.declared.telling.HuntDone.{HuntDone}
 use Rattle.ckrt_hunt_schedules.specs.Kinds.{kind_of}
 use Rattle.ckrt_hunt_schedules.specs.Plans.{plan_of}
-use Rattle.ckrt_hunt_schedules.specs.Runs.{ComesTo}
+use Rattle.ckrt_hunt_schedules.specs.Runs.{ComesTo, EndsWith}
 use Rattle.ckrt_hunt_schedules.specs.Seeds.{IsBeginning}
 
 -- one more, as far as 64 bits count
 abbrev pub one_more : ℕ → ℕ
 one_more n = min (n + 1) 18446744073709551615
 
--- the row of a seed that came to this first
-abbrev pub first_row : (seed : ℕ) → Told → Row
-first_row seed told = record { told = told; count = 1; first = seed }
+-- the row of an outcome to which the run of this seed came first
+abbrev pub first_row : (seed : ℕ) → Finished → Row
+first_row seed run = record { told = run.told; said = run.said; count = 1; first = seed }
 
 -- none of the first k rows has the outcome
 abbrev pub HasNone : Told → List Row → (k : ℕ) → Type 0
@@ -58,10 +59,10 @@ pub record CountsAgain (told : Told) (old new : Group) : Type 0 where
   pub others : new.others ≡ old.others
 
 -- it has none, and gets one
-pub record GetsRow (seed : ℕ) (told : Told) (old new : Group) : Type 0 where
-  pub none : HasNone told old.rows.items (length old.rows.items)
+pub record GetsRow (seed : ℕ) (run : Finished) (old new : Group) : Type 0 where
+  pub none : HasNone run.told old.rows.items (length old.rows.items)
   pub room : length old.rows.items < GROUP_ROWS
-  pub rows : new.rows.items ≡ old.rows.items ++ first_row seed told ∷ []
+  pub rows : new.rows.items ≡ old.rows.items ++ first_row seed run ∷ []
   pub others : new.others ≡ old.others
 
 -- it has none, and none is left
@@ -71,10 +72,10 @@ pub record LacksRow (told : Told) (old new : Group) : Type 0 where
   pub rows : new.rows.items ≡ old.rows.items
   pub others : new.others ≡ one_more old.others
 
--- one more run was noted, whose seed came to this
-abbrev pub IsNotedIn : (seed : ℕ) → Told → (old new : Group) → Type 0
-IsNotedIn seed told old new =
-    CountsAgain told old new ⊎ GetsRow seed told old new ⊎ LacksRow told old new
+-- the run of one more seed was noted
+abbrev pub IsNotedIn : (seed : ℕ) → Finished → (old new : Group) → Type 0
+IsNotedIn seed run old new =
+    CountsAgain run.told old new ⊎ GetsRow seed run old new ⊎ LacksRow run.told old new
 
 -- THOSE OF ALL KINDS
 
@@ -99,10 +100,10 @@ abbrev pub AreEmpty : Tally → Type 0
 AreEmpty t = (k : Kind) → IsEmpty (group_of k t)
 
 -- one more run was noted, among those of its kind alone
-pub record IsNoted (seed : ℕ) (told : Told) (old new : Tally) : Type 0 where
+pub record IsNoted (seed : ℕ) (run : Finished) (old new : Tally) : Type 0 where
   pub group : Group
-  pub noted : IsNotedIn seed told (group_of (kind_of told.outcome) old) group
-  pub is : new ≡ with_group (kind_of told.outcome) group old
+  pub noted : IsNotedIn seed run (group_of (kind_of run.told.outcome) old) group
+  pub is : new ≡ with_group (kind_of run.told.outcome) group old
 
 -- the rows of all kinds, those that harm first
 abbrev pub rows_of : Tally → List Row
@@ -159,15 +160,19 @@ pub record IsRoomFor (s : State) (memory : Memory) (tables : Tables) : Type 0 wh
 abbrev pub SeedComesTo : Hunted → (seed : ℕ) → Told → Type 0
 SeedComesTo h seed told = ComesTo (plan_in h seed) h.start told
 
+-- the same with the whole run
+abbrev pub SeedEndsWith : Hunted → (seed : ℕ) → Finished → Type 0
+SeedEndsWith h seed run = EndsWith (plan_in h seed) h.start run
+
 -- a tally that grew by a seed out of one of which something was so
 pub record Grew (WasSo : Tally → Type 0) (h : Hunted) (seed : ℕ) (tally : Tally) : Type 0 where
   pub before : Tally
   pub was_so : WasSo before
-  pub told : Told
-  pub comes : SeedComesTo h seed told
-  pub noted : IsNoted seed told before tally
+  pub run : Finished
+  pub ends : SeedEndsWith h seed run
+  pub noted : IsNoted seed run before tally
 
--- n seeds were noted, from one on: each in its turn, with what it comes to
+-- n seeds were noted, from one on: each in its turn, with its run
 abbrev pub AreNoted : Hunted → (first n : ℕ) → (old new : Tally) → Type 0
 AreNoted h first zero old new = new ≡ old
 AreNoted h first (suc n) old new = Grew (AreNoted h first n old) h (first + n) new

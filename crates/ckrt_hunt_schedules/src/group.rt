@@ -3,7 +3,7 @@ ghost use Rattle.std.specs.Prelude.{◌≡◌, ◌≤◌, vec_capacity, vec_len,
 ghost use Rattle.ckrt_hunt_schedules.specs.declared.group.TheConstants.{GROUP_ROWS};
 
 use crate::row::{Row, count_again, place_of};
-use crate::runs::Told;
+use crate::runs::Finished;
 use std::alloc::{AllocError, Global};
 
 /// How many outcomes of a kind are told apart.
@@ -31,15 +31,16 @@ impl Group {
         })
     }
 
-    /// One more run: a seed came to this. It takes no memory.
-    pub(crate) fn note(&mut self, seed: u64, told: Told)
-        ensures { IsNotedIn seed told self.old self.new }
+    /// The run of one more seed. It takes no memory.
+    pub(crate) fn note(&mut self, seed: u64, run: Finished)
+        ensures { IsNotedIn seed run self.old self.new }
     {
-        match place_of(self.rows.as_slice(), &told) {
+        match place_of(self.rows.as_slice(), &run.told) {
             Some(place) => count_again(self.rows.as_mut_slice(), place),
             None if self.rows.len() < GROUP_ROWS => {
                 let row = Row {
-                    told,
+                    told: run.told,
+                    said: run.said,
                     count: 1,
                     first: seed,
                 };

@@ -5,7 +5,7 @@ ghost use Rattle.ckrt_memory.specs.declared.MemoryError.TheVariants.{ImageTooLon
 use crate::noting::note_turns;
 use crate::onlooker::{HuntOnlooker, is_over};
 use crate::plan::{Input, Plan};
-use crate::runs::{Finished, Told, run};
+use crate::runs::{Finished, run};
 use crate::seeds::Seeds;
 use crate::shape::Shape;
 use crate::tally::Tally;
@@ -44,7 +44,7 @@ impl<'i> Model for Hunt<'i> {
 impl<'i> Hunt<'i> {
     ghost use Rattle.ckrt_hunt_schedules.specs.Runs.{EndsWith};
     ghost use Rattle.ckrt_hunt_schedules.specs.Seeds.{IsBeginning, IsEndedBy};
-    ghost use Rattle.ckrt_hunt_schedules.specs.Tallies.{AreNoted, SeedComesTo, hunted_of, plan_in};
+    ghost use Rattle.ckrt_hunt_schedules.specs.Tallies.{AreNoted, SeedEndsWith, hunted_of, plan_in};
 
     /// The hunt of a program that begins with this image, and is given this to read.
     ///
@@ -81,7 +81,7 @@ impl<'i> Hunt<'i> {
 
     /// What a run by a plan comes to. It takes no memory, and the hunt is as it was.
     pub fn run_by(&mut self, plan: &Plan<'_>) -> Finished
-        ensures ends { EndsWith plan.now self.old.start result.told result.made }
+        ensures ends { EndsWith plan.now self.old.start result }
         ensures same { self.new ≡ self.old }
     {
         restore_memory(&mut self.memory, self.machine.memory());
@@ -102,13 +102,13 @@ impl<'i> Hunt<'i> {
         has_all
     }
 
-    /// What a seed comes to. It takes no memory, and the hunt is as it was.
-    pub fn run_seed(&mut self, seed: u64) -> Told
-        ensures comes { SeedComesTo self.old seed result }
+    /// The run of a seed. It takes no memory, and the hunt is as it was.
+    pub fn run_seed(&mut self, seed: u64) -> Finished
+        ensures ends { SeedEndsWith self.old seed result }
         ensures same { self.new ≡ self.old }
     {
         let plan = self.plan_of(seed);
-        self.run_by(&plan).told
+        self.run_by(&plan)
     }
 
     /// Notes what the seeds of a range come to, in turn. An onlooker is told of each but the last one. Where the hunt may end early, it

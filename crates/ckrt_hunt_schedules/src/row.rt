@@ -3,12 +3,15 @@ ghost use Rattle.std.specs.Prelude.{◌≡◌, ◌<◌, length, slice_get, slice
 ghost use Rattle.ckrt_hunt_schedules.specs.declared.row.Row.{Row};
 ghost use Rattle.ckrt_hunt_schedules.specs.Tallies.{HasNone, IsFirst, one_more};
 
+use crate::last_line::LastLine;
 use crate::runs::Told;
 
 /// An outcome: how often it came, and the first seed that came to it.
 #[derive(Debug, Drop, PartialEq, Eq)]
 pub struct Row {
     pub told: Told,
+    /// The last line that the run of the first seed has put.
+    pub said: LastLine,
     pub count: u64,
     pub first: u64,
 }

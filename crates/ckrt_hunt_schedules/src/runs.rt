@@ -3,10 +3,13 @@ ghost use Rattle.std.specs.Prelude.{◌≡◌, ◌≤◌, ◌<◌, ◌+◌, ℕ,
 ghost use Rattle.sha2.specs.Hashers.{Holds256};
 ghost use Rattle.ckrt_machine.specs.Steps.{State};
 ghost use Rattle.ckrt_schedule.specs.declared.next.Next.TheVariants.{Submit};
+ghost use Rattle.ckrt_hunt_schedules.specs.LastLines.{last_line};
 ghost use Rattle.ckrt_hunt_schedules.specs.Outcomes.{digest_of, outcome_of};
 ghost use Rattle.ckrt_hunt_schedules.specs.Turns.{IsFit, next};
-ghost use Rattle.ckrt_hunt_schedules.specs.Runs.{EndsWith, HasComeTo};
+ghost use Rattle.ckrt_hunt_schedules.specs.Runs.{EndsWith, HasComeTo, Hears};
 
+use crate::heard::Heard;
+use crate::last_line::LastLine;
 use crate::made::Made;
 use crate::outcome::{Outcome, outcome_of};
 use crate::plan::Plan;
@@ -31,22 +34,18 @@ pub struct Finished {
     pub told: Told,
     /// What it has made.
     pub made: Made,
+    /// The last line that it has put.
+    pub said: LastLine,
 }
 
 /// One event on.
-fn go_on(
-    machine: &mut Machine,
-    plan: &Plan<'_>,
-    made: &mut Made,
-    hasher: &mut Sha256,
-    event: &Event,
-)
+fn go_on(machine: &mut Machine, plan: &Plan<'_>, made: &mut Made, heard: &mut Heard, event: &Event)
     requires scheduled { next plan.now made.old machine.old.state.tables ≡ Submit event.now }
     requires fit { IsFit plan.now made.old machine.old.state.tables event.now }
     requires turns { made.old.turns ≤ made.old.events }
     ensures come { (start : State)
-        → HasComeTo plan.now start made.old machine.old.state hasher.old
-        → HasComeTo plan.now start made.new machine.new.state hasher.new }
+        → HasComeTo plan.now start made.old machine.old.state heard.old
+        → HasComeTo plan.now start made.new machine.new.state heard.new }
     ensures events { made.new.events ≡ made.old.events + 1 }
     ensures turns { made.new.turns ≤ made.new.events }
     ensures harts { machine.new.state.tables.threads.hart_count
@@ -55,7 +54,7 @@ fn go_on(
 {
     let who = runner_of(machine.tables(), event);
     let answer = machine.step(event);
-    hasher.update(machine.last_output());
+    heard.hear(machine.last_output());
     *made = made.with(plan, who, answer);
 }
 
@@ -72,34 +71,37 @@ fn digest_of(outcome: &Outcome, hasher: Sha256) -> Option<[u8; 32]>
     }
 }
 
-/// What is told of a run that has come to its end.
-fn tell(machine: &Machine, ending: ScheduleEnd, hasher: Sha256) -> Told
-    ensures outcome { result.outcome ≡ outcome_of ending machine.now.state.tables }
-    ensures digest { (output : List ℕ) → Holds256 hasher output
-        → result.digest ≡ digest_of result.outcome output }
+/// A run that has come to its end.
+fn finish(machine: &Machine, ending: ScheduleEnd, made: Made, heard: Heard) -> Finished
+    ensures outcome { result.told.outcome ≡ outcome_of ending machine.now.state.tables }
+    ensures digest { (output : List ℕ) → Hears heard output
+        → result.told.digest ≡ digest_of result.told.outcome output }
+    ensures made { result.made ≡ made }
+    ensures said { (output : List ℕ) → Hears heard output → result.said ≡ last_line output }
 {
     let outcome = outcome_of(machine.tables(), ending);
-    let digest = digest_of(&outcome, hasher);
-    Told { outcome, digest }
+    let digest = digest_of(&outcome, heard.hasher);
+    Finished {
+        told: Told { outcome, digest },
+        made,
+        said: heard.last_line,
+    }
 }
 
 /// Runs a program by a plan, from the state that the machine is in, and tells what it comes to. It takes no memory.
 pub fn run(machine: &mut Machine, plan: &Plan<'_>) -> Finished
     requires { 1 ≤ machine.old.state.tables.threads.hart_count }
-    ensures ends { EndsWith plan.now machine.old.state result.told result.made }
+    ensures ends { EndsWith plan.now machine.old.state result }
     ensures harts { machine.new.state.tables.threads.hart_count
         ≡ machine.old.state.tables.threads.hart_count }
     ensures size { length machine.new.state.bytes ≡ length machine.old.state.bytes }
 {
     let mut made = Made::nothing();
-    let mut hasher = Sha256::new();
+    let mut heard = Heard::nothing();
     'events: loop {
         match next(machine, plan, &made) {
-            Next::Submit(event) => go_on(machine, plan, &mut made, &mut hasher, &event),
-            Next::End(ending) => {
-                let told = tell(machine, ending, hasher);
-                return Finished { told, made };
-            }
+            Next::Submit(event) => go_on(machine, plan, &mut made, &mut heard, &event),
+            Next::End(ending) => return finish(machine, ending, made, heard),
         }
     }
 }

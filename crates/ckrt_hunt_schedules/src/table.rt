@@ -1,10 +1,11 @@
 //! What a hunt came to, as a table.
 ghost use Rattle.std.specs.Prelude.{◌≡◌, ◌+◌, ◌≤◌, ◌++◌, ◌∷◌, [], codes, decimal, length, OnOk};
 ghost use Rattle.std.specs.Io.KnownBytes.{Appends};
-ghost use Rattle.ckrt_hunt_schedules.specs.Table.{command_line, drawn_text, head_text, input_text, kept_text, outcome_line, others_line, placed_text, races_word, row_text, rows_text, runs_text, seed_text, shape_text, table_text, unkept_text};
+ghost use Rattle.ckrt_hunt_schedules.specs.Table.{command_line, drawn_text, head_text, input_text, kept_text, outcome_line, others_line, placed_text, races_word, row_text, rows_text, runs_text, said_line, seed_text, shape_text, table_text, unkept_text};
 
 use crate::outcomes::Outcomes;
 use crate::row::Row;
+use crate::saying::write_said;
 use crate::seeds::Seeds;
 use crate::shape::Shape;
 use crate::shorten::Found;
@@ -136,13 +137,14 @@ pub fn write_command_line<W: Write>(out: &mut W, asked: &Asked<'_>, seed: u64) -
     out.write_all(b".disk\n")
 }
 
-/// The two lines of an outcome.
+/// The lines of an outcome.
 #[tactic(auto, using(crate::proofs::AppendLemmas::appends_both))]
 fn write_row<W: Write>(out: &mut W, asked: &Asked<'_>, number: u64, row: &Row) -> Result<()>
     ensures { OnOk result
         (Appends (W.contents out.old) (W.contents out.new) (row_text asked.now number row.now)) }
 {
     write_outcome_line(out, asked, number, row)?;
+    write_said(out, row)?;
     write_command_line(out, asked, row.first)
 }
 
@@ -183,7 +185,7 @@ fn write_others<W: Write>(out: &mut W, asked: &Asked<'_>, others: u64) -> Result
 }
 
 /// Writes what a hunt came to: for each outcome, those that harm first, how often it came, the first seed that came to it, what
-/// it is, and the command that repeats it. A number of the outcome stands before it, from 1 on. It takes no memory.
+/// it is, what it said, and the command that repeats it. A number of the outcome stands before it, from 1 on. It takes no memory.
 #[tactic(auto, using(crate::proofs::AppendLemmas::appends_both))]
 pub fn write_table<W: Write>(out: &mut W, asked: &Asked<'_>, outcomes: &Outcomes) -> Result<()>
     ensures { OnOk result

@@ -3,7 +3,7 @@ ghost use Rattle.std.specs.Prelude.{◌≡◌, length, IfOk};
 
 use crate::group::Group;
 use crate::kind::{Kind, kind_of};
-use crate::runs::Told;
+use crate::runs::Finished;
 use std::alloc::{AllocError, Global};
 
 /// What seeds came to. Each kind of outcomes has rows of its own, so none takes the row of another kind's.
@@ -65,17 +65,17 @@ impl Tally {
             .saturating_add(self.exits.others)
     }
 
-    /// One more run: a seed came to this. It takes no memory.
-    pub fn note(&mut self, seed: u64, told: Told)
-        ensures { IsNoted seed told self.old self.new }
+    /// The run of one more seed. It takes no memory.
+    pub fn note(&mut self, seed: u64, run: Finished)
+        ensures { IsNoted seed run self.old self.new }
     {
-        match kind_of(&told.outcome) {
-            Kind::Fault => self.faults.note(seed, told),
-            Kind::Deadlock => self.deadlocks.note(seed, told),
-            Kind::OtherStatus => self.other_statuses.note(seed, told),
-            Kind::NoEnd => self.no_ends.note(seed, told),
-            Kind::WaitsForInput => self.input_waits.note(seed, told),
-            Kind::ExitZero => self.exits.note(seed, told),
+        match kind_of(&run.told.outcome) {
+            Kind::Fault => self.faults.note(seed, run),
+            Kind::Deadlock => self.deadlocks.note(seed, run),
+            Kind::OtherStatus => self.other_statuses.note(seed, run),
+            Kind::NoEnd => self.no_ends.note(seed, run),
+            Kind::WaitsForInput => self.input_waits.note(seed, run),
+            Kind::ExitZero => self.exits.note(seed, run),
         }
     }
 }

@@ -7,8 +7,8 @@ use crate::hunts::{SHAPE, outcomes_in};
 use arrayvec::ArrayVec;
 use ckrt_drive::Nobody;
 use ckrt_hunt_schedules::{
-    Asked, Awaited, HuntFault, HuntOnlooker, HuntWatch, Input, Outcome, Outcomes, Seeds, Shape,
-    Tally, Told, Verdict, Waiting, hunt_and_tell, write_table,
+    Asked, Awaited, Finished, HuntFault, HuntOnlooker, HuntWatch, Input, LastLine, Made, Outcome,
+    Outcomes, Seeds, Shape, Tally, Told, Verdict, Waiting, hunt_and_tell, write_table,
 };
 use ckrt_rv32i::Cause;
 use std::process::Abort;
@@ -118,9 +118,18 @@ const WAITINGS: [Waiting; 9] = [
     },
 ];
 
-/// Notes a run.
+/// A run that has put no line.
+fn silent(told: Told) -> Finished {
+    Finished {
+        told,
+        made: Made::nothing(),
+        said: LastLine::none(),
+    }
+}
+
+/// Notes a run that has put no line.
 fn note(tally: &mut Tally, seed: u64, outcome: Outcome, digest: Option<[u8; 32]>) {
-    tally.note(seed, Told { outcome, digest });
+    tally.note(seed, silent(Told { outcome, digest }));
 }
 
 /// A tally without a run.
@@ -259,8 +268,8 @@ fn each_kind_has_rows_of_its_own(rt: HostRuntime) {
 /// What two runs come to together.
 fn verdict_of<R: Abort + AllocGlobal>(rt: &R, first: Told, second: Told) -> Verdict {
     let mut tally = empty_tally(rt);
-    tally.note(1, first);
-    tally.note(2, second);
+    tally.note(1, silent(first));
+    tally.note(2, silent(second));
     outcomes_in(rt, &mut tally).verdict()
 }
 
@@ -325,6 +334,7 @@ const PUTS: [u32; 6] = [
 
 const ONE_OUTCOME: &[u8] = b"\
 outcome 1: 10 of 10 runs, first by seed 5: exit 7, output 559aead0
+    said: A
     ckrt hunt race.bin --seeds 5-5 --pages 16 --harts 2 --steps 10000 --keep seed-5.disk
 ";
 
@@ -378,6 +388,7 @@ fn table_by_time<R: Abort + AllocGlobal>(rt: &R, may_end: bool) -> Vec<u8> {
 
 const THREE_SEEDS: &[u8] = b"\
 outcome 1: 3 of 3 runs, first by seed 5: exit 7, output 559aead0
+    said: A
     ckrt hunt race.bin --seeds 5-5 --pages 16 --harts 2 --steps 10000 --keep seed-5.disk
 ";
 

@@ -7,7 +7,7 @@ from cases.guests import RETURN
 from cases.sharers import Sharer
 from model.abi import Call
 from model.assembler import STOP, Jump, call_words, image_of
-from model.hunts import Folded, Options, fold, is_fed, line_of_kept, lines_of_table, status_of, text_of_outcome
+from model.hunts import Folded, Options, fold, is_fed, known_lines, line_of_kept, lines_of_table, said_of, status_of, text_of_outcome
 from model.stretches import Recording
 
 TIME_LIMIT = 60
@@ -90,17 +90,18 @@ def kept_run(ckrt, case, folder, seed):
 
 
 def difference_of_kept(ckrt, case, folder, seed):
-    """The outcome by the kept disk, and None or where that and the lines differ."""
+    """What the kept disk shows, and None or where that and the lines differ."""
     kept, difference = kept_run(ckrt, case, folder, seed)
     if difference:
         return None, difference
     switches, drawn = kept.folded.switches, re.search(r"drawn with (\d+)$", kept.lines[-1])
     if drawn is None or int(drawn[1]) < switches:
         return None, f"{switches} switches: {kept.lines[-1]}"
-    expected = [*lines_of_table("image", {seed: kept.outcome}, case.options), line_of_kept(seed, "kept", switches, drawn[1])]
-    shown = kept.status, kept.lines
+    table = lines_of_table("image", {seed: kept.outcome}, case.options, {seed: said_of(kept.folded)})
+    expected = known_lines([*table, line_of_kept(seed, "kept", switches, drawn[1])])
+    shown = kept.status, known_lines(kept.lines)
     wanted = status_of([kept.outcome]), expected
-    return kept.outcome, None if shown == wanted else f"model {wanted}, program {shown}"
+    return kept, None if shown == wanted else f"model {wanted}, program {shown}"
 
 
 def difference_of_hunts(ckrt, case, folder, tally):
@@ -108,12 +109,15 @@ def difference_of_hunts(ckrt, case, folder, tally):
     (folder / "image").write_bytes(case.image)
     if case.input is not None:
         (folder / "input").write_bytes(case.input)
-    outcomes = {}
+    outcomes, said = {}, {}
     for seed in case.seeds:
-        outcomes[seed], difference = difference_of_kept(ckrt, case, folder, seed)
+        kept, difference = difference_of_kept(ckrt, case, folder, seed)
         if difference:
             return f"seed {seed}: {difference}"
-        tally["outcome of a hunt", outcomes[seed].split(",")[0].split()[0]] += 1
-    expected = status_of(outcomes.values()), lines_of_table("image", outcomes, case.options)
-    shown = hunt(ckrt, folder, case.seeds, case.options)
+        outcomes[seed], said[seed] = kept.outcome, said_of(kept.folded)
+        tally["outcome of a hunt", kept.outcome.split(",")[0].split()[0]] += 1
+        tally["said in a hunt", "a line" if said[seed] else "nothing"] += 1
+    expected = status_of(outcomes.values()), known_lines(lines_of_table("image", outcomes, case.options, said))
+    status, lines = hunt(ckrt, folder, case.seeds, case.options)
+    shown = status, known_lines(lines)
     return None if shown == expected else f"table: model {expected}, program {shown}"

@@ -6,7 +6,7 @@ from cases.glances import Glance, glance_of_program, kind_of_race
 from cases.hunted import HuntsCase, hunt, hunts_case, kept_run
 from model.abi import Call
 from model.assembler import Label, Program, call_words, image_of, immediate_form, load_number, store_form
-from model.hunts import line_of_kept, lines_of_table, status_of, told_of
+from model.hunts import line_of_kept, lines_of_table, said_of, status_of, told_of
 from model.race_rows import lines_of_races
 from model.races import Readings
 
@@ -60,11 +60,18 @@ def raced_case(chance, seed):
 
 @dataclass
 class Run:
-    """A seed's run as it was drawn: what it comes to, its switches, its races by each reading, and the bytes of its disk."""
+    """A seed's run as it was drawn: what it comes to, its switches, its races by each reading, the bytes of its disk, and what it said."""
     outcome: str
     switches: int
     readings: Readings
     disk: bytes
+    said: str | None = None
+
+
+def table_of(runs, options):
+    """The lines of their outcomes."""
+    outcomes = {seed: run.outcome for seed, run in runs.items()}
+    return lines_of_table("image", outcomes, options, {seed: run.said for seed, run in runs.items()})
 
 
 def tables_of(runs, options):
@@ -72,7 +79,7 @@ def tables_of(runs, options):
     outcomes = {seed: run.outcome for seed, run in runs.items()}
     told = []
     for races in ({seed: run.readings.narrow for seed, run in runs.items()}, {seed: run.readings.wide for seed, run in runs.items()}):
-        lines = [*lines_of_table("image", outcomes, options), *lines_of_races("image", races, options)]
+        lines = [*table_of(runs, options), *lines_of_races("image", races, options)]
         told.append((status_of(outcomes.values(), races.values()), lines))
     return told
 
@@ -82,7 +89,7 @@ def difference_of_told(shown, runs, options, kept=()):
     narrow, wide = tables_of(runs, options)
     status, lines = shown
     if narrow != wide:
-        wanted = lines_of_table("image", {seed: run.outcome for seed, run in runs.items()}, options)
+        wanted = table_of(runs, options)
         return None if lines[:len(wanted)] == wanted else f"model {wanted}, program {lines}"
     wanted = [*narrow[1], *kept]
     if (status, lines) == (narrow[0], wanted):
@@ -105,7 +112,7 @@ def difference_of_drawn(ckrt, case, folder, seed):
     if difference:
         return None, difference
     disk = folder / "kept"
-    run = Run(kept.outcome, kept.folded.switches, kept.recording.show(Readings()), disk.read_bytes())
+    run = Run(kept.outcome, kept.folded.switches, kept.recording.show(Readings()), disk.read_bytes(), said_of(kept.folded))
     told = [line_of_kept(seed, "kept", run.switches, None)]
     return run, difference_of_told((kept.status, kept.lines), {seed: run}, case.options, told) or difference_of_glance(ckrt, disk, run.readings)
 
@@ -141,12 +148,12 @@ def difference_of_raced(ckrt, case, folder, tally):
     difference = difference_of_told(hunt(ckrt, folder, case.seeds, case.options), runs, case.options) or difference_of_folder(ckrt, case, folder, runs)
     if difference:
         return f"table: {difference}"
-    return difference_of_plain(ckrt, case, folder, {seed: run.outcome for seed, run in runs.items()})
+    return difference_of_plain(ckrt, case, folder, runs)
 
 
-def difference_of_plain(ckrt, case, folder, outcomes):
+def difference_of_plain(ckrt, case, folder, runs):
     """Who doesn't ask for races gets the same outcomes."""
     options = replace(case.options, is_raced=False)
-    expected = status_of(outcomes.values()), lines_of_table("image", outcomes, options)
+    expected = status_of([run.outcome for run in runs.values()]), table_of(runs, options)
     shown = hunt(ckrt, folder, case.seeds, options)
     return None if shown == expected else f"without races: model {expected}, program {shown}"

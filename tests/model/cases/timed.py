@@ -7,7 +7,8 @@ from collections import Counter
 from dataclasses import dataclass, replace
 
 from cases.hunted import TIME_LIMIT, Hunted
-from model.hunts import MOST_OUTCOMES, SEVERAL, Options, command_of, fold, kind_of, line_of_kept, status_of, text_of_outcome, told_of
+from model.hunts import (MOST_OUTCOMES, SAID, SEVERAL, Options, command_of, fold, kind_of, line_of_kept, said_of, status_of, text_of_outcome,
+                         told_of)
 from model.race_rows import difference_of_rows, rows_of_races, split_table
 from model.races import Readings
 from model.stretches import Recording
@@ -39,6 +40,7 @@ class Outcome:
     count: int
     first: int
     text: str
+    said: str | None = None
 
 
 def timed_case(chance, seed):
@@ -49,16 +51,18 @@ def timed_case(chance, seed):
 
 
 def outcomes_of(lines, options):
-    """What a table tells, with the number of all runs; None where it is none: each outcome has a number, a count, a seed, another text, and its
-    command, and they come by kinds, each by a later seed than the one of its kind before. Only behind as many as may be of one kind there is
+    """What a table tells, with the number of all runs; None where it is none: each outcome has a number, a count, a seed, another text, maybe what
+    was said right below, and its command, and they come by kinds, each by a later seed than the one of its kind before. Only behind as many as may be of one kind there is
     a line of all others."""
+    said = {above: line.removeprefix(SAID) for above, line in zip(lines, lines[1:]) if line.startswith(SAID)}
+    lines = [line for line in lines if not line.startswith(SAID)]
     found, total, last = [], None, OTHERS.fullmatch(lines[-1]) if lines[2 * MOST_OUTCOMES:] else None
     lines = lines[:-1] if last else lines
     for number, (told, command) in enumerate(zip(lines[::2], lines[1::2]), 1):
         read = OUTCOME.fullmatch(told)
         if read is None or int(read[1]) != number or total not in (None, int(read[3])):
             return None
-        found.append(Outcome(int(read[2]), int(read[4]), read[5]))
+        found.append(Outcome(int(read[2]), int(read[4]), read[5], said.pop(told, None)))
         total = int(read[3])
         if command != "    " + command_of("image", found[-1].first, options):
             return None
@@ -67,7 +71,7 @@ def outcomes_of(lines, options):
     others = [int(last[1])] if last and is_full and int(last[2]) == total else []
     is_whole = len(lines) == 2 * len(found) and sum([one.count for one in found] + others) == total
     is_ordered = len(set(firsts)) == len(firsts) and told_of(dict(zip(texts, firsts))) == texts
-    return (found, total) if is_whole and is_ordered else None
+    return (found, total) if is_whole and is_ordered and not said else None
 
 
 def rows_of(table, options):
@@ -149,6 +153,8 @@ def difference_of_disks(case, kept, found, races, told):
             return f"races on {path.name}: {difference}"
         if text_of_outcome(folded, case.options.steps) != one.text or line != line_of_kept(one.first, name, folded.switches, drawn):
             return f"{line}: model {text_of_outcome(folded, case.options.steps)}, {folded.switches} switches"
+        if (case.options.is_raced or one.text.startswith("exit ")) and said_of(folded) != one.said:
+            return f"{line}: said by the model {said_of(folded)!r}, told {one.said!r}"
     empty(kept)
     return None
 

@@ -12,6 +12,8 @@ from model.processor import Cause
 from model.threads import Status, WaitKind
 
 DIGITS = 8  # of a digest
+SAID = "    said: "
+LINE_BYTES = 200  # of the last line of a run, that are shown
 MOST_OUTCOMES = 64  # of a kind, that have lines of their own
 KINDS = "fault", "deadlock", "exit ", "no end", "waits for input", "exit 0,"  # by what an outcome's text begins with, in the order of a table
 SEVERAL = 8  # the status where there are several outcomes, or a race
@@ -110,6 +112,24 @@ def text_of_outcome(folded, limit):
     return "deadlock, " + ", ".join(text_of_awaited(machine, wait) for wait in sorted(machine.waits, key=lambda wait: wait.thread))
 
 
+def said_of(folded):
+    """The last line with a byte that a run put, as it is shown; None where there is none, and of `exit 0`."""
+    lines = [line for line in bytes(folded.output).split(b"\n") if line]
+    if not lines or (folded.machine.status is Status.EXITED and folded.machine.status_word == 0):
+        return None
+    shown = "".join(chr(byte) if 32 <= byte < 127 else f"\\x{byte:02x}" for byte in lines[-1][:LINE_BYTES])
+    return shown + (".." if len(lines[-1]) > LINE_BYTES else "")
+
+
+def lines_of_said(said):
+    return [] if said is None else [SAID + said]
+
+
+def known_lines(lines):
+    """Without what was said before anything but an exit: a run that is kept comes to the same, and may put other bytes before."""
+    return [line for above, line in zip(["", *lines], lines) if not line.startswith(SAID) or ": exit " in above]
+
+
 @dataclass(frozen=True)
 class Options:
     """Of a hunt, but for its seeds."""
@@ -141,16 +161,16 @@ def told_of(first):
     return [outcome for kind in kinds for outcome in kind[:MOST_OUTCOMES]]
 
 
-def lines_of_table(image, outcomes, options):
-    """Of the outcomes by seed, in the order of the seeds: each outcome once, with how often it came and by which seed first; then how many
-    runs all others have."""
+def lines_of_table(image, outcomes, options, said=None):
+    """Of the outcomes by seed, in the order of the seeds: each outcome once, with how often it came and by which seed first, and what that seed's
+    run said, where it is given; then how many runs all others have."""
     first = {outcome: seed for seed, outcome in reversed(outcomes.items())}
     counts, lines = Counter(outcomes.values()), []
     told = told_of(first)
     for number, outcome in enumerate(told, 1):
         seed = first[outcome]
         lines += [f"outcome {number}: {counts[outcome]} of {len(outcomes)} runs, first by seed {seed}: {outcome}",
-                  f"    {command_of(image, seed, options)}"]
+                  *lines_of_said((said or {}).get(seed)), f"    {command_of(image, seed, options)}"]
     left = len(outcomes) - sum(counts[outcome] for outcome in told)
     return lines + [f"other outcomes: {left} of {len(outcomes)} runs"] * (left > 0)
 

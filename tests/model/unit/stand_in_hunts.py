@@ -9,7 +9,7 @@ from cases.glances import Glance
 from model.devices import MemoryDisk
 from model.events import Place, Run
 from model.feeding import next_input, taken_by
-from model.hunts import command_of, fold, line_of_kept, lines_of_table, text_of_outcome, told_of
+from model.hunts import command_of, fold, line_of_kept, lines_of_table, said_of, text_of_outcome, told_of
 from model.layout import Geometry, format_disk
 from model.plans import Options as Plan, next_event
 from model.races import PAIRS, Races, Readings, text_of_access, text_of_pair
@@ -109,7 +109,8 @@ class Hunts:
         outcomes = {seed: text_of_outcome(folded(disk), options.steps) for seed, disk in disks.items()}
         races = self.races(disks, outcomes, options) if options.is_raced else []
         kept = self.keep(folder, more[-1], disks, outcomes) if more else []
-        lines = self.arranged(lines_of_table("image", outcomes, self.told(options)), races, kept)
+        said = {seed: said_of(folded(disk)) for seed, disk in disks.items()}
+        lines = self.arranged(lines_of_table("image", outcomes, self.told(options), said), races, kept)
         is_good = {outcome[:7] for outcome in outcomes.values()} == {"exit 0,"}
         return 8 if len(set(outcomes.values())) > 1 or self.counts(races) else 0 if is_good else 9, lines
 

@@ -4,7 +4,7 @@ from hashlib import sha256
 
 from model.abi import Call
 from model.events import Eof, Input
-from model.hunts import Options, fold, is_fed, line_of_kept, lines_of_table, status_of, text_of_outcome
+from model.hunts import Options, fold, is_fed, known_lines, line_of_kept, lines_of_table, said_of, status_of, text_of_outcome
 from model.races import Pair, Races
 from model.switches import switched
 from unit.test_races import call, load, locked, recording_of
@@ -99,6 +99,33 @@ class Inputs(WithKeys):
                                    ([Input(b"ab")], b"ab", False), ([Input(b"ab"), Eof()], b"abc", False)]:
             recording.events = [*given, *events]
             self.assertEqual(is_fed(recording, data), is_so)
+
+
+class Said(WithKeys):
+    def says(self, shown, output, *more):
+        words = [word for byte in output for word in call(Call.PUTC, byte)]
+        self.assertEqual(said_of(fold(recording_of([(1, [*words, *more])], threads=1))), shown, output)
+
+    def test_last_lines(self):
+        """The last one with a byte, of which 200 are shown, and all that isn't printable by its digits."""
+        for output, shown in [(b"", None), (b"\n\n", None), (b"one\ntwo", "two"), (b"one\n\n", "one"), (b"one\n ", " "),
+                              (b"\x1f ~\x7f\r\n", "\\x1f ~\\x7f\\x0d"), (b"\xff\\", "\\xff\\")]:
+            self.says(shown, output, *load(1))
+            self.says(shown, output, *call(Call.EXIT, 3))
+            self.says(None, output, *call(Call.EXIT, 0))
+
+    def test_long_lines(self):
+        folded = fold(recording_of([(1, load(1))], threads=1))
+        for size, shown in [(200, "x" * 200), (201, "x" * 200 + ".."), (900, "x" * 200 + "..")]:
+            folded.output = bytearray(b"before\n" + b"x" * size + b"\n")
+            self.assertEqual(said_of(folded), shown)
+
+    def test_table(self):
+        """What the first seed's run said stands below its outcome."""
+        outcomes = {8: "exit 1, output 1", 9: "exit 1, output 1", 10: "deadlock"}
+        lines = lines_of_table("a.bin", outcomes, Options(16, 2, 99), {8: "a", 9: "b", 10: "c"})
+        self.assertEqual([line[:11] for line in lines], ["outcome 1: ", "    said: c", "    ckrt hu", "outcome 2: ", "    said: a", "    ckrt hu"])
+        self.assertEqual([line[:11] for line in known_lines(lines)], ["outcome 1: ", "    ckrt hu", "outcome 2: ", "    said: a", "    ckrt hu"])
 
 
 class Tables(unittest.TestCase):

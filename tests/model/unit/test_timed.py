@@ -29,6 +29,14 @@ class Tables(unittest.TestCase):
             self.assertIsNone(outcomes_of(wrong, OPTIONS), wrong)
         self.assertIsNone(outcomes_of(table(*rows, total=9), Options(17, 1, 99)))
 
+    def test_said(self):
+        """Right below an outcome's line, and nowhere else."""
+        lines = table((2, 4, "deadlock"), (7, 1, "exit 0, output 1"), total=9)
+        said = [lines[0], "    said: a", *lines[1:]]
+        self.assertEqual(outcomes_of(said, OPTIONS), ([Outcome(2, 4, "deadlock", "a"), FOUND[1]], 9))
+        self.assertIsNone(outcomes_of([*lines[:2], "    said: a", *lines[2:]], OPTIONS))
+        self.assertIsNone(outcomes_of([*lines, "    said: a"], OPTIONS))
+
     def test_others(self):
         """Behind 64 outcomes of a kind, and only there."""
         rows = [(1, seed, f"exit {seed}, output 1") for seed in range(1, 67)]

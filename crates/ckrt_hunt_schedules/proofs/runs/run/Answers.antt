@@ -6,7 +6,7 @@ use Rattle.ckrt_hunt_schedules.proofs.runs.run.Goals as goal
 
 pub events-init : goal.events-init
 events-init c = record {
-  come = subst (λ (m : Made). HasComeTo c.args.plan.now c.args.machine.now.state m c.args.machine.now.state c.new-hasher.result) (sym c.nothing-made.ensures) (comes_from c.args.plan.now c.args.machine.now.state c.new-hasher.result c.new-hasher.ensures);
+  come = subst (λ (m : Made). HasComeTo c.args.plan.now c.args.machine.now.state m c.args.machine.now.state c.nothing-heard.result) (sym c.nothing-made.ensures) (comes_from c.args.plan.now c.args.machine.now.state c.nothing-heard.result c.nothing-heard.ensures);
   turns = grind (arith, c.nothing-made.ensures);
   harts = refl;
   size = refl;
@@ -31,4 +31,4 @@ pub events-smaller : goal.events-smaller
 events-smaller c = omega (arith, c.in-Submit.ensures.fit.events, c.go_on.ensures.events)
 
 pub returns-in-End-clause-ends : goal.returns-in-End-clause-ends
-returns-in-End-clause-ends c = ends_with c.args.plan.now c.args.machine.now.state c.events.made c.events.machine.state c.events.hasher c.in-End.ending c.tell-told.result c.events.invariant.come (sym c.in-End.ensures.next) c.tell-told.ensures.outcome c.tell-told.ensures.digest
+returns-in-End-clause-ends c = ends_with c.args.plan.now c.args.machine.now.state c.events.made c.events.machine.state c.events.heard c.in-End.ending c.finish.result c.events.invariant.come (sym c.in-End.ensures.next) c.finish.ensures.outcome c.finish.ensures.digest c.finish.ensures.made c.finish.ensures.said

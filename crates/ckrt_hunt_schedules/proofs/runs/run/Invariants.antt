@@ -5,7 +5,7 @@ use Rattle.ckrt_hunt_schedules.proofs.runs.run.Given as goal
 -- the run has come so far by its schedule
 abbrev pub invariant-events : goal.invariant-events
 invariant-events l = record {
-  come : HasComeTo l.plan l.fn.machine.state l.made l.machine.state l.hasher;
+  come : HasComeTo l.plan l.fn.machine.state l.made l.machine.state l.heard;
   turns : l.made.turns ≤ l.made.events;
   harts : l.machine.state.tables.threads.hart_count ≡ l.fn.machine.state.tables.threads.hart_count;
   size : length l.machine.state.bytes ≡ length l.fn.machine.state.bytes;

@@ -13,10 +13,10 @@ returns-clause-found c =
     let seed = c.args.seed in
     let p = c.plan_of-plan.result in
     let run = c.run_by-switches.result in
-    let drawn = subst (λ (q : Plan). EndsWith q h.start run.told run.made) c.plan_of-plan.ensures c.run_by-switches.ensures.ends in
+    let drawn = subst (λ (q : Plan). EndsWith q h.start run) c.plan_of-plan.ensures c.run_by-switches.ensures.ends in
     record {
       repeats = subst (λ (q : Plan). Repeats h seed q) (sym c.plan_of-plan.ensures) (repeats_itself h seed);
-      drawn = switches_of (plan_in h seed) h.start run.told run.made drawn;
-      switches = switches_of p h.start run.told run.made c.run_by-switches.ensures.ends;
+      drawn = switches_of (plan_in h seed) h.start run drawn;
+      switches = switches_of p h.start run c.run_by-switches.ensures.ends;
       few = omega arith;
     }

@@ -15,7 +15,7 @@ loop-seed-preserved g c =
     let n = subst (λ (h : Hunted). IsSeedNoted h seed c.loop-seed.tally c.note_seed.new.tally) so_far.same c.note_seed.ensures.noted in
     let l = subst (λ (h : Hunted). IsLookedAt h seed (raced_in c.loop-seed.races) (raced_in c.note_seed.new.races)) so_far.same c.note_seed.ensures.looked_at in
     record {
-      noted = noted_on h c.args.seeds.first seed n.told c.args.tally.now c.loop-seed.tally c.note_seed.new.tally (omega arith) so_far.noted n.comes n.noted;
+      noted = noted_on h c.args.seeds.first seed n.run c.args.tally.now c.loop-seed.tally c.note_seed.new.tally (omega arith) so_far.noted n.ends n.noted;
       looked_at = looked_on h c.args.seeds.first seed (raced_in c.args.races.now) (raced_in c.loop-seed.races) (raced_in c.note_seed.new.races) (omega arith) so_far.looked_at l;
       same = c.note_seed.ensures.same ∙ so_far.same;
       few = omega arith;
@@ -31,7 +31,7 @@ returns-then-is_over-clause-noted g c =
     let more : seed + 1 - first ≡ seed - first + 1 = omega arith in
     let n = subst (λ (h : Hunted). IsSeedNoted h seed c.loop-seed.tally c.note_seed.new.tally) c.loop-seed.invariant.same c.note_seed.ensures.noted in
     subst (λ n. AreNoted h first n c.args.tally.now c.note_seed.new.tally) more
-    (noted_on h first seed n.told c.args.tally.now c.loop-seed.tally c.note_seed.new.tally (omega arith) c.loop-seed.invariant.noted n.comes n.noted)
+    (noted_on h first seed n.run c.args.tally.now c.loop-seed.tally c.note_seed.new.tally (omega arith) c.loop-seed.invariant.noted n.ends n.noted)
 
 pub returns-then-is_over-clause-looked_at : goal.returns-then-is_over-clause-looked_at
 returns-then-is_over-clause-looked_at g c =
@@ -56,7 +56,7 @@ returns-clause-noted g c =
     let before = subst (λ n. AreNoted h s.first n c.args.tally.now c.loop-seed.tally) at c.loop-seed.invariant.noted in
     let n = subst (λ (h : Hunted). IsSeedNoted h s.last c.loop-seed.tally c.note_seed-2.new.tally) c.loop-seed.invariant.same c.note_seed-2.ensures.noted in
     subst (λ n. AreNoted h s.first n c.args.tally.now c.note_seed-2.new.tally) more
-    (noted_on h s.first s.last n.told c.args.tally.now c.loop-seed.tally c.note_seed-2.new.tally s.ordered before n.comes n.noted)
+    (noted_on h s.first s.last n.run c.args.tally.now c.loop-seed.tally c.note_seed-2.new.tally s.ordered before n.ends n.noted)
 
 pub returns-clause-looked_at : goal.returns-clause-looked_at
 returns-clause-looked_at g c =

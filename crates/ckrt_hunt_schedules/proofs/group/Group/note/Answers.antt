@@ -6,7 +6,7 @@ use Rattle.ckrt_hunt_schedules.proofs.group.Group.note.Goals as goal
 pub returns-in-Some : goal.returns-in-Some
 returns-in-Some c =
     let found = c.in-Some.ensures.found in
-    let first : IsFirst c.args.told c.args.self.now.rows.items c.in-Some.place found.0 = subst (λ rows. IsFirst c.args.told rows c.in-Some.place found.0) c.as_slice.ensures.value found.1 in
+    let first : IsFirst c.args.run.told c.args.self.now.rows.items c.in-Some.place found.0 = subst (λ rows. IsFirst c.args.run.told rows c.in-Some.place found.0) c.as_slice.ensures.value found.1 in
     let xs = c.count_again.new.rows in
     let row = ap (λ rows. slice_get rows c.in-Some.place) c.as_mut_slice.ensures.value ∙ first.row in
     let set : xs ≡ slice_set c.args.self.now.rows.items c.in-Some.place (record found.0 { count = one_more found.0.count }) = c.count_again.ensures found.0 row ∙ ap (λ rows. slice_set rows c.in-Some.place (record found.0 { count = one_more found.0.count })) c.as_mut_slice.ensures.value in
@@ -16,7 +16,7 @@ returns-in-Some c =
 
 pub returns-in-None : goal.returns-in-None
 returns-in-None c =
-    let none : HasNone c.args.told c.args.self.now.rows.items (length c.args.self.now.rows.items) = subst (λ rows. HasNone c.args.told rows (length rows)) c.as_slice.ensures.value (c.in-None.ensures.none refl) in
+    let none : HasNone c.args.run.told c.args.self.now.rows.items (length c.args.self.now.rows.items) = subst (λ rows. HasNone c.args.run.told rows (length rows)) c.as_slice.ensures.value (c.in-None.ensures.none refl) in
     inr (inl (record {
       none = none;
       room = omega (arith, c.len.ensures, c.if-len-lt-GROUP_ROWS.true);
@@ -26,7 +26,7 @@ returns-in-None c =
 
 pub returns-in-None-2 : goal.returns-in-None-2
 returns-in-None-2 c =
-    let none : HasNone c.args.told c.args.self.now.rows.items (length c.args.self.now.rows.items) = subst (λ rows. HasNone c.args.told rows (length rows)) c.as_slice.ensures.value (c.in-None-2.ensures.none refl) in
+    let none : HasNone c.args.run.told c.args.self.now.rows.items (length c.args.self.now.rows.items) = subst (λ rows. HasNone c.args.run.told rows (length rows)) c.as_slice.ensures.value (c.in-None-2.ensures.none refl) in
     inr (inr (record {
       none = none;
       full = omega (arith, c.len.ensures, c.if-len-lt-GROUP_ROWS.false);

@@ -15,12 +15,12 @@ returns-then-is_as_good-clause-found c =
     let p = c.with_turns-plan.result in
     let run = c.run_by-first.result in
     let other = c.run_by-again.result in
-    let first : EndsWith drawn h.start run.told run.made = subst (λ (q : Plan). EndsWith q h.start run.told run.made) c.plan_of-drawn.ensures c.run_by-first.ensures.ends in
-    let again : EndsWith p h.start other.told other.made = subst (λ (k : Hunted). EndsWith p k.start other.told other.made) c.run_by-first.ensures.same c.run_by-again.ensures.ends in
+    let first : EndsWith drawn h.start run = subst (λ (q : Plan). EndsWith q h.start run) c.plan_of-drawn.ensures c.run_by-first.ensures.ends in
+    let again : EndsWith p h.start other = subst (λ (k : Hunted). EndsWith p k.start other) c.run_by-first.ensures.same c.run_by-again.ensures.ends in
     record {
-      repeats = repeats h seed p run.told other.told run.made other.made first again (c.if-is_as_good.ensures.same refl) (c.if-is_as_good.ensures.events refl);
-      drawn = switches_of drawn h.start run.told run.made first;
-      switches = switches_of p h.start other.told other.made again;
+      repeats = repeats h seed p run other first again (c.if-is_as_good.ensures.same refl) (c.if-is_as_good.ensures.events refl);
+      drawn = switches_of drawn h.start run first;
+      switches = switches_of p h.start other again;
       few = c.if-is_as_good.ensures.switches refl;
     }
 
@@ -31,10 +31,10 @@ returns-else-is_as_good-clause-found c =
     let seed = c.args.seed in
     let p = c.plan_of-drawn.result in
     let run = c.run_by-first.result in
-    let drawn = subst (λ (q : Plan). EndsWith q h.start run.told run.made) c.plan_of-drawn.ensures c.run_by-first.ensures.ends in
+    let drawn = subst (λ (q : Plan). EndsWith q h.start run) c.plan_of-drawn.ensures c.run_by-first.ensures.ends in
     record {
       repeats = subst (λ (q : Plan). Repeats h seed q) (sym c.plan_of-drawn.ensures) (repeats_itself h seed);
-      drawn = switches_of (plan_in h seed) h.start run.told run.made drawn;
-      switches = switches_of p h.start run.told run.made c.run_by-first.ensures.ends;
+      drawn = switches_of (plan_in h seed) h.start run drawn;
+      switches = switches_of p h.start run c.run_by-first.ensures.ends;
       few = omega arith;
     }
