@@ -108,11 +108,11 @@ fn address_of(word: &[u8], before: Before, is_fault: bool) -> Option<u32> {
 /// How many addresses of a line are named at most.
 pub(crate) const MOST: usize = 16;
 
-/// How many addresses of this line are: of a line of code the first alone, of a command that is to be typed none.
+/// How many addresses of this line are: of a line of code the first alone, of a command that is to be typed none, nor of what a program said.
 pub(crate) fn most_of(line: &[u8]) -> usize
     ensures { result ≤ MOST }
 {
-    if line.starts_with(b"`") {
+    if line.starts_with(b"`") || line.starts_with(b"    said: ") {
         return 0;
     }
     if line.len() > 10 && line.starts_with(b"  ") && hex_word(&line[2..10]).is_some() {

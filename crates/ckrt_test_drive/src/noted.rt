@@ -49,7 +49,7 @@ in 00001008 00000008 pair.lock
 ";
 
 /// What is given, and what comes of it.
-const LINES: [(&[u8], &[u8]); 12] = [
+const LINES: [(&[u8], &[u8]); 13] = [
     (
         b"pc 00001004, mutex 0000100c\n",
         b"pc 00001004, mutex 0000100c    # main at a.c:3; pair.lock + 4\n",
@@ -67,6 +67,7 @@ const LINES: [(&[u8], &[u8]); 12] = [
     (b"\n\npc 00001000", b"\n\npc 00001000"),
     (b"output 00001000\n", b"output 00001000\n"),
     (b"`where 00001000`\n", b"`where 00001000`\n"),
+    (b"    said: pc 00001000\n", b"    said: pc 00001000\n"),
     (
         b"  00001000 00001008 x\n",
         b"  00001000 00001008 x    # main at a.c:3\n",
