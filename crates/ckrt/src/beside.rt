@@ -220,20 +220,38 @@ fn of_image<'a, R: Files<File = File>>(
     }
 }
 
+/// Names that may be missing, for what is printed.
+fn printing<'a>(alloc: Global, names: Option<Names>) -> Beside<'a> {
+    match names {
+        Some(printed) => Beside {
+            printed,
+            reported: Names::none(alloc),
+            unused: None,
+            gift: None,
+        },
+        None => none(alloc),
+    }
+}
+
+/// No names of a disk: they can't be used.
+fn unusable<'a>(alloc: Global, disk: &'a str, trouble: Trouble) -> Beside<'a> {
+    Beside {
+        printed: Names::none(alloc),
+        reported: Names::none(alloc),
+        unused: Some(Refusal {
+            path: disk,
+            trouble,
+        }),
+        gift: None,
+    }
+}
+
 /// The names of a disk, for what is printed.
 fn of_disk<'a, R: Files<File = File>>(rt: &R, alloc: Global, disk: &'a str) -> Beside<'a> {
-    let mut beside = none(alloc);
     match names_of(rt, alloc, disk) {
-        Ok(Some(names)) => beside.printed = names,
-        Ok(None) => {}
-        Err(trouble) => {
-            beside.unused = Some(Refusal {
-                path: disk,
-                trouble,
-            })
-        }
+        Ok(names) => printing(alloc, names),
+        Err(trouble) => unusable(alloc, disk, trouble),
     }
-    beside
 }
 
 /// The same names, for what is reported.

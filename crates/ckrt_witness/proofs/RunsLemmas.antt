@@ -98,7 +98,7 @@ its_file {D = D} d options it (Some other) (Some end) is kept = let same : other
 
 module _ {D W : Type 0} {d : Ghosts D} (means : Means d W) (j : Driving) (start : D) (opens : (x : D) → means.Opens x → x ≡ start) (fills : (x : D) → means.Fills x → ⊥) where
   not_made : (x : D) (from : List ℕ) (old asked : Openings D) → MakesMissing d (config_for j.sizes) (means.images from) means.Fills from j.disk old asked (Ok x) → x ≡ start
-  not_made x from old asked (inl sizes) = let no = sizes.1.0 in absurd (cc)
+  not_made x from old asked (inl sizes) = let no = sizes.1 in absurd (cc)
   not_made x from old asked (inr (inl image)) = let no = image.is in absurd (cc)
   not_made x from old asked (inr (inr (inl making))) = let no = making.lacks.is in absurd (cc)
   not_made x from old asked (inr (inr (inr it))) = absurd (fills it.start it.is_opened)
