@@ -52,6 +52,8 @@ lock_number (lock.Writers a) = omega arith
 lock_number (lock.Readers a) = omega arith
 lock_number (lock.Word a) = omega arith
 lock_number (lock.Request t) = omega (arith, thread_number t)
+lock_number (lock.Loaded t) = omega (arith, thread_number t)
+lock_number (lock.Fenced t) = omega (arith, thread_number t)
 
 -- a pass at a place
 abbrev pub IsPassAt : Place → Operation → Type 0

@@ -24,8 +24,10 @@ use Rattle.ckrt_look_clocks.specs.Histories.{History, moment}
 use Rattle.ckrt_look_clocks.specs.Laws.{HasNumbers, IsOrderly, IsRaceOf, moment_of, next_moment}
 use Rattle.ckrt_look_clocks.proofs.RaceLemmas.{only_races}
 use Rattle.ckrt_look_races.specs.declared.accesses.Stepping.{Stepping}
+use Rattle.ckrt_look_races.specs.declared.accesses.Order.{Order}
+use Rattle.ckrt_look_races.specs.declared.accesses.Order.TheVariants as order
 use Rattle.ckrt_look_races.specs.declared.holders.Lock.TheVariants as lock
-use Rattle.ckrt_look_races.specs.Accesses.{access_of, accesses, fetched, is_atomic_load, is_atomic_store, is_renewal, load_at, load_operations, may_access, of_instruction, of_registers, renewal, store_at, store_operations}
+use Rattle.ckrt_look_races.specs.Accesses.{access_of, accesses, fence_by, fence_operations, fetched, is_renewal, is_thread_fence, load_at, load_operations, load_order, may_access, of_instruction, of_registers, renewal, store_at, store_operations, store_order}
 use Rattle.ckrt_look_races.specs.Holders.{HOLDERS}
 use Rattle.ckrt_look_races.specs.Kit.{is_in_kit}
 use Rattle.ckrt_look_races.specs.Orders.{between}
@@ -83,19 +85,25 @@ told_rises : (s : Stepping) (b : Bool) (o : Operation) → IsAtMostOne s.place (
 told_rises s true o up = nothing_rises s.place
 told_rises s false o up = up
 
-loads_rise : (s : Stepping) (is_atomic : Bool) (a : ℕ) (z : Size) → IsAtMostOne s.place (load_operations s is_atomic a z)
-loads_rise s false a z = told_rises s s.is_in_kit (operation.Access (access_of s false false a z)) (thread_number s.thread, omega arith, omega arith)
-loads_rise s true a z = ((lock_number (lock.Word a), omega (arith, thread_number s.thread)), omega arith, (thread_number s.thread, omega arith, omega arith))
+loads_rise : (s : Stepping) (o : Order) (a : ℕ) (z : Size) → IsAtMostOne s.place (load_operations s o a z)
+loads_rise s order.Plain a z = told_rises s s.is_in_kit (operation.Access (access_of s false false a z)) (thread_number s.thread, omega arith, omega arith)
+loads_rise s order.Relaxed a z = ((lock_number (lock.Word a), lock_number (lock.Loaded s.thread)), omega arith, (thread_number s.thread, omega arith, omega arith))
+loads_rise s order.Orders a z = ((lock_number (lock.Word a), omega (arith, thread_number s.thread)), omega arith, (thread_number s.thread, omega arith, omega arith))
 
-stores_rise : (s : Stepping) (is_atomic : Bool) (a : ℕ) (z : Size) → IsAtMostOne s.place (store_operations s is_atomic a z)
-stores_rise s false a z = told_rises s s.is_in_kit (operation.Access (access_of s true false a z)) (thread_number s.thread, omega arith, omega arith)
-stores_rise s true a z = (thread_number s.thread, omega arith, ((omega (arith, thread_number s.thread), lock_number (lock.Word a)), omega arith, omega arith))
+stores_rise : (s : Stepping) (o : Order) (a : ℕ) (z : Size) → IsAtMostOne s.place (store_operations s o a z)
+stores_rise s order.Plain a z = told_rises s s.is_in_kit (operation.Access (access_of s true false a z)) (thread_number s.thread, omega arith, omega arith)
+stores_rise s order.Relaxed a z = (thread_number s.thread, omega arith, ((lock_number (lock.Fenced s.thread), lock_number (lock.Word a)), omega arith, omega arith))
+stores_rise s order.Orders a z = (thread_number s.thread, omega arith, ((omega (arith, thread_number s.thread), lock_number (lock.Word a)), omega arith, omega arith))
 
 load_rises : (bytes : List ℕ) (s : Stepping) (a : ℕ) (z : Size) → IsAtMostOne s.place (load_at bytes s a z)
-load_rises bytes s a z = if_so s.place (may_access bytes a z) (load_operations s (is_atomic_load bytes s) a z) (loads_rise s (is_atomic_load bytes s) a z)
+load_rises bytes s a z = if_so s.place (may_access bytes a z) (load_operations s (load_order bytes s) a z) (loads_rise s (load_order bytes s) a z)
 
 store_rises : (bytes : List ℕ) (s : Stepping) (a : ℕ) (z : Size) → IsAtMostOne s.place (store_at bytes s a z)
-store_rises bytes s a z = if_so s.place (may_access bytes a z) (store_operations s (is_atomic_store bytes s) a z) (stores_rise s (is_atomic_store bytes s) a z)
+store_rises bytes s a z = if_so s.place (may_access bytes a z) (store_operations s (store_order bytes s) a z) (stores_rise s (store_order bytes s) a z)
+
+fence_rises : (s : Stepping) (sets : ℕ) → IsAtMostOne s.place (fence_by s sets)
+fence_rises s sets = if_so s.place (is_thread_fence sets) (fence_operations s)
+    ((lock_number (lock.Loaded s.thread), omega (arith, thread_number s.thread)), omega arith, ((omega (arith, thread_number s.thread), lock_number (lock.Fenced s.thread)), omega arith, omega arith))
 
 instruction_rises : (bytes : List ℕ) (s : Stepping) (o : Option Instr) → IsAtMostOne s.place (of_instruction bytes s o)
 instruction_rises bytes s (Some (instr.Load k rd rs1 offset)) = load_rises bytes s (word_add_signed (get s.regs rs1) offset) (load_size k)
@@ -109,7 +117,7 @@ instruction_rises bytes s (Some (instr.AluImm op rd rs1 imm)) = nothing_rises s.
 instruction_rises bytes s (Some (instr.Shift op rd rs1 shamt)) = nothing_rises s.place
 instruction_rises bytes s (Some (instr.Alu op rd rs1 rs2)) =
     if_so s.place (is_renewal op rd) (renewal s (get s.regs rs1) (get s.regs rs2)) (tt, omega arith, omega arith)
-instruction_rises bytes s (Some (instr.Fence rd rs1 imm)) = nothing_rises s.place
+instruction_rises bytes s (Some (instr.Fence rd rs1 sets)) = fence_rises s sets
 instruction_rises bytes s (Some instr.Ecall) = nothing_rises s.place
 instruction_rises bytes s (Some instr.Ebreak) = nothing_rises s.place
 instruction_rises bytes s None = nothing_rises s.place

@@ -24,10 +24,13 @@ lock_holder (lock.Writers a) = 4161 + place_of a
 lock_holder (lock.Readers a) = 8257 + place_of a
 lock_holder (lock.Word a) = 12353 + word_of a
 lock_holder (lock.Request t) = 13377 + thread_holder t
+lock_holder (lock.Loaded t) = 13442 + thread_holder t
+lock_holder (lock.Fenced t) = 13507 + thread_holder t
 
--- all holders: 65 numbers of threads, 4,096 locks of each of three kinds, 1,024 words, and a request for each thread
+-- all holders: 65 numbers of threads, 4,096 locks of each of three kinds, 1,024 words, and for each thread a request, what its relaxed
+-- loads have met, and what its last fence gave up
 abbrev pub HOLDERS : ℕ
-HOLDERS = 13442
+HOLDERS = 13572
 
 -- a thread gives up what others that come later take
 abbrev pub released : (t : ℕ) → Lock → Place → Operation
@@ -35,6 +38,10 @@ released t l p = Pass (thread_holder t) (lock_holder l) p
 
 abbrev pub acquired : (t : ℕ) → Lock → Place → Operation
 acquired t l p = Pass (lock_holder l) (thread_holder t) p
+
+-- what was given up to one goes on to the other
+abbrev pub handed_on : (from to : Lock) → Place → Operation
+handed_on l m p = Pass (lock_holder l) (lock_holder m) p
 
 -- what one thread has done is before what another does from here on
 abbrev pub ordered : (t u : ℕ) → Place → Operation

@@ -5,9 +5,9 @@ ghost use Rattle.ckrt_rv32i.specs.Memory.{byte_count};
 ghost use Rattle.ckrt_rv32i.specs.Table.{IsInRange};
 ghost use Rattle.ckrt_look_clocks.specs.declared.operation.Operation.TheVariants as operation;
 ghost use Rattle.ckrt_look_clocks.specs.Detection.{behind_all};
-ghost use Rattle.ckrt_look_races.specs.Accesses.{access_of, accesses, place_behind, fetched, is_atomic_load, is_atomic_store, is_renewal, is_word_at, load_at, load_operations, may_access, of_instruction, renewal_by, store_at, store_operations, told};
+ghost use Rattle.ckrt_look_races.specs.Accesses.{access_of, accesses, place_behind, fence_by, fence_operations, fetched, is_renewal, is_thread_fence, is_word_at, load_at, load_operations, load_order, may_access, of_instruction, order_by, renewal_by, store_at, store_operations, store_order, told};
 
-use crate::holders::{Lock, acquired, released, thread_holder};
+use crate::holders::{Lock, acquired, handed_on, released, thread_holder};
 use crate::kit::is_in_kit;
 use ckrt_look_clocks::{Access, Detector, Place};
 use ckrt_machine::Machine;
@@ -15,11 +15,28 @@ use ckrt_memory::Memory;
 use ckrt_registers::Regs;
 use ckrt_rv32i::{AluOp, Bus, Instr, Size, decode};
 
-/// FENCE R,RW stands behind an atomic load.
+/// FENCE R,RW stands behind an atomic load that acquires.
 const FENCE_R_RW: u32 = 0x0230_000F;
 
-/// FENCE RW,W stands before an atomic store.
+/// FENCE RW,W stands before an atomic store that releases.
 const FENCE_RW_W: u32 = 0x0310_000F;
+
+/// FENCE R,R stands behind a relaxed atomic load.
+const FENCE_R_R: u32 = 0x0220_000F;
+
+/// FENCE W,W stands before a relaxed atomic store.
+const FENCE_W_W: u32 = 0x0110_000F;
+
+/// Whether a load or store is atomic, and what it does then for the order of threads.
+#[derive(Clone, Copy)]
+pub(crate) enum Order {
+    /// It isn't atomic.
+    Plain,
+    /// It is atomic, and orders only beside a fence of its thread.
+    Relaxed,
+    /// It is a load that acquires, or a store that releases.
+    Orders,
+}
 
 /// Who makes a step, whether under a lock of a kit, where, and with which registers.
 #[derive(Clone, Copy)]
@@ -49,20 +66,46 @@ fn is_word_at(memory: &Memory, address: u32, word: u32) -> bool
     memory.load(address, Size::Word) == Some(word)
 }
 
-/// Whether the load of a step is atomic.
-fn is_atomic_load(memory: &Memory, step: &Stepping) -> bool
-    requires { step.now.regs.pc % 4 ≡ 0 }
-    ensures { result ≡ is_atomic_load memory.now.bytes step.now }
+/// The order of an access that has one of these words beside it, or none.
+fn order_by(memory: &Memory, address: u32, orders: u32, relaxed: u32) -> Order
+    requires { address % 4 ≡ 0 }
+    ensures { result ≡ order_by (is_word_at memory.now.bytes address orders)
+        (is_word_at memory.now.bytes address relaxed) }
 {
-    is_word_at(memory, step.regs.pc().wrapping_add(4), FENCE_R_RW)
+    if is_word_at(memory, address, orders) {
+        return Order::Orders;
+    }
+    if is_word_at(memory, address, relaxed) {
+        Order::Relaxed
+    } else {
+        Order::Plain
+    }
 }
 
-/// Whether the store of a step is atomic.
-fn is_atomic_store(memory: &Memory, step: &Stepping) -> bool
+/// The order of the load of a step.
+fn load_order(memory: &Memory, step: &Stepping) -> Order
     requires { step.now.regs.pc % 4 ≡ 0 }
-    ensures { result ≡ is_atomic_store memory.now.bytes step.now }
+    ensures { result ≡ load_order memory.now.bytes step.now }
 {
-    is_word_at(memory, step.regs.pc().saturating_sub(4), FENCE_RW_W)
+    order_by(
+        memory,
+        step.regs.pc().wrapping_add(4),
+        FENCE_R_RW,
+        FENCE_R_R,
+    )
+}
+
+/// The order of the store of a step.
+fn store_order(memory: &Memory, step: &Stepping) -> Order
+    requires { step.now.regs.pc % 4 ≡ 0 }
+    ensures { result ≡ store_order memory.now.bytes step.now }
+{
+    order_by(
+        memory,
+        step.regs.pc().saturating_sub(4),
+        FENCE_RW_W,
+        FENCE_W_W,
+    )
 }
 
 /// The load or store of a step.
@@ -90,17 +133,27 @@ fn tell(step: &Stepping, access: &Access, detector: &mut Detector)
     }
 }
 
-/// A load. Before an atomic one its thread takes what those have given up who stored so to the word.
-fn note_load(step: &Stepping, is_atomic: bool, address: u32, size: Size, detector: &mut Detector)
+/// A load. What was given up to the word its thread takes before one that acquires, and by its next fence behind a relaxed one.
+fn note_load(step: &Stepping, order: Order, address: u32, size: Size, detector: &mut Detector)
     ensures { detector.new
-        ≡ behind_all (load_operations step.now is_atomic address size) detector.old }
+        ≡ behind_all (load_operations step.now order address size) detector.old }
 {
-    let access = access_of(step, false, is_atomic, address, size);
-    if !is_atomic {
-        return tell(step, &access, detector);
+    let word = Lock::Word(address);
+    match order {
+        Order::Plain => {
+            return tell(
+                step,
+                &access_of(step, false, false, address, size),
+                detector,
+            );
+        }
+        Order::Relaxed => {
+            let loaded = Lock::Loaded(u32::from(step.thread));
+            detector.note(&handed_on(word, loaded, step.place));
+        }
+        Order::Orders => detector.note(&acquired(step.thread, word, step.place)),
     }
-    detector.note(&acquired(step.thread, Lock::Word(address), step.place));
-    detector.access(&access);
+    detector.access(&access_of(step, false, true, address, size));
 }
 
 /// The place behind a step.
@@ -114,19 +167,23 @@ fn place_behind(place: Place) -> Place
     }
 }
 
-/// A store. Behind an atomic one its thread gives up all that it has done, this store too.
-fn note_store(step: &Stepping, is_atomic: bool, address: u32, size: Size, detector: &mut Detector)
+/// A store. Behind one that releases its thread gives up all that it has done, this store too, and behind a relaxed one what it had
+/// done by its last fence.
+fn note_store(step: &Stepping, order: Order, address: u32, size: Size, detector: &mut Detector)
     requires { step.now.place.step < 4294967295 }
     ensures { detector.new
-        ≡ behind_all (store_operations step.now is_atomic address size) detector.old }
+        ≡ behind_all (store_operations step.now order address size) detector.old }
 {
-    let access = access_of(step, true, is_atomic, address, size);
-    if !is_atomic {
-        return tell(step, &access, detector);
+    if let Order::Plain = order {
+        return tell(step, &access_of(step, true, false, address, size), detector);
     }
-    detector.access(&access);
-    let behind = place_behind(step.place);
-    detector.note(&released(step.thread, Lock::Word(address), behind));
+    detector.access(&access_of(step, true, true, address, size));
+    let (word, behind) = (Lock::Word(address), place_behind(step.place));
+    if let Order::Relaxed = order {
+        let fenced = Lock::Fenced(u32::from(step.thread));
+        return detector.note(&handed_on(fenced, word, behind));
+    }
+    detector.note(&released(step.thread, word, behind));
 }
 
 /// Whether so many bytes from an address on are in the memory, and aligned.
@@ -143,8 +200,7 @@ fn watch_load(memory: &Memory, step: &Stepping, address: u32, size: Size, detect
         ≡ behind_all (load_at memory.now.bytes step.now address size) detector.old }
 {
     if may_access(memory, address, size) {
-        let is_atomic = is_atomic_load(memory, step);
-        note_load(step, is_atomic, address, size, detector);
+        note_load(step, load_order(memory, step), address, size, detector);
     }
 }
 
@@ -156,8 +212,25 @@ fn watch_store(memory: &Memory, step: &Stepping, address: u32, size: Size, detec
         ≡ behind_all (store_at memory.now.bytes step.now address size) detector.old }
 {
     if may_access(memory, address, size) {
-        let is_atomic = is_atomic_store(memory, step);
-        note_store(step, is_atomic, address, size, detector);
+        note_store(step, store_order(memory, step), address, size, detector);
+    }
+}
+
+/// Whether a fence with these sets is one of its thread: they have R and W before and behind.
+fn is_thread_fence(sets: u32) -> bool
+    ensures { result ≡ is_thread_fence sets }
+{
+    sets / 16 % 4 == 3 && sets % 4 == 3
+}
+
+/// A fence: its thread takes what its relaxed loads have met, and gives up what its relaxed stores hand on.
+fn watch_fence(step: &Stepping, sets: u32, detector: &mut Detector)
+    ensures { detector.new ≡ behind_all (fence_by step.now sets) detector.old }
+{
+    if is_thread_fence(sets) {
+        let thread = u32::from(step.thread);
+        detector.note(&acquired(step.thread, Lock::Loaded(thread), step.place));
+        detector.note(&released(step.thread, Lock::Fenced(thread), step.place));
     }
 }
 
@@ -222,6 +295,7 @@ fn watch_instruction(memory: &Memory, step: &Stepping, detector: &mut Detector)
             let address = step.regs.get(rs1).wrapping_add_signed(offset);
             watch_store(memory, step, address, size, detector);
         }
+        Some(Instr::Fence { imm, .. }) => watch_fence(step, imm, detector),
         Some(Instr::Alu { op, rd, rs1, rs2 }) => {
             watch_renewal(step, op, rd, rs1, rs2, detector);
         }

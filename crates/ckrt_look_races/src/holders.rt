@@ -1,11 +1,12 @@
 //! Numbers of holders, and what they pass on.
 ghost use Rattle.std.specs.Prelude.{◌≡◌, ◌≤◌, ◌<◌};
-ghost use Rattle.ckrt_look_races.specs.Holders.{acquired, lock_holder, ordered, place_of, released, thread_holder, word_of};
+ghost use Rattle.ckrt_look_races.specs.Holders.{acquired, handed_on, lock_holder, ordered, place_of, released, thread_holder, word_of};
 
 use ckrt_look_clocks::{Operation, Place};
 
-/// How many holders there are: 65 numbers of threads, 4,096 locks of each of three kinds, 1,024 words, and a request for each thread.
-pub(crate) const HOLDERS: usize = 13442;
+/// How many holders there are: 65 numbers of threads, 4,096 locks of each of three kinds, 1,024 words, and for each thread a request, what
+/// its relaxed loads have met, and what its last fence gave up.
+pub(crate) const HOLDERS: usize = 13572;
 
 /// What a thread gives up, or takes.
 #[derive(Clone, Copy, Debug)]
@@ -20,6 +21,10 @@ pub enum Lock {
     Word(u32),
     /// A request that a thread be cancelled.
     Request(u32),
+    /// What a thread's relaxed atomic loads have met: its next fence takes that.
+    Loaded(u32),
+    /// What a thread had done by its last fence: its relaxed atomic stores give that up.
+    Fenced(u32),
 }
 
 /// The number of a thread, which is 1 to 64.
@@ -56,6 +61,8 @@ fn lock_holder(lock: Lock) -> u16
         Lock::Readers(address) => 8257 + place_of(address),
         Lock::Word(address) => 12353 + word_of(address),
         Lock::Request(thread) => 13377 + thread_holder(thread),
+        Lock::Loaded(thread) => 13442 + thread_holder(thread),
+        Lock::Fenced(thread) => 13507 + thread_holder(thread),
     }
 }
 
@@ -71,6 +78,13 @@ pub(crate) fn acquired(thread: u8, lock: Lock, place: Place) -> Operation
     ensures { result ≡ acquired thread lock place }
 {
     Operation::Pass(lock_holder(lock), thread_holder(u32::from(thread)), place)
+}
+
+/// What was given up to one goes on to the other.
+pub(crate) fn handed_on(from: Lock, to: Lock, place: Place) -> Operation
+    ensures { result ≡ handed_on from to place }
+{
+    Operation::Pass(lock_holder(from), lock_holder(to), place)
 }
 
 /// What one thread has done is before what another does from here on.
