@@ -139,6 +139,13 @@ static struct thread *new_usual_thread(void) {
     return thread;
 }
 
+/* What a block of a thread has besides its stack and thread-local variables: for guest/image, which tells how many pages threads take. */
+#define BYTES_BESIDES 140
+#define TEXT_OF(number) #number
+#define TEXT(number) TEXT_OF(number)
+_Static_assert(GUARD_BYTES + sizeof(struct thread) + STACK_ALIGNMENT == BYTES_BESIDES, "BYTES_BESIDES isn't what a block has");
+__asm__(".globl __guest_thread_bytes\n\t.set __guest_thread_bytes, " TEXT(BYTES_BESIDES));
+
 /* A detached thread that frees its memory stands on the spare stack of thread_end.S, which is guarded as any other. */
 static void make_spare_stack(void) {
     extern uint32_t __guest_spare_guard[];

@@ -165,6 +165,23 @@ def endings(ckrt, folder):
             yield f"guest/build of {name} says nothing of more than 64 pages: {said!r}"
 
 
+CREWS = [(1, 60_000, 4), (4, 1_000, 1), (4, 70_000, 900), (16, 30_000, 64), (16, 3_000_000, 4)]  # threads, bytes of variables and of thread-local ones
+
+
+def crews(ckrt, folder):
+    """The pages that are told for new threads do, and one page less doesn't."""
+    for threads, bytes_of_variables, own in CREWS:
+        image = folder / "crew.bin"
+        said = call(BUILD, ENDINGS / "crew.c", "-o", image, f"-DTHREADS={threads}", f"-DBYTES={bytes_of_variables}", f"-DOWN={own}")
+        pages = int(re.search(rf"(\d+) for {threads}\b", said)[1])
+        least = int(re.search(r"(\d+) pages at least", said)[1])
+        wanted = [(pages, ("ended: exit 0", "all\n"))] + [(pages - 1, ("ended: exit 1", "too few\n"))] * (pages > least)
+        for number, ending in wanted:
+            found = driven(ckrt, image, folder, pages=number)
+            if found != ending:
+                yield f"crew.c with {threads} threads on {number} pages: {found!r}, and not {ending!r}, where guest/build said {said!r}"
+
+
 # --- Tools ------------------------------------------------------------------------------------------------------------
 
 DEADLOCK = """#include <pthread.h>
@@ -381,7 +398,7 @@ def words(folder):
 
 def failures(ckrt, folder):
     """All that is wrong, as texts."""
-    checks = [refused_sources(folder), refused_words(folder), endings(ckrt, folder), tools(ckrt, folder), headers(folder),
+    checks = [refused_sources(folder), refused_words(folder), endings(ckrt, folder), crews(ckrt, folder), tools(ckrt, folder), headers(folder),
               types(ckrt, folder), digits(ckrt, folder), traps(ckrt, folder), ends(ckrt, folder), cache(folder), projects(ckrt, folder), words(folder)]
     found = []
     for check in checks:
