@@ -69,9 +69,9 @@ class Program:
         self.made = None
 
     def sized_symbols(self):
-        for line in output_of("nm", "-S", "--defined-only", self.path).splitlines():
-            words = line.split()
-            if len(words) == 4 and int(words[0], 16) >= PAGE:  # below stand offsets of thread-local variables, and numbers
+        for line in output_of("nm", "-S", "-C", "--defined-only", self.path).splitlines():
+            words = line.split(maxsplit=3)  # a name of C++ has blanks
+            if len(words) == 4 and len(words[2]) == 1 and int(words[0], 16) >= PAGE:  # below stand offsets of thread-local variables, and numbers
                 yield int(words[0], 16), int(words[1], 16), words[3], words[2] in "tTwW"
 
     def placed_variables(self):
@@ -148,7 +148,7 @@ class Program:
     def code_lines(self, symbols):
         """For each instruction of these functions its text, where the program has lines for it."""
         addresses = sorted({address for begin, size, _, _ in symbols for address in range(begin, begin + size, 4)})
-        said = output_of("addr2line", "-a", "-f", "-i", "-e", self.path, given="".join(f"{address:x}\n" for address in addresses))
+        said = output_of("addr2line", "-a", "-C", "-f", "-i", "-e", self.path, given="".join(f"{address:x}\n" for address in addresses))
         lines, address = {}, None
         for line in said.splitlines():
             if found := re.match(r"0x([0-9a-f]{8})$", line):
